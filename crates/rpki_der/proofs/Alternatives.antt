@@ -1,0 +1,179 @@
+-- Laws of readings that choose, depend and turn.
+use Rattle.std.proofs.Common.{◌≡◌, ℕ, eqb, List, [], ◌∷◌, ◌++◌, length, Option, Some, None, refl, sym, ap, subst, ◌∙◌, append_assoc, inl, inr, arith}
+use Rattle.std.proofs.lemmas.Bool.{cases_Bool}
+use Rattle.std.proofs.lemmas.List.{append-nil}
+use Rattle.rpki_der.specs.Values.{length_octets, enc, IsEnc}
+use Rattle.rpki_der.specs.Reading.{◌>>=◌, value_at, ended, optional, content, both}
+use Rattle.rpki_der.specs.Rows.{IsRow, row_of, Shrinks}
+use Rattle.rpki_der.specs.Alternatives.{turned, Turned, followed, Followed, whole, picked, content_or, maybe, optional_of}
+use Rattle.rpki_der.specs.Spelling.{Begins, Reads, ReadsWhole, Both, Inside, BeginsOther, BeginWith}
+use Rattle.rpki_der.proofs.Octets.{AreOctets-after, bind_some, some, some_is, both_are}
+use Rattle.rpki_der.specs.Choices.{choice, Either}
+use Rattle.rpki_der.proofs.Made.{content_reads, ended_some}
+use Rattle.rpki_der.proofs.Before.{ReadsBefore}
+use Rattle.rpki_der.proofs.Choosing.{choice_reads}
+use Rattle.rpki_der.proofs.ReadValues.{value_shorter}
+use Rattle.rpki_der.proofs.Rows.{row_is, row_again}
+
+pub turned_reads : {X Y : Type 0} (f : X → Option Y) (read : List ℕ → Option (X × List ℕ)) (S : X → List ℕ → Type 0) → Reads read S → Reads (turned f read) (Turned f S)
+turned_reads {X} {Y} f read S F = record {
+  takes = λ bytes y rest fits e.
+      let a = bind_some (read bytes) (λ x. f x.0 >>= λ z. Some (z, x.1)) (y, rest) e in
+      let b = bind_some (f a.0.0) (λ z. Some (z, a.0.1)) (y, rest) a.2 in
+      let one = F.takes bytes a.0.0 a.0.1 fits a.1 in
+      let made : Y × List ℕ = (b.0, a.0.1) in
+      subst (λ (q : Y × List ℕ). Begins (Turned f S) bytes q.0 q.1) (some_is made (y, rest) b.2) (record {
+        text = one.text;
+        spelled = (a.0.0, one.spelled, b.1);
+        parts = one.parts;
+      });
+  again = λ y text rest s. rw (F.again s.0 text rest s.1, s.2) refl;
+}
+
+pub followed_reads : {X Y : Type 0} (f : List ℕ → Option (X × List ℕ)) (g : X → List ℕ → Option (Y × List ℕ)) (S : X → List ℕ → Type 0) (T : X → Y → List ℕ → Type 0)
+    → Reads f S → ((x : X) → Reads (g x) (T x)) → Reads (followed f g) (Followed S T)
+followed_reads {X} {Y} f g S T F G = record {
+  takes = λ bytes y rest fits e.
+      let a = bind_some (f bytes) (λ x. g x.0 x.1) (y, rest) e in
+      let one = F.takes bytes a.0.0 a.0.1 fits a.1 in
+      let two = (G a.0.0).takes a.0.1 y rest (AreOctets-after bytes one.text a.0.1 one.parts fits) a.2 in
+      record {
+        text = one.text ++ two.text;
+        spelled = (a.0.0, one.text, two.text, one.spelled, two.spelled, refl);
+        parts = one.parts ∙ ap (λ (t : List ℕ). one.text ++ t) two.parts ∙ sym (append_assoc one.text two.text rest);
+      };
+  again = λ y text rest s.
+      let all : text ++ rest ≡ s.1 ++ (s.2 ++ rest) = rw s.5 (append_assoc s.1 s.2 rest) in
+      rw (all, F.again s.0 s.1 (s.2 ++ rest) s.3) ((G s.0).again y s.2 rest s.4);
+}
+
+-- ---- the whole of some octets
+
+pub whole_before : {X : Type 0} (tag : ℕ) (f : List ℕ → Option (X × List ℕ)) (S : X → List ℕ → Type 0) → ReadsBefore tag f S → ReadsWhole (whole f) S
+whole_before {X} tag f S F = record {
+  takes = λ octets x fits e.
+      let a = bind_some (f octets) (λ r. ended r.1 r.0) x e in
+      let g = ended_some a.0.1 a.0.0 x a.2 in
+      let one = F.takes octets a.0.0 a.0.1 fits a.1 in
+      let used : one.text ≡ octets = sym (append-nil one.text) ∙ sym (ap (λ (r : List ℕ). one.text ++ r) g.0) ∙ sym one.parts in
+      subst (λ (c : List ℕ). S x c) used (subst (λ (y : X). S y one.text) g.1 one.spelled);
+  again = λ x octets s.
+      let all : f octets ≡ some {A = X × List ℕ} (x, []) = ap f (sym (append-nil octets)) ∙ F.again x octets [] s tt in
+      rw all refl;
+}
+
+pub whole_reads : {X : Type 0} (f : List ℕ → Option (X × List ℕ)) (S : X → List ℕ → Type 0) → Reads f S → ReadsWhole (whole f) S
+whole_reads f S F = whole_before 0 f S (record { takes = F.takes; again = λ v text rest s other. F.again v text rest s })
+
+-- what a function makes of a whole
+pub turned_whole : {X Y : Type 0} (f : X → Option Y) (read : List ℕ → Option X) (S : X → List ℕ → Type 0) → ReadsWhole read S → ReadsWhole (λ c. read c >>= f) (Turned f S)
+turned_whole {X} {Y} f read S F = record {
+  takes = λ octets y fits e.
+      let a = bind_some (read octets) f y e in
+      (a.0, F.takes octets a.0 fits a.1, a.2);
+  again = λ y octets s. rw (F.again s.0 octets s.1) s.2;
+}
+
+-- a row is a whole
+pub row_reads : {X : Type 0} (read : List ℕ → Option (X × List ℕ)) (S : X → List ℕ → Type 0) → Reads read S → Shrinks read → ReadsWhole (row_of read) (IsRow S)
+row_reads read S F less = record { takes = λ octets xs fits e. row_is read S F octets xs fits e; again = λ xs octets s. row_again read S F less xs octets s }
+
+-- the same relation in other words
+pub same_whole : {X : Type 0} (f : List ℕ → Option X) (S T : X → List ℕ → Type 0) → ReadsWhole f S → ((x : X) (text : List ℕ) → S x text → T x text) → ((x : X) (text : List ℕ) → T x text → S x text) → ReadsWhole f T
+same_whole f S T F to back = record { takes = λ octets x fits e. to x octets (F.takes octets x fits e); again = λ x octets t. F.again x octets (back x octets t) }
+
+-- a value begins with its tag
+pub enc_begins : (t : ℕ) → BeginWith t (IsEnc t)
+unfolding enc
+enc_begins t c text e = (length_octets (length c) ++ c, e.is)
+
+inside_begins : {X : Type 0} (t : ℕ) (S : X → List ℕ → Type 0) → BeginWith t (Inside t S)
+inside_begins t S x text s = enc_begins t s.0 text s.2
+
+-- an optional value at the end
+pub both_before : {X Y : Type 0} (tag : ℕ) (f : List ℕ → Option (X × List ℕ)) (g : List ℕ → Option (Y × List ℕ)) (S : X → List ℕ → Type 0) (T : Y → List ℕ → Type 0)
+    → Reads f S → ReadsBefore tag g T → ReadsBefore tag (both f g) (Both S T)
+both_before {X} {Y} tag f g S T F G = record {
+  takes = λ bytes p rest fits e.
+      let a = bind_some (f bytes) (λ x. g x.1 >>= λ y. Some ((x.0, y.0), y.1)) (p, rest) e in
+      let b = bind_some (g a.0.1) (λ y. Some ((a.0.0, y.0), y.1)) (p, rest) a.2 in
+      let one = F.takes bytes a.0.0 a.0.1 fits a.1 in
+      let two = G.takes a.0.1 b.0.0 b.0.1 (AreOctets-after bytes one.text a.0.1 one.parts fits) b.1 in
+      let made : (X × Y) × List ℕ = ((a.0.0, b.0.0), b.0.1) in
+      subst (λ (q : (X × Y) × List ℕ). Begins (Both S T) bytes q.0 q.1) (some_is made (p, rest) b.2) (record {
+        text = one.text ++ two.text;
+        spelled = (one.text, two.text, one.spelled, two.spelled, refl);
+        parts = one.parts ∙ ap (λ (t : List ℕ). one.text ++ t) two.parts ∙ sym (append_assoc one.text two.text b.0.1);
+      });
+  again = λ p text rest s other.
+      let all : text ++ rest ≡ s.0 ++ (s.1 ++ rest) = rw s.4 (append_assoc s.0 s.1 rest) in
+      rw (all, F.again p.0 s.0 (s.1 ++ rest) s.2, G.again p.1 s.1 rest s.3 other) refl;
+}
+
+pub other_tag : (t u : ℕ) (text rest tail : List ℕ) → text ≡ u ∷ tail → (u ≡ t → ⊥) → BeginsOther t (text ++ rest)
+other_tag t u text rest tail e h = rw e h
+
+-- an optional content is an optional value
+of_content : {X : Type 0} (f : List ℕ → Option X) (c rest : List ℕ) (o : Option X) → (o >>= λ x. some {A = Option X × List ℕ} (Some x, rest)) ≡ ((o >>= λ x. some {A = X × List ℕ} (x, rest)) >>= λ x. some {A = Option X × List ℕ} (Some x.0, x.1))
+of_content f c rest None = refl
+of_content f c rest (Some x) = refl
+
+of_value : {X : Type 0} (f : List ℕ → Option X) (v : Option (List ℕ × List ℕ))
+    → ((v >>= λ x. some {A = Option (List ℕ) × List ℕ} (Some x.0, x.1)) >>= λ c. maybe f c.0 c.1) ≡ ((v >>= λ w. f w.0 >>= λ x. some {A = X × List ℕ} (x, w.1)) >>= λ x. some {A = Option X × List ℕ} (Some x.0, x.1))
+of_value f None = refl
+of_value f (Some v) = of_content f v.0 v.1 (f v.0)
+
+of_picked : {X : Type 0} (f : List ℕ → Option X) (g : List ℕ → Option (X × List ℕ)) (v : Option (List ℕ × List ℕ))
+    → ((v >>= λ x. some {A = Option (List ℕ) × List ℕ} (Some x.0, x.1)) >>= λ c. picked f g c.0 c.1) ≡ (v >>= λ w. f w.0 >>= λ x. some {A = X × List ℕ} (x, w.1))
+of_picked f g None = refl
+of_picked f g (Some v) = refl
+
+pub optional_of_is : {X : Type 0} (t : ℕ) (f : List ℕ → Option X) (bytes : List ℕ) → optional_of t f bytes ≡ optional t (content t f) bytes
+optional_of_is t f [] = refl
+optional_of_is t f (b ∷ bytes) =
+    elim (cases_Bool (eqb b t)) [
+      | inl y ↦ rw y (of_value f (value_at t (b ∷ bytes)))
+      | inr n ↦ rw n refl
+    ]
+
+pub content_or_is : {X : Type 0} (t : ℕ) (f : List ℕ → Option X) (g : List ℕ → Option (X × List ℕ)) (bytes : List ℕ) → content_or t f g bytes ≡ choice t (content t f) g bytes
+content_or_is t f g [] = refl
+content_or_is t f g (b ∷ bytes) =
+    elim (cases_Bool (eqb b t)) [
+      | inl y ↦ rw y (of_picked f g (value_at t (b ∷ bytes)))
+      | inr n ↦ rw n refl
+    ]
+
+pub content_or_reads : {X : Type 0} (t : ℕ) (f : List ℕ → Option X) (g : List ℕ → Option (X × List ℕ)) (S T : X → List ℕ → Type 0)
+    → ReadsWhole f S → Reads g T → ((x : X) (text rest : List ℕ) → T x text → BeginsOther t (text ++ rest)) → Reads (content_or t f g) (Either (Inside t S) T)
+content_or_reads {X} t f g S T F G other =
+    let same : choice t (content t f) g ≡ content_or t f g = λ i bytes. sym (content_or_is t f g bytes) i in
+    subst (λ (h : List ℕ → Option (X × List ℕ)). Reads h (Either (Inside t S) T)) same
+    (choice_reads t (content t f) g (Inside t S) T (content_reads t f S F) G (inside_begins t S) other)
+
+-- ---- readings of values shrink
+
+pub content_shrinks : {X : Type 0} (t : ℕ) (f : List ℕ → Option X) → Shrinks (content t f)
+content_shrinks {X} t f = λ bytes x rest e.
+    let a = bind_some (value_at t bytes) (λ v. f v.0 >>= λ y. some {A = X × List ℕ} (y, v.1)) (x, rest) e in
+    let b = bind_some (f a.0.0) (λ y. some {A = X × List ℕ} (y, a.0.1)) (x, rest) a.2 in
+    let same : a.0.1 ≡ rest = (both_are (b.0, a.0.1) (x, rest) b.2).1 in
+    omega (arith, value_shorter t bytes a.0.0 a.0.1 a.1, ap length same)
+
+pub turned_shrinks : {X Y : Type 0} (f : X → Option Y) (read : List ℕ → Option (X × List ℕ)) → Shrinks read → Shrinks (turned f read)
+turned_shrinks {X} {Y} f read less = λ bytes y rest e.
+    let a = bind_some (read bytes) (λ x. f x.0 >>= λ z. some {A = Y × List ℕ} (z, x.1)) (y, rest) e in
+    let b = bind_some (f a.0.0) (λ z. some {A = Y × List ℕ} (z, a.0.1)) (y, rest) a.2 in
+    let same : a.0.1 ≡ rest = (both_are (b.0, a.0.1) (y, rest) b.2).1 in
+    omega (arith, less bytes a.0.0 a.0.1 a.1, ap length same)
+
+pub choice_shrinks : {X : Type 0} (t : ℕ) (f g : List ℕ → Option (X × List ℕ)) → Shrinks f → Shrinks g → Shrinks (choice t f g)
+choice_shrinks t f g F G [] x rest e = G [] x rest e
+choice_shrinks t f g F G (b ∷ bytes) x rest e =
+    elim (cases_Bool (eqb b t)) [
+      | inl y ↦ F (b ∷ bytes) x rest (rw y at e)
+      | inr n ↦ G (b ∷ bytes) x rest (rw n at e)
+    ]
+
+pub content_or_shrinks : {X : Type 0} (t : ℕ) (f : List ℕ → Option X) (g : List ℕ → Option (X × List ℕ)) → Shrinks g → Shrinks (content_or t f g)
+content_or_shrinks t f g less = λ bytes x rest e. choice_shrinks t (content t f) g (content_shrinks t f) less bytes x rest (sym (content_or_is t f g bytes) ∙ e)

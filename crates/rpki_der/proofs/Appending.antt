@@ -1,0 +1,32 @@
+-- What an append that may fail leaves behind.
+use Rattle.std.proofs.Common.{◌≡◌, ℕ, ◌+◌, List, [], ◌∷◌, ◌++◌, length, take, Result, Ok, Err, refl, ap, sym, ◌∙◌, append_assoc, arith}
+use Rattle.std.specs.Prelude.{OnOk, OnErr, is_ok, if◌then◌else◌}
+use Rattle.std.specs.List.{concat}
+use Rattle.std.proofs.lemmas.List.{append-nil, length-append, take_at, take-take}
+use Rattle.rpki_der.specs.Values.{length_octets, enc}
+
+pub appends : {T E : Type 0} (r : Result T E) (old ds es new : List ℕ) → ds ≡ es → new ≡ (if is_ok r then old ++ ds else old) → OnOk r (new ≡ old ++ es)
+appends (Ok x) old ds es new same e = e ∙ ap (λ (s : List ℕ). old ++ s) same
+appends (Err d) old ds es new same e = tt
+
+-- what was a front before more was appended is a front still
+pub still_front : (old more mid new : List ℕ) → mid ≡ old ++ more → take (length mid) new ≡ mid → take (length old) new ≡ old
+still_front old more mid new e h =
+    let long : length mid ≡ length old + length more = ap length e ∙ length-append old more in
+    sym (take-take (length old) (length mid) new (omega (arith, long))) ∙ ap (take (length old)) (h ∙ e) ∙ take_at old more (length old) refl
+
+pub on_err : {T E P : Type 0} (r : Result T E) → P → OnErr r P
+on_err (Ok x) h = tt
+on_err (Err d) h = h
+
+pub length-enc : (t : ℕ) (c : List ℕ) → length (enc t c) ≡ 1 + (length (length_octets (length c)) + length c)
+unfolding enc
+length-enc t c = omega (arith, length-append (length_octets (length c)) c)
+
+-- three pieces behind an identifier octet and their length are a value
+pub assembled : (t : ℕ) (old a b c : List ℕ) (n : ℕ) → n ≡ length (concat (a ∷ b ∷ c ∷ [])) → ((((old ++ t ∷ []) ++ length_octets n) ++ a) ++ b) ++ c ≡ old ++ enc t (concat (a ∷ b ∷ c ∷ []))
+unfolding enc
+assembled t old a b c n e = rw e (simp (append_assoc, append-nil {A = ℕ}))
+
+pub length-pieces : (a b c : List ℕ) → length (concat (a ∷ b ∷ c ∷ [])) ≡ length a + (length b + length c)
+length-pieces a b c = omega (arith, length-append c [], length-append b (concat (c ∷ [])), length-append a (concat (b ∷ c ∷ [])))

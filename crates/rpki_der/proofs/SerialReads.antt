@@ -1,0 +1,16 @@
+-- A serial that is read is the serial that was written.
+use Rattle.std.proofs.Common.{◌^◌, ◌<◌}
+use Rattle.rpki_der.specs.Contents.{IsNumber}
+use Rattle.rpki_der.specs.Reading.{content}
+use Rattle.rpki_der.specs.ReadSerials.{serial_of, serial_at}
+use Rattle.rpki_der.specs.Serials.{IsSerial}
+use Rattle.rpki_der.specs.Spelling.{Reads}
+use Rattle.rpki_der.proofs.Made.{same_reads}
+use Rattle.rpki_der.proofs.ReadPrimitives.{number_reads}
+
+pub serial_reads : Reads serial_at IsSerial
+unfolding serial_at
+serial_reads =
+    same_reads (content 0x02 serial_of) (λ n b. IsNumber n b × (n < 2 ^ 160)) IsSerial (number_reads (2 ^ 160))
+    (λ n text s. record { number = s.0; small = s.1 })
+    (λ n text s. (s.number, s.small))

@@ -1,0 +1,184 @@
+-- A time that is read is the time that was written.
+use Rattle.std.specs.Prelude.{nat_lt, nat_le, ◌&&◌, bytes_eq}
+use Rattle.std.proofs.Common.{◌≡◌, ℕ, ◌+◌, ◌-◌, ◌*◌, ◌/◌, ◌%◌, ◌<◌, ◌≤◌, true, cond, List, [], ◌∷◌, ◌++◌, Option, Some, refl, sym, ap, subst, ◌∙◌, arith, inl, inr}
+use Rattle.std.proofs.lemmas.Slice.Eq.{bytes_eq-Decides}
+use Rattle.std.proofs.lemmas.Bool.{leb-true, le-leb, lt-ltb, le-ltb, and_parts, and_from, cases_lt}
+use Rattle.rpki_der.specs.Reading.{◌>>=◌, content}
+use Rattle.rpki_der.specs.Spelling.{Reads, ReadsWhole, Inside, BeginWith, BeginsOther}
+use Rattle.rpki_der.specs.Times.{Moment, IsMoment, IsTime, two, after_year}
+use Rattle.rpki_der.specs.Choices.{Either}
+use Rattle.rpki_der.specs.ReadTimes.{is_digit, two_at, existing, after_year_of, utc_of, generalized_of, time_at, is_moment}
+use Rattle.rpki_der.specs.Values.{enc}
+use Rattle.rpki_der.proofs.Choosing.{choice_reads}
+use Rattle.rpki_der.proofs.Made.{content_reads, same_reads}
+use Rattle.rpki_der.proofs.MomentTests.{moment_exists, exists_moment}
+use Rattle.rpki_der.proofs.Octets.{bind_some, if_some}
+use Rattle.rpki_der.proofs.WrittenOctets.{days}
+
+-- two digits, and what follows them
+abbrev IsTwo : List ℕ → ℕ → List ℕ → Type 0
+IsTwo text n rest = (text ≡ two n ++ rest) × (n < 100)
+
+heads : {a b c d : ℕ} {x y : List ℕ} → a ≡ c → b ≡ d → x ≡ y → a ∷ b ∷ x ≡ c ∷ d ∷ y
+heads p q r = cc
+
+two_takes : (text : List ℕ) (n : ℕ) (rest : List ℕ) → two_at text ≡ Some (n, rest) → IsTwo text n rest
+unfolding two_at
+two_takes [] n rest e = absurd cc
+two_takes (a ∷ []) n rest e = absurd cc
+two_takes (a ∷ b ∷ text) n rest e =
+    let g = if_some (is_digit a && is_digit b) ((a - 48) * 10 + (b - 48), text) (n, rest) e in
+    let tests = and_parts (is_digit a) (is_digit b) g.0 in
+    let first = and_parts (nat_le 48 a) (nat_le a 57) tests.0 in
+    let second = and_parts (nat_le 48 b) (nat_le b 57) tests.1 in
+    let a_low : 48 ≤ a = leb-true 48 a first.0 in
+    let a_high : a ≤ 57 = leb-true a 57 first.1 in
+    let b_low : 48 ≤ b = leb-true 48 b second.0 in
+    let b_high : b ≤ 57 = leb-true b 57 second.1 in
+    let number : (a - 48) * 10 + (b - 48) ≡ n = ap (λ (x : ℕ × List ℕ). x.0) g.1 in
+    let same : text ≡ rest = ap (λ (x : ℕ × List ℕ). x.1) g.1 in
+    (heads (omega arith) (omega arith) same, omega arith)
+
+two_again : (n : ℕ) (rest : List ℕ) → n < 100 → two_at (two n ++ rest) ≡ Some (n, rest)
+unfolding two_at
+two_again n rest h =
+    let tens : is_digit (48 + n / 10) ≡ true = and_from _ _ (le-leb 48 (48 + n / 10) (omega arith)) (le-leb (48 + n / 10) 57 (omega arith)) in
+    let ones : is_digit (48 + n % 10) ≡ true = and_from _ _ (le-leb 48 (48 + n % 10) (omega arith)) (le-leb (48 + n % 10) 57 (omega arith)) in
+    let number : (48 + n / 10 - 48) * 10 + (48 + n % 10 - 48) ≡ n = omega arith in
+    rw (tens, ones, number) refl
+
+-- the steps after the year
+abbrev from_second : ℕ → ℕ → ℕ → ℕ → ℕ → List ℕ → Option Moment
+from_second year month day hour minute text = two_at text >>= λ s. existing s.1 (record { year = year; month = month; day = day; hour = hour; minute = minute; second = s.0 })
+
+abbrev from_minute : ℕ → ℕ → ℕ → ℕ → List ℕ → Option Moment
+from_minute year month day hour text = two_at text >>= λ s. from_second year month day hour s.0 s.1
+
+abbrev from_hour : ℕ → ℕ → ℕ → List ℕ → Option Moment
+from_hour year month day text = two_at text >>= λ s. from_minute year month day s.0 s.1
+
+abbrev from_day : ℕ → ℕ → List ℕ → Option Moment
+from_day year month text = two_at text >>= λ s. from_hour year month s.0 s.1
+
+-- the text after the year of a moment that exists
+record IsAfterYear (year : ℕ) (text : List ℕ) (m : Moment) : Type 0 where
+  exists : IsMoment m
+  year_is : m.year ≡ year
+  text_is : text ≡ after_year m
+
+after_takes : (year : ℕ) (text : List ℕ) (m : Moment) → after_year_of year text ≡ Some m → IsAfterYear year text m
+unfolding after_year_of
+after_takes year text m e =
+    let month = bind_some (two_at text) (λ s. from_day year s.0 s.1) m e in
+    let day = bind_some (two_at month.0.1) (λ s. from_hour year month.0.0 s.0 s.1) m month.2 in
+    let hour = bind_some (two_at day.0.1) (λ s. from_minute year month.0.0 day.0.0 s.0 s.1) m day.2 in
+    let minute = bind_some (two_at hour.0.1) (λ s. from_second year month.0.0 day.0.0 hour.0.0 s.0 s.1) m hour.2 in
+    let found : ℕ → Moment = λ s. record { year = year; month = month.0.0; day = day.0.0; hour = hour.0.0; minute = minute.0.0; second = s } in
+    let second = bind_some (two_at minute.0.1) (λ s. existing s.1 (found s.0)) m minute.2 in
+    let end = if_some (bytes_eq second.0.1 (90 ∷ []) && is_moment (found second.0.0)) (found second.0.0) m second.2 in
+    let tests = and_parts (bytes_eq second.0.1 (90 ∷ [])) (is_moment (found second.0.0)) end.0 in
+    let z : second.0.1 ≡ 90 ∷ [] = (bytes_eq-Decides second.0.1 (90 ∷ [])).0 tests.0 in
+    let t5 : minute.0.1 ≡ two second.0.0 ++ 90 ∷ [] = (two_takes minute.0.1 second.0.0 second.0.1 second.1).0 ∙ ap (λ (x : List ℕ). two second.0.0 ++ x) z in
+    let t4 = (two_takes hour.0.1 minute.0.0 minute.0.1 minute.1).0 ∙ ap (λ (x : List ℕ). two minute.0.0 ++ x) t5 in
+    let t3 = (two_takes day.0.1 hour.0.0 hour.0.1 hour.1).0 ∙ ap (λ (x : List ℕ). two hour.0.0 ++ x) t4 in
+    let t2 = (two_takes month.0.1 day.0.0 day.0.1 day.1).0 ∙ ap (λ (x : List ℕ). two day.0.0 ++ x) t3 in
+    let t1 = (two_takes text month.0.0 month.0.1 month.1).0 ∙ ap (λ (x : List ℕ). two month.0.0 ++ x) t2 in
+    subst (λ (n : Moment). IsAfterYear year text n) end.1 (record { exists = moment_exists (found second.0.0) tests.1; year_is = refl; text_is = t1 })
+
+after_again : (m : Moment) → IsMoment m → after_year_of m.year (after_year m) ≡ Some m
+unfolding after_year_of
+after_again m h =
+    let z : bytes_eq (90 ∷ []) (90 ∷ []) ≡ true = refl in
+    let day : m.day < 100 = omega (arith, h.day, days m.year m.month) in
+    rw (two_again m.month _ (omega (arith, h.month)), two_again m.day _ day, two_again m.hour _ (omega (arith, h.hour)), two_again m.minute _ (omega (arith, h.minute)), two_again m.second _ (omega (arith, h.second)), exists_moment m h) refl
+
+-- ---- whole contents
+
+record IsUtcText (m : Moment) (text : List ℕ) : Type 0 where
+  exists : IsMoment m
+  from : 1950 ≤ m.year
+  below : m.year < 2050
+  text_is : text ≡ two (m.year % 100) ++ after_year m
+
+abbrev century_of : ℕ → ℕ
+century_of year = cond (nat_lt year 50) (2000 + year) (1900 + year)
+
+century_near : (year : ℕ) → year < 100 → (1950 ≤ century_of year) × (century_of year < 2050) × (century_of year % 100 ≡ year)
+century_near year h =
+    elim (cases_lt year 50) [
+      | inl l ↦ rw (lt-ltb year 50 l) (omega arith, omega arith, omega arith)
+      | inr g ↦ rw (le-ltb year 50 g) (omega arith, omega arith, omega arith)
+    ]
+
+century_again : (year : ℕ) → 1950 ≤ year → year < 2050 → century_of (year % 100) ≡ year
+century_again year p q =
+    elim (cases_lt (year % 100) 50) [
+      | inl l ↦ rw (lt-ltb (year % 100) 50 l) (omega arith)
+      | inr g ↦ rw (le-ltb (year % 100) 50 g) (omega arith)
+    ]
+
+utc_whole : ReadsWhole utc_of IsUtcText
+unfolding utc_of
+utc_whole = record {
+  takes = λ text m fits e.
+      let year = bind_some (two_at text) (λ s. after_year_of (century_of s.0) s.1) m e in
+      let front = two_takes text year.0.0 year.0.1 year.1 in
+      let rest = after_takes (century_of year.0.0) year.0.1 m year.2 in
+      let near = century_near year.0.0 front.1 in
+      let last : m.year % 100 ≡ year.0.0 = omega (arith, near.2, rest.year_is) in
+      record {
+        exists = rest.exists;
+        from = omega (arith, near.0, rest.year_is);
+        below = omega (arith, near.1, rest.year_is);
+        text_is = front.0 ∙ ap (λ (x : List ℕ). two year.0.0 ++ x) rest.text_is ∙ ap (λ (n : ℕ). two n ++ after_year m) (sym last);
+      };
+  again = λ m text s. rw (s.text_is, two_again (m.year % 100) (after_year m) (omega arith), century_again m.year s.from s.below) (after_again m s.exists);
+}
+
+abbrev IsGeneralizedText : Moment → List ℕ → Type 0
+IsGeneralizedText m text = IsMoment m × (text ≡ two (m.year / 100) ++ (two (m.year % 100) ++ after_year m))
+
+generalized_whole : ReadsWhole generalized_of IsGeneralizedText
+unfolding generalized_of
+generalized_whole = record {
+  takes = λ text m fits e.
+      let century = bind_some (two_at text) (λ c. two_at c.1 >>= λ s. after_year_of (c.0 * 100 + s.0) s.1) m e in
+      let year = bind_some (two_at century.0.1) (λ s. after_year_of (century.0.0 * 100 + s.0) s.1) m century.2 in
+      let front = two_takes text century.0.0 century.0.1 century.1 in
+      let next = two_takes century.0.1 year.0.0 year.0.1 year.1 in
+      let rest = after_takes (century.0.0 * 100 + year.0.0) year.0.1 m year.2 in
+      let first : m.year / 100 ≡ century.0.0 = omega (arith, next.1, rest.year_is) in
+      let last : m.year % 100 ≡ year.0.0 = omega (arith, next.1, rest.year_is) in
+      let after : century.0.1 ≡ two (m.year % 100) ++ after_year m = next.0 ∙ ap (λ (x : List ℕ). two year.0.0 ++ x) rest.text_is ∙ ap (λ (n : ℕ). two n ++ after_year m) (sym last) in
+      (rest.exists, front.0 ∙ ap (λ (x : List ℕ). two century.0.0 ++ x) after ∙ ap (λ (n : ℕ). two n ++ (two (m.year % 100) ++ after_year m)) (sym first));
+  again = λ m text s.
+      let whole : m.year / 100 * 100 + m.year % 100 ≡ m.year = omega arith in
+      rw (s.1, two_again (m.year / 100) (two (m.year % 100) ++ after_year m) (omega (arith, s.0.year)), two_again (m.year % 100) (after_year m) (omega arith), whole) (after_again m s.0);
+}
+
+-- ---- the two forms
+
+utc_begins : BeginWith 0x17 (Inside 0x17 IsUtcText)
+unfolding enc
+utc_begins m text s = (_, s.2.is)
+
+generalized_other : (m : Moment) (text rest : List ℕ) → Inside 0x18 IsGeneralizedText m text → BeginsOther 0x17 (text ++ rest)
+unfolding enc
+generalized_other m text rest s = rw s.2.is (λ e. omega (arith, e))
+
+pub time_reads : Reads time_at IsTime
+unfolding time_at
+time_reads =
+    same_reads time_at (Either (Inside 0x17 IsUtcText) (Inside 0x18 IsGeneralizedText)) IsTime
+    (choice_reads 0x17 (content 0x17 utc_of) (content 0x18 generalized_of) (Inside 0x17 IsUtcText) (Inside 0x18 IsGeneralizedText)
+    (content_reads 0x17 utc_of IsUtcText utc_whole)
+    (content_reads 0x18 generalized_of IsGeneralizedText generalized_whole)
+    utc_begins generalized_other)
+    (λ m text s. elim s [
+      | inl a ↦ record { exists = a.1.exists; spelled = inl (a.1.from, a.1.below, rw (← a.1.text_is) a.2) }
+      | inr a ↦ record { exists = a.1.0; spelled = inr (rw (← a.1.1) a.2) }
+    ])
+    (λ m text s. elim s.spelled [
+      | inl a ↦ inl (two (m.year % 100) ++ after_year m, record { exists = s.exists; from = a.0; below = a.1; text_is = refl }, a.2)
+      | inr a ↦ inr (two (m.year / 100) ++ (two (m.year % 100) ++ after_year m), (s.exists, refl), a)
+    ])

@@ -1,0 +1,7 @@
+use Rattle.std.proofs.Common.{subst}
+use Rattle.rpki_der.specs.Contents.{IsOid}
+use Rattle.rpki_der.proofs.Identifiers.{oid_takes}
+use Rattle.rpki_der.proofs.oid.Oid.as_bytes.Goals as goal
+
+pub returns-clause-valid : goal.returns-clause-valid
+returns-clause-valid c = subst IsOid c.self.view_is (oid_takes _ c.self.invariant)

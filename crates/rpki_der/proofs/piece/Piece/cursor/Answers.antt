@@ -1,0 +1,7 @@
+use Rattle.std.proofs.Common.{◌≡◌, ◌∙◌}
+use Rattle.rpki_der.proofs.piece.Piece.cursor.Goals as goal
+
+pub returns-clause-octets : goal.returns-clause-octets
+returns-clause-octets c =
+    let e : c.rest-octets.result.now ≡ c.args.self.now = c.rest-octets.ensures.left ∙ c.new-cursor.ensures.all ∙ c.self.view_is in
+    rw (← e) c.rest-octets.ensures.octets

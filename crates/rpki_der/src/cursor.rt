@@ -1,0 +1,186 @@
+ghost use Rattle.std.specs.Prelude.{◌≡◌, ℕ, ◌≤◌, ◌-◌, List, [], length, take, drop, slice_range, IfOk, IfSome, IfErr, IsOk, IsTrue, ◌↔◌, option_map};
+ghost use Rattle.rpki_der.specs.Place.{Place, left, IsWithin, MovesOn, Keeps, Took, Answers, AnswersOptional};
+ghost use Rattle.rpki_der.specs.Reading.{value_at, optional};
+ghost use Rattle.rpki_der.specs.Values.{AreOctets, IsEnc};
+ghost use Rattle.rpki_der.specs.declared.error.DecodeError.TheVariants.{Trailing, Memory};
+
+use crate::error::DecodeError;
+use crate::header::value_of;
+use crate::piece::Piece;
+use bytes::Bytes;
+use std::marker::Model;
+
+/// A place in shared octets, and how far they may be read from there. Every reader moves it on, or leaves it where it stands when it errs.
+#[derive(Drop)]
+pub struct Cursor<'a> {
+    source: &'a Bytes,
+    from: usize,
+    to: usize,
+}
+
+impl<'a> Model for Cursor<'a> {
+    ghost Value = { Place };
+
+    ghost view = { λ c. record { source = c.source.now; from = c.from; to = c.to } };
+
+    ghost invariant = { λ c. (c.from ≤ c.to) × (c.to ≤ length c.source.now) };
+}
+
+impl<'a> Cursor<'a> {
+    /// A cursor over all of the source.
+    pub fn new(source: &'a Bytes) -> Cursor<'a>
+        ensures whole { result ≡ record { source = source.now; from = 0; to = length source.now } }
+        ensures all { left result ≡ source.now }
+    {
+        Cursor {
+            source,
+            from: 0,
+            to: source.len(),
+        }
+    }
+
+    /// Another cursor at this place. What it reads moves only itself.
+    pub fn fork(&self) -> Cursor<'a>
+        ensures same { result ≡ self.now }
+        ensures octets { AreOctets (left self.now) }
+    {
+        let _octets = self.rest();
+        Cursor {
+            source: self.source,
+            from: self.from,
+            to: self.to,
+        }
+    }
+
+    /// Where in the source the octets that are left begin and end.
+    pub fn span(&self) -> (usize, usize)
+        ensures span { result ≡ (self.now.from, self.now.to) }
+        ensures order { self.now.from ≤ self.now.to }
+        ensures inside { self.now.to ≤ length self.now.source }
+    {
+        (self.from, self.to)
+    }
+
+    /// The octets that are left.
+    pub fn rest(&self) -> &'a [u8]
+        ensures left { result.now ≡ left self.now }
+        ensures octets { AreOctets result.now }
+    {
+        let octets = self.source.as_slice();
+        let rest = &octets[self.from..self.to];
+        rest
+    }
+
+    /// Whether no octet is left.
+    pub fn is_empty(&self) -> bool
+        ensures { IsTrue result ↔ (left self.now ≡ []) }
+    {
+        self.from == self.to
+    }
+
+    /// Ends the reading of these octets. Answers `Trailing` where some are left.
+    pub fn finish(self) -> Result<(), DecodeError>
+        ensures end { IsOk result ↔ (left self.entry ≡ []) }
+        ensures trailing { IfErr result (λ e. e ≡ Trailing) }
+    {
+        if self.is_empty() {
+            Ok(())
+        } else {
+            Err(DecodeError::Trailing)
+        }
+    }
+
+    // Passes over octets that are left.
+    pub(crate) fn advance(&mut self, count: usize)
+        requires { count ≤ length (left self.old) }
+        ensures left { left self.new ≡ drop count (left self.old) }
+        ensures keeps { MovesOn self.old self.new }
+    {
+        self.from += count;
+    }
+
+    // A cursor over the octets from here to a later place.
+    pub(crate) fn until(&self, later: &Cursor<'a>) -> Cursor<'a>
+        requires { MovesOn self.now later.now }
+        ensures { left result ≡ take (length (left self.now) - length (left later.now)) (left self.now) }
+    {
+        Cursor {
+            source: self.source,
+            from: self.from,
+            to: later.from,
+        }
+    }
+
+    // The next value, by the reading function.
+    fn next_value(&mut self, tag: u8) -> Result<Cursor<'a>, DecodeError>
+        ensures reads { Took left (value_at tag) self.old result self.new }
+        ensures keeps { Keeps result self.old self.new }
+        ensures inside { IfOk result (λ c. IsWithin c self.old) }
+        ensures octets { AreOctets (left self.old) }
+    {
+        let rest = self.rest();
+        let (content, after) = value_of(tag, rest)?;
+        let end = self.to - after.len();
+        let inner = Cursor {
+            source: self.source,
+            from: end - content.len(),
+            to: end,
+        };
+        self.from = end;
+        Ok(inner)
+    }
+
+    /// A cursor over the content of the next value, which must have this identifier octet (X.690 8.1, 10.1).
+    pub fn take_value(&mut self, tag: u8) -> Result<Cursor<'a>, DecodeError>
+        ensures answers { Answers left (IsEnc tag) self.old result self.new }
+        ensures reads { Took left (value_at tag) self.old result self.new }
+        ensures keeps { Keeps result self.old self.new }
+        ensures inside { IfOk result (λ c. IsWithin c self.old) }
+    {
+        self.next_value(tag)
+    }
+
+    /// The same where the next value has this identifier octet, else `None`: at the end, or before another one.
+    pub fn take_opt_value(&mut self, tag: u8) -> Result<Option<Cursor<'a>>, DecodeError>
+        ensures answers { AnswersOptional left tag (IsEnc tag) self.old result self.new }
+        ensures reads { Took (option_map left) (optional tag (value_at tag)) self.old result self.new }
+        ensures keeps { Keeps result self.old self.new }
+        ensures inside { IfOk result (λ o. IfSome o (λ c. IsWithin c self.old)) }
+    {
+        match self.rest() {
+            [found, ..] if *found == tag => Ok(Some(self.take_value(tag)?)),
+            _ => Ok(None),
+        }
+    }
+
+    /// A cursor over the content of the SEQUENCE that must stand next.
+    pub fn take_sequence(&mut self) -> Result<Cursor<'a>, DecodeError>
+        ensures answers { Answers left (IsEnc 0x30) self.old result self.new }
+        ensures reads { Took left (value_at 0x30) self.old result self.new }
+        ensures keeps { Keeps result self.old self.new }
+        ensures inside { IfOk result (λ c. IsWithin c self.old) }
+    {
+        self.take_value(0x30)
+    }
+
+    /// The same where a SEQUENCE stands next, else `None`.
+    pub fn take_opt_sequence(&mut self) -> Result<Option<Cursor<'a>>, DecodeError>
+        ensures answers { AnswersOptional left 0x30 (IsEnc 0x30) self.old result self.new }
+        ensures reads { Took (option_map left) (optional 0x30 (value_at 0x30)) self.old result self.new }
+        ensures keeps { Keeps result self.old self.new }
+        ensures inside { IfOk result (λ o. IfSome o (λ c. IsWithin c self.old)) }
+    {
+        self.take_opt_value(0x30)
+    }
+
+    /// All that is left, kept. The cursor then stands at the end; the only error is `Memory`.
+    pub fn capture_rest(&mut self) -> Result<Piece, DecodeError>
+        ensures ok { IfOk result (λ p. (p ≡ left self.old) × (left self.new ≡ [])) }
+        ensures keeps { Keeps result self.old self.new }
+        ensures memory { IfErr result (λ e. e ≡ Memory) }
+    {
+        let octets = self.source.slice(self.from..self.to)?;
+        self.from = self.to;
+        Ok(Piece::from(octets))
+    }
+}

@@ -1,0 +1,83 @@
+ghost use Rattle.std.specs.Prelude.{◌≡◌, ◌^◌, ◌≤◌, ◌++◌, length};
+ghost use Rattle.std.specs.Int.Digits.{digits_of, number_from_digits};
+ghost use Rattle.rpki_der.specs.Place.{Place, left, Keeps, Took, Gives, Answers};
+ghost use Rattle.rpki_der.specs.Primitives.{IsU32, is_unsigned, number_below, u32_at};
+ghost use Rattle.rpki_der.specs.Values.{AreOctets};
+ghost use Rattle.rpki_der.specs.Writing.{unsigned};
+
+use crate::cursor::Cursor;
+use crate::error::DecodeError;
+
+// Whether these are the content of an INTEGER that is not negative.
+pub(crate) fn is_unsigned(content: &[u8]) -> bool
+    ensures { result ≡ is_unsigned content.now }
+{
+    match content {
+        [] | [0x80..=0xff, ..] | [0, 0..=0x7f, ..] => false,
+        _ => true,
+    }
+}
+
+// The number of a whole content.
+fn u32_in(content: &[u8]) -> Result<u32, DecodeError>
+    ensures { Gives (λ n. n) result (number_below (2 ^ 32) content.now) }
+{
+    if !is_unsigned(content) {
+        return Err(DecodeError::BadValue);
+    }
+    let mut number: u32 = 0;
+    for octet in content {
+        if number >= 0x100_0000 {
+            return Err(DecodeError::BadValue);
+        }
+        number = number * 0x100 + *octet as u32;
+    }
+    Ok(number)
+}
+
+// The octets without the zeros at their front.
+pub(crate) fn significant(octets: &[u8]) -> &[u8]
+    ensures digits { result.now ≡ digits_of 256 (number_from_digits 256 octets.now) }
+{
+    let mut digits = octets;
+    while let [0, rest @ ..] = digits {
+        digits = rest;
+    }
+    digits
+}
+
+// What stands before these digits in the content of an INTEGER that is not negative.
+pub(crate) fn sign(digits: &[u8]) -> &'static [u8]
+    ensures content { result.now ++ digits.now ≡ unsigned digits.now }
+    ensures short { length result.now ≤ 1 }
+{
+    match digits {
+        [] | [0x80..=0xFF, ..] => &[0x00],
+        _ => &[],
+    }
+}
+
+impl<'a> Cursor<'a> {
+    // The next INTEGER, by the reading function.
+    #[tactic(auto, unfolding(crate::specs::Primitives::u32_at))]
+    fn next_u32(&mut self) -> Result<u32, DecodeError>
+        ensures reads { Took (λ n. n) u32_at self.old result self.new }
+        ensures keeps { Keeps result self.old self.new }
+        ensures octets { AreOctets (left self.old) }
+    {
+        let mut ahead = self.fork();
+        let content = ahead.take_value(0x02)?;
+        let number = u32_in(content.rest())?;
+        *self = ahead;
+        Ok(number)
+    }
+
+    /// The INTEGER from 0 to 2^32 - 1 that must stand next (X.690 8.3).
+    pub fn take_u32(&mut self) -> Result<u32, DecodeError>
+        ensures answers { Answers (λ n. n) IsU32 self.old result self.new }
+        ensures reads { Took (λ n. n) u32_at self.old result self.new }
+        ensures keeps { Keeps result self.old self.new }
+    {
+        self.next_u32()
+    }
+}

@@ -1,0 +1,31 @@
+//! Values of DER (X.690), read from shared octets and appended to vectors.
+#![tactic(auto)]
+
+mod bits;
+mod boolean;
+mod cursor;
+mod error;
+mod extension;
+mod header;
+mod integer;
+pub mod laws;
+pub mod oid;
+mod piece;
+#[cfg(test)]
+mod primitive_tests;
+mod put;
+mod serial;
+mod simple;
+mod skip;
+#[cfg(test)]
+mod tests;
+mod time;
+
+pub use cursor::Cursor;
+pub use error::{DecodeError, EncodeError, Field};
+pub use extension::put_extension;
+pub use oid::Oid;
+pub use piece::Piece;
+pub use put::{put_bits, put_bool, put_oid, put_parts, put_unsigned, put_value};
+pub use serial::Serial;
+pub use time::Time;

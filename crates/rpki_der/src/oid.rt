@@ -1,0 +1,198 @@
+//! Object identifiers, and the constants that resource certificates have.
+ghost use Rattle.std.specs.Prelude.{◌≡◌, List, ℕ, IfOk, IfErr, IsOk, ◌↔◌, bytes_eq};
+ghost use Rattle.std.proofs.Common.{rules};
+ghost use Rattle.std.specs.Cmp.Rules.{comparing};
+ghost use Rattle.rpki_der.specs.Contents.{IsOid, IsObjectIdentifier};
+ghost use Rattle.rpki_der.specs.Place.{Place, left, Keeps, Took, Answers};
+ghost use Rattle.rpki_der.specs.Reading.{is_oid, oid_at};
+ghost use Rattle.rpki_der.specs.Values.{AreOctets};
+ghost use Rattle.rpki_der.specs.declared.error.DecodeError.TheVariants.{BadValue};
+
+use crate::cursor::Cursor;
+use crate::error::DecodeError;
+use crate::piece::Piece;
+use bytes::Bytes;
+use std::alloc::AllocError;
+use std::fmt;
+use std::marker::Model;
+
+// Extensions of certificates and revocation lists (RFC 5280 4.2, 5.2).
+
+/// id-ce-subjectKeyIdentifier
+pub const CE_SUBJECT_KEY_IDENTIFIER: &[u8] = &[0x55, 0x1D, 0x0E];
+/// id-ce-keyUsage
+pub const CE_KEY_USAGE: &[u8] = &[0x55, 0x1D, 0x0F];
+/// id-ce-basicConstraints
+pub const CE_BASIC_CONSTRAINTS: &[u8] = &[0x55, 0x1D, 0x13];
+/// id-ce-cRLNumber
+pub const CE_CRL_NUMBER: &[u8] = &[0x55, 0x1D, 0x14];
+/// id-ce-cRLDistributionPoints
+pub const CE_CRL_DISTRIBUTION_POINTS: &[u8] = &[0x55, 0x1D, 0x1F];
+/// id-ce-certificatePolicies
+pub const CE_CERTIFICATE_POLICIES: &[u8] = &[0x55, 0x1D, 0x20];
+/// id-ce-authorityKeyIdentifier
+pub const CE_AUTHORITY_KEY_IDENTIFIER: &[u8] = &[0x55, 0x1D, 0x23];
+/// id-ce-extKeyUsage
+pub const CE_EXTENDED_KEY_USAGE: &[u8] = &[0x55, 0x1D, 0x25];
+
+/// id-pe-authorityInfoAccess (RFC 5280 4.2.2.1)
+pub const PE_AUTHORITY_INFO_ACCESS: &[u8] = &[0x2B, 0x06, 0x01, 0x05, 0x05, 0x07, 0x01, 0x01];
+/// id-pe-subjectInfoAccess (RFC 5280 4.2.2.2)
+pub const PE_SUBJECT_INFO_ACCESS: &[u8] = &[0x2B, 0x06, 0x01, 0x05, 0x05, 0x07, 0x01, 0x0B];
+/// id-pe-ipAddrBlocks (RFC 3779 2.2.1): a certificate that overclaims is refused.
+pub const PE_IP_ADDR_BLOCK: &[u8] = &[0x2B, 0x06, 0x01, 0x05, 0x05, 0x07, 0x01, 0x07];
+/// id-pe-autonomousSysIds (RFC 3779 3.2.1): a certificate that overclaims is refused.
+pub const PE_AUTONOMOUS_SYS_IDS: &[u8] = &[0x2B, 0x06, 0x01, 0x05, 0x05, 0x07, 0x01, 0x08];
+/// id-pe-ipAddrBlocks-v2 (RFC 8360 4.2.2.1): the resources of a certificate that overclaims are trimmed.
+pub const PE_IP_ADDR_BLOCK_V2: &[u8] = &[0x2B, 0x06, 0x01, 0x05, 0x05, 0x07, 0x01, 0x1C];
+/// id-pe-autonomousSysIds-v2 (RFC 8360 4.2.2.3): the resources of a certificate that overclaims are trimmed.
+pub const PE_AUTONOMOUS_SYS_IDS_V2: &[u8] = &[0x2B, 0x06, 0x01, 0x05, 0x05, 0x07, 0x01, 0x1D];
+
+/// id-ad-caIssuers (RFC 5280 4.2.2.1)
+pub const AD_CA_ISSUERS: &[u8] = &[0x2B, 0x06, 0x01, 0x05, 0x05, 0x07, 0x30, 0x02];
+/// id-ad-caRepository (RFC 5280 4.2.2.2)
+pub const AD_CA_REPOSITORY: &[u8] = &[0x2B, 0x06, 0x01, 0x05, 0x05, 0x07, 0x30, 0x05];
+/// id-ad-rpkiManifest (RFC 6487 4.8.8.1)
+pub const AD_RPKI_MANIFEST: &[u8] = &[0x2B, 0x06, 0x01, 0x05, 0x05, 0x07, 0x30, 0x0A];
+/// id-ad-signedObject (RFC 6487 4.8.8.2)
+pub const AD_SIGNED_OBJECT: &[u8] = &[0x2B, 0x06, 0x01, 0x05, 0x05, 0x07, 0x30, 0x0B];
+/// id-ad-rpkiNotify (RFC 8182 3.2)
+pub const AD_RPKI_NOTIFY: &[u8] = &[0x2B, 0x06, 0x01, 0x05, 0x05, 0x07, 0x30, 0x0D];
+
+/// id-cp-ipAddr-asNumber (RFC 6484 1.2): a certificate that overclaims is refused.
+pub const CP_IPADDR_ASNUMBER: &[u8] = &[0x2B, 0x06, 0x01, 0x05, 0x05, 0x07, 0x0E, 0x02];
+/// id-cp-ipAddr-asNumber-v2 (RFC 8360 4.2.1): the resources of a certificate that overclaims are trimmed.
+pub const CP_IPADDR_ASNUMBER_V2: &[u8] = &[0x2B, 0x06, 0x01, 0x05, 0x05, 0x07, 0x0E, 0x03];
+
+/// id-kp-bgpsec-router (RFC 8209 3.1.3.2)
+pub const KP_BGPSEC_ROUTER: &[u8] = &[0x2B, 0x06, 0x01, 0x05, 0x05, 0x07, 0x03, 0x1E];
+
+/// An object identifier, as the content octets of its value (X.690 8.19).
+#[derive(Drop)]
+pub struct Oid {
+    content: Piece,
+}
+
+impl Model for Oid {
+    ghost use Rattle.std.specs.Prelude.{◌≡◌, List, ℕ, true};
+    ghost use Rattle.rpki_der.specs.Reading.{is_oid};
+
+    ghost Value = { List ℕ };
+
+    ghost view = { λ o. o.content };
+
+    ghost invariant = { λ o. is_oid o.content ≡ true };
+
+    ghost inverse = { λ b. record { content = b } };
+}
+
+/// Whether these are whole subidentifiers, each without a leading `80`.
+pub(crate) fn is_oid(content: &[u8]) -> bool
+    ensures { result ≡ is_oid content.now }
+{
+    let mut ended = true;
+    for octet in content {
+        if ended && *octet == 0x80 {
+            return false;
+        }
+        ended = *octet < 0x80;
+    }
+    ended && !content.is_empty()
+}
+
+impl Oid {
+    /// The identifier with these content octets. Answers `BadValue` where they are no content of an OBJECT IDENTIFIER; wants no memory.
+    pub fn new(content: Bytes) -> Result<Oid, DecodeError>
+        ensures ok { IfOk result (λ o. o ≡ content) }
+        ensures accepted { IsOk result ↔ IsOid content }
+        ensures refused { IfErr result (λ e. e ≡ BadValue) }
+    {
+        Oid::from_piece(Piece::from(content))
+    }
+
+    /// The identifier with these content octets, as [`Oid::new`] says.
+    pub fn from_piece(content: Piece) -> Result<Oid, DecodeError>
+        ensures ok { IfOk result (λ o. o ≡ content) }
+        ensures accepted { IsOk result ↔ IsOid content }
+        ensures refused { IfErr result (λ e. e ≡ BadValue) }
+    {
+        if is_oid(content.as_bytes()) {
+            Ok(Oid { content })
+        } else {
+            Err(DecodeError::BadValue)
+        }
+    }
+
+    /// The content octets.
+    pub fn as_bytes(&self) -> &[u8]
+        ensures octets { result.now ≡ self.now }
+        ensures valid { IsOid self.now }
+    {
+        self.content.as_bytes()
+    }
+
+    /// The same identifier once more.
+    pub fn try_clone(&self) -> Result<Oid, AllocError>
+        ensures { IfOk result (λ o. o ≡ self.now) }
+    {
+        let content = self.content.try_clone()?;
+        Ok(Oid { content })
+    }
+}
+
+impl<'a> Cursor<'a> {
+    // The content of the next OBJECT IDENTIFIER, by the reading function.
+    #[tactic(auto, unfolding(crate::specs::Reading::oid_at))]
+    fn next_oid(&mut self) -> Result<&'a [u8], DecodeError>
+        ensures reads { Took (λ id. id.now) oid_at self.old result self.new }
+        ensures keeps { Keeps result self.old self.new }
+        ensures octets { AreOctets (left self.old) }
+    {
+        let mut ahead = self.fork();
+        let content = ahead.take_value(0x06)?.rest();
+        if !is_oid(content) {
+            return Err(DecodeError::BadValue);
+        }
+        *self = ahead;
+        Ok(content)
+    }
+
+    /// The content octets of the OBJECT IDENTIFIER that must stand next (X.690 8.19).
+    pub fn take_oid(&mut self) -> Result<&'a [u8], DecodeError>
+        ensures answers { Answers (λ id. id.now) IsObjectIdentifier self.old result self.new }
+        ensures reads { Took (λ id. id.now) oid_at self.old result self.new }
+        ensures keeps { Keeps result self.old self.new }
+    {
+        self.next_oid()
+    }
+}
+
+impl PartialEq for Oid {
+    ghost eq = { bytes_eq };
+
+    ghost laws = { Prim.search (comparing, rules) };
+
+    fn eq(&self, other: &Oid) -> bool {
+        self.as_bytes() == other.as_bytes()
+    }
+}
+
+impl Eq for Oid {
+    ghost laws = { Prim.search (comparing, rules) };
+}
+
+/// The content octets in lower-case hexadecimal digits.
+impl fmt::Display for Oid {
+    fn fmt<W: fmt::Write>(&self, f: &mut fmt::Formatter<W>) -> fmt::Result {
+        for octet in self.content.as_bytes() {
+            write!(f, "{octet:02x}")?;
+        }
+        Ok(())
+    }
+}
+
+impl fmt::Debug for Oid {
+    fn fmt<W: fmt::Write>(&self, f: &mut fmt::Formatter<W>) -> fmt::Result {
+        write!(f, "Oid({self})")
+    }
+}

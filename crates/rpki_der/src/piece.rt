@@ -1,0 +1,72 @@
+ghost use Rattle.std.specs.Prelude.{◌≡◌, List, ℕ, length, IfOk, bytes_eq};
+ghost use Rattle.std.proofs.Common.{rules};
+ghost use Rattle.std.specs.Cmp.Rules.{comparing};
+ghost use Rattle.rpki_der.specs.Place.{Place, left};
+ghost use Rattle.rpki_der.specs.Values.{AreOctets};
+
+use crate::cursor::Cursor;
+use bytes::Bytes;
+use std::alloc::AllocError;
+use std::marker::Model;
+
+/// Octets that are kept.
+#[derive(Drop)]
+pub struct Piece {
+    octets: Bytes,
+}
+
+impl Model for Piece {
+    ghost Value = { List ℕ };
+
+    ghost view = { λ p. p.octets };
+
+    ghost inverse = { λ b. record { octets = b } };
+}
+
+impl From<Bytes> for Piece {
+    ghost from_gives = { λ b p. p ≡ b };
+
+    fn from(octets: Bytes) -> Piece {
+        Piece { octets }
+    }
+}
+
+impl Piece {
+    pub fn as_bytes(&self) -> &[u8]
+        ensures { result.now ≡ self.now }
+    {
+        self.octets.as_slice()
+    }
+
+    /// A cursor over all of the octets.
+    pub fn cursor(&self) -> Cursor<'_>
+        ensures all { left result ≡ self.now }
+        ensures octets { AreOctets self.now }
+    {
+        let cursor = Cursor::new(&self.octets);
+        let _octets = cursor.rest();
+        cursor
+    }
+
+    /// The same octets once more.
+    pub fn try_clone(&self) -> Result<Piece, AllocError>
+        ensures { IfOk result (λ p. p ≡ self.now) }
+    {
+        let octets = self.octets.clone()?;
+        Ok(Piece { octets })
+    }
+}
+
+impl PartialEq for Piece {
+    ghost eq = { bytes_eq };
+
+    ghost laws = { Prim.search (comparing, rules) };
+
+    fn eq(&self, other: &Piece) -> bool {
+        self.as_bytes() == other.as_bytes()
+    }
+}
+
+impl Eq for Piece {
+    ghost laws = { Prim.search (comparing, rules) };
+}

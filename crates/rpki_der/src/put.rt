@@ -1,0 +1,127 @@
+//! Values appended to vectors.
+ghost use Rattle.std.specs.Prelude.{◌≡◌, ◌+◌, ◌%◌, ◌^◌, ◌<◌, ◌≤◌, ◌↔◌, [], ◌∷◌, ◌++◌, length, take, OnOk, OnErr, IfErr, IsErrOf};
+ghost use Rattle.std.specs.Int.Digits.{digits_of, number_from_digits};
+ghost use Rattle.rpki_der.specs.Contents.{IsOid};
+ghost use Rattle.rpki_der.specs.Values.{length_octets, enc};
+ghost use Rattle.rpki_der.specs.Writing.{unsigned, number};
+ghost use Rattle.rpki_der.specs.WrittenPrimitives.{boolean};
+
+use crate::error::EncodeError;
+use crate::integer::{sign, significant};
+use std::alloc::AllocError;
+
+// The greatest length of a content (own).
+pub(crate) const MAX_LEN: usize = 0xFFFF_FFFF;
+
+// The shortest length octets.
+pub(crate) fn put_length(out: &mut Vec<u8>, len: u32) -> Result<(), AllocError>
+    ensures ok { OnOk result (out.new.items ≡ out.old.items ++ length_octets len) }
+    ensures err { OnErr result (out.new.items ≡ out.old.items) }
+{
+    let [a, b, c, d] = len.to_be_bytes();
+    if len < 0x80 {
+        out.extend_from_slice(&[d])
+    } else if len < 0x100 {
+        out.extend_from_slice(&[0x81, d])
+    } else if len < 0x1_0000 {
+        out.extend_from_slice(&[0x82, c, d])
+    } else if len < 0x100_0000 {
+        out.extend_from_slice(&[0x83, b, c, d])
+    } else {
+        out.extend_from_slice(&[0x84, a, b, c, d])
+    }
+}
+
+// The value whose content is the head and the tail, or a part of it where memory runs out.
+#[tactic(auto, unfolding(crate::specs::Values::enc))]
+pub(crate) fn append_value(
+    out: &mut Vec<u8>,
+    tag: u8,
+    head: &[u8],
+    tail: &[u8],
+) -> Result<(), AllocError>
+    requires { length (head.now ++ tail.now) < 2 ^ 32 }
+    ensures ok { OnOk result (out.new.items ≡ out.old.items ++ enc tag (head.now ++ tail.now)) }
+    ensures err { OnErr result (take (length out.old.items) out.new.items ≡ out.old.items) }
+{
+    let len = head.len() + tail.len();
+    out.push(tag)?;
+    put_length(out, len as u32)?;
+    out.extend_from_slice(head)?;
+    out.extend_from_slice(tail)
+}
+
+/// Appends the value with this identifier octet whose content is the head and the tail, one after the other. Answers `TooLong` where
+/// they have 2^32 octets or more together.
+pub fn put_parts(out: &mut Vec<u8>, tag: u8, head: &[u8], tail: &[u8]) -> Result<(), EncodeError>
+    requires { tag % 32 < 31 }
+    ensures ok { OnOk result (out.new.items ≡ out.old.items ++ enc tag (head.now ++ tail.now)) }
+    ensures err { OnErr result (out.new.items ≡ out.old.items) }
+    ensures too_long { IsErrOf result EncodeError.TooLong ↔ (2 ^ 32 ≤ length (head.now ++ tail.now)) }
+{
+    if head.len() + tail.len() > MAX_LEN {
+        return Err(EncodeError::TooLong);
+    }
+    let start = out.len();
+    if let Err(error) = append_value(out, tag, head, tail) {
+        out.truncate(start);
+        return Err(EncodeError::from(error));
+    }
+    Ok(())
+}
+
+/// Appends the value with this identifier octet and content (X.690 8.1, 10.1). Answers `TooLong` where the content has 2^32 octets or more.
+pub fn put_value(out: &mut Vec<u8>, tag: u8, content: &[u8]) -> Result<(), EncodeError>
+    requires { tag % 32 < 31 }
+    ensures ok { OnOk result (out.new.items ≡ out.old.items ++ enc tag content.now) }
+    ensures err { OnErr result (out.new.items ≡ out.old.items) }
+    ensures too_long { IsErrOf result EncodeError.TooLong ↔ (2 ^ 32 ≤ length content.now) }
+{
+    put_parts(out, tag, &[], content)
+}
+
+/// Appends a BOOLEAN (X.690 8.2, 11.1). The only error is `Memory`.
+pub fn put_bool(out: &mut Vec<u8>, value: bool) -> Result<(), EncodeError>
+    ensures ok { OnOk result (out.new.items ≡ out.old.items ++ boolean value) }
+    ensures err { OnErr result (out.new.items ≡ out.old.items) }
+    ensures memory { IfErr result (λ e. e ≡ EncodeError.Memory) }
+{
+    let octet = if value { 0xFF } else { 0x00 };
+    out.extend_from_slice(&[0x01, 0x01, octet])?;
+    Ok(())
+}
+
+/// Appends the number of these octets, the greatest first and none for 0, as the shortest INTEGER (X.690 8.3). Answers `TooLong`
+/// where its content would have 2^32 octets or more.
+#[tactic(auto, unfolding(crate::specs::Writing::number))]
+pub fn put_unsigned(out: &mut Vec<u8>, octets: &[u8]) -> Result<(), EncodeError>
+    ensures ok { OnOk result (out.new.items ≡ out.old.items ++ number (number_from_digits 256 octets.now)) }
+    ensures err { OnErr result (out.new.items ≡ out.old.items) }
+    ensures too_long { IsErrOf result EncodeError.TooLong ↔ (2 ^ 32 ≤ length (unsigned (digits_of 256 (number_from_digits 256 octets.now)))) }
+{
+    let digits = significant(octets);
+    put_parts(out, 0x02, sign(digits), digits)
+}
+
+/// Appends a BIT STRING of these octets, at whose end so many bits are unused (X.690 8.6, 11.2.1). Answers `TooLong` where there are
+/// 2^32 - 1 octets or more.
+pub fn put_bits(out: &mut Vec<u8>, unused: u8, octets: &[u8]) -> Result<(), EncodeError>
+    requires few { unused < 8 }
+    requires none { octets.now ≡ [] → unused ≡ 0 }
+    requires zero_bits { number_from_digits 256 octets.now % 2 ^ unused ≡ 0 }
+    ensures ok { OnOk result (out.new.items ≡ out.old.items ++ enc 3 (unused ∷ octets.now)) }
+    ensures err { OnErr result (out.new.items ≡ out.old.items) }
+    ensures too_long { IsErrOf result EncodeError.TooLong ↔ (2 ^ 32 ≤ length octets.now + 1) }
+{
+    put_parts(out, 0x03, &[unused], octets)
+}
+
+/// Appends the OBJECT IDENTIFIER with this content (X.690 8.19). Answers `TooLong` where it has 2^32 octets or more.
+pub fn put_oid(out: &mut Vec<u8>, id: &[u8]) -> Result<(), EncodeError>
+    requires { IsOid id.now }
+    ensures ok { OnOk result (out.new.items ≡ out.old.items ++ enc 6 id.now) }
+    ensures err { OnErr result (out.new.items ≡ out.old.items) }
+    ensures too_long { IsErrOf result EncodeError.TooLong ↔ (2 ^ 32 ≤ length id.now) }
+{
+    put_value(out, 0x06, id)
+}

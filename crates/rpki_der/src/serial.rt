@@ -1,0 +1,177 @@
+ghost use Rattle.std.specs.Prelude.{◌≡◌, ◌↔◌, ◌+◌, ◌*◌, ◌^◌, ◌<◌, ◌≤◌, ◌++◌, ℕ, true, OnOk, OnErr, length, slice_index, IsSome, IfSome, IfErr, Some, nat_eq};
+ghost use Rattle.std.specs.Ordering.{nat_cmp};
+ghost use Rattle.std.specs.Int.Digits.{number_from_digits};
+ghost use Rattle.std.proofs.Common.{rules};
+ghost use Rattle.std.specs.Cmp.Rules.{comparing};
+ghost use Rattle.rpki_der.specs.Place.{Place, left, Keeps, Took, Answers, Gives};
+ghost use Rattle.rpki_der.specs.Values.{AreOctets};
+ghost use Rattle.rpki_der.specs.Serials.{IsSerial};
+ghost use Rattle.rpki_der.specs.Writing.{number};
+ghost use Rattle.rpki_der.specs.ReadSerials.{is_unsigned, serial_of, serial_at};
+ghost use Rattle.rpki_der.specs.declared.error.EncodeError.TheVariants.{Memory};
+
+use crate::cursor::Cursor;
+use crate::error::{DecodeError, EncodeError};
+use crate::integer::is_unsigned;
+use crate::put::put_unsigned;
+use std::cmp::Ordering;
+use std::marker::Model;
+
+// 2^120
+const TOP: u128 = 0x100_0000_0000_0000_0000_0000_0000_0000;
+
+/// A serial number: a whole number below 2^160 (RFC 5280 4.1.2.2).
+#[derive(Clone, Copy)]
+pub struct Serial {
+    high: u32,
+    low: u128,
+}
+
+impl Model for Serial {
+    ghost use Rattle.std.specs.Prelude.{ℕ, ◌+◌, ◌*◌, ◌/◌, ◌%◌, ◌^◌, ◌<◌};
+    ghost use Rattle.rpki_der.specs.Halves.{high_half, low_half};
+
+    ghost Value = { ℕ };
+
+    ghost view = { λ s. s.high * 2 ^ 128 + s.low };
+
+    ghost invariant = { λ s. s.low < 2 ^ 128 };
+
+    ghost inverse = { λ n. record { high = n / 2 ^ 128; low = n % 2 ^ 128 } };
+
+    ghost inverse_ok = { λ a h. λ i. record { high = high_half a.high a.low h i; low = low_half a.high a.low h i } };
+}
+
+impl From<u64> for Serial {
+    ghost from_gives = { λ n s. s ≡ n };
+
+    fn from(n: u64) -> Serial {
+        Serial {
+            high: 0,
+            low: n as u128,
+        }
+    }
+}
+
+impl From<u128> for Serial {
+    ghost from_gives = { λ n s. s ≡ n };
+
+    fn from(low: u128) -> Serial {
+        Serial { high: 0, low }
+    }
+}
+
+impl Serial {
+    /// The number of these octets, the greatest first, if it is below 2^160. No octets are 0.
+    pub fn from_slice(octets: &[u8]) -> Option<Serial>
+        ensures some { IsSome result ↔ (number_from_digits 256 octets.now < 2 ^ 160) }
+        ensures value { IfSome result (λ s. s ≡ number_from_digits 256 octets.now) }
+    {
+        let mut high: u32 = 0;
+        let mut low: u128 = 0;
+        for octet in octets {
+            if high >= 0x100_0000 {
+                return None;
+            }
+            high = high * 0x100 + (low / TOP) as u32;
+            low = low % TOP * 0x100 + *octet as u128;
+        }
+        Some(Serial { high, low })
+    }
+
+    // The number in 20 octets, the greatest first.
+    fn octets(&self) -> [u8; 20]
+        ensures number { number_from_digits 256 result ≡ self.now }
+        ensures below { self.now < 2 ^ 160 }
+    {
+        let mut octets = [0; 20];
+        octets[..4].copy_from_slice(&self.high.to_be_bytes());
+        octets[4..].copy_from_slice(&self.low.to_be_bytes());
+        octets
+    }
+
+    /// Appends the number as an INTEGER, in as few octets as it has (X.690 8.3). The only error is `Memory`.
+    pub fn encode(&self, out: &mut Vec<u8>) -> Result<(), EncodeError>
+        ensures ok { OnOk result (out.new.items ≡ out.old.items ++ number self.now) }
+        ensures err { OnErr result (out.new.items ≡ out.old.items) }
+        ensures memory { IfErr result (λ e. e ≡ Memory) }
+        ensures below { self.now < 2 ^ 160 }
+    {
+        put_unsigned(out, &self.octets())
+    }
+
+    // The serial that stands next, by the reading function.
+    #[tactic(auto, unfolding(crate::specs::ReadSerials::serial_at))]
+    fn take_number(cursor: &mut Cursor<'_>) -> Result<Serial, DecodeError>
+        ensures reads { Took (λ s. s) serial_at cursor.old result cursor.new }
+        ensures keeps { Keeps result cursor.old cursor.new }
+        ensures octets { AreOctets (left cursor.old) }
+    {
+        let mut ahead = cursor.fork();
+        let content = ahead.take_value(0x02)?;
+        let serial = serial_in(content.rest())?;
+        *cursor = ahead;
+        Ok(serial)
+    }
+
+    /// The INTEGER that must stand next, from 0 to 2^160 - 1 (RFC 5280 4.1.2.2).
+    pub fn take_from(cursor: &mut Cursor<'_>) -> Result<Serial, DecodeError>
+        ensures answers { Answers (λ s. s) IsSerial cursor.old result cursor.new }
+        ensures reads { Took (λ s. s) serial_at cursor.old result cursor.new }
+        ensures keeps { Keeps result cursor.old cursor.new }
+    {
+        Serial::take_number(cursor)
+    }
+}
+
+// The serial of a whole content.
+fn serial_in(content: &[u8]) -> Result<Serial, DecodeError>
+    ensures { Gives (λ s. s) result (serial_of content.now) }
+{
+    if !is_unsigned(content) {
+        return Err(DecodeError::BadValue);
+    }
+    Serial::from_slice(content).ok_or(DecodeError::BadValue)
+}
+
+impl PartialEq for Serial {
+    ghost eq = { nat_eq };
+
+    ghost laws = { Prim.search (comparing, rules) };
+
+    fn eq(&self, other: &Serial) -> bool {
+        self.high == other.high && self.low == other.low
+    }
+}
+
+impl Eq for Serial {
+    ghost laws = { Prim.search (comparing, rules) };
+}
+
+impl PartialOrd for Serial {
+    ghost partial_cmp = { λ x y. Some (nat_cmp x y) };
+
+    ghost laws = { Prim.search (comparing, rules) };
+
+    fn partial_cmp(&self, other: &Serial) -> Option<Ordering> {
+        Some(self.cmp(other))
+    }
+}
+
+impl Ord for Serial {
+    ghost cmp = { nat_cmp };
+
+    ghost total = { Prim.search (comparing, rules) };
+
+    ghost matches_partial_cmp = { Prim.search (comparing, rules) };
+
+    ghost matches_eq = { Prim.search (comparing, rules) };
+
+    fn cmp(&self, other: &Serial) -> Ordering {
+        if self.high == other.high {
+            self.low.cmp(&other.low)
+        } else {
+            self.high.cmp(&other.high)
+        }
+    }
+}

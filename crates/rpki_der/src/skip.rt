@@ -1,0 +1,124 @@
+//! Values of any kind: passed over, or kept whole.
+ghost use Rattle.std.specs.Prelude.{◌≡◌, ◌↔◌, [], IsOk, IsSome, OnOk};
+ghost use Rattle.rpki_der.specs.Place.{Place, left, Keeps, Took, TookOrMemory, Gives, Answers, AnswersOrMemory};
+ghost use Rattle.rpki_der.specs.Skipping.{IsSkipped, IsSkippableRow, IsCaptured, any_at, captured_at, skip_within, skip_row_within, skip_at, skip_all_of};
+ghost use Rattle.rpki_der.specs.Values.{AreOctets};
+
+use crate::cursor::Cursor;
+use crate::error::DecodeError;
+use crate::piece::Piece;
+
+// How many constructed values may stand one inside the other, the skipped one counted as the first (own).
+const LEVELS: u8 = 16;
+
+impl<'a> Cursor<'a> {
+    // The identifier octet and the content of the next value.
+    fn next_any(&mut self) -> Result<(u8, Cursor<'a>), DecodeError>
+        ensures reads { Took (λ x. (x.0, left x.1)) any_at self.old result self.new }
+        ensures keeps { Keeps result self.old self.new }
+        ensures octets { AreOctets (left self.old) }
+    {
+        let octets = self.fork().rest();
+        match octets {
+            [] => Err(DecodeError::Truncated),
+            [tag, ..] => Ok((*tag, self.take_value(*tag)?)),
+        }
+    }
+
+    // Past the next value, with at most so many levels.
+    #[cycle(skipping)]
+    fn skip_within(&mut self, levels: u8) -> Result<(), DecodeError>
+        ensures reads { Took (λ u. u) (skip_within levels) self.old result self.new }
+        ensures keeps { Keeps result self.old self.new }
+    {
+        let mut ahead = self.fork();
+        let (tag, content) = ahead.next_any()?;
+        if tag / 0x20 % 2 == 1 {
+            if levels == 0 {
+                return Err(DecodeError::TooDeep);
+            }
+            content.skip_row_within(levels - 1)?;
+        }
+        *self = ahead;
+        Ok(())
+    }
+
+    // Past all values that are left, each with at most so many levels.
+    #[cycle(skipping)]
+    fn skip_row_within(mut self, levels: u8) -> Result<(), DecodeError>
+        ensures { Gives (λ u. u) result (skip_row_within levels (left self.entry)) }
+    {
+        while !self.is_empty() {
+            self.skip_within(levels)?;
+        }
+        Ok(())
+    }
+
+    // Past the next value, by the reading function.
+    #[tactic(auto, unfolding(crate::specs::Skipping::skip_at))]
+    fn next_skippable(&mut self) -> Result<(), DecodeError>
+        ensures reads { Took (λ u. u) skip_at self.old result self.new }
+        ensures keeps { Keeps result self.old self.new }
+        ensures octets { AreOctets (left self.old) }
+    {
+        let _here = self.fork();
+        self.skip_within(LEVELS)
+    }
+
+    /// Passes over one well-formed value (X.690 8.1, 10.1) in which constructed values stand at most 16 deep, this one counted as
+    /// the first (own). Answers `TooDeep` at a constructed value below the last level. Takes no memory.
+    pub fn skip_one(&mut self) -> Result<(), DecodeError>
+        ensures answers { Answers (λ u. u) IsSkipped self.old result self.new }
+        ensures reads { Took (λ u. u) skip_at self.old result self.new }
+        ensures keeps { Keeps result self.old self.new }
+    {
+        self.next_skippable()
+    }
+
+    // Past all values that are left, by the reading function.
+    #[tactic(auto, unfolding(crate::specs::Skipping::skip_at, crate::specs::Skipping::skip_all_of))]
+    fn rest_skippable(&mut self) -> Result<(), DecodeError>
+        ensures reads { Gives (λ u. u) result (skip_all_of (left self.old)) }
+        ensures end { OnOk result (left self.new ≡ []) }
+        ensures keeps { Keeps result self.old self.new }
+        ensures octets { AreOctets (left self.old) }
+    {
+        self.fork().skip_row_within(LEVELS)?;
+        self.advance(self.rest().len());
+        Ok(())
+    }
+
+    /// Passes over all values that are left, each as [`Cursor::skip_one`] says. The cursor then stands at the end.
+    pub fn skip_all(&mut self) -> Result<(), DecodeError>
+        ensures skippable { IsOk result ↔ IsSkippableRow (left self.old) }
+        ensures reads { Gives (λ u. u) result (skip_all_of (left self.old)) }
+        ensures end { OnOk result (left self.new ≡ []) }
+        ensures keeps { Keeps result self.old self.new }
+    {
+        self.rest_skippable()
+    }
+
+    // The octets of the next value, by the reading function.
+    #[tactic(auto, unfolding(crate::specs::Skipping::captured_at))]
+    fn next_captured(&mut self) -> Result<Piece, DecodeError>
+        ensures reads { TookOrMemory (λ p. p) captured_at self.old result self.new }
+        ensures keeps { Keeps result self.old self.new }
+        ensures octets { AreOctets (left self.old) }
+    {
+        let mut ahead = self.fork();
+        ahead.next_any()?;
+        let octets = self.until(&ahead).capture_rest()?;
+        *self = ahead;
+        Ok(octets)
+    }
+
+    /// Keeps the next value whole, whatever its identifier octet (X.690 8.1, 10.1). Its inside is not tested. The only other
+    /// error than those of the identifier and the length is `Memory`.
+    pub fn capture_one(&mut self) -> Result<Piece, DecodeError>
+        ensures answers { AnswersOrMemory (λ p. p) IsCaptured self.old result self.new }
+        ensures reads { TookOrMemory (λ p. p) captured_at self.old result self.new }
+        ensures keeps { Keeps result self.old self.new }
+    {
+        self.next_captured()
+    }
+}

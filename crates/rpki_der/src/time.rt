@@ -1,0 +1,278 @@
+ghost use Rattle.std.specs.Prelude.{◌≡◌, ◌↔◌, ◌++◌, ◌/◌, ◌%◌, ◌<◌, ◌≤◌, List, pos, ◌≤ℤ◌, unsigned_abs, nat_eq, OnOk, OnErr, IsSome, IfSome, IfOk, IfErr};
+ghost use Rattle.std.specs.Ordering.{nat_cmp, on, as_partial_cmp};
+ghost use Rattle.std.specs.Cmp.{partial_order_from_own_ties};
+ghost use Rattle.std.proofs.Common.{rules};
+ghost use Rattle.std.specs.Cmp.Rules.{comparing};
+ghost use Rattle.rpki_der.specs.Place.{Place, left, Keeps, Took, Answers, Gives};
+ghost use Rattle.rpki_der.specs.Values.{AreOctets};
+ghost use Rattle.rpki_der.specs.Times.{Moment, IsMoment, IsTime, second_number, two, after_year};
+ghost use Rattle.rpki_der.specs.Writing.{time};
+ghost use Rattle.rpki_der.specs.declared.error.EncodeError.TheVariants.{Memory};
+ghost use Rattle.rpki_der.specs.ReadTimes.{two_at, after_year_of, utc_of, generalized_of, time_at};
+
+use crate::cursor::Cursor;
+use crate::error::{DecodeError, EncodeError};
+use crate::put::put_value;
+use jiff::civil::DateTime;
+use std::cmp::Ordering;
+use std::marker::Model;
+
+// What ends the text of a time.
+const END: &[u8] = b"Z";
+
+/// A second of the years 0 to 9999, in UTC (RFC 5280 4.1.2.5).
+#[derive(Clone, Copy)]
+pub struct Time {
+    inner: DateTime,
+}
+
+impl Model for Time {
+    ghost use Rattle.rpki_der.specs.Times.{Moment};
+    ghost use Rattle.rpki_der.specs.CivilTimes.{moment_of, IsWhole, datetime_of, datetime_is};
+
+    ghost Value = { Moment };
+
+    ghost view = { λ t. moment_of t.inner };
+
+    ghost invariant = { λ t. IsWhole t.inner };
+
+    ghost inverse = { λ m. record { inner = datetime_of m } };
+
+    ghost inverse_ok = { λ t h. λ i. record { inner = datetime_is t.inner h i } };
+}
+
+// A part of a date or of a time of day, as the calendar takes it.
+fn part(n: u32) -> i8
+    requires { n < 100 }
+    ensures { result ≡ pos n }
+{
+    n as i8
+}
+
+fn year_part(year: u32) -> i16
+    requires { year < 10000 }
+    ensures { result ≡ pos year }
+{
+    year as i16
+}
+
+impl Time {
+    /// The second with these parts, where the calendar has the day, in the years 0 to 9999, and a clock the time.
+    pub fn utc(year: i32, month: u32, day: u32, hour: u32, minute: u32, second: u32) -> Option<Time>
+        ensures exists { IsSome result
+            ↔ ((pos 0 ≤ℤ year)
+            × IsMoment (record { year = unsigned_abs year; month = month; day = day; hour = hour; minute = minute; second = second })) }
+        ensures value { IfSome result
+            (λ t. t ≡ record { year = unsigned_abs year; month = month; day = day; hour = hour; minute = minute; second = second }) }
+    {
+        if year < 0 {
+            return None;
+        }
+        Time::at(year.unsigned_abs(), month, day, hour, minute, second)
+    }
+
+    // The same from a year that is not negative.
+    fn at(year: u32, month: u32, day: u32, hour: u32, minute: u32, second: u32) -> Option<Time>
+        ensures exists { IsSome result
+            ↔ IsMoment (record { year = year; month = month; day = day; hour = hour; minute = minute; second = second }) }
+        ensures value { IfSome result
+            (λ t. t ≡ record { year = year; month = month; day = day; hour = hour; minute = minute; second = second }) }
+    {
+        if year > 9999 || month > 12 || day > 31 || hour > 23 || minute > 59 || second > 59 {
+            return None;
+        }
+        let civil = DateTime::new(
+            year_part(year),
+            part(month),
+            part(day),
+            part(hour),
+            part(minute),
+            part(second),
+            0,
+        );
+        match civil {
+            Ok(inner) => Some(Time { inner }),
+            Err(_) => None,
+        }
+    }
+
+    // The time that stands next, by the reading function.
+    #[tactic(auto, unfolding(crate::specs::ReadTimes::time_at))]
+    fn take_time(cursor: &mut Cursor<'_>) -> Result<Time, DecodeError>
+        ensures reads { Took (λ t. t) time_at cursor.old result cursor.new }
+        ensures keeps { Keeps result cursor.old cursor.new }
+        ensures octets { AreOctets (left cursor.old) }
+    {
+        let mut ahead = cursor.fork();
+        let time = match ahead.rest() {
+            [0x17, ..] => utc_time(ahead.take_value(0x17)?.rest())?,
+            _ => generalized_time(ahead.take_value(0x18)?.rest())?,
+        };
+        *cursor = ahead;
+        Ok(time)
+    }
+
+    /// The UTCTime or GeneralizedTime that must stand next, in the form that ends in seconds and Z (RFC 5280 4.1.2.5).
+    pub fn take_from(cursor: &mut Cursor<'_>) -> Result<Time, DecodeError>
+        ensures answers { Answers (λ t. t) IsTime cursor.old result cursor.new }
+        ensures reads { Took (λ t. t) time_at cursor.old result cursor.new }
+        ensures keeps { Keeps result cursor.old cursor.new }
+    {
+        Time::take_time(cursor)
+    }
+
+    fn year(&self) -> u16
+        ensures year { result ≡ self.now.year }
+        ensures small { result < 10000 }
+    {
+        self.inner.year() as u16
+    }
+
+    // The parts in decimal digits, the year in four, and Z.
+    fn text(&self) -> [u8; 15]
+        ensures digits { result ≡ two (self.now.year / 100) ++ (two (self.now.year % 100) ++ after_year self.now) }
+        ensures exists { IsMoment self.now }
+    {
+        let year = self.year();
+        let civil = self.inner.to_plain();
+        let [thousands, hundreds] = digits((year / 100) as u8);
+        let [tens, ones] = digits((year % 100) as u8);
+        let [month_tens, month] = digits(civil.date.month);
+        let [day_tens, day] = digits(civil.date.day);
+        let [hour_tens, hour] = digits(civil.time.hour);
+        let [minute_tens, minute] = digits(civil.time.minute);
+        let [second_tens, second] = digits(civil.time.second);
+        [
+            thousands,
+            hundreds,
+            tens,
+            ones,
+            month_tens,
+            month,
+            day_tens,
+            day,
+            hour_tens,
+            hour,
+            minute_tens,
+            minute,
+            second_tens,
+            second,
+            b'Z',
+        ]
+    }
+
+    /// Appends the time: as UTCTime in the years 1950 to 2049, else as GeneralizedTime (RFC 5280 4.1.2.5). The only error is `Memory`.
+    pub fn encode_varied(&self, out: &mut Vec<u8>) -> Result<(), EncodeError>
+        ensures ok { OnOk result (out.new.items ≡ out.old.items ++ time self.now) }
+        ensures err { OnErr result (out.new.items ≡ out.old.items) }
+        ensures memory { IfErr result (λ e. e ≡ Memory) }
+        ensures exists { IsMoment self.now }
+    {
+        let text = self.text();
+        let year = self.year();
+        if year >= 1950 && year < 2050 {
+            put_value(out, 0x17, &text[2..])
+        } else {
+            put_value(out, 0x18, &text)
+        }
+    }
+}
+
+// A number in two decimal digits.
+fn digits(n: u8) -> [u8; 2]
+    requires { n < 100 }
+    ensures { result ≡ two n }
+{
+    [b'0' + n / 10, b'0' + n % 10]
+}
+
+// The number of the two decimal digits at the front, and what follows them.
+#[tactic(auto, unfolding(crate::specs::ReadTimes::two_at))]
+fn two_digits(text: &[u8]) -> Result<(u32, &[u8]), DecodeError>
+    ensures reads { Gives (λ x. (x.0, x.1.now)) result (two_at text.now) }
+    ensures small { IfOk result (λ x. x.0 < 100) }
+{
+    match text {
+        [tens @ b'0'..=b'9', ones @ b'0'..=b'9', rest @ ..] => {
+            let number = (*tens - b'0') * 10 + (*ones - b'0');
+            Ok((number as u32, rest))
+        }
+        _ => Err(DecodeError::BadValue),
+    }
+}
+
+// The time of this year with this text after it, MMDDhhmmssZ.
+#[tactic(auto, unfolding(crate::specs::ReadTimes::after_year_of))]
+fn after_year(year: u32, text: &[u8]) -> Result<Time, DecodeError>
+    requires { year < 10000 }
+    ensures { Gives (λ t. t) result (after_year_of year text.now) }
+{
+    let (month, text) = two_digits(text)?;
+    let (day, text) = two_digits(text)?;
+    let (hour, text) = two_digits(text)?;
+    let (minute, text) = two_digits(text)?;
+    let (second, text) = two_digits(text)?;
+    if text != END {
+        return Err(DecodeError::BadValue);
+    }
+    Time::at(year, month, day, hour, minute, second).ok_or(DecodeError::BadValue)
+}
+
+// The time of a whole content YYMMDDhhmmssZ.
+#[tactic(auto, unfolding(crate::specs::ReadTimes::utc_of))]
+fn utc_time(text: &[u8]) -> Result<Time, DecodeError>
+    ensures { Gives (λ t. t) result (utc_of text.now) }
+{
+    let (year, text) = two_digits(text)?;
+    let year = if year < 50 { 2000 + year } else { 1900 + year };
+    after_year(year, text)
+}
+
+// The time of a whole content YYYYMMDDhhmmssZ.
+#[tactic(auto, unfolding(crate::specs::ReadTimes::generalized_of))]
+fn generalized_time(text: &[u8]) -> Result<Time, DecodeError>
+    ensures { Gives (λ t. t) result (generalized_of text.now) }
+{
+    let (century, text) = two_digits(text)?;
+    let (year, text) = two_digits(text)?;
+    after_year(century * 100 + year, text)
+}
+
+impl PartialEq for Time {
+    ghost eq = { on second_number nat_eq };
+
+    ghost laws = { Prim.search (comparing, rules) };
+
+    fn eq(&self, other: &Time) -> bool {
+        self.inner == other.inner
+    }
+}
+
+impl Eq for Time {
+    ghost laws = { Prim.search (comparing, rules) };
+}
+
+impl Ord for Time {
+    ghost cmp = { on second_number nat_cmp };
+
+    ghost total = { Prim.search (comparing, rules) };
+
+    ghost matches_partial_cmp = { Prim.search (comparing, rules) };
+
+    ghost matches_eq = { Prim.search (comparing, rules) };
+
+    fn cmp(&self, other: &Time) -> Ordering {
+        self.inner.cmp(&other.inner)
+    }
+}
+
+impl PartialOrd for Time {
+    ghost partial_cmp = { as_partial_cmp (on second_number nat_cmp) };
+
+    ghost laws = { partial_order_from_own_ties (Prim.search (comparing, rules))
+        (Prim.search (comparing, rules)) };
+
+    fn partial_cmp(&self, other: &Time) -> Option<Ordering> {
+        Some(self.cmp(other))
+    }
+}
