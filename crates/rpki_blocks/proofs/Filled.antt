@@ -1,0 +1,82 @@
+-- Addresses that begin with some bits.
+use Rattle.std.specs.Int.Digits.{number_from_digits}
+use Rattle.std.proofs.Common.{◌≡◌, ℕ, zero, suc, ◌+◌, ◌-◌, ◌*◌, ◌/◌, ◌%◌, ◌^◌, ◌<◌, ◌≤◌, List, [], ◌∷◌, length, refl, sym, ap, subst, ◌∙◌, arith}
+use Rattle.std.proofs.lemmas.Nat.{pow_pos, pow-add}
+use Rattle.std.proofs.lemmas.Int.Digits.{number_lt}
+use Rattle.rpki_der.specs.Values.{AreOctets}
+use Rattle.rpki_blocks.proofs.Prefixes.{prefix_fits}
+use Rattle.std.proofs.Math.Nat.{pow-suc, mul-lt-mul_of_pos_right, mul-div_cancel, mul_assoc, mul_comm, div-add-mod}
+use Rattle.std.proofs.Math.Pow.{pow_mono}
+use Rattle.rpki_blocks.specs.Sets.{Block}
+use Rattle.rpki_blocks.specs.Prefixes.{IsPrefixBlock}
+use Rattle.rpki_blocks.specs.Addresses.{lower, upper}
+
+pub octets_bits : (n : ℕ) → 256 ^ n ≡ 2 ^ (8 * n)
+octets_bits zero = refl
+octets_bits (suc n) =
+    let more : 8 * suc n ≡ 8 * n + 8 = omega arith in
+    pow-suc 256 n ∙ ap (λ (k : ℕ). k * 256) (octets_bits n) ∙ sym (pow-add 2 (8 * n) 8) ∙ ap (λ (k : ℕ). 2 ^ k) (sym more)
+
+pub room : (n i : ℕ) → n < 256 ^ i → i < 16 → n < 2 ^ 120
+room n i l m =
+    let some : 2 ^ (8 * i) ≤ 2 ^ 120 = pow_mono {i = 8 * i} {j = 120} (omega arith) in
+    omega (arith, octets_bits i)
+
+pub shift_fits : (n len : ℕ) → n < 256 ^ len → len ≤ 16 → n * 2 ^ (128 - 8 * len) < 2 ^ 128
+shift_fits n len l m =
+    let split : 8 * len + (128 - 8 * len) ≡ 128 = omega arith in
+    let power : 2 ^ (8 * len) * 2 ^ (128 - 8 * len) ≡ 2 ^ 128 = sym (pow-add 2 (8 * len) (128 - 8 * len)) ∙ ap (λ (k : ℕ). 2 ^ k) split in
+    subst (λ (v : ℕ). n * 2 ^ (128 - 8 * len) < v) power (mul-lt-mul_of_pos_right (subst (λ (v : ℕ). n < v) (octets_bits len) l) (pow_pos (128 - 8 * len)))
+
+-- what the first octets make, after one octet more
+pub one_octet : (n d i : ℕ) → n < 256 ^ i → d < 256 → n * 256 + d < 256 ^ (i + 1)
+one_octet n d i l m =
+    let more : 256 ^ (i + 1) ≡ 256 ^ i * 256 = ap (λ (k : ℕ). 256 ^ k) (let e : i + 1 ≡ suc i = omega arith in e) ∙ pow-suc 256 i in
+    omega arith
+
+div-mul_exact : (n m : ℕ) → n % m ≡ 0 → n ≡ n / m * m
+div-mul_exact n m e = omega (arith, div-add-mod n m, e, mul_comm m (n / m))
+
+module _ (unused : ℕ) (octets : List ℕ) (few : unused < 8) (none : octets ≡ [] → unused ≡ 0) (zero_bits : number_from_digits 256 octets % 2 ^ unused ≡ 0) (fits : length octets ≤ 16) where
+  unused_fits : (os : List ℕ) → os ≡ octets → unused ≤ 8 * length os
+  unused_fits [] e = omega (arith, none (sym e))
+  unused_fits (o ∷ os) e = omega arith
+
+  pub bits_used : unused ≤ 8 * length octets
+  bits_used = unused_fits octets refl
+
+  -- the addresses that begin so are as many
+  abbrev count : ℕ
+  count = 2 ^ (128 - (8 * length octets - unused))
+
+  counted : 2 ^ (128 - 8 * length octets + unused) ≡ count
+  counted =
+      let used : unused ≤ 8 * length octets = bits_used in
+      let same : 128 - 8 * length octets + unused ≡ 128 - (8 * length octets - unused) = omega arith in
+      ap (λ (j : ℕ). 2 ^ j) same
+
+  -- the least of them is a multiple of their count
+  multiple : lower octets / count * count ≡ lower octets
+  multiple =
+      let n = number_from_digits 256 octets in
+      let k = 128 - 8 * length octets in
+      let u = 2 ^ unused in
+      let q = n / u in
+      let size : count ≡ u * 2 ^ k = sym counted ∙ pow-add 2 k unused ∙ mul_comm (2 ^ k) u in
+      let low : lower octets ≡ q * (u * 2 ^ k) = ap (λ (j : ℕ). j * 2 ^ k) (div-mul_exact n u zero_bits) ∙ mul_assoc q u (2 ^ k) in
+      let rows : lower octets ≡ q * count = low ∙ ap (λ (j : ℕ). q * j) (sym size) in
+      ap (λ (j : ℕ). j / count * count) rows ∙ ap (λ (j : ℕ). j * count) (mul-div_cancel q (pow_pos (128 - (8 * length octets - unused)))) ∙ sym rows
+
+  -- a prefix whose other bits are zero is from the lower to the upper address
+  pub prefix_is : (b : Block) → IsPrefixBlock (lower octets) (8 * length octets - unused) b → b ≡ record { min = lower octets; max = upper unused octets }
+  prefix_is b p =
+      let min : b.min ≡ lower octets = p.lower ∙ multiple in
+      let max : b.max ≡ upper unused octets = omega (arith, p.upper, min, counted) in
+      λ i. record { min = min i; max = max i }
+
+  pub upper_fits : AreOctets octets → upper unused octets ≤ 2 ^ 128 - 1
+  upper_fits low =
+      let first : lower octets < 2 ^ 128 = shift_fits (number_from_digits 256 octets) (length octets) (number_lt 256 octets low) fits in
+      let last = prefix_fits (lower octets) (8 * length octets - unused) (omega arith) first in
+      let same : upper unused octets ≡ lower octets / count * count + (count - 1) = omega (arith, multiple, counted, pow_pos (128 - (8 * length octets - unused))) in
+      omega arith

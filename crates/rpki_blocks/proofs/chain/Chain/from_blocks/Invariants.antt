@@ -1,0 +1,7 @@
+use Rattle.std.proofs.Common.{◌≡◌, ◌<◌, length, take, drop}
+use Rattle.rpki_blocks.proofs.Merges.{IsMerged}
+use Rattle.rpki_blocks.proofs.chain.Chain.from_blocks.Given as goal
+
+abbrev pub invariant-merge : goal.invariant-merge
+invariant-merge g l =
+    record { len : length l.blocks.items ≡ l.i-end; behind : l.kept < l.i; merged : IsMerged g.B.Bound.greatest l.initial.blocks.items (take l.kept l.blocks.items) l.last (drop l.i l.blocks.items) }

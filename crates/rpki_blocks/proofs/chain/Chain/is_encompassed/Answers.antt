@@ -1,0 +1,25 @@
+use Rattle.std.proofs.Common.{rules, arith}
+use Rattle.rpki_blocks.proofs.Walks.{IsAt, IsDecided, past_at, held_at, none_at, at_both, decided_escapes, says_no}
+use Rattle.rpki_blocks.proofs.chain.Chain.is_encompassed.Goals as goal
+
+pub walk-preserved-then-is_before : goal.walk-preserved-then-is_before
+walk-preserved-then-is_before g c =
+    let place : IsAt c.self.inside.blocks.items c.other.inside.blocks.items c.walk.i c.walk.j c.index-a.result.now c.index-b.result.now = record { left_below = omega arith; right_below = omega arith; left = c.index-a.ensures; right = c.index-b.ensures } in
+    record { in_range = omega arith; decided = past_at _ _ _ _ _ _ _ place c.walk.invariant.decided (c.is_before.ensures.0 c.if-is_before.true) }
+
+pub walk-preserved : goal.walk-preserved
+walk-preserved g c =
+    let place : IsAt c.self.inside.blocks.items c.other.inside.blocks.items c.walk.i c.walk.j c.index-a.result.now c.index-b.result.now = record { left_below = omega arith; right_below = omega arith; left = c.index-a.ensures; right = c.index-b.ensures } in
+    record { in_range = omega arith; decided = held_at _ _ _ _ _ _ _ place c.walk.invariant.decided c.if-is_within.ensures.0 c.if-is_within.ensures.1 }
+
+pub returns-then-j-len : goal.returns-then-j-len
+returns-then-j-len g c =
+    let no = says_no _ _ _ (none_at _ _ _ c.walk.i c.walk.j (omega arith) (omega arith) c.walk.invariant.decided) in
+    rw (← c.self.view_is, ← c.other.view_is) (record { inside = no.0; outside = no.1 })
+
+pub returns-else-is_within : goal.returns-else-is_within
+returns-else-is_within g c =
+    let place : IsAt c.self.inside.blocks.items c.other.inside.blocks.items c.walk.i c.walk.j c.index-a.result.now c.index-b.result.now = record { left_below = omega arith; right_below = omega arith; left = c.index-a.ensures; right = c.index-b.ensures } in
+    let decided = at_both _ _ _ _ _ _ (IsDecided g.B.Bound.greatest c.self.inside.blocks.items c.other.inside.blocks.items) place c.walk.invariant.decided in
+    let no = says_no _ _ _ (decided_escapes _ _ _ c.index-a.result.now _ c.index-b.result.now _ decided (search rules) c.if-is_within.ensures) in
+    rw (← c.self.view_is, ← c.other.view_is) (record { inside = no.0; outside = no.1 })

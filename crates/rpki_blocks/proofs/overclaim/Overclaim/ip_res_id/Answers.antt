@@ -1,0 +1,9 @@
+use Rattle.std.proofs.Common.{refl}
+use Rattle.rpki_der.proofs.Identifiers.{oid_takes}
+use Rattle.rpki_blocks.proofs.overclaim.Overclaim.ip_res_id.Goals as goal
+
+pub returns-in-Refuse-clause-valid : goal.returns-in-Refuse-clause-valid
+returns-in-Refuse-clause-valid c = oid_takes _ refl
+
+pub returns-in-Trim-clause-valid : goal.returns-in-Trim-clause-valid
+returns-in-Trim-clause-valid c = oid_takes _ refl

@@ -1,0 +1,18 @@
+-- Whether a certificate may overclaim, and the identifiers that say so (RFC 6484 1.2, RFC 8360 4.2.1 to 4.2.3, RFC 3779 2.2.1,
+-- 3.2.1): contents of OBJECT IDENTIFIERs.
+use Rattle.std.specs.Prelude.{ℕ, List}
+use Rattle.rpki_der.specs.Identifiers.{pkix}
+use Rattle.rpki_blocks.specs.declared.overclaim.Overclaim.{Overclaim}
+use Rattle.rpki_blocks.specs.declared.overclaim.Overclaim.TheVariants.{Refuse, Trim}
+
+abbrev pub ip_identifier : Overclaim → List ℕ
+ip_identifier Refuse = pkix 0x01 0x07
+ip_identifier Trim = pkix 0x01 0x1C
+
+abbrev pub as_identifier : Overclaim → List ℕ
+as_identifier Refuse = pkix 0x01 0x08
+as_identifier Trim = pkix 0x01 0x1D
+
+abbrev pub policy_identifier : Overclaim → List ℕ
+policy_identifier Refuse = pkix 0x0E 0x02
+policy_identifier Trim = pkix 0x0E 0x03

@@ -1,0 +1,29 @@
+-- AS number resources of a certificate (RFC 3779 3.2.3, RFC 6487 4.8.11).
+use Rattle.std.specs.Prelude.{◌≡◌, ℕ, ◌≤◌, ◌⊎◌, List, [], ◌∷◌}
+use Rattle.rpki_der.specs.Values.{IsSequence, IsNested}
+use Rattle.rpki_der.specs.Primitives.{IsU32}
+use Rattle.rpki_blocks.specs.Sets.{Block}
+use Rattle.rpki_blocks.specs.Resources.{Resources}
+use Rattle.rpki_blocks.specs.Unions.{IsResourceChoice}
+
+-- ASId (3.2.3.10): an INTEGER from 0 to 2^32 - 1 (RFC 6793)
+abbrev pub IsASId : ℕ → List ℕ → Type 0
+IsASId = IsU32
+
+-- ASRange (3.2.3.8): SEQUENCE of the least and the greatest number. A range of one number is read too (own)
+pub record IsASRange (r : Block) (b : List ℕ) : Type 0 where
+  pub from : List ℕ
+  pub to : List ℕ
+  pub from_is : IsASId r.min from
+  pub to_is : IsASId r.max to
+  pub sequence : IsSequence (from ∷ to ∷ []) b
+  pub ordered : r.min ≤ r.max
+
+abbrev pub IsASIdOrRange : Block → List ℕ → Type 0
+IsASIdOrRange r b = IsASRange r b ⊎ ((r.min ≡ r.max) × IsASId r.min b)
+
+-- ASIdentifiers (3.2.3.1): the AS numbers, under the tag 0. Routing domain identifiers are refused (RFC 6487 4.8.11)
+pub record IsASIdentifiers (r : Resources) (b : List ℕ) : Type 0 where
+  pub choice : List ℕ
+  pub choice_is : IsResourceChoice IsASIdOrRange r choice
+  pub nested : IsNested (0x30 ∷ 0xA0 ∷ []) choice b

@@ -1,0 +1,167 @@
+ghost use Rattle.std.specs.Prelude.{◌≡◌, ℕ, ◌+◌, ◌<◌, ◌≤◌, ◌↔◌, ◌++◌, IsTrue, IsFalse, IfOk, List, [], ◌∷◌, length};
+ghost use Rattle.rpki_blocks.specs.Sets.{is_in, IsSet, IsIntersection, AreIn, Escapes, HaveSameNumbers, Block as Span};
+ghost use Rattle.std.specs.Slice.Iter.{iter_rest};
+ghost use Rattle.std.specs.Iterator.{IsFinite, Drains};
+
+use crate::block::Block;
+use crate::bound::{Addr, Asn, Bound, is_below};
+use std::alloc::{AllocError, Global};
+use std::marker::Model;
+use std::slice::Iter;
+
+/// A set of numbers, as blocks that ascend and neither overlap nor touch. So equal sets have equal blocks.
+#[derive(Drop)]
+pub struct Chain<B: Bound> {
+    blocks: Vec<Block<B>>,
+}
+
+/// A set of IP addresses. Those of IPv4 stand in the upper 32 bits.
+pub type IpBlocks = Chain<Addr>;
+
+/// A set of AS numbers.
+pub type AsBlocks = Chain<Asn>;
+
+impl<B: Bound> Model for Chain<B> {
+    ghost use Rattle.std.specs.Prelude.{List};
+    ghost use Rattle.rpki_blocks.specs.Sets.{Block as Span, IsSet};
+
+    ghost Value = { List Span };
+
+    ghost view = { λ c. c.blocks.items };
+
+    ghost invariant = { λ c. IsSet B.greatest c.blocks.items };
+}
+
+impl<B: Bound> Chain<B> {
+    /// The empty set.
+    pub fn empty(alloc: Global) -> Chain<B>
+        ensures { result ≡ [] }
+    {
+        Chain {
+            blocks: Vec::new(alloc),
+        }
+    }
+
+    /// The set of the numbers of some blocks, given in any order, which may overlap.
+    pub fn from_iter<I: IntoIterator<Item = Block<B>>>(
+        alloc: Global,
+        blocks: I,
+    ) -> Result<Chain<B>, AllocError>
+        requires { (it : I.IntoIter) → I.into_iter_gives blocks it → I.IntoIter.can_next it × IsFinite (I.IntoIter.remaining it) }
+        ensures union { IfOk result (λ chain. (it : I.IntoIter) × (bs : List Span) × I.into_iter_gives blocks it × Drains I.IntoIter.next_gives it bs × HaveSameNumbers chain bs) }
+        ensures set { IfOk result (IsSet B.greatest) }
+    {
+        let all: Vec<Block<B>> = Vec::from_iter(alloc, blocks)?;
+        Ok(Chain::from_blocks(all))
+    }
+
+    // The same for blocks in a vector, which is sorted and merged in place.
+    pub(crate) fn from_blocks(mut blocks: Vec<Block<B>>) -> Chain<B>
+        ensures union { HaveSameNumbers result blocks.items }
+        ensures set { IsSet B.greatest result }
+    {
+        if blocks.is_empty() {
+            return Chain { blocks };
+        }
+        blocks.sort_unstable_by(|x, y| x.order(y));
+        let mut last = blocks[0];
+        last.known();
+        let mut kept = 0;
+        'merge: for i in 1..blocks.len() {
+            let next = blocks[i];
+            if last.reaches(next) {
+                last = last.join(next);
+            } else {
+                blocks[kept] = last;
+                kept += 1;
+                last = next;
+            }
+        }
+        blocks[kept] = last;
+        blocks.truncate(kept + 1);
+        Chain { blocks }
+    }
+
+    /// An equal set.
+    pub fn try_clone(&self, alloc: Global) -> Result<Chain<B>, AllocError>
+        ensures same { IfOk result (λ copy. copy ≡ self.now) }
+        ensures set { IfOk result (IsSet B.greatest) }
+    {
+        let mut blocks = Vec::new(alloc);
+        blocks.extend_from_slice(&self.blocks)?;
+        Ok(Chain { blocks })
+    }
+
+    /// Whether the set has no number.
+    pub fn is_empty(&self) -> bool
+        ensures { IsTrue result ↔ self.now ≡ [] }
+    {
+        self.blocks.is_empty()
+    }
+
+    /// The blocks of the set: ascending, disjoint and not adjacent.
+    pub fn iter(&self) -> Iter<'_, Block<B>>
+        ensures all { iter_rest result ≡ self.now }
+        ensures set { IsSet B.greatest self.now }
+    {
+        self.blocks.iter()
+    }
+
+    /// Whether a number is in the set.
+    pub fn contains(&self, at: B) -> bool
+        ensures { result ≡ is_in (B.number at) self.now }
+    {
+        let k = self
+            .blocks
+            .partition_point(|block| is_below(block.max(), at));
+        k < self.blocks.len() && !is_below(at, self.blocks[k].min())
+    }
+
+    /// Whether each number of the set is in the other.
+    pub fn is_encompassed(&self, other: &Chain<B>) -> bool
+        ensures inside { IsTrue result ↔ AreIn self.now other.now }
+        ensures outside { IsFalse result ↔ Escapes B.greatest self.now other.now }
+    {
+        let mut i = 0;
+        let mut j = 0;
+        'walk: while i < self.blocks.len() {
+            if j == other.blocks.len() {
+                return false;
+            }
+            let a = self.blocks[i];
+            let b = other.blocks[j];
+            if b.is_before(a) {
+                j += 1;
+            } else if a.is_within(b) {
+                i += 1;
+            } else {
+                return false;
+            }
+        }
+        true
+    }
+
+    /// The numbers that are in both sets.
+    pub fn intersection(&self, alloc: Global, other: &Chain<B>) -> Result<Chain<B>, AllocError>
+        ensures both { IfOk result (IsIntersection self.now other.now) }
+        ensures set { IfOk result (IsSet B.greatest) }
+    {
+        let mut both = Vec::new(alloc);
+        let mut i = 0;
+        let mut j = 0;
+        'walk: while i < self.blocks.len() && j < other.blocks.len() {
+            let a = self.blocks[i];
+            let b = other.blocks[j];
+            match a.meet(b) {
+                Some(block) => both.push(block)?,
+                None => {}
+            }
+            if a.ends_before(b) {
+                i += 1;
+            } else {
+                j += 1;
+            }
+        }
+        Ok(Chain { blocks: both })
+    }
+}

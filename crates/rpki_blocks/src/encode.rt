@@ -1,0 +1,203 @@
+//! How resources are written.
+ghost use Rattle.std.specs.Prelude.{◌≡◌, ◌≢◌, ℕ, ◌+◌, ◌-◌, ◌^◌, ◌<◌, ◌≤◌, ◌++◌, List, [], ◌∷◌, true, length, map, IfOk, OnOk, OnErr, IsErrOf};
+ghost use Rattle.std.specs.List.{concat};
+ghost use Rattle.std.specs.Option.{option_map};
+ghost use Rattle.rpki_blocks.specs.Overclaims.{ip_identifier, as_identifier};
+ghost use Rattle.rpki_der.specs.Contents.{IsOid};
+ghost use Rattle.rpki_der.specs.Writing.{number, sequence};
+ghost use Rattle.rpki_blocks.specs.WrittenResources.{as_block, choice, text_of, family, as_resources, ip_resources, extension_of_some, content_of_some};
+
+use crate::bound::{Asn, Bound};
+use crate::chain::Chain;
+use crate::overclaim::Overclaim;
+use crate::resources::{AsResources, IpResources, Resources};
+use rpki_der::{EncodeError, put_extension, put_unsigned, put_value};
+use std::alloc::Global;
+
+/// A kind of numbers, by how its blocks are written.
+pub trait Encode: Bound {
+    ghost use Rattle.rpki_blocks.specs.Sets.{Block as Span};
+    ghost use Rattle.std.specs.Prelude.{ℕ, List};
+
+    /// What is written of a block.
+    ghost written: { Span → List ℕ };
+
+    /// Appends the block of these two ends.
+    fn put_block(alloc: Global, out: &mut Vec<u8>, min: Self, max: Self) -> Result<(), EncodeError>
+        requires { Self.number min ≤ Self.number max }
+        ensures ok { OnOk result (out.new.items ≡ out.old.items ++ written (record { min = Self.number min; max = Self.number max })) }
+        ensures too_long { IsErrOf result EncodeError.TooLong → 2 ^ 32 ≤ length (written (record { min = Self.number min; max = Self.number max })) };
+}
+
+impl Encode for Asn {
+    ghost written = { as_block };
+
+    fn put_block(alloc: Global, out: &mut Vec<u8>, min: Asn, max: Asn) -> Result<(), EncodeError>
+        requires { min ≤ max }
+        ensures ok { OnOk result (out.new.items ≡ out.old.items ++ as_block (record { min = min; max = max })) }
+        ensures too_long { IsErrOf result EncodeError.TooLong → 2 ^ 32 ≤ length (as_block (record { min = min; max = max })) }
+    {
+        if min == max {
+            return put_number(out, min.into_u32());
+        }
+        put_range(alloc, out, min.into_u32(), max.into_u32())
+    }
+}
+
+// Appends a SEQUENCE of two INTEGERs.
+#[tactic(auto, using(crate::proofs::WrittenRanges::two_longer))]
+fn put_range(alloc: Global, out: &mut Vec<u8>, min: u32, max: u32) -> Result<(), EncodeError>
+    ensures ok { OnOk result (out.new.items ≡ out.old.items ++ sequence (number min ∷ number max ∷ [])) }
+    ensures too_long { IsErrOf result EncodeError.TooLong → 2 ^ 32 ≤ length (sequence (number min ∷ number max ∷ [])) }
+{
+    let mut ends = Vec::new(alloc);
+    put_number(&mut ends, min)?;
+    put_number(&mut ends, max)?;
+    put_value(out, 0x30, &ends)
+}
+
+// Appends an INTEGER.
+fn put_number(out: &mut Vec<u8>, asn: u32) -> Result<(), EncodeError>
+    ensures ok { OnOk result (out.new.items ≡ out.old.items ++ number asn) }
+    ensures too_long { IsErrOf result EncodeError.TooLong → 2 ^ 32 ≤ length (number asn) }
+{
+    put_unsigned(out, &asn.to_be_bytes())
+}
+
+// The elements of a set, one after the other.
+fn elements<B: Encode>(alloc: Global, chain: &Chain<B>) -> Result<Vec<u8>, EncodeError>
+    ensures ok { IfOk result (λ content. content.items ≡ concat (map B.written chain.now)) }
+    ensures too_long { IsErrOf result EncodeError.TooLong → 2 ^ 32 ≤ length (concat (map B.written chain.now)) }
+{
+    let mut content = Vec::new(alloc);
+    for block in chain.iter() {
+        block.known();
+        B::put_block(alloc, &mut content, block.min(), block.max())?;
+    }
+    Ok(content)
+}
+
+// Appends a NULL for what is inherited, a SEQUENCE of blocks for a set.
+fn put_choice<B: Encode>(
+    alloc: Global,
+    out: &mut Vec<u8>,
+    resources: &Resources<B>,
+) -> Result<(), EncodeError>
+    ensures ok { OnOk result (out.new.items ≡ out.old.items ++ text_of (choice B.written resources.now)) }
+    ensures too_long { IsErrOf result EncodeError.TooLong → 2 ^ 32 ≤ length (text_of (choice B.written resources.now)) }
+{
+    match resources.as_blocks() {
+        Some(chain) => put_value(out, 0x30, &elements(alloc, chain)?),
+        None if resources.is_inherited() => put_value(out, 0x05, &[]),
+        None => Ok(()),
+    }
+}
+
+// Appends a family of addresses, unless it is missing.
+fn put_family(
+    alloc: Global,
+    out: &mut Vec<u8>,
+    code: u8,
+    resources: &IpResources,
+) -> Result<(), EncodeError>
+    ensures ok { OnOk result (out.new.items ≡ out.old.items ++ concat (family code resources.now)) }
+    ensures too_long { IsErrOf result EncodeError.TooLong → 2 ^ 32 ≤ length (concat (family code resources.now)) }
+{
+    if !resources.is_present() {
+        return Ok(());
+    }
+    let mut content = Vec::new(alloc);
+    content.extend_from_slice(&[0x04, 0x02, 0x00, code])?;
+    put_choice(alloc, &mut content, resources)?;
+    put_value(out, 0x30, &content)
+}
+
+// The content of the extension with AS numbers; `None` where they are missing.
+fn as_content(alloc: Global, resources: &AsResources) -> Result<Option<Vec<u8>>, EncodeError>
+    ensures ok { IfOk result (λ content. option_map (λ v. v.items) content ≡ as_resources resources.now) }
+    ensures too_long { IsErrOf result EncodeError.TooLong → 2 ^ 32 ≤ length (text_of (as_resources resources.now)) }
+{
+    if !resources.is_present() {
+        return Ok(None);
+    }
+    let mut choice = Vec::new(alloc);
+    put_choice(alloc, &mut choice, resources)?;
+    let mut numbers = Vec::new(alloc);
+    put_value(&mut numbers, 0xa0, &choice)?;
+    let mut content = Vec::new(alloc);
+    put_value(&mut content, 0x30, &numbers)?;
+    Ok(Some(content))
+}
+
+// The content of the extension with addresses; `None` where both families are missing.
+fn ip_content(
+    alloc: Global,
+    v4: &IpResources,
+    v6: &IpResources,
+) -> Result<Option<Vec<u8>>, EncodeError>
+    ensures ok { IfOk result (λ content. option_map (λ v. v.items) content ≡ ip_resources v4.now v6.now) }
+    ensures too_long { IsErrOf result EncodeError.TooLong → 2 ^ 32 ≤ length (text_of (ip_resources v4.now v6.now)) }
+{
+    if !v4.is_present() && !v6.is_present() {
+        return Ok(None);
+    }
+    let mut families = Vec::new(alloc);
+    put_family(alloc, &mut families, 1, v4)?;
+    put_family(alloc, &mut families, 2, v6)?;
+    let mut content = Vec::new(alloc);
+    put_value(&mut content, 0x30, &families)?;
+    Ok(Some(content))
+}
+
+// Appends a critical extension, if it has a content.
+fn put_critical(out: &mut Vec<u8>, id: &[u8], content: Option<Vec<u8>>) -> Result<(), EncodeError>
+    requires { IsOid id.now }
+    ensures ok { OnOk result (out.new.items ≡ out.old.items ++ extension_of_some id.now (option_map (λ v. v.items) content)) }
+    ensures err { OnErr result (out.new.items ≡ out.old.items) }
+    ensures fits { OnOk result (length (content_of_some id.now (option_map (λ v. v.items) content)) < 2 ^ 32) }
+    ensures too_long { IsErrOf result EncodeError.TooLong → 2 ^ 32 ≤ length (content_of_some id.now (option_map (λ v. v.items) content)) }
+{
+    match content {
+        Some(content) => put_extension(out, id, true, &content),
+        None => Ok(()),
+    }
+}
+
+impl IpResources {
+    /// Appends the critical extension with what a certificate lists of IPv4 and of IPv6 (RFC 3779 2.2), under the identifier of
+    /// the mode; nothing where both are missing. Answers `TooLong` where a content would have 2^32 octets or more.
+    pub fn encode_extension(
+        alloc: Global,
+        out: &mut Vec<u8>,
+        mode: Overclaim,
+        v4: &IpResources,
+        v6: &IpResources,
+    ) -> Result<(), EncodeError>
+        ensures ok { OnOk result (out.new.items ≡ out.old.items ++ extension_of_some (ip_identifier mode) (ip_resources v4.now v6.now)) }
+        ensures err { OnErr result (out.new.items ≡ out.old.items) }
+        ensures fits { OnOk result (length (content_of_some (ip_identifier mode) (ip_resources v4.now v6.now)) < 2 ^ 32) }
+        ensures too_long { IsErrOf result EncodeError.TooLong → 2 ^ 32 ≤ length (content_of_some (ip_identifier mode) (ip_resources v4.now v6.now)) }
+    {
+        let content = ip_content(alloc, v4, v6)?;
+        put_critical(out, mode.ip_res_id(), content)
+    }
+}
+
+impl AsResources {
+    /// Appends the critical extension with what a certificate lists of AS numbers (RFC 3779 3.2), under the identifier of the
+    /// mode; nothing where they are missing. Answers `TooLong` where a content would have 2^32 octets or more.
+    pub fn encode_extension(
+        &self,
+        alloc: Global,
+        out: &mut Vec<u8>,
+        mode: Overclaim,
+    ) -> Result<(), EncodeError>
+        ensures ok { OnOk result (out.new.items ≡ out.old.items ++ extension_of_some (as_identifier mode) (as_resources self.now)) }
+        ensures err { OnErr result (out.new.items ≡ out.old.items) }
+        ensures fits { OnOk result (length (content_of_some (as_identifier mode) (as_resources self.now)) < 2 ^ 32) }
+        ensures too_long { IsErrOf result EncodeError.TooLong → 2 ^ 32 ≤ length (content_of_some (as_identifier mode) (as_resources self.now)) }
+    {
+        let content = as_content(alloc, self)?;
+        put_critical(out, mode.as_res_id(), content)
+    }
+}

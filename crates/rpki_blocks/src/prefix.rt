@@ -1,0 +1,70 @@
+ghost use Rattle.std.specs.Prelude.{◌≡◌, ℕ, ◌+◌, ◌-◌, ◌*◌, ◌/◌, ◌^◌, ◌<◌, ◌≤◌, ◌↔◌, IsTrue};
+ghost use Rattle.std.specs.List.{list_all};
+ghost use Rattle.rpki_blocks.specs.Prefixes.{is_v4_block};
+
+use crate::block::{Block, IpBlock};
+use crate::bound::Addr;
+use crate::chain::IpBlocks;
+
+/// The addresses that begin with the first `len` bits of an address.
+#[derive(Clone, Copy)]
+pub struct Prefix {
+    addr: u128,
+    len: u8,
+    ghost fits: { len ≤ 128 },
+}
+
+impl Prefix {
+    /// The prefix of `len` bits, at most 128. The bits of `addr` past them count as zero.
+    pub fn new(addr: u128, len: u8) -> Prefix
+        requires { len ≤ 128 }
+        ensures address { result.addr ≡ addr }
+        ensures length { result.len ≡ len }
+    {
+        Prefix { addr, len }
+    }
+}
+
+/// The addresses with the prefix.
+impl From<Prefix> for IpBlock {
+    ghost use Rattle.rpki_blocks.specs.Prefixes.{IsPrefixBlock};
+
+    ghost from_gives = { λ p b. IsPrefixBlock p.addr p.len b };
+
+    fn from(prefix: Prefix) -> IpBlock {
+        let (low, high) = ends(prefix.addr, prefix.len);
+        Block::between(Addr::from(low), Addr::from(high))
+    }
+}
+
+// The least and the greatest address with the prefix.
+fn ends(addr: u128, len: u8) -> (u128, u128)
+    requires { len ≤ 128 }
+    ensures lower { result.0 ≡ addr / 2 ^ (128 - len) * 2 ^ (128 - len) }
+    ensures upper { result.1 + 1 ≡ result.0 + 2 ^ (128 - len) }
+{
+    if len == 0 {
+        return (0, u128::MAX);
+    }
+    let size = 1u128 << (128 - len);
+    let low = addr / size * size;
+    (low, low + (size - 1))
+}
+
+impl IpBlocks {
+    /// Whether the set is one of whole IPv4 addresses, which stand in the upper 32 bits: every lower end has 96 zero bits and
+    /// every upper end 96 one bits at its foot.
+    pub fn is_v4(&self) -> bool
+        ensures { result ≡ list_all is_v4_block self.now }
+    {
+        self.iter().all(|block| has_whole_v4(*block))
+    }
+}
+
+fn has_whole_v4(block: IpBlock) -> bool
+    ensures { result ≡ is_v4_block block }
+{
+    let low = block.min().to_bits() % (1 << 96);
+    let high = block.max().to_bits() % (1 << 96);
+    low == 0 && high == (1 << 96) - 1
+}
