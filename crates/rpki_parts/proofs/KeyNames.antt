@@ -1,0 +1,88 @@
+-- The name of a key is a name.
+use Rattle.std.specs.List.{concat}
+use Rattle.std.proofs.Common.{◌≡◌, ℕ, ◌*◌, ◌/◌, ◌%◌, ◌<◌, true, List, [], ◌∷◌, ◌++◌, length, refl, sym, ap, ◌∙◌, arith, inl, inr}
+use Rattle.std.proofs.lemmas.List.{append-nil, length-append}
+use Rattle.std.proofs.lemmas.Bool.{cases_lt, lt-ltb, le-ltb}
+use Rattle.rpki_der.specs.Values.{AreOctets, enc, length_octets, IsEnc}
+use Rattle.rpki_der.specs.Skipping.{IsSkippableWithin, IsSkippable}
+use Rattle.rpki_der.specs.Writing.{sequence}
+use Rattle.rpki_der.proofs.Octets.{AreOctets-append}
+use Rattle.rpki_der.proofs.Written.{Short, made, content_short, pieces_short, plain_oid}
+use Rattle.rpki_parts.specs.Names.{Attribute, is_name, common_name}
+use Rattle.rpki_parts.specs.WrittenParts.{digit, hexadecimal, name_of_digits}
+use Rattle.rpki_parts.proofs.NameLaws.{IsAttribute, IsPart, AreParts, is_name_again}
+
+digit_small : (n : ℕ) → n < 16 → digit n < 256
+digit_small n h =
+    elim (cases_lt n 10) [
+      | inl l ↦ rw (lt-ltb n 10 l) (omega arith)
+      | inr g ↦ rw (le-ltb n 10 g) (omega arith)
+    ]
+
+pub digits_octets : (octets : List ℕ) → AreOctets octets → AreOctets (hexadecimal octets)
+digits_octets [] h = tt
+digits_octets (x ∷ xs) h = (digit_small (x / 16) (let l : x < 256 = h.0 in omega arith), (digit_small (x % 16) (omega arith), digits_octets xs h.1))
+
+pub length-digits : (octets : List ℕ) → length (hexadecimal octets) ≡ 2 * length octets
+length-digits [] = refl
+length-digits (x ∷ xs) = let e = length-digits xs in omega arith
+
+pub digits-append : (a b : List ℕ) → hexadecimal (a ++ b) ≡ hexadecimal a ++ hexadecimal b
+digits-append [] b = refl
+digits-append (x ∷ a) b = ap (λ (t : List ℕ). digit (x / 16) ∷ digit (x % 16) ∷ t) (digits-append a b)
+
+enc_short : (t : ℕ) (c : List ℕ) (n : ℕ) → length c ≡ n → n < 128 → enc t c ≡ t ∷ n ∷ c
+unfolding enc length_octets
+enc_short t c n e h = rw (e, lt-ltb n 128 h) refl
+
+-- what stands before the digits
+abbrev pub before_digits : List ℕ
+before_digits = 0x30 ∷ 0x33 ∷ 0x31 ∷ 0x31 ∷ 0x30 ∷ 0x2F ∷ 0x06 ∷ 0x03 ∷ 0x55 ∷ 0x04 ∷ 0x03 ∷ 0x13 ∷ 0x28 ∷ []
+
+pub name-digits : (digits : List ℕ) → length digits ≡ 40 → name_of_digits digits ≡ before_digits ++ digits
+name-digits digits e =
+    let id : enc 6 common_name ≡ 6 ∷ 3 ∷ common_name = enc_short 6 common_name 3 refl (omega arith) in
+    let one : enc 0x13 digits ≡ 0x13 ∷ 0x28 ∷ digits = enc_short 0x13 digits 40 e (omega arith) in
+    let two : enc 0x30 (6 ∷ 3 ∷ 0x55 ∷ 4 ∷ 3 ∷ 0x13 ∷ 0x28 ∷ digits) ≡ 0x30 ∷ 47 ∷ 6 ∷ 3 ∷ 0x55 ∷ 4 ∷ 3 ∷ 0x13 ∷ 0x28 ∷ digits = enc_short 0x30 (6 ∷ 3 ∷ 0x55 ∷ 4 ∷ 3 ∷ 0x13 ∷ 0x28 ∷ digits) 47 (omega arith) (omega arith) in
+    let three : enc 0x31 (0x30 ∷ 47 ∷ 6 ∷ 3 ∷ 0x55 ∷ 4 ∷ 3 ∷ 0x13 ∷ 0x28 ∷ digits) ≡ 0x31 ∷ 49 ∷ 0x30 ∷ 47 ∷ 6 ∷ 3 ∷ 0x55 ∷ 4 ∷ 3 ∷ 0x13 ∷ 0x28 ∷ digits = enc_short 0x31 (0x30 ∷ 47 ∷ 6 ∷ 3 ∷ 0x55 ∷ 4 ∷ 3 ∷ 0x13 ∷ 0x28 ∷ digits) 49 (omega arith) (omega arith) in
+    let four : enc 0x30 (0x31 ∷ 49 ∷ 0x30 ∷ 47 ∷ 6 ∷ 3 ∷ 0x55 ∷ 4 ∷ 3 ∷ 0x13 ∷ 0x28 ∷ digits) ≡ before_digits ++ digits = enc_short 0x30 (0x31 ∷ 49 ∷ 0x30 ∷ 47 ∷ 6 ∷ 3 ∷ 0x55 ∷ 4 ∷ 3 ∷ 0x13 ∷ 0x28 ∷ digits) 51 (omega arith) (omega arith) in
+    rw (id, one, append-nil digits, two, three, append-nil digits) four
+
+primitive : (content b : List ℕ) → IsEnc 0x13 content b → IsSkippable b
+unfolding IsSkippableWithin
+primitive content b e = (record { tag = 0x13; content = content; enc = e }, inl refl)
+
+pub is_name_of_digits : (digits : List ℕ) → length digits ≡ 40 → AreOctets digits → is_name (name_of_digits digits) ≡ true
+is_name_of_digits digits e octets =
+    let whole : Short (before_digits ++ digits) = (omega (arith, length-append before_digits digits), AreOctets-append before_digits digits (omega arith) octets) in
+    let short : Short (name_of_digits digits) = rw (name-digits digits e) whole in
+    let attribute : List ℕ = sequence (enc 6 common_name ∷ enc 0x13 digits ∷ []) in
+    let set : List ℕ = enc 0x31 attribute in
+    let one = content_short 0x30 (concat (set ∷ [])) short in
+    let two = (pieces_short (set ∷ []) one).0 in
+    let three = content_short 0x31 attribute two in
+    let four = pieces_short (enc 6 common_name ∷ enc 0x13 digits ∷ []) (content_short 0x30 (concat (enc 6 common_name ∷ enc 0x13 digits ∷ [])) three) in
+    let value = made 0x13 digits (omega arith) four.1.0 in
+    let a : Attribute = record { type_id = common_name; value_tag = 0x13 } in
+    let spelled : IsAttribute a attribute = record {
+      identifier = enc 6 common_name;
+      content = digits;
+      value = enc 0x13 digits;
+      identifier_is = record { enc = made 6 common_name (omega arith) four.0; oid = plain_oid 0x55 (4 ∷ 3 ∷ []) (omega arith, (omega arith, (omega arith, tt))) };
+      value_is = value;
+      skippable = primitive digits (enc 0x13 digits) value;
+      sequence = made 0x30 (concat (enc 6 common_name ∷ enc 0x13 digits ∷ [])) (omega arith) three;
+    } in
+    let part : IsPart (a ∷ []) set = record { content = attribute; row = (attribute, [], spelled, refl, sym (append-nil attribute)); some = omega arith; set = made 0x31 attribute (omega arith) two } in
+    let parts : AreParts ((a ∷ []) ∷ []) (name_of_digits digits) = record { content = concat (set ∷ []); row = (set, [], part, refl, refl); sequence = made 0x30 (concat (set ∷ [])) (omega arith) short } in
+    is_name_again ((a ∷ []) ∷ []) (name_of_digits digits) parts
+
+-- the name of a key, by its identifier
+pub record IsKeyName (id : List ℕ) : Type 0 where
+  pub is : name_of_digits (hexadecimal id) ≡ before_digits ++ hexadecimal id
+  pub name : is_name (name_of_digits (hexadecimal id)) ≡ true
+
+pub key_name : (id : List ℕ) → length id ≡ 20 → AreOctets id → IsKeyName id
+key_name id size octets =
+    let long : length (hexadecimal id) ≡ 40 = length-digits id ∙ ap (λ (n : ℕ). 2 * n) size in
+    record { is = name-digits (hexadecimal id) long; name = is_name_of_digits (hexadecimal id) long (digits_octets id octets) }

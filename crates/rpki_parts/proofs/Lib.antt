@@ -1,0 +1,17 @@
+pub mod Texts
+pub mod Following
+pub mod AlgorithmLaws
+pub mod KeyLaws
+pub mod ValidityLaws
+pub mod WrittenLaws
+pub mod RowTests
+pub mod NameLaws
+pub mod Slashes
+pub mod UriTests
+pub mod UriParents
+pub mod UriEquivalences
+pub mod SignedLaws
+pub mod KeyNames
+pub mod PartFormats
+pub mod PartsWritten
+pub mod DeeperNames

@@ -1,0 +1,13 @@
+pub mod Choices
+pub mod Algorithms
+pub mod Keys
+pub mod Names
+pub mod Signatures
+pub mod SignedDatas
+pub mod SigningErrors
+pub mod Validities
+pub mod WrittenParts
+pub mod Uris
+pub mod UriParts
+pub mod UriErrors
+pub mod UriLaws

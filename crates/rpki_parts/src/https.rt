@@ -1,0 +1,127 @@
+ghost use Rattle.std.specs.Prelude.{◌≡◌, IfOk, IsOk, OnOk, Err, IsTrue, ◌↔◌, codes};
+ghost use Rattle.std.proofs.Common.{rules};
+ghost use Rattle.std.specs.Cmp.Rules.{comparing};
+ghost use Rattle.rpki_parts.specs.Uris.{IsHttps, AreEqual};
+ghost use Rattle.rpki_parts.specs.UriParts as parts;
+ghost use Rattle.rpki_parts.specs.declared.uri.UriError.TheVariants as error;
+
+use crate::uri::{BadUri, UriError, are_equal, is_https};
+use bytes::Bytes;
+use rpki_der::Piece;
+use std::alloc::{AllocError, Global};
+use std::marker::Model;
+
+/// An https URI (RFC 9110 4.2.2), as its octets.
+#[derive(Drop)]
+pub struct Https {
+    octets: Piece,
+}
+
+impl Model for Https {
+    ghost use Rattle.std.specs.Prelude.{◌≡◌, List, ℕ, true};
+    ghost use Rattle.rpki_parts.specs.UriParts.{is_https};
+
+    ghost Value = { List ℕ };
+
+    ghost view = { λ u. u.octets };
+
+    ghost invariant = { λ u. is_https u.octets ≡ true };
+
+    ghost inverse = { λ b. record { octets = b } };
+}
+
+impl Https {
+    /// The URI of these octets, which must be `21` to `7E`: `https://` in any case, an authority that is not empty, and then
+    /// nothing, or `/` and any more. Wants no memory.
+    pub fn from_bytes(octets: Bytes) -> Result<Https, BadUri>
+        ensures accepted { IsOk result ↔ IsHttps octets }
+        ensures ok { IfOk result (λ u. u ≡ octets) }
+    {
+        Https::from_piece(Piece::from(octets))
+    }
+
+    /// The URI of these octets, as [`Https::from_bytes`] says.
+    pub fn from_piece(octets: Piece) -> Result<Https, BadUri>
+        ensures accepted { IsOk result ↔ IsHttps octets }
+        ensures ok { IfOk result (λ u. u ≡ octets) }
+    {
+        if is_https(octets.as_bytes()) {
+            Ok(Https { octets })
+        } else {
+            Err(BadUri)
+        }
+    }
+
+    /// The URI of this text, copied. Answers `BadUri` where [`Https::from_bytes`] does.
+    pub fn from_text(alloc: Global, text: &str) -> Result<Https, UriError>
+        ensures ok { IfOk result (λ u. u ≡ text.now) }
+        ensures accepted { OnOk result (IsHttps text.now) }
+        ensures refused { (result ≡ Err error.BadUri) ↔ ¬ (IsHttps text.now) }
+    {
+        if !is_https(text.as_bytes()) {
+            return Err(UriError::BadUri);
+        }
+        let octets = Bytes::copy_from_slice(alloc, text.as_bytes())?;
+        Ok(Https {
+            octets: Piece::from(octets),
+        })
+    }
+
+    /// The octets.
+    pub fn as_bytes(&self) -> &[u8]
+        ensures octets { result.now ≡ self.now }
+        ensures valid { IsHttps self.now }
+    {
+        self.octets.as_bytes()
+    }
+
+    /// The same URI once more.
+    pub fn try_clone(&self) -> Result<Https, AllocError>
+        ensures { IfOk result (λ u. u ≡ self.now) }
+    {
+        let octets = self.octets.try_clone()?;
+        Ok(Https { octets })
+    }
+}
+
+/// Authorities are compared without ASCII case, and what follows them by octets.
+impl PartialEq for Https {
+    ghost eq = { parts.are_equal };
+
+    ghost laws = { Prim.search (comparing, rules) };
+
+    fn eq(&self, other: &Https) -> bool
+        ensures value { result ≡ parts.are_equal self.now other.now }
+        ensures equal { IsTrue result ↔ AreEqual (codes "https://") self.now other.now }
+    {
+        are_equal(self.as_bytes(), other.as_bytes())
+    }
+}
+
+impl Eq for Https {
+    ghost laws = { Prim.search (comparing, rules) };
+}
+
+#[cfg(test)]
+mod tests {
+    use super::*;
+    use std::test::Fail;
+
+    #[test]
+    fn reads(rt: HostRuntime) -> Result<(), Fail> {
+        let octets = Bytes::from_static(b"HTTPS://h/");
+        let uri = Https::from_bytes(octets.clone()?)?;
+        assert_eq!(rt; uri.try_clone()?.as_bytes(), b"HTTPS://h/".as_slice());
+        assert!(rt; Https::from_piece(Piece::from(octets))? == uri);
+        Ok(())
+    }
+
+    #[test]
+    fn reads_texts(rt: HostRuntime) -> Result<(), Fail> {
+        let uri = Https::from_text(rt.alloc(), "https://example.com")?;
+        assert_eq!(rt; uri.as_bytes(), b"https://example.com".as_slice());
+        let refused = Https::from_text(rt.alloc(), "https:///x");
+        assert!(rt; matches!(refused, Err(UriError::BadUri)));
+        Ok(())
+    }
+}

@@ -1,0 +1,306 @@
+ghost use Rattle.std.specs.Prelude.{◌≡◌, ◌↔◌, ◌%◌, ◌^◌, ◌<◌, ◌≤◌, ◌++◌, length, IfOk, OnOk, OnErr, IfErr, IsErrOf, IsOk, IsTrue};
+ghost use Rattle.std.specs.List.{concat};
+ghost use Rattle.rpki_der.specs.Values.{AreOctets, enc};
+ghost use Rattle.rpki_der.specs.Place.{Place, left, IsWithin, Keeps, Took, TookOrMemory, Answers, AnswersOrMemory};
+ghost use Rattle.rpki_parts.specs.Keys.{KeyFields, IsPublicKey, key_identifier, IsKeyIdentifier, key_identifier_at, format_at, whole_bits_at, public_key_at};
+ghost use Rattle.rpki_parts.specs.WrittenParts.{subject_name, key, key_algorithm, key_pieces};
+ghost use Rattle.rpki_der.specs.declared.error.EncodeError.TheVariants.{Memory};
+
+use crate::algorithm::take_opt_null;
+use crate::name::Name;
+use bytes::Bytes;
+use rpki_der::{Cursor, DecodeError, EncodeError, Piece, put_bits, put_parts, put_value};
+use sha1::Sha1;
+use std::alloc::{AllocError, Global};
+use std::marker::Model;
+
+// The contents of identifiers.
+const RSA_ENCRYPTION: &[u8] = &[0x2A, 0x86, 0x48, 0x86, 0xF7, 0x0D, 0x01, 0x01, 0x01];
+
+const EC_PUBLIC_KEY: &[u8] = &[0x2A, 0x86, 0x48, 0xCE, 0x3D, 0x02, 0x01];
+
+const PRIME256V1: &[u8] = &[0x2A, 0x86, 0x48, 0xCE, 0x3D, 0x03, 0x01, 0x07];
+
+// What is written of the algorithm of an RSA key, and of a P-256 key.
+const RSA: &[u8] = &[
+    0x30, 0x0D, 0x06, 0x09, 0x2A, 0x86, 0x48, 0x86, 0xF7, 0x0D, 0x01, 0x01, 0x01, 0x05, 0x00,
+];
+
+const P256: &[u8] = &[
+    0x30, 0x13, 0x06, 0x07, 0x2A, 0x86, 0x48, 0xCE, 0x3D, 0x02, 0x01, 0x06, 0x08, 0x2A, 0x86, 0x48,
+    0xCE, 0x3D, 0x03, 0x01, 0x07,
+];
+
+/// The identifier of a key: the 20 octets of the SHA-1 hash of its bits (RFC 5280 4.2.1.2, RFC 6487 4.8.2).
+#[derive(Clone, Copy)]
+pub struct KeyIdentifier {
+    octets: [u8; 20],
+}
+
+impl Model for KeyIdentifier {
+    ghost use Rattle.std.specs.Prelude.{List, ℕ};
+
+    ghost Value = { List ℕ };
+
+    ghost view = { λ k. k.octets };
+
+    ghost inverse = { λ b. record { octets = b } };
+}
+
+impl KeyIdentifier {
+    pub fn from_octets(octets: [u8; 20]) -> KeyIdentifier
+        ensures { result ≡ octets }
+    {
+        KeyIdentifier { octets }
+    }
+
+    pub fn as_octets(&self) -> &[u8; 20]
+        ensures same { result.now ≡ self.now }
+        ensures size { length self.now ≡ 20 }
+        ensures octets { AreOctets self.now }
+    {
+        let octets = self.octets.as_slice();
+        let _all = &octets[0..20];
+        &self.octets
+    }
+
+    // The identifier that stands next, by the reading function.
+    #[tactic(auto, unfolding(crate::specs::Keys::key_identifier_at))]
+    fn read(cursor: &mut Cursor<'_>) -> Result<KeyIdentifier, DecodeError>
+        ensures reads { Took (λ k. k) key_identifier_at cursor.old result cursor.new }
+        ensures keeps { Keeps result cursor.old cursor.new }
+        ensures octets { AreOctets (left cursor.old) }
+    {
+        let mut ahead = cursor.fork();
+        let content = ahead.take_value(0x04)?;
+        let Ok(octets) = <[u8; 20]>::try_from(content.rest()) else {
+            return Err(DecodeError::BadValue);
+        };
+        *cursor = ahead;
+        Ok(KeyIdentifier { octets })
+    }
+
+    /// The identifier that stands next, an OCTET STRING of 20 octets.
+    pub fn take_from(cursor: &mut Cursor<'_>) -> Result<KeyIdentifier, DecodeError>
+        ensures answers { Answers (λ k. k) IsKeyIdentifier cursor.old result cursor.new }
+        ensures reads { Took (λ k. k) key_identifier_at cursor.old result cursor.new }
+        ensures keeps { Keeps result cursor.old cursor.new }
+    {
+        KeyIdentifier::read(cursor)
+    }
+
+    /// Appends the identifier as an OCTET STRING. The only error is `Memory`.
+    pub fn encode_ref(&self, out: &mut Vec<u8>) -> Result<(), EncodeError>
+        ensures ok { OnOk result (out.new.items ≡ out.old.items ++ enc 0x04 self.now) }
+        ensures err { OnErr result (out.new.items ≡ out.old.items) }
+        ensures memory { IfErr result (λ e. e ≡ Memory) }
+    {
+        self.encode_ref_as(out, 0x04)
+    }
+
+    /// The same under another identifier octet, the low five bits of which aren't all ones.
+    pub fn encode_ref_as(&self, out: &mut Vec<u8>, tag: u8) -> Result<(), EncodeError>
+        requires { tag % 32 < 31 }
+        ensures ok { OnOk result (out.new.items ≡ out.old.items ++ enc tag self.now) }
+        ensures err { OnErr result (out.new.items ≡ out.old.items) }
+        ensures memory { IfErr result (λ e. e ≡ Memory) }
+    {
+        put_value(out, tag, &self.octets)
+    }
+}
+
+impl PartialEq for KeyIdentifier {
+    ghost use Rattle.std.specs.Prelude.{bytes_eq};
+    ghost use Rattle.std.proofs.Common.{rules};
+    ghost use Rattle.std.specs.Cmp.Rules.{comparing};
+
+    ghost eq = { bytes_eq };
+
+    ghost laws = { Prim.search (comparing, rules) };
+
+    fn eq(&self, other: &KeyIdentifier) -> bool {
+        self.octets == other.octets
+    }
+}
+
+impl Eq for KeyIdentifier {
+    ghost use Rattle.std.proofs.Common.{rules};
+    ghost use Rattle.std.specs.Cmp.Rules.{comparing};
+
+    ghost laws = { Prim.search (comparing, rules) };
+}
+
+/// The kinds of public keys: of certificates (RFC 7935 3), and of BGPsec routers (RFC 8608 3).
+#[derive(Debug, Clone, Copy, PartialEq, Eq)]
+pub enum PublicKeyFormat {
+    /// An RSA key.
+    Rsa,
+    /// An ECDSA key on the curve P-256.
+    EcdsaP256,
+}
+
+impl PublicKeyFormat {
+    // The AlgorithmIdentifier that is written of it.
+    fn algorithm(self) -> &'static [u8]
+        ensures { result.now ≡ key_algorithm self }
+    {
+        match self {
+            PublicKeyFormat::Rsa => RSA,
+            PublicKeyFormat::EcdsaP256 => P256,
+        }
+    }
+}
+
+// The algorithm of the key that stands next.
+#[tactic(auto, unfolding(crate::specs::Keys::format_at))]
+fn take_format(cursor: &mut Cursor<'_>) -> Result<PublicKeyFormat, DecodeError>
+    ensures reads { Took (λ f. f) format_at cursor.old result cursor.new }
+    ensures keeps { Keeps result cursor.old cursor.new }
+{
+    let mut ahead = cursor.fork();
+    let mut content = ahead.take_sequence()?;
+    let id = content.take_oid()?;
+    let format = if id == RSA_ENCRYPTION {
+        take_opt_null(&mut content)?;
+        PublicKeyFormat::Rsa
+    } else if id == EC_PUBLIC_KEY && content.take_oid()? == PRIME256V1 {
+        PublicKeyFormat::EcdsaP256
+    } else {
+        return Err(DecodeError::BadValue);
+    };
+    content.finish()?;
+    *cursor = ahead;
+    Ok(format)
+}
+
+// A cursor over the octets of the BIT STRING that stands next, of which no bits are unused.
+#[tactic(auto, unfolding(crate::specs::Keys::whole_bits_at))]
+pub(crate) fn take_whole_bits<'a>(cursor: &mut Cursor<'a>) -> Result<Cursor<'a>, DecodeError>
+    ensures reads { Took left whole_bits_at cursor.old result cursor.new }
+    ensures keeps { Keeps result cursor.old cursor.new }
+    ensures inside { IfOk result (λ c. IsWithin c cursor.old) }
+{
+    let mut ahead = cursor.fork();
+    let (unused, octets) = ahead.take_bits()?;
+    if unused != 0 {
+        return Err(DecodeError::BadValue);
+    }
+    *cursor = ahead;
+    Ok(octets)
+}
+
+/// A public key. Its bits aren't interpreted.
+#[derive(Drop)]
+pub struct PublicKey {
+    format: PublicKeyFormat,
+    bits: Piece,
+}
+
+impl Model for PublicKey {
+    ghost use Rattle.rpki_parts.specs.Keys.{KeyFields};
+
+    ghost Value = { KeyFields };
+
+    ghost view = { λ k. record { format = k.format; bits = k.bits } };
+}
+
+impl PublicKey {
+    ghost use Rattle.rpki_parts.specs.declared.key.PublicKeyFormat.TheVariants.{Rsa, EcdsaP256};
+
+    /// The key with these bits: the octets of the BIT STRING without the count of unused bits.
+    pub fn new(format: PublicKeyFormat, bits: Bytes) -> PublicKey
+        ensures { result ≡ record { format = format; bits = bits } }
+    {
+        PublicKey {
+            format,
+            bits: Piece::from(bits),
+        }
+    }
+
+    // The key that stands next, by the reading function.
+    #[tactic(auto, unfolding(crate::specs::Keys::public_key_at))]
+    fn read(cursor: &mut Cursor<'_>) -> Result<PublicKey, DecodeError>
+        ensures reads { TookOrMemory (λ k. k) public_key_at cursor.old result cursor.new }
+        ensures keeps { Keeps result cursor.old cursor.new }
+        ensures octets { AreOctets (left cursor.old) }
+    {
+        let mut ahead = cursor.fork();
+        let mut content = ahead.take_sequence()?;
+        let format = take_format(&mut content)?;
+        let bits = take_whole_bits(&mut content)?.capture_rest()?;
+        content.finish()?;
+        *cursor = ahead;
+        Ok(PublicKey { format, bits })
+    }
+
+    /// The SubjectPublicKeyInfo that stands next (RFC 5280 4.1.2.7). Answers `BadValue` at another algorithm or curve and where bits
+    /// are unused.
+    pub fn take_from(cursor: &mut Cursor<'_>) -> Result<PublicKey, DecodeError>
+        ensures answers { AnswersOrMemory (λ k. k) IsPublicKey cursor.old result cursor.new }
+        ensures reads { TookOrMemory (λ k. k) public_key_at cursor.old result cursor.new }
+        ensures keeps { Keeps result cursor.old cursor.new }
+    {
+        PublicKey::read(cursor)
+    }
+
+    /// Appends the SubjectPublicKeyInfo, with NULL behind rsaEncryption. Answers `TooLong` where its content would have 2^32 octets or
+    /// more.
+    pub fn encode_ref(&self, out: &mut Vec<u8>) -> Result<(), EncodeError>
+        ensures ok { OnOk result (out.new.items ≡ out.old.items ++ key self.now) }
+        ensures err { OnErr result (out.new.items ≡ out.old.items) }
+        ensures too_long { IsErrOf result EncodeError.TooLong → 2 ^ 32 ≤ length (concat (key_pieces self.now)) }
+        ensures fits { IsOk result → length (concat (key_pieces self.now)) < 2 ^ 32 }
+    {
+        let mut bits = Vec::new(*out.allocator());
+        put_bits(&mut bits, 0, self.bits())?;
+        put_parts(out, 0x30, self.format.algorithm(), &bits)
+    }
+
+    /// The key's bits, as octets.
+    pub fn bits(&self) -> &[u8]
+        ensures { result.now ≡ self.now.bits }
+    {
+        self.bits.as_bytes()
+    }
+
+    /// The SHA-1 hash of the bits.
+    pub fn key_identifier(&self) -> KeyIdentifier
+        ensures { result ≡ key_identifier self.now }
+    {
+        KeyIdentifier::from_octets(Sha1::digest(self.bits()))
+    }
+
+    /// The name that a certificate of this key has as its subject (RFC 6487 4.5): one CommonName, the 40 upper-case hexadecimal digits
+    /// of the key identifier. The only error is `Memory`.
+    pub fn to_subject_name(&self, alloc: Global) -> Result<Name, EncodeError>
+        ensures ok { IfOk result (λ n. n ≡ subject_name self.now) }
+        ensures memory { IfErr result (λ e. e ≡ Memory) }
+    {
+        Ok(Name::of_key(alloc, &self.key_identifier())?)
+    }
+
+    /// Whether a certificate of the RPKI may hold the key: whether it is an RSA key (RFC 7935 3).
+    pub fn allow_rpki_cert(&self) -> bool
+        ensures { IsTrue result ↔ (self.now.format ≡ Rsa) }
+    {
+        self.format == PublicKeyFormat::Rsa
+    }
+
+    /// Whether a router's certificate may hold the key: whether it is a P-256 key (RFC 8608 3).
+    pub fn allow_router_cert(&self) -> bool
+        ensures { IsTrue result ↔ (self.now.format ≡ EcdsaP256) }
+    {
+        self.format == PublicKeyFormat::EcdsaP256
+    }
+
+    /// The same key once more.
+    pub fn try_clone(&self) -> Result<PublicKey, AllocError>
+        ensures { IfOk result (λ k. k ≡ self.now) }
+    {
+        let bits = self.bits.try_clone()?;
+        Ok(PublicKey {
+            format: self.format,
+            bits,
+        })
+    }
+}

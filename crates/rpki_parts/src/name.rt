@@ -1,0 +1,211 @@
+ghost use Rattle.rpki_parts.specs.WrittenParts.{digit, hexadecimal, name_of_digits};
+ghost use Rattle.std.specs.Prelude.{◌≡◌, ◌<◌, ◌++◌, IfOk, IfErr, OnOk, OnErr, is_ok, is_some};
+ghost use Rattle.rpki_der.specs.Place.{Place, left, Keeps, Took, TookOrMemory, AnswersOrMemory};
+ghost use Rattle.rpki_der.specs.Reading.{mapped};
+ghost use Rattle.rpki_der.specs.Rows.{row_of};
+ghost use Rattle.rpki_der.specs.Values.{AreOctets};
+ghost use Rattle.rpki_der.specs.declared.error.EncodeError.TheVariants.{Memory};
+ghost use Rattle.rpki_parts.specs.Names.{Attribute, IsName, is_name, tagged_at, attribute_at, part_at, name_at};
+
+use crate::key::KeyIdentifier;
+use bytes::Bytes;
+use rpki_der::{Cursor, DecodeError, EncodeError, Piece};
+use std::alloc::{AllocError, Global};
+use std::marker::Model;
+use thiserror::Error;
+
+// What stands in the name of a key before the 40 digits of its identifier: SEQUENCE, SET, SEQUENCE, CommonName, and the identifier
+// octet and the length of a PrintableString.
+const BEFORE_DIGITS: [u8; 13] = [
+    0x30, 0x33, 0x31, 0x31, 0x30, 0x2F, 0x06, 0x03, 0x55, 0x04, 0x03, 0x13, 0x28,
+];
+
+/// A name, kept as it stands (RFC 5280 4.1.2.4).
+#[derive(Drop)]
+pub struct Name {
+    octets: Piece,
+}
+
+impl Model for Name {
+    ghost use Rattle.std.specs.Prelude.{◌≡◌, List, ℕ, true};
+    ghost use Rattle.rpki_parts.specs.Names.{is_name};
+
+    ghost Value = { List ℕ };
+
+    ghost view = { λ n. n.octets };
+
+    ghost invariant = { λ n. is_name n.octets ≡ true };
+}
+
+// The identifier octet of the value that stands next and is skipped.
+fn skip_tagged(cursor: &mut Cursor<'_>) -> Result<u8, DecodeError>
+    ensures reads { Took (λ tag. tag) tagged_at cursor.old result cursor.new }
+    ensures keeps { Keeps result cursor.old cursor.new }
+{
+    match cursor.rest() {
+        [] => Err(DecodeError::Truncated),
+        [tag, ..] => {
+            cursor.skip_one()?;
+            Ok(*tag)
+        }
+    }
+}
+
+// The type of the attribute that stands next, and the identifier octet of its value.
+#[tactic(auto, unfolding(crate::specs::Names::attribute_at))]
+fn take_attribute<'a>(cursor: &mut Cursor<'a>) -> Result<(&'a [u8], u8), DecodeError>
+    ensures reads { Took (λ x. record { type_id = x.0.now; value_tag = x.1 }) attribute_at cursor.old result cursor.new }
+    ensures keeps { Keeps result cursor.old cursor.new }
+{
+    let mut ahead = cursor.fork();
+    let mut content = ahead.take_sequence()?;
+    let type_id = content.take_oid()?;
+    let tag = skip_tagged(&mut content)?;
+    content.finish()?;
+    *cursor = ahead;
+    Ok((type_id, tag))
+}
+
+// Whether these are attributes.
+fn check_attributes(mut row: Cursor<'_>) -> Result<(), DecodeError>
+    ensures { is_ok result ≡ is_some (row_of attribute_at (left row.entry)) }
+{
+    while !row.is_empty() {
+        take_attribute(&mut row)?;
+    }
+    Ok(())
+}
+
+// Past the SET of at least one attribute that stands next.
+#[tactic(auto, unfolding(crate::specs::Names::part_at))]
+fn skip_part(cursor: &mut Cursor<'_>) -> Result<(), DecodeError>
+    ensures reads { Took (λ u. u) (mapped (λ _. tt) part_at) cursor.old result cursor.new }
+    ensures keeps { Keeps result cursor.old cursor.new }
+{
+    let mut ahead = cursor.fork();
+    let set = ahead.take_value(0x31)?;
+    if set.is_empty() {
+        return Err(DecodeError::BadValue);
+    }
+    check_attributes(set)?;
+    *cursor = ahead;
+    Ok(())
+}
+
+// Whether these are parts of a name.
+fn check_parts(mut row: Cursor<'_>) -> Result<(), DecodeError>
+    ensures { is_ok result ≡ is_some (row_of part_at (left row.entry)) }
+{
+    while !row.is_empty() {
+        skip_part(&mut row)?;
+    }
+    Ok(())
+}
+
+// Whether the octets are a name.
+#[tactic(auto, unfolding(crate::specs::Names::name_of))]
+fn check_name(mut octets: Cursor<'_>) -> Result<(), DecodeError>
+    ensures { is_ok result ≡ is_name (left octets.entry) }
+{
+    let parts = octets.take_sequence()?;
+    octets.finish()?;
+    check_parts(parts)
+}
+
+// An upper-case hexadecimal digit.
+fn digit(n: u8) -> u8
+    requires { n < 16 }
+    ensures { result ≡ digit n }
+{
+    if n < 10 { b'0' + n } else { b'A' + (n - 10) }
+}
+
+// Appends the digits of these octets.
+fn put_digits(out: &mut Vec<u8>, octets: &[u8]) -> Result<(), AllocError>
+    ensures { OnOk result (out.new.items ≡ out.old.items ++ hexadecimal octets.now) }
+{
+    for octet in octets {
+        out.push(digit(*octet / 16))?;
+        out.push(digit(*octet % 16))?;
+    }
+    Ok(())
+}
+
+impl Name {
+    // The name of the key with this identifier.
+    pub(crate) fn of_key(alloc: Global, identifier: &KeyIdentifier) -> Result<Name, AllocError>
+        ensures { IfOk result (λ n. n ≡ name_of_digits (hexadecimal identifier.now)) }
+    {
+        let mut octets = Vec::from_slice(alloc, &BEFORE_DIGITS)?;
+        put_digits(&mut octets, identifier.as_octets())?;
+        let octets = Piece::from(Bytes::from_vec(octets)?);
+        Ok(Name { octets })
+    }
+
+    // The name that stands next, by the reading function.
+    #[tactic(auto, unfolding(crate::specs::Names::name_at))]
+    fn read(cursor: &mut Cursor<'_>) -> Result<Name, DecodeError>
+        ensures reads { TookOrMemory (λ n. n) name_at cursor.old result cursor.new }
+        ensures keeps { Keeps result cursor.old cursor.new }
+        ensures octets { AreOctets (left cursor.old) }
+    {
+        let mut ahead = cursor.fork();
+        let octets = ahead.capture_one()?;
+        check_name(octets.cursor())?;
+        *cursor = ahead;
+        Ok(Name { octets })
+    }
+
+    /// The name that stands next: a SEQUENCE of SETs, each of at least one SEQUENCE of an identifier and a value. Of the values no more
+    /// is tested than that they can be skipped, and the order in a SET isn't tested.
+    pub fn take_from(cursor: &mut Cursor<'_>) -> Result<Name, DecodeError>
+        ensures answers { AnswersOrMemory (λ n. n) IsName cursor.old result cursor.new }
+        ensures reads { TookOrMemory (λ n. n) name_at cursor.old result cursor.new }
+        ensures keeps { Keeps result cursor.old cursor.new }
+    {
+        Name::read(cursor)
+    }
+
+    /// The octets of the SEQUENCE.
+    pub fn as_bytes(&self) -> &[u8]
+        ensures octets { result.now ≡ self.now }
+        ensures valid { IsName self.now self.now }
+    {
+        let _octets = self.octets.cursor();
+        self.octets.as_bytes()
+    }
+
+    /// Appends the name as it stands. The only error is `Memory`.
+    pub fn encode_ref(&self, out: &mut Vec<u8>) -> Result<(), EncodeError>
+        ensures ok { OnOk result (out.new.items ≡ out.old.items ++ self.now) }
+        ensures err { OnErr result (out.new.items ≡ out.old.items) }
+        ensures memory { IfErr result (λ e. e ≡ Memory) }
+    {
+        out.extend_from_slice(self.as_bytes())?;
+        Ok(())
+    }
+
+    /// The same name once more.
+    pub fn try_clone(&self) -> Result<Name, AllocError>
+        ensures { IfOk result (λ n. n ≡ self.now) }
+    {
+        let octets = self.octets.try_clone()?;
+        Ok(Name { octets })
+    }
+}
+
+/// A name is not of the form that is asked for.
+#[derive(Debug, Clone, Copy, PartialEq, Eq, Error)]
+#[error("invalid name")]
+pub struct InvalidName;
+
+impl InvalidName {
+    ghost use Rattle.std.specs.Prelude.{codes};
+
+    /// The type's name.
+    pub fn name(&self) -> &'static str
+        ensures { result.now ≡ codes "InvalidName" }
+    {
+        "InvalidName"
+    }
+}

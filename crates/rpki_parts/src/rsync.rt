@@ -1,0 +1,201 @@
+ghost use Rattle.std.specs.Prelude.{◌≡◌, IfOk, IfSome, IsOk, IsNone, OnOk, Err, IsTrue, ◌↔◌, codes};
+ghost use Rattle.std.proofs.Common.{rules};
+ghost use Rattle.std.specs.Cmp.Rules.{comparing};
+ghost use Rattle.rpki_parts.specs.Uris.{IsRsync, AreEqual, AreIdentical, HasNoPath, IsParent, HasParent};
+ghost use Rattle.rpki_parts.specs.UriParts as parts;
+ghost use Rattle.rpki_parts.specs.declared.uri.UriError.TheVariants as error;
+
+use crate::uri::{BadUri, UriError, are_equal, are_identical, is_rsync, parent_of};
+use bytes::Bytes;
+use rpki_der::Piece;
+use std::alloc::{AllocError, Global};
+use std::marker::Model;
+
+/// An rsync URI (RFC 5781), as its octets.
+#[derive(Drop)]
+pub struct Rsync {
+    octets: Piece,
+}
+
+impl Model for Rsync {
+    ghost use Rattle.std.specs.Prelude.{◌≡◌, List, ℕ, true};
+    ghost use Rattle.rpki_parts.specs.UriParts.{is_rsync};
+
+    ghost Value = { List ℕ };
+
+    ghost view = { λ u. u.octets };
+
+    ghost invariant = { λ u. is_rsync u.octets ≡ true };
+
+    ghost inverse = { λ b. record { octets = b } };
+}
+
+impl Rsync {
+    /// The URI of these octets, which must be `21` to `7E`: `rsync://` in any case, an authority, `/`, a module, and then
+    /// nothing, or `/` and a path none of whose segments is `.` or `..`. Authority and module are not empty. Wants no memory.
+    pub fn from_bytes(octets: Bytes) -> Result<Rsync, BadUri>
+        ensures accepted { IsOk result ↔ IsRsync octets }
+        ensures ok { IfOk result (λ u. u ≡ octets) }
+    {
+        Rsync::from_piece(Piece::from(octets))
+    }
+
+    /// The URI of these octets, as [`Rsync::from_bytes`] says.
+    pub fn from_piece(octets: Piece) -> Result<Rsync, BadUri>
+        ensures accepted { IsOk result ↔ IsRsync octets }
+        ensures ok { IfOk result (λ u. u ≡ octets) }
+    {
+        if is_rsync(octets.as_bytes()) {
+            Ok(Rsync { octets })
+        } else {
+            Err(BadUri)
+        }
+    }
+
+    /// The URI of this text, copied. Answers `BadUri` where [`Rsync::from_bytes`] does.
+    pub fn from_text(alloc: Global, text: &str) -> Result<Rsync, UriError>
+        ensures ok { IfOk result (λ u. u ≡ text.now) }
+        ensures accepted { OnOk result (IsRsync text.now) }
+        ensures refused { (result ≡ Err error.BadUri) ↔ ¬ (IsRsync text.now) }
+    {
+        if !is_rsync(text.as_bytes()) {
+            return Err(UriError::BadUri);
+        }
+        let octets = Bytes::copy_from_slice(alloc, text.as_bytes())?;
+        Ok(Rsync {
+            octets: Piece::from(octets),
+        })
+    }
+
+    /// The octets.
+    pub fn as_bytes(&self) -> &[u8]
+        ensures octets { result.now ≡ self.now }
+        ensures valid { IsRsync self.now }
+    {
+        self.octets.as_bytes()
+    }
+
+    /// The parent, where the path is not empty: without one slash at the end, the URI through its last slash.
+    pub fn parent(&self, alloc: Global) -> Result<Option<Rsync>, AllocError>
+        ensures none { IfOk result (λ p. IsNone p ↔ HasNoPath self.now) }
+        ensures some { IfOk result (λ p. IfSome p (IsParent self.now)) }
+    {
+        match parent_of(self.as_bytes()) {
+            Some(parent) => {
+                let octets = Bytes::copy_from_slice(alloc, parent)?;
+                Ok(Some(Rsync {
+                    octets: Piece::from(octets),
+                }))
+            }
+            None => Ok(None),
+        }
+    }
+
+    /// Whether the two are equal after each lost one slash at its end.
+    pub fn is_identical_to(&self, other: &Rsync) -> bool
+        ensures { IsTrue result ↔ AreIdentical self.now other.now }
+    {
+        are_identical(self.as_bytes(), other.as_bytes())
+    }
+
+    /// Whether there is a parent, and it is identical to the other one. Wants no memory.
+    pub fn parent_is(&self, other: &Rsync) -> bool
+        ensures { IsTrue result ↔ HasParent self.now other.now }
+    {
+        match parent_of(self.as_bytes()) {
+            Some(parent) => are_identical(parent, other.as_bytes()),
+            None => false,
+        }
+    }
+
+    /// The same URI once more.
+    pub fn try_clone(&self) -> Result<Rsync, AllocError>
+        ensures { IfOk result (λ u. u ≡ self.now) }
+    {
+        let octets = self.octets.try_clone()?;
+        Ok(Rsync { octets })
+    }
+}
+
+/// Authorities are compared without ASCII case, and what follows them by octets.
+impl PartialEq for Rsync {
+    ghost eq = { parts.are_equal };
+
+    ghost laws = { Prim.search (comparing, rules) };
+
+    fn eq(&self, other: &Rsync) -> bool
+        ensures value { result ≡ parts.are_equal self.now other.now }
+        ensures equal { IsTrue result ↔ AreEqual (codes "rsync://") self.now other.now }
+    {
+        are_equal(self.as_bytes(), other.as_bytes())
+    }
+}
+
+impl Eq for Rsync {
+    ghost laws = { Prim.search (comparing, rules) };
+}
+
+#[cfg(test)]
+mod tests {
+    use super::*;
+    use std::test::Fail;
+
+    const MANIFEST: &str = "rsync://example.com/m/p/mft.mft";
+
+    #[test]
+    fn reads(rt: HostRuntime) -> Result<(), Fail> {
+        let octets = Bytes::from_static(MANIFEST.as_bytes());
+        let uri = Rsync::from_bytes(octets.clone()?)?;
+        assert_eq!(rt; uri.try_clone()?.as_bytes(), MANIFEST.as_bytes());
+        assert!(rt; Rsync::from_piece(Piece::from(octets))? == uri);
+        Ok(())
+    }
+
+    #[test]
+    fn refuses(rt: HostRuntime) {
+        for text in [
+            "rsync://example.com/m/../p",
+            "rsync://example.com/",
+            "rsync:///m/p",
+        ] {
+            let refused = Rsync::from_text(rt.alloc(), text);
+            assert!(rt; matches!(refused, Err(UriError::BadUri)), "{text}");
+        }
+    }
+
+    #[test]
+    fn compares(rt: HostRuntime) -> Result<(), Fail> {
+        let uri = Rsync::from_text(rt.alloc(), "rsync://example.com/m/p")?;
+        let upper = Rsync::from_text(rt.alloc(), "RSYNC://EXAMPLE.com/m/p")?;
+        let other = Rsync::from_text(rt.alloc(), "rsync://example.com/M/p")?;
+        assert!(rt; uri == upper && uri != other);
+        Ok(())
+    }
+
+    // Whether the first text's URI has the second one's as its parent.
+    fn is_parent(alloc: Global, text: &str, parent: &str) -> Result<bool, UriError> {
+        let uri = Rsync::from_text(alloc, text)?;
+        let parent = Rsync::from_text(alloc, parent)?;
+        let Some(found) = uri.parent(alloc)? else {
+            return Ok(false);
+        };
+        Ok(found.as_bytes() == parent.as_bytes() && uri.parent_is(&parent))
+    }
+
+    // Whether the text's URI has no parent.
+    fn is_top(alloc: Global, text: &str) -> Result<bool, UriError> {
+        let uri = Rsync::from_text(alloc, text)?;
+        Ok(uri.parent(alloc)?.is_none() && !uri.parent_is(&uri))
+    }
+
+    #[test]
+    fn has_a_parent(rt: HostRuntime) -> Result<(), Fail> {
+        let folder = "rsync://example.com/m/p/";
+        let top = "rsync://example.com/m/";
+        assert!(rt; is_parent(rt.alloc(), MANIFEST, folder)?);
+        assert!(rt; is_parent(rt.alloc(), folder, top)?);
+        assert!(rt; is_top(rt.alloc(), top)?);
+        assert!(rt; is_top(rt.alloc(), "rsync://example.com/m")?);
+        Ok(())
+    }
+}

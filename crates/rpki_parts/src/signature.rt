@@ -1,0 +1,175 @@
+ghost use Rattle.std.specs.Prelude.{◌≡◌, ◌↔◌, IfOk, IsTrue};
+ghost use Rattle.rpki_parts.specs.Signatures.{SignatureFields};
+
+use crate::algorithm::RpkiSignatureAlgorithm;
+use crate::key::PublicKey;
+use bytes::Bytes;
+use rpki_der::{EncodeError, Piece};
+use std::alloc::{AllocError, Global};
+use std::marker::Model;
+use thiserror::Error;
+
+/// A signature, and the algorithm that it names.
+#[derive(Drop)]
+pub struct Signature {
+    algorithm: RpkiSignatureAlgorithm,
+    value: Piece,
+}
+
+impl Model for Signature {
+    ghost use Rattle.rpki_parts.specs.Signatures.{SignatureFields};
+
+    ghost Value = { SignatureFields };
+
+    ghost view = { λ s. record { algorithm = s.algorithm; value = s.value } };
+}
+
+impl Signature {
+    pub fn new(algorithm: RpkiSignatureAlgorithm, value: Bytes) -> Signature
+        ensures { result ≡ record { algorithm = algorithm; value = value } }
+    {
+        Signature {
+            algorithm,
+            value: Piece::from(value),
+        }
+    }
+
+    pub(crate) fn from_piece(algorithm: RpkiSignatureAlgorithm, value: Piece) -> Signature
+        ensures { result ≡ record { algorithm = algorithm; value = value } }
+    {
+        Signature { algorithm, value }
+    }
+
+    pub fn algorithm(&self) -> &RpkiSignatureAlgorithm
+        ensures { result.now ≡ self.now.algorithm }
+    {
+        &self.algorithm
+    }
+
+    /// The octets of the signature.
+    pub fn value(&self) -> &[u8]
+        ensures { result.now ≡ self.now.value }
+    {
+        self.value.as_bytes()
+    }
+
+    /// The same signature once more.
+    pub fn try_clone(&self) -> Result<Signature, AllocError>
+        ensures { IfOk result (λ s. s ≡ self.now) }
+    {
+        let value = self.value.try_clone()?;
+        Ok(Signature {
+            algorithm: self.algorithm,
+            value,
+        })
+    }
+}
+
+/// Tells whether a signature belongs to a message and a key.
+pub trait Verifier {
+    ghost use Rattle.rpki_parts.specs.Signatures.{Verifies};
+
+    /// The relation that the answer tells.
+    ghost verifies: { Self → Verifies };
+
+    /// Whether the relation of key, algorithm, message and signature holds.
+    fn verify(
+        &self,
+        key: &PublicKey,
+        algorithm: RpkiSignatureAlgorithm,
+        message: &[u8],
+        signature: &[u8],
+    ) -> bool
+        ensures { IsTrue result ↔ verifies self.now key.now algorithm message.now signature.now };
+}
+
+/// Makes signatures by keys that it knows.
+pub trait Signer {
+    ghost use Rattle.std.specs.Prelude.{ℕ, Bool, List};
+    ghost use Rattle.rpki_parts.specs.Signatures.{SignatureFields};
+
+    /// What names a key of this signer.
+    type KeyId;
+
+    /// What can keep it from signing.
+    type Error;
+
+    /// The relation of key, algorithm, message and signature that each answer meets.
+    ghost signs: { Self → Self.KeyId → Bool → List ℕ → SignatureFields → Type 0 };
+
+    fn sign(
+        &self,
+        alloc: Global,
+        key: &Self::KeyId,
+        algorithm: RpkiSignatureAlgorithm,
+        message: &[u8],
+    ) -> Result<Signature, SigningError<Self::Error>>
+        ensures { IfOk result (λ s. signs self.now key.now algorithm message.now s) };
+}
+
+/// Why something could not be signed.
+#[derive(Debug, Drop, Error)]
+pub enum SigningError<E> {
+    #[error("signer failed")]
+    Signer(E),
+    /// A content would have 2^32 octets or more.
+    #[error("content too long")]
+    TooLong,
+    #[error("out of memory")]
+    Memory,
+}
+
+impl<E> SigningError<E> {
+    ghost use Rattle.rpki_parts.specs.SigningErrors.{signing_error_name};
+
+    /// The variant's name.
+    pub fn name(&self) -> &'static str
+        ensures { result.now ≡ signing_error_name self.now }
+    {
+        match self {
+            SigningError::Signer(_) => "Signer",
+            SigningError::TooLong => "TooLong",
+            SigningError::Memory => "Memory",
+        }
+    }
+}
+
+impl<E> From<EncodeError> for SigningError<E> {
+    ghost use Rattle.rpki_parts.specs.SigningErrors.{as_signing_error};
+
+    ghost from_gives = { λ d e. e ≡ as_signing_error d };
+
+    fn from(error: EncodeError) -> SigningError<E> {
+        match error {
+            EncodeError::TooLong => SigningError::TooLong,
+            EncodeError::Memory => SigningError::Memory,
+        }
+    }
+}
+
+impl<E> From<AllocError> for SigningError<E> {
+    ghost use Rattle.std.specs.Prelude.{◌≡◌};
+    ghost use Rattle.rpki_parts.specs.declared.signature.SigningError.TheVariants.{Memory};
+
+    ghost from_gives = { λ _ e. e ≡ Memory };
+
+    fn from(_error: AllocError) -> SigningError<E> {
+        SigningError::Memory
+    }
+}
+
+/// The signature doesn't belong to the data and the key.
+#[derive(Debug, Clone, Copy, PartialEq, Eq, Error)]
+#[error("invalid signature")]
+pub struct SignatureVerificationError;
+
+impl SignatureVerificationError {
+    ghost use Rattle.std.specs.Prelude.{codes};
+
+    /// The type's name.
+    pub fn name(&self) -> &'static str
+        ensures { result.now ≡ codes "SignatureVerificationError" }
+    {
+        "SignatureVerificationError"
+    }
+}

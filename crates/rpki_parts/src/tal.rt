@@ -1,0 +1,58 @@
+ghost use Rattle.std.specs.Prelude.{◌≡◌, IfOk};
+ghost use Rattle.std.proofs.Common.{string_bytes, rc_value};
+
+use std::alloc::{AllocError, Global};
+use std::marker::Model;
+use std::rc::Rc;
+
+/// The name of the trust anchor locator (RFC 8630) by which a path begins.
+#[derive(Drop)]
+pub struct TalInfo {
+    name: String,
+}
+
+impl Model for TalInfo {
+    ghost use Rattle.std.specs.Prelude.{List, ℕ};
+    ghost use Rattle.std.proofs.Common.{string_bytes};
+
+    ghost Value = { List ℕ };
+
+    ghost view = { λ t. string_bytes t.name };
+}
+
+impl TalInfo {
+    /// The locator of this name.
+    pub fn from_name(name: String) -> TalInfo
+        ensures { result ≡ string_bytes name }
+    {
+        TalInfo { name }
+    }
+
+    pub fn name(&self) -> &str
+        ensures { result.now ≡ self.now }
+    {
+        self.name.as_str()
+    }
+
+    /// The same, shared.
+    pub fn into_rc(self, alloc: Global) -> Result<Rc<TalInfo>, AllocError>
+        ensures { IfOk result (λ t. rc_value t ≡ self) }
+    {
+        Ok(Rc::new(alloc, self)?)
+    }
+}
+
+#[cfg(test)]
+mod tests {
+    use super::*;
+    use std::test::Fail;
+
+    #[test]
+    fn keeps_its_name(rt: HostRuntime) -> Result<(), Fail> {
+        let alloc = rt.alloc();
+        let name = String::from_str(alloc, "example")?;
+        let locator = TalInfo::from_name(name).into_rc(alloc)?;
+        assert_eq!(rt; locator.name(), "example");
+        Ok(())
+    }
+}

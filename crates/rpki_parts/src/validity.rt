@@ -1,0 +1,86 @@
+ghost use Rattle.std.specs.Prelude.{◌≡◌, ◌++◌, OnOk, OnErr, IfErr};
+ghost use Rattle.rpki_der.specs.Values.{AreOctets};
+ghost use Rattle.rpki_der.specs.Place.{Place, left, Keeps, Took, Answers};
+ghost use Rattle.rpki_der.specs.declared.error.EncodeError.TheVariants.{Memory};
+ghost use Rattle.rpki_parts.specs.Validities.{IsValidity, validity_at};
+ghost use Rattle.rpki_parts.specs.WrittenParts.{validity};
+
+use rpki_der::{Cursor, DecodeError, EncodeError, Time, put_value};
+use std::marker::Model;
+
+/// The period in which a certificate is valid, both ends included (RFC 5280 4.1.2.5). Which of them is earlier isn't tested.
+#[derive(Clone, Copy)]
+pub struct Validity {
+    not_before: Time,
+    not_after: Time,
+}
+
+impl Model for Validity {
+    ghost use Rattle.rpki_parts.specs.Validities.{ValidityFields};
+
+    ghost Value = { ValidityFields };
+
+    ghost view = { λ v. record { not_before = v.not_before; not_after = v.not_after } };
+
+    ghost inverse = { λ v. record { not_before = v.not_before; not_after = v.not_after } };
+}
+
+impl Validity {
+    pub fn new(not_before: Time, not_after: Time) -> Validity
+        ensures { result ≡ record { not_before = not_before; not_after = not_after } }
+    {
+        Validity {
+            not_before,
+            not_after,
+        }
+    }
+
+    pub fn not_before(self) -> Time
+        ensures { result ≡ self.not_before }
+    {
+        self.not_before
+    }
+
+    pub fn not_after(self) -> Time
+        ensures { result ≡ self.not_after }
+    {
+        self.not_after
+    }
+
+    // The period that stands next, by the reading function.
+    #[tactic(auto, unfolding(crate::specs::Validities::validity_at))]
+    fn read(cursor: &mut Cursor<'_>) -> Result<Validity, DecodeError>
+        ensures reads { Took (λ v. v) validity_at cursor.old result cursor.new }
+        ensures keeps { Keeps result cursor.old cursor.new }
+        ensures octets { AreOctets (left cursor.old) }
+    {
+        let mut ahead = cursor.fork();
+        let mut content = ahead.take_sequence()?;
+        let not_before = Time::take_from(&mut content)?;
+        let not_after = Time::take_from(&mut content)?;
+        content.finish()?;
+        *cursor = ahead;
+        Ok(Validity::new(not_before, not_after))
+    }
+
+    /// The SEQUENCE of two times that stands next.
+    pub fn take_from(cursor: &mut Cursor<'_>) -> Result<Validity, DecodeError>
+        ensures answers { Answers (λ v. v) IsValidity cursor.old result cursor.new }
+        ensures reads { Took (λ v. v) validity_at cursor.old result cursor.new }
+        ensures keeps { Keeps result cursor.old cursor.new }
+    {
+        Validity::read(cursor)
+    }
+
+    /// Appends the SEQUENCE of both times. The only error is `Memory`.
+    pub fn encode(&self, out: &mut Vec<u8>) -> Result<(), EncodeError>
+        ensures ok { OnOk result (out.new.items ≡ out.old.items ++ validity self.now) }
+        ensures err { OnErr result (out.new.items ≡ out.old.items) }
+        ensures memory { IfErr result (λ e. e ≡ Memory) }
+    {
+        let mut content = Vec::new(*out.allocator());
+        self.not_before.encode_varied(&mut content)?;
+        self.not_after.encode_varied(&mut content)?;
+        put_value(out, 0x30, &content)
+    }
+}
