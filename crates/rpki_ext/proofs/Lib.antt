@@ -1,0 +1,10 @@
+pub mod Pieces
+pub mod Choosing
+pub mod Folding
+pub mod Going
+pub mod ReadExtensions
+pub mod ReadContents
+pub mod ReadNames
+pub mod ReadAccess
+pub mod ReadPolicies
+pub mod OneMeaning

@@ -1,0 +1,16 @@
+-- What is read in one way means one value.
+use Rattle.std.proofs.Common.{ℕ, List, ◌++◌, Option, refl, sym, ap, ◌∙◌}
+use Rattle.std.proofs.lemmas.List.{append_cancel_right}
+use Rattle.rpki_der.specs.Values.{IsUnambiguous}
+use Rattle.rpki_der.specs.Spelling.{Reads}
+use Rattle.rpki_der.proofs.Made.{one_reading}
+use Rattle.rpki_ext.specs.Extensions.{HasOneMeaning}
+
+pub one_meaning : {V : Type 0} (read : List ℕ → Option (V × List ℕ)) (spells : V → List ℕ → Type 0) → Reads read spells → HasOneMeaning spells
+one_meaning read spells law content v w p q =
+    (one_reading read spells law content v w p.1.rest q.1.rest (record { text = p.0; spelled = p.2; parts = p.1.is }) (record { text = q.0; spelled = q.2; parts = q.1.is })).0
+
+pub unambiguous : {V : Type 0} (read : List ℕ → Option (V × List ℕ)) (spells : V → List ℕ → Type 0) → Reads read spells → IsUnambiguous spells
+unambiguous read spells law v w a b x y p q e =
+    let one = one_reading read spells law (a ++ x) v w x y (record { text = a; spelled = p; parts = refl }) (record { text = b; spelled = q; parts = e }) in
+    (one.0, append_cancel_right a b x (e ∙ ap (λ (t : List ℕ). b ++ t) (sym one.1)))

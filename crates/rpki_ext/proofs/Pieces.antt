@@ -1,0 +1,20 @@
+-- A row, by its pieces.
+use Rattle.std.specs.List.{AllZip, concat}
+use Rattle.std.proofs.Common.{◌≡◌, ℕ, List, [], ◌∷◌, ◌++◌, refl, ap, ◌∙◌}
+use Rattle.rpki_der.specs.Rows.{IsRow}
+
+abbrev pub HasPieces : {X : Type 0} → (X → List ℕ → Type 0) → List X → List ℕ → Type 0
+HasPieces spells xs text = (pieces : List (List ℕ)) × AllZip spells xs pieces × (text ≡ concat pieces)
+
+module _ {X : Type 0} (spells : X → List ℕ → Type 0) where
+  pub row_pieces : (xs : List X) (text : List ℕ) → IsRow spells xs text → HasPieces spells xs text
+  row_pieces [] text s = ([], tt, s)
+  row_pieces (x ∷ xs) text s =
+      let m = row_pieces xs s.1 s.3 in
+      (s.0 ∷ m.0, (s.2, m.1), s.4 ∙ ap (λ (t : List ℕ). s.0 ++ t) m.2)
+
+  pub pieces_row : (xs : List X) (pieces : List (List ℕ)) → AllZip spells xs pieces → IsRow spells xs (concat pieces)
+  pieces_row [] [] z = refl
+  pieces_row [] (p ∷ ps) z = elim z [ ]
+  pieces_row (x ∷ xs) [] z = elim z [ ]
+  pieces_row (x ∷ xs) (p ∷ ps) z = (p, concat ps, z.0, pieces_row xs ps z.1, refl)

@@ -1,0 +1,12 @@
+pub use Rattle.rpki_der.specs.Values
+pub use Rattle.rpki_der.specs.Identifiers
+pub use Rattle.rpki_der.specs.Skipping
+pub use Rattle.rpki_blocks.specs.Overclaims
+pub use Rattle.rpki_parts.specs.Keys
+pub use Rattle.rpki_parts.specs.Uris
+pub mod Choosing
+pub mod Extensions
+pub mod Contents
+pub mod Folding
+pub mod ReadExtensions
+pub mod ReadContents

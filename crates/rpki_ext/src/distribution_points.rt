@@ -1,0 +1,49 @@
+ghost use Rattle.rpki_der.specs.Place.{Place, left, Keeps, Took, TookOrMemory, AnswersOrMemory};
+ghost use Rattle.rpki_der.specs.Values.{AreOctets};
+ghost use Rattle.rpki_ext.specs.Contents.{IsCrlDistributionPoints};
+ghost use Rattle.rpki_ext.specs.ReadContents.{full_name_at, crl_distribution_points_at};
+
+use crate::names::only_rsync;
+use rpki_der::{Cursor, DecodeError};
+use rpki_parts::Rsync;
+
+// The names of the only point.
+#[tactic(auto, unfolding(crate::specs::ReadContents::full_name_at))]
+fn take_full_name<'a>(cursor: &mut Cursor<'a>) -> Result<Cursor<'a>, DecodeError>
+    ensures reads { Took left full_name_at cursor.old result cursor.new }
+    ensures keeps { Keeps result cursor.old cursor.new }
+{
+    let mut ahead = cursor.fork();
+    let mut points = ahead.take_sequence()?;
+    let mut point = points.take_sequence()?;
+    let mut name = point.take_value(0xa0)?;
+    let names = name.take_value(0xa0)?;
+    name.finish()?;
+    point.finish()?;
+    points.finish()?;
+    *cursor = ahead;
+    Ok(names)
+}
+
+// The same as `take_crl_distribution_points`, by the reading function.
+#[tactic(auto, unfolding(crate::specs::ReadContents::crl_distribution_points_at))]
+fn read(cursor: &mut Cursor<'_>) -> Result<Rsync, DecodeError>
+    ensures reads { TookOrMemory (λ uri. uri) crl_distribution_points_at cursor.old result cursor.new }
+    ensures keeps { Keeps result cursor.old cursor.new }
+    ensures octets { AreOctets (left cursor.old) }
+{
+    let mut ahead = cursor.fork();
+    let names = take_full_name(&mut ahead)?;
+    let uri = only_rsync(&names)?;
+    *cursor = ahead;
+    Ok(uri)
+}
+
+/// The content of CRL Distribution Points: the only rsync URI among the names of one point (RFC 6487 4.8.6).
+pub fn take_crl_distribution_points(cursor: &mut Cursor<'_>) -> Result<Rsync, DecodeError>
+    ensures answers { AnswersOrMemory (λ uri. uri) IsCrlDistributionPoints cursor.old result cursor.new }
+    ensures reads { TookOrMemory (λ uri. uri) crl_distribution_points_at cursor.old result cursor.new }
+    ensures keeps { Keeps result cursor.old cursor.new }
+{
+    read(cursor)
+}

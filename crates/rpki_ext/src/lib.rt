@@ -1,0 +1,27 @@
+//! Single extensions of certificates and revocation lists.
+#![tactic(auto)]
+
+mod authority_access;
+mod basic_constraints;
+mod distribution_points;
+mod extended_key_usage;
+mod extension;
+mod key_identifiers;
+mod key_usage;
+pub mod laws;
+mod names;
+mod policies;
+mod subject_access;
+
+pub use authority_access::take_authority_information_access;
+pub use basic_constraints::take_basic_constraints;
+pub use distribution_points::take_crl_distribution_points;
+pub use extended_key_usage::{ExtendedKeyUsage, take_extended_key_usage};
+pub use extension::take_extension;
+pub use key_identifiers::{take_authority_key_identifier, take_subject_key_identifier};
+pub use key_usage::{KeyUsage, take_key_usage};
+pub use policies::take_certificate_policies;
+pub use subject_access::{Sia, take_subject_information_access};
+
+#[cfg(test)]
+mod tests;
