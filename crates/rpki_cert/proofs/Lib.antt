@@ -1,0 +1,5 @@
+pub mod Modes
+pub mod GivenFields
+pub mod ReadTbs
+pub mod ReadCerts
+pub mod UsedUp

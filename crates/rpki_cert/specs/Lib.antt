@@ -1,0 +1,7 @@
+pub mod Kinds
+pub mod Certificates
+pub mod ReadCertificates
+pub mod Named
+pub mod SeenStates
+pub mod ExtensionViews
+pub mod FieldViews

@@ -1,0 +1,12 @@
+//! Resource certificates (RFC 6487).
+#![tactic(auto)]
+
+pub mod laws;
+mod reading;
+mod tbs;
+#[cfg(test)]
+mod tests;
+
+pub use rpki_blocks::Overclaim;
+pub use rpki_ext::{ExtendedKeyUsage, KeyUsage, Sia};
+pub use tbs::TbsCert;
