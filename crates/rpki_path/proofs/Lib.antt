@@ -1,0 +1,9 @@
+pub mod Octets
+pub mod HexDigits
+pub mod Splits
+pub mod RevokedLines
+pub mod InputLines
+pub mod EntryReads
+pub mod EntryRows
+pub mod ListReads
+pub mod Answered

@@ -1,0 +1,28 @@
+use Rattle.std.proofs.Common.{ℕ, ◌<◌, ◌^◌, List, sym, subst, ◌∙◌}
+use Rattle.std.specs.Int.Digits.{number_from_digits}
+use Rattle.std.proofs.lemmas.Bool.{false≢true}
+use Rattle.rpki_path.proofs.RevokedLines.{no_words, same_words, one_value}
+use Rattle.rpki_path.proofs.lines.from_line.Goals as goal
+
+pub returns-in_default-clause-none : goal.returns-in_default-clause-none
+returns-in_default-clause-none c = no_words c.args.line.now c.in_default.ensures.none
+
+pub returns-in_default-2-clause-none : goal.returns-in_default-2-clause-none
+returns-in_default-2-clause-none c = λ list serial h.
+    let words = same_words c.args.line.now c.in-Some.list.now c.in-Some.serial.now list serial c.in-Some.ensures.words.1 c.in-Some.ensures.words.0 h in
+    let none = rw c.in_default-2.is at c.in_ok-octets.ensures.none in
+    none serial words.serial_is
+
+pub returns-in_default-from_slice-clause-none : goal.returns-in_default-from_slice-clause-none
+returns-in_default-from_slice-clause-none c = λ list serial h.
+    let words = same_words c.args.line.now c.in-Some.list.now c.in-Some.serial.now list serial c.in-Some.ensures.words.1 c.in-Some.ensures.words.0 h in
+    let spelled = rw c.in-Some-2.is at c.in_ok-octets.ensures.spelled in
+    let same = one_value serial c.in-Some-2.octets.items c.in-Some.serial.now words.serial_is spelled in
+    let small = subst (λ (octets : List ℕ). number_from_digits 256 octets < 2 ^ 160) (same ∙ sym c.deref.ensures.value) h.small in
+    false≢true (c.in_default-from_slice.ensures.some.1 small)
+
+pub returns-in_default-3-clause-none : goal.returns-in_default-3-clause-none
+returns-in_default-3-clause-none c = λ list serial h.
+    let words = same_words c.args.line.now c.in-Some.list.now c.in-Some.serial.now list serial c.in-Some.ensures.words.1 c.in-Some.ensures.words.0 h in
+    let none = rw c.in_default-3.is at c.in_ok-octets-2.ensures.none in
+    none list words.list_is

@@ -1,0 +1,10 @@
+pub mod Watching
+pub mod HexWords
+pub mod TextLines
+pub mod RevokedEntries
+pub mod Program
+pub mod Questions
+pub mod Reports
+pub mod ReadEntries
+pub mod EntryViews
+pub mod FaultNames

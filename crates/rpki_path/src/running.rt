@@ -1,0 +1,151 @@
+//! From the octets of a reader to those of a writer.
+ghost use Rattle.std.specs.Prelude.{◌≡◌, ◌≢◌, ◌↔◌, ◌⊎◌, ◌+◌, ◌^◌, ◌<◌, ◌≤◌, ℕ, List, length, IfOk, OnOk, IfSome, IsErr, IfErr, IsErrOf};
+ghost use Rattle.std.specs.Io.KnownBytes.{Appends, Consumes, IsAtEnd};
+ghost use Rattle.rpki_path.specs.Watching.{device, HasFailed, TakesAtMost};
+ghost use Rattle.rpki_path.specs.Program.{HasAnswered};
+
+use crate::lines::from_text;
+use crate::report::Report;
+use crate::watched::Watched;
+use std::alloc::{AllocError, Global};
+use std::io::{Read, Write};
+use thiserror::Error;
+
+/// The most octets that an input may have: 2^24.
+pub const MAX_INPUT: usize = 0x100_0000;
+
+/// How a run ended that has an answer.
+#[derive(Clone, Copy, Debug, PartialEq, Eq)]
+pub enum Status {
+    /// The question was answered.
+    Done,
+    /// Octets that were to be read don't have their form.
+    Refused,
+    /// The input doesn't have its form.
+    BadInput,
+}
+
+/// Why a run has no answer.
+#[derive(Debug, Drop, Error)]
+pub enum RunFault {
+    /// The reader has failed.
+    #[error("the input couldn't be read")]
+    Read,
+    /// The writer has failed.
+    #[error("the output couldn't be written")]
+    Write,
+    /// Memory ran out.
+    #[error("out of memory")]
+    Memory,
+    /// The reader gave more than 2^24 octets.
+    #[error("the input is too long")]
+    TooLong,
+}
+
+impl RunFault {
+    ghost use Rattle.std.specs.Prelude.{◌≡◌};
+    ghost use Rattle.rpki_path.specs.FaultNames.{run_fault_name};
+
+    /// The variant's name.
+    pub fn name(&self) -> &'static str
+        ensures { result.now ≡ run_fault_name self.now }
+    {
+        match self {
+            RunFault::Read => "Read",
+            RunFault::Write => "Write",
+            RunFault::Memory => "Memory",
+            RunFault::TooLong => "TooLong",
+        }
+    }
+}
+
+impl From<AllocError> for RunFault {
+    ghost use Rattle.std.specs.Prelude.{◌≡◌};
+    ghost use Rattle.rpki_path.specs.declared.running.RunFault.TheVariants.{Memory};
+
+    ghost from_gives = { λ _ e. e ≡ Memory };
+
+    fn from(_e: AllocError) -> RunFault {
+        RunFault::Memory
+    }
+}
+
+/// Reads the whole input, and then writes the line that answers it.
+///
+/// The input is one line `revoked LIST SERIAL`, and the line's end may be absent. LIST and SERIAL are octets in
+/// hexadecimal digits, or `-` for none. LIST is a list of revoked certificates (RFC 5280 5.1), SERIAL a number
+/// below 2^160. What is printed is `yes` or `no`, whether the list has the serial; `refused decode` and a name,
+/// where the octets are no list; or `bad input` and the number of the first line that doesn't fit.
+pub fn run<R: Read, W: Write>(
+    alloc: Global,
+    reader: &mut Watched<R>,
+    writer: &mut Watched<W>,
+) -> Result<Status, RunFault>
+    requires reader { HasFailed reader.old → ⊥ }
+    requires writer { HasFailed writer.old → ⊥ }
+
+    // What was read, to the end, and what was written in answer.
+    ensures answered { IfOk result
+        (HasAnswered (R.remaining (device reader.old)) (R.remaining (device reader.new))
+        (W.contents (device writer.old)) (W.contents (device writer.new))) }
+
+    // Which fault it is.
+    ensures read { IsErrOf result RunFault.Read ↔ HasFailed reader.new }
+    ensures written { IsErrOf result RunFault.Write ↔ HasFailed writer.new }
+    ensures too_long { IsErrOf result RunFault.TooLong
+        → IfSome (R.remaining (device reader.old)) (λ octets. 2 ^ 24 < length octets) }
+
+    // What is left alone.
+    ensures unwritten { IsErrOf result RunFault.Read ⊎ IsErrOf result RunFault.TooLong → writer.new ≡ writer.old }
+    ensures taken { TakesAtMost (2 ^ 24 + 1) (R.remaining (device reader.old)) (R.remaining (device reader.new)) }
+{
+    let text = read_whole(alloc, reader)?;
+    let input = from_text(alloc, &text)?;
+    let report = Report::of(&input)?;
+    let line = report.line(alloc)?;
+    write_whole(writer, line.as_bytes())?;
+    Ok(report.status())
+}
+
+// The whole input.
+fn read_whole<R: Read>(alloc: Global, reader: &mut Watched<R>) -> Result<Vec<u8>, RunFault>
+    requires { HasFailed reader.old → ⊥ }
+    ensures whole { IfOk result (λ input.
+        Consumes (R.remaining (device reader.old)) (R.remaining (device reader.new)) input.items) }
+    ensures end { OnOk result (IsAtEnd (R.remaining (device reader.new))) }
+    ensures short { IfOk result (λ input. length input.items ≤ MAX_INPUT) }
+    ensures too_long { IsErrOf result RunFault.TooLong → IfSome (R.remaining (device reader.old)) (λ octets.
+        MAX_INPUT < length octets) }
+    ensures failed { IsErrOf result RunFault.Read ↔ HasFailed reader.new }
+    ensures unwritten { result ≢ Err RunFault.Write }
+    ensures taken { TakesAtMost (MAX_INPUT + 1) (R.remaining (device reader.old)) (R.remaining (device reader.new)) }
+{
+    let mut input = Vec::new(alloc);
+    let mut chunk = [0u8; 0x4000];
+    while input.len() <= MAX_INPUT {
+        let room = chunk.len().min(MAX_INPUT + 1 - input.len());
+        match reader.read(&mut chunk[..room]) {
+            Ok(0) => return Ok(input),
+            Ok(n) => input.extend_from_slice(&chunk[..n])?,
+            Err(_) => return Err(RunFault::Read),
+        }
+    }
+    Err(RunFault::TooLong)
+}
+
+// Writes all of the octets.
+fn write_whole<W: Write>(writer: &mut Watched<W>, octets: &[u8]) -> Result<(), RunFault>
+    requires { HasFailed writer.old → ⊥ }
+    ensures written { OnOk result (Appends (W.contents (device writer.old)) (W.contents (device writer.new)) octets.now) }
+    ensures failed { IsErr result ↔ HasFailed writer.new }
+    ensures fault { IfErr result (λ e. e ≡ RunFault.Write) }
+{
+    let mut rest = octets;
+    while !rest.is_empty() {
+        match writer.write(rest) {
+            Ok(0) | Err(_) => return Err(RunFault::Write),
+            Ok(n) => (_, rest) = rest.split_at(n),
+        }
+    }
+    Ok(())
+}
