@@ -1,5 +1,5 @@
 -- An error that is passed on: what was written was too long.
-use Rattle.std.proofs.Common.{◌≡◌, ◌≢◌, ℕ, ◌+◌, ◌^◌, ◌≤◌, List, [], ◌∷◌, ◌++◌, length, Option, Some, None, Result, Ok, Err, map, arith, refl, ap}
+use Rattle.std.proofs.Common.{true, ◌≡◌, ◌≢◌, ℕ, ◌+◌, ◌^◌, ◌≤◌, List, [], ◌∷◌, ◌++◌, length, Option, Some, None, Result, Ok, Err, map, arith, refl, ap}
 use Rattle.std.specs.Prelude.{IsErrAnd, IsErrOf}
 use Rattle.std.specs.List.{concat}
 use Rattle.std.proofs.lemmas.List.{length-append}
@@ -25,7 +25,7 @@ passed_long {T} {U} (Err d) e part whole same says le = λ long.
     omega arith
 
 -- an extension is longer than its content
-pub content_longer : (id : List ℕ) (o : Option (List ℕ)) → length (text_of o) ≤ length (content_of_some id o)
+pub content_longer : (id : List ℕ) (o : Option (List ℕ)) → length (text_of o) ≤ length (content_of_some id true o)
 content_longer id None = omega arith
 content_longer id (Some c) = omega (arith, enc_longer 4 c, length-append (enc 4 c) [], length-append (1 ∷ 1 ∷ 255 ∷ []) (enc 4 c ++ []), length-append (enc 6 id) ((1 ∷ 1 ∷ 255 ∷ []) ++ (enc 4 c ++ [])))
 

@@ -90,15 +90,15 @@ abbrev pub text_of : Option (List ℕ) → List ℕ
 text_of None = []
 text_of (Some text) = text
 
--- a critical extension (RFC 3779 2.1, 3.1); none where there is no content
-abbrev pub extension_of_some : List ℕ → Option (List ℕ) → List ℕ
-extension_of_some identifier None = []
-extension_of_some identifier (Some content) = extension identifier true content
+-- an extension, where there is a content
+abbrev pub extension_of_some : List ℕ → Bool → Option (List ℕ) → List ℕ
+extension_of_some identifier critical None = []
+extension_of_some identifier critical (Some content) = extension identifier critical content
 
 -- what stands inside its SEQUENCE
-abbrev pub content_of_some : List ℕ → Option (List ℕ) → List ℕ
-content_of_some identifier None = []
-content_of_some identifier (Some content) = concat (extension_pieces identifier true content)
+abbrev pub content_of_some : List ℕ → Bool → Option (List ℕ) → List ℕ
+content_of_some identifier critical None = []
+content_of_some identifier critical (Some content) = concat (extension_pieces identifier critical content)
 
 -- ---- what is read back
 

@@ -152,10 +152,10 @@ fn ip_content(
 // Appends a critical extension, if it has a content.
 fn put_critical(out: &mut Vec<u8>, id: &[u8], content: Option<Vec<u8>>) -> Result<(), EncodeError>
     requires { IsOid id.now }
-    ensures ok { OnOk result (out.new.items ≡ out.old.items ++ extension_of_some id.now (option_map (λ v. v.items) content)) }
+    ensures ok { OnOk result (out.new.items ≡ out.old.items ++ extension_of_some id.now true (option_map (λ v. v.items) content)) }
     ensures err { OnErr result (out.new.items ≡ out.old.items) }
-    ensures fits { OnOk result (length (content_of_some id.now (option_map (λ v. v.items) content)) < 2 ^ 32) }
-    ensures too_long { IsErrOf result EncodeError.TooLong → 2 ^ 32 ≤ length (content_of_some id.now (option_map (λ v. v.items) content)) }
+    ensures fits { OnOk result (length (content_of_some id.now true (option_map (λ v. v.items) content)) < 2 ^ 32) }
+    ensures too_long { IsErrOf result EncodeError.TooLong → 2 ^ 32 ≤ length (content_of_some id.now true (option_map (λ v. v.items) content)) }
 {
     match content {
         Some(content) => put_extension(out, id, true, &content),
@@ -173,10 +173,10 @@ impl IpResources {
         v4: &IpResources,
         v6: &IpResources,
     ) -> Result<(), EncodeError>
-        ensures ok { OnOk result (out.new.items ≡ out.old.items ++ extension_of_some (ip_identifier mode) (ip_resources v4.now v6.now)) }
+        ensures ok { OnOk result (out.new.items ≡ out.old.items ++ extension_of_some (ip_identifier mode) true (ip_resources v4.now v6.now)) }
         ensures err { OnErr result (out.new.items ≡ out.old.items) }
-        ensures fits { OnOk result (length (content_of_some (ip_identifier mode) (ip_resources v4.now v6.now)) < 2 ^ 32) }
-        ensures too_long { IsErrOf result EncodeError.TooLong → 2 ^ 32 ≤ length (content_of_some (ip_identifier mode) (ip_resources v4.now v6.now)) }
+        ensures fits { OnOk result (length (content_of_some (ip_identifier mode) true (ip_resources v4.now v6.now)) < 2 ^ 32) }
+        ensures too_long { IsErrOf result EncodeError.TooLong → 2 ^ 32 ≤ length (content_of_some (ip_identifier mode) true (ip_resources v4.now v6.now)) }
     {
         let content = ip_content(alloc, v4, v6)?;
         put_critical(out, mode.ip_res_id(), content)
@@ -192,10 +192,10 @@ impl AsResources {
         out: &mut Vec<u8>,
         mode: Overclaim,
     ) -> Result<(), EncodeError>
-        ensures ok { OnOk result (out.new.items ≡ out.old.items ++ extension_of_some (as_identifier mode) (as_resources self.now)) }
+        ensures ok { OnOk result (out.new.items ≡ out.old.items ++ extension_of_some (as_identifier mode) true (as_resources self.now)) }
         ensures err { OnErr result (out.new.items ≡ out.old.items) }
-        ensures fits { OnOk result (length (content_of_some (as_identifier mode) (as_resources self.now)) < 2 ^ 32) }
-        ensures too_long { IsErrOf result EncodeError.TooLong → 2 ^ 32 ≤ length (content_of_some (as_identifier mode) (as_resources self.now)) }
+        ensures fits { OnOk result (length (content_of_some (as_identifier mode) true (as_resources self.now)) < 2 ^ 32) }
+        ensures too_long { IsErrOf result EncodeError.TooLong → 2 ^ 32 ≤ length (content_of_some (as_identifier mode) true (as_resources self.now)) }
     {
         let content = as_content(alloc, self)?;
         put_critical(out, mode.as_res_id(), content)

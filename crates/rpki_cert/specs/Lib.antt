@@ -1,5 +1,6 @@
 pub mod Kinds
 pub mod Certificates
+pub mod Spelling
 pub mod ReadCertificates
 pub mod Named
 pub mod SeenStates

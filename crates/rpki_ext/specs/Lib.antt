@@ -7,6 +7,7 @@ pub use Rattle.rpki_parts.specs.Uris
 pub mod Choosing
 pub mod Extensions
 pub mod Contents
+pub mod WrittenExtensions
 pub mod Folding
 pub mod ReadExtensions
 pub mod ReadContents
