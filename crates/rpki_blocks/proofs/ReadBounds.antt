@@ -3,8 +3,8 @@ use Rattle.std.specs.List.{AllByRecursion}
 use Rattle.std.proofs.Common.{ℕ, ◌-◌, ◌^◌, ◌≤◌, List, [], ◌∷◌, length, sym, ap, subst, ◌∙◌, arith, inl, inr}
 use Rattle.rpki_der.specs.Rows.{IsRow}
 use Rattle.rpki_blocks.specs.Sets.{Block, AreUpTo, IsSet}
-use Rattle.rpki_blocks.specs.Resources.{Resources, IsResources}
-use Rattle.rpki_blocks.specs.Unions.{listed, IsUnion, IsResourceChoice}
+use Rattle.rpki_blocks.specs.Resources.{Resources, listed, IsResources}
+use Rattle.rpki_blocks.specs.Unions.{IsUnion, IsResourceChoice}
 use Rattle.rpki_blocks.specs.Addresses.{upper, IsIPAddress, IsIPAddressOrRange, IsIPAddressFamily}
 use Rattle.rpki_blocks.specs.Systems.{IsASIdOrRange, IsASIdentifiers}
 use Rattle.rpki_blocks.proofs.Sets.{in_up_to, up_to_by_numbers}

@@ -14,8 +14,8 @@ use Rattle.rpki_der.proofs.Made.{both_reads, inside_reads, same_reads}
 use Rattle.rpki_der.proofs.ReadPrimitives.{null_reads, u32_reads}
 use Rattle.rpki_der.proofs.Alternatives.{turned_reads, turned_whole, whole_reads, row_reads, content_or_reads, enc_begins, other_tag, content_shrinks, turned_shrinks, content_or_shrinks}
 use Rattle.rpki_blocks.specs.Sets.{Block}
-use Rattle.rpki_blocks.specs.Resources.{Resources, inherit}
-use Rattle.rpki_blocks.specs.Unions.{listed, merged, IsUnion, IsResourceChoice}
+use Rattle.rpki_blocks.specs.Resources.{Resources, inherit, listed}
+use Rattle.rpki_blocks.specs.Unions.{merged, IsUnion, IsResourceChoice}
 use Rattle.rpki_blocks.specs.Systems.{IsASIdOrRange, IsASIdentifiers}
 use Rattle.rpki_blocks.specs.ResourceReading.{union_of, inherit_at, choice_at, ordered, as_range, single, as_id, as_element_at, as_identifiers_at}
 use Rattle.rpki_blocks.proofs.Unions.{is_union, union_is}

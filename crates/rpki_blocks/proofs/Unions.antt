@@ -1,10 +1,10 @@
 -- Blocks in any order have one chain.
-use Rattle.std.proofs.Common.{◌≡◌, ◌≢◌, ℕ, ◌+◌, ◌<◌, ◌≤◌, ltb, min, max, true, List, [], ◌∷◌, refl, sym, ap, ◌∙◌, arith, inl, inr}
+use Rattle.std.proofs.Common.{◌≡◌, ℕ, ◌+◌, ◌<◌, ◌≤◌, ltb, min, max, true, List, [], ◌∷◌, refl, sym, ap, ◌∙◌, arith, inl, inr}
 use Rattle.std.proofs.lemmas.Bool.{cases_Bool, cases_lt, ltb-true, ltb-false}
 use Rattle.std.specs.Cmp.{both_ways}
 use Rattle.rpki_blocks.specs.Sets.{Block, is_in, IsChain, HaveSameNumbers}
-use Rattle.rpki_blocks.specs.Resources.{Resources, missing, blocks}
-use Rattle.rpki_blocks.specs.Unions.{listed, IsUnion, added, merged}
+use Rattle.rpki_blocks.specs.Resources.{Resources, listed}
+use Rattle.rpki_blocks.specs.Unions.{IsUnion, added, merged}
 use Rattle.rpki_blocks.proofs.Sets.{in_head, in_tail, in_cases, chain_head, chain_tail, one_chain}
 
 -- the first block begins past this number
@@ -164,9 +164,5 @@ pub union_is : (bs : List Block) (r : Resources) → IsUnion bs r → r ≡ list
 union_is bs r u = u.is ∙ ap listed (chain_is_merged u.chain bs u.is_chain u.same)
 
 -- what a chain makes of blocks
-pub listed_is : (chain : List Block) (r : Resources) → (chain ≡ [] → r ≡ missing) → (chain ≢ [] → r ≡ blocks chain) → r ≡ listed chain
-listed_is [] r none some = none refl
-listed_is (b ∷ bs) r none some = some (λ e. absurd cc)
-
-pub listed_merged : (chain bs : List Block) (r : Resources) → IsChain chain → HaveSameNumbers chain bs → (chain ≡ [] → r ≡ missing) → (chain ≢ [] → r ≡ blocks chain) → listed (merged bs) ≡ r
-listed_merged chain bs r p e none some = ap listed (sym (chain_is_merged chain bs p e)) ∙ sym (listed_is chain r none some)
+pub listed_merged : (chain bs : List Block) (r : Resources) → IsChain chain → HaveSameNumbers chain bs → r ≡ listed chain → listed (merged bs) ≡ r
+listed_merged chain bs r p e is = ap listed (sym (chain_is_merged chain bs p e)) ∙ sym is

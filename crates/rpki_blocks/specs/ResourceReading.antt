@@ -5,8 +5,8 @@ use Rattle.rpki_der.specs.Rows.{row_of}
 use Rattle.rpki_der.specs.Primitives.{octets_at, bits_at, u32_at, null_at}
 use Rattle.rpki_der.specs.Alternatives.{turned, followed, whole, content_or, optional_of}
 use Rattle.rpki_blocks.specs.Sets.{Block}
-use Rattle.rpki_blocks.specs.Resources.{Resources, inherit}
-use Rattle.rpki_blocks.specs.Unions.{listed, merged}
+use Rattle.rpki_blocks.specs.Resources.{Resources, inherit, listed}
+use Rattle.rpki_blocks.specs.Unions.{merged}
 use Rattle.rpki_blocks.specs.Addresses.{lower, upper, Families}
 use Rattle.rpki_blocks.specs.declared.ip_resources.Family.{Family}
 use Rattle.rpki_blocks.specs.declared.ip_resources.Family.TheVariants.{V4, V6}

@@ -4,12 +4,7 @@ use Rattle.rpki_der.specs.Contents.{null}
 use Rattle.rpki_der.specs.Rows.{IsRow}
 use Rattle.rpki_der.specs.Values.{IsSequenceOf}
 use Rattle.rpki_blocks.specs.Sets.{Block, IsChain, HaveSameNumbers}
-use Rattle.rpki_blocks.specs.Resources.{Resources, missing, inherit, blocks}
-
--- a set; the empty one is missing (own)
-abbrev pub listed : List Block → Resources
-listed [] = missing
-listed (b ∷ bs) = blocks (b ∷ bs)
+use Rattle.rpki_blocks.specs.Resources.{Resources, inherit, listed}
 
 -- r is the set of the numbers of these blocks, which needn't be in order, apart or merged (own)
 pub record IsUnion (bs : List Block) (r : Resources) : Type 0 where

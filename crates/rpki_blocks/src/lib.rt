@@ -4,6 +4,7 @@
 mod as_resources;
 mod block;
 mod bound;
+mod builder;
 mod chain;
 mod elements;
 mod encode;
@@ -17,6 +18,7 @@ mod resources;
 
 pub use block::{AsBlock, Block, IpBlock};
 pub use bound::{Addr, Asn, Bound};
+pub use builder::{AsBlocksBuilder, BlocksBuilder, IpBlocksBuilder};
 pub use chain::{AsBlocks, Chain, IpBlocks};
 pub use overclaim::Overclaim;
 pub use prefix::Prefix;

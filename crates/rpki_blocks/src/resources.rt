@@ -92,7 +92,7 @@ impl<B: Bound> Model for Resources<B> {
 }
 
 impl<B: Bound> Resources<B> {
-    ghost use Rattle.rpki_blocks.specs.Resources.{missing, inherit, blocks as listed_blocks, IsResources, HasNoBlocks};
+    ghost use Rattle.rpki_blocks.specs.Resources.{missing, inherit, blocks as listed_blocks, listed, IsResources, HasNoBlocks};
 
     /// Nothing of the kind.
     pub fn missing() -> Resources<B>
@@ -114,8 +114,7 @@ impl<B: Bound> Resources<B> {
 
     /// A set; the empty one is missing.
     pub fn blocks(chain: Chain<B>) -> Resources<B>
-        ensures none { chain ≡ [] → result ≡ missing }
-        ensures some { chain ≢ [] → result ≡ listed_blocks chain }
+        ensures { result ≡ listed chain }
     {
         if chain.is_empty() {
             Resources::missing()

@@ -1,5 +1,6 @@
 use crate::{
-    Addr, AsBlock, AsBlocks, AsResources, Asn, IpBlock, IpBlocks, IssueError, Overclaim, Prefix,
+    Addr, AsBlock, AsBlocks, AsBlocksBuilder, AsResources, Asn, IpBlock, IpBlocks, IpBlocksBuilder,
+    IssueError, Overclaim, Prefix,
 };
 use std::alloc::{AllocError, Global};
 use std::process::Abort;
@@ -74,6 +75,21 @@ fn blocks_are_sorted_and_merged(rt: HostRuntime) -> Result<(), Fail> {
     assert!(rt; !ends.is_encompassed(&set));
     assert!(rt; AsBlocks::empty(rt.alloc()).is_empty());
     assert_as(&rt, &as_blocks(rt.alloc(), &[])?, &[]);
+    Ok(())
+}
+
+#[test]
+fn sets_are_built_block_by_block(rt: HostRuntime) -> Result<(), Fail> {
+    let mut numbers = AsBlocksBuilder::new(rt.alloc());
+    numbers.push((Asn::from(20), Asn::MAX))?;
+    numbers.push((Asn::from(9), Asn::from(8)))?;
+    numbers.push(AsBlock::from((Asn::from(7), Asn::from(7))))?;
+    assert_as(&rt, &numbers.finalize()?, &[(7, 9), (20, u32::MAX)]);
+    let mut addresses = IpBlocksBuilder::new(rt.alloc());
+    addresses.push(Prefix::new(1 << 127, 1))?;
+    addresses.push(Prefix::new(0, 1))?;
+    assert_ip(&rt, &addresses.finalize()?, &[(0, u128::MAX)]);
+    assert!(rt; IpBlocksBuilder::new(rt.alloc()).finalize()?.is_empty());
     Ok(())
 }
 
