@@ -85,8 +85,9 @@ pub trait Verifier {
 
 /// Makes signatures by keys that it knows.
 pub trait Signer {
-    ghost use Rattle.std.specs.Prelude.{ℕ, Bool, List};
+    ghost use Rattle.std.specs.Prelude.{ℕ, Bool, List, Result};
     ghost use Rattle.rpki_parts.specs.Signatures.{SignatureFields};
+    ghost use Rattle.rpki_parts.specs.declared.signature.SigningError.{SigningError as Refusal};
 
     /// What names a key of this signer.
     type KeyId;
@@ -94,8 +95,8 @@ pub trait Signer {
     /// What can keep it from signing.
     type Error;
 
-    /// The relation of key, algorithm, message and signature that each answer meets.
-    ghost signs: { Self → Self.KeyId → Bool → List ℕ → SignatureFields → Type 0 };
+    /// The relation of key, algorithm, message and answer that each answer meets, a refusal too.
+    ghost signs: { Self → Self.KeyId → Bool → List ℕ → Result SignatureFields (Refusal Self.Error) → Type 0 };
 
     fn sign(
         &self,
@@ -104,7 +105,7 @@ pub trait Signer {
         algorithm: RpkiSignatureAlgorithm,
         message: &[u8],
     ) -> Result<Signature, SigningError<Self::Error>>
-        ensures { IfOk result (λ s. signs self.now key.now algorithm message.now s) };
+        ensures { signs self.now key.now algorithm message.now result };
 }
 
 /// Why something could not be signed.

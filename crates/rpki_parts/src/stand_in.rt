@@ -40,14 +40,15 @@ impl Verifier for StandIn {
 }
 
 impl Signer for StandIn {
-    ghost use Rattle.std.specs.Prelude.{◌≡◌};
+    ghost use Rattle.std.specs.Prelude.{◌≡◌, MatchResult};
     ghost use Rattle.rpki_parts.specs.Signatures.{IsStandInSignature};
+    ghost use Rattle.rpki_parts.specs.declared.signature.SigningError.TheVariants.{Memory};
 
     type KeyId = PublicKey;
 
     type Error = ();
 
-    ghost signs = { λ _ key algorithm message s. (s.algorithm ≡ algorithm) × IsStandInSignature key algorithm message s.value };
+    ghost signs = { λ _ key algorithm message r. MatchResult r (λ s. (s.algorithm ≡ algorithm) × IsStandInSignature key algorithm message s.value) (λ e. e ≡ Memory) };
 
     fn sign(
         &self,
