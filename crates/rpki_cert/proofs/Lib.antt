@@ -3,3 +3,5 @@ pub mod GivenFields
 pub mod ReadTbs
 pub mod ReadCerts
 pub mod UsedUp
+pub mod Kept
+pub mod Fronts

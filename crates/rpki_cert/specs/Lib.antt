@@ -6,3 +6,4 @@ pub mod Named
 pub mod SeenStates
 pub mod ExtensionViews
 pub mod FieldViews
+pub mod OptionalAnswers

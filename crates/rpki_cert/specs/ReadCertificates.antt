@@ -1,6 +1,6 @@
 -- Reading functions of certificates.
 use Rattle.std.specs.Prelude.{◌≡◌, ℕ, Bool, true, false, ◌||◌, not, is_some, bytes_eq, if◌then◌else◌, List, [], ◌∷◌, Option, Some, None}
-use Rattle.rpki_der.specs.Reading.{◌>>=◌, value_at, ended, inside, both, content}
+use Rattle.rpki_der.specs.Reading.{◌>>=◌, value_at, inside, both, content}
 use Rattle.rpki_der.specs.Alternatives.{turned}
 use Rattle.rpki_der.specs.ReadSerials.{serial_at}
 use Rattle.rpki_blocks.specs.declared.overclaim.Overclaim.{Overclaim}
@@ -14,7 +14,7 @@ use Rattle.rpki_parts.specs.Validities.{ValidityFields, validity_at}
 use Rattle.rpki_parts.specs.Keys.{KeyFields, key_identifier_at, public_key_at}
 use Rattle.rpki_parts.specs.Algorithms.{algorithm_at}
 use Rattle.rpki_parts.specs.Names.{name_at}
-use Rattle.rpki_parts.specs.SignedDatas.{SignedFields, signed_content_at}
+use Rattle.rpki_parts.specs.SignedDatas.{signed_content_at}
 use Rattle.rpki_ext.specs.Extensions.{Extension, Kind, is_of, Means, or_else, basic_constraints, subject_key_identifier, authority_key_identifier, key_usage, extended_key_usage, crl_distribution_points, authority_information_access, subject_information_access, certificate_policies}
 use Rattle.rpki_ext.specs.Contents.{Access, IsBasicConstraints, IsSubjectKeyIdentifier, IsAuthorityKeyIdentifier, IsKeyUsage, IsExtendedKeyUsage, IsCrlDistributionPoints, IsAuthorityInformationAccess, IsSubjectInformationAccess, IsCertificatePolicies}
 use Rattle.rpki_ext.specs.ReadContents.{basic_constraints_at, authority_key_identifier_at, key_usage_at, extended_key_usage_at, crl_distribution_points_at, authority_information_access_at, subject_information_access_at, certificate_policies_at}
@@ -182,15 +182,12 @@ tbs_at = turned with_extensions fields_at
 
 -- ---- certificates
 
--- a TBSCertificate, and nothing else
-abbrev pub whole_tbs : List ℕ → Option TbsFields
-whole_tbs octets = tbs_at octets >>= λ t. ended t.1 t.0
-
-abbrev pub with_fields : SignedFields → Option CertFields
-with_fields signed = whole_tbs signed.message >>= λ fields. Some (record { fields = fields; signed_data = signed })
-
+-- the signed value is kept, and read as a TBSCertificate where it stands
 unfoldable pub cert_content_at : List ℕ → Option (CertFields × List ℕ)
-cert_content_at octets = signed_content_at octets >>= λ s. with_fields s.0 >>= λ c. Some (c, s.1)
+cert_content_at octets = do
+  s ← signed_content_at octets
+  t ← tbs_at octets
+  Some (record { fields = t.0; signed_data = s.0 }, s.1)
 
 unfoldable pub cert_at : List ℕ → Option (CertFields × List ℕ)
 cert_at = inside 0x30 cert_content_at

@@ -1,12 +1,15 @@
 //! Resource certificates (RFC 6487).
 #![tactic(auto)]
 
+mod cert;
+mod copies;
 pub mod laws;
 mod reading;
 mod tbs;
 #[cfg(test)]
 mod tests;
 
+pub use cert::Cert;
 pub use rpki_blocks::Overclaim;
 pub use rpki_ext::{ExtendedKeyUsage, KeyUsage, Sia};
 pub use tbs::TbsCert;

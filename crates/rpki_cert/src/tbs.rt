@@ -1,4 +1,4 @@
-ghost use Rattle.std.specs.Prelude.{◌≡◌, option_map};
+ghost use Rattle.std.specs.Prelude.{◌≡◌, IfOk, option_map};
 ghost use Rattle.rpki_der.specs.Place.{Place, left, Keeps, Took, TookOrMemory, AnswersOrMemory};
 ghost use Rattle.rpki_der.specs.Reading.{value_at, inside, both};
 ghost use Rattle.rpki_der.specs.Values.{AreOctets};
@@ -12,7 +12,7 @@ use rpki_blocks::{AsResources, IpResources, Overclaim};
 use rpki_der::{Cursor, DecodeError, Serial};
 use rpki_ext::{ExtendedKeyUsage, KeyUsage};
 use rpki_parts::{Https, KeyIdentifier, Name, PublicKey, RpkiSignatureAlgorithm, Rsync, Validity};
-use std::alloc::Global;
+use std::alloc::{AllocError, Global};
 use std::marker::Model;
 
 /// The data of a resource certificate: all but its signature (RFC 5280 4.1.2, RFC 6487 4).
@@ -303,5 +303,24 @@ impl TbsCert {
         ensures { result.now ≡ self.now.as_resources }
     {
         &self.extensions.as_resources
+    }
+
+    /// The same data once more.
+    pub fn try_clone(&self, alloc: Global) -> Result<TbsCert, AllocError>
+        ensures { IfOk result (λ t. t ≡ self.now) }
+    {
+        let issuer = self.issuer.try_clone()?;
+        let subject = self.subject.try_clone()?;
+        let subject_public_key_info = self.subject_public_key_info.try_clone()?;
+        let extensions = self.extensions.try_clone(alloc)?;
+        Ok(TbsCert {
+            serial_number: self.serial_number,
+            signature: self.signature,
+            issuer,
+            validity: self.validity,
+            subject,
+            subject_public_key_info,
+            extensions,
+        })
     }
 }

@@ -1,0 +1,5 @@
+use Rattle.rpki_cert.proofs.Kept.{certificate_is}
+use Rattle.rpki_cert.proofs.laws.octets_are_kept.Goals as goal
+
+pub returns : goal.returns
+returns c = certificate_is
