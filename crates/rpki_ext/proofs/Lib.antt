@@ -8,3 +8,4 @@ pub mod ReadNames
 pub mod ReadAccess
 pub mod ReadPolicies
 pub mod OneMeaning
+pub mod WrittenLengths

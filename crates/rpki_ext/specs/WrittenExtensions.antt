@@ -1,7 +1,6 @@
 -- The one spelling that is written of each kind of extension (RFC 5280 4.1.2.9, 4.2; RFC 6487 4.8.1 to 4.8.9; X.690 10.1, 11.5): what
 -- stands in its OCTET STRING.
 use Rattle.std.specs.Prelude.{ℕ, Bool, List, [], ◌∷◌, ◌++◌, Option, Some, None}
-use Rattle.std.specs.List.{concat}
 use Rattle.rpki_der.specs.Values.{enc}
 use Rattle.rpki_der.specs.Writing.{bool_or_false, nested, sequence, sequence_of_some}
 use Rattle.rpki_blocks.specs.declared.overclaim.Overclaim.{Overclaim}

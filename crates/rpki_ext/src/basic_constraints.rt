@@ -1,9 +1,15 @@
+ghost use Rattle.std.specs.Prelude.{◌≡◌, ◌^◌, ◌<◌, ◌≤◌, ◌++◌, true, length, OnOk, OnErr, IsErrOf};
+ghost use Rattle.std.specs.List.{concat};
+ghost use Rattle.rpki_der.specs.Identifiers.{id_ce};
 ghost use Rattle.rpki_der.specs.Place.{Place, left, Keeps, Took, Answers};
 ghost use Rattle.rpki_der.specs.Values.{AreOctets};
+ghost use Rattle.rpki_der.specs.WrittenPrimitives.{extension, extension_pieces};
 ghost use Rattle.rpki_ext.specs.Contents.{IsBasicConstraints};
 ghost use Rattle.rpki_ext.specs.ReadContents.{basic_constraints_at};
+ghost use Rattle.rpki_ext.specs.WrittenExtensions.{basic_constraints_content};
 
-use rpki_der::{Cursor, DecodeError};
+use crate::encode::put_nested_extension;
+use rpki_der::{Cursor, DecodeError, EncodeError, oid};
 
 // The same, by the reading function.
 #[tactic(auto, unfolding(crate::specs::ReadContents::basic_constraints_at))]
@@ -30,4 +36,15 @@ pub fn take_basic_constraints(cursor: &mut Cursor<'_>) -> Result<bool, DecodeErr
     ensures keeps { Keeps result cursor.old cursor.new }
 {
     read(cursor)
+}
+
+/// Appends the critical extension that says whether the subject is a CA: the BOOLEAN only where it is true.
+pub fn encode_basic_constraints(out: &mut Vec<u8>, ca: bool) -> Result<(), EncodeError>
+    ensures ok { OnOk result (out.new.items ≡ out.old.items ++ extension (id_ce 0x13) true (basic_constraints_content ca)) }
+    ensures err { OnErr result (out.new.items ≡ out.old.items) }
+    ensures fits { OnOk result (length (concat (extension_pieces (id_ce 0x13) true (basic_constraints_content ca))) < 2 ^ 32) }
+    ensures too_long { IsErrOf result EncodeError.TooLong → 2 ^ 32 ≤ length (concat (extension_pieces (id_ce 0x13) true (basic_constraints_content ca))) }
+{
+    let flag: &[u8] = if ca { &[0x01, 0x01, 0xff] } else { &[] };
+    put_nested_extension(out, oid::CE_BASIC_CONSTRAINTS, true, &[0x30], flag)
 }

@@ -4,6 +4,7 @@
 mod authority_access;
 mod basic_constraints;
 mod distribution_points;
+mod encode;
 mod extended_key_usage;
 mod extension;
 mod key_identifiers;
@@ -14,13 +15,18 @@ mod policies;
 mod subject_access;
 
 pub use authority_access::take_authority_information_access;
-pub use basic_constraints::take_basic_constraints;
-pub use distribution_points::take_crl_distribution_points;
-pub use extended_key_usage::{ExtendedKeyUsage, take_extended_key_usage};
+pub use basic_constraints::{encode_basic_constraints, take_basic_constraints};
+pub use distribution_points::{encode_crl_distribution_points, take_crl_distribution_points};
+pub use extended_key_usage::{
+    ExtendedKeyUsage, encode_extended_key_usage, take_extended_key_usage,
+};
 pub use extension::take_extension;
-pub use key_identifiers::{take_authority_key_identifier, take_subject_key_identifier};
-pub use key_usage::{KeyUsage, take_key_usage};
-pub use policies::take_certificate_policies;
+pub use key_identifiers::{
+    encode_authority_key_identifier, encode_subject_key_identifier, take_authority_key_identifier,
+    take_subject_key_identifier,
+};
+pub use key_usage::{KeyUsage, encode_key_usage, take_key_usage};
+pub use policies::{encode_certificate_policies, take_certificate_policies};
 pub use subject_access::{Sia, take_subject_information_access};
 
 #[cfg(test)]

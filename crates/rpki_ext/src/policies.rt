@@ -1,10 +1,16 @@
+ghost use Rattle.std.specs.Prelude.{◌≡◌, ◌^◌, ◌<◌, ◌≤◌, ◌++◌, true, length, OnOk, OnErr, IsErrOf};
+ghost use Rattle.std.specs.List.{concat};
+ghost use Rattle.rpki_der.specs.Identifiers.{id_ce};
 ghost use Rattle.rpki_der.specs.Place.{Place, left, Keeps, Took, Gives, Answers};
 ghost use Rattle.rpki_der.specs.Values.{AreOctets};
+ghost use Rattle.rpki_der.specs.WrittenPrimitives.{extension, extension_pieces};
 ghost use Rattle.rpki_ext.specs.Contents.{IsCertificatePolicies};
 ghost use Rattle.rpki_ext.specs.ReadContents.{policy_of, certificate_policies_at};
+ghost use Rattle.rpki_ext.specs.WrittenExtensions.{certificate_policies_content};
 
+use crate::encode::put_nested_extension;
 use rpki_blocks::Overclaim;
-use rpki_der::{Cursor, DecodeError};
+use rpki_der::{Cursor, DecodeError, EncodeError, oid};
 
 // What a whole policy says. Its qualifiers are skipped.
 fn policy_in(mut policy: Cursor<'_>) -> Result<Overclaim, DecodeError>
@@ -41,4 +47,23 @@ pub fn take_certificate_policies(cursor: &mut Cursor<'_>) -> Result<Overclaim, D
     ensures keeps { Keeps result cursor.old cursor.new }
 {
     read(cursor)
+}
+
+/// Appends the critical extension with the one policy that says this of resources that the issuer doesn't have, without qualifiers.
+pub fn encode_certificate_policies(
+    out: &mut Vec<u8>,
+    overclaim: Overclaim,
+) -> Result<(), EncodeError>
+    ensures ok { OnOk result (out.new.items ≡ out.old.items ++ extension (id_ce 0x20) true (certificate_policies_content overclaim)) }
+    ensures err { OnErr result (out.new.items ≡ out.old.items) }
+    ensures fits { OnOk result (length (concat (extension_pieces (id_ce 0x20) true (certificate_policies_content overclaim))) < 2 ^ 32) }
+    ensures too_long { IsErrOf result EncodeError.TooLong → 2 ^ 32 ≤ length (concat (extension_pieces (id_ce 0x20) true (certificate_policies_content overclaim))) }
+{
+    put_nested_extension(
+        out,
+        oid::CE_CERTIFICATE_POLICIES,
+        true,
+        &[0x30, 0x30, 0x06],
+        overclaim.policy_id(),
+    )
 }

@@ -1,0 +1,47 @@
+//! What the writers of extensions share.
+ghost use Rattle.std.specs.Prelude.{◌≡◌, ◌^◌, ◌<◌, ◌≤◌, ◌%◌, ◌++◌, nat_lt, true, length, OnOk, OnErr, IsErrOf};
+ghost use Rattle.std.specs.List.{concat, list_all};
+ghost use Rattle.rpki_der.specs.Reading.{is_oid};
+ghost use Rattle.rpki_der.specs.Writing.{nested};
+ghost use Rattle.rpki_der.specs.WrittenPrimitives.{extension, extension_pieces};
+
+use rpki_der::{EncodeError, put_extension, put_value};
+
+// Appends the octets as the content of a value with the last identifier octet, and that value as the content of one with the octet
+// before it, and so on.
+fn put_nested(out: &mut Vec<u8>, tags: &[u8], octets: &[u8]) -> Result<(), EncodeError>
+    requires { list_all (λ tag. nat_lt (tag % 32) 31) tags.now ≡ true }
+    ensures ok { OnOk result (out.new.items ≡ out.old.items ++ nested tags.now octets.now) }
+    ensures too_long { IsErrOf result EncodeError.TooLong → 2 ^ 32 ≤ length (nested tags.now octets.now) }
+{
+    match tags {
+        [] => Ok(out.extend_from_slice(octets)?),
+        [tag] => put_value(out, *tag, octets),
+        [tag, inner @ ..] => {
+            let mut content = Vec::new(*out.allocator());
+            put_nested(&mut content, inner, octets)?;
+            put_value(out, *tag, &content)
+        }
+    }
+}
+
+/// Appends the extension whose content is a value with the first of these identifier octets, which has one with the next, and so
+/// on; the last one has these octets.
+pub(crate) fn put_nested_extension(
+    out: &mut Vec<u8>,
+    id: &[u8],
+    critical: bool,
+    tags: &[u8],
+    octets: &[u8],
+) -> Result<(), EncodeError>
+    requires oid { is_oid id.now ≡ true }
+    requires low { list_all (λ tag. nat_lt (tag % 32) 31) tags.now ≡ true }
+    ensures ok { OnOk result (out.new.items ≡ out.old.items ++ extension id.now critical (nested tags.now octets.now)) }
+    ensures err { OnErr result (out.new.items ≡ out.old.items) }
+    ensures fits { OnOk result (length (concat (extension_pieces id.now critical (nested tags.now octets.now))) < 2 ^ 32) }
+    ensures too_long { IsErrOf result EncodeError.TooLong → 2 ^ 32 ≤ length (concat (extension_pieces id.now critical (nested tags.now octets.now))) }
+{
+    let mut content = Vec::new(*out.allocator());
+    put_nested(&mut content, tags, octets)?;
+    put_extension(out, id, critical, &content)
+}
