@@ -9,3 +9,5 @@ pub mod ReadAccess
 pub mod ReadPolicies
 pub mod OneMeaning
 pub mod WrittenLengths
+pub mod WrittenKinds
+pub mod WrittenAccess

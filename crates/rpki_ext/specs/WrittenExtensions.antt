@@ -1,10 +1,11 @@
 -- The one spelling that is written of each kind of extension (RFC 5280 4.1.2.9, 4.2; RFC 6487 4.8.1 to 4.8.9; X.690 10.1, 11.5): what
 -- stands in its OCTET STRING.
-use Rattle.std.specs.Prelude.{ℕ, Bool, List, [], ◌∷◌, ◌++◌, Option, Some, None}
+use Rattle.std.specs.Prelude.{ℕ, Bool, List, [], ◌∷◌, ◌++◌, Option, Some, None, IfSome}
 use Rattle.rpki_der.specs.Values.{enc}
 use Rattle.rpki_der.specs.Writing.{bool_or_false, nested, sequence, sequence_of_some}
 use Rattle.rpki_blocks.specs.declared.overclaim.Overclaim.{Overclaim}
 use Rattle.rpki_blocks.specs.Overclaims.{policy_identifier}
+use Rattle.rpki_parts.specs.Uris.{IsRsync, IsHttps}
 use Rattle.rpki_ext.specs.Contents.{Access, ca_issuers, method_identifier}
 use Rattle.rpki_ext.specs.declared.key_usage.KeyUsage.{KeyUsage}
 use Rattle.rpki_ext.specs.declared.key_usage.KeyUsage.TheVariants.{Ca, Ee}
@@ -55,6 +56,13 @@ descriptions a = description_of CaRepository a.ca_repository ++ (description_of 
 -- Subject Information Access: none where there is no URI
 abbrev pub subject_information_access_content : Access → Option (List ℕ)
 subject_information_access_content a = sequence_of_some (descriptions a)
+
+-- each URI that is there is one, of rpkiNotify an https URI (RFC 8182 3.2)
+pub record HasUris (a : Access) : Type 0 where
+  pub ca_repository_is : IfSome a.ca_repository IsRsync
+  pub rpki_manifest_is : IfSome a.rpki_manifest IsRsync
+  pub signed_object_is : IfSome a.signed_object IsRsync
+  pub rpki_notify_is : IfSome a.rpki_notify IsHttps
 
 -- Certificate Policies: the identifier alone
 abbrev pub certificate_policies_content : Overclaim → List ℕ
