@@ -7,8 +7,8 @@ ghost use Rattle.rpki_blocks.specs.ResourceReading.{as_range, single, as_id, as_
 ghost use Rattle.rpki_der.specs.Primitives.{number_below, u32_at};
 ghost use Rattle.rpki_der.proofs.Alternatives.{content_or_shrinks, turned_shrinks, content_shrinks};
 
+use crate::asn::Asn;
 use crate::block::AsBlock;
-use crate::bound::Asn;
 use crate::elements::{Elements, take_choice};
 use crate::resources::AsResources;
 use rpki_der::{Cursor, DecodeError};

@@ -2,7 +2,9 @@ ghost use Rattle.std.specs.Prelude.{◌≡◌, ℕ, ◌+◌, ◌<◌, ◌≤◌,
 ghost use Rattle.std.specs.Ordering.{nat_cmp};
 ghost use Rattle.std.specs.Bool.{MatchBool};
 
-use crate::bound::{Addr, Asn, Bound, greater, is_below, lesser, order};
+use crate::addr::Addr;
+use crate::asn::Asn;
+use crate::bound::{Bound, greater, is_below, lesser, order};
 use std::alloc::AllocError;
 use std::cmp::Ordering;
 use std::marker::Model;

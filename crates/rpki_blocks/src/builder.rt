@@ -2,8 +2,10 @@
 ghost use Rattle.std.specs.Prelude.{◌≡◌, ◌++◌, [], ◌∷◌, IfOk, IsOk, OnOk, OnErr};
 ghost use Rattle.rpki_blocks.specs.Sets.{Block as Span, IsSet, HaveSameNumbers};
 
+use crate::addr::Addr;
+use crate::asn::Asn;
 use crate::block::Block;
-use crate::bound::{Addr, Asn, Bound};
+use crate::bound::Bound;
 use crate::chain::Chain;
 use std::alloc::{AllocError, Global};
 use std::marker::Model;

@@ -3,8 +3,10 @@ ghost use Rattle.rpki_blocks.specs.Sets.{is_in, IsSet, IsIntersection, AreIn, Es
 ghost use Rattle.std.specs.Slice.Iter.{iter_rest};
 ghost use Rattle.std.specs.Iterator.{IsFinite, Drains};
 
+use crate::addr::Addr;
+use crate::asn::Asn;
 use crate::block::Block;
-use crate::bound::{Addr, Asn, Bound, is_below};
+use crate::bound::{Bound, is_below};
 use std::alloc::{AllocError, Global};
 use std::marker::Model;
 use std::slice::Iter;

@@ -7,7 +7,8 @@ ghost use Rattle.rpki_der.specs.Contents.{IsOid};
 ghost use Rattle.rpki_der.specs.Writing.{number, sequence};
 ghost use Rattle.rpki_blocks.specs.WrittenResources.{as_block, choice, text_of, family, as_resources, ip_resources, extension_of_some, content_of_some};
 
-use crate::bound::{Asn, Bound};
+use crate::asn::Asn;
+use crate::bound::Bound;
 use crate::chain::Chain;
 use crate::overclaim::Overclaim;
 use crate::resources::{AsResources, IpResources, Resources};

@@ -3,7 +3,7 @@ ghost use Rattle.std.specs.Prelude.{◌≡◌, ℕ, ◌+◌, ◌-◌, ◌*◌, �
 ghost use Rattle.rpki_der.specs.Writing.{sequence};
 ghost use Rattle.rpki_blocks.specs.WrittenResources.{ip_block, IsPrefixAnswer, zero_bits, one_bits, without};
 
-use crate::bound::Addr;
+use crate::addr::Addr;
 use crate::encode::Encode;
 use rpki_der::{EncodeError, put_bits, put_value};
 use std::alloc::Global;

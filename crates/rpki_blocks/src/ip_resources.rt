@@ -9,8 +9,8 @@ ghost use Rattle.rpki_der.specs.Primitives.{bits_at};
 ghost use Rattle.rpki_der.specs.Alternatives.{optional_of};
 ghost use Rattle.rpki_der.proofs.Alternatives.{content_or_shrinks, turned_shrinks, content_shrinks};
 
+use crate::addr::Addr;
 use crate::block::IpBlock;
-use crate::bound::Addr;
 use crate::elements::{Elements, take_choice};
 use crate::prefix::Prefix;
 use crate::resources::IpResources;

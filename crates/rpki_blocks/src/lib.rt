@@ -1,7 +1,9 @@
 //! Sets of IP addresses and of AS numbers, and what certificates list of them (RFC 3779).
 #![tactic(auto)]
 
+mod addr;
 mod as_resources;
+mod asn;
 mod block;
 mod bound;
 mod builder;
@@ -12,12 +14,13 @@ mod encode_ip;
 mod ip_resources;
 pub mod laws;
 mod overclaim;
-mod overclaim_from;
 mod prefix;
 mod resources;
 
+pub use addr::Addr;
+pub use asn::Asn;
 pub use block::{AsBlock, Block, IpBlock};
-pub use bound::{Addr, Asn, Bound};
+pub use bound::Bound;
 pub use builder::{AsBlocksBuilder, BlocksBuilder, IpBlocksBuilder};
 pub use chain::{AsBlocks, Chain, IpBlocks};
 pub use overclaim::Overclaim;

@@ -2,8 +2,8 @@ ghost use Rattle.std.specs.Prelude.{◌≡◌, ℕ, ◌+◌, ◌-◌, ◌*◌, �
 ghost use Rattle.std.specs.List.{list_all};
 ghost use Rattle.rpki_blocks.specs.Prefixes.{is_v4_block};
 
+use crate::addr::Addr;
 use crate::block::{Block, IpBlock};
-use crate::bound::Addr;
 use crate::chain::IpBlocks;
 
 /// The addresses that begin with the first `len` bits of an address.

@@ -1,7 +1,9 @@
 ghost use Rattle.std.specs.Prelude.{◌≡◌, ◌≢◌, ℕ, ◌↔◌, IsTrue, IfOk, OnOk, MatchResult, MatchOption, List, []};
 ghost use Rattle.rpki_blocks.specs.Sets.{IsSet, Has};
 
-use crate::bound::{Addr, Asn, Bound};
+use crate::addr::Addr;
+use crate::asn::Asn;
+use crate::bound::Bound;
 use crate::chain::Chain;
 use crate::overclaim::Overclaim;
 use std::alloc::{AllocError, Global};
