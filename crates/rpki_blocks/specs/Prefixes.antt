@@ -2,6 +2,11 @@
 use Rattle.std.specs.Prelude.{◌≡◌, ℕ, ◌+◌, ◌-◌, ◌*◌, ◌/◌, ◌%◌, ◌^◌, ◌==◌, ◌&&◌, Bool}
 use Rattle.rpki_blocks.specs.Sets.{Block}
 
+-- the first len bits of addr; the Rust struct Prefix
+pub record FirstBits : Type 0 where
+  pub addr : ℕ
+  pub len : ℕ
+
 -- the addresses of 128 bits whose first len bits are those of addr
 pub record IsPrefixBlock (addr len : ℕ) (b : Block) : Type 0 where
   pub lower : b.min ≡ addr / 2 ^ (128 - len) * 2 ^ (128 - len)

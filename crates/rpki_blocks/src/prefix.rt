@@ -5,13 +5,26 @@ ghost use Rattle.rpki_blocks.specs.Prefixes.{is_v4_block};
 use crate::addr::Addr;
 use crate::block::{Block, IpBlock};
 use crate::chain::IpBlocks;
+use std::marker::Model;
 
 /// The addresses that begin with the first `len` bits of an address.
 #[derive(Clone, Copy)]
 pub struct Prefix {
     addr: u128,
     len: u8,
-    ghost fits: { len ≤ 128 },
+}
+
+impl Model for Prefix {
+    ghost use Rattle.std.specs.Prelude.{◌<◌, ◌≤◌, ◌^◌};
+    ghost use Rattle.rpki_blocks.specs.Prefixes.{FirstBits};
+
+    ghost Value = { FirstBits };
+
+    ghost view = { λ p. record { addr = p.addr; len = p.len } };
+
+    ghost invariant = { λ p. (p.addr < 2 ^ 128) × (p.len ≤ 128) };
+
+    ghost inverse = { λ v. record { addr = v.addr; len = v.len } };
 }
 
 impl Prefix {
