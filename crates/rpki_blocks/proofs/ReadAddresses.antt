@@ -7,14 +7,14 @@ use Rattle.rpki_der.specs.Values.{length_octets, enc, IsEnc}
 use Rattle.rpki_der.specs.Primitives.{IsBits, bits_at, octets_at}
 use Rattle.rpki_der.specs.Reading.{◌>>=◌, both, content, optional}
 use Rattle.rpki_der.specs.Rows.{Shrinks}
-use Rattle.rpki_der.specs.Spelling.{Reads, ReadsWhole, Both, Inside, Optional}
+use Rattle.rpki_der.specs.Spelling.{Reads, ReadsWhole, Both, Inside, Optional, BeginsOther}
 use Rattle.rpki_der.specs.Choices.{Either}
 use Rattle.rpki_der.specs.Alternatives.{turned, Turned, followed, Followed, whole, content_or, optional_of}
 use Rattle.rpki_der.proofs.Octets.{some_is, unless_some, nothing}
-use Rattle.rpki_der.proofs.Before.{ReadsBefore, optional_before}
+use Rattle.rpki_der.proofs.Before.{ReadsBefore, Anything, before, optional_before, whole_before, both_before}
 use Rattle.rpki_der.proofs.Made.{both_reads, content_reads, same_reads}
 use Rattle.rpki_der.proofs.ReadPrimitives.{bits_reads, octets_reads}
-use Rattle.rpki_der.proofs.Alternatives.{turned_reads, followed_reads, turned_whole, whole_reads, whole_before, both_before, same_whole, content_or_reads, enc_begins, other_tag, optional_of_is, content_shrinks, turned_shrinks, content_or_shrinks}
+use Rattle.rpki_der.proofs.Alternatives.{turned_reads, followed_reads, turned_whole, whole_reads, same_whole, content_or_reads, enc_begins, other_tag, optional_of_is, content_shrinks, turned_shrinks, content_or_shrinks}
 use Rattle.rpki_blocks.specs.declared.ip_resources.Family.{Family}
 use Rattle.rpki_blocks.specs.declared.ip_resources.Family.TheVariants.{V4, V6}
 use Rattle.rpki_blocks.specs.Sets.{Block}
@@ -205,12 +205,12 @@ families_in_reads : ReadsWhole families_in Pieces
 unfolding families_in
 families_in_reads =
     let same : optional 0x30 (content 0x30 family_in) ≡ optional_of 0x30 family_in = λ i bytes. sym (optional_of_is 0x30 family_in bytes) i in
-    let second : ReadsBefore 0x30 (optional_of 0x30 family_in) (Optional IsFamily) =
-    subst (λ (g : List ℕ → Option (Option (Family × Resources) × List ℕ)). ReadsBefore 0x30 g (Optional IsFamily)) same
+    let second : ReadsBefore (BeginsOther 0x30) (optional_of 0x30 family_in) (Optional IsFamily) =
+    subst (λ (g : List ℕ → Option (Option (Family × Resources) × List ℕ)). ReadsBefore (BeginsOther 0x30) g (Optional IsFamily)) same
     (optional_before 0x30 (content 0x30 family_in) IsFamily family_reads (λ x text s. enc_begins 0x30 _ text s.sequence)) in
     same_whole (λ c. whole (both (content 0x30 family_in) (optional_of 0x30 family_in)) c >>= paired) (Turned paired OneOrTwo) Pieces
-    (turned_whole paired (whole (both (content 0x30 family_in) (optional_of 0x30 family_in))) OneOrTwo (whole_before 0x30 (both (content 0x30 family_in) (optional_of 0x30 family_in)) OneOrTwo
-    (both_before 0x30 (content 0x30 family_in) (optional_of 0x30 family_in) IsFamily (Optional IsFamily) family_reads second)))
+    (turned_whole paired (whole (both (content 0x30 family_in) (optional_of 0x30 family_in))) OneOrTwo (whole_before (BeginsOther 0x30) (both (content 0x30 family_in) (optional_of 0x30 family_in)) OneOrTwo tt
+    (both_before (BeginsOther 0x30) Anything (content 0x30 family_in) (optional_of 0x30 family_in) IsFamily (Optional IsFamily) (before Anything (content 0x30 family_in) IsFamily family_reads) second (λ y text rest s follows. tt))))
     (λ f c s. let p = second_is s.0.0 s.0.1 f s.1.0 s.1.1 s.1.2 s.1.3 s.2 in (p.0, p.1, s.1.4 ∙ p.2))
     (λ f c s. rw s.2 (families_are f s.0 s.1))
 

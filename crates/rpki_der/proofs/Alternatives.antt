@@ -1,16 +1,15 @@
 -- Laws of readings that choose, depend and turn.
-use Rattle.std.proofs.Common.{◌≡◌, ℕ, eqb, List, [], ◌∷◌, ◌++◌, length, Option, Some, None, refl, sym, ap, subst, ◌∙◌, append_assoc, inl, inr, arith}
+use Rattle.std.proofs.Common.{◌≡◌, ℕ, eqb, List, [], ◌∷◌, ◌++◌, length, Option, Some, None, refl, sym, ap, subst, ◌∙◌, inl, inr, arith}
 use Rattle.std.proofs.lemmas.Bool.{cases_Bool}
-use Rattle.std.proofs.lemmas.List.{append-nil}
 use Rattle.rpki_der.specs.Values.{length_octets, enc, IsEnc}
-use Rattle.rpki_der.specs.Reading.{◌>>=◌, value_at, ended, optional, content, both}
+use Rattle.rpki_der.specs.Reading.{◌>>=◌, value_at, optional, content}
 use Rattle.rpki_der.specs.Rows.{IsRow, row_of, Shrinks}
 use Rattle.rpki_der.specs.Alternatives.{turned, Turned, followed, Followed, whole, picked, content_or, maybe, optional_of}
-use Rattle.rpki_der.specs.Spelling.{Begins, Reads, ReadsWhole, Both, Inside, BeginsOther, BeginWith}
-use Rattle.rpki_der.proofs.Octets.{AreOctets-after, bind_some, some, some_is, both_are}
+use Rattle.rpki_der.specs.Spelling.{Begins, Reads, ReadsWhole, Inside, BeginsOther, BeginWith}
+use Rattle.rpki_der.proofs.Octets.{bind_some, some, some_is, both_are}
 use Rattle.rpki_der.specs.Choices.{choice, Either}
-use Rattle.rpki_der.proofs.Made.{content_reads, ended_some}
-use Rattle.rpki_der.proofs.Before.{ReadsBefore}
+use Rattle.rpki_der.proofs.Made.{content_reads}
+use Rattle.rpki_der.proofs.Before.{Anything, before, before_anything, followed_before, whole_before}
 use Rattle.rpki_der.proofs.Choosing.{choice_reads}
 use Rattle.rpki_der.proofs.ReadValues.{value_shorter}
 use Rattle.rpki_der.proofs.Rows.{row_is, row_again}
@@ -32,38 +31,12 @@ turned_reads {X} {Y} f read S F = record {
 
 pub followed_reads : {X Y : Type 0} (f : List ℕ → Option (X × List ℕ)) (g : X → List ℕ → Option (Y × List ℕ)) (S : X → List ℕ → Type 0) (T : X → Y → List ℕ → Type 0)
     → Reads f S → ((x : X) → Reads (g x) (T x)) → Reads (followed f g) (Followed S T)
-followed_reads {X} {Y} f g S T F G = record {
-  takes = λ bytes y rest fits e.
-      let a = bind_some (f bytes) (λ x. g x.0 x.1) (y, rest) e in
-      let one = F.takes bytes a.0.0 a.0.1 fits a.1 in
-      let two = (G a.0.0).takes a.0.1 y rest (AreOctets-after bytes one.text a.0.1 one.parts fits) a.2 in
-      record {
-        text = one.text ++ two.text;
-        spelled = (a.0.0, one.text, two.text, one.spelled, two.spelled, refl);
-        parts = one.parts ∙ ap (λ (t : List ℕ). one.text ++ t) two.parts ∙ sym (append_assoc one.text two.text rest);
-      };
-  again = λ y text rest s.
-      let all : text ++ rest ≡ s.1 ++ (s.2 ++ rest) = rw s.5 (append_assoc s.1 s.2 rest) in
-      rw (all, F.again s.0 s.1 (s.2 ++ rest) s.3) ((G s.0).again y s.2 rest s.4);
-}
+followed_reads f g S T F G = before_anything (followed f g) (Followed S T) (followed_before Anything f g S T F (λ x. before Anything (g x) (T x) (G x)))
 
 -- ---- the whole of some octets
 
-pub whole_before : {X : Type 0} (tag : ℕ) (f : List ℕ → Option (X × List ℕ)) (S : X → List ℕ → Type 0) → ReadsBefore tag f S → ReadsWhole (whole f) S
-whole_before {X} tag f S F = record {
-  takes = λ octets x fits e.
-      let a = bind_some (f octets) (λ r. ended r.1 r.0) x e in
-      let g = ended_some a.0.1 a.0.0 x a.2 in
-      let one = F.takes octets a.0.0 a.0.1 fits a.1 in
-      let used : one.text ≡ octets = sym (append-nil one.text) ∙ sym (ap (λ (r : List ℕ). one.text ++ r) g.0) ∙ sym one.parts in
-      subst (λ (c : List ℕ). S x c) used (subst (λ (y : X). S y one.text) g.1 one.spelled);
-  again = λ x octets s.
-      let all : f octets ≡ some {A = X × List ℕ} (x, []) = ap f (sym (append-nil octets)) ∙ F.again x octets [] s tt in
-      rw all refl;
-}
-
 pub whole_reads : {X : Type 0} (f : List ℕ → Option (X × List ℕ)) (S : X → List ℕ → Type 0) → Reads f S → ReadsWhole (whole f) S
-whole_reads f S F = whole_before 0 f S (record { takes = F.takes; again = λ v text rest s other. F.again v text rest s })
+whole_reads f S F = whole_before Anything f S tt (before Anything f S F)
 
 -- what a function makes of a whole
 pub turned_whole : {X Y : Type 0} (f : X → Option Y) (read : List ℕ → Option X) (S : X → List ℕ → Type 0) → ReadsWhole read S → ReadsWhole (λ c. read c >>= f) (Turned f S)
@@ -89,26 +62,6 @@ enc_begins t c text e = (length_octets (length c) ++ c, e.is)
 
 inside_begins : {X : Type 0} (t : ℕ) (S : X → List ℕ → Type 0) → BeginWith t (Inside t S)
 inside_begins t S x text s = enc_begins t s.0 text s.2
-
--- an optional value at the end
-pub both_before : {X Y : Type 0} (tag : ℕ) (f : List ℕ → Option (X × List ℕ)) (g : List ℕ → Option (Y × List ℕ)) (S : X → List ℕ → Type 0) (T : Y → List ℕ → Type 0)
-    → Reads f S → ReadsBefore tag g T → ReadsBefore tag (both f g) (Both S T)
-both_before {X} {Y} tag f g S T F G = record {
-  takes = λ bytes p rest fits e.
-      let a = bind_some (f bytes) (λ x. g x.1 >>= λ y. Some ((x.0, y.0), y.1)) (p, rest) e in
-      let b = bind_some (g a.0.1) (λ y. Some ((a.0.0, y.0), y.1)) (p, rest) a.2 in
-      let one = F.takes bytes a.0.0 a.0.1 fits a.1 in
-      let two = G.takes a.0.1 b.0.0 b.0.1 (AreOctets-after bytes one.text a.0.1 one.parts fits) b.1 in
-      let made : (X × Y) × List ℕ = ((a.0.0, b.0.0), b.0.1) in
-      subst (λ (q : (X × Y) × List ℕ). Begins (Both S T) bytes q.0 q.1) (some_is made (p, rest) b.2) (record {
-        text = one.text ++ two.text;
-        spelled = (one.text, two.text, one.spelled, two.spelled, refl);
-        parts = one.parts ∙ ap (λ (t : List ℕ). one.text ++ t) two.parts ∙ sym (append_assoc one.text two.text b.0.1);
-      });
-  again = λ p text rest s other.
-      let all : text ++ rest ≡ s.0 ++ (s.1 ++ rest) = rw s.4 (append_assoc s.0 s.1 rest) in
-      rw (all, F.again p.0 s.0 (s.1 ++ rest) s.2, G.again p.1 s.1 rest s.3 other) refl;
-}
 
 pub other_tag : (t u : ℕ) (text rest tail : List ℕ) → text ≡ u ∷ tail → (u ≡ t → ⊥) → BeginsOther t (text ++ rest)
 other_tag t u text rest tail e h = rw e h

@@ -7,6 +7,7 @@ pub mod ReadValues
 pub mod Places
 pub mod Made
 pub mod Rows
+pub mod RowTests
 pub mod Optionals
 pub mod Before
 pub mod ReadPrimitives

@@ -11,7 +11,7 @@ use Rattle.rpki_der.specs.Values.{AreOctets, length_octets, enc, IsEnc}
 use Rattle.rpki_der.specs.Contents.{IsBoolOrFalse, IsInteger, IsNumber}
 use Rattle.rpki_der.specs.Primitives.{IsNull, IsBits, IsU32, BeginsBoolOrFalse, AnswersBoolOrFalse, octets_at, null_of, null_at, or_false, bool_or_false_at, has_zero_bits, bits_of, bits_at, is_unsigned, number_below, u32_at}
 use Rattle.rpki_der.specs.Reading.{◌>>=◌, content, optional, bool_of, bool_at}
-use Rattle.rpki_der.specs.Spelling.{Begins, Reads, Inside, Optional, BeginWith}
+use Rattle.rpki_der.specs.Spelling.{Begins, Reads, Inside, Optional, BeginWith, BeginsOther}
 use Rattle.rpki_der.specs.Place.{Place, left, Took}
 use Rattle.rpki_der.specs.declared.error.DecodeError.{DecodeError}
 use Rattle.rpki_der.proofs.Octets.{bind_some, if_some, some, some_is, nothing}
@@ -104,8 +104,8 @@ to_option : (b : Bool) (text : List ℕ) → IsBoolOrFalse b text → (o : Optio
 to_option true text s = (Some true, refl, s)
 to_option false text s = elim s [ inl e ↦ (None, refl, e) | inr e ↦ (Some false, refl, e) ]
 
--- what follows decides whether it is absent: `before_then` and `before_end` lead on
-pub bool_or_false_reads : ReadsBefore 1 bool_or_false_at IsBoolOrFalse
+-- what follows decides whether it is absent: `before_then` and `inside_before` lead on
+pub bool_or_false_reads : ReadsBefore (BeginsOther 1) bool_or_false_at IsBoolOrFalse
 unfolding bool_or_false_at
 bool_or_false_reads =
     let F = optional_before 1 bool_at IsBoolean bool_reads bool_begins in

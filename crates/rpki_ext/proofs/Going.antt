@@ -1,6 +1,4 @@
 -- One value of a row more, in a loop that goes over it.
-use Rattle.std.specs.Prelude.{IsTrue, false}
-use Rattle.std.proofs.lemmas.Bool.{false≢true}
 use Rattle.std.proofs.Common.{◌≡◌, ℕ, ◌<◌, List, [], ◌∷◌, length, Option, Some, None, Result, Ok, Err, refl, sym, ap, ◌∙◌, arith}
 use Rattle.rpki_der.specs.declared.error.DecodeError.{DecodeError}
 use Rattle.rpki_der.specs.Place.{Gives}
@@ -42,11 +40,6 @@ module _ {X S : Type 0} (read : List ℕ → Option (X × List ℕ)) (step : Ste
 
       pub refused : step s x ≡ None → over read step s octets ≡ None
       refused e = over_steps (omega (arith, shorter)) ∙ rw (was, e) refl
-
--- what a test for the end says
-pub some_left : (octets : List ℕ) → (octets ≡ [] → IsTrue false) → 0 < length octets
-some_left [] h = absurd (false≢true (h refl))
-some_left (b ∷ octets) h = omega arith
 
 -- a refusal that is passed on
 pub refusal : {X Y : Type 0} (view : X → Y) (r : Result X DecodeError) (d : DecodeError) (o : Option Y) → r ≡ Err d → o ≡ None → Gives view r o

@@ -8,7 +8,7 @@ use Rattle.rpki_der.specs.Values.{enc, length_octets, IsEnc, AreOctets}
 use Rattle.rpki_der.specs.Contents.{IsBoolOrFalse, IsObjectIdentifier}
 use Rattle.rpki_der.specs.Reading.{oid_of, oid_at, content, inside}
 use Rattle.rpki_der.specs.Rows.{IsRow, Shrinks}
-use Rattle.rpki_der.specs.Spelling.{Reads, ReadsWhole, Inside}
+use Rattle.rpki_der.specs.Spelling.{Reads, ReadsWhole, Inside, BeginsOther}
 use Rattle.rpki_der.proofs.Octets.{bind_some, if_some, some, some_is, nothing}
 use Rattle.rpki_der.proofs.Made.{content_reads, inside_reads, same_reads}
 use Rattle.rpki_der.proofs.Alternatives.{content_shrinks}
@@ -20,14 +20,14 @@ use Rattle.rpki_ext.specs.Contents.{IsBasicConstraints, IsAuthorityKeyIdentifier
 use Rattle.rpki_ext.specs.Folding.{each, over, each_fold, IsFolded}
 use Rattle.rpki_ext.specs.ReadContents.{basic_constraints_at, authority_key_identifier_at, key_usage_of, key_usage_at, identifiers_of, extended_key_usage_at}
 use Rattle.rpki_der.specs.Primitives.{bool_or_false_at}
-use Rattle.rpki_der.proofs.Before.{before_end}
+use Rattle.rpki_der.proofs.Before.{inside_before}
 use Rattle.rpki_der.proofs.ReadPrimitives.{bool_or_false_reads}
 use Rattle.rpki_ext.proofs.Folding.{over_reads, each_law}
 use Rattle.rpki_ext.proofs.Pieces.{row_pieces, pieces_row}
 
 pub basic_constraints_reads : Reads basic_constraints_at IsBasicConstraints
 unfolding basic_constraints_at
-basic_constraints_reads = before_end 1 0x30 bool_or_false_at IsBoolOrFalse bool_or_false_reads
+basic_constraints_reads = inside_before (BeginsOther 1) 0x30 bool_or_false_at IsBoolOrFalse tt bool_or_false_reads
 
 -- ---- authority key identifier
 

@@ -28,7 +28,7 @@ unfolding enc
 content_begins c text rest v = rw v.is (λ e. absurd (omega (arith, e)))
 
 parts_read : Reads (both oid_at (both bool_or_false_at (value_at 4))) Parts
-parts_read = both_reads oid_at (both bool_or_false_at (value_at 4)) IsObjectIdentifier (Both IsBoolOrFalse (IsEnc 4)) oid_reads (before_then 1 bool_or_false_at (value_at 4) IsBoolOrFalse (IsEnc 4) bool_or_false_reads (value_reads 4) content_begins)
+parts_read = both_reads oid_at (both bool_or_false_at (value_at 4)) IsObjectIdentifier (Both IsBoolOrFalse (IsEnc 4)) oid_reads (before_then (BeginsOther 1) bool_or_false_at (value_at 4) IsBoolOrFalse (IsEnc 4) bool_or_false_reads (value_reads 4) content_begins)
 
 abbrev parts : Extension → List ℕ × (Bool × List ℕ)
 parts x = (x.identifier, (x.critical, x.content))

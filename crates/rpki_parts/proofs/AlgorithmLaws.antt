@@ -7,12 +7,14 @@ use Rattle.rpki_der.specs.Contents.{IsObjectIdentifier, null}
 use Rattle.rpki_der.specs.Primitives.{IsNull, null_at}
 use Rattle.rpki_der.specs.Reading.{optional, inside, oid_at}
 use Rattle.rpki_der.specs.Spelling.{Reads, Inside, Optional, BeginWith, BeginsOther}
+use Rattle.rpki_der.specs.Alternatives.{followed, Followed}
+use Rattle.rpki_der.proofs.Before.{ReadsBefore, optional_before, followed_before, inside_before}
 use Rattle.rpki_der.proofs.Identifiers.{oid_reads}
 use Rattle.rpki_der.proofs.ReadPrimitives.{null_reads}
 use Rattle.rpki_der.proofs.Made.{same_reads}
-use Rattle.rpki_parts.specs.Choices.{after, given}
+use Rattle.rpki_parts.specs.Choices.{given}
 use Rattle.rpki_parts.specs.Algorithms.{IsSignatureAlgorithm, sha256_with_rsa, null_or_none, algorithm_at}
-use Rattle.rpki_parts.proofs.Following.{ReadsBefore, Image, After, optional_before, mapped_before, given_before, after_before, inside_before}
+use Rattle.rpki_parts.proofs.Following.{Image, mapped_before, given_before}
 use Rattle.rpki_parts.proofs.Texts.{same_text, text_is}
 
 null_begins : BeginWith 5 IsNull
@@ -29,7 +31,7 @@ abbrev Parameters : List ℕ → Bool → List ℕ → Type 0
 Parameters id has text = (bytes_eq id sha256_with_rsa ≡ true) × NullOrNone has text
 
 abbrev Content : Bool → List ℕ → Type 0
-Content = After IsObjectIdentifier Parameters
+Content = Followed IsObjectIdentifier Parameters
 
 -- an identifier that is another one
 pub identifier_is : (id other text : List ℕ) → bytes_eq id other ≡ true → IsObjectIdentifier id text → IsObjectIdentifier other text
@@ -48,8 +50,8 @@ algorithm_is false text s = (s.0 ++ [], (sha256_with_rsa, s.0, [], s.1, (text_is
 pub algorithm_reads : Reads algorithm_at IsSignatureAlgorithm
 unfolding algorithm_at
 algorithm_reads =
-    same_reads (inside 0x30 (after oid_at (λ id. given (bytes_eq id sha256_with_rsa) null_or_none))) (Inside 0x30 Content) IsSignatureAlgorithm
-    (inside_before (BeginsOther 5) 0x30 (after oid_at (λ id. given (bytes_eq id sha256_with_rsa) null_or_none)) Content tt
-    (after_before (BeginsOther 5) oid_at (λ id. given (bytes_eq id sha256_with_rsa) null_or_none) IsObjectIdentifier Parameters oid_reads
+    same_reads (inside 0x30 (followed oid_at (λ id. given (bytes_eq id sha256_with_rsa) null_or_none))) (Inside 0x30 Content) IsSignatureAlgorithm
+    (inside_before (BeginsOther 5) 0x30 (followed oid_at (λ id. given (bytes_eq id sha256_with_rsa) null_or_none)) Content tt
+    (followed_before (BeginsOther 5) oid_at (λ id. given (bytes_eq id sha256_with_rsa) null_or_none) IsObjectIdentifier Parameters oid_reads
     (λ id. given_before (BeginsOther 5) (bytes_eq id sha256_with_rsa) null_or_none NullOrNone null_or_none_before)))
     is_algorithm algorithm_is

@@ -8,17 +8,19 @@ use Rattle.rpki_der.specs.Contents.{IsObjectIdentifier, null}
 use Rattle.rpki_der.specs.Primitives.{IsBits, bits_at}
 use Rattle.rpki_der.specs.Reading.{content, inside, mapped, oid_at}
 use Rattle.rpki_der.specs.Spelling.{Reads, Inside, BeginsOther}
+use Rattle.rpki_der.specs.Alternatives.{followed, Followed}
+use Rattle.rpki_der.proofs.Before.{ReadsBefore, Anything, before, before_anything, followed_before, inside_before, same_before}
 use Rattle.rpki_der.proofs.Octets.{if_some}
 use Rattle.rpki_der.proofs.Identifiers.{oid_reads}
 use Rattle.rpki_der.proofs.ReadPrimitives.{bits_reads}
 use Rattle.rpki_der.proofs.Made.{content_reads, same_reads}
-use Rattle.rpki_parts.specs.Choices.{after, given, always}
+use Rattle.rpki_parts.specs.Choices.{given, always}
 use Rattle.rpki_parts.specs.Algorithms.{null_or_none}
 use Rattle.rpki_parts.specs.Keys.{IsKeyIdentifier, key_identifier_at, twenty, KeyFields, IsKeyAlgorithm, IsPublicKey, rsa_encryption, id_ec_public_key, prime256v1, curve_at, parameters_at, format_at, whole_bits_at, public_key_at}
 use Rattle.rpki_parts.specs.declared.key.PublicKeyFormat.{PublicKeyFormat}
 use Rattle.rpki_parts.specs.declared.key.PublicKeyFormat.TheVariants.{Rsa, EcdsaP256}
 use Rattle.rpki_parts.proofs.AlgorithmLaws.{NullOrNone, null_or_none_before, identifier_is}
-use Rattle.rpki_parts.proofs.Following.{ReadsBefore, Anything, Image, After, before, before_anything, mapped_before, given_before, choose_before, always_before, after_before, inside_before, same_before}
+use Rattle.rpki_parts.proofs.Following.{Image, mapped_before, given_before, choose_before, always_before}
 use Rattle.rpki_parts.proofs.Texts.{text_is}
 
 abbrev IsTwenty : List ℕ → List ℕ → Type 0
@@ -38,11 +40,11 @@ key_identifier_reads =
 -- ---- public keys
 
 abbrev Curve : PublicKeyFormat → List ℕ → Type 0
-Curve = After IsObjectIdentifier (λ id format text. (bytes_eq id prime256v1 ≡ true) × ((EcdsaP256 ≡ format) × (text ≡ [])))
+Curve = Followed IsObjectIdentifier (λ id format text. (bytes_eq id prime256v1 ≡ true) × ((EcdsaP256 ≡ format) × (text ≡ [])))
 
 curve_before : ReadsBefore (BeginsOther 5) curve_at Curve
 curve_before =
-    after_before (BeginsOther 5) oid_at (λ id. given (bytes_eq id prime256v1) (always EcdsaP256)) IsObjectIdentifier (λ id format text. (bytes_eq id prime256v1 ≡ true) × ((EcdsaP256 ≡ format) × (text ≡ []))) oid_reads
+    followed_before (BeginsOther 5) oid_at (λ id. given (bytes_eq id prime256v1) (always EcdsaP256)) IsObjectIdentifier (λ id format text. (bytes_eq id prime256v1 ≡ true) × ((EcdsaP256 ≡ format) × (text ≡ []))) oid_reads
     (λ id. given_before (BeginsOther 5) (bytes_eq id prime256v1) (always EcdsaP256) (λ format text. (EcdsaP256 ≡ format) × (text ≡ [])) (always_before (BeginsOther 5) EcdsaP256))
 
 abbrev RsaParameters : PublicKeyFormat → List ℕ → Type 0
@@ -61,7 +63,7 @@ parameters_before id =
     (given_before (BeginsOther 5) (bytes_eq id id_ec_public_key) curve_at Curve curve_before)
 
 abbrev AlgorithmContent : PublicKeyFormat → List ℕ → Type 0
-AlgorithmContent = After IsObjectIdentifier Parameters
+AlgorithmContent = Followed IsObjectIdentifier Parameters
 
 -- another content of the same value
 in_sequence : (c d text : List ℕ) → c ≡ d → IsEnc 0x30 c text → IsEnc 0x30 d text
@@ -91,8 +93,8 @@ key_algorithm_is EcdsaP256 text (a, d, o, k, s) =
 pub format_reads : Reads format_at IsKeyAlgorithm
 unfolding format_at
 format_reads =
-    same_reads (inside 0x30 (after oid_at parameters_at)) (Inside 0x30 AlgorithmContent) IsKeyAlgorithm
-    (inside_before (BeginsOther 5) 0x30 (after oid_at parameters_at) AlgorithmContent tt (after_before (BeginsOther 5) oid_at parameters_at IsObjectIdentifier Parameters oid_reads parameters_before))
+    same_reads (inside 0x30 (followed oid_at parameters_at)) (Inside 0x30 AlgorithmContent) IsKeyAlgorithm
+    (inside_before (BeginsOther 5) 0x30 (followed oid_at parameters_at) AlgorithmContent tt (followed_before (BeginsOther 5) oid_at parameters_at IsObjectIdentifier Parameters oid_reads parameters_before))
     is_key_algorithm key_algorithm_is
 
 -- ---- bits of which none are unused
@@ -103,23 +105,23 @@ IsWholeBits bits text = IsEnc 3 (0 ∷ bits) text
 abbrev NoneUnused : ℕ × List ℕ → List ℕ → List ℕ → Type 0
 NoneUnused v bits text = (eqb v.0 0 ≡ true) × ((v.1 ≡ bits) × (text ≡ []))
 
-is_whole_bits : (bits text : List ℕ) → After IsBits NoneUnused bits text → IsWholeBits bits text
+is_whole_bits : (bits text : List ℕ) → Followed IsBits NoneUnused bits text → IsWholeBits bits text
 is_whole_bits bits text (v, a, b, s, (e, (is, n)), p) =
     let none : v.0 ≡ 0 = eqb-true v.0 0 e in
     let same : v.0 ∷ v.1 ≡ 0 ∷ bits = cc in
     let all : a ≡ text = sym (p ∙ ap (λ (x : List ℕ). a ++ x) n ∙ append-nil a) in
     subst (λ (x : List ℕ). IsEnc 3 (0 ∷ bits) x) all (subst (λ (x : List ℕ). IsEnc 3 x a) same s.enc)
 
-whole_bits_is : (bits text : List ℕ) → IsWholeBits bits text → After IsBits NoneUnused bits text
+whole_bits_is : (bits text : List ℕ) → IsWholeBits bits text → Followed IsBits NoneUnused bits text
 whole_bits_is bits text s =
     ((0, bits), text, [], record { enc = s; few = omega arith; none = λ e. refl; zero_bits = omega arith }, (refl, (refl, refl)), sym (append-nil text))
 
 pub whole_bits_reads : Reads whole_bits_at IsWholeBits
 unfolding whole_bits_at
 whole_bits_reads =
-    before_anything (after bits_at (λ v. given (eqb v.0 0) (always v.1))) IsWholeBits
-    (same_before Anything (after bits_at (λ v. given (eqb v.0 0) (always v.1))) (After IsBits NoneUnused) IsWholeBits
-    (after_before Anything bits_at (λ v. given (eqb v.0 0) (always v.1)) IsBits NoneUnused bits_reads (λ v. given_before Anything (eqb v.0 0) (always v.1) (λ bits text. (v.1 ≡ bits) × (text ≡ [])) (always_before Anything v.1)))
+    before_anything (followed bits_at (λ v. given (eqb v.0 0) (always v.1))) IsWholeBits
+    (same_before Anything (followed bits_at (λ v. given (eqb v.0 0) (always v.1))) (Followed IsBits NoneUnused) IsWholeBits
+    (followed_before Anything bits_at (λ v. given (eqb v.0 0) (always v.1)) IsBits NoneUnused bits_reads (λ v. given_before Anything (eqb v.0 0) (always v.1) (λ bits text. (v.1 ≡ bits) × (text ≡ [])) (always_before Anything v.1)))
     is_whole_bits whole_bits_is)
 
 abbrev key_of : PublicKeyFormat → List ℕ → KeyFields
@@ -129,7 +131,7 @@ abbrev KeyBits : PublicKeyFormat → KeyFields → List ℕ → Type 0
 KeyBits format = Image (key_of format) IsWholeBits
 
 abbrev KeyContent : KeyFields → List ℕ → Type 0
-KeyContent = After IsKeyAlgorithm KeyBits
+KeyContent = Followed IsKeyAlgorithm KeyBits
 
 is_public_key : (k : KeyFields) (text : List ℕ) → Inside 0x30 KeyContent k text → IsPublicKey k text
 is_public_key k text (c, (format, a, b, f, (bits, is, s), p), enc) =
@@ -151,8 +153,8 @@ public_key_is k text s = (
 pub public_key_reads : Reads public_key_at IsPublicKey
 unfolding public_key_at
 public_key_reads =
-    same_reads (inside 0x30 (after format_at (λ format. mapped (key_of format) whole_bits_at))) (Inside 0x30 KeyContent) IsPublicKey
-    (inside_before Anything 0x30 (after format_at (λ format. mapped (key_of format) whole_bits_at)) KeyContent tt
-    (after_before Anything format_at (λ format. mapped (key_of format) whole_bits_at) IsKeyAlgorithm KeyBits format_reads
+    same_reads (inside 0x30 (followed format_at (λ format. mapped (key_of format) whole_bits_at))) (Inside 0x30 KeyContent) IsPublicKey
+    (inside_before Anything 0x30 (followed format_at (λ format. mapped (key_of format) whole_bits_at)) KeyContent tt
+    (followed_before Anything format_at (λ format. mapped (key_of format) whole_bits_at) IsKeyAlgorithm KeyBits format_reads
     (λ format. mapped_before Anything whole_bits_at IsWholeBits (key_of format) (before Anything whole_bits_at IsWholeBits whole_bits_reads))))
     is_public_key public_key_is

@@ -4,7 +4,6 @@ pub mod AlgorithmLaws
 pub mod KeyLaws
 pub mod ValidityLaws
 pub mod WrittenLaws
-pub mod RowTests
 pub mod NameLaws
 pub mod Slashes
 pub mod UriTests

@@ -10,11 +10,11 @@ use Rattle.rpki_der.specs.Spelling.{Begins, Reads, Both, Inside}
 use Rattle.rpki_der.specs.Reading.{◌>>=◌, value_at, inside, both, mapped, content, ended, oid_at}
 use Rattle.rpki_der.proofs.Octets.{AreOctets-front, bind_some, some, both_are, nothing, if_some}
 use Rattle.rpki_der.proofs.Identifiers.{oid_reads}
-use Rattle.rpki_der.proofs.ReadValues.{value_shorter}
+use Rattle.rpki_der.proofs.Alternatives.{content_shrinks}
 use Rattle.rpki_der.proofs.ReadSkipping.{skip_reads, captured_reads}
 use Rattle.rpki_der.proofs.Rows.{row_is, row_again, inside_shrinks}
 use Rattle.rpki_der.proofs.Made.{both_reads, inside_reads, mapped_reads, content_reads, same_reads, ended_some}
-use Rattle.rpki_parts.proofs.RowTests.{is_row}
+use Rattle.rpki_der.proofs.RowTests.{is_row}
 use Rattle.rpki_parts.specs.Names.{Attribute, IsAttributeTypeAndValueWithin, IsRelativeDistinguishedNameWithin, IsRdnSequenceWithin, IsName, tagged_at, attribute, attribute_at, part_of, part_at, parts_at, name_of, is_name, name_at}
 
 -- ---- a value that is skipped, by its identifier octet
@@ -137,14 +137,6 @@ part_reads =
     (content_reads 0x31 part_of PartContent (record { takes = part_takes; again = part_again }))
     (λ xs text s. record { content = s.0; row = s.1.0; some = s.1.1; set = s.2 })
     (λ xs text s. (s.content, (s.row, s.some), s.set))
-
-content_shrinks : {X : Type 0} (t : ℕ) (f : List ℕ → Option X) → Shrinks (content t f)
-content_shrinks {X} t f = λ bytes p rest e.
-    let a = bind_some (value_at t bytes) (λ v. f v.0 >>= λ x. Some (x, v.1)) (p, rest) e in
-    let b = bind_some (f a.0.0) (λ x. Some (x, a.0.1)) (p, rest) a.2 in
-    let g = both_are (b.0, a.0.1) (p, rest) b.2 in
-    let k = value_shorter t bytes a.0.0 a.0.1 a.1 in
-    omega (arith, ap length g.1)
 
 pub part_shrinks : Shrinks part_at
 unfolding part_at

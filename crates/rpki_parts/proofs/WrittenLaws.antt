@@ -1,12 +1,10 @@
 -- How long what is written is.
-use Rattle.std.specs.Prelude.{nat_le, nat_lt, ◌&&◌, Result, Ok, Err, IfErr, IsErrOf}
-use Rattle.std.proofs.Common.{◌≡◌, ℕ, ◌+◌, ◌^◌, ◌<◌, ◌≤◌, List, [], ◌∷◌, ◌++◌, length, refl, arith, inl, inr}
+use Rattle.std.specs.Prelude.{nat_le, nat_lt, ◌&&◌}
+use Rattle.std.proofs.Common.{ℕ, ◌+◌, ◌^◌, ◌≤◌, List, [], ◌∷◌, ◌++◌, length, arith, inl, inr}
 use Rattle.std.proofs.lemmas.List.{length-append}
 use Rattle.rpki_der.specs.Values.{enc, length_octets}
 use Rattle.rpki_der.specs.Times.{Moment}
 use Rattle.rpki_der.specs.Writing.{time}
-use Rattle.rpki_der.specs.declared.error.EncodeError.{EncodeError}
-use Rattle.rpki_der.specs.declared.error.EncodeError.TheVariants.{TooLong, Memory}
 use Rattle.rpki_der.proofs.Written.{bool_cases, enc_longer}
 
 pub time_short : (m : Moment) → length (time m) ≤ 17
@@ -16,12 +14,6 @@ time_short m =
       | inl t ↦ rw t (omega arith)
       | inr f ↦ rw f (omega arith)
     ]
-
--- what is short enough is refused for want of memory alone
-pub only_memory : {X : Type 0} (r : Result X EncodeError) (c : List ℕ) → (IsErrOf r TooLong → 2 ^ 32 ≤ length c) → length c < 2 ^ 32 → IfErr r (λ e. e ≡ Memory)
-only_memory (Ok x) c long short = tt
-only_memory (Err TooLong) c long short = let h : 2 ^ 32 ≤ length c = long refl in absurd (omega arith)
-only_memory (Err Memory) c long short = refl
 
 -- a content that does not fit makes what it stands in not fit
 pub bits_too_long : (front bits : List ℕ) → 2 ^ 32 ≤ length bits + 1 → 2 ^ 32 ≤ length (front ++ (enc 3 (0 ∷ bits) ++ []))

@@ -4,7 +4,8 @@ use Rattle.rpki_der.specs.Values.{IsSequence}
 use Rattle.rpki_der.specs.Contents.{IsObjectIdentifier, null}
 use Rattle.rpki_der.specs.Primitives.{null_at}
 use Rattle.rpki_der.specs.Reading.{inside, mapped, optional, oid_at}
-use Rattle.rpki_parts.specs.Choices.{after, given}
+use Rattle.rpki_der.specs.Alternatives.{followed}
+use Rattle.rpki_parts.specs.Choices.{given}
 
 -- sha256WithRSAEncryption
 abbrev pub sha256_with_rsa : List ℕ
@@ -22,4 +23,4 @@ abbrev pub null_or_none : List ℕ → Option (Bool × List ℕ)
 null_or_none = mapped is_some (optional 0x05 null_at)
 
 unfoldable pub algorithm_at : List ℕ → Option (Bool × List ℕ)
-algorithm_at = inside 0x30 (after oid_at (λ id. given (bytes_eq id sha256_with_rsa) null_or_none))
+algorithm_at = inside 0x30 (followed oid_at (λ id. given (bytes_eq id sha256_with_rsa) null_or_none))

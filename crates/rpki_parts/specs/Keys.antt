@@ -5,7 +5,8 @@ use Rattle.rpki_der.specs.Values.{IsSequence, IsEnc}
 use Rattle.rpki_der.specs.Contents.{IsObjectIdentifier, null}
 use Rattle.rpki_der.specs.Primitives.{bits_at}
 use Rattle.rpki_der.specs.Reading.{content, inside, mapped, oid_at}
-use Rattle.rpki_parts.specs.Choices.{after, given, choose, always}
+use Rattle.rpki_der.specs.Alternatives.{followed}
+use Rattle.rpki_parts.specs.Choices.{given, choose, always}
 use Rattle.rpki_parts.specs.Algorithms.{null_or_none}
 use Rattle.rpki_parts.specs.declared.key.PublicKeyFormat.{PublicKeyFormat}
 use Rattle.rpki_parts.specs.declared.key.PublicKeyFormat.TheVariants.{Rsa, EcdsaP256}
@@ -55,17 +56,17 @@ unfoldable pub key_identifier_at : List ℕ → Option (List ℕ × List ℕ)
 key_identifier_at = content 0x04 twenty
 
 abbrev pub curve_at : List ℕ → Option (PublicKeyFormat × List ℕ)
-curve_at = after oid_at (λ id. given (bytes_eq id prime256v1) (always EcdsaP256))
+curve_at = followed oid_at (λ id. given (bytes_eq id prime256v1) (always EcdsaP256))
 
 abbrev pub parameters_at : List ℕ → List ℕ → Option (PublicKeyFormat × List ℕ)
 parameters_at id = choose (bytes_eq id rsa_encryption) (mapped (λ _. Rsa) null_or_none) (given (bytes_eq id id_ec_public_key) curve_at)
 
 unfoldable pub format_at : List ℕ → Option (PublicKeyFormat × List ℕ)
-format_at = inside 0x30 (after oid_at parameters_at)
+format_at = inside 0x30 (followed oid_at parameters_at)
 
 -- the octets of a BIT STRING without unused bits
 unfoldable pub whole_bits_at : List ℕ → Option (List ℕ × List ℕ)
-whole_bits_at = after bits_at (λ v. given (nat_eq v.0 0) (always v.1))
+whole_bits_at = followed bits_at (λ v. given (nat_eq v.0 0) (always v.1))
 
 unfoldable pub public_key_at : List ℕ → Option (KeyFields × List ℕ)
-public_key_at = inside 0x30 (after format_at (λ format. mapped (λ bits. record { format = format; bits = bits }) whole_bits_at))
+public_key_at = inside 0x30 (followed format_at (λ format. mapped (λ bits. record { format = format; bits = bits }) whole_bits_at))

@@ -1,34 +1,15 @@
 -- A row of entries, one entry at a time.
 use Rattle.std.proofs.Common.{◌≡◌, ℕ, zero, suc, ◌<◌, Bool, true, false, List, [], ◌∷◌, length, get_or, Option, Some, None, Result, Ok, Err, refl, sym, ap, subst, ◌∙◌, arith}
-use Rattle.std.specs.Prelude.{is_some, IsTrue, IsOk, IsErr, ◌↔◌, map, nat_eq}
+use Rattle.std.specs.Prelude.{is_some, IsOk, IsErr, ◌↔◌, map, nat_eq}
 use Rattle.std.proofs.lemmas.Bool.{false≢true, eq-eqb, eqb-true}
 use Rattle.rpki_der.specs.Values.{AreOctets}
 use Rattle.rpki_der.specs.Reading.{◌>>=◌}
 use Rattle.rpki_der.specs.Rows.{row_of}
 use Rattle.rpki_der.proofs.Rows.{row_steps, row_is}
+use Rattle.rpki_der.proofs.RowTests.{goes_on}
 use Rattle.rpki_path.specs.RevokedEntries.{Entry, Revoked, IsEntry, AreEntries, IsRevoked}
 use Rattle.rpki_path.specs.ReadEntries.{entry_at, entries_in, or_none}
 use Rattle.rpki_path.proofs.EntryReads.{entry_reads, entry_shrinks}
-
--- a row goes on after an entry
-pub record GoesOn (octets : List ℕ) (e : Entry) (rest : List ℕ) : Type 0 where
-  pub same : is_some (row_of entry_at octets) ≡ is_some (row_of entry_at rest)
-  pub shorter : length rest < length octets
-
-some_after : (r : Option (List Entry)) (e : Entry) → is_some (r >>= λ es. Some (e ∷ es)) ≡ is_some r
-some_after (Some es) e = refl
-some_after None e = refl
-
-pub goes_on : (octets : List ℕ) (e : Entry) (rest : List ℕ) → entry_at octets ≡ Some (e, rest) → GoesOn octets e rest
-goes_on octets e rest is =
-    let less : length rest < length octets = entry_shrinks octets e rest is in
-    record {
-      same = ap (λ (r : Option (List Entry)). is_some r) (row_steps entry_at entry_shrinks octets (omega arith)) ∙ rw is (some_after (row_of entry_at rest) e);
-      shorter = less;
-    }
-
-pub no_row : (octets : List ℕ) → 0 < length octets → entry_at octets ≡ None → is_some (row_of entry_at octets) ≡ false
-no_row octets some is = ap (λ (r : Option (List Entry)). is_some r) (row_steps entry_at entry_shrinks octets some) ∙ rw is refl
 
 entries_after : (r : Option (List Entry)) (e : Entry) → is_some r ≡ true → or_none (r >>= λ es. Some (e ∷ es)) ≡ e ∷ or_none r
 entries_after (Some es) e is = refl
@@ -36,17 +17,12 @@ entries_after None e is = absurd cc
 
 pub entries_more : (octets : List ℕ) (e : Entry) (rest : List ℕ) → entry_at octets ≡ Some (e, rest) → is_some (row_of entry_at octets) ≡ true → entries_in octets ≡ e ∷ entries_in rest
 entries_more octets e rest is whole =
-    let g = goes_on octets e rest is in
+    let g = goes_on entry_at entry_shrinks octets e rest is in
     ap (λ (r : Option (List Entry)). or_none r) (row_steps entry_at entry_shrinks octets (omega (arith, g.shorter))) ∙ rw is (entries_after (row_of entry_at rest) e (sym g.same ∙ whole))
 
 pub all_read : row_of entry_at [] ≡ Some []
 unfolding row_of
 all_read = refl
-
--- what a test for the end says
-pub some_left : (octets : List ℕ) → (octets ≡ [] → IsTrue false) → 0 < length octets
-some_left [] h = absurd (false≢true (h refl))
-some_left (b ∷ octets) h = omega arith
 
 pub refused : {T E : Type 0} (r : Result T E) (whole : Bool) → IsErr r → whole ≡ false → (IsOk r → whole ≡ true) × (whole ≡ true → IsOk r)
 refused (Ok x) whole e f = absurd cc

@@ -2,7 +2,8 @@ use Rattle.std.proofs.Common.{rules, ◌≡◌, ℕ, ◌<◌, true, List, [], �
 use Rattle.rpki_der.specs.Reading.{◌>>=◌, oid_at}
 use Rattle.rpki_ext.specs.Folding.{Step, each, over}
 use Rattle.rpki_ext.specs.ReadContents.{identifiers_of}
-use Rattle.rpki_ext.proofs.Going.{over_end, ends, shorter, goes_on, some_left, refusal}
+use Rattle.rpki_der.proofs.RowTests.{some_left}
+use Rattle.rpki_ext.proofs.Going.{over_end, ends, shorter, goes_on, refusal}
 use Rattle.rpki_ext.proofs.ReadContents.{oid_shrinks}
 use Rattle.rpki_ext.proofs.extended_key_usage.check_identifiers.Goals as goal
 

@@ -1,7 +1,8 @@
 use Rattle.std.proofs.Common.{rules, ◌≡◌, Err, refl, sym, ◌∙◌}
 use Rattle.rpki_der.proofs.Answering.{refuses, certainly, passed_on}
 use Rattle.rpki_ext.specs.ReadContents.{uri_name_at, keep_rsync}
-use Rattle.rpki_ext.proofs.Going.{goes_on, shorter, refused, ends, over_end, some_left}
+use Rattle.rpki_der.proofs.RowTests.{some_left}
+use Rattle.rpki_ext.proofs.Going.{goes_on, shorter, refused, ends, over_end}
 use Rattle.rpki_ext.proofs.ReadNames.{name_shrinks}
 use Rattle.rpki_ext.proofs.names.rsync_among.Goals as goal
 

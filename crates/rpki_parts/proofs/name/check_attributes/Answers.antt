@@ -2,7 +2,7 @@ use Rattle.std.proofs.Common.{sym, refl, ap, ◌∙◌}
 use Rattle.rpki_der.specs.Place.{left}
 use Rattle.rpki_parts.specs.Names.{attribute_at}
 use Rattle.rpki_parts.proofs.NameLaws.{attribute_shrinks}
-use Rattle.rpki_parts.proofs.RowTests.{is_row, goes_on, no_row, nothing_left, refused, some_left}
+use Rattle.rpki_der.proofs.RowTests.{is_row, goes_on, no_row, nothing_left, refused, some_left}
 use Rattle.rpki_parts.proofs.name.check_attributes.Goals as goal
 
 pub loop-row-smaller : goal.loop-row-smaller

@@ -1,7 +1,7 @@
 use Rattle.std.proofs.Common.{◌≡◌, length}
 use Rattle.rpki_der.specs.Place.{left}
 use Rattle.rpki_parts.specs.Names.{attribute_at}
-use Rattle.rpki_parts.proofs.RowTests.{is_row}
+use Rattle.rpki_der.proofs.RowTests.{is_row}
 use Rattle.rpki_parts.proofs.name.check_attributes.Given as goal
 
 abbrev pub invariant-loop-row : goal.invariant-loop-row

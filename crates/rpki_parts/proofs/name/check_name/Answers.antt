@@ -2,7 +2,7 @@ use Rattle.std.proofs.Common.{sym, refl, ◌∙◌}
 use Rattle.std.proofs.lemmas.Bool.{false≢true}
 use Rattle.rpki_der.specs.Place.{left}
 use Rattle.rpki_parts.proofs.NameLaws.{no_sequence, name_more, name_ends}
-use Rattle.rpki_parts.proofs.RowTests.{refused}
+use Rattle.rpki_der.proofs.RowTests.{refused}
 use Rattle.rpki_parts.proofs.name.check_name.Goals as goal
 
 pub returns-in_err-parts : goal.returns-in_err-parts

@@ -2,7 +2,7 @@ use Rattle.std.proofs.Common.{sym, refl, ap, ◌∙◌}
 use Rattle.rpki_der.specs.Place.{left}
 use Rattle.rpki_parts.specs.Names.{part_at}
 use Rattle.rpki_parts.proofs.NameLaws.{part_shrinks}
-use Rattle.rpki_parts.proofs.RowTests.{GoesOn, is_row, goes_on, no_row, nothing_left, nothing_mapped, refused, some_left, unmapped}
+use Rattle.rpki_der.proofs.RowTests.{GoesOn, is_row, goes_on, no_row, nothing_left, nothing_mapped, refused, some_left, unmapped}
 use Rattle.rpki_parts.proofs.name.check_parts.Goals as goal
 
 after : (c : goal.In_ok-skip_part) → GoesOn part_at (left c.loop-row.row) (left c.skip_part.new.cursor)

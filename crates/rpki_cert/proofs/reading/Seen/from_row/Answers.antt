@@ -1,7 +1,8 @@
 use Rattle.std.proofs.Common.{refl, sym, ◌∙◌}
 use Rattle.rpki_der.proofs.Answering.{refuses, certainly}
 use Rattle.rpki_ext.specs.ReadExtensions.{extension_at}
-use Rattle.rpki_ext.proofs.Going.{goes_on, shorter, refused, ends, over_end, some_left}
+use Rattle.rpki_der.proofs.RowTests.{some_left}
+use Rattle.rpki_ext.proofs.Going.{goes_on, shorter, refused, ends, over_end}
 use Rattle.rpki_ext.proofs.ReadExtensions.{extension_shrinks}
 use Rattle.rpki_cert.specs.ReadCertificates.{all_kinds}
 use Rattle.rpki_cert.specs.SeenStates.{state_of}
