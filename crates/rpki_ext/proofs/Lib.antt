@@ -9,5 +9,6 @@ pub mod ReadAccess
 pub mod ReadPolicies
 pub mod OneMeaning
 pub mod WrittenLengths
+pub mod WrittenDescriptions
 pub mod WrittenKinds
 pub mod WrittenAccess

@@ -1,10 +1,11 @@
 -- How long what is written of extensions is.
-use Rattle.std.proofs.Common.{Bool, ◌≤◌, ℕ, ◌-◌, List, [], ◌∷◌, ◌++◌, length, take, drop, arith}
+use Rattle.std.proofs.Common.{Bool, ◌≤◌, ℕ, ◌+◌, ◌-◌, List, [], ◌∷◌, ◌++◌, length, take, drop, arith}
 use Rattle.std.specs.List.{concat}
 use Rattle.std.proofs.lemmas.List.{length-append, take_rest}
 use Rattle.rpki_der.specs.Values.{enc}
 use Rattle.rpki_der.specs.Writing.{nested, bool_or_false}
 use Rattle.rpki_der.specs.WrittenPrimitives.{extension_pieces}
+use Rattle.rpki_ext.specs.WrittenExtensions.{uri_name, description}
 use Rattle.rpki_der.proofs.Written.{enc_longer}
 
 pub nested_longer : (tags b : List ℕ) → length b ≤ length (nested tags b)
@@ -16,5 +17,10 @@ pub inner_longer : (tags b : List ℕ) → length (nested (take (length tags - 1
 inner_longer [] b = omega arith
 inner_longer (t ∷ tags) b = rw (take_rest (t ∷ tags) 1) (enc_longer t (nested tags b))
 
+-- both parts of a description
+pub description_longer : (method uri : List ℕ) → length (enc 6 method) + length (uri_name uri) ≤ length (description method uri)
+description_longer method uri = omega (arith, enc_longer 0x30 (enc 6 method ++ (uri_name uri ++ [])), length-append (enc 6 method) (uri_name uri ++ []), length-append (uri_name uri) [])
+
+-- what stands inside the SEQUENCE of an extension is longer than its content
 pub content_longer : (id : List ℕ) (critical : Bool) (c : List ℕ) → length c ≤ length (concat (extension_pieces id critical c))
 content_longer id critical c = omega (arith, enc_longer 4 c, length-append (enc 4 c) [], length-append (bool_or_false critical) (enc 4 c ++ []), length-append (enc 6 id) (bool_or_false critical ++ (enc 4 c ++ [])))

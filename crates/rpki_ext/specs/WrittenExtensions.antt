@@ -1,6 +1,8 @@
 -- The one spelling that is written of each kind of extension (RFC 5280 4.1.2.9, 4.2; RFC 6487 4.8.1 to 4.8.9; X.690 10.1, 11.5): what
 -- stands in its OCTET STRING.
 use Rattle.std.specs.Prelude.{ℕ, Bool, List, [], ◌∷◌, ◌++◌, Option, Some, None, IfSome}
+use Rattle.std.specs.Borrow.{Bor}
+use Rattle.std.specs.Option.{option_copied}
 use Rattle.rpki_der.specs.Values.{enc}
 use Rattle.rpki_der.specs.Writing.{bool_or_false, nested, sequence, sequence_of_some}
 use Rattle.rpki_blocks.specs.declared.overclaim.Overclaim.{Overclaim}
@@ -52,6 +54,15 @@ description_of method (Some uri) = description (method_identifier method) uri �
 
 abbrev pub descriptions : Access → List (List ℕ)
 descriptions a = description_of CaRepository a.ca_repository ++ (description_of RpkiManifest a.rpki_manifest ++ (description_of SignedObject a.signed_object ++ description_of RpkiNotify a.rpki_notify))
+
+-- the URIs that are there, behind references
+abbrev pub access_of : Option (Bor (List ℕ)) → Option (Bor (List ℕ)) → Option (Bor (List ℕ)) → Option (Bor (List ℕ)) → Access
+access_of repository manifest object notify = record {
+  ca_repository = option_copied repository;
+  rpki_manifest = option_copied manifest;
+  signed_object = option_copied object;
+  rpki_notify = option_copied notify;
+}
 
 -- Subject Information Access: none where there is no URI
 abbrev pub subject_information_access_content : Access → Option (List ℕ)

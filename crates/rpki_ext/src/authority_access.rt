@@ -1,10 +1,16 @@
+ghost use Rattle.std.specs.Prelude.{◌≡◌, ◌^◌, ◌<◌, ◌≤◌, ◌++◌, false, length, OnOk, OnErr, IsErrOf};
+ghost use Rattle.std.specs.List.{concat};
+ghost use Rattle.rpki_der.specs.Identifiers.{pkix};
 ghost use Rattle.rpki_der.specs.Place.{Place, left, Keeps, Took, GivesOrMemory, TookOrMemory, AnswersOrMemory};
 ghost use Rattle.rpki_der.specs.Values.{AreOctets};
+ghost use Rattle.rpki_der.specs.WrittenPrimitives.{extension, extension_pieces};
 ghost use Rattle.rpki_ext.specs.Contents.{IsAuthorityInformationAccess};
 ghost use Rattle.rpki_ext.specs.ReadContents.{issuers_of, only_description_at, authority_information_access_at};
+ghost use Rattle.rpki_ext.specs.WrittenExtensions.{authority_information_access_content};
 
+use crate::encode::{put_description, put_nested_extension};
 use crate::names::only_rsync;
-use rpki_der::{Cursor, DecodeError, oid};
+use rpki_der::{Cursor, DecodeError, EncodeError, oid};
 use rpki_parts::Rsync;
 
 // The only description.
@@ -53,4 +59,20 @@ pub fn take_authority_information_access(cursor: &mut Cursor<'_>) -> Result<Rsyn
     ensures keeps { Keeps result cursor.old cursor.new }
 {
     read(cursor)
+}
+
+/// Appends the extension with one description, which says that the issuer's certificate is at this URI. Answers `TooLong` where a
+/// content would have 2^32 octets or more.
+pub fn encode_authority_information_access(
+    out: &mut Vec<u8>,
+    uri: &Rsync,
+) -> Result<(), EncodeError>
+    ensures ok { OnOk result (out.new.items ≡ out.old.items ++ extension (pkix 0x01 0x01) false (authority_information_access_content uri.now)) }
+    ensures err { OnErr result (out.new.items ≡ out.old.items) }
+    ensures fits { OnOk result (length (concat (extension_pieces (pkix 0x01 0x01) false (authority_information_access_content uri.now))) < 2 ^ 32) }
+    ensures too_long { IsErrOf result EncodeError.TooLong → 2 ^ 32 ≤ length (concat (extension_pieces (pkix 0x01 0x01) false (authority_information_access_content uri.now))) }
+{
+    let mut row = Vec::new(*out.allocator());
+    put_description(&mut row, oid::AD_CA_ISSUERS, uri.as_bytes())?;
+    put_nested_extension(out, oid::PE_AUTHORITY_INFO_ACCESS, false, &[0x30], &row)
 }

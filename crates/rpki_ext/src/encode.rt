@@ -4,8 +4,9 @@ ghost use Rattle.std.specs.List.{concat, list_all};
 ghost use Rattle.rpki_der.specs.Reading.{is_oid};
 ghost use Rattle.rpki_der.specs.Writing.{nested};
 ghost use Rattle.rpki_der.specs.WrittenPrimitives.{extension, extension_pieces};
+ghost use Rattle.rpki_ext.specs.WrittenExtensions.{description};
 
-use rpki_der::{EncodeError, put_extension, put_value};
+use rpki_der::{EncodeError, put_extension, put_oid, put_value};
 
 // Appends the octets as the content of a value with the last identifier octet, and that value as the content of one with the octet
 // before it, and so on.
@@ -44,4 +45,20 @@ pub(crate) fn put_nested_extension(
     let mut content = Vec::new(*out.allocator());
     put_nested(&mut content, tags, octets)?;
     put_extension(out, id, critical, &content)
+}
+
+/// Appends the description of this method with this URI (RFC 5280 4.2.2.1).
+pub(crate) fn put_description(
+    out: &mut Vec<u8>,
+    method: &[u8],
+    uri: &[u8],
+) -> Result<(), EncodeError>
+    requires { is_oid method.now ≡ true }
+    ensures ok { OnOk result (out.new.items ≡ out.old.items ++ description method.now uri.now) }
+    ensures too_long { IsErrOf result EncodeError.TooLong → 2 ^ 32 ≤ length (description method.now uri.now) }
+{
+    let mut parts = Vec::new(*out.allocator());
+    put_oid(&mut parts, method)?;
+    put_value(&mut parts, 0x86, uri)?;
+    put_value(out, 0x30, &parts)
 }

@@ -14,7 +14,9 @@ mod names;
 mod policies;
 mod subject_access;
 
-pub use authority_access::take_authority_information_access;
+pub use authority_access::{
+    encode_authority_information_access, take_authority_information_access,
+};
 pub use basic_constraints::{encode_basic_constraints, take_basic_constraints};
 pub use distribution_points::{encode_crl_distribution_points, take_crl_distribution_points};
 pub use extended_key_usage::{
@@ -27,7 +29,7 @@ pub use key_identifiers::{
 };
 pub use key_usage::{KeyUsage, encode_key_usage, take_key_usage};
 pub use policies::{encode_certificate_policies, take_certificate_policies};
-pub use subject_access::{Sia, take_subject_information_access};
+pub use subject_access::{Sia, encode_subject_information_access, take_subject_information_access};
 
 #[cfg(test)]
 mod tests;

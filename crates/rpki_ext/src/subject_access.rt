@@ -1,13 +1,21 @@
-ghost use Rattle.std.specs.Prelude.{◌≡◌, IfOk, IfErr, OnOk, option_map};
+ghost use Rattle.std.specs.Prelude.{◌≡◌, ◌^◌, ◌<◌, ◌≤◌, ◌++◌, true, false, length, IfOk, IfErr, OnOk, OnErr, IsErrOf, option_map};
+ghost use Rattle.std.specs.List.{concat};
+ghost use Rattle.std.specs.Option.{option_copied};
+ghost use Rattle.rpki_der.specs.Identifiers.{pkix};
+ghost use Rattle.rpki_der.specs.Reading.{is_oid};
+ghost use Rattle.rpki_blocks.specs.WrittenResources.{extension_of_some, content_of_some};
 ghost use Rattle.rpki_der.specs.Place.{Place, left, Keeps, Took, Gives, GivesOrMemory, TookOrMemory, AnswersOrMemory};
 ghost use Rattle.rpki_der.specs.Values.{AreOctets};
 ghost use Rattle.rpki_der.specs.declared.error.DecodeError.TheVariants.{Memory};
 ghost use Rattle.rpki_ext.specs.Contents.{IsSubjectInformationAccess};
 ghost use Rattle.rpki_ext.specs.Folding.{over, first_of};
 ghost use Rattle.rpki_ext.specs.ReadContents.{rsync_of, https_of, method_of, description_of, description_at, description_view, access_fold, uris_of, subject_information_access_at};
+ghost use Rattle.rpki_ext.specs.Contents.{method_identifier};
+ghost use Rattle.rpki_ext.specs.WrittenExtensions.{access_of, description_of as written_of, descriptions, subject_information_access_content};
 
+use crate::encode::{put_description, put_nested_extension};
 use crate::names::{https_of, rsync_of, take_uri_name};
-use rpki_der::{Cursor, DecodeError, oid};
+use rpki_der::{Cursor, DecodeError, EncodeError, oid};
 use rpki_parts::{Https, Rsync};
 use std::alloc::AllocError;
 use std::marker::Model;
@@ -36,6 +44,19 @@ impl AccessMethod {
             Some(AccessMethod::RpkiNotify)
         } else {
             None
+        }
+    }
+
+    // Its identifier.
+    fn identifier(self) -> &'static [u8]
+        ensures same { result.now ≡ method_identifier self }
+        ensures valid { is_oid result.now ≡ true }
+    {
+        match self {
+            AccessMethod::CaRepository => oid::AD_CA_REPOSITORY,
+            AccessMethod::RpkiManifest => oid::AD_RPKI_MANIFEST,
+            AccessMethod::SignedObject => oid::AD_SIGNED_OBJECT,
+            AccessMethod::RpkiNotify => oid::AD_RPKI_NOTIFY,
         }
     }
 }
@@ -226,4 +247,68 @@ pub fn take_subject_information_access(cursor: &mut Cursor<'_>) -> Result<Sia, D
     ensures keeps { Keeps result cursor.old cursor.new }
 {
     Sia::take_from(cursor)
+}
+
+// Appends the description of this method with this URI, if there is one.
+fn put_access(
+    out: &mut Vec<u8>,
+    method: AccessMethod,
+    uri: Option<&[u8]>,
+) -> Result<(), EncodeError>
+    ensures ok { OnOk result (out.new.items ≡ out.old.items ++ concat (written_of method (option_copied uri.entry))) }
+    ensures too_long { IsErrOf result EncodeError.TooLong → 2 ^ 32 ≤ length (concat (written_of method (option_copied uri.entry))) }
+{
+    match uri {
+        Some(uri) => put_description(out, method.identifier(), uri),
+        None => Ok(()),
+    }
+}
+
+// Appends the descriptions of the URIs that are there.
+fn put_descriptions(
+    out: &mut Vec<u8>,
+    ca_repository: Option<&Rsync>,
+    rpki_manifest: Option<&Rsync>,
+    signed_object: Option<&Rsync>,
+    rpki_notify: Option<&Https>,
+) -> Result<(), EncodeError>
+    ensures ok { OnOk result (out.new.items ≡ out.old.items ++ concat (descriptions (access_of ca_repository.entry rpki_manifest.entry signed_object.entry rpki_notify.entry))) }
+    ensures too_long { IsErrOf result EncodeError.TooLong → 2 ^ 32 ≤ length (concat (descriptions (access_of ca_repository.entry rpki_manifest.entry signed_object.entry rpki_notify.entry))) }
+{
+    let repository = ca_repository.map(|uri| uri.as_bytes());
+    let manifest = rpki_manifest.map(|uri| uri.as_bytes());
+    let object = signed_object.map(|uri| uri.as_bytes());
+    let notify = rpki_notify.map(|uri| uri.as_bytes());
+    put_access(out, AccessMethod::CaRepository, repository)?;
+    put_access(out, AccessMethod::RpkiManifest, manifest)?;
+    put_access(out, AccessMethod::SignedObject, object)?;
+    put_access(out, AccessMethod::RpkiNotify, notify)
+}
+
+/// Appends the extension with a description for each URI that is there, in this order; nothing where there is none. Answers `TooLong`
+/// where a content would have 2^32 octets or more.
+pub fn encode_subject_information_access(
+    out: &mut Vec<u8>,
+    ca_repository: Option<&Rsync>,
+    rpki_manifest: Option<&Rsync>,
+    signed_object: Option<&Rsync>,
+    rpki_notify: Option<&Https>,
+) -> Result<(), EncodeError>
+    ensures ok { OnOk result (out.new.items ≡ out.old.items ++ extension_of_some (pkix 0x01 0x0B) false (subject_information_access_content (access_of ca_repository.entry rpki_manifest.entry signed_object.entry rpki_notify.entry))) }
+    ensures err { OnErr result (out.new.items ≡ out.old.items) }
+    ensures fits { OnOk result (length (content_of_some (pkix 0x01 0x0B) false (subject_information_access_content (access_of ca_repository.entry rpki_manifest.entry signed_object.entry rpki_notify.entry))) < 2 ^ 32) }
+    ensures too_long { IsErrOf result EncodeError.TooLong → 2 ^ 32 ≤ length (content_of_some (pkix 0x01 0x0B) false (subject_information_access_content (access_of ca_repository.entry rpki_manifest.entry signed_object.entry rpki_notify.entry))) }
+{
+    let mut row = Vec::new(*out.allocator());
+    put_descriptions(
+        &mut row,
+        ca_repository,
+        rpki_manifest,
+        signed_object,
+        rpki_notify,
+    )?;
+    if row.is_empty() {
+        return Ok(());
+    }
+    put_nested_extension(out, oid::PE_SUBJECT_INFO_ACCESS, false, &[0x30], &row)
 }
