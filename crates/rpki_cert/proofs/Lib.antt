@@ -5,3 +5,6 @@ pub mod ReadCerts
 pub mod UsedUp
 pub mod Kept
 pub mod Fronts
+pub mod WrittenRows
+pub mod WrittenFields
+pub mod WrittenCertificates

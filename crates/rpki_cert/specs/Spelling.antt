@@ -11,10 +11,10 @@ use Rattle.rpki_blocks.specs.Overclaims.{ip_identifier, as_identifier}
 use Rattle.rpki_blocks.specs.Resources.{IsResources, missing}
 use Rattle.rpki_blocks.specs.WrittenResources.{ip_resources, as_resources, extension_of_some}
 use Rattle.rpki_parts.specs.Names.{IsName}
-use Rattle.rpki_parts.specs.Uris.{IsRsync, IsHttps}
+use Rattle.rpki_parts.specs.Uris.{IsRsync}
 use Rattle.rpki_parts.specs.WrittenParts.{algorithm, validity, key}
 use Rattle.rpki_ext.specs.Contents.{IsExtendedKeyUsage}
-use Rattle.rpki_ext.specs.WrittenExtensions.{basic_constraints_content, subject_key_identifier_content, authority_key_identifier_content, key_usage_content, extended_key_usage_content, crl_distribution_points_content, authority_information_access_content, subject_information_access_content, certificate_policies_content}
+use Rattle.rpki_ext.specs.WrittenExtensions.{basic_constraints_content, subject_key_identifier_content, authority_key_identifier_content, key_usage_content, extended_key_usage_content, crl_distribution_points_content, authority_information_access_content, HasUris, subject_information_access_content, certificate_policies_content}
 use Rattle.rpki_cert.specs.Certificates.{TbsFields, version_3}
 
 -- an extension that is written where it has a content
@@ -65,10 +65,7 @@ pub record Fits (f : TbsFields) : Type 0 where
   pub extended_key_usage_is : IfSome f.extended_key_usage (λ ids. IsExtendedKeyUsage ids (enc 0x30 ids))
   pub crl_uri_is : IfSome f.crl_uri IsRsync
   pub ca_issuer_is : IfSome f.ca_issuer IsRsync
-  pub ca_repository_is : IfSome f.access.ca_repository IsRsync
-  pub rpki_manifest_is : IfSome f.access.rpki_manifest IsRsync
-  pub signed_object_is : IfSome f.access.signed_object IsRsync
-  pub rpki_notify_is : IfSome f.access.rpki_notify IsHttps
+  pub access_is : HasUris f.access
   pub v4_is : IsResources (2 ^ 128 - 1) f.v4_resources
   pub v6_is : IsResources (2 ^ 128 - 1) f.v6_resources
   pub as_is : IsResources (2 ^ 32 - 1) f.as_resources

@@ -1,7 +1,7 @@
 -- What is written of Subject Information Access spells it.
 use Rattle.std.specs.Prelude.{IfSome}
 use Rattle.std.specs.List.{flat_map, AllByRecursion, AllZip}
-use Rattle.std.proofs.Common.{◌≡◌, ℕ, List, [], ◌∷◌, ◌++◌, Option, Some, None, refl, ap, subst, arith}
+use Rattle.std.proofs.Common.{◌≡◌, ℕ, List, [], ◌∷◌, ◌++◌, Option, Some, None, refl, ap, subst, ◌∙◌, arith}
 use Rattle.std.proofs.lemmas.List.{append-nil}
 use Rattle.rpki_der.specs.Values.{AreOctets, IsSequence}
 use Rattle.rpki_der.specs.Writing.{sequence, sequence_of_some}
@@ -137,6 +137,21 @@ sequence_made depth a ds (p ∷ ps) zipped f c e h =
 
 pub subject_information_access_made : (depth : ℕ) (a : Access) → HasUris a → (c : List ℕ) → subject_information_access_content a ≡ Some c → Short c → IsSubjectInformationAccessWithin depth a c
 subject_information_access_made depth a h = rw (← texts_are a) (sequence_made depth a (values (rows a)) (texts (rows a)) (spelled depth (rows a) (printables a h)) (firsts a h))
+
+-- where there is no URI nothing is written
+all_absent : (ms : Methods) → texts ms ≡ [] → AllByRecursion (λ (m : AccessMethod × Option (List ℕ)). m.1 ≡ None) ms
+all_absent [] e = tt
+all_absent ((m, None) ∷ ms) e = (refl, all_absent ms e)
+all_absent ((m, Some uri) ∷ ms) e = absurd cc
+
+no_pieces : (ps : List (List ℕ)) → sequence_of_some ps ≡ None → ps ≡ []
+no_pieces [] e = refl
+no_pieces (p ∷ ps) e = absurd cc
+
+pub no_uris : (a : Access) → subject_information_access_content a ≡ None → a ≡ record { ca_repository = None; rpki_manifest = None; signed_object = None; rpki_notify = None }
+no_uris a e =
+    let h = all_absent (rows a) (texts_are a ∙ no_pieces (descriptions a) e) in
+    λ i. record { ca_repository = h.0 i; rpki_manifest = h.1.0 i; signed_object = h.1.1.0 i; rpki_notify = h.1.1.1.0 i }
 
 pub ok_subject_information_access : (a : Access) → HasUris a → IfSome (subject_information_access_content a) IfShort
 ok_subject_information_access a h = rw (← texts_are a) (ok_pieces (texts (rows a)) (ok_texts (rows a) (printables a h)))
