@@ -1,7 +1,7 @@
 -- The extensions that are written of a row of parts.
 use Rattle.std.specs.Prelude.{bytes_eq, filter, IfSome, ◌≢◌, ◌&&◌}
 use Rattle.std.specs.Option.{option_map}
-use Rattle.std.specs.List.{AllByRecursion, concat, flat_map, list_any, list_all}
+use Rattle.std.specs.List.{AllByRecursion, AllZip, concat, flat_map, list_any, list_all}
 use Rattle.std.proofs.Common.{◌≡◌, ℕ, Bool, true, false, cond, List, [], ◌∷◌, ◌++◌, map, Option, Some, None, refl, sym, ap, ◌∙◌}
 use Rattle.std.proofs.lemmas.Bool.{and_parts}
 use Rattle.std.proofs.lemmas.List.{append-nil}
@@ -42,9 +42,16 @@ only_written : (kind : Kind) (ps : List Part) → only kind (written ps) ≡ wri
 only_written kind [] = refl
 only_written kind (p ∷ ps) = only_more kind p.identifier p.critical p.content ps (only_written kind ps)
 
--- the only part of a kind
-pub only_one : (kind : Kind) (ps : List Part) (p : Part) → filter (is_in kind) ps ≡ p ∷ [] → only kind (written ps) ≡ written (p ∷ [])
-only_one kind ps p e = only_written kind ps ∙ ap written e
+-- the part is the only one of its kind, and its content is short
+pub record IsOnly (ps : List Part) (kind : Kind) (p : Part) : Type 0 where
+  pub one : filter (is_in kind) ps ≡ p ∷ []
+  pub short : IfSome p.content Short
+
+pub only_ones : (all : List Part) (kinds : List Kind) (ps : List Part) → map (λ kind. filter (is_in kind) all) kinds ≡ map (λ p. p ∷ []) ps → AllByRecursion (λ p. IfSome p.content Short) ps → AllZip (IsOnly all) kinds ps
+only_ones all [] [] e s = tt
+only_ones all [] (p ∷ ps) e s = absurd cc
+only_ones all (kind ∷ kinds) [] e s = absurd cc
+only_ones all (kind ∷ kinds) (p ∷ ps) e s = (record { one = cc; short = s.0 }, only_ones all kinds ps (cc) s.1)
 
 -- ---- what the part of a kind tells
 
@@ -52,13 +59,6 @@ only_one kind ps p e = only_written kind ps ∙ ap written e
 abbrev pub Writes : {V : Type 0} → (V → List ℕ → Type 0) → Option (List ℕ) → Option V → Type 0
 Writes spells None v = v ≡ None
 Writes {V} spells (Some c) v = (w : V) × (v ≡ Some w) × (Short c → spells w c)
-
-pub found : {V : Type 0} (spells : V → List ℕ → Type 0) (wanted : Option Bool) (p : Part) (v : Option V) → IsFlagFor wanted p.critical → IfSome p.content Short → Writes spells p.content v → Found spells wanted (written (p ∷ [])) v
-found spells wanted p v flag = here p.content
-  where
-    here : (o : Option (List ℕ)) → IfSome o Short → Writes spells o v → Found spells wanted (written (part p.identifier p.critical o ∷ [])) v
-    here None short w = w
-    here (Some c) short w = (w.0, (flag, (c, record { rest = []; is = sym (append-nil c) }, w.2 short)), w.1)
 
 -- of an optional value
 pub writes_some : {V : Type 0} (spells : V → List ℕ → Type 0) (write : V → List ℕ) (P : V → Type 0) → ((v : V) → P v → Short (write v) → spells v (write v)) → (v : Option V) → IfSome v P → Writes spells (option_map write v) v
@@ -70,19 +70,30 @@ pub writes_any : {V : Type 0} (spells : V → List ℕ → Type 0) (Q : Option V
 writes_any spells Q None v none is made = (None, refl, none refl)
 writes_any spells Q (Some c) v none is made = (Some v, (v, refl, made c refl), is)
 
-pub not_empty : (p : Part) → (p.content ≡ None → ⊥) → written (p ∷ []) ≢ []
-not_empty p = here p.content
-  where
-    here : (o : Option (List ℕ)) → (o ≡ None → ⊥) → written (part p.identifier p.critical o ∷ []) ≢ []
-    here None h e = h refl
-    here (Some c) h e = cc
+found : {V : Type 0} (spells : V → List ℕ → Type 0) (wanted : Option Bool) (id : List ℕ) (critical : Bool) (o : Option (List ℕ)) (v : Option V) → IsFlagFor wanted critical → IfSome o Short → Writes spells o v → Found spells wanted (written (part id critical o ∷ [])) v
+found spells wanted id critical None v flag short w = w
+found spells wanted id critical (Some c) v flag short w = (w.0, (flag, (c, record { rest = []; is = sym (append-nil c) }, w.2 short)), w.1)
 
-pub same_identifier : (p : Part) → AllByRecursion (λ x. x.identifier ≡ p.identifier) (written (p ∷ []))
-same_identifier p = here p.content
-  where
-    here : (o : Option (List ℕ)) → AllByRecursion (λ x. x.identifier ≡ p.identifier) (written (part p.identifier p.critical o ∷ []))
-    here None = tt
-    here (Some c) = (refl, tt)
+not_empty : (id : List ℕ) (critical : Bool) (o : Option (List ℕ)) → (o ≡ None → ⊥) → written (part id critical o ∷ []) ≢ []
+not_empty id critical None h e = h refl
+not_empty id critical (Some c) h e = cc
+
+same_identifier : (id : List ℕ) (critical : Bool) (o : Option (List ℕ)) → AllByRecursion (λ x. x.identifier ≡ id) (written (part id critical o ∷ []))
+same_identifier id critical None = tt
+same_identifier id critical (Some c) = (refl, tt)
+
+module _ {ps : List Part} {kind : Kind} {p : Part} (h : IsOnly ps kind p) where
+  alone : only kind (written ps) ≡ written (p ∷ [])
+  alone = only_written kind ps ∙ ap written h.one
+
+  pub tells : {V : Type 0} (spells : V → List ℕ → Type 0) (wanted : Option Bool) (v : Option V) → IsFlagFor wanted p.critical → Writes spells p.content v → Found spells wanted (only kind (written ps)) v
+  tells spells wanted v flag w = rw alone (found spells wanted p.identifier p.critical p.content v flag h.short w)
+
+  pub is_there : (p.content ≡ None → ⊥) → only kind (written ps) ≢ []
+  is_there some = rw alone (not_empty p.identifier p.critical p.content some)
+
+  pub are_named : AllByRecursion (λ x. x.identifier ≡ p.identifier) (only kind (written ps))
+  are_named = rw alone (same_identifier p.identifier p.critical p.content)
 
 -- ---- all parts
 

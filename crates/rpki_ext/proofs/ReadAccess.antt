@@ -61,7 +61,7 @@ method_is id m e =
 pub one_method : (m n : AccessMethod) → method_identifier m ≡ method_identifier n → m ≡ n
 one_method m n e = some_is m n (sym (method_again m) ∙ ap method_of e ∙ method_again n)
 
-method_spelled : (m : AccessMethod) → IsObjectIdentifier (method_identifier m) (enc 6 (method_identifier m))
+pub method_spelled : (m : AccessMethod) → IsObjectIdentifier (method_identifier m) (enc 6 (method_identifier m))
 method_spelled CaRepository = spelled_oid (method_identifier CaRepository) refl refl (omega arith)
 method_spelled RpkiManifest = spelled_oid (method_identifier RpkiManifest) refl refl (omega arith)
 method_spelled SignedObject = spelled_oid (method_identifier SignedObject) refl refl (omega arith)

@@ -3,11 +3,12 @@ use Rattle.std.specs.Prelude.{IfSome}
 use Rattle.std.specs.List.{flat_map, AllByRecursion, AllZip}
 use Rattle.std.proofs.Common.{◌≡◌, ℕ, List, [], ◌∷◌, ◌++◌, Option, Some, None, refl, ap, subst, ◌∙◌, arith}
 use Rattle.std.proofs.lemmas.List.{append-nil}
-use Rattle.rpki_der.specs.Values.{AreOctets, IsSequence}
+use Rattle.std.proofs.lemmas.Option.{IfSome_then}
+use Rattle.rpki_der.specs.Values.{IsSequence}
 use Rattle.rpki_der.specs.Writing.{sequence, sequence_of_some}
 use Rattle.rpki_der.proofs.Octets.{some, some_is, both_are}
 use Rattle.rpki_der.proofs.Written.{Short, content_short, pieces_short, made}
-use Rattle.rpki_der.proofs.WrittenOctets.{IfShort, literal}
+use Rattle.rpki_der.proofs.WrittenOctets.{IfShort}
 use Rattle.rpki_blocks.proofs.OctetsOfBlocks.{ok_pieces}
 use Rattle.rpki_parts.specs.Uris.{ArePrintable, IsRsync, IsHttps}
 use Rattle.rpki_ext.specs.Choosing.{IsFirstOf}
@@ -15,7 +16,7 @@ use Rattle.rpki_ext.specs.Contents.{Access, method_identifier, HasUri, IsAccessD
 use Rattle.rpki_ext.specs.WrittenExtensions.{HasUris, description_of, descriptions, subject_information_access_content}
 use Rattle.rpki_ext.specs.declared.subject_access.AccessMethod.{AccessMethod}
 use Rattle.rpki_ext.specs.declared.subject_access.AccessMethod.TheVariants.{CaRepository, RpkiManifest, SignedObject, RpkiNotify}
-use Rattle.rpki_ext.proofs.ReadAccess.{Description}
+use Rattle.rpki_ext.proofs.ReadAccess.{Description, method_spelled}
 use Rattle.rpki_ext.proofs.WrittenKinds.{uri_name_made, description_pieces_short, ok_description}
 
 -- each method with its URI
@@ -40,12 +41,6 @@ texts_are a = rw append-nil refl
 
 -- ---- each description
 
-method_octets : (m : AccessMethod) → AreOctets (method_identifier m)
-method_octets CaRepository = literal (method_identifier CaRepository) refl
-method_octets RpkiManifest = literal (method_identifier RpkiManifest) refl
-method_octets SignedObject = literal (method_identifier SignedObject) refl
-method_octets RpkiNotify = literal (method_identifier RpkiNotify) refl
-
 abbrev ArePrintables : Methods → Type 0
 ArePrintables ms = AllByRecursion (λ (m : AccessMethod × Option (List ℕ)). IfSome m.1 ArePrintable) ms
 
@@ -59,7 +54,7 @@ spelled depth ((m, Some uri) ∷ ms) p h =
 ok_texts : (ms : Methods) → ArePrintables ms → AllByRecursion IfShort (texts ms)
 ok_texts [] p = tt
 ok_texts ((m, None) ∷ ms) p = ok_texts ms p.1
-ok_texts ((m, Some uri) ∷ ms) p = (ok_description (method_identifier m) uri (method_octets m) p.0, ok_texts ms p.1)
+ok_texts ((m, Some uri) ∷ ms) p = (ok_description (method_identifier m) uri (method_spelled m).enc.octets p.0, ok_texts ms p.1)
 
 -- ---- the first of each method
 
@@ -115,15 +110,11 @@ firsts a h =
 
 -- ---- the whole
 
-if_some : (P Q : List ℕ → Type 0) → ((x : List ℕ) → P x → Q x) → (o : Option (List ℕ)) → IfSome o P → IfSome o Q
-if_some P Q f None h = tt
-if_some P Q f (Some x) h = f x h
-
 printables : (a : Access) → HasUris a → ArePrintables (rows a)
 printables a h =
     let rsync : (uri : List ℕ) → IsRsync uri → ArePrintable uri = λ uri u. u.printable in
     let https : (uri : List ℕ) → IsHttps uri → ArePrintable uri = λ uri u. u.printable in
-    (if_some _ _ rsync _ h.ca_repository_is, (if_some _ _ rsync _ h.rpki_manifest_is, (if_some _ _ rsync _ h.signed_object_is, (if_some _ _ https _ h.rpki_notify_is, tt))))
+    (IfSome_then a.ca_repository h.ca_repository_is rsync, (IfSome_then a.rpki_manifest h.rpki_manifest_is rsync, (IfSome_then a.signed_object h.signed_object_is rsync, (IfSome_then a.rpki_notify h.rpki_notify_is https, tt))))
 
 sequence_made : (depth : ℕ) (a : Access) (ds : List Description) (ps : List (List ℕ)) → (AllByRecursion Short ps → AllZip (IsAccessDescriptionWithin depth) ds ps) → Firsts a ds → (c : List ℕ) → sequence_of_some ps ≡ Some c → Short c → IsSubjectInformationAccessWithin depth a c
 sequence_made depth a ds [] zipped f c e h = absurd cc
