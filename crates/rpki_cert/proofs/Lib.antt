@@ -8,3 +8,4 @@ pub mod Fronts
 pub mod WrittenRows
 pub mod WrittenFields
 pub mod WrittenCertificates
+pub mod SomeFields

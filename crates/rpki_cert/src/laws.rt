@@ -22,8 +22,9 @@ pub fn octets_are_kept()
 
 /// What is written of fields is a TBSCertificate of these fields, through every form of length: where the fields have a spelling, at least
 /// one kind of resources is there, and what stands as IPv4 are whole IPv4 addresses. A certificate whose signed octets are that spelling is
-/// read from its own octets, where they fit.
+/// read from its own octets, where they fit. There are such fields.
 pub fn written_is_read()
     ensures data { (f : TbsFields) → Fits f → HasResources f → AreV4 f.v4_resources → IsTbsCertificate f (spelling f) }
     ensures certificate { (c : CertFields) → c.signed_data.message ≡ spelling c.fields → Fits c.fields → HasResources c.fields → AreV4 c.fields.v4_resources → AreOctets c.signed_data.signature.value → length (concat (signed_pieces c.signed_data)) < 2 ^ 32 → IsCertificate c (signed_data c.signed_data) }
+    ensures premises { (f : TbsFields) × Fits f × HasResources f × AreV4 f.v4_resources }
 {}
