@@ -8,8 +8,7 @@ ghost use Rattle.rpki_ext.specs.Contents.{IsBasicConstraints};
 ghost use Rattle.rpki_ext.specs.ReadContents.{basic_constraints_at};
 ghost use Rattle.rpki_ext.specs.WrittenExtensions.{basic_constraints_content};
 
-use crate::encode::put_nested_extension;
-use rpki_der::{Cursor, DecodeError, EncodeError, oid};
+use rpki_der::{Cursor, DecodeError, EncodeError, oid, put_extension};
 
 // The same, by the reading function.
 #[tactic(auto, unfolding(crate::specs::ReadContents::basic_constraints_at))]
@@ -38,6 +37,17 @@ pub fn take_basic_constraints(cursor: &mut Cursor<'_>) -> Result<bool, DecodeErr
     read(cursor)
 }
 
+// What stands in the OCTET STRING.
+fn written(ca: bool) -> &'static [u8]
+    ensures { result.now ≡ basic_constraints_content ca }
+{
+    if ca {
+        &[0x30, 0x03, 0x01, 0x01, 0xff]
+    } else {
+        &[0x30, 0x00]
+    }
+}
+
 /// Appends the critical extension that says whether the subject is a CA: the BOOLEAN only where it is true.
 pub fn encode_basic_constraints(out: &mut Vec<u8>, ca: bool) -> Result<(), EncodeError>
     ensures ok { OnOk result (out.new.items ≡ out.old.items ++ extension (id_ce 0x13) true (basic_constraints_content ca)) }
@@ -45,6 +55,5 @@ pub fn encode_basic_constraints(out: &mut Vec<u8>, ca: bool) -> Result<(), Encod
     ensures fits { OnOk result (length (concat (extension_pieces (id_ce 0x13) true (basic_constraints_content ca))) < 2 ^ 32) }
     ensures too_long { IsErrOf result EncodeError.TooLong → 2 ^ 32 ≤ length (concat (extension_pieces (id_ce 0x13) true (basic_constraints_content ca))) }
 {
-    let flag: &[u8] = if ca { &[0x01, 0x01, 0xff] } else { &[] };
-    put_nested_extension(out, oid::CE_BASIC_CONSTRAINTS, true, &[0x30], flag)
+    put_extension(out, oid::CE_BASIC_CONSTRAINTS, true, written(ca))
 }

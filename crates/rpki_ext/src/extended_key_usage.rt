@@ -11,7 +11,7 @@ ghost use Rattle.rpki_der.specs.declared.error.EncodeError.TheVariants.{Memory};
 
 use crate::encode::put_nested_extension;
 use bytes::Bytes;
-use rpki_der::{Cursor, DecodeError, EncodeError, Piece, oid, put_oid};
+use rpki_der::{Cursor, DecodeError, EncodeError, Piece, oid};
 use std::alloc::{AllocError, Global};
 use std::marker::Model;
 

@@ -2,15 +2,14 @@ ghost use Rattle.std.specs.Prelude.{◌≡◌, ◌^◌, ◌<◌, ◌≤◌, ◌+
 ghost use Rattle.std.specs.List.{concat};
 ghost use Rattle.rpki_der.specs.Identifiers.{id_ce};
 ghost use Rattle.rpki_der.specs.Place.{Place, left, Keeps, Took, Answers};
-ghost use Rattle.rpki_der.specs.Values.{AreOctets, enc};
+ghost use Rattle.rpki_der.specs.Values.{AreOctets};
 ghost use Rattle.rpki_der.specs.WrittenPrimitives.{extension, extension_pieces};
 ghost use Rattle.rpki_ext.specs.Contents.{IsKeyUsage};
 ghost use Rattle.rpki_ext.specs.ReadContents.{key_usage_at};
 ghost use Rattle.rpki_ext.specs.WrittenExtensions.{key_usage_content};
 ghost use Rattle.rpki_der.specs.declared.error.EncodeError.TheVariants.{Memory};
 
-use crate::encode::put_nested_extension;
-use rpki_der::{Cursor, DecodeError, EncodeError, oid, put_value};
+use rpki_der::{Cursor, DecodeError, EncodeError, oid, put_extension};
 
 /// What a certificate's key is for (RFC 6487 4.8.4).
 #[derive(Debug, Clone, Copy, PartialEq, Eq)]
@@ -22,14 +21,13 @@ pub enum KeyUsage {
 }
 
 impl KeyUsage {
-    // The content of the BIT STRING: how many bits are unused at its end, and the bits.
-    fn bits(self) -> &'static [u8]
-        ensures content { enc 3 result.now ≡ key_usage_content self }
-        ensures short { length result.now ≡ 2 }
+    // The BIT STRING: how many bits are unused at its end, and the bits.
+    fn written(self) -> &'static [u8]
+        ensures { result.now ≡ key_usage_content self }
     {
         match self {
-            KeyUsage::Ca => &[0x01, 0x06],
-            KeyUsage::Ee => &[0x07, 0x80],
+            KeyUsage::Ca => &[0x03, 0x02, 0x01, 0x06],
+            KeyUsage::Ee => &[0x03, 0x02, 0x07, 0x80],
         }
     }
 
@@ -39,7 +37,8 @@ impl KeyUsage {
         ensures err { OnErr result (out.new.items ≡ out.old.items) }
         ensures memory { IfErr result (λ e. e ≡ Memory) }
     {
-        put_value(out, 0x03, self.bits())
+        out.extend_from_slice(self.written())?;
+        Ok(())
     }
 }
 
@@ -77,5 +76,5 @@ pub fn encode_key_usage(out: &mut Vec<u8>, usage: KeyUsage) -> Result<(), Encode
     ensures fits { OnOk result (length (concat (extension_pieces (id_ce 0x0F) true (key_usage_content usage))) < 2 ^ 32) }
     ensures too_long { IsErrOf result EncodeError.TooLong → 2 ^ 32 ≤ length (concat (extension_pieces (id_ce 0x0F) true (key_usage_content usage))) }
 {
-    put_nested_extension(out, oid::CE_KEY_USAGE, true, &[0x03], usage.bits())
+    put_extension(out, oid::CE_KEY_USAGE, true, usage.written())
 }

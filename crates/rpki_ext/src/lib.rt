@@ -33,3 +33,5 @@ pub use subject_access::{Sia, encode_subject_information_access, take_subject_in
 
 #[cfg(test)]
 mod tests;
+#[cfg(test)]
+mod writing_tests;

@@ -299,16 +299,22 @@ pub fn encode_subject_information_access(
     ensures fits { OnOk result (length (content_of_some (pkix 0x01 0x0B) false (subject_information_access_content (access_of ca_repository.entry rpki_manifest.entry signed_object.entry rpki_notify.entry))) < 2 ^ 32) }
     ensures too_long { IsErrOf result EncodeError.TooLong → 2 ^ 32 ≤ length (content_of_some (pkix 0x01 0x0B) false (subject_information_access_content (access_of ca_repository.entry rpki_manifest.entry signed_object.entry rpki_notify.entry))) }
 {
-    let mut row = Vec::new(*out.allocator());
+    let mut descriptions = Vec::new(*out.allocator());
     put_descriptions(
-        &mut row,
+        &mut descriptions,
         ca_repository,
         rpki_manifest,
         signed_object,
         rpki_notify,
     )?;
-    if row.is_empty() {
+    if descriptions.is_empty() {
         return Ok(());
     }
-    put_nested_extension(out, oid::PE_SUBJECT_INFO_ACCESS, false, &[0x30], &row)
+    put_nested_extension(
+        out,
+        oid::PE_SUBJECT_INFO_ACCESS,
+        false,
+        &[0x30],
+        &descriptions,
+    )
 }
