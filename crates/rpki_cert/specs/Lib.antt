@@ -1,6 +1,7 @@
 pub mod Kinds
 pub mod Certificates
 pub mod Spelling
+pub mod Making
 pub mod ReadCertificates
 pub mod Named
 pub mod SeenStates

@@ -3,7 +3,9 @@
 
 mod cert;
 mod copies;
+mod fields;
 pub mod laws;
+mod making;
 mod reading;
 mod tbs;
 #[cfg(test)]

@@ -18,13 +18,13 @@ use std::marker::Model;
 /// The data of a resource certificate: all but its signature (RFC 5280 4.1.2, RFC 6487 4).
 #[derive(Drop)]
 pub struct TbsCert {
-    serial_number: Serial,
-    signature: RpkiSignatureAlgorithm,
-    issuer: Name,
-    validity: Validity,
-    subject: Name,
-    subject_public_key_info: PublicKey,
-    extensions: Extensions,
+    pub(crate) serial_number: Serial,
+    pub(crate) signature: RpkiSignatureAlgorithm,
+    pub(crate) issuer: Name,
+    pub(crate) validity: Validity,
+    pub(crate) subject: Name,
+    pub(crate) subject_public_key_info: PublicKey,
+    pub(crate) extensions: Extensions,
 }
 
 impl Model for TbsCert {
