@@ -7,6 +7,7 @@ mod fields;
 pub mod laws;
 mod making;
 mod reading;
+mod resources;
 mod tbs;
 #[cfg(test)]
 mod tests;
