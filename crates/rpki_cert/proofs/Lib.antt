@@ -9,3 +9,4 @@ pub mod WrittenRows
 pub mod WrittenFields
 pub mod WrittenCertificates
 pub mod SomeFields
+pub mod WrittenRow

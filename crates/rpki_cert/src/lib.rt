@@ -9,6 +9,7 @@ mod making;
 mod reading;
 mod resources;
 mod tbs;
+mod writing;
 #[cfg(test)]
 mod tests;
 
