@@ -10,3 +10,5 @@ pub mod WrittenFields
 pub mod WrittenCertificates
 pub mod SomeFields
 pub mod WrittenRow
+pub mod WritingSteps
+pub mod Refusals

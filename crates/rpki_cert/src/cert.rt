@@ -20,8 +20,8 @@ use std::marker::Model;
 /// RFC 6487 4).
 #[derive(Drop)]
 pub struct Cert {
-    tbs: TbsCert,
-    signed_data: SignedData,
+    pub(crate) tbs: TbsCert,
+    pub(crate) signed_data: SignedData,
 }
 
 impl Model for Cert {

@@ -9,9 +9,9 @@ mod making;
 mod reading;
 mod resources;
 mod tbs;
-mod writing;
 #[cfg(test)]
 mod tests;
+mod writing;
 
 pub use cert::Cert;
 pub use rpki_blocks::Overclaim;

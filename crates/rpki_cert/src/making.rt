@@ -1,18 +1,27 @@
 //! Certificates are made: fields go in, octets come out.
-ghost use Rattle.std.specs.Prelude.{◌≡◌, IfOk, IfErr};
+ghost use Rattle.std.specs.Prelude.{◌≡◌, ◌^◌, ◌<◌, ◌≤◌, length, Ok, IfOk, IfErr, OnOk, IsErrOf};
+ghost use Rattle.std.specs.List.{concat};
 ghost use Rattle.rpki_der.specs.declared.error.EncodeError.TheVariants.{Memory};
 ghost use Rattle.rpki_ext.specs.Extensions.{or_else};
-ghost use Rattle.rpki_parts.specs.WrittenParts.{subject_name};
+ghost use Rattle.rpki_parts.specs.WrittenParts.{subject_name, signed_pieces};
 ghost use Rattle.rpki_cert.specs.Certificates.{TbsFields};
-ghost use Rattle.rpki_cert.specs.Making.{new_fields};
+ghost use Rattle.rpki_cert.specs.Making.{new_fields, IsRefusal};
+ghost use Rattle.rpki_cert.specs.Spelling.{spelling};
 
+use crate::cert::Cert;
 use crate::reading::Extensions;
 use crate::tbs::TbsCert;
+use bytes::Bytes;
 use rpki_blocks::{AsResources, IpResources, Overclaim};
-use rpki_der::{EncodeError, Serial};
+use rpki_der::{EncodeError, Serial, put_bits};
 use rpki_ext::KeyUsage;
-use rpki_parts::{Name, PublicKey, RpkiSignatureAlgorithm, Validity};
-use std::alloc::Global;
+use rpki_parts::{
+    Name, PublicKey, RpkiSignatureAlgorithm, SignedData, Signer, SigningError, Validity,
+};
+use std::alloc::{AllocError, Global};
+
+// The greatest length of a content (own).
+const MAX_LEN: usize = 0xFFFF_FFFF;
 
 // The subject that is given, else the name of the key.
 fn subject_or_own(
@@ -27,6 +36,21 @@ fn subject_or_own(
         Some(subject) => Ok(subject),
         None => key.to_subject_name(alloc),
     }
+}
+
+// Whether the whole certificate fits, which is the SEQUENCE of the signed data.
+fn check_length(alloc: Global, signed_data: &SignedData) -> Result<(), EncodeError>
+    ensures fits { OnOk result (length (concat (signed_pieces signed_data.now)) < 2 ^ 32) }
+    ensures too_long { IsErrOf result EncodeError.TooLong → 2 ^ 32 ≤ length (concat (signed_pieces signed_data.now)) }
+{
+    let signature = signed_data.signature();
+    let mut tail = Vec::new(alloc);
+    signature.algorithm().x509_encode(&mut tail)?;
+    put_bits(&mut tail, 0, signature.value())?;
+    if signed_data.data().len() + tail.len() > MAX_LEN {
+        return Err(EncodeError::TooLong);
+    }
+    Ok(())
 }
 
 impl TbsCert {
@@ -73,5 +97,50 @@ impl TbsCert {
             subject_public_key_info,
             extensions,
         })
+    }
+
+    // The octets that `encode_ref` writes, with the signer's signature.
+    fn sign<S: Signer>(
+        &self,
+        alloc: Global,
+        signer: &S,
+        key: &S::KeyId,
+    ) -> Result<SignedData, SigningError<S::Error>>
+        ensures message { IfOk result (λ s. s.message ≡ spelling self.now) }
+        ensures signed { IfOk result (λ s. S.signs signer.now key.now self.now.algorithm (spelling self.now) (Ok s.signature)) }
+        ensures fits { IfOk result (λ s. length (concat (signed_pieces s)) < 2 ^ 32) }
+        ensures refused { IfErr result (IsRefusal self.now (S.signs signer.now key.now self.now.algorithm (spelling self.now))) }
+    {
+        let mut octets = Vec::new(alloc);
+        self.encode_ref(&mut octets)?;
+        let octets = Bytes::from_vec(octets).map_err(AllocError::from)?;
+        let signature = signer.sign(alloc, key, self.signature(), &octets)?;
+        let signed_data = SignedData::new(octets, signature);
+        check_length(alloc, &signed_data)?;
+        Ok(signed_data)
+    }
+
+    /// The certificate with these fields: the signer signs exactly the octets that `encode_ref` writes, with the key that `key` names.
+    /// Whether there are resources isn't tested. What the signer refuses is passed on; answers `TooLong` also where the data or the
+    /// whole certificate would have a content of 2^32 octets or more.
+    pub fn into_cert<S: Signer>(
+        self,
+        alloc: Global,
+        signer: &S,
+        key: &S::KeyId,
+    ) -> Result<Cert, SigningError<S::Error>>
+        ensures fields { IfOk result (λ c. c.fields ≡ self) }
+        ensures message { IfOk result (λ c. c.signed_data.message ≡ spelling self) }
+        ensures signed { IfOk result (λ c. S.signs signer.now key.now self.algorithm (spelling self) (Ok c.signed_data.signature)) }
+        ensures fits { IfOk result (λ c. length (concat (signed_pieces c.signed_data)) < 2 ^ 32) }
+        ensures refused { IfErr result (IsRefusal self (S.signs signer.now key.now self.algorithm (spelling self))) }
+    {
+        match self.sign(alloc, signer, key) {
+            Ok(signed_data) => Ok(Cert {
+                tbs: self,
+                signed_data,
+            }),
+            Err(refusal) => Err(refusal),
+        }
     }
 }

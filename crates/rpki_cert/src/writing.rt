@@ -60,10 +60,7 @@ fn put_extended_key_usage(
     }
 }
 
-fn put_crl_distribution_points(
-    out: &mut Vec<u8>,
-    uri: Option<&Rsync>,
-) -> Result<(), EncodeError>
+fn put_crl_distribution_points(out: &mut Vec<u8>, uri: Option<&Rsync>) -> Result<(), EncodeError>
     ensures ok { OnOk result (out.new.items ≡ out.old.items ++ extension_of_some (id_ce 0x1F) false (option_map crl_distribution_points_content (option_map (λ u. u.now) uri.entry))) }
     ensures too_long { IsErrOf result EncodeError.TooLong → 2 ^ 32 ≤ length (content_of_some (id_ce 0x1F) false (option_map crl_distribution_points_content (option_map (λ u. u.now) uri.entry))) }
 {

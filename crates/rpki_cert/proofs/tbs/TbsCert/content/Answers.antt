@@ -2,7 +2,7 @@ use Rattle.std.specs.List.{concat}
 use Rattle.rpki_parts.specs.WrittenParts.{key_pieces}
 use Rattle.rpki_blocks.proofs.TooLong.{passed_long}
 use Rattle.rpki_cert.specs.Spelling.{content}
-use Rattle.rpki_cert.proofs.WrittenRow.{key_longer}
+use Rattle.rpki_cert.proofs.WritingSteps.{key_longer}
 use Rattle.rpki_cert.proofs.tbs.TbsCert.content.Goals as goal
 
 pub returns-in_err-encode_ref-3-clause-too_long : goal.returns-in_err-encode_ref-3-clause-too_long

@@ -2,7 +2,7 @@ use Rattle.std.proofs.Common.{◌≡◌, ◌++◌, sym}
 use Rattle.std.proofs.lemmas.List.{append-nil}
 use Rattle.rpki_blocks.proofs.TooLong.{passed_long}
 use Rattle.rpki_cert.specs.Spelling.{extensions}
-use Rattle.rpki_cert.proofs.WrittenRow.{row_longer, still_long, written_before, grown, grown_on_ok}
+use Rattle.rpki_cert.proofs.WritingSteps.{row_longer, still_long, written_before, grown, grown_on_ok}
 use Rattle.rpki_cert.proofs.tbs.TbsCert.put_extensions.Goals as goal
 
 pub returns-in_err-put_basic_constraints-clause-too_long : goal.returns-in_err-put_basic_constraints-clause-too_long
@@ -48,8 +48,8 @@ returns-clause-ok c =
     let s4 = grown f 4 old c.encode_key_usage.new.out.items c.put_extended_key_usage.new.out.items s3 (rw c.extended_key_usage.ensures at c.in_ok-put_extended_key_usage.ensures.ok) in
     let s5 = grown f 5 old c.put_extended_key_usage.new.out.items c.put_crl_distribution_points.new.out.items s4 (rw c.crl_uri.ensures at c.in_ok-put_crl_distribution_points.ensures.ok) in
     let s6 = grown f 6 old c.put_crl_distribution_points.new.out.items c.put_authority_information_access.new.out.items s5 (rw c.ca_issuer.ensures at c.in_ok-put_authority_information_access.ensures.ok) in
-    let s7 = grown f 7 old c.put_authority_information_access.new.out.items c.encode_subject_information_access.new._out.items s6 (rw (c.ca_repository.ensures, c.rpki_manifest.ensures, c.signed_object.ensures, c.rpki_notify.ensures) at c.in_ok-encode_subject_information_access.ensures.ok) in
-    let s8 = grown f 8 old c.encode_subject_information_access.new._out.items c.encode_certificate_policies.new.out.items s7 (rw c.overclaim-mode.ensures at c.in_ok-encode_certificate_policies.ensures.ok) in
+    let s7 = grown f 7 old c.put_authority_information_access.new.out.items c.encode_subject_information_access.new.out.items s6 (rw (c.ca_repository.ensures, c.rpki_manifest.ensures, c.signed_object.ensures, c.rpki_notify.ensures) at c.in_ok-encode_subject_information_access.ensures.ok) in
+    let s8 = grown f 8 old c.encode_subject_information_access.new.out.items c.encode_certificate_policies.new.out.items s7 (rw c.overclaim-mode.ensures at c.in_ok-encode_certificate_policies.ensures.ok) in
     let s9 = grown f 9 old c.encode_certificate_policies.new.out.items c.encode_extension.new.out.items s8 (rw (c.overclaim-mode.ensures, c.v4_resources.ensures, c.v6_resources.ensures) at c.in_ok-encode_extension.ensures.ok) in
     grown_on_ok c.encode_extension-2.result f 10 old c.encode_extension.new.out.items c.encode_extension-2.new.out.items s9 (rw (c.overclaim-mode.ensures, c.as_resources.ensures) at c.encode_extension-2.ensures.ok)
 

@@ -3,7 +3,7 @@ use Rattle.rpki_der.specs.Values.{enc}
 use Rattle.rpki_der.proofs.Written.{enc_longer}
 use Rattle.rpki_blocks.proofs.TooLong.{passed_long}
 use Rattle.rpki_cert.specs.Spelling.{extensions}
-use Rattle.rpki_cert.proofs.WrittenRow.{still_long}
+use Rattle.rpki_cert.proofs.WritingSteps.{still_long}
 use Rattle.rpki_cert.proofs.tbs.TbsCert.put_tagged_extensions.Goals as goal
 
 pub returns-in_err-put_extensions-clause-too_long : goal.returns-in_err-put_extensions-clause-too_long

@@ -1,4 +1,4 @@
--- What stands inside an extension is no longer than the row of extensions.
+-- How the extensions are written one by one, and what is too long of them.
 use Rattle.std.proofs.Common.{ℕ, zero, suc, ◌≤◌, ◌++◌, Bool, false, List, [], ◌∷◌, length, map, get_or, take, Option, Some, None, Result, Ok, Err, ◌^◌, ◌≡◌, refl, sym, ap, ◌∙◌, append_assoc, arith}
 use Rattle.std.specs.Prelude.{OnOk}
 use Rattle.std.specs.List.{concat}
