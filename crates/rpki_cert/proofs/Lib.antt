@@ -9,6 +9,5 @@ pub mod WrittenRows
 pub mod WrittenFields
 pub mod WrittenCertificates
 pub mod SomeFields
-pub mod WrittenRow
 pub mod WritingSteps
 pub mod Refusals
