@@ -1,0 +1,39 @@
+//! What the measurements of certificates call: functions on octets, for C. An export's clauses can't name types that code declares,
+//! as those of a certificate's fields do, so they say little here: `Cert` and `TbsCert` have the contracts.
+#![tactic(auto)]
+ghost use Rattle.std.specs.Prelude.{◌≤◌};
+
+use rpki_cert::Cert;
+use rpki_der::DecodeError;
+use std::alloc::Global;
+
+/// Whether the octets begin with a certificate: 1 if they do, 0 if they don't, 2 if memory was wanted.
+#[unsafe(no_mangle)]
+pub extern "C" fn rpki_decode(alloc: Global, octets: &[u8]) -> u32
+    ensures { result ≤ 2 }
+{
+    match Cert::decode(alloc, octets) {
+        Ok(_) => 1,
+        Err(DecodeError::Memory) => 2,
+        Err(_) => 0,
+    }
+}
+
+/// Reads the certificate that the octets begin with, and writes the data of one with its fields so many times. Answers how often that
+/// went well.
+#[unsafe(no_mangle)]
+pub extern "C" fn rpki_write(alloc: Global, octets: &[u8], rounds: u32) -> u32
+    ensures { result ≤ rounds }
+{
+    let Ok(cert) = Cert::decode(alloc, octets) else {
+        return 0;
+    };
+    let mut out = Vec::new(alloc);
+    for round in 0..rounds {
+        out.clear();
+        if cert.as_tbs().encode_ref(&mut out).is_err() {
+            return round;
+        }
+    }
+    rounds
+}
