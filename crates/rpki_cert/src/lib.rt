@@ -6,6 +6,8 @@ mod copies;
 mod fields;
 pub mod laws;
 mod making;
+#[cfg(test)]
+mod openssl_vectors;
 mod reading;
 mod resources;
 mod tbs;
