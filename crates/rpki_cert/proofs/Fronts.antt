@@ -1,8 +1,7 @@
 -- What is read of octets that stand alone.
-use Rattle.std.proofs.Common.{◌≡◌, ℕ, List, [], ◌∷◌, ◌++◌, Option, Some, None, Result, Ok, Err, refl, sym, subst, ◌∙◌}
+use Rattle.std.proofs.Common.{◌≡◌, ℕ, List, Result, Ok, Err, sym, ◌∙◌}
 use Rattle.rpki_der.specs.declared.error.DecodeError.{DecodeError}
 use Rattle.rpki_der.specs.Place.{Place, left, AnswersOrMemory, MeansOrMemory}
-use Rattle.rpki_der.specs.Spelling.{Begins}
 use Rattle.rpki_der.proofs.Answering.{refuses}
 use Rattle.rpki_ext.specs.Extensions.{Means}
 

@@ -1,5 +1,5 @@
 -- A certificate, both ways.
-use Rattle.std.proofs.Common.{◌≡◌, ℕ, List, [], ◌++◌, Some, sym, ap, subst, ◌∙◌, refl, append_assoc}
+use Rattle.std.proofs.Common.{◌≡◌, ℕ, List, [], ◌++◌, sym, ap, subst, ◌∙◌, refl, append_assoc}
 use Rattle.rpki_der.specs.Reading.{◌>>=◌, inside}
 use Rattle.rpki_der.specs.Spelling.{Reads, Begins, Inside}
 use Rattle.rpki_der.proofs.Formats.{of_enc}
