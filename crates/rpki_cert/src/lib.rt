@@ -7,6 +7,8 @@ mod fields;
 pub mod laws;
 mod making;
 #[cfg(test)]
+mod making_tests;
+#[cfg(test)]
 mod openssl_vectors;
 mod reading;
 mod resources;
