@@ -2,7 +2,6 @@
 ghost use Rattle.std.specs.Prelude.{◌≡◌, ◌≢◌, ◌↔◌, ◌⊎◌, true, Some, None, IsTrue};
 ghost use Rattle.rpki_blocks.specs.Resources.{missing, inherit};
 ghost use Rattle.rpki_parts.specs.Keys.{key_identifier};
-ghost use Rattle.rpki_cert.specs.Certificates.{TbsFields};
 
 use crate::tbs::TbsCert;
 use rpki_blocks::{AsResources, IpResources, Overclaim};

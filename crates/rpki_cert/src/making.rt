@@ -4,7 +4,6 @@ ghost use Rattle.std.specs.List.{concat};
 ghost use Rattle.rpki_der.specs.declared.error.EncodeError.TheVariants.{Memory};
 ghost use Rattle.rpki_ext.specs.Extensions.{or_else};
 ghost use Rattle.rpki_parts.specs.WrittenParts.{subject_name, signed_pieces};
-ghost use Rattle.rpki_cert.specs.Certificates.{TbsFields};
 ghost use Rattle.rpki_cert.specs.Making.{new_fields, IsRefusal};
 ghost use Rattle.rpki_cert.specs.Spelling.{spelling};
 

@@ -4,7 +4,6 @@ ghost use Rattle.std.specs.Fn.{FnOnceTakesAtMut, FnOnceReturnsAtMut};
 ghost use Rattle.std.specs.Iterator.{IsFinite, Drains};
 ghost use Rattle.rpki_blocks.specs.Sets.{Block as Span};
 ghost use Rattle.rpki_blocks.specs.Unions.{IsUnion};
-ghost use Rattle.rpki_cert.specs.Certificates.{TbsFields};
 
 use crate::tbs::TbsCert;
 use rpki_blocks::{

@@ -4,7 +4,6 @@ ghost use Rattle.rpki_der.specs.Identifiers.{id_ce, pkix};
 ghost use Rattle.rpki_der.specs.Writing.{nested};
 ghost use Rattle.rpki_blocks.specs.WrittenResources.{extension_of_some, content_of_some};
 ghost use Rattle.rpki_ext.specs.WrittenExtensions.{basic_constraints_content, authority_key_identifier_content, extended_key_usage_content, crl_distribution_points_content, authority_information_access_content};
-ghost use Rattle.rpki_cert.specs.Certificates.{TbsFields};
 ghost use Rattle.rpki_cert.specs.Spelling.{extensions, content, spelling};
 
 use crate::tbs::TbsCert;
