@@ -1,6 +1,7 @@
 //! What the measurements of certificates call: functions on octets, for C. An export's clauses can't name types that code declares,
 //! as those of a certificate's fields do, so they say little here: `Cert` and `TbsCert` have the contracts.
 #![tactic(auto)]
+
 ghost use Rattle.std.specs.Prelude.{◌≤◌};
 
 use rpki_cert::Cert;
