@@ -7,11 +7,8 @@ use Rattle.std.proofs.lemmas.Int.Digits.{number_push}
 use Rattle.std.proofs.lemmas.List.{length-append}
 use Rattle.std.proofs.lemmas.Nat.{pow-add, shl-shr, pow_pos, div_below, shl_below}
 use Rattle.rpki_blocks.specs.WrittenResources.{octets_of}
+use Rattle.rpki_der.proofs.HighFirst.{byte_is}
 use Rattle.rpki_blocks.proofs.Filled.{octets_bits}
-
-byte_is : (i n : ℕ) → byte_at i n ≡ n / 256 ^ i % 256
-byte_is zero n = ap (λ (k : ℕ). k % 256) (sym (div-one n))
-byte_is (suc i) n = refl
 
 -- the octet at a place, without the octets below it
 byte_above : (i d n : ℕ) → byte_at (i + d) n ≡ byte_at i (n / 256 ^ d)

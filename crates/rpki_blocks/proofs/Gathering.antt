@@ -17,10 +17,6 @@ one_more : {X : Type 0} (done : List X) (x : X) (rest : Option (List X)) → bef
 one_more done x (Some xs) = ap Some (sym (append_assoc done (x ∷ []) xs))
 one_more done x None = refl
 
-pub some_left : (bytes : List ℕ) → (bytes ≡ [] → IsTrue false) → 0 < length bytes
-some_left [] h = let no : IsTrue false = h refl in absurd cc
-some_left (b ∷ bytes) h = omega arith
-
 module _ {X : Type 0} (read : List ℕ → Option (X × List ℕ)) (less : Shrinks read) where
   pub gathers : (done : List X) (bytes : List ℕ) (x : X) (rest : List ℕ) → 0 < length bytes → read bytes ≡ Some (x, rest) → before done (row_of read bytes) ≡ before (done ++ x ∷ []) (row_of read rest)
   gathers done bytes x rest some e = rw (row_steps read less bytes some, e) (one_more done x (row_of read rest))

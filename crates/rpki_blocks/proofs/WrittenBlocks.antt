@@ -5,6 +5,7 @@ use Rattle.std.specs.Option.{option_map}
 use Rattle.std.proofs.Common.{◌≡◌, ℕ, ◌^◌, ◌-◌, ◌<◌, ◌≤◌, List, [], ◌∷◌, true, sym, subst, arith, inl, inr, map, Option, Some, refl, None, ◌⊎◌, ◌++◌}
 use Rattle.std.proofs.lemmas.Bool.{eqb-true, and_parts}
 use Rattle.std.proofs.lemmas.List.{append-nil}
+use Rattle.std.proofs.lemmas.Option.{same_Some}
 use Rattle.rpki_der.specs.Rows.{IsRow}
 use Rattle.rpki_der.specs.Writing.{sequence, number, nested, sequence_of_some}
 use Rattle.rpki_der.proofs.Written.{Short, bool_cases, made, content_short, pieces_short, number_made, nested_made, nested_short}
@@ -54,10 +55,6 @@ both : {X : Type 0} (P Q : X → Type 0) (xs : List X) → AllByRecursion P xs �
 both P Q [] p q = tt
 both P Q (x ∷ xs) p q = ((p.0, q.0), both P Q xs p.1 q.1)
 
-each : {X : Type 0} (P Q : X → Type 0) → ((x : X) → P x → Q x) → (xs : List X) → AllByRecursion P xs → AllByRecursion Q xs
-each P Q f [] h = tt
-each P Q f (x ∷ xs) h = (f x h.0, each P Q f xs h.1)
-
 -- a block of numbers of the kind
 abbrev IsBlock : ℕ → Block → Type 0
 IsBlock greatest b = (b.min ≤ b.max) × (b.max ≤ greatest)
@@ -99,15 +96,12 @@ elements_made : (P : Block → Type 0) (write : Block → List ℕ) (element : B
 elements_made P write element w [] f s = refl
 elements_made P write element w (b ∷ bs) f s = (write b, concat (map write bs), w b f.0 s.0, elements_made P write element w bs f.1 s.1, refl)
 
-some_is : {V : Type 0} (v w : V) → ◌≡◌ {A = Option V} (Some v) (Some w) → v ≡ w
-some_is v w e = cc
-
 choice_made : (P : Block → Type 0) (write : Block → List ℕ) (element : Block → List ℕ → Type 0) → Writes P write element → (r : Resources) (c : List ℕ) → choice write r ≡ Some c → FitsWith P r → Short c → IsResourceChoice element r c
 choice_made P write element w missing c e f s = absurd cc
-choice_made P write element w inherit c e f s = inr (refl, sym (some_is _ _ e))
+choice_made P write element w inherit c e f s = inr (refl, sym (same_Some _ _ e))
 choice_made P write element w (blocks []) c e f s = absurd (f.0 refl)
 choice_made P write element w (blocks (b ∷ bs)) c e f s =
-    let is : sequence (map write (b ∷ bs)) ≡ c = some_is _ _ e in
+    let is : sequence (map write (b ∷ bs)) ≡ c = same_Some _ _ e in
     let short : Short (sequence (map write (b ∷ bs))) = subst Short (sym is) s in
     let row = elements_made P write element w (b ∷ bs) f.2 (pieces_short (map write (b ∷ bs)) (content_short 0x30 _ short)) in
     subst (λ (x : List ℕ). IsResourceChoice element (blocks (b ∷ bs)) x) is (inl (record {
@@ -131,7 +125,7 @@ as_resources_made r c e f s = go (choice as_block r) refl e
     go : (o : Option (List ℕ)) → choice as_block r ≡ o → option_map (nested (0x30 ∷ 0xA0 ∷ [])) o ≡ Some c → IsASIdentifiers r c
     go None k e = absurd cc
     go (Some x) k e =
-        let is : nested (0x30 ∷ 0xA0 ∷ []) x ≡ c = some_is _ _ e in
+        let is : nested (0x30 ∷ 0xA0 ∷ []) x ≡ c = same_Some _ _ e in
         let short : Short (nested (0x30 ∷ 0xA0 ∷ []) x) = subst Short (sym is) s in
         subst (λ (y : List ℕ). IsASIdentifiers r y) is (record {
           choice = x;
@@ -188,17 +182,17 @@ ip_made i c e f4 only_v4 f6 s =
       | inl a ↦ elim (family_made 2 128 IsV6 v6_writes i.v6 (fits_v6 i.v6 f6)) [
         | inl b ↦ let none : sequence_of_some [] ≡ Some c = rw (a.1, b.1) at e in absurd cc
         | inr b ↦
-            let is : sequence (b.0 ∷ []) ≡ c = some_is _ _ (rw (a.1, b.1) at e) in
+            let is : sequence (b.0 ∷ []) ≡ c = same_Some _ _ (rw (a.1, b.1) at e) in
             let short : Short (sequence (b.0 ∷ [])) = subst Short (sym is) s in
             subst (λ (x : List ℕ). IsIPAddrBlocks (written_families i) x) is (record { pieces = b.0 ∷ []; families = inr ((i.v6, b.2 (pieces_short (b.0 ∷ []) (content_short 0x30 _ short)).0, present_some i.v6 b.3), present_none i.v4 a.0); sequence = made 0x30 _ (omega arith) short })
       ]
       | inr a ↦ elim (family_made 2 128 IsV6 v6_writes i.v6 (fits_v6 i.v6 f6)) [
         | inl b ↦
-            let is : sequence (a.0 ∷ []) ≡ c = some_is _ _ (rw (a.1, b.1) at e) in
+            let is : sequence (a.0 ∷ []) ≡ c = same_Some _ _ (rw (a.1, b.1) at e) in
             let short : Short (sequence (a.0 ∷ [])) = subst Short (sym is) s in
             subst (λ (x : List ℕ). IsIPAddrBlocks (written_families i) x) is (record { pieces = a.0 ∷ []; families = inl ((i.v4, a.2 (pieces_short (a.0 ∷ []) (content_short 0x30 _ short)).0, present_some i.v4 a.3), present_none i.v6 b.0); sequence = made 0x30 _ (omega arith) short })
         | inr b ↦
-            let is : sequence (a.0 ∷ b.0 ∷ []) ≡ c = some_is _ _ (rw (a.1, b.1) at e) in
+            let is : sequence (a.0 ∷ b.0 ∷ []) ≡ c = same_Some _ _ (rw (a.1, b.1) at e) in
             let short : Short (sequence (a.0 ∷ b.0 ∷ [])) = subst Short (sym is) s in
             let shorts = pieces_short (a.0 ∷ b.0 ∷ []) (content_short 0x30 _ short) in
             subst (λ (x : List ℕ). IsIPAddrBlocks (written_families i) x) is (record { pieces = a.0 ∷ b.0 ∷ []; families = inl ((i.v4, a.2 shorts.0, present_some i.v4 a.3), (i.v6, b.2 shorts.1.0, present_some i.v6 b.3)); sequence = made 0x30 _ (omega arith) short })
@@ -215,13 +209,13 @@ no_as_resources missing e = refl
 no_as_resources inherit e = absurd cc
 no_as_resources (blocks bs) e = absurd cc
 
-access_none : (ps : List (List ℕ)) → sequence_of_some ps ≡ None → ps ≡ []
-access_none [] e = refl
-access_none (p ∷ ps) e = absurd cc
+pub no_pieces : (ps : List (List ℕ)) → sequence_of_some ps ≡ None → ps ≡ []
+no_pieces [] e = refl
+no_pieces (p ∷ ps) e = absurd cc
 
 pub no_ip : (i : Ip) → ip i ≡ None → i ≡ record { v4 = missing; v6 = missing }
 no_ip i e =
-    let four = none_of 1 (choice ip_block i.v4) _ (access_none _ e) in
+    let four = none_of 1 (choice ip_block i.v4) _ (no_pieces _ e) in
     let six = none_of 2 (choice ip_block i.v6) [] (rw (append-nil (family_of 2 (choice ip_block i.v6))) four.1) in
     let a = choice_none ip_block i.v4 four.0 in
     let b = choice_none ip_block i.v6 six.0 in

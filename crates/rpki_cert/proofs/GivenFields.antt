@@ -5,7 +5,8 @@ use Rattle.std.proofs.Common.{◌∙◌, ◌≡◌, ◌⊎◌, ℕ, Bool, true, 
 use Rattle.rpki_der.specs.Reading.{◌>>=◌}
 use Rattle.rpki_der.specs.Rows.{IsRow}
 use Rattle.rpki_der.specs.Spelling.{ReadsWhole}
-use Rattle.rpki_der.proofs.Octets.{bind_some, some, some_is}
+use Rattle.rpki_der.proofs.Lists.{weaken}
+use Rattle.rpki_der.proofs.Octets.{bind_some, chosen, some, some_is}
 use Rattle.rpki_blocks.specs.declared.overclaim.Overclaim.{Overclaim}
 use Rattle.rpki_blocks.specs.Overclaims.{ip_identifier, as_identifier}
 use Rattle.rpki_blocks.specs.Resources.{Resources}
@@ -73,10 +74,6 @@ state_with s = (tt, (s.basic_ca, (s.subject_key_identifier, (s.authority_key_ide
 seen_are : (xs : List Extension) (s : Sights) → AreSeen xs s → all_kinds.means xs (state_with s)
 seen_are xs s h = (h.others_stand, (h.basic_ca_seen, (h.key_seen, (h.authority_seen, (h.usage_seen, (h.purposes_seen, (h.crl_seen, (h.issuer_seen, (h.access_seen, (h.policies_seen, (h.families_seen, h.numbers_seen)))))))))))
 
-chosen : {A : Type 0} (b : Bool) (x : Option A) (y : A) → cond b x None ≡ Some y → (b ≡ true) × (x ≡ Some y)
-chosen true x y e = (refl, e)
-chosen false x y e = absurd cc
-
 either : (a b : Bool) → (a || b) ≡ true → (a ≡ true) ⊎ (b ≡ true)
 either true b e = inl refl
 either false b e = inr e
@@ -90,10 +87,6 @@ stands false false e f = refl
 stand : (known critical : Bool) → (known ≡ false → critical ≡ false) → (known || not critical) ≡ true
 stand true critical h = refl
 stand false critical h = rw (h refl) refl
-
-all_map : {X : Type 0} (P Q : X → Type 0) → ((x : X) → P x → Q x) → (xs : List X) → AllByRecursion P xs → AllByRecursion Q xs
-all_map P Q f [] h = tt
-all_map P Q f (x ∷ xs) h = (f x h.0, all_map P Q f xs h.1)
 
 give : (xs : List Extension) (s : Sights) (f : ExtensionFields) → completed s ≡ Some f → AreSeen xs s → GiveFields xs f
 give xs s f e h =
@@ -112,7 +105,7 @@ give xs s f e h =
       | inr y ↦ inr (member_there (TellsMode as_identifier IsASIdentifiers) (only as_resources xs) s.numbers h.numbers_seen y)
     ] in
     subst (λ (g : ExtensionFields). GiveFields xs g) (ap (λ (l : ListedFields). given s l key.0 usage.0) same ∙ some_is (given s l.0 key.0 usage.0) f usage.2) (record {
-      passed_over = all_map (λ x. may_stand x ≡ true) (λ x. is_of known x ≡ false → x.critical ≡ false) (λ x p. stands (is_of known x) x.critical p) xs h.others_stand;
+      passed_over = weaken (λ x. may_stand x ≡ true) (λ x. is_of known x ≡ false → x.critical ≡ false) (λ x p. stands (is_of known x) x.critical p) xs h.others_stand;
       basic_constraints_is = h.basic_ca_seen;
       subject_key_identifier_is = subst (λ (v : Option (List ℕ)). Found IsSubjectKeyIdentifier (Some false) (only subject_key_identifier xs) v) key.1 h.key_seen;
       authority_key_identifier_is = h.authority_seen;
@@ -158,7 +151,7 @@ seen_of xs f g =
     ]) in
     let s = before f g.access i.0 n.0 in (
       s,
-      record { others_stand = all_map (λ x. is_of known x ≡ false → x.critical ≡ false) (λ x. may_stand x ≡ true) (λ x p. stand (is_of known x) x.critical p) xs g.passed_over; basic_ca_seen = g.basic_constraints_is; key_seen = g.subject_key_identifier_is; authority_seen = g.authority_key_identifier_is; usage_seen = g.key_usage_is; purposes_seen = g.extended_key_usage_is; crl_seen = g.crl_distribution_points_is; issuer_seen = g.authority_information_access_is; access_seen = g.subject_information_access_is; policies_seen = g.certificate_policies_is; families_seen = i.2; numbers_seen = n.2 },
+      record { others_stand = weaken (λ x. is_of known x ≡ false → x.critical ≡ false) (λ x. may_stand x ≡ true) (λ x p. stand (is_of known x) x.critical p) xs g.passed_over; basic_ca_seen = g.basic_constraints_is; key_seen = g.subject_key_identifier_is; authority_seen = g.authority_key_identifier_is; usage_seen = g.key_usage_is; purposes_seen = g.extended_key_usage_is; crl_seen = g.crl_distribution_points_is; issuer_seen = g.authority_information_access_is; access_seen = g.subject_information_access_is; policies_seen = g.certificate_policies_is; families_seen = i.2; numbers_seen = n.2 },
       rw (there, i.1, n.1) (ap some (same_fields f (or_else no_access g.access) _ _ _ g.access_is g.v4_is g.v6_is g.as_is)),
     )
 

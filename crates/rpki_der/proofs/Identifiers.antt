@@ -3,6 +3,7 @@ use Rattle.std.proofs.Common.{◌≡◌, ℕ, ◌<◌, ◌≤◌, Bool, true, fa
 use Rattle.std.proofs.lemmas.Bool.{cases_Bool, ltb-true, ltb-false, lt-ltb, le-ltb, eqb-true, and_parts}
 use Rattle.rpki_der.specs.Reading.{content, ends_oid, is_oid, oid_of, oid_at}
 use Rattle.rpki_der.specs.Spelling.{Reads, Inside}
+use Rattle.rpki_der.proofs.Lists.{heads, no_last}
 use Rattle.rpki_der.proofs.Octets.{if_some}
 use Rattle.rpki_der.proofs.Made.{content_reads, same_reads}
 use Rattle.rpki_der.specs.Contents.{IsOid, IsObjectIdentifier}
@@ -25,9 +26,6 @@ last_of b n (m ∷ id) e = let h = last_of (ltb n 128) m id (and_parts _ _ e).1 
 not_both : (b : Bool) → not (b && true) ≡ true → b ≡ false
 not_both true e = absurd cc
 not_both false e = refl
-
-heads : (h k : ℕ) (a b : List ℕ) → h ∷ a ≡ k ∷ b → (h ≡ k) × (a ≡ b)
-heads h k a b e = (cc, cc)
 
 no_padding : (b : Bool) (id x y : List ℕ) → ends_oid b id ≡ true → id ≡ x ++ 128 ∷ y → Before b x
 no_padding b [] [] y e is = absurd cc
@@ -63,13 +61,9 @@ not_now : (b : Bool) (h : ℕ) (id : List ℕ) → (h ≡ 128 → Before b []) �
 not_now false h id p = refl
 not_now true h id p =
     elim (cases_Bool (eqb h 128)) [
-      | inl y ↦ elim (p (eqb-true h 128 y)) [ inl g ↦ absurd cc | inr g ↦ absurd (no_end g.0 g.1 g.2) ]
+      | inl y ↦ elim (p (eqb-true h 128 y)) [ inl g ↦ absurd cc | inr g ↦ absurd (no_last g.0 g.1 g.2) ]
       | inr n ↦ rw n refl
     ]
-  where
-    no_end : (z : List ℕ) (k : ℕ) → [] ≡ z ++ k ∷ [] → ⊥
-    no_end [] k e = absurd cc
-    no_end (y ∷ z) k e = absurd cc
 
 ends_again : (b : Bool) (id front : List ℕ) (last : ℕ) → id ≡ front ++ last ∷ [] → last < 128 → ((x y : List ℕ) → id ≡ x ++ 128 ∷ y → Before b x) → ends_oid b id ≡ true
 ends_again b [] [] last is low pad = absurd cc
@@ -87,11 +81,7 @@ ends_again b (n ∷ id) (h ∷ front) last is low pad =
     later x h = elim h [ inl g ↦ absurd cc | inr g ↦ next_before n x g ]
 
 pub oid_again : (id : List ℕ) → IsOid id → is_oid id ≡ true
-oid_again [] o = absurd (none o.front o.last o.is)
-  where
-    none : (z : List ℕ) (k : ℕ) → [] ≡ z ++ k ∷ [] → ⊥
-    none [] k e = absurd cc
-    none (y ∷ z) k e = absurd cc
+oid_again [] o = absurd (no_last o.front o.last o.is)
 oid_again (n ∷ id) o = ends_again true (n ∷ id) o.front o.last o.is o.ends (λ x y e. inr (o.no_padding x y e))
 
 abbrev IsOidContent : List ℕ → List ℕ → Type 0

@@ -1,3 +1,4 @@
+pub mod Lists
 pub mod Octets
 pub mod Lengths
 pub mod Digits

@@ -40,6 +40,10 @@ pub if_some : {A : Type 0} (b : Bool) (x y : A) → cond b (Some x) None ≡ Som
 if_some true x y e = (refl, cc)
 if_some false x y e = absurd cc
 
+pub chosen : {A : Type 0} (b : Bool) (x : Option A) (y : A) → cond b x None ≡ Some y → (b ≡ true) × (x ≡ Some y)
+chosen true x y e = (refl, e)
+chosen false x y e = absurd cc
+
 pub unless_some : {A : Type 0} (b : Bool) (x y : A) → cond b None (Some x) ≡ Some y → (b ≡ false) × (x ≡ y)
 unless_some true x y e = absurd cc
 unless_some false x y e = (refl, cc)

@@ -14,7 +14,7 @@ use Rattle.rpki_der.proofs.Written.{number_made, time_made}
 use Rattle.rpki_der.proofs.WrittenOctets.{ok_number, ok_time}
 use Rattle.rpki_der.proofs.WrittenTimes.{utc_written, generalized_written}
 
-enc_small : (t : ℕ) (c : List ℕ) → length c < 128 → length (enc t c) ≡ 2 + length c
+pub enc_small : (t : ℕ) (c : List ℕ) → length c < 128 → length (enc t c) ≡ 2 + length c
 unfolding enc
 enc_small t c h = rw (length_short (length c) h) (omega arith)
 

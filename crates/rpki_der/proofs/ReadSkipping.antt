@@ -29,7 +29,7 @@ any_takes (tag ∷ bytes) v rest fits e =
     let made : (ℕ × List ℕ) × List ℕ = ((tag, a.0.0), a.0.1) in
     subst (λ (q : (ℕ × List ℕ) × List ℕ). Begins IsTagged (tag ∷ bytes) q.0 q.1) (some_is made (v, rest) a.2) (record { text = one.text; spelled = one.spelled; parts = one.parts })
 
-begins_tag : (tag : ℕ) (content text rest : List ℕ) → IsEnc tag content text → (tail : List ℕ) × (text ++ rest ≡ tag ∷ tail)
+pub begins_tag : (tag : ℕ) (content text rest : List ℕ) → IsEnc tag content text → (tail : List ℕ) × (text ++ rest ≡ tag ∷ tail)
 unfolding enc
 begins_tag tag content text rest v = (_, ap (λ (t : List ℕ). t ++ rest) v.is)
 

@@ -7,7 +7,7 @@ use Rattle.rpki_der.proofs.Lengths.{length_short, length_81, length_82, length_8
 use Rattle.rpki_der.specs.Reading.{◌>>=◌, at_least, long1, long2, long3, long4, length_at, content_at, value_at}
 use Rattle.rpki_der.specs.Spelling.{Begins, Reads}
 use Rattle.rpki_der.specs.Values.{AreOctets}
-use Rattle.rpki_der.proofs.Octets.{AreOctets-after, AreOctets-front, bind_some, unless_some, some, both_are, nothing}
+use Rattle.rpki_der.proofs.Octets.{AreOctets-after, AreOctets-front, bind_some, chosen, unless_some, some, both_are, nothing}
 
 -- a length and what follows it
 abbrev IsLength : List ℕ → ℕ → List ℕ → Type 0
@@ -127,10 +127,6 @@ content_again : (c rest : List ℕ) → content_at (length c, c ++ rest) ≡ Som
 content_again c rest =
     let long : ltb (length (c ++ rest)) (length c) ≡ false = le-ltb _ _ (omega (arith, length-append c rest)) in
     rw (long, take_at c rest (length c) refl, drop_at c rest (length c) refl) refl
-
-chosen : {A : Type 0} (b : Bool) (x : Option A) (y : A) → cond b x None ≡ Some y → (b ≡ true) × (x ≡ Some y)
-chosen true x y e = (refl, e)
-chosen false x y e = absurd cc
 
 pub value_takes : (t : ℕ) (bytes c rest : List ℕ) → AreOctets bytes → value_at t bytes ≡ Some (c, rest) → Begins (IsEnc t) bytes c rest
 unfolding value_at enc

@@ -3,10 +3,7 @@ use Rattle.std.specs.List.{AllByRecursion}
 use Rattle.std.proofs.Common.{◌≡◌, ◌≤◌, ℕ, zero, suc, List, [], ◌∷◌, subst, inl, inr, arith}
 use Rattle.std.proofs.lemmas.Bool.{cases_lt}
 use Rattle.rpki_der.specs.Skipping.{IsSkippableWithin}
-
-pub weaken : {X : Type 0} (P Q : X → Type 0) → ((x : X) → P x → Q x) → (xs : List X) → AllByRecursion P xs → AllByRecursion Q xs
-weaken P Q f [] h = tt
-weaken P Q f (x ∷ xs) h = (f x h.0, weaken P Q f xs h.1)
+use Rattle.rpki_der.proofs.Lists.{weaken}
 
 one_deeper : (d : ℕ) (b : List ℕ) → IsSkippableWithin d b → IsSkippableWithin (suc d) b
 unfolding IsSkippableWithin

@@ -3,11 +3,9 @@ use Rattle.std.specs.Prelude.{filter}
 use Rattle.std.specs.List.{AllByRecursion}
 use Rattle.std.proofs.Common.{◌≡◌, Bool, true, false, List, [], ◌∷◌, ◌++◌, Some, refl, sym, ap, subst, ◌∙◌, inl, inr, Decides}
 use Rattle.std.proofs.lemmas.Bool.{cases_Bool}
+use Rattle.rpki_der.proofs.Lists.{heads}
 use Rattle.rpki_ext.specs.Choosing.{IsOnlyWith}
 use Rattle.rpki_ext.specs.Extensions.{IsAtMostOne}
-
-heads : {X : Type 0} (x y : X) (xs ys : List X) → x ∷ xs ≡ y ∷ ys → (x ≡ y) × (xs ≡ ys)
-heads x y xs ys e = (cc, cc)
 
 module _ {X : Type 0} (test : X → Bool) (P : X → Type 0) (decides : (x : X) → Decides (test x) (P x)) where
   is_not : (x : X) → test x ≡ false → P x → ⊥

@@ -13,6 +13,7 @@ use Rattle.rpki_der.proofs.Octets.{bind_some, if_some, some, some_is, nothing}
 use Rattle.rpki_der.proofs.Made.{content_reads, inside_reads, same_reads}
 use Rattle.rpki_der.proofs.Alternatives.{content_shrinks}
 use Rattle.rpki_der.proofs.Identifiers.{oid_reads}
+use Rattle.rpki_parts.proofs.KeyLaws.{IsTwenty, takes_twenty}
 use Rattle.rpki_parts.specs.Keys.{twenty}
 use Rattle.rpki_ext.specs.declared.key_usage.KeyUsage.{KeyUsage}
 use Rattle.rpki_ext.specs.declared.key_usage.KeyUsage.TheVariants.{Ca, Ee}
@@ -31,18 +32,12 @@ basic_constraints_reads = inside_before (BeginsOther 1) 0x30 bool_or_false_at Is
 
 -- ---- authority key identifier
 
-abbrev IsTwenty : List ℕ → List ℕ → Type 0
-IsTwenty id c = (c ≡ id) × (length id ≡ 20)
-
-twenty_takes : (c id : List ℕ) → twenty c ≡ Some id → IsTwenty id c
-twenty_takes c id e = let g = if_some (eqb (length c) 20) c id e in (g.1, subst (λ (x : List ℕ). length x ≡ 20) g.1 (eqb-true (length c) 20 g.0))
-
 pub authority_key_identifier_reads : Reads authority_key_identifier_at IsAuthorityKeyIdentifier
 unfolding authority_key_identifier_at
 authority_key_identifier_reads =
     same_reads (inside 0x30 (content 0x80 twenty)) (Inside 0x30 (Inside 0x80 IsTwenty)) IsAuthorityKeyIdentifier
     (inside_reads 0x30 (content 0x80 twenty) (Inside 0x80 IsTwenty)
-    (content_reads 0x80 twenty IsTwenty (record { takes = λ c id low e. twenty_takes c id e; again = λ id c s. rw (s.0, eq-eqb (length id) 20 s.1) refl })))
+    (content_reads 0x80 twenty IsTwenty (record { takes = λ c id low e. takes_twenty c id e; again = λ id c s. rw (s.0, eq-eqb (length id) 20 s.1) refl })))
     (λ id text s. ((s.0, s.2, (s.1.0, s.1.2, s.1.1.0)), s.1.1.1))
     (λ id text s. (s.0.0, (s.0.2.0, (s.0.2.2, s.1), s.0.2.1), s.0.1))
 

@@ -10,6 +10,7 @@ use Rattle.rpki_der.proofs.Octets.{some, some_is, both_are}
 use Rattle.rpki_der.proofs.Written.{Short, content_short, pieces_short, made}
 use Rattle.rpki_der.proofs.WrittenOctets.{IfShort}
 use Rattle.rpki_blocks.proofs.OctetsOfBlocks.{ok_pieces}
+use Rattle.rpki_blocks.proofs.WrittenBlocks.{no_pieces}
 use Rattle.rpki_parts.specs.Uris.{ArePrintable, IsRsync, IsHttps}
 use Rattle.rpki_ext.specs.Choosing.{IsFirstOf}
 use Rattle.rpki_ext.specs.Contents.{Access, method_identifier, HasUri, IsAccessDescriptionWithin, IsSubjectInformationAccessWithin}
@@ -134,10 +135,6 @@ all_absent : (ms : Methods) → texts ms ≡ [] → AllByRecursion (λ (m : Acce
 all_absent [] e = tt
 all_absent ((m, None) ∷ ms) e = (refl, all_absent ms e)
 all_absent ((m, Some uri) ∷ ms) e = absurd cc
-
-no_pieces : (ps : List (List ℕ)) → sequence_of_some ps ≡ None → ps ≡ []
-no_pieces [] e = refl
-no_pieces (p ∷ ps) e = absurd cc
 
 pub no_uris : (a : Access) → subject_information_access_content a ≡ None → a ≡ record { ca_repository = None; rpki_manifest = None; signed_object = None; rpki_notify = None }
 no_uris a e =

@@ -23,10 +23,10 @@ use Rattle.rpki_parts.proofs.AlgorithmLaws.{NullOrNone, null_or_none_before, ide
 use Rattle.rpki_parts.proofs.Following.{Image, mapped_before, given_before, choose_before, always_before}
 use Rattle.rpki_parts.proofs.Texts.{text_is}
 
-abbrev IsTwenty : List ℕ → List ℕ → Type 0
+abbrev pub IsTwenty : List ℕ → List ℕ → Type 0
 IsTwenty id c = (c ≡ id) × (length id ≡ 20)
 
-takes_twenty : (c id : List ℕ) → twenty c ≡ Some id → IsTwenty id c
+pub takes_twenty : (c id : List ℕ) → twenty c ≡ Some id → IsTwenty id c
 takes_twenty c id e = let g = if_some (eqb (length c) 20) c id e in (g.1, subst (λ (x : List ℕ). length x ≡ 20) g.1 (eqb-true (length c) 20 g.0))
 
 pub key_identifier_reads : Reads key_identifier_at IsKeyIdentifier

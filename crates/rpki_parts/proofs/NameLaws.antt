@@ -11,7 +11,7 @@ use Rattle.rpki_der.specs.Reading.{◌>>=◌, value_at, inside, both, mapped, co
 use Rattle.rpki_der.proofs.Octets.{AreOctets-front, bind_some, some, both_are, nothing, if_some}
 use Rattle.rpki_der.proofs.Identifiers.{oid_reads}
 use Rattle.rpki_der.proofs.Alternatives.{content_shrinks}
-use Rattle.rpki_der.proofs.ReadSkipping.{skip_reads, captured_reads}
+use Rattle.rpki_der.proofs.ReadSkipping.{skip_reads, captured_reads, begins_tag}
 use Rattle.rpki_der.proofs.Rows.{row_is, row_again, inside_shrinks}
 use Rattle.rpki_der.proofs.Made.{both_reads, inside_reads, mapped_reads, content_reads, same_reads, ended_some}
 use Rattle.rpki_der.proofs.RowTests.{is_row}
@@ -35,10 +35,6 @@ tagged_again : (tag : ℕ) (bytes tail rest : List ℕ) → bytes ≡ tag ∷ ta
 tagged_again tag [] tail rest e s = absurd cc
 tagged_again tag (t ∷ bytes) tail rest e s = let same : t ≡ tag = cc in rw (s, same) refl
 
-begins_enc : (t : ℕ) (c b rest : List ℕ) → IsEnc t c b → (tail : List ℕ) × (b ++ rest ≡ t ∷ tail)
-unfolding enc
-begins_enc t c b rest v = ((length_octets (length c) ++ c) ++ rest, ap (λ (x : List ℕ). x ++ rest) v.is)
-
 tagged_takes : (octets : List ℕ) (tag : ℕ) (rest : List ℕ) → AreOctets octets → tagged_at octets ≡ some {A = ℕ × List ℕ} (tag, rest) → Begins IsTagged octets tag rest
 tagged_takes [] tag rest fits e = nothing (tag, rest) e
 tagged_takes (t ∷ bytes) tag rest fits e =
@@ -57,7 +53,7 @@ tagged_reads : Reads tagged_at IsTagged
 tagged_reads = record {
   takes = tagged_takes;
   again = λ tag text rest s.
-      let b = begins_enc tag s.0 text rest s.1 in
+      let b = begins_tag tag s.0 text rest s.1 in
       tagged_again tag (text ++ rest) b.0 rest b.1 (skip_reads.again tt text rest s.2);
 }
 

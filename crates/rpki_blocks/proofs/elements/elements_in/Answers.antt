@@ -1,7 +1,8 @@
 use Rattle.std.proofs.Common.{rules, ◌≡◌, [], Err, refl, sym, ◌∙◌}
 use Rattle.rpki_der.specs.Place.{left}
 use Rattle.rpki_der.proofs.Answering.{certainly, passed_on}
-use Rattle.rpki_blocks.proofs.Gathering.{some_left, gathers, refuses_row, gathered}
+use Rattle.rpki_der.proofs.RowTests.{some_left}
+use Rattle.rpki_blocks.proofs.Gathering.{gathers, refuses_row, gathered}
 use Rattle.rpki_blocks.proofs.elements.elements_in.Goals as goal
 
 pub returns-in_err-block : goal.returns-in_err-block

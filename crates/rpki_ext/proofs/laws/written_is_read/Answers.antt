@@ -6,8 +6,7 @@ use Rattle.rpki_der.specs.Contents.{IsObjectIdentifier}
 use Rattle.rpki_der.specs.Writing.{bool_or_false}
 use Rattle.rpki_der.proofs.Octets.{some_is, AreOctets-append}
 use Rattle.rpki_der.specs.Skipping.{levels}
-use Rattle.rpki_der.proofs.Appending.{length-enc}
-use Rattle.rpki_der.proofs.Lengths.{length_short}
+use Rattle.rpki_der.proofs.ReadAgain.{enc_small}
 use Rattle.rpki_der.proofs.Written.{Short}
 use Rattle.rpki_der.proofs.WrittenOctets.{IfShort, value_octets}
 use Rattle.rpki_blocks.specs.declared.overclaim.Overclaim.{Overclaim}
@@ -20,9 +19,6 @@ use Rattle.rpki_ext.proofs.WrittenAccess.{subject_information_access_made, ok_su
 use Rattle.rpki_ext.proofs.laws.written_is_read.Goals as goal
 
 -- ---- how long it is
-
-enc_small : (t : ℕ) (c : List ℕ) → length c < 128 → length (enc t c) ≡ 2 + length c
-enc_small t c h = omega (arith, length-enc t c, ap length (length_short (length c) h))
 
 flag_small : (ca : Bool) → length (basic_constraints_content ca) < 2 ^ 32
 flag_small true = omega (arith, enc_small 0x30 (bool_or_false true) (omega arith))
