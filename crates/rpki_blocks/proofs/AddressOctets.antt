@@ -1,7 +1,7 @@
 -- The first octets of an address.
 use Rattle.std.proofs.Common.{◌≡◌, ℕ, zero, suc, ◌+◌, ◌-◌, ◌*◌, ◌/◌, ◌%◌, ◌^◌, ◌<◌, ◌≤◌, List, [], ◌∷◌, ◌++◌, take, length, subst, refl, sym, ap, ◌∙◌, arith}
 use Rattle.std.specs.Int.{byte_at, bytes_high_first}
-use Rattle.std.proofs.Math.Nat.{div-div-eq-div-mul, div-one, mul_assoc, mul-mod_left, pow-suc}
+use Rattle.std.proofs.Math.Nat.{div-div-eq-div-mul, mul_assoc, mul-mod_left, pow-suc}
 use Rattle.std.specs.Int.Digits.{number_from_digits}
 use Rattle.std.proofs.lemmas.Int.Digits.{number_push}
 use Rattle.std.proofs.lemmas.List.{length-append}

@@ -2,9 +2,6 @@
 use Rattle.std.specs.Int.Digits.{number_from_digits}
 use Rattle.std.proofs.Common.{◌≡◌, ℕ, zero, suc, ◌+◌, ◌-◌, ◌*◌, ◌/◌, ◌%◌, ◌^◌, ◌<◌, ◌≤◌, List, [], ◌∷◌, length, refl, sym, ap, subst, ◌∙◌, arith}
 use Rattle.std.proofs.lemmas.Nat.{pow_pos, pow-add}
-use Rattle.std.proofs.lemmas.Int.Digits.{number_lt}
-use Rattle.rpki_der.specs.Values.{AreOctets}
-use Rattle.rpki_blocks.proofs.Prefixes.{prefix_fits}
 use Rattle.std.proofs.Math.Nat.{pow-suc, mul-lt-mul_of_pos_right, mul-div_cancel, mul_assoc, mul_comm, div-add-mod}
 use Rattle.std.proofs.Math.Pow.{pow_mono}
 use Rattle.rpki_blocks.specs.Sets.{Block}
@@ -73,10 +70,3 @@ module _ (unused : ℕ) (octets : List ℕ) (few : unused < 8) (none : octets �
       let min : b.min ≡ lower octets = p.lower ∙ multiple in
       let max : b.max ≡ upper unused octets = omega (arith, p.upper, min, counted) in
       λ i. record { min = min i; max = max i }
-
-  pub upper_fits : AreOctets octets → upper unused octets ≤ 2 ^ 128 - 1
-  upper_fits low =
-      let first : lower octets < 2 ^ 128 = shift_fits (number_from_digits 256 octets) (length octets) (number_lt 256 octets low) fits in
-      let last = prefix_fits (lower octets) (8 * length octets - unused) (omega arith) first in
-      let same : upper unused octets ≡ lower octets / count * count + (count - 1) = omega (arith, multiple, counted, pow_pos (128 - (8 * length octets - unused))) in
-      omega arith

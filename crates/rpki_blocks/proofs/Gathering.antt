@@ -1,5 +1,5 @@
 -- A row that is gathered into a list, value by value.
-use Rattle.std.proofs.Common.{◌≡◌, ℕ, ◌<◌, List, [], ◌∷◌, ◌++◌, length, Option, Some, None, refl, sym, ap, append_assoc, arith, IsTrue, false}
+use Rattle.std.proofs.Common.{◌≡◌, ℕ, ◌<◌, List, [], ◌∷◌, ◌++◌, length, Option, Some, None, refl, sym, ap, append_assoc}
 use Rattle.std.proofs.lemmas.List.{append-nil}
 use Rattle.rpki_der.specs.Reading.{◌>>=◌}
 use Rattle.rpki_der.specs.Rows.{row_of, Shrinks}
@@ -8,10 +8,6 @@ use Rattle.rpki_der.proofs.Rows.{row_steps}
 -- what was gathered, and then the rest
 abbrev pub before : {X : Type 0} → List X → Option (List X) → Option (List X)
 before done rest = rest >>= λ xs. Some (done ++ xs)
-
-pub nothing_before : {X : Type 0} (rest : Option (List X)) → before [] rest ≡ rest
-nothing_before (Some xs) = refl
-nothing_before None = refl
 
 one_more : {X : Type 0} (done : List X) (x : X) (rest : Option (List X)) → before done (rest >>= λ xs. Some (x ∷ xs)) ≡ before (done ++ x ∷ []) rest
 one_more done x (Some xs) = ap Some (sym (append_assoc done (x ∷ []) xs))

@@ -13,7 +13,6 @@ pub mod ReadChoices
 pub mod ReadAddresses
 pub mod Gathering
 pub mod Filled
-pub mod ReadBounds
 pub mod WrittenAddresses
 pub mod WrittenBlocks
 pub mod BlockFormats

@@ -1,6 +1,6 @@
 -- Which Overclaim an identifier names.
 use Rattle.std.specs.Prelude.{bytes_eq}
-use Rattle.std.proofs.Common.{◌≡◌, ◌≢◌, ℕ, false, List, Option, Some, inl, inr, subst, sym}
+use Rattle.std.proofs.Common.{◌≡◌, ◌≢◌, ℕ, false, List, Option, inl, inr, subst, sym}
 use Rattle.std.proofs.lemmas.Bool.{cases_Bool}
 use Rattle.std.proofs.lemmas.Slice.Eq.{bytes_eq-Decides}
 use Rattle.rpki_blocks.specs.OverclaimIdentifiers.{IsNamed, named}
@@ -26,7 +26,3 @@ is_named identifier id =
 
 pub was_named : (identifier : Overclaim → List ℕ) (id : List ℕ) (r : Option Overclaim) → r ≡ named identifier id → IsNamed identifier id r
 was_named identifier id r e = subst (λ (o : Option Overclaim). IsNamed identifier id o) (sym e) (is_named identifier id)
-
--- the other way
-pub named_again : (identifier : Overclaim → List ℕ) → ((overclaim : Overclaim) → named identifier (identifier overclaim) ≡ Some overclaim) → (id : List ℕ) (overclaim : Overclaim) → id ≡ identifier overclaim → named identifier id ≡ Some overclaim
-named_again identifier each id overclaim e = rw e (each overclaim)

@@ -1,8 +1,8 @@
 -- A walk along two chains.
-use Rattle.std.proofs.Common.{◌≡◌, ℕ, ◌+◌, ◌<◌, ◌≤◌, ◌⊎◌, ◌↔◌, Bool, true, false, IsTrue, IsFalse, ◌&&◌, max, List, [], ◌∷◌, ◌++◌, subst, length, get_or, drop, refl, sym, ap, ◌∙◌, arith, inl, inr}
-use Rattle.std.proofs.lemmas.Bool.{cases_lt, and_parts, and_from, false_from_ne_true, both_ways}
+use Rattle.std.proofs.Common.{◌≡◌, ℕ, ◌+◌, ◌<◌, ◌≤◌, ◌⊎◌, ◌↔◌, true, false, IsTrue, IsFalse, max, List, [], ◌∷◌, ◌++◌, subst, length, get_or, drop, refl, sym, ap, ◌∙◌, arith, inl, inr}
+use Rattle.std.proofs.lemmas.Bool.{cases_lt, false_from_ne_true, both_ways}
 use Rattle.std.proofs.lemmas.List.{drop_more, drop_all}
-use Rattle.rpki_blocks.specs.Sets.{Block, is_in, IsChain, AreUpTo, IsSet, AreIn, Escapes, IsIntersection}
+use Rattle.rpki_blocks.specs.Sets.{Block, is_in, IsChain, AreUpTo, IsSet, AreIn, Escapes}
 use Rattle.rpki_blocks.specs.Pairs.{IsMeet, AreApart}
 use Rattle.rpki_blocks.proofs.Sets.{in_head, in_tail, in_cases, at_least, beyond, chain_tail, chain_head, in_up_to, up_to_by_numbers}
 
@@ -56,18 +56,6 @@ pub record IsWalk (ps qs both xs ys : List Block) : Type 0 where
   pub sound : (n : ℕ) → is_in n both ≡ true → (is_in n ps ≡ true) × (is_in n qs ≡ true)
   pub complete : (n : ℕ) → is_in n ps ≡ true → is_in n qs ≡ true → (is_in n both ≡ true) ⊎ ((is_in n xs ≡ true) × (is_in n ys ≡ true))
   pub apart : (n : ℕ) → is_in n xs ≡ true → is_in n ys ≡ true → IsChain (both ++ one n ∷ [])
-
-pub walk_start : (ps qs : List Block) → IsChain ps → IsChain qs → IsWalk ps qs [] ps qs
-walk_start ps qs p q = record {
-  left = p;
-  right = q;
-  chain = tt;
-  left_in = λ n i. i;
-  right_in = λ n i. i;
-  sound = λ n i. absurd cc;
-  complete = λ n i j. inr (i, j);
-  apart = λ n i j. omega arith;
-}
 
 pub walk_turned : (ps qs both xs ys : List Block) → IsWalk ps qs both xs ys → IsWalk qs ps both ys xs
 walk_turned ps qs both xs ys w = record {
@@ -132,22 +120,6 @@ walk_meet ps qs both x xs y ys m w low high some l =
       apart = λ n i j. let far : x.max + 1 < n = beyond n x xs w.left i in further both m n met (omega arith);
     }
 
-from_both : (p q r : Bool) → (p ≡ true → (q ≡ true) × (r ≡ true)) → (q ≡ true → r ≡ true → p ≡ true) → p ≡ (q && r)
-from_both true q r f g = let h = f refl in sym (and_from q r h.0 h.1)
-from_both false q r f g = sym (false_from_ne_true (q && r) (λ h. let parts = and_parts q r h in let t : false ≡ true = g parts.0 parts.1 in absurd cc))
-
-pub walk_end : (ps qs both xs ys : List Block) → IsWalk ps qs both xs ys → (xs ≡ []) ⊎ (ys ≡ []) → IsIntersection ps qs both
-walk_end ps qs both xs ys w e n =
-    from_both (is_in n both) (is_in n ps) (is_in n qs) (w.sound n) (λ i j.
-    elim (w.complete n i j) [
-      | inl k ↦ k
-      | inr k ↦
-          elim e [
-            | inl none ↦ let t : is_in n [] ≡ true = subst (λ (v : List Block). is_in n v ≡ true) none k.0 in absurd cc
-            | inr none ↦ let t : is_in n [] ≡ true = subst (λ (v : List Block). is_in n v ≡ true) none k.1 in absurd cc
-          ]
-    ])
-
 pub walk_set : (g : ℕ) (ps qs both xs ys : List Block) → IsSet g ps → IsWalk ps qs both xs ys → IsSet g both
 walk_set g ps qs both xs ys p w = record { chain = w.chain; small = up_to_by_numbers g both w.chain (λ n i. in_up_to g n ps p.small (w.sound n i).0) }
 
@@ -203,9 +175,6 @@ pub record IsDecided (g : ℕ) (ps qs xs ys : List Block) : Type 0 where
   pub small : AreUpTo g xs
   pub yes : AreIn xs ys → AreIn ps qs
   pub no : Escapes g xs ys → Escapes g ps qs
-
-pub decided_start : (g : ℕ) (ps qs : List Block) → IsSet g ps → IsChain qs → IsDecided g ps qs ps qs
-decided_start g ps qs p q = record { left = p.chain; right = q; small = p.small; yes = λ h. h; no = λ h. h }
 
 pub not_in : (n : ℕ) (b : Block) (bs : List Block) → (n < b.min) ⊎ (b.max < n) → is_in n bs ≡ false → is_in n (b ∷ bs) ≡ false
 not_in n b bs h e =
@@ -275,12 +244,6 @@ none_at g xs ys i j l past d =
     let e = drop_more xs i some l in
     decided_none g xs ys (get_or xs i some) (drop (i + 1) xs) (subst (λ (v : List Block). IsDecided g xs ys v []) e (subst (λ (v : List Block). IsDecided g xs ys (drop i xs) v) (drop_all j ys past) d))
 
-pub end_at : (g : ℕ) (xs ys : List Block) (i j : ℕ) → length xs ≤ i → IsDecided g xs ys (drop i xs) (drop j ys) → AreIn xs ys
-end_at g xs ys i j past d = d.yes (λ n h. let none : is_in n [] ≡ true = subst (λ (v : List Block). is_in n v ≡ true) (drop_all i xs past) h in absurd cc)
-
 -- a number that escapes and all numbers inside exclude each other
 pub says_no : (g : ℕ) (xs ys : List Block) → Escapes g xs ys → (IsTrue false ↔ AreIn xs ys) × (IsFalse false ↔ Escapes g xs ys)
 says_no g xs ys e = ((λ t. absurd cc, λ f. absurd (both_ways _ e.outside (f e.number e.inside))), (λ t. e, λ t. refl))
-
-pub says_yes : (g : ℕ) (xs ys : List Block) → AreIn xs ys → (IsTrue true ↔ AreIn xs ys) × (IsFalse true ↔ Escapes g xs ys)
-says_yes g xs ys f = ((λ t. f, λ t. refl), (λ t. absurd cc, λ e. absurd (both_ways _ e.outside (f e.number e.inside))))

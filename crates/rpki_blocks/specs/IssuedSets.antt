@@ -1,23 +1,13 @@
 -- What a certificate gets of the numbers that its issuer has (RFC 6487 7.2, RFC 8360 4.2.4.4).
-use Rattle.std.specs.Prelude.{◌≡◌, ℕ, ◌<◌, ◌≤◌, ◌↔◌, List}
+use Rattle.std.specs.Prelude.{ℕ, ◌≤◌, ◌↔◌, List}
 use Rattle.rpki_blocks.specs.Sets.{Block, Has}
 use Rattle.rpki_blocks.specs.Resources.{Resources, missing, inherit, blocks}
-use Rattle.rpki_blocks.specs.declared.overclaim.Overclaim.{Overclaim}
-use Rattle.rpki_blocks.specs.declared.overclaim.Overclaim.TheVariants.{Refuse}
 
 -- the resources list n
 abbrev pub IsListed : ℕ → Resources → Type 0
 IsListed n missing = ⊥
 IsListed n inherit = ⊥
 IsListed n (blocks chain) = Has chain n
-
--- of the numbers below bound only those that the issuer has are listed
-abbrev pub ListsOnly : ℕ → (ℕ → Type 0) → Resources → Type 0
-ListsOnly bound issuer r = (n : ℕ) → n < bound → IsListed n r → issuer n
-
--- a certificate may list more than its issuer has where its resources are trimmed
-abbrev pub IsAllowed : Overclaim → ℕ → (ℕ → Type 0) → Resources → Type 0
-IsAllowed overclaim bound issuer r = overclaim ≡ Refuse → ListsOnly bound issuer r
 
 -- a number up to the greatest that is listed, and that the issuer doesn't have
 pub record IsOverclaim (greatest : ℕ) (issuer : ℕ → Type 0) (r : Resources) : Type 0 where

@@ -4,8 +4,8 @@ use Rattle.std.specs.Result.{IsErr}
 use Rattle.rpki_der.specs.declared.error.DecodeError.{DecodeError}
 use Rattle.rpki_der.specs.declared.error.DecodeError.TheVariants.{Truncated, BadLength, BadTag, BadValue, Trailing, TooDeep, Missing, Duplicate, Critical, NotCritical, UnexpectedCritical, InvalidExtension, WrongResources, AlgorithmMismatch, Memory}
 use Rattle.rpki_der.specs.Values.{AreOctets}
-use Rattle.rpki_der.specs.Spelling.{Begins, Reads, ReadsWhole}
-use Rattle.rpki_der.specs.Place.{Place, left, Refuses, Took, TookOrMemory, Gives, GivesOrMemory, Answers, AnswersOrMemory, MeansOrMemory}
+use Rattle.rpki_der.specs.Spelling.{Begins, Reads}
+use Rattle.rpki_der.specs.Place.{Place, left, Refuses, Took, TookOrMemory, Gives, GivesOrMemory, Answers, AnswersOrMemory}
 use Rattle.rpki_der.proofs.Octets.{some, nothing}
 
 -- ---- refusals that may be for want of memory
@@ -73,8 +73,3 @@ pub answers_or_memory : {X Y : Type 0} (view : X → Y) (read : List ℕ → Opt
     → (old : Place) (r : Result X DecodeError) (new : Place) → AreOctets (left old) → TookOrMemory view read old r new → AnswersOrMemory view spells old r new
 answers_or_memory view read spells law old (Ok x) new fits e = law.takes (left old) (view x) (left new) fits e
 answers_or_memory view read spells law old (Err d) new fits e = refuses d (no_front read spells law (left old)) e
-
-pub means_or_memory : {X Y : Type 0} (view : X → Y) (read : List ℕ → Option Y) (spells : Y → List ℕ → Type 0) → ReadsWhole read spells
-    → (r : Result X DecodeError) (octets : List ℕ) → AreOctets octets → GivesOrMemory view r (read octets) → MeansOrMemory view spells r octets
-means_or_memory view read spells law (Ok x) octets fits e = law.takes octets (view x) fits e
-means_or_memory view read spells law (Err d) octets fits e = refuses d (λ n y s. nothing {B = ⊥} y (sym n ∙ law.again y octets s)) e

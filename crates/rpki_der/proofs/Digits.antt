@@ -1,12 +1,9 @@
 -- The digits of a number are the only ones without a zero in front.
 use Rattle.std.specs.Int.Digits.{digits_of, number_from_digits, number_from_digits_after}
-use Rattle.std.proofs.Common.{◌≡◌, ℕ, ◌+◌, ◌*◌, ◌/◌, ◌%◌, ◌<◌, ◌≤◌, true, not, ◌||◌, ltb, List, [], ◌∷◌, ◌++◌, refl, sym, ap, ◌∙◌, append_assoc, arith, inl, inr}
+use Rattle.std.proofs.Common.{◌≡◌, ℕ, ◌+◌, ◌*◌, ◌/◌, ◌%◌, ◌<◌, List, [], ◌∷◌, ◌++◌, refl, sym, ap, ◌∙◌, append_assoc, arith}
 use Rattle.std.proofs.lemmas.List.{append-nil}
 use Rattle.std.proofs.lemmas.Int.Digits.{digits_of_step}
-use Rattle.std.proofs.lemmas.Bool.{ltb-true, ltb-false, lt-ltb, le-ltb, and_parts, or_cases, not-true, cases_eq}
 use Rattle.rpki_der.specs.Values.{AreOctets}
-use Rattle.rpki_der.specs.Writing.{unsigned}
-use Rattle.rpki_der.specs.Primitives.{is_unsigned}
 use Rattle.rpki_der.proofs.Lengths.{one_digit}
 
 digits_after : (n : ℕ) (ds : List ℕ) → 0 < n → AreOctets ds → digits_of 256 (number_from_digits_after 256 n ds) ≡ digits_of 256 n ++ ds
@@ -24,25 +21,3 @@ digits_again d ds some low =
     let same : 0 * 256 + d ≡ d = omega arith in
     let small : d < 256 = low.0 in
     ap (λ (n : ℕ). digits_of 256 (number_from_digits_after 256 n ds)) same ∙ digits_after d ds some low.1 ∙ ap (λ (x : List ℕ). x ++ ds) (one_digit d some small)
-
--- the content of an INTEGER that isn't negative is the one that is written of its number
-pub unsigned_again : (c : List ℕ) → is_unsigned c ≡ true → AreOctets c → unsigned (digits_of 256 (number_from_digits 256 c)) ≡ c
-unsigned_again [] e low = absurd cc
-unsigned_again (b ∷ []) e low =
-    let positive : b < 0x80 = ltb-true b 0x80 e in
-    elim (cases_eq b 0) [
-      | inl z ↦ rw z refl
-      | inr n ↦ rw (digits_again b [] (omega arith) low, lt-ltb b 0x80 positive) refl
-    ]
-unsigned_again (b ∷ d ∷ c) e low =
-    let parts = and_parts (ltb b 0x80) (ltb 0 b || not (ltb d 0x80)) e in
-    let positive : b < 0x80 = ltb-true b 0x80 parts.0 in
-    elim (cases_eq b 0) [
-      | inl z ↦
-          let high : 0x80 ≤ d = elim (or_cases (ltb 0 b) (not (ltb d 0x80)) parts.1) [
-            | inl y ↦ let lt : 0 < b = ltb-true 0 b y in absurd (omega arith)
-            | inr y ↦ ltb-false d 0x80 (not-true _ y)
-          ] in
-          rw z (rw (digits_again d c (omega arith) low.1, le-ltb d 0x80 high) refl)
-      | inr n ↦ rw (digits_again b (d ∷ c) (omega arith) low, lt-ltb b 0x80 positive) refl
-    ]

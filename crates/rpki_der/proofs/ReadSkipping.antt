@@ -41,9 +41,6 @@ any_again v text rest s =
     let b = begins_tag v.0 v.1 text rest s in
     any_from (text ++ rest) v.0 b.0 v.1 rest b.1 (value_again v.0 v.1 text rest s)
 
-pub any_reads : Reads any_at IsTagged
-any_reads = record { takes = any_takes; again = any_again }
-
 -- ---- a value that is kept whole
 
 pub captured_reads : Reads captured_at IsCaptured

@@ -1,6 +1,5 @@
 -- What may be skipped under one bound of depth may be skipped under a greater one.
-use Rattle.std.specs.List.{AllByRecursion}
-use Rattle.std.proofs.Common.{◌≡◌, ◌≤◌, ℕ, zero, suc, List, [], ◌∷◌, subst, inl, inr, arith}
+use Rattle.std.proofs.Common.{◌≡◌, ◌≤◌, ℕ, zero, suc, List, subst, inl, inr, arith}
 use Rattle.std.proofs.lemmas.Bool.{cases_lt}
 use Rattle.rpki_der.specs.Skipping.{IsSkippableWithin}
 use Rattle.rpki_der.proofs.Lists.{weaken}

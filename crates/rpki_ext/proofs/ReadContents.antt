@@ -1,15 +1,15 @@
 -- Contents of extensions, both ways.
 use Rattle.std.specs.Prelude.{bytes_eq}
 use Rattle.std.specs.List.{AllByRecursion}
-use Rattle.std.proofs.Common.{◌≡◌, ℕ, true, eqb, List, [], ◌∷◌, ◌++◌, length, Some, refl, sym, ap, subst, ◌∙◌, inl, inr, arith}
-use Rattle.std.proofs.lemmas.Bool.{cases_Bool, eqb-true, eq-eqb}
+use Rattle.std.proofs.Common.{◌≡◌, ℕ, true, List, [], ◌∷◌, ◌++◌, length, Some, refl, sym, ap, subst, ◌∙◌, inl, inr, arith}
+use Rattle.std.proofs.lemmas.Bool.{cases_Bool, eq-eqb}
 use Rattle.std.proofs.lemmas.Slice.Eq.{bytes_eq-Decides}
 use Rattle.rpki_der.specs.Values.{enc, length_octets, IsEnc, AreOctets}
 use Rattle.rpki_der.specs.Contents.{IsBoolOrFalse, IsObjectIdentifier}
 use Rattle.rpki_der.specs.Reading.{oid_of, oid_at, content, inside}
 use Rattle.rpki_der.specs.Rows.{IsRow, Shrinks}
 use Rattle.rpki_der.specs.Spelling.{Reads, ReadsWhole, Inside, BeginsOther}
-use Rattle.rpki_der.proofs.Octets.{bind_some, if_some, some, some_is, nothing}
+use Rattle.rpki_der.proofs.Octets.{bind_some, some, some_is, nothing}
 use Rattle.rpki_der.proofs.Made.{content_reads, inside_reads, same_reads}
 use Rattle.rpki_der.proofs.Alternatives.{content_shrinks}
 use Rattle.rpki_der.proofs.Identifiers.{oid_reads}

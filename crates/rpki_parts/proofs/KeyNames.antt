@@ -27,10 +27,6 @@ pub length-digits : (octets : List ℕ) → length (hexadecimal octets) ≡ 2 * 
 length-digits [] = refl
 length-digits (x ∷ xs) = let e = length-digits xs in omega arith
 
-pub digits-append : (a b : List ℕ) → hexadecimal (a ++ b) ≡ hexadecimal a ++ hexadecimal b
-digits-append [] b = refl
-digits-append (x ∷ a) b = ap (λ (t : List ℕ). digit (x / 16) ∷ digit (x % 16) ∷ t) (digits-append a b)
-
 enc_short : (t : ℕ) (c : List ℕ) (n : ℕ) → length c ≡ n → n < 128 → enc t c ≡ t ∷ n ∷ c
 unfolding enc length_octets
 enc_short t c n e h = rw (e, lt-ltb n 128 h) refl

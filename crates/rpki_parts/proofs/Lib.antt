@@ -11,6 +11,4 @@ pub mod UriParents
 pub mod UriEquivalences
 pub mod SignedLaws
 pub mod KeyNames
-pub mod PartFormats
 pub mod PartsWritten
-pub mod DeeperNames

@@ -1,18 +1,16 @@
 -- What is written of a validity, an algorithm, a key, signed data or the name of a key spells it.
-use Rattle.std.specs.List.{concat}
 use Rattle.std.proofs.Common.{ℕ, Bool, true, false, List, [], ◌∷◌, refl, arith, inl}
-use Rattle.rpki_der.specs.Values.{IsValue, AreOctets, enc}
+use Rattle.rpki_der.specs.Values.{AreOctets, enc}
 use Rattle.rpki_der.specs.Contents.{null}
 use Rattle.rpki_der.specs.Times.{IsMoment}
 use Rattle.rpki_der.specs.Writing.{time}
 use Rattle.rpki_der.proofs.Identifiers.{oid_takes}
 use Rattle.rpki_der.proofs.Written.{Short, made, time_made, identifier_made, content_short, pieces_short}
-use Rattle.rpki_der.proofs.WrittenOctets.{IfShort, literal, ok_time, value_octets, ok_concat, ok_enc}
+use Rattle.rpki_der.proofs.WrittenOctets.{IfShort, literal, ok_time, ok_concat, ok_enc}
 use Rattle.rpki_parts.specs.Algorithms.{IsSignatureAlgorithm, sha256_with_rsa}
 use Rattle.rpki_parts.specs.Keys.{KeyFields, IsKeyAlgorithm, IsPublicKey, rsa_encryption, id_ec_public_key, prime256v1}
-use Rattle.rpki_parts.specs.SignedDatas.{SignedFields, IsSignedData}
 use Rattle.rpki_parts.specs.Validities.{ValidityFields, IsValidity}
-use Rattle.rpki_parts.specs.WrittenParts.{algorithm, key_algorithm, key, key_pieces, validity, signed_data, signed_pieces}
+use Rattle.rpki_parts.specs.WrittenParts.{algorithm, key_algorithm, key, key_pieces, validity}
 use Rattle.rpki_parts.specs.declared.key.PublicKeyFormat.{PublicKeyFormat}
 use Rattle.rpki_parts.specs.declared.key.PublicKeyFormat.TheVariants.{Rsa, EcdsaP256}
 
@@ -42,15 +40,6 @@ key_made k h =
     let shorts = pieces_short (key_pieces k) (content_short 0x30 _ h) in
     record { algorithm = key_algorithm k.format; bits = enc 3 (0 ∷ k.bits); algorithm_is = key_algorithm_made k.format shorts.0; bits_is = made 3 (0 ∷ k.bits) (omega arith) shorts.1.0; sequence = made 0x30 _ (omega arith) h }
 
-pub signed_data_made : (s : SignedFields) → IsValue s.message → Short (signed_data s) → IsSignedData s (signed_data s)
-signed_data_made s v h =
-    let shorts = pieces_short (signed_pieces s) (content_short 0x30 _ h) in
-    record {
-      content = concat (signed_pieces s);
-      content_is = record { algorithm = algorithm s.signature.algorithm; signature = enc 3 (0 ∷ s.signature.value); message_is = v; algorithm_is = algorithm_made s.signature.algorithm shorts.1.0; signature_is = made 3 (0 ∷ s.signature.value) (omega arith) shorts.1.1.0; is = refl };
-      enc = made 0x30 _ (omega arith) h;
-    }
-
 -- ---- octets
 
 pub ok_validity : (v : ValidityFields) → IsMoment v.not_before → IsMoment v.not_after → IfShort (validity v)
@@ -69,6 +58,3 @@ ok_key_algorithm EcdsaP256 = ok_enc 0x30 _ (omega arith) (ok_concat (enc 6 id_ec
 
 pub ok_key : (k : KeyFields) → AreOctets k.bits → IfShort (key k)
 ok_key k h = ok_enc 0x30 _ (omega arith) (ok_concat (key_pieces k) (ok_key_algorithm k.format, (ok_enc 3 _ (omega arith) (λ l. (omega arith, h)), tt)))
-
-pub ok_signed_data : (s : SignedFields) → IsValue s.message → AreOctets s.signature.value → IfShort (signed_data s)
-ok_signed_data s v h = ok_enc 0x30 _ (omega arith) (ok_concat (signed_pieces s) ((λ l. value_octets v.enc), (ok_algorithm s.signature.algorithm, (ok_enc 3 _ (omega arith) (λ l. (omega arith, h)), tt))))

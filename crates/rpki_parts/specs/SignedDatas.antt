@@ -1,7 +1,7 @@
 -- Signed data: a value, an algorithm and a signature (RFC 5280 4.1.1, 5.1.1).
 use Rattle.std.specs.Prelude.{◌≡◌, ℕ, Bool, List, [], ◌∷◌, Option}
 use Rattle.std.specs.List.{concat}
-use Rattle.rpki_der.specs.Values.{IsEnc, IsValue, IsSequenceOf}
+use Rattle.rpki_der.specs.Values.{IsEnc, IsValue}
 use Rattle.rpki_der.specs.Reading.{both, mapped}
 use Rattle.rpki_der.specs.Skipping.{captured_at}
 use Rattle.rpki_parts.specs.Algorithms.{IsSignatureAlgorithm, algorithm_at}
@@ -22,9 +22,6 @@ pub record IsSignedDataContent (s : SignedFields) (content : List ℕ) : Type 0 
   pub algorithm_is : IsSignatureAlgorithm s.signature.algorithm algorithm
   pub signature_is : IsEnc 3 (0 ∷ s.signature.value) signature
   pub is : content ≡ concat (s.message ∷ algorithm ∷ signature ∷ [])
-
-abbrev pub IsSignedData : SignedFields → List ℕ → Type 0
-IsSignedData s b = IsSequenceOf IsSignedDataContent s b
 
 -- ---- reading
 

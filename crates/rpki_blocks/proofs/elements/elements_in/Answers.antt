@@ -1,4 +1,4 @@
-use Rattle.std.proofs.Common.{rules, ◌≡◌, [], Err, refl, sym, ◌∙◌}
+use Rattle.std.proofs.Common.{[], rules, ◌≡◌, Err, refl, sym, ◌∙◌}
 use Rattle.rpki_der.specs.Place.{left}
 use Rattle.rpki_der.proofs.Answering.{certainly, passed_on}
 use Rattle.rpki_der.proofs.RowTests.{some_left}

@@ -1,6 +1,6 @@
 use Rattle.std.specs.Prelude.{IfSome, ◌≢◌}
 use Rattle.std.specs.List.{AllZip, concat}
-use Rattle.std.proofs.Common.{◌≡◌, ℕ, ◌+◌, ◌<◌, ◌^◌, Bool, true, false, List, [], ◌∷◌, length, Option, Some, None, refl, ap, subst, arith}
+use Rattle.std.proofs.Common.{◌≡◌, ℕ, ◌<◌, ◌^◌, Bool, true, false, List, [], ◌∷◌, length, Option, Some, None, refl, subst, arith}
 use Rattle.rpki_der.specs.Values.{enc, AreOctets}
 use Rattle.rpki_der.specs.Contents.{IsObjectIdentifier}
 use Rattle.rpki_der.specs.Writing.{bool_or_false}
