@@ -10,4 +10,5 @@ pub mod WrittenFields
 pub mod WrittenCertificates
 pub mod SomeFields
 pub mod WritingSteps
+pub mod SecondKinds
 pub mod Refusals

@@ -8,6 +8,7 @@ pub mod laws;
 mod making;
 #[cfg(test)]
 mod making_tests;
+mod named;
 #[cfg(test)]
 mod openssl_vectors;
 mod reading;

@@ -1,19 +1,20 @@
 //! The extensions of a certificate, in one pass, whatever order they stand in.
-ghost use Rattle.std.specs.Prelude.{◌≡◌, option_map};
-ghost use Rattle.rpki_der.specs.Place.{Place, left, Gives, GivesOrMemory, MeansOrMemory};
+ghost use Rattle.std.specs.Prelude.{◌≡◌, ◌⊎◌, true, false, OnOk, OnErr, IfErr, option_map};
+ghost use Rattle.rpki_der.specs.Place.{Place, left, Gives, GivesOrMemory, MeansOrMemory, Refuses};
 ghost use Rattle.rpki_blocks.specs.Resources.{missing};
-ghost use Rattle.rpki_ext.specs.Extensions.{Extension, or_else};
+ghost use Rattle.rpki_ext.specs.Extensions.{Extension, IsFlagFor, or_else};
 ghost use Rattle.rpki_ext.specs.Folding.{over};
 ghost use Rattle.rpki_ext.specs.ReadExtensions.{extension_at};
-ghost use Rattle.rpki_cert.specs.Named.{Names};
+ghost use Rattle.rpki_cert.specs.Named.{wanted};
 ghost use Rattle.rpki_cert.specs.ReadCertificates.{all_kinds, sights_of, same_mode, under, agreed, completed, extensions_of};
-ghost use Rattle.rpki_cert.specs.SeenStates.{state_of, families_of};
+ghost use Rattle.rpki_cert.specs.SeenStates.{state_of, families_of, is_seen};
 ghost use Rattle.rpki_cert.specs.Certificates.{no_access, no_families};
 ghost use Rattle.rpki_cert.specs.ExtensionViews.{extensions_view, listed_view, families_in};
 
+use crate::named::Named;
 use bytes::Bytes;
 use rpki_blocks::{AsResources, IpResources, Overclaim};
-use rpki_der::{Cursor, DecodeError, Field, Oid, oid};
+use rpki_der::{Cursor, DecodeError, Field, Oid};
 use rpki_ext::{
     ExtendedKeyUsage, KeyUsage, Sia, take_authority_information_access,
     take_authority_key_identifier, take_basic_constraints, take_certificate_policies,
@@ -23,58 +24,16 @@ use rpki_ext::{
 use rpki_parts::{Https, KeyIdentifier, Rsync};
 use std::alloc::Global;
 
-/// The kinds of extensions that are known.
-#[derive(Clone, Copy)]
-pub(crate) enum Named {
-    BasicConstraints,
-    SubjectKeyIdentifier,
-    AuthorityKeyIdentifier,
-    KeyUsage,
-    ExtendedKeyUsage,
-    CrlDistributionPoints,
-    AuthorityInformationAccess,
-    SubjectInformationAccess,
-    CertificatePolicies,
-    IpResources(Overclaim),
-    AsResources(Overclaim),
-    Unknown,
-}
-
-impl Named {
-    /// The kind that an identifier names.
-    pub(crate) fn of(identifier: &[u8]) -> Named
-        ensures { Names identifier.now result }
-    {
-        if identifier == oid::CE_BASIC_CONSTRAINTS {
-            Named::BasicConstraints
-        } else if identifier == oid::CE_SUBJECT_KEY_IDENTIFIER {
-            Named::SubjectKeyIdentifier
-        } else if identifier == oid::CE_AUTHORITY_KEY_IDENTIFIER {
-            Named::AuthorityKeyIdentifier
-        } else if identifier == oid::CE_KEY_USAGE {
-            Named::KeyUsage
-        } else if identifier == oid::CE_EXTENDED_KEY_USAGE {
-            Named::ExtendedKeyUsage
-        } else if identifier == oid::CE_CRL_DISTRIBUTION_POINTS {
-            Named::CrlDistributionPoints
-        } else if identifier == oid::PE_AUTHORITY_INFO_ACCESS {
-            Named::AuthorityInformationAccess
-        } else if identifier == oid::PE_SUBJECT_INFO_ACCESS {
-            Named::SubjectInformationAccess
-        } else if identifier == oid::CE_CERTIFICATE_POLICIES {
-            Named::CertificatePolicies
-        } else if identifier == oid::PE_IP_ADDR_BLOCK {
-            Named::IpResources(Overclaim::Refuse)
-        } else if identifier == oid::PE_IP_ADDR_BLOCK_V2 {
-            Named::IpResources(Overclaim::Trim)
-        } else if identifier == oid::PE_AUTONOMOUS_SYS_IDS {
-            Named::AsResources(Overclaim::Refuse)
-        } else if identifier == oid::PE_AUTONOMOUS_SYS_IDS_V2 {
-            Named::AsResources(Overclaim::Trim)
-        } else {
-            Named::Unknown
-        }
+// An extension of no known kind: unread where it isn't critical, else refused (RFC 5280 4.2).
+fn pass_over(alloc: Global, identifier: &[u8], critical: bool) -> Result<(), DecodeError>
+    ensures ok { OnOk result (critical ≡ false) }
+    ensures err { IfErr result (λ e. Refuses e (critical ≡ true)) }
+{
+    if !critical {
+        return Ok(());
     }
+    let identifier = Bytes::copy_from_slice(alloc, identifier)?;
+    Err(DecodeError::UnexpectedCritical(Oid::new(identifier)?))
 }
 
 /// What the extensions that were seen so far gave.
@@ -112,6 +71,40 @@ impl Seen {
         }
     }
 
+    fn has(&self, kind: Named) -> bool
+        ensures { result ≡ is_seen (state_of self.now) kind }
+    {
+        match kind {
+            Named::BasicConstraints => self.basic_ca.is_some(),
+            Named::SubjectKeyIdentifier => self.subject_key_identifier.is_some(),
+            Named::AuthorityKeyIdentifier => self.authority_key_identifier.is_some(),
+            Named::KeyUsage => self.key_usage.is_some(),
+            Named::ExtendedKeyUsage => self.extended_key_usage.is_some(),
+            Named::CrlDistributionPoints => self.crl_uri.is_some(),
+            Named::AuthorityInformationAccess => self.ca_issuer.is_some(),
+            Named::SubjectInformationAccess => self.access.is_some(),
+            Named::CertificatePolicies => self.overclaim.is_some(),
+            Named::IpResources(_) => self.ip_resources.is_some(),
+            Named::AsResources(_) => self.as_resources.is_some(),
+        }
+    }
+
+    // Refuses a second extension of a kind, and one with another flag than its kind's.
+    fn check(&self, kind: Named, critical: bool) -> Result<(), DecodeError>
+        ensures first { OnOk result (is_seen (state_of self.now) kind ≡ false) }
+        ensures flag { OnOk result (IsFlagFor (wanted kind) critical) }
+        ensures refused { OnErr result ((is_seen (state_of self.now) kind ≡ true) ⊎ (IsFlagFor (wanted kind) critical → ⊥)) }
+    {
+        if self.has(kind) {
+            return Err(DecodeError::Duplicate(kind.field()));
+        }
+        match kind.must_be_critical() {
+            Some(true) if !critical => Err(DecodeError::NotCritical(kind.field())),
+            Some(false) if critical => Err(DecodeError::Critical(kind.field())),
+            _ => Ok(()),
+        }
+    }
+
     // One extension more.
     fn put(
         &mut self,
@@ -122,116 +115,55 @@ impl Seen {
     ) -> Result<(), DecodeError>
         ensures { GivesOrMemory (λ _. state_of self.new) result (all_kinds.step (state_of self.old) (record { identifier = identifier.now; critical = critical; content = left content.old })) }
     {
-        match Named::of(identifier) {
+        let Some(kind) = Named::of(identifier) else {
+            return pass_over(alloc, identifier, critical);
+        };
+        if let Err(error) = self.check(kind, critical) {
+            return Err(error);
+        }
+        match kind {
             Named::BasicConstraints => {
-                if self.basic_ca.is_some() {
-                    return Err(DecodeError::Duplicate(Field::BasicConstraints));
-                }
-                if !critical {
-                    return Err(DecodeError::NotCritical(Field::BasicConstraints));
-                }
                 self.basic_ca = Some(take_basic_constraints(content)?);
                 Ok(())
             }
             Named::SubjectKeyIdentifier => {
-                if self.subject_key_identifier.is_some() {
-                    return Err(DecodeError::Duplicate(Field::SubjectKeyIdentifier));
-                }
-                if critical {
-                    return Err(DecodeError::Critical(Field::SubjectKeyIdentifier));
-                }
                 self.subject_key_identifier = Some(take_subject_key_identifier(content)?);
                 Ok(())
             }
             Named::AuthorityKeyIdentifier => {
-                if self.authority_key_identifier.is_some() {
-                    return Err(DecodeError::Duplicate(Field::AuthorityKeyIdentifier));
-                }
-                if critical {
-                    return Err(DecodeError::Critical(Field::AuthorityKeyIdentifier));
-                }
                 self.authority_key_identifier = Some(take_authority_key_identifier(content)?);
                 Ok(())
             }
             Named::KeyUsage => {
-                if self.key_usage.is_some() {
-                    return Err(DecodeError::Duplicate(Field::KeyUsage));
-                }
-                if !critical {
-                    return Err(DecodeError::NotCritical(Field::KeyUsage));
-                }
                 self.key_usage = Some(take_key_usage(content)?);
                 Ok(())
             }
             Named::ExtendedKeyUsage => {
-                if self.extended_key_usage.is_some() {
-                    return Err(DecodeError::Duplicate(Field::ExtendedKeyUsage));
-                }
-                if critical {
-                    return Err(DecodeError::Critical(Field::ExtendedKeyUsage));
-                }
                 self.extended_key_usage = Some(take_extended_key_usage(content)?);
                 Ok(())
             }
             Named::CrlDistributionPoints => {
-                if self.crl_uri.is_some() {
-                    return Err(DecodeError::Duplicate(Field::CrlDistributionPoints));
-                }
-                if critical {
-                    return Err(DecodeError::Critical(Field::CrlDistributionPoints));
-                }
                 self.crl_uri = Some(take_crl_distribution_points(content)?);
                 Ok(())
             }
             Named::AuthorityInformationAccess => {
-                if self.ca_issuer.is_some() {
-                    return Err(DecodeError::Duplicate(Field::AuthorityInformationAccess));
-                }
-                if critical {
-                    return Err(DecodeError::Critical(Field::AuthorityInformationAccess));
-                }
                 self.ca_issuer = Some(take_authority_information_access(content)?);
                 Ok(())
             }
             Named::SubjectInformationAccess => {
-                if self.access.is_some() {
-                    return Err(DecodeError::Duplicate(Field::SubjectInformationAccess));
-                }
-                if critical {
-                    return Err(DecodeError::Critical(Field::SubjectInformationAccess));
-                }
                 self.access = Some(take_subject_information_access(content)?);
                 Ok(())
             }
             Named::CertificatePolicies => {
-                if self.overclaim.is_some() {
-                    return Err(DecodeError::Duplicate(Field::CertificatePolicies));
-                }
-                if !critical {
-                    return Err(DecodeError::NotCritical(Field::CertificatePolicies));
-                }
                 self.overclaim = Some(take_certificate_policies(content)?);
                 Ok(())
             }
             Named::IpResources(mode) => {
-                if self.ip_resources.is_some() {
-                    return Err(DecodeError::Duplicate(Field::IpResources));
-                }
                 self.ip_resources = Some((mode, IpResources::take_families_from(alloc, content)?));
                 Ok(())
             }
             Named::AsResources(mode) => {
-                if self.as_resources.is_some() {
-                    return Err(DecodeError::Duplicate(Field::AsResources));
-                }
                 self.as_resources = Some((mode, AsResources::take_from(alloc, content)?));
-                Ok(())
-            }
-            Named::Unknown => {
-                if critical {
-                    let content = Bytes::copy_from_slice(alloc, identifier)?;
-                    return Err(DecodeError::UnexpectedCritical(Oid::new(content)?));
-                }
                 Ok(())
             }
         }

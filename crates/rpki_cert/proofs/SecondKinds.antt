@@ -1,0 +1,58 @@
+-- A second extension of a kind is refused, and one with another flag than its kind's.
+use Rattle.std.proofs.Common.{◌≡◌, ℕ, Bool, true, false, cond, List, Option, Some, None, refl, ◌⊎◌, inl, inr}
+use Rattle.std.specs.Prelude.{is_some}
+use Rattle.std.proofs.lemmas.Bool.{cases_Bool}
+use Rattle.rpki_blocks.specs.declared.overclaim.Overclaim.TheVariants.{Refuse, Trim}
+use Rattle.rpki_ext.specs.Extensions.{Extension, IsFlagFor}
+use Rattle.rpki_cert.specs.declared.named.Named.{Named}
+use Rattle.rpki_cert.specs.declared.named.Named.TheVariants.{BasicConstraints, SubjectKeyIdentifier, AuthorityKeyIdentifier, KeyUsage, ExtendedKeyUsage, CrlDistributionPoints, AuthorityInformationAccess, SubjectInformationAccess, CertificatePolicies, IpResources, AsResources}
+use Rattle.rpki_cert.specs.Named.{Names, wanted}
+use Rattle.rpki_cert.specs.ReadCertificates.{State, all_kinds}
+use Rattle.rpki_cert.specs.SeenStates.{is_seen}
+
+abbrev IsRefused : State → List ℕ → Bool → List ℕ → Type 0
+IsRefused s id critical content = all_kinds.step s (record { identifier = id; critical = critical; content = content }) ≡ None
+
+second : (s : State) (kind : Named) (id : List ℕ) (critical : Bool) (content : List ℕ) → Names id (Some kind) → is_seen s kind ≡ true → IsRefused s id critical content
+second s BasicConstraints id critical content n h = rw (n, h) refl
+second s SubjectKeyIdentifier id critical content n h = rw (n, h) refl
+second s AuthorityKeyIdentifier id critical content n h = rw (n, h) refl
+second s KeyUsage id critical content n h = rw (n, h) refl
+second s ExtendedKeyUsage id critical content n h = rw (n, h) refl
+second s CrlDistributionPoints id critical content n h = rw (n, h) refl
+second s AuthorityInformationAccess id critical content n h = rw (n, h) refl
+second s SubjectInformationAccess id critical content n h = rw (n, h) refl
+second s CertificatePolicies id critical content n h = rw (n, h) refl
+second s (IpResources Refuse) id critical content n h = rw (n, h) refl
+second s (IpResources Trim) id critical content n h = rw (n, h) refl
+second s (AsResources Refuse) id critical content n h = rw (n, h) refl
+second s (AsResources Trim) id critical content n h = rw (n, h) refl
+
+-- nothing is kept, whether one was seen or not
+neither : {V : Type 0} (seen : Bool) → cond {A = Option V} seen None None ≡ None
+neither true = refl
+neither false = refl
+
+not_critical : (critical : Bool) → (critical ≡ true → ⊥) → critical ≡ false
+not_critical true h = absurd (h refl)
+not_critical false h = refl
+
+critical_is : (critical : Bool) → (critical ≡ false → ⊥) → critical ≡ true
+critical_is true h = refl
+critical_is false h = absurd (h refl)
+
+unflagged : (s : State) (kind : Named) (id : List ℕ) (critical : Bool) (content : List ℕ) → Names id (Some kind) → (IsFlagFor (wanted kind) critical → ⊥) → IsRefused s id critical content
+unflagged s BasicConstraints id critical content n h = rw (n, not_critical critical h, neither (is_some s.1.0)) refl
+unflagged s SubjectKeyIdentifier id critical content n h = rw (n, critical_is critical h, neither (is_some s.1.1.0)) refl
+unflagged s AuthorityKeyIdentifier id critical content n h = rw (n, critical_is critical h, neither (is_some s.1.1.1.0)) refl
+unflagged s KeyUsage id critical content n h = rw (n, not_critical critical h, neither (is_some s.1.1.1.1.0)) refl
+unflagged s ExtendedKeyUsage id critical content n h = rw (n, critical_is critical h, neither (is_some s.1.1.1.1.1.0)) refl
+unflagged s CrlDistributionPoints id critical content n h = rw (n, critical_is critical h, neither (is_some s.1.1.1.1.1.1.0)) refl
+unflagged s AuthorityInformationAccess id critical content n h = rw (n, critical_is critical h, neither (is_some s.1.1.1.1.1.1.1.0)) refl
+unflagged s SubjectInformationAccess id critical content n h = rw (n, critical_is critical h, neither (is_some s.1.1.1.1.1.1.1.1.0)) refl
+unflagged s CertificatePolicies id critical content n h = rw (n, not_critical critical h, neither (is_some s.1.1.1.1.1.1.1.1.1.0)) refl
+unflagged s (IpResources mode) id critical content n h = absurd (h tt)
+unflagged s (AsResources mode) id critical content n h = absurd (h tt)
+
+pub refused : (s : State) (kind : Named) (id : List ℕ) (critical : Bool) (content : List ℕ) → Names id (Some kind) → (is_seen s kind ≡ true) ⊎ (IsFlagFor (wanted kind) critical → ⊥) → IsRefused s id critical content
+refused s kind id critical content n h = elim h [ inl seen ↦ second s kind id critical content n seen | inr flag ↦ unflagged s kind id critical content n flag ]
