@@ -1,9 +1,8 @@
 -- A second extension of a kind is refused, and one with another flag than its kind's.
 use Rattle.std.proofs.Common.{◌≡◌, ℕ, Bool, true, false, cond, List, Option, Some, None, refl, ◌⊎◌, inl, inr}
 use Rattle.std.specs.Prelude.{is_some}
-use Rattle.std.proofs.lemmas.Bool.{cases_Bool}
 use Rattle.rpki_blocks.specs.declared.overclaim.Overclaim.TheVariants.{Refuse, Trim}
-use Rattle.rpki_ext.specs.Extensions.{Extension, IsFlagFor}
+use Rattle.rpki_ext.specs.Extensions.{IsFlagFor}
 use Rattle.rpki_cert.specs.declared.named.Named.{Named}
 use Rattle.rpki_cert.specs.declared.named.Named.TheVariants.{BasicConstraints, SubjectKeyIdentifier, AuthorityKeyIdentifier, KeyUsage, ExtendedKeyUsage, CrlDistributionPoints, AuthorityInformationAccess, SubjectInformationAccess, CertificatePolicies, IpResources, AsResources}
 use Rattle.rpki_cert.specs.Named.{Names, wanted}

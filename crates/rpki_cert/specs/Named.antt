@@ -4,6 +4,8 @@ use Rattle.std.specs.List.{AllByRecursion}
 use Rattle.rpki_blocks.specs.Overclaims.{ip_identifier, as_identifier}
 use Rattle.rpki_ext.specs.Extensions.{Kind, basic_constraints, subject_key_identifier, authority_key_identifier, key_usage, extended_key_usage, crl_distribution_points, authority_information_access, subject_information_access, certificate_policies}
 use Rattle.rpki_cert.specs.Kinds.{known}
+use Rattle.rpki_der.specs.declared.error.Field.{Field}
+use Rattle.rpki_der.specs.declared.error.Field.TheVariants as field
 use Rattle.rpki_cert.specs.declared.named.Named.{Named}
 use Rattle.rpki_cert.specs.declared.named.Named.TheVariants.{BasicConstraints, SubjectKeyIdentifier, AuthorityKeyIdentifier, KeyUsage, ExtendedKeyUsage, CrlDistributionPoints, AuthorityInformationAccess, SubjectInformationAccess, CertificatePolicies, IpResources, AsResources}
 
@@ -42,3 +44,17 @@ wanted SubjectInformationAccess = Some false
 wanted CertificatePolicies = Some true
 wanted (IpResources mode) = None
 wanted (AsResources mode) = None
+
+-- what errors call it
+abbrev pub field_of : Named → Field
+field_of BasicConstraints = field.BasicConstraints
+field_of SubjectKeyIdentifier = field.SubjectKeyIdentifier
+field_of AuthorityKeyIdentifier = field.AuthorityKeyIdentifier
+field_of KeyUsage = field.KeyUsage
+field_of ExtendedKeyUsage = field.ExtendedKeyUsage
+field_of CrlDistributionPoints = field.CrlDistributionPoints
+field_of AuthorityInformationAccess = field.AuthorityInformationAccess
+field_of SubjectInformationAccess = field.SubjectInformationAccess
+field_of CertificatePolicies = field.CertificatePolicies
+field_of (IpResources mode) = field.IpResources
+field_of (AsResources mode) = field.AsResources

@@ -1,6 +1,6 @@
 //! Which kind of extension an identifier names.
 ghost use Rattle.std.specs.Prelude.{◌≡◌};
-ghost use Rattle.rpki_cert.specs.Named.{Names, wanted};
+ghost use Rattle.rpki_cert.specs.Named.{Names, wanted, field_of};
 
 use rpki_blocks::Overclaim;
 use rpki_der::{Field, oid};
@@ -74,7 +74,9 @@ impl Named {
     }
 
     /// What errors call it.
-    pub(crate) fn field(self) -> Field {
+    pub(crate) fn field(self) -> Field
+        ensures { result ≡ field_of self }
+    {
         match self {
             Named::BasicConstraints => Field::BasicConstraints,
             Named::SubjectKeyIdentifier => Field::SubjectKeyIdentifier,

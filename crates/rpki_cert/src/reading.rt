@@ -124,49 +124,39 @@ impl Seen {
         match kind {
             Named::BasicConstraints => {
                 self.basic_ca = Some(take_basic_constraints(content)?);
-                Ok(())
             }
             Named::SubjectKeyIdentifier => {
                 self.subject_key_identifier = Some(take_subject_key_identifier(content)?);
-                Ok(())
             }
             Named::AuthorityKeyIdentifier => {
                 self.authority_key_identifier = Some(take_authority_key_identifier(content)?);
-                Ok(())
             }
             Named::KeyUsage => {
                 self.key_usage = Some(take_key_usage(content)?);
-                Ok(())
             }
             Named::ExtendedKeyUsage => {
                 self.extended_key_usage = Some(take_extended_key_usage(content)?);
-                Ok(())
             }
             Named::CrlDistributionPoints => {
                 self.crl_uri = Some(take_crl_distribution_points(content)?);
-                Ok(())
             }
             Named::AuthorityInformationAccess => {
                 self.ca_issuer = Some(take_authority_information_access(content)?);
-                Ok(())
             }
             Named::SubjectInformationAccess => {
                 self.access = Some(take_subject_information_access(content)?);
-                Ok(())
             }
             Named::CertificatePolicies => {
                 self.overclaim = Some(take_certificate_policies(content)?);
-                Ok(())
             }
             Named::IpResources(mode) => {
                 self.ip_resources = Some((mode, IpResources::take_families_from(alloc, content)?));
-                Ok(())
             }
             Named::AsResources(mode) => {
                 self.as_resources = Some((mode, AsResources::take_from(alloc, content)?));
-                Ok(())
             }
         }
+        Ok(())
     }
 
     // A row of extensions, one after the other.
