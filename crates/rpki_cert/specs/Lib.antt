@@ -7,4 +7,3 @@ pub mod Named
 pub mod SeenStates
 pub mod ExtensionViews
 pub mod FieldViews
-pub mod OptionalAnswers

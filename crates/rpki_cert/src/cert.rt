@@ -1,12 +1,11 @@
 ghost use Rattle.std.specs.Prelude.{◌≡◌, ◌^◌, ◌<◌, ◌≤◌, ◌++◌, length, IfOk, IsOk, OnOk, OnErr, IsErrOf, option_map};
 ghost use Rattle.std.specs.List.{concat};
-ghost use Rattle.rpki_der.specs.Place.{Place, left, Keeps, TookOrMemory, AnswersOrMemory, MeansOrMemory};
+ghost use Rattle.rpki_der.specs.Place.{Place, left, Keeps, TookOrMemory, AnswersOrMemory, AnswersOptionalOrMemory, MeansOrMemory};
 ghost use Rattle.rpki_der.specs.Reading.{optional};
 ghost use Rattle.rpki_der.specs.Values.{AreOctets};
 ghost use Rattle.rpki_parts.specs.WrittenParts.{signed_data, signed_pieces};
 ghost use Rattle.rpki_ext.specs.Extensions.{Means};
 ghost use Rattle.rpki_cert.specs.Certificates.{IsCertificateContent, IsCertificate};
-ghost use Rattle.rpki_cert.specs.OptionalAnswers.{AnswersOptionalOrMemory};
 ghost use Rattle.rpki_cert.specs.ReadCertificates.{cert_content_at, cert_at};
 
 use crate::tbs::TbsCert;

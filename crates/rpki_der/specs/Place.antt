@@ -67,6 +67,12 @@ abbrev pub AnswersOrMemory : {X Y : Type 0} → (X → Y) → (Y → List ℕ �
 AnswersOrMemory view spells old (Ok x) new = Begins spells (left old) (view x) (left new)
 AnswersOrMemory {X} {Y} view spells old (Err e) new = Refuses e ((y : Y) (rest : List ℕ) → Begins spells (left old) y rest → ⊥)
 
+-- the same of one whose value may be absent and that may want memory
+abbrev pub AnswersOptionalOrMemory : {X Y : Type 0} → (X → Y) → ℕ → (Y → List ℕ → Type 0) → Place → Result (Option X) DecodeError → Place → Type 0
+AnswersOptionalOrMemory view tag spells old (Ok None) new = BeginsOther tag (left old) × (new ≡ old)
+AnswersOptionalOrMemory view tag spells old (Ok (Some x)) new = Begins spells (left old) (view x) (left new)
+AnswersOptionalOrMemory {X} {Y} view tag spells old (Err e) new = (BeginsOther tag (left old) → ⊥) × Refuses e ((y : Y) (rest : List ℕ) → Begins spells (left old) y rest → ⊥)
+
 -- a call's answer on whole octets, seen by view: a value that they spell; or they spell none, or memory was wanted
 abbrev pub MeansOrMemory : {X Y : Type 0} → (X → Y) → (Y → List ℕ → Type 0) → Result X DecodeError → List ℕ → Type 0
 MeansOrMemory view spells (Ok x) octets = spells (view x) octets
