@@ -173,6 +173,7 @@ impl TbsCert {
         TbsCert::read(alloc, cursor)
     }
 
+    /// The serial number that the issuer gave (RFC 5280 4.1.2.2).
     pub fn serial_number(&self) -> Serial
         ensures { result ≡ self.now.serial }
     {
@@ -186,24 +187,28 @@ impl TbsCert {
         self.signature
     }
 
+    /// The name of the issuer (RFC 5280 4.1.2.4).
     pub fn issuer(&self) -> &Name
         ensures { result.now ≡ self.now.issuer }
     {
         &self.issuer
     }
 
+    /// The period in which the certificate is valid (RFC 5280 4.1.2.5).
     pub fn validity(&self) -> Validity
         ensures { result ≡ self.now.validity }
     {
         self.validity
     }
 
+    /// The name of the subject (RFC 5280 4.1.2.6).
     pub fn subject(&self) -> &Name
         ensures { result.now ≡ self.now.subject }
     {
         &self.subject
     }
 
+    /// The subject's key (RFC 5280 4.1.2.7).
     pub fn subject_public_key_info(&self) -> &PublicKey
         ensures { result.now ≡ self.now.key }
     {
@@ -217,24 +222,28 @@ impl TbsCert {
         self.extensions.basic_ca
     }
 
+    /// The identifier of the subject's key, as it stands in its extension (RFC 6487 4.8.2).
     pub fn subject_key_identifier(&self) -> KeyIdentifier
         ensures { result ≡ self.now.subject_key_identifier }
     {
         self.extensions.subject_key_identifier
     }
 
+    /// The identifier of the issuer's key, where there is one (RFC 6487 4.8.3).
     pub fn authority_key_identifier(&self) -> Option<KeyIdentifier>
         ensures { result ≡ self.now.authority_key_identifier }
     {
         self.extensions.authority_key_identifier
     }
 
+    /// What the key is used for (RFC 6487 4.8.4).
     pub fn key_usage(&self) -> KeyUsage
         ensures { result ≡ self.now.key_usage }
     {
         self.extensions.key_usage
     }
 
+    /// The further purposes of the key, where there are some (RFC 6487 4.8.5).
     pub fn extended_key_usage(&self) -> Option<&ExtendedKeyUsage>
         ensures { option_map (λ e. e.now) result ≡ self.now.extended_key_usage }
     {
@@ -262,18 +271,21 @@ impl TbsCert {
         self.extensions.ca_repository.as_ref()
     }
 
+    /// Where the manifest of a CA is (RFC 6487 4.8.8.1).
     pub fn rpki_manifest(&self) -> Option<&Rsync>
         ensures { option_map (λ uri. uri.now) result ≡ self.now.access.rpki_manifest }
     {
         self.extensions.rpki_manifest.as_ref()
     }
 
+    /// Where the object is that an end entity signs (RFC 6487 4.8.8.2).
     pub fn signed_object(&self) -> Option<&Rsync>
         ensures { option_map (λ uri. uri.now) result ≡ self.now.access.signed_object }
     {
         self.extensions.signed_object.as_ref()
     }
 
+    /// Where the update notification file of a repository is (RFC 8182 3.2).
     pub fn rpki_notify(&self) -> Option<&Https>
         ensures { option_map (λ uri. uri.now) result ≡ self.now.access.rpki_notify }
     {
@@ -287,18 +299,21 @@ impl TbsCert {
         self.extensions.overclaim
     }
 
+    /// The IPv4 addresses (RFC 3779 2).
     pub fn v4_resources(&self) -> &IpResources
         ensures { result.now ≡ self.now.v4_resources }
     {
         &self.extensions.v4_resources
     }
 
+    /// The IPv6 addresses (RFC 3779 2).
     pub fn v6_resources(&self) -> &IpResources
         ensures { result.now ≡ self.now.v6_resources }
     {
         &self.extensions.v6_resources
     }
 
+    /// The AS numbers (RFC 3779 3).
     pub fn as_resources(&self) -> &AsResources
         ensures { result.now ≡ self.now.as_resources }
     {

@@ -32,6 +32,7 @@ impl From<Bytes> for Piece {
 }
 
 impl Piece {
+    /// The octets.
     pub fn as_bytes(&self) -> &[u8]
         ensures { result.now ≡ self.now }
     {

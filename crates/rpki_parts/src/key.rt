@@ -48,12 +48,14 @@ impl Model for KeyIdentifier {
 }
 
 impl KeyIdentifier {
+    /// The identifier with these 20 octets.
     pub fn from_octets(octets: [u8; 20]) -> KeyIdentifier
         ensures { result ≡ octets }
     {
         KeyIdentifier { octets }
     }
 
+    /// Its 20 octets.
     pub fn as_octets(&self) -> &[u8; 20]
         ensures same { result.now ≡ self.now }
         ensures size { length self.now ≡ 20 }

@@ -25,6 +25,7 @@ impl Model for Signature {
 }
 
 impl Signature {
+    /// The signature with these octets, made by this algorithm.
     pub fn new(algorithm: RpkiSignatureAlgorithm, value: Bytes) -> Signature
         ensures { result ≡ record { algorithm = algorithm; value = value } }
     {
@@ -40,6 +41,7 @@ impl Signature {
         Signature { algorithm, value }
     }
 
+    /// The algorithm that made it.
     pub fn algorithm(&self) -> &RpkiSignatureAlgorithm
         ensures { result.now ≡ self.now.algorithm }
     {

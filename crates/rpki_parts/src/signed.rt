@@ -29,6 +29,7 @@ impl Model for SignedData {
 }
 
 impl SignedData {
+    /// These octets, with a signature that is said to be theirs.
     pub fn new(data: Bytes, signature: Signature) -> SignedData
         ensures { result ≡ record { message = «data»; signature = signature } }
     {
@@ -73,6 +74,7 @@ impl SignedData {
         self.data.as_bytes()
     }
 
+    /// The signature that is said to be theirs.
     pub fn signature(&self) -> &Signature
         ensures { result.now ≡ self.now.signature }
     {

@@ -28,6 +28,7 @@ impl TalInfo {
         TalInfo { name }
     }
 
+    /// The name, as it was given.
     pub fn name(&self) -> &str
         ensures { result.now ≡ self.now }
     {

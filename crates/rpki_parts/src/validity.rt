@@ -26,6 +26,7 @@ impl Model for Validity {
 }
 
 impl Validity {
+    /// The period from `not_before` to `not_after`, both included. Whether the first is the earlier isn't tested.
     pub fn new(not_before: Time, not_after: Time) -> Validity
         ensures { result ≡ record { not_before = not_before; not_after = not_after } }
     {
@@ -35,12 +36,14 @@ impl Validity {
         }
     }
 
+    /// The first moment at which it is valid.
     pub fn not_before(self) -> Time
         ensures { result ≡ self.not_before }
     {
         self.not_before
     }
 
+    /// The last moment at which it is valid.
     pub fn not_after(self) -> Time
         ensures { result ≡ self.not_after }
     {
