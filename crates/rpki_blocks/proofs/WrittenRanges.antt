@@ -1,4 +1,4 @@
--- What is written of a block that isn't one number, or isn't a prefix.
+-- A SEQUENCE of two values is longer than both.
 use Rattle.std.proofs.Common.{◌≡◌, ℕ, ◌+◌, ◌^◌, ◌≤◌, ap, List, [], ◌∷◌, ◌++◌, length, arith}
 use Rattle.std.proofs.lemmas.List.{length-append}
 use Rattle.rpki_der.specs.Writing.{sequence}

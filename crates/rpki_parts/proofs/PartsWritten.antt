@@ -1,4 +1,4 @@
--- What is written of a validity, an algorithm, a key, signed data or the name of a key spells it.
+-- What is written of a validity, an algorithm, a key or the name of a key spells it.
 use Rattle.std.proofs.Common.{ℕ, Bool, true, false, List, [], ◌∷◌, refl, arith, inl}
 use Rattle.rpki_der.specs.Values.{AreOctets, enc}
 use Rattle.rpki_der.specs.Contents.{null}
