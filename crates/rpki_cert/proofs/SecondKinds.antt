@@ -1,6 +1,7 @@
 -- A second extension of a kind is refused, and one with another flag than its kind's.
 use Rattle.std.proofs.Common.{◌≡◌, ℕ, Bool, true, false, cond, List, Option, Some, None, refl, ◌⊎◌, inl, inr}
 use Rattle.std.specs.Prelude.{is_some}
+use Rattle.std.proofs.lemmas.Bool.{false_from_ne_true, true_from_ne_false}
 use Rattle.rpki_blocks.specs.declared.overclaim.Overclaim.TheVariants.{Refuse, Trim}
 use Rattle.rpki_ext.specs.Extensions.{IsFlagFor}
 use Rattle.rpki_cert.specs.declared.named.Named.{Named}
@@ -32,24 +33,16 @@ neither : {V : Type 0} (seen : Bool) → cond {A = Option V} seen None None ≡ 
 neither true = refl
 neither false = refl
 
-not_critical : (critical : Bool) → (critical ≡ true → ⊥) → critical ≡ false
-not_critical true h = absurd (h refl)
-not_critical false h = refl
-
-critical_is : (critical : Bool) → (critical ≡ false → ⊥) → critical ≡ true
-critical_is true h = refl
-critical_is false h = absurd (h refl)
-
 unflagged : (s : State) (kind : Named) (id : List ℕ) (critical : Bool) (content : List ℕ) → Names id (Some kind) → (IsFlagFor (wanted kind) critical → ⊥) → IsRefused s id critical content
-unflagged s BasicConstraints id critical content n h = rw (n, not_critical critical h, neither (is_some s.1.0)) refl
-unflagged s SubjectKeyIdentifier id critical content n h = rw (n, critical_is critical h, neither (is_some s.1.1.0)) refl
-unflagged s AuthorityKeyIdentifier id critical content n h = rw (n, critical_is critical h, neither (is_some s.1.1.1.0)) refl
-unflagged s KeyUsage id critical content n h = rw (n, not_critical critical h, neither (is_some s.1.1.1.1.0)) refl
-unflagged s ExtendedKeyUsage id critical content n h = rw (n, critical_is critical h, neither (is_some s.1.1.1.1.1.0)) refl
-unflagged s CrlDistributionPoints id critical content n h = rw (n, critical_is critical h, neither (is_some s.1.1.1.1.1.1.0)) refl
-unflagged s AuthorityInformationAccess id critical content n h = rw (n, critical_is critical h, neither (is_some s.1.1.1.1.1.1.1.0)) refl
-unflagged s SubjectInformationAccess id critical content n h = rw (n, critical_is critical h, neither (is_some s.1.1.1.1.1.1.1.1.0)) refl
-unflagged s CertificatePolicies id critical content n h = rw (n, not_critical critical h, neither (is_some s.1.1.1.1.1.1.1.1.1.0)) refl
+unflagged s BasicConstraints id critical content n h = rw (n, false_from_ne_true critical h, neither (is_some s.1.0)) refl
+unflagged s SubjectKeyIdentifier id critical content n h = rw (n, true_from_ne_false critical h, neither (is_some s.1.1.0)) refl
+unflagged s AuthorityKeyIdentifier id critical content n h = rw (n, true_from_ne_false critical h, neither (is_some s.1.1.1.0)) refl
+unflagged s KeyUsage id critical content n h = rw (n, false_from_ne_true critical h, neither (is_some s.1.1.1.1.0)) refl
+unflagged s ExtendedKeyUsage id critical content n h = rw (n, true_from_ne_false critical h, neither (is_some s.1.1.1.1.1.0)) refl
+unflagged s CrlDistributionPoints id critical content n h = rw (n, true_from_ne_false critical h, neither (is_some s.1.1.1.1.1.1.0)) refl
+unflagged s AuthorityInformationAccess id critical content n h = rw (n, true_from_ne_false critical h, neither (is_some s.1.1.1.1.1.1.1.0)) refl
+unflagged s SubjectInformationAccess id critical content n h = rw (n, true_from_ne_false critical h, neither (is_some s.1.1.1.1.1.1.1.1.0)) refl
+unflagged s CertificatePolicies id critical content n h = rw (n, false_from_ne_true critical h, neither (is_some s.1.1.1.1.1.1.1.1.1.0)) refl
 unflagged s (IpResources mode) id critical content n h = absurd (h tt)
 unflagged s (AsResources mode) id critical content n h = absurd (h tt)
 
