@@ -27,9 +27,3 @@ pub use overclaim::Overclaim;
 pub use prefix::Prefix;
 pub use resources::{AsResources, Inherited, IpResources, IssueError, Resources};
 
-#[cfg(test)]
-mod reading_tests;
-#[cfg(test)]
-mod tests;
-#[cfg(test)]
-mod writing_tests;

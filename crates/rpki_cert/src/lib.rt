@@ -6,16 +6,10 @@ mod copies;
 mod fields;
 pub mod laws;
 mod making;
-#[cfg(test)]
-mod making_tests;
 mod named;
-#[cfg(test)]
-mod openssl_vectors;
 mod reading;
 mod resources;
 mod tbs;
-#[cfg(test)]
-mod tests;
 mod writing;
 
 pub use cert::Cert;

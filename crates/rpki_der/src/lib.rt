@@ -11,14 +11,10 @@ mod integer;
 pub mod laws;
 pub mod oid;
 mod piece;
-#[cfg(test)]
-mod primitive_tests;
 mod put;
 mod serial;
 mod simple;
 mod skip;
-#[cfg(test)]
-mod tests;
 mod time;
 
 pub use cursor::Cursor;

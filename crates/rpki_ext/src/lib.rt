@@ -31,7 +31,3 @@ pub use key_usage::{KeyUsage, encode_key_usage, take_key_usage};
 pub use policies::{encode_certificate_policies, take_certificate_policies};
 pub use subject_access::{Sia, encode_subject_information_access, take_subject_information_access};
 
-#[cfg(test)]
-mod tests;
-#[cfg(test)]
-mod writing_tests;

@@ -5,8 +5,6 @@ mod algorithm;
 mod https;
 mod key;
 mod name;
-#[cfg(test)]
-mod part_tests;
 mod rsync;
 mod signature;
 mod signed;
