@@ -8,7 +8,7 @@ use Rattle.std.proofs.lemmas.Nat.{pow-add, pow_pos, pow_below, mod-pow-add}
 use Rattle.std.proofs.lemmas.Nat.Bits.{bit_at-trailing_zeros}
 use Rattle.std.proofs.Math.Nat.{mul-mod_left, mod-eq-zero_of_dvd, dvd_of_mod-eq-zero, dvd_trans, dvd-add, dvd-sub, le_of_dvd}
 use Rattle.rpki_blocks.specs.Sets.{Block}
-use Rattle.rpki_blocks.specs.WrittenResources.{greatest, zero_bits, one_bits, is_prefix, prefix_bits}
+use Rattle.rpki_blocks.specs.AddressBits.{greatest, zero_bits, one_bits, is_prefix, prefix_bits}
 
 pub greatest_passes : (test : ℕ → Bool) (n : ℕ) → test 0 ≡ true → test (greatest test n) ≡ true
 unfolding greatest

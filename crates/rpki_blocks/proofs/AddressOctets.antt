@@ -6,9 +6,9 @@ use Rattle.std.specs.Int.Digits.{number_from_digits}
 use Rattle.std.proofs.lemmas.Int.Digits.{number_push}
 use Rattle.std.proofs.lemmas.List.{length-append}
 use Rattle.std.proofs.lemmas.Nat.{pow-add, shl-shr, pow_pos, div_below, shl_below}
-use Rattle.rpki_blocks.specs.WrittenResources.{octets_of}
+use Rattle.rpki_blocks.specs.AddressBits.{octets_of}
 use Rattle.rpki_der.proofs.HighFirst.{byte_is}
-use Rattle.rpki_blocks.proofs.Filled.{octets_bits}
+use Rattle.rpki_blocks.proofs.FirstBits.{octets_bits}
 
 -- the octet at a place, without the octets below it
 byte_above : (i d n : ℕ) → byte_at (i + d) n ≡ byte_at i (n / 256 ^ d)

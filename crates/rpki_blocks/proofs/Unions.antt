@@ -4,7 +4,8 @@ use Rattle.std.proofs.lemmas.Bool.{cases_Bool, cases_lt, ltb-true, ltb-false}
 use Rattle.std.specs.Cmp.{both_ways}
 use Rattle.rpki_blocks.specs.Sets.{Block, is_in, IsChain, HaveSameNumbers}
 use Rattle.rpki_blocks.specs.Resources.{Resources, listed}
-use Rattle.rpki_blocks.specs.Unions.{IsUnion, added, merged}
+use Rattle.rpki_blocks.specs.Unions.{IsUnion}
+use Rattle.rpki_blocks.specs.Unions.Reading.{added, merged}
 use Rattle.rpki_blocks.proofs.Sets.{in_head, in_tail, in_cases, chain_head, chain_tail, one_chain}
 
 -- the first block begins past this number

@@ -1,11 +1,15 @@
 -- IP address resources of a certificate (RFC 3779 2.2.3, RFC 6487 4.8.10).
-use Rattle.std.specs.Prelude.{◌≡◌, ℕ, ◌+◌, ◌-◌, ◌*◌, ◌^◌, ◌≤◌, ◌⊎◌, List, [], ◌∷◌, length, Option, Some, None}
+use Rattle.std.specs.Prelude.{◌≡◌, ℕ, ◌+◌, ◌-◌, ◌*◌, ◌^◌, ◌≤◌, ◌⊎◌, List, [], ◌∷◌, ◌++◌, length, Option, Some, None}
 use Rattle.std.specs.Int.Digits.{number_from_digits}
-use Rattle.rpki_der.specs.Values.{IsSequence}
-use Rattle.rpki_der.specs.Contents.{IsBitString}
+use Rattle.rpki_der.specs.Values.{IsSequence, sequence, sequence_of_some}
+use Rattle.rpki_der.specs.Primitives.{IsBitString}
+use Rattle.rpki_der.specs.Tags.{OCTET_STRING}
+use Rattle.rpki_blocks.specs.AddressBits.{ip_block}
 use Rattle.rpki_blocks.specs.Sets.{Block}
 use Rattle.rpki_blocks.specs.Resources.{Resources, missing}
-use Rattle.rpki_blocks.specs.Unions.{IsResourceChoice}
+use Rattle.rpki_blocks.specs.Unions.{IsResourceChoice, written_choice}
+pub mod Reading
+pub mod Views
 
 -- the least address that begins with some bits: filled with zeros to 128 bits. IPv4 stands in the upper 32 bits (own)
 abbrev pub lower : List ℕ → ℕ
@@ -43,7 +47,7 @@ IsIPAddressOrRange bits r b = IsIPAddressRange bits r b ⊎ IsIPAddress bits r b
 pub record IsIPAddressFamily (family bits : ℕ) (r : Resources) (b : List ℕ) : Type 0 where
   pub choice : List ℕ
   pub choice_is : IsResourceChoice (IsIPAddressOrRange bits) r choice
-  pub sequence : IsSequence ((4 ∷ 2 ∷ 0 ∷ family ∷ []) ∷ choice ∷ []) b
+  pub sequence : IsSequence ((OCTET_STRING ∷ 2 ∷ 0 ∷ family ∷ []) ∷ choice ∷ []) b
 
 abbrev pub IsV4 : Resources → List ℕ → Type 0
 IsV4 = IsIPAddressFamily 1 32
@@ -84,3 +88,19 @@ or_missing (Some r) = r
 abbrev pub addresses : Option Families → Ip
 addresses None = record { v4 = missing; v6 = missing }
 addresses (Some f) = record { v4 = or_missing f.v4; v6 = or_missing f.v6 }
+
+-- ---- what is written
+
+abbrev pub family_pieces : ℕ → Option (List ℕ) → List (List ℕ)
+family_pieces number None = []
+family_pieces number (Some c) = sequence ((OCTET_STRING ∷ 2 ∷ 0 ∷ number ∷ []) ∷ c ∷ []) ∷ []
+
+abbrev pub family : ℕ → Resources → List (List ℕ)
+family number r = family_pieces number (written_choice ip_block r)
+
+-- IPAddrBlocks of what a certificate has of IPv4 and of IPv6
+abbrev pub ip_addr_blocks : Resources → Resources → Option (List ℕ)
+ip_addr_blocks v4 v6 = sequence_of_some (family 1 v4 ++ family 2 v6)
+
+abbrev pub ip : Ip → Option (List ℕ)
+ip i = ip_addr_blocks i.v4 i.v6

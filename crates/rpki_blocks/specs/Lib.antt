@@ -2,13 +2,12 @@ pub mod Sets
 pub mod Pairs
 pub mod Prefixes
 pub mod Overclaims
-pub mod OverclaimIdentifiers
 pub mod Resources
-pub mod Choices
 pub mod IssuedSets
 pub mod Unions
+pub mod AddressBits
 pub mod Addresses
 pub mod Systems
-pub mod ResourceReading
-pub mod WrittenResources
+pub mod ResourceExtensions
+pub mod Lengths
 pub mod IssueErrorNames

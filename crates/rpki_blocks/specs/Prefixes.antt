@@ -1,5 +1,7 @@
 -- Addresses that begin with a prefix (RFC 3779 2.1.1, 2.1.2).
-use Rattle.std.specs.Prelude.{◌≡◌, ℕ, ◌+◌, ◌-◌, ◌*◌, ◌/◌, ◌%◌, ◌^◌, ◌==◌, ◌&&◌, Bool}
+use Rattle.std.specs.Prelude.{◌≡◌, ℕ, ◌+◌, ◌-◌, ◌*◌, ◌/◌, ◌%◌, ◌^◌, ◌==◌, ◌&&◌, Bool, true}
+use Rattle.std.specs.List.{list_all}
+use Rattle.rpki_blocks.specs.Resources.{Resources, missing, inherit, blocks}
 use Rattle.rpki_blocks.specs.Sets.{Block}
 
 -- the first len bits of addr; the Rust struct Prefix
@@ -16,3 +18,9 @@ pub record IsPrefixBlock (addr len : ℕ) (b : Block) : Type 0 where
 -- end, 96 one bits at that of the upper end
 abbrev pub is_v4_block : Block → Bool
 is_v4_block b = (b.min % 2 ^ 96 == 0) && (b.max % 2 ^ 96 == 2 ^ 96 - 1)
+
+-- each block is one of whole IPv4 addresses
+abbrev pub AreV4 : Resources → Type 0
+AreV4 missing = Unit {0}
+AreV4 inherit = Unit {0}
+AreV4 (blocks bs) = list_all is_v4_block bs ≡ true

@@ -1,6 +1,7 @@
 -- What a certificate lists of one kind of numbers (RFC 3779 2.2.3.4, 3.2.3.2).
 use Rattle.std.specs.Prelude.{◌≡◌, ◌≢◌, ℕ, List, [], ◌∷◌}
 use Rattle.rpki_blocks.specs.Sets.{Block, IsSet}
+pub mod Views
 
 -- the Rust type Resources
 pub data Resources : Type 0 where

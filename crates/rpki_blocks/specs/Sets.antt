@@ -7,6 +7,9 @@ pub record Block : Type 0 where
   pub min : ℕ
   pub max : ℕ
 
+abbrev pub between : ℕ → ℕ → Block
+between low high = record { min = low; max = high }
+
 abbrev pub is_within : ℕ → Block → Bool
 is_within n b = nat_le b.min n && nat_le n b.max
 

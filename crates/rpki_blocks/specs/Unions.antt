@@ -1,10 +1,11 @@
 -- What an IPAddressChoice or an ASIdentifierChoice lists (RFC 3779 2.2.3.4, 3.2.3.2).
-use Rattle.std.specs.Prelude.{◌≡◌, ℕ, ◌+◌, min, max, nat_lt, if◌then◌else◌, ◌⊎◌, List, [], ◌∷◌}
-use Rattle.rpki_der.specs.Contents.{null}
+use Rattle.std.specs.Prelude.{◌≡◌, ℕ, ◌⊎◌, List, map, Option, Some, None}
+use Rattle.rpki_der.specs.Primitives.{null}
 use Rattle.rpki_der.specs.Rows.{IsRow}
-use Rattle.rpki_der.specs.Values.{IsSequenceOf}
+use Rattle.rpki_der.specs.Values.{IsSequenceOf, sequence}
 use Rattle.rpki_blocks.specs.Sets.{Block, IsChain, HaveSameNumbers}
-use Rattle.rpki_blocks.specs.Resources.{Resources, inherit, listed}
+use Rattle.rpki_blocks.specs.Resources.{Resources, missing, inherit, blocks, listed}
+pub mod Reading
 
 -- r is the set of the numbers of these blocks, which needn't be in order, apart or merged (own)
 pub record IsUnion (bs : List Block) (r : Resources) : Type 0 where
@@ -26,17 +27,10 @@ pub record IsUnionOf (element : Block → List ℕ → Type 0) (r : Resources) (
 abbrev pub IsResourceChoice : (Block → List ℕ → Type 0) → Resources → List ℕ → Type 0
 IsResourceChoice element r b = IsUnionOf element r b ⊎ IsInherit r b
 
--- ---- the chain of a union
+-- ---- what is written
 
--- a chain and one block more
-abbrev pub added : Block → List Block → List Block
-added b [] = b ∷ []
-added b (c ∷ cs) =
-    if nat_lt (b.max + 1) c.min then b ∷ c ∷ cs
-    else if nat_lt (c.max + 1) b.min then c ∷ added b cs
-    else added (record { min = min b.min c.min; max = max b.max c.max }) cs
-
--- a block whose upper end is below the lower one has no number
-unfoldable pub merged : List Block → List Block
-merged [] = []
-merged (b ∷ bs) = if nat_lt b.max b.min then merged bs else added b (merged bs)
+-- NULL, or a SEQUENCE of blocks; nothing of what is missing
+abbrev pub written_choice : (Block → List ℕ) → Resources → Option (List ℕ)
+written_choice element missing = None
+written_choice element inherit = Some null
+written_choice element (blocks bs) = Some (sequence (map element bs))

@@ -1,3 +1,4 @@
+//! IP addresses.
 ghost use Rattle.std.specs.Prelude.{◌≡◌, ◌-◌, ◌^◌, refl};
 
 use crate::bound::Bound;

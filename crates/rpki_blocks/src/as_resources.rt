@@ -1,17 +1,19 @@
 //! The AS numbers that a certificate lists (RFC 3779 3.2.3).
 ghost use Rattle.std.specs.Prelude.{◌≡◌, ◌^◌, Some};
-ghost use Rattle.rpki_der.specs.Place.{Place, left, Keeps, Took, TookOrMemory, Gives, AnswersOrMemory};
+ghost use Rattle.rpki_der.specs.Place.{Place, left, Keeps, AnswersOrMemory};
+ghost use Rattle.rpki_der.specs.Place.Reading.{Took, TookOrMemory, Returns};
+ghost use Rattle.rpki_der.specs.Tags.{INTEGER, SEQUENCE};
 ghost use Rattle.rpki_der.specs.Values.{AreOctets};
 ghost use Rattle.rpki_blocks.specs.Systems.{IsASIdentifiers};
-ghost use Rattle.rpki_blocks.specs.ResourceReading.{as_range, single, as_id, as_element_at, as_identifiers_at};
-ghost use Rattle.rpki_der.specs.Primitives.{number_below, u32_at};
-ghost use Rattle.rpki_der.proofs.Alternatives.{content_or_shrinks, turned_shrinks, content_shrinks};
+ghost use Rattle.rpki_blocks.specs.Systems.Reading.{as_range_of, single, as_id, as_element_at, as_identifiers_at};
+ghost use Rattle.rpki_der.specs.Primitives.Reading.{number_below, u32_at};
+ghost use Rattle.rpki_der.proofs.Choices.{content_or_shrinks, turned_shrinks, content_shrinks};
 
 use crate::asn::Asn;
 use crate::block::AsBlock;
 use crate::elements::{Elements, take_choice};
 use crate::resources::AsResources;
-use rpki_der::{Cursor, DecodeError};
+use rpki_der::{Cursor, DecodeError, tag};
 use std::alloc::Global;
 
 // The kind of AS numbers.
@@ -19,7 +21,7 @@ struct AsNumbers;
 
 // A range of a whole content.
 fn range_in(mut content: Cursor<'_>) -> Result<AsBlock, DecodeError>
-    ensures { Gives (λ b. b) result (as_range (left content.entry)) }
+    ensures { Returns result (as_range_of (left content.entry)) }
 {
     let low = content.take_u32()?;
     let high = content.take_u32()?;
@@ -30,9 +32,9 @@ fn range_in(mut content: Cursor<'_>) -> Result<AsBlock, DecodeError>
     Ok(AsBlock::from((Asn::from(low), Asn::from(high))))
 }
 
-#[tactic(auto, unfolding(crate::specs::ResourceReading::as_element_at))]
+#[tactic(auto, unfolding(crate::specs::Systems::Reading::as_element_at))]
 fn take_element(cursor: &mut Cursor<'_>) -> Result<AsBlock, DecodeError>
-    ensures reads { Took (λ b. b) as_element_at cursor.old result cursor.new }
+    ensures reads { Took as_element_at cursor.old result cursor.new }
     ensures keeps { Keeps result cursor.old cursor.new }
 {
     let mut ahead = cursor.fork();
@@ -56,20 +58,22 @@ impl Elements for AsNumbers {
         take_element(cursor)
     }
 
-    ghost shrinks = { λ _. unfold as_element_at u32_at in content_or_shrinks 0x30 as_range as_id (turned_shrinks single u32_at (content_shrinks 2 (number_below (2 ^ 32)))) };
+    ghost shrinks = { λ _. unfold as_element_at u32_at in
+        content_or_shrinks SEQUENCE as_range_of as_id
+        (turned_shrinks single u32_at (content_shrinks INTEGER (number_below (2 ^ 32)))) };
 }
 
 impl AsResources {
     // ASIdentifiers, by the reading function.
-    #[tactic(auto, unfolding(crate::specs::ResourceReading::as_identifiers_at))]
+    #[tactic(auto, unfolding(crate::specs::Systems::Reading::as_identifiers_at))]
     fn read_from(alloc: Global, cursor: &mut Cursor<'_>) -> Result<AsResources, DecodeError>
-        ensures reads { TookOrMemory (λ r. r) as_identifiers_at cursor.old result cursor.new }
+        ensures reads { TookOrMemory as_identifiers_at cursor.old result cursor.new }
         ensures keeps { Keeps result cursor.old cursor.new }
         ensures octets { AreOctets (left cursor.old) }
     {
         let mut ahead = cursor.fork();
         let mut content = ahead.take_sequence()?;
-        let mut numbers = content.take_value(0xA0)?;
+        let mut numbers = content.take_value(tag::CONTEXT_CONSTRUCTED)?;
         let resources = take_choice(alloc, &AsNumbers, &mut numbers)?;
         numbers.finish()?;
         content.finish()?;
@@ -81,8 +85,8 @@ impl AsResources {
     /// overlap and touch. Errs where a lower end is above its upper one, and where routing domain identifiers stand (RFC 6487
     /// 4.8.11).
     pub fn take_from(alloc: Global, cursor: &mut Cursor<'_>) -> Result<AsResources, DecodeError>
-        ensures answers { AnswersOrMemory (λ r. r) IsASIdentifiers cursor.old result cursor.new }
-        ensures reads { TookOrMemory (λ r. r) as_identifiers_at cursor.old result cursor.new }
+        ensures answers { AnswersOrMemory IsASIdentifiers cursor.old result cursor.new }
+        ensures reads { TookOrMemory as_identifiers_at cursor.old result cursor.new }
         ensures keeps { Keeps result cursor.old cursor.new }
     {
         AsResources::read_from(alloc, cursor)

@@ -1,3 +1,4 @@
+//! AS numbers.
 ghost use Rattle.std.specs.Prelude.{◌≡◌, ◌-◌, ◌^◌, refl};
 
 use crate::bound::Bound;

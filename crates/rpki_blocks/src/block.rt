@@ -1,3 +1,4 @@
+//! Blocks of numbers.
 ghost use Rattle.std.specs.Prelude.{◌≡◌, ℕ, ◌+◌, ◌<◌, ◌≤◌, ◌↔◌, IsTrue, ◌⊎◌, MatchOption, min, max};
 ghost use Rattle.std.specs.Ordering.{nat_cmp};
 ghost use Rattle.std.specs.Bool.{MatchBool};
@@ -34,7 +35,8 @@ impl<B: Bound> Model for Block<B> {
 
     ghost inverse = { λ s. record { min = B.value s.min; max = B.value s.max } };
 
-    ghost inverse_ok = { λ a h i. record { min = B.has_number a.min i; max = B.has_number a.max i } };
+    ghost inverse_ok = { λ a h i.
+        record { min = B.has_number a.min i; max = B.has_number a.max i } };
 }
 
 impl<B: Bound> Block<B> {
@@ -59,6 +61,7 @@ impl<B: Bound> Block<B> {
         ensures ordered { self.min ≤ self.max }
         ensures small { self.max ≤ B.greatest }
     {
+        // Called for what it ensures alone.
         self.max.known();
     }
 
@@ -103,6 +106,7 @@ impl<B: Bound> Block<B> {
         ensures ordered { other.min ≤ other.max }
         ensures small { other.max ≤ B.greatest }
     {
+        // Called for what it ensures alone.
         other.min.known();
         other.max.known();
         match self.max.next() {
@@ -130,7 +134,9 @@ impl<B: Bound> Block<B> {
 
     // Whether its numbers are all in the other.
     pub(crate) fn is_within(self, other: Block<B>) -> bool
-        ensures { MatchBool result ((other.min ≤ self.min) × (self.max ≤ other.max)) ((self.min < other.min) ⊎ (other.max < self.max)) }
+        ensures { MatchBool result
+            ((other.min ≤ self.min) × (self.max ≤ other.max))
+            ((self.min < other.min) ⊎ (other.max < self.max)) }
     {
         !is_below(self.min, other.min) && !is_below(other.max, self.max)
     }
@@ -159,7 +165,9 @@ impl<B: Bound> Clone for Block<B> {
 impl<B: Bound> From<(B, B)> for Block<B> {
     ghost use Rattle.std.specs.Prelude.{◌≡◌, min, max};
 
-    ghost from_gives = { λ ends b. (b.min ≡ min (B.number ends.0) (B.number ends.1)) × (b.max ≡ max (B.number ends.0) (B.number ends.1)) };
+    ghost from_gives = { λ ends b.
+        (b.min ≡ min (B.number ends.0) (B.number ends.1))
+        × (b.max ≡ max (B.number ends.0) (B.number ends.1)) };
 
     fn from((x, y): (B, B)) -> Block<B> {
         Block::between(x, y)

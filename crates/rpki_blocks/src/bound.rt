@@ -1,3 +1,4 @@
+//! The kinds of numbers that blocks are made of.
 ghost use Rattle.std.specs.Prelude.{◌≡◌, ℕ, ◌+◌, ◌<◌, ◌≤◌, ◌↔◌, IsTrue, IsNone, IfSome, min, max};
 ghost use Rattle.std.specs.Ordering.{nat_cmp};
 

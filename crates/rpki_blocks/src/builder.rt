@@ -43,7 +43,8 @@ impl<B: Bound> BlocksBuilder<B> {
 
     /// One block more: a block, its two ends in either order, or a prefix. After an error the builder is as it was.
     pub fn push<T: Into<Block<B>>>(&mut self, block: T) -> Result<(), AllocError>
-        ensures ok { OnOk result ((b : Span) × T.converts block b × (self.new ≡ self.old ++ b ∷ [])) }
+        ensures ok { OnOk result
+            ((b : Span) × T.converts block b × (self.new ≡ self.old ++ b ∷ [])) }
         ensures err { OnErr result (self.new ≡ self.old) }
     {
         self.blocks.push(block.into())?;

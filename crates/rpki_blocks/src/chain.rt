@@ -1,3 +1,4 @@
+//! Sets of numbers.
 ghost use Rattle.std.specs.Prelude.{◌≡◌, ℕ, ◌+◌, ◌<◌, ◌≤◌, ◌↔◌, ◌++◌, IsTrue, IsFalse, IfOk, List, [], ◌∷◌, length};
 ghost use Rattle.rpki_blocks.specs.Sets.{is_in, IsSet, IsIntersection, AreIn, Escapes, HaveSameNumbers, Block as Span};
 ghost use Rattle.std.specs.Slice.Iter.{iter_rest};
@@ -49,8 +50,11 @@ impl<B: Bound> Chain<B> {
         alloc: Global,
         blocks: I,
     ) -> Result<Chain<B>, AllocError>
-        requires { (it : I.IntoIter) → I.into_iter_gives blocks it → I.IntoIter.can_next it × IsFinite (I.IntoIter.remaining it) }
-        ensures union { IfOk result (λ chain. (it : I.IntoIter) × (bs : List Span) × I.into_iter_gives blocks it × Drains I.IntoIter.next_gives it bs × HaveSameNumbers chain bs) }
+        requires { (it : I.IntoIter) → I.into_iter_gives blocks it →
+            I.IntoIter.can_next it × IsFinite (I.IntoIter.remaining it) }
+        ensures union { IfOk result (λ chain.
+            (it : I.IntoIter) × (bs : List Span) × I.into_iter_gives blocks it
+            × Drains I.IntoIter.next_gives it bs × HaveSameNumbers chain bs) }
         ensures set { IfOk result (IsSet B.greatest) }
     {
         let all: Vec<Block<B>> = Vec::from_iter(alloc, blocks)?;
@@ -67,6 +71,7 @@ impl<B: Bound> Chain<B> {
         }
         blocks.sort_unstable_by(|x, y| x.order(y));
         let mut last = blocks[0];
+        // Called for what it ensures alone.
         last.known();
         let mut kept = 0;
         'merge: for i in 1..blocks.len() {

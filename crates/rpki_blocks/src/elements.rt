@@ -1,9 +1,10 @@
 //! Lists of blocks in resources of certificates (RFC 3779 2.2.3.4, 3.2.3.2).
 ghost use Rattle.std.specs.Prelude.{◌≡◌, ◌++◌, ℕ, List, [], ◌∷◌, Option, Some, OnOk};
-ghost use Rattle.rpki_der.specs.Place.{Place, left, Keeps, Took, TookOrMemory, GivesOrMemory};
-ghost use Rattle.rpki_der.specs.Rows.{row_of, Shrinks};
+ghost use Rattle.rpki_der.specs.Place.{Place, left, Keeps};
+ghost use Rattle.rpki_der.specs.Place.Reading.{Took, TookOrMemory, ReturnsOrMemory, ReturnsOrMemoryBy};
+ghost use Rattle.rpki_der.specs.Rows.Reading.{row_of, Shrinks};
 ghost use Rattle.rpki_blocks.specs.Sets.{Block as Span};
-ghost use Rattle.rpki_blocks.specs.ResourceReading.{union_of, choice_at};
+ghost use Rattle.rpki_blocks.specs.Unions.Reading.{union_of, choice_at};
 
 use crate::block::Block;
 use crate::bound::Bound;
@@ -20,7 +21,7 @@ pub(crate) trait Elements {
     ghost element_at: { Self → List ℕ → Option (Span × List ℕ) };
 
     fn take_element(&self, cursor: &mut Cursor<'_>) -> Result<Block<Self::End>, DecodeError>
-        ensures reads { Took (λ b. b) (element_at self.now) cursor.old result cursor.new }
+        ensures reads { Took (element_at self.now) cursor.old result cursor.new }
         ensures keeps { Keeps result cursor.old cursor.new };
 
     /// An element has octets.
@@ -41,7 +42,8 @@ fn elements_in<K: Elements>(
     kind: &K,
     mut content: Cursor<'_>,
 ) -> Result<Vec<Block<K::End>>, DecodeError>
-    ensures { GivesOrMemory (λ v. v.items) result (row_of (K.element_at kind.now) (left content.entry)) }
+    ensures { ReturnsOrMemoryBy (λ v. v.items) result
+        (row_of (K.element_at kind.now) (left content.entry)) }
 {
     let mut blocks = Vec::new(alloc);
     while !content.is_empty() {
@@ -57,20 +59,20 @@ fn union_in<K: Elements>(
     kind: &K,
     content: Cursor<'_>,
 ) -> Result<Resources<K::End>, DecodeError>
-    ensures { GivesOrMemory (λ r. r) result (union_of (K.element_at kind.now) (left content.entry)) }
+    ensures { ReturnsOrMemory result (union_of (K.element_at kind.now) (left content.entry)) }
 {
     let blocks = elements_in(alloc, kind, content)?;
     Ok(Resources::blocks(Chain::from_blocks(blocks)))
 }
 
 /// An IPAddressChoice or an ASIdentifierChoice: NULL for what the issuer has, or a SEQUENCE of elements.
-#[tactic(auto, unfolding(crate::specs::ResourceReading::choice_at))]
+#[tactic(auto, unfolding(crate::specs::Unions::Reading::choice_at))]
 pub(crate) fn take_choice<K: Elements>(
     alloc: Global,
     kind: &K,
     cursor: &mut Cursor<'_>,
 ) -> Result<Resources<K::End>, DecodeError>
-    ensures reads { TookOrMemory (λ r. r) (choice_at (K.element_at kind.now)) cursor.old result cursor.new }
+    ensures reads { TookOrMemory (choice_at (K.element_at kind.now)) cursor.old result cursor.new }
     ensures keeps { Keeps result cursor.old cursor.new }
 {
     let mut ahead = cursor.fork();

@@ -1,18 +1,23 @@
 //! How resources are written.
-ghost use Rattle.std.specs.Prelude.{◌≡◌, ◌≢◌, ℕ, ◌+◌, ◌-◌, ◌^◌, ◌<◌, ◌≤◌, ◌++◌, List, [], ◌∷◌, true, length, map, IfOk, OnOk, OnErr, IsErrOf};
+ghost use Rattle.std.specs.Prelude.{◌≡◌, ◌≢◌, ℕ, ◌+◌, ◌-◌, ◌^◌, ◌<◌, ◌≤◌, ◌++◌};
+ghost use Rattle.std.specs.Prelude.{List, [], ◌∷◌, true, length, map, IfOk, OnOk, IsErrOf};
 ghost use Rattle.std.specs.List.{concat};
 ghost use Rattle.std.specs.Option.{option_map};
-ghost use Rattle.rpki_blocks.specs.Overclaims.{ip_identifier, as_identifier};
-ghost use Rattle.rpki_der.specs.Contents.{IsOid};
-ghost use Rattle.rpki_der.specs.Writing.{number, sequence};
-ghost use Rattle.rpki_blocks.specs.WrittenResources.{as_block, choice, text_of, family, as_resources, ip_resources, extension_of_some, content_of_some};
+ghost use Rattle.rpki_blocks.specs.Lengths.{SaysLong, text_of};
+ghost use Rattle.rpki_blocks.specs.Sets.{between};
+ghost use Rattle.rpki_blocks.specs.Addresses.{family, ip_addr_blocks};
+ghost use Rattle.rpki_blocks.specs.Systems.{as_range, as_block, written_as};
+ghost use Rattle.rpki_blocks.specs.Unions.{written_choice};
+ghost use Rattle.rpki_blocks.specs.ResourceExtensions.{critical, as_extension, ip_extension};
+ghost use Rattle.rpki_der.specs.Primitives.{IsOid, number};
+ghost use Rattle.rpki_der.specs.Writers.{Writes};
 
 use crate::asn::Asn;
 use crate::bound::Bound;
 use crate::chain::Chain;
 use crate::overclaim::Overclaim;
 use crate::resources::{AsResources, IpResources, Resources};
-use rpki_der::{EncodeError, put_extension, put_unsigned, put_value};
+use rpki_der::{EncodeError, put_extension, put_unsigned, put_value, tag};
 use std::alloc::Global;
 
 /// A kind of numbers, by how its blocks are written.
@@ -26,8 +31,10 @@ pub trait Encode: Bound {
     /// Appends the block of these two ends.
     fn put_block(alloc: Global, out: &mut Vec<u8>, min: Self, max: Self) -> Result<(), EncodeError>
         requires { Self.number min ≤ Self.number max }
-        ensures ok { OnOk result (out.new.items ≡ out.old.items ++ written (record { min = Self.number min; max = Self.number max })) }
-        ensures too_long { IsErrOf result EncodeError.TooLong → 2 ^ 32 ≤ length (written (record { min = Self.number min; max = Self.number max })) };
+        ensures ok { OnOk result (out.new.items ≡ out.old.items
+            ++ written (between (Self.number min) (Self.number max))) }
+        ensures too_long { SaysLong result
+            (written (between (Self.number min) (Self.number max))) };
 }
 
 impl Encode for Asn {
@@ -35,8 +42,8 @@ impl Encode for Asn {
 
     fn put_block(alloc: Global, out: &mut Vec<u8>, min: Asn, max: Asn) -> Result<(), EncodeError>
         requires { min ≤ max }
-        ensures ok { OnOk result (out.new.items ≡ out.old.items ++ as_block (record { min = min; max = max })) }
-        ensures too_long { IsErrOf result EncodeError.TooLong → 2 ^ 32 ≤ length (as_block (record { min = min; max = max })) }
+        ensures ok { OnOk result (out.new.items ≡ out.old.items ++ as_block (between min max)) }
+        ensures too_long { SaysLong result (as_block (between min max)) }
     {
         if min == max {
             return put_number(out, min.into_u32());
@@ -46,21 +53,21 @@ impl Encode for Asn {
 }
 
 // Appends a SEQUENCE of two INTEGERs.
-#[tactic(auto, using(crate::proofs::WrittenRanges::two_longer))]
+#[tactic(auto, using(crate::proofs::Lengths::two_longer))]
 fn put_range(alloc: Global, out: &mut Vec<u8>, min: u32, max: u32) -> Result<(), EncodeError>
-    ensures ok { OnOk result (out.new.items ≡ out.old.items ++ sequence (number min ∷ number max ∷ [])) }
-    ensures too_long { IsErrOf result EncodeError.TooLong → 2 ^ 32 ≤ length (sequence (number min ∷ number max ∷ [])) }
+    ensures ok { OnOk result (out.new.items ≡ out.old.items ++ as_range min max) }
+    ensures too_long { SaysLong result (as_range min max) }
 {
     let mut ends = Vec::new(alloc);
     put_number(&mut ends, min)?;
     put_number(&mut ends, max)?;
-    put_value(out, 0x30, &ends)
+    put_value(out, tag::SEQUENCE, &ends)
 }
 
 // Appends an INTEGER.
 fn put_number(out: &mut Vec<u8>, asn: u32) -> Result<(), EncodeError>
     ensures ok { OnOk result (out.new.items ≡ out.old.items ++ number asn) }
-    ensures too_long { IsErrOf result EncodeError.TooLong → 2 ^ 32 ≤ length (number asn) }
+    ensures too_long { SaysLong result (number asn) }
 {
     put_unsigned(out, &asn.to_be_bytes())
 }
@@ -68,10 +75,11 @@ fn put_number(out: &mut Vec<u8>, asn: u32) -> Result<(), EncodeError>
 // The elements of a set, one after the other.
 fn elements<B: Encode>(alloc: Global, chain: &Chain<B>) -> Result<Vec<u8>, EncodeError>
     ensures ok { IfOk result (λ content. content.items ≡ concat (map B.written chain.now)) }
-    ensures too_long { IsErrOf result EncodeError.TooLong → 2 ^ 32 ≤ length (concat (map B.written chain.now)) }
+    ensures too_long { SaysLong result (concat (map B.written chain.now)) }
 {
     let mut content = Vec::new(alloc);
     for block in chain.iter() {
+        // Called for what it ensures alone.
         block.known();
         B::put_block(alloc, &mut content, block.min(), block.max())?;
     }
@@ -84,12 +92,13 @@ fn put_choice<B: Encode>(
     out: &mut Vec<u8>,
     resources: &Resources<B>,
 ) -> Result<(), EncodeError>
-    ensures ok { OnOk result (out.new.items ≡ out.old.items ++ text_of (choice B.written resources.now)) }
-    ensures too_long { IsErrOf result EncodeError.TooLong → 2 ^ 32 ≤ length (text_of (choice B.written resources.now)) }
+    ensures ok { OnOk result
+        (out.new.items ≡ out.old.items ++ text_of (written_choice B.written resources.now)) }
+    ensures too_long { SaysLong result (text_of (written_choice B.written resources.now)) }
 {
     match resources.as_blocks() {
-        Some(chain) => put_value(out, 0x30, &elements(alloc, chain)?),
-        None if resources.is_inherited() => put_value(out, 0x05, &[]),
+        Some(chain) => put_value(out, tag::SEQUENCE, &elements(alloc, chain)?),
+        None if resources.is_inherited() => put_value(out, tag::NULL, &[]),
         None => Ok(()),
     }
 }
@@ -102,21 +111,22 @@ fn put_family(
     resources: &IpResources,
 ) -> Result<(), EncodeError>
     ensures ok { OnOk result (out.new.items ≡ out.old.items ++ concat (family code resources.now)) }
-    ensures too_long { IsErrOf result EncodeError.TooLong → 2 ^ 32 ≤ length (concat (family code resources.now)) }
+    ensures too_long { SaysLong result (concat (family code resources.now)) }
 {
     if !resources.is_present() {
         return Ok(());
     }
     let mut content = Vec::new(alloc);
-    content.extend_from_slice(&[0x04, 0x02, 0x00, code])?;
+    content.extend_from_slice(&[tag::OCTET_STRING, 0x02, 0x00, code])?;
     put_choice(alloc, &mut content, resources)?;
-    put_value(out, 0x30, &content)
+    put_value(out, tag::SEQUENCE, &content)
 }
 
 // The content of the extension with AS numbers; `None` where they are missing.
 fn as_content(alloc: Global, resources: &AsResources) -> Result<Option<Vec<u8>>, EncodeError>
-    ensures ok { IfOk result (λ content. option_map (λ v. v.items) content ≡ as_resources resources.now) }
-    ensures too_long { IsErrOf result EncodeError.TooLong → 2 ^ 32 ≤ length (text_of (as_resources resources.now)) }
+    ensures ok { IfOk result (λ content.
+        option_map (λ v. v.items) content ≡ written_as resources.now) }
+    ensures too_long { SaysLong result (text_of (written_as resources.now)) }
 {
     if !resources.is_present() {
         return Ok(None);
@@ -124,9 +134,9 @@ fn as_content(alloc: Global, resources: &AsResources) -> Result<Option<Vec<u8>>,
     let mut choice = Vec::new(alloc);
     put_choice(alloc, &mut choice, resources)?;
     let mut numbers = Vec::new(alloc);
-    put_value(&mut numbers, 0xa0, &choice)?;
+    put_value(&mut numbers, tag::CONTEXT_CONSTRUCTED, &choice)?;
     let mut content = Vec::new(alloc);
-    put_value(&mut content, 0x30, &numbers)?;
+    put_value(&mut content, tag::SEQUENCE, &numbers)?;
     Ok(Some(content))
 }
 
@@ -136,8 +146,9 @@ fn ip_content(
     v4: &IpResources,
     v6: &IpResources,
 ) -> Result<Option<Vec<u8>>, EncodeError>
-    ensures ok { IfOk result (λ content. option_map (λ v. v.items) content ≡ ip_resources v4.now v6.now) }
-    ensures too_long { IsErrOf result EncodeError.TooLong → 2 ^ 32 ≤ length (text_of (ip_resources v4.now v6.now)) }
+    ensures ok { IfOk result (λ content.
+        option_map (λ v. v.items) content ≡ ip_addr_blocks v4.now v6.now) }
+    ensures too_long { SaysLong result (text_of (ip_addr_blocks v4.now v6.now)) }
 {
     if !v4.is_present() && !v6.is_present() {
         return Ok(None);
@@ -146,17 +157,15 @@ fn ip_content(
     put_family(alloc, &mut families, 1, v4)?;
     put_family(alloc, &mut families, 2, v6)?;
     let mut content = Vec::new(alloc);
-    put_value(&mut content, 0x30, &families)?;
+    put_value(&mut content, tag::SEQUENCE, &families)?;
     Ok(Some(content))
 }
 
 // Appends a critical extension, if it has a content.
 fn put_critical(out: &mut Vec<u8>, id: &[u8], content: Option<Vec<u8>>) -> Result<(), EncodeError>
     requires { IsOid id.now }
-    ensures ok { OnOk result (out.new.items ≡ out.old.items ++ extension_of_some id.now true (option_map (λ v. v.items) content)) }
-    ensures err { OnErr result (out.new.items ≡ out.old.items) }
-    ensures fits { OnOk result (length (content_of_some id.now true (option_map (λ v. v.items) content)) < 2 ^ 32) }
-    ensures too_long { IsErrOf result EncodeError.TooLong → 2 ^ 32 ≤ length (content_of_some id.now true (option_map (λ v. v.items) content)) }
+    ensures { Writes (critical id.now (option_map (λ v. v.items) content))
+        out.old.items result out.new.items }
 {
     match content {
         Some(content) => put_extension(out, id, true, &content),
@@ -174,10 +183,7 @@ impl IpResources {
         v4: &IpResources,
         v6: &IpResources,
     ) -> Result<(), EncodeError>
-        ensures ok { OnOk result (out.new.items ≡ out.old.items ++ extension_of_some (ip_identifier mode) true (ip_resources v4.now v6.now)) }
-        ensures err { OnErr result (out.new.items ≡ out.old.items) }
-        ensures fits { OnOk result (length (content_of_some (ip_identifier mode) true (ip_resources v4.now v6.now)) < 2 ^ 32) }
-        ensures too_long { IsErrOf result EncodeError.TooLong → 2 ^ 32 ≤ length (content_of_some (ip_identifier mode) true (ip_resources v4.now v6.now)) }
+        ensures { Writes (ip_extension mode v4.now v6.now) out.old.items result out.new.items }
     {
         let content = ip_content(alloc, v4, v6)?;
         put_critical(out, mode.ip_res_id(), content)
@@ -193,10 +199,7 @@ impl AsResources {
         out: &mut Vec<u8>,
         mode: Overclaim,
     ) -> Result<(), EncodeError>
-        ensures ok { OnOk result (out.new.items ≡ out.old.items ++ extension_of_some (as_identifier mode) true (as_resources self.now)) }
-        ensures err { OnErr result (out.new.items ≡ out.old.items) }
-        ensures fits { OnOk result (length (content_of_some (as_identifier mode) true (as_resources self.now)) < 2 ^ 32) }
-        ensures too_long { IsErrOf result EncodeError.TooLong → 2 ^ 32 ≤ length (content_of_some (as_identifier mode) true (as_resources self.now)) }
+        ensures { Writes (as_extension mode self.now) out.old.items result out.new.items }
     {
         let content = as_content(alloc, self)?;
         put_critical(out, mode.as_res_id(), content)

@@ -1,11 +1,13 @@
 //! How blocks of addresses are written.
-ghost use Rattle.std.specs.Prelude.{◌≡◌, ℕ, ◌+◌, ◌-◌, ◌*◌, ◌/◌, ◌^◌, ◌<◌, ◌≤◌, ◌++◌, List, [], ◌∷◌, length, IfSome, OnOk, IsErrOf};
-ghost use Rattle.rpki_der.specs.Writing.{sequence};
-ghost use Rattle.rpki_blocks.specs.WrittenResources.{ip_block, IsPrefixAnswer, zero_bits, one_bits, without};
+ghost use Rattle.std.specs.Prelude.{◌≡◌, ℕ, ◌+◌, ◌-◌, ◌*◌, ◌/◌, ◌^◌, ◌<◌, ◌≤◌, ◌++◌};
+ghost use Rattle.std.specs.Prelude.{List, length, IfSome, OnOk, IsErrOf};
+ghost use Rattle.rpki_blocks.specs.Lengths.{SaysLong};
+ghost use Rattle.rpki_blocks.specs.Sets.{between};
+ghost use Rattle.rpki_blocks.specs.AddressBits.{ip_range, ip_block, IsPrefixAnswer, zero_bits, one_bits, without};
 
 use crate::addr::Addr;
 use crate::encode::Encode;
-use rpki_der::{EncodeError, put_bits, put_value};
+use rpki_der::{EncodeError, put_bits, put_value, tag};
 use std::alloc::Global;
 
 impl Encode for Addr {
@@ -13,8 +15,8 @@ impl Encode for Addr {
 
     fn put_block(alloc: Global, out: &mut Vec<u8>, min: Addr, max: Addr) -> Result<(), EncodeError>
         requires { min ≤ max }
-        ensures ok { OnOk result (out.new.items ≡ out.old.items ++ ip_block (record { min = min; max = max })) }
-        ensures too_long { IsErrOf result EncodeError.TooLong → 2 ^ 32 ≤ length (ip_block (record { min = min; max = max })) }
+        ensures ok { OnOk result (out.new.items ≡ out.old.items ++ ip_block (between min max)) }
+        ensures too_long { SaysLong result (ip_block (between min max)) }
     {
         let min = min.to_bits();
         let max = max.to_bits();
@@ -26,15 +28,15 @@ impl Encode for Addr {
 }
 
 // Appends a SEQUENCE of the lower end without its last zero bits and of the upper end without its last one bits.
-#[tactic(auto, using(crate::proofs::WrittenRanges::two_longer))]
+#[tactic(auto, using(crate::proofs::Lengths::two_longer))]
 fn put_range(alloc: Global, out: &mut Vec<u8>, min: u128, max: u128) -> Result<(), EncodeError>
-    ensures ok { OnOk result (out.new.items ≡ out.old.items ++ sequence (without (zero_bits min) min ∷ without (one_bits max) max ∷ [])) }
-    ensures too_long { IsErrOf result EncodeError.TooLong → 2 ^ 32 ≤ length (sequence (without (zero_bits min) min ∷ without (one_bits max) max ∷ [])) }
+    ensures ok { OnOk result (out.new.items ≡ out.old.items ++ ip_range min max) }
+    ensures too_long { SaysLong result (ip_range min max) }
 {
     let mut ends = Vec::new(alloc);
     put_address(&mut ends, min, zero_bits(min))?;
     put_address(&mut ends, max, one_bits(max))?;
-    put_value(out, 0x30, &ends)
+    put_value(out, tag::SEQUENCE, &ends)
 }
 
 // How many bits are 0 at the foot.
@@ -56,7 +58,7 @@ fn one_bits(address: u128) -> u32
 // How many bits a prefix leaves open, if these are the ends of the block of all addresses with one.
 fn prefix_bits(min: u128, max: u128) -> Option<u32>
     requires { min ≤ max }
-    ensures prefix { IsPrefixAnswer (record { min = min; max = max }) result }
+    ensures prefix { IsPrefixAnswer (between min max) result }
     ensures most { IfSome result (λ last. last ≤ 128) }
 {
     let last = zero_bits(min).min(one_bits(max));
@@ -80,11 +82,11 @@ fn low_ones(count: u32) -> u128
 }
 
 // Appends the BIT STRING of an address without its last bits.
-#[tactic(auto, unfolding(crate::specs::WrittenResources::without))]
+#[tactic(auto, unfolding(crate::specs::AddressBits::without))]
 fn put_address(out: &mut Vec<u8>, address: u128, last: u32) -> Result<(), EncodeError>
     requires { last ≤ 128 }
     ensures ok { OnOk result (out.new.items ≡ out.old.items ++ without last address) }
-    ensures too_long { IsErrOf result EncodeError.TooLong → 2 ^ 32 ≤ length (without last address) }
+    ensures too_long { SaysLong result (without last address) }
 {
     if last == 128 {
         return put_bits(out, 0, &[]);

@@ -1,13 +1,16 @@
 //! The addresses that a certificate lists (RFC 3779 2.2.3).
 ghost use Rattle.std.specs.Prelude.{◌≡◌, ◌<◌, ◌≤◌, ◌+◌, ◌-◌, ◌*◌, ◌^◌, ◌%◌, ℕ, List, [], length, Some};
 ghost use Rattle.std.specs.Int.Digits.{number_from_digits};
-ghost use Rattle.rpki_der.specs.Place.{Place, left, Keeps, Took, TookOrMemory, Gives, GivesOrMemory, AnswersOrMemory};
+ghost use Rattle.rpki_der.specs.Place.{Place, left, Keeps, AnswersOrMemoryBy};
+ghost use Rattle.rpki_der.specs.Place.Reading.{Took, TookOrMemory, TookOrMemoryBy, Returns, ReturnsBy, ReturnsOrMemory, ReturnsOrMemoryBy};
+ghost use Rattle.rpki_der.specs.Tags.{BIT_STRING, SEQUENCE};
 ghost use Rattle.rpki_der.specs.Values.{AreOctets};
 ghost use Rattle.rpki_blocks.specs.Addresses.{lower, Families, IsIPAddrBlocks};
-ghost use Rattle.rpki_blocks.specs.ResourceReading.{family_bits, prefix_of, address_at, address_range, ip_element_at, family_of, family_in, with_second, families_in, families_at, families_of};
-ghost use Rattle.rpki_der.specs.Primitives.{bits_at};
-ghost use Rattle.rpki_der.specs.Alternatives.{optional_of};
-ghost use Rattle.rpki_der.proofs.Alternatives.{content_or_shrinks, turned_shrinks, content_shrinks};
+ghost use Rattle.rpki_blocks.specs.Addresses.Views.{families_of};
+ghost use Rattle.rpki_blocks.specs.Addresses.Reading.{family_bits, prefix_of, address_at, address_range, ip_element_at, family_of, family_in, with_second, families_in, families_at};
+ghost use Rattle.rpki_der.specs.Primitives.Reading.{bits_at};
+ghost use Rattle.rpki_der.specs.Choices.{optional_of};
+ghost use Rattle.rpki_der.proofs.Choices.{content_or_shrinks, turned_shrinks, content_shrinks};
 
 use crate::addr::Addr;
 use crate::block::IpBlock;
@@ -37,7 +40,7 @@ impl Family {
 
     // The family with this number (IANA, Address Family Numbers).
     fn from_octets(octets: &[u8]) -> Result<Family, DecodeError>
-        ensures { Gives (λ f. f) result (family_of octets.now) }
+        ensures { Returns result (family_of octets.now) }
     {
         match octets {
             [0, 1] => Ok(Family::V4),
@@ -68,7 +71,7 @@ fn prefix_of(bits: usize, unused: u8, octets: &[u8]) -> Result<IpBlock, DecodeEr
     requires few { unused < 8 }
     requires none { octets.now ≡ [] → unused ≡ 0 }
     requires zero_bits { number_from_digits 256 octets.now % 2 ^ unused ≡ 0 }
-    ensures { Gives (λ b. b) result (prefix_of bits (unused, octets.now)) }
+    ensures { Returns result (prefix_of bits (unused, octets.now)) }
 {
     if bits / 8 < octets.len() {
         return Err(DecodeError::BadValue);
@@ -78,9 +81,9 @@ fn prefix_of(bits: usize, unused: u8, octets: &[u8]) -> Result<IpBlock, DecodeEr
 }
 
 // The addresses that begin with the bits of the BIT STRING that stands next.
-#[tactic(auto, unfolding(crate::specs::ResourceReading::address_at))]
+#[tactic(auto, unfolding(crate::specs::Addresses::Reading::address_at))]
 fn take_address(family: Family, cursor: &mut Cursor<'_>) -> Result<IpBlock, DecodeError>
-    ensures reads { Took (λ b. b) (address_at family) cursor.old result cursor.new }
+    ensures reads { Took (address_at family) cursor.old result cursor.new }
     ensures keeps { Keeps result cursor.old cursor.new }
 {
     let mut ahead = cursor.fork();
@@ -92,7 +95,7 @@ fn take_address(family: Family, cursor: &mut Cursor<'_>) -> Result<IpBlock, Deco
 
 // A range: from the first address of one prefix to the last of another.
 fn range_in(family: Family, mut content: Cursor<'_>) -> Result<IpBlock, DecodeError>
-    ensures { Gives (λ b. b) result (address_range family (left content.entry)) }
+    ensures { Returns result (address_range family (left content.entry)) }
 {
     let low = take_address(family, &mut content)?.min();
     let high = take_address(family, &mut content)?.max();
@@ -108,7 +111,7 @@ impl Elements for Family {
 
     ghost element_at = { ip_element_at };
 
-    #[tactic(auto, unfolding(crate::specs::ResourceReading::ip_element_at))]
+    #[tactic(auto, unfolding(crate::specs::Addresses::Reading::ip_element_at))]
     fn take_element(&self, cursor: &mut Cursor<'_>) -> Result<IpBlock, DecodeError> {
         let mut ahead = cursor.fork();
         let block = match ahead.take_opt_sequence()? {
@@ -119,13 +122,15 @@ impl Elements for Family {
         Ok(block)
     }
 
-    ghost shrinks = { λ family. unfold ip_element_at address_at bits_at in content_or_shrinks 0x30 (address_range family) (address_at family) (turned_shrinks (prefix_of (family_bits family)) bits_at (content_shrinks 3 _)) };
+    ghost shrinks = { λ family. unfold ip_element_at address_at bits_at in
+        content_or_shrinks SEQUENCE (address_range family) (address_at family)
+        (turned_shrinks (prefix_of (family_bits family)) bits_at (content_shrinks BIT_STRING _)) };
 }
 
 // A family and its resources: the content of an IPAddressFamily.
-#[tactic(auto, unfolding(crate::specs::ResourceReading::family_in))]
+#[tactic(auto, unfolding(crate::specs::Addresses::Reading::family_in))]
 fn family_in(alloc: Global, mut content: Cursor<'_>) -> Result<(Family, IpResources), DecodeError>
-    ensures { GivesOrMemory (λ x. x) result (family_in (left content.entry)) }
+    ensures { ReturnsOrMemory result (family_in (left content.entry)) }
 {
     let family = Family::from_octets(content.take_octets()?.rest())?;
     let resources = take_choice(alloc, &family, &mut content)?;
@@ -138,7 +143,7 @@ fn take_opt_family(
     alloc: Global,
     cursor: &mut Cursor<'_>,
 ) -> Result<Option<(Family, IpResources)>, DecodeError>
-    ensures { TookOrMemory (λ o. o) (optional_of 0x30 family_in) cursor.old result cursor.new }
+    ensures { TookOrMemory (optional_of SEQUENCE family_in) cursor.old result cursor.new }
 {
     match cursor.take_opt_sequence()? {
         Some(content) => Ok(Some(family_in(alloc, content)?)),
@@ -151,7 +156,7 @@ fn with_second(
     first: (Family, IpResources),
     second: Option<(Family, IpResources)>,
 ) -> Result<(Option<IpResources>, Option<IpResources>), DecodeError>
-    ensures { Gives families_of result (with_second first.0 first.1 second) }
+    ensures { ReturnsBy families_of result (with_second first.0 first.1 second) }
 {
     match (first, second) {
         ((Family::V4, v4), None) => Ok((Some(v4), None)),
@@ -163,12 +168,12 @@ fn with_second(
 }
 
 // The families of an extension: the content of IPAddrBlocks.
-#[tactic(auto, unfolding(crate::specs::ResourceReading::families_in))]
+#[tactic(auto, unfolding(crate::specs::Addresses::Reading::families_in))]
 fn families_in(
     alloc: Global,
     mut content: Cursor<'_>,
 ) -> Result<(Option<IpResources>, Option<IpResources>), DecodeError>
-    ensures { GivesOrMemory families_of result (families_in (left content.entry)) }
+    ensures { ReturnsOrMemoryBy families_of result (families_in (left content.entry)) }
 {
     if content.is_empty() {
         return Err(DecodeError::BadValue);
@@ -181,12 +186,12 @@ fn families_in(
 
 impl IpResources {
     // The families, by the reading function.
-    #[tactic(auto, unfolding(crate::specs::ResourceReading::families_at))]
+    #[tactic(auto, unfolding(crate::specs::Addresses::Reading::families_at))]
     fn read_families(
         alloc: Global,
         cursor: &mut Cursor<'_>,
     ) -> Result<(Option<IpResources>, Option<IpResources>), DecodeError>
-        ensures reads { TookOrMemory families_of families_at cursor.old result cursor.new }
+        ensures reads { TookOrMemoryBy families_of families_at cursor.old result cursor.new }
         ensures keeps { Keeps result cursor.old cursor.new }
         ensures octets { AreOctets (left cursor.old) }
     {
@@ -204,8 +209,9 @@ impl IpResources {
         alloc: Global,
         cursor: &mut Cursor<'_>,
     ) -> Result<(Option<IpResources>, Option<IpResources>), DecodeError>
-        ensures answers { AnswersOrMemory families_of IsIPAddrBlocks cursor.old result cursor.new }
-        ensures reads { TookOrMemory families_of families_at cursor.old result cursor.new }
+        ensures answers { AnswersOrMemoryBy families_of IsIPAddrBlocks
+            cursor.old result cursor.new }
+        ensures reads { TookOrMemoryBy families_of families_at cursor.old result cursor.new }
         ensures keeps { Keeps result cursor.old cursor.new }
     {
         IpResources::read_families(alloc, cursor)

@@ -4,9 +4,9 @@ ghost use Rattle.std.specs.Prelude.{◌≡◌, ◌-◌, ◌^◌, ◌<◌, ℕ, L
 ghost use Rattle.rpki_der.specs.Values.{IsUnambiguous};
 ghost use Rattle.rpki_blocks.specs.Sets.{Block, IsChain, HaveSameNumbers};
 ghost use Rattle.rpki_blocks.specs.Resources.{Resources, IsResources};
-ghost use Rattle.rpki_blocks.specs.Addresses.{Ip, Families, IsIPAddrBlocks, addresses};
-ghost use Rattle.rpki_blocks.specs.Systems.{IsASIdentifiers};
-ghost use Rattle.rpki_blocks.specs.WrittenResources.{AreV4, ip, as_resources};
+ghost use Rattle.rpki_blocks.specs.Addresses.{Ip, Families, IsIPAddrBlocks, addresses, ip};
+ghost use Rattle.rpki_blocks.specs.Systems.{IsASIdentifiers, written_as};
+ghost use Rattle.rpki_blocks.specs.Prefixes.{AreV4};
 
 /// Equal sets have equal chains, so equal lists of blocks.
 pub fn one_chain()
@@ -22,6 +22,10 @@ pub fn unambiguous()
 /// What is written of resources spells them, if it has fewer than 2^32 octets, and if what stands as IPv4 are whole IPv4
 /// addresses.
 pub fn written_is_read()
-    ensures addresses { (i : Ip) (content : List ℕ) → ip i ≡ Some content → IsResources (2 ^ 128 - 1) i.v4 → AreV4 i.v4 → IsResources (2 ^ 128 - 1) i.v6 → length content < 2 ^ 32 → (f : Families) × IsIPAddrBlocks f content × (addresses (Some f) ≡ i) }
-    ensures numbers { (r : Resources) (content : List ℕ) → as_resources r ≡ Some content → IsResources (2 ^ 32 - 1) r → length content < 2 ^ 32 → IsASIdentifiers r content }
+    ensures addresses { (i : Ip) (content : List ℕ) → ip i ≡ Some content →
+        IsResources (2 ^ 128 - 1) i.v4 → AreV4 i.v4 → IsResources (2 ^ 128 - 1) i.v6 →
+        length content < 2 ^ 32 →
+        (f : Families) × IsIPAddrBlocks f content × (addresses (Some f) ≡ i) }
+    ensures numbers { (r : Resources) (content : List ℕ) → written_as r ≡ Some content →
+        IsResources (2 ^ 32 - 1) r → length content < 2 ^ 32 → IsASIdentifiers r content }
 {}

@@ -26,4 +26,3 @@ pub use chain::{AsBlocks, Chain, IpBlocks};
 pub use overclaim::Overclaim;
 pub use prefix::Prefix;
 pub use resources::{AsResources, Inherited, IpResources, IssueError, Resources};
-

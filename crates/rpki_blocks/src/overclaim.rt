@@ -1,7 +1,8 @@
+//! Whether a certificate may list more than its issuer has.
 ghost use Rattle.std.specs.Prelude.{◌≡◌};
-ghost use Rattle.rpki_der.specs.Contents.{IsOid};
-ghost use Rattle.rpki_blocks.specs.Overclaims.{ip_identifier, as_identifier, policy_identifier};
-ghost use Rattle.rpki_blocks.specs.OverclaimIdentifiers.{IsNamed, which, named};
+ghost use Rattle.rpki_der.specs.Primitives.{IsOid};
+ghost use Rattle.rpki_blocks.specs.Overclaims.{ip_identifier, as_identifier, policy_identifier, IsNamed};
+ghost use Rattle.rpki_blocks.specs.Overclaims.Reading.{which, named};
 
 use rpki_der::oid;
 

@@ -1,3 +1,4 @@
+//! What a certificate lists of one kind of numbers, and what it gets.
 ghost use Rattle.std.specs.Prelude.{◌≡◌, ◌≢◌, ℕ, ◌↔◌, IsTrue, IfOk, OnOk, MatchResult, MatchOption, List, []};
 ghost use Rattle.rpki_blocks.specs.Sets.{IsSet, Has};
 
@@ -86,7 +87,7 @@ impl<B: Bound> Model for Resources<B> {
 
     ghost Value = { Listed };
 
-    ghost use Rattle.rpki_blocks.specs.Choices.{resources_of};
+    ghost use Rattle.rpki_blocks.specs.Resources.Views.{resources_of};
 
     ghost view = { λ r. resources_of r.choice };
 
@@ -156,7 +157,8 @@ impl<B: Bound> Resources<B> {
 
     /// The set, where one is listed.
     pub fn as_blocks(&self) -> Option<&Chain<B>>
-        ensures { MatchOption result (HasNoBlocks self.now) (λ chain. self.now ≡ listed_blocks chain.now) }
+        ensures { MatchOption result (HasNoBlocks self.now)
+            (λ chain. self.now ≡ listed_blocks chain.now) }
     {
         match &self.choice {
             Choice::Blocks(chain) => Some(chain),
@@ -191,8 +193,10 @@ impl<B: Bound> Chain<B> {
     ) -> Result<Chain<B>, IssueError>
         ensures issued { IfOk result (IsIssued self.now listed.now) }
         ensures set { IfOk result (IsSet B.greatest) }
-        ensures held { OnOk result (mode ≡ Overclaim.Refuse → (n : ℕ) → IsListed n listed.now → Has self.now n) }
-        ensures overclaimed { (result ≡ Err IssueError.Overclaimed) ↔ ((mode ≡ Overclaim.Refuse) × IsOverclaim B.greatest (Has self.now) listed.now) }
+        ensures held { OnOk result
+            (mode ≡ Overclaim.Refuse → (n : ℕ) → IsListed n listed.now → Has self.now n) }
+        ensures overclaimed { (result ≡ Err IssueError.Overclaimed)
+            ↔ ((mode ≡ Overclaim.Refuse) × IsOverclaim B.greatest (Has self.now) listed.now) }
     {
         match &listed.choice {
             Choice::Missing => Ok(Chain::empty(alloc)),

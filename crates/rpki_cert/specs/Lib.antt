@@ -1,9 +1,3 @@
-pub mod Kinds
+pub mod CertificateExtensions
 pub mod Certificates
-pub mod Spelling
 pub mod Making
-pub mod ReadCertificates
-pub mod Named
-pub mod SeenStates
-pub mod ExtensionViews
-pub mod FieldViews

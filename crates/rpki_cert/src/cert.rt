@@ -1,12 +1,15 @@
+//! Certificates, read and written.
 ghost use Rattle.std.specs.Prelude.{◌≡◌, ◌^◌, ◌<◌, ◌≤◌, ◌++◌, length, IfOk, IsOk, OnOk, OnErr, IsErrOf, option_map};
 ghost use Rattle.std.specs.List.{concat};
-ghost use Rattle.rpki_der.specs.Place.{Place, left, Keeps, TookOrMemory, AnswersOrMemory, AnswersOptionalOrMemory, MeansOrMemory};
+ghost use Rattle.rpki_der.specs.Place.{Place, left, Keeps, AnswersOrMemory, AnswersOptionalOrMemory, MeansOrMemory};
+ghost use Rattle.rpki_der.specs.Place.Reading.{TookOrMemory};
 ghost use Rattle.rpki_der.specs.Reading.{optional};
 ghost use Rattle.rpki_der.specs.Values.{AreOctets};
-ghost use Rattle.rpki_parts.specs.WrittenParts.{signed_data, signed_pieces};
-ghost use Rattle.rpki_ext.specs.Extensions.{Means};
+ghost use Rattle.rpki_der.specs.Writers.{value, Writes};
+ghost use Rattle.rpki_parts.specs.SignedDatas.{signed_data, signed_pieces};
+ghost use Rattle.rpki_ext.specs.Kinds.{Means};
 ghost use Rattle.rpki_cert.specs.Certificates.{IsCertificateContent, IsCertificate};
-ghost use Rattle.rpki_cert.specs.ReadCertificates.{cert_content_at, cert_at};
+ghost use Rattle.rpki_cert.specs.Certificates.Reading.{cert_content_at, cert_at};
 
 use crate::tbs::TbsCert;
 use bytes::Bytes;
@@ -33,29 +36,29 @@ impl Model for Cert {
 
 impl Cert {
     // What stands in the SEQUENCE, by the reading function.
-    #[tactic(auto, unfolding(crate::specs::ReadCertificates::cert_content_at))]
+    #[tactic(auto, unfolding(crate::specs::Certificates::Reading::cert_content_at))]
     fn read_content(alloc: Global, content: &mut Cursor<'_>) -> Result<Cert, DecodeError>
-        ensures reads { TookOrMemory (λ c. c) cert_content_at content.old result content.new }
+        ensures reads { TookOrMemory cert_content_at content.old result content.new }
         ensures keeps { Keeps result content.old content.new }
         ensures octets { AreOctets (left content.old) }
     {
         let mut ahead = content.fork();
         let signed_data = SignedData::from_constructed(&mut ahead)?;
-        let tbs = TbsCert::from_constructed(alloc, &mut content.fork())?;
+        let tbs = TbsCert::read(alloc, &mut content.fork())?;
         *content = ahead;
         Ok(Cert { tbs, signed_data })
     }
 
     // The SEQUENCE, by the reading function.
-    #[tactic(auto, unfolding(crate::specs::ReadCertificates::cert_at))]
+    #[tactic(auto, unfolding(crate::specs::Certificates::Reading::cert_at))]
     fn read(alloc: Global, cursor: &mut Cursor<'_>) -> Result<Cert, DecodeError>
-        ensures reads { TookOrMemory (λ c. c) cert_at cursor.old result cursor.new }
+        ensures reads { TookOrMemory cert_at cursor.old result cursor.new }
         ensures keeps { Keeps result cursor.old cursor.new }
         ensures octets { AreOctets (left cursor.old) }
     {
         let mut ahead = cursor.fork();
         let mut content = ahead.take_sequence()?;
-        let cert = Cert::from_constructed(alloc, &mut content)?;
+        let cert = Cert::read_content(alloc, &mut content)?;
         if !content.is_empty() {
             return Err(DecodeError::Trailing);
         }
@@ -65,7 +68,7 @@ impl Cert {
 
     /// The certificate that a front of the octets is; what follows it is left unread. Errs with the name of a fault where no front is one.
     pub fn decode(alloc: Global, octets: &[u8]) -> Result<Cert, DecodeError>
-        ensures { MeansOrMemory (λ c. c) (Means IsCertificate) result octets.now }
+        ensures { MeansOrMemory (Means IsCertificate) result octets.now }
     {
         let octets = Bytes::copy_from_slice(alloc, octets)?;
         let mut cursor = Cursor::new(&octets);
@@ -74,8 +77,7 @@ impl Cert {
 
     /// The certificate that stands next, one SEQUENCE (RFC 5280 4.1). Errs with the name of a fault where no front of what is left is one.
     pub fn take_from(alloc: Global, cursor: &mut Cursor<'_>) -> Result<Cert, DecodeError>
-        ensures answers { AnswersOrMemory (λ c. c) IsCertificate cursor.old result cursor.new }
-        ensures reads { TookOrMemory (λ c. c) cert_at cursor.old result cursor.new }
+        ensures answers { AnswersOrMemory IsCertificate cursor.old result cursor.new }
         ensures keeps { Keeps result cursor.old cursor.new }
     {
         Cert::read(alloc, cursor)
@@ -86,7 +88,7 @@ impl Cert {
         alloc: Global,
         cursor: &mut Cursor<'_>,
     ) -> Result<Option<Cert>, DecodeError>
-        ensures answers { AnswersOptionalOrMemory (λ c. c) 0x30 IsCertificate cursor.old result cursor.new }
+        ensures answers { AnswersOptionalOrMemory 0x30 IsCertificate cursor.old result cursor.new }
         ensures keeps { Keeps result cursor.old cursor.new }
     {
         match cursor.rest() {
@@ -97,8 +99,7 @@ impl Cert {
 
     /// What stands inside the SEQUENCE of a certificate, without its identifier and length.
     pub fn from_constructed(alloc: Global, content: &mut Cursor<'_>) -> Result<Cert, DecodeError>
-        ensures answers { AnswersOrMemory (λ c. c) IsCertificateContent content.old result content.new }
-        ensures reads { TookOrMemory (λ c. c) cert_content_at content.old result content.new }
+        ensures answers { AnswersOrMemory IsCertificateContent content.old result content.new }
         ensures keeps { Keeps result content.old content.new }
     {
         Cert::read_content(alloc, content)
@@ -121,10 +122,8 @@ impl Cert {
     /// Appends the certificate: the SEQUENCE of what is signed, as it was read or made, the algorithm and the signature. Of a
     /// certificate that was read these are its own octets. Answers `TooLong` where the content would have 2^32 octets or more.
     pub fn encode_ref(&self, out: &mut Vec<u8>) -> Result<(), EncodeError>
-        ensures ok { OnOk result (out.new.items ≡ out.old.items ++ signed_data self.now.signed_data) }
-        ensures err { OnErr result (out.new.items ≡ out.old.items) }
-        ensures too_long { IsErrOf result EncodeError.TooLong → 2 ^ 32 ≤ length (concat (signed_pieces self.now.signed_data)) }
-        ensures fits { IsOk result → length (concat (signed_pieces self.now.signed_data)) < 2 ^ 32 }
+        ensures { Writes (value 0x30 (concat (signed_pieces self.now.signed_data)))
+            out.old.items result out.new.items }
     {
         self.signed_data.encode_ref(out)
     }
@@ -132,7 +131,8 @@ impl Cert {
     /// The same octets, on their own.
     pub fn to_captured(&self, alloc: Global) -> Result<Bytes, EncodeError>
         ensures ok { IfOk result (λ octets. octets ≡ signed_data self.now.signed_data) }
-        ensures too_long { IsErrOf result EncodeError.TooLong → 2 ^ 32 ≤ length (concat (signed_pieces self.now.signed_data)) }
+        ensures too_long { IsErrOf result EncodeError.TooLong
+            → 2 ^ 32 ≤ length (concat (signed_pieces self.now.signed_data)) }
         ensures fits { IsOk result → length (concat (signed_pieces self.now.signed_data)) < 2 ^ 32 }
     {
         let mut octets = Vec::new(alloc);

@@ -2,7 +2,7 @@
 #![tactic(auto)]
 
 mod cert;
-mod copies;
+mod extensions;
 mod fields;
 pub mod laws;
 mod making;

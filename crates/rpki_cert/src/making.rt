@@ -1,17 +1,17 @@
 //! Certificates are made: fields go in, octets come out.
-ghost use Rattle.std.specs.Prelude.{◌≡◌, ◌^◌, ◌<◌, ◌≤◌, length, Ok, IfOk, IfErr, OnOk, IsErrOf};
+ghost use Rattle.std.specs.Prelude.{◌≡◌, unwrap_or, ◌^◌, ◌<◌, ◌≤◌, length, Ok, IfOk, IfErr, OnOk, IsErrOf};
 ghost use Rattle.std.specs.List.{concat};
 ghost use Rattle.rpki_der.specs.declared.error.EncodeError.TheVariants.{Memory};
-ghost use Rattle.rpki_ext.specs.Extensions.{or_else};
-ghost use Rattle.rpki_parts.specs.WrittenParts.{subject_name, signed_pieces};
+ghost use Rattle.rpki_parts.specs.KeyNames.{subject_name};
+ghost use Rattle.rpki_parts.specs.SignedDatas.{signed_pieces};
 ghost use Rattle.rpki_cert.specs.Making.{new_fields, IsRefusal};
-ghost use Rattle.rpki_cert.specs.Spelling.{spelling};
+ghost use Rattle.rpki_cert.specs.Certificates.{spelling};
 
 use crate::cert::Cert;
-use crate::reading::Extensions;
+use crate::extensions::Extensions;
 use crate::tbs::TbsCert;
 use bytes::Bytes;
-use rpki_blocks::{AsResources, IpResources, Overclaim};
+use rpki_blocks::Overclaim;
 use rpki_der::{EncodeError, Serial, put_bits};
 use rpki_ext::KeyUsage;
 use rpki_parts::{
@@ -28,7 +28,7 @@ fn subject_or_own(
     subject: Option<Name>,
     key: &PublicKey,
 ) -> Result<Name, EncodeError>
-    ensures ok { IfOk result (λ name. name ≡ or_else (subject_name key.now) subject) }
+    ensures ok { IfOk result (λ name. name ≡ unwrap_or subject (subject_name key.now)) }
     ensures memory { IfErr result (λ e. e ≡ Memory) }
 {
     match subject {
@@ -40,7 +40,8 @@ fn subject_or_own(
 // Whether the whole certificate fits, which is the SEQUENCE of the signed data.
 fn check_length(alloc: Global, signed_data: &SignedData) -> Result<(), EncodeError>
     ensures fits { OnOk result (length (concat (signed_pieces signed_data.now)) < 2 ^ 32) }
-    ensures too_long { IsErrOf result EncodeError.TooLong → 2 ^ 32 ≤ length (concat (signed_pieces signed_data.now)) }
+    ensures too_long { IsErrOf result EncodeError.TooLong
+        → 2 ^ 32 ≤ length (concat (signed_pieces signed_data.now)) }
 {
     let signature = signed_data.signature();
     let mut tail = Vec::new(alloc);
@@ -65,28 +66,13 @@ impl TbsCert {
         key_usage: KeyUsage,
         overclaim: Overclaim,
     ) -> Result<TbsCert, EncodeError>
-        ensures ok { IfOk result (λ t. t ≡ new_fields serial_number issuer validity subject subject_public_key_info key_usage overclaim) }
+        ensures ok { IfOk result (λ t. t ≡ new_fields
+            serial_number issuer validity subject subject_public_key_info key_usage overclaim) }
         ensures memory { IfErr result (λ e. e ≡ Memory) }
     {
         let subject = subject_or_own(alloc, subject, &subject_public_key_info)?;
         let subject_key_identifier = subject_public_key_info.key_identifier();
-        let extensions = Extensions {
-            basic_ca: None,
-            subject_key_identifier,
-            authority_key_identifier: None,
-            key_usage,
-            extended_key_usage: None,
-            crl_uri: None,
-            ca_issuer: None,
-            ca_repository: None,
-            rpki_manifest: None,
-            signed_object: None,
-            rpki_notify: None,
-            overclaim,
-            v4_resources: IpResources::missing(),
-            v6_resources: IpResources::missing(),
-            as_resources: AsResources::missing(),
-        };
+        let extensions = Extensions::bare(subject_key_identifier, key_usage, overclaim);
         Ok(TbsCert {
             serial_number,
             signature: RpkiSignatureAlgorithm::default(),
@@ -106,9 +92,12 @@ impl TbsCert {
         key: &S::KeyId,
     ) -> Result<SignedData, SigningError<S::Error>>
         ensures message { IfOk result (λ s. s.message ≡ spelling self.now) }
-        ensures signed { IfOk result (λ s. S.signs signer.now key.now self.now.algorithm (spelling self.now) (Ok s.signature)) }
+        ensures signed { IfOk result
+            (λ s. S.signs signer.now key.now self.now.algorithm (spelling self.now)
+            (Ok s.signature)) }
         ensures fits { IfOk result (λ s. length (concat (signed_pieces s)) < 2 ^ 32) }
-        ensures refused { IfErr result (IsRefusal self.now (S.signs signer.now key.now self.now.algorithm (spelling self.now))) }
+        ensures refused { IfErr result (IsRefusal self.now
+            (S.signs signer.now key.now self.now.algorithm (spelling self.now))) }
     {
         let mut octets = Vec::new(alloc);
         self.encode_ref(&mut octets)?;
@@ -130,9 +119,12 @@ impl TbsCert {
     ) -> Result<Cert, SigningError<S::Error>>
         ensures fields { IfOk result (λ c. c.fields ≡ self) }
         ensures message { IfOk result (λ c. c.signed_data.message ≡ spelling self) }
-        ensures signed { IfOk result (λ c. S.signs signer.now key.now self.algorithm (spelling self) (Ok c.signed_data.signature)) }
+        ensures signed { IfOk result
+            (λ c. S.signs signer.now key.now self.algorithm (spelling self)
+            (Ok c.signed_data.signature)) }
         ensures fits { IfOk result (λ c. length (concat (signed_pieces c.signed_data)) < 2 ^ 32) }
-        ensures refused { IfErr result (IsRefusal self (S.signs signer.now key.now self.algorithm (spelling self))) }
+        ensures refused { IfErr result
+            (IsRefusal self (S.signs signer.now key.now self.algorithm (spelling self))) }
     {
         match self.sign(alloc, signer, key) {
             Ok(signed_data) => Ok(Cert {

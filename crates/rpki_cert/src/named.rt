@@ -1,6 +1,6 @@
 //! Which kind of extension an identifier names.
 ghost use Rattle.std.specs.Prelude.{◌≡◌};
-ghost use Rattle.rpki_cert.specs.Named.{Names, wanted, field_of};
+ghost use Rattle.rpki_cert.specs.CertificateExtensions.Views.{Names, wanted, field_of};
 
 use rpki_blocks::Overclaim;
 use rpki_der::{Field, oid};

@@ -14,7 +14,7 @@ use Rattle.jiff_core.proofs.DateLemmas.{IsEarlier, cases_date, epoch_day-lt, epo
 use Rattle.jiff_core.proofs.DateTimeLemmas.{civil_nanos-lt, civil_nanos-parts}
 use Rattle.jiff_core.proofs.SignedLemmas.{signed_arith, cmp_agrees}
 use Rattle.rpki_der.specs.Times.{second_number}
-use Rattle.rpki_der.specs.CivilTimes.{moment_of, IsWhole}
+use Rattle.rpki_der.specs.Times.Views.{moment_of, IsWhole}
 
 -- a date before another has the smaller number, whatever the times of day are
 day_number : Date → ℕ

@@ -4,9 +4,9 @@ use Rattle.std.specs.Option.{ok_or}
 use Rattle.std.proofs.Common.{◌≡◌, true, false, cond, Option, Some, None, refl, sym, ap, inl, inr}
 use Rattle.std.proofs.lemmas.Bool.{leb-true, ltb-true, lt-ltb, le-leb, and_parts, and_from, cases_Bool}
 use Rattle.rpki_der.specs.declared.error.DecodeError.{DecodeError}
-use Rattle.rpki_der.specs.Place.{Gives}
+use Rattle.rpki_der.specs.Place.Reading.{Returns}
 use Rattle.rpki_der.specs.Times.{Moment, IsMoment, days_in_month}
-use Rattle.rpki_der.specs.ReadTimes.{is_moment}
+use Rattle.rpki_der.specs.Times.Reading.{is_moment}
 
 pub moment_exists : (m : Moment) → is_moment m ≡ true → IsMoment m
 unfolding is_moment
@@ -35,7 +35,7 @@ exists_moment m h =
     (and_from _ _ (lt-ltb m.hour 24 h.hour) (and_from _ _ (lt-ltb m.minute 60 h.minute) (lt-ltb m.second 60 h.second)))
 
 -- a function that answers exactly the moments that exist
-pub gives_moment : (o : Option Moment) (m : Moment) (d : DecodeError) → IsSome o ↔ IsMoment m → IfSome o (λ t. t ≡ m) → Gives (λ t. t) (ok_or o d) (cond (is_moment m) (Some m) None)
+pub gives_moment : (o : Option Moment) (m : Moment) (d : DecodeError) → IsSome o ↔ IsMoment m → IfSome o (λ t. t ≡ m) → Returns (ok_or o d) (cond (is_moment m) (Some m) None)
 gives_moment None m d exists value =
     elim (cases_Bool (is_moment m)) [
       | inl y ↦ absurd (none (exists.1 (moment_exists m y)))

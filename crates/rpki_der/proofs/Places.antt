@@ -4,8 +4,8 @@ use Rattle.std.proofs.lemmas.List.{length-append, take_at, drop_at, take-take}
 use Rattle.std.proofs.lemmas.List.Edits.{length-between}
 use Rattle.bytes.proofs.Ranges.{drop-slice_range}
 use Rattle.rpki_der.specs.Place.{Place, left, MovesOn}
-use Rattle.rpki_der.specs.Reading.{value_at}
-use Rattle.rpki_der.proofs.ReadValues.{value_parts}
+use Rattle.rpki_der.specs.Values.Reading.{value_at}
+use Rattle.rpki_der.proofs.ValueReads.{value_parts}
 
 -- a range that is two texts, cut between them
 pub record IsCut (source : List ℕ) (from to : ℕ) (x y : List ℕ) : Type 0 where

@@ -1,11 +1,12 @@
 -- A row is its first value and a row.
 use Rattle.std.proofs.Common.{◌≡◌, ℕ, zero, suc, ◌<◌, ◌≤◌, List, [], ◌∷◌, length, Option, Some, None, refl, ap, subst, ◌∙◌, arith}
-use Rattle.rpki_der.specs.Reading.{◌>>=◌, value_at, ended, inside}
-use Rattle.rpki_der.specs.Spelling.{Reads}
+use Rattle.rpki_der.specs.Reading.{ended, inside, Reads}
+use Rattle.rpki_der.specs.Values.Reading.{value_at, ◌>>=◌}
 use Rattle.rpki_der.specs.Values.{AreOctets}
-use Rattle.rpki_der.specs.Rows.{IsRow, row_at, row_of, Shrinks}
+use Rattle.rpki_der.specs.Rows.{IsRow}
+use Rattle.rpki_der.specs.Rows.Reading.{row_at, row_of, Shrinks}
 use Rattle.rpki_der.proofs.Octets.{AreOctets-after, bind_some, some, some_is, nothing}
-use Rattle.rpki_der.proofs.ReadValues.{value_shorter}
+use Rattle.rpki_der.proofs.ValueReads.{value_shorter}
 
 -- two ways to go on that agree after what was read
 same_after : {X : Type 0} (r : Option (X × List ℕ)) (f g : List ℕ → Option (List X)) → ((x : X × List ℕ) → r ≡ Some x → f x.1 ≡ g x.1)

@@ -1,12 +1,11 @@
 -- A serial that is read is the serial that was written.
 use Rattle.std.proofs.Common.{◌^◌, ◌<◌}
-use Rattle.rpki_der.specs.Contents.{IsNumber}
-use Rattle.rpki_der.specs.Reading.{content}
-use Rattle.rpki_der.specs.ReadSerials.{serial_of, serial_at}
+use Rattle.rpki_der.specs.Primitives.{IsNumber}
+use Rattle.rpki_der.specs.Reading.{content, Reads}
+use Rattle.rpki_der.specs.Serials.Reading.{serial_of, serial_at}
 use Rattle.rpki_der.specs.Serials.{IsSerial}
-use Rattle.rpki_der.specs.Spelling.{Reads}
-use Rattle.rpki_der.proofs.Made.{same_reads}
-use Rattle.rpki_der.proofs.ReadPrimitives.{number_reads}
+use Rattle.rpki_der.proofs.Readings.{same_reads}
+use Rattle.rpki_der.proofs.PrimitiveReads.{number_reads}
 
 pub serial_reads : Reads serial_at IsSerial
 unfolding serial_at

@@ -3,14 +3,15 @@ use Rattle.std.specs.Prelude.{nat_lt, nat_le, ◌&&◌, bytes_eq}
 use Rattle.std.proofs.Common.{◌≡◌, ℕ, ◌+◌, ◌-◌, ◌*◌, ◌/◌, ◌%◌, ◌<◌, ◌≤◌, true, cond, List, [], ◌∷◌, ◌++◌, Option, Some, refl, sym, ap, subst, ◌∙◌, arith, inl, inr}
 use Rattle.std.proofs.lemmas.Slice.Eq.{bytes_eq-Decides}
 use Rattle.std.proofs.lemmas.Bool.{leb-true, le-leb, lt-ltb, le-ltb, and_parts, and_from, cases_lt}
-use Rattle.rpki_der.specs.Reading.{◌>>=◌, content}
-use Rattle.rpki_der.specs.Spelling.{Reads, ReadsWhole, Inside, BeginWith, BeginsOther}
+use Rattle.rpki_der.specs.Reading.{content, Reads, ReadsWhole, Inside, BeginWith}
+use Rattle.rpki_der.specs.Values.Reading.{◌>>=◌}
+use Rattle.rpki_der.specs.Spelling.{BeginsOther}
 use Rattle.rpki_der.specs.Times.{Moment, IsMoment, IsTime, two, after_year}
 use Rattle.rpki_der.specs.Choices.{Either}
-use Rattle.rpki_der.specs.ReadTimes.{is_digit, two_at, existing, after_year_of, utc_of, generalized_of, time_at, is_moment}
+use Rattle.rpki_der.specs.Times.Reading.{is_digit, two_at, existing, after_year_of, utc_of, generalized_of, time_at, is_moment}
 use Rattle.rpki_der.specs.Values.{enc}
-use Rattle.rpki_der.proofs.Choosing.{choice_reads}
-use Rattle.rpki_der.proofs.Made.{content_reads, same_reads}
+use Rattle.rpki_der.proofs.Choices.{choice_reads}
+use Rattle.rpki_der.proofs.Readings.{content_reads, same_reads}
 use Rattle.rpki_der.proofs.MomentTests.{moment_exists, exists_moment}
 use Rattle.rpki_der.proofs.Octets.{bind_some, if_some}
 use Rattle.rpki_der.proofs.WrittenOctets.{days}

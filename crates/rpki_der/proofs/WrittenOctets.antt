@@ -6,11 +6,11 @@ use Rattle.std.proofs.Common.{◌≡◌, ℕ, ◌%◌, ◌/◌, ◌^◌, ◌<◌
 use Rattle.std.proofs.lemmas.Bool.{cases_lt, lt-ltb, le-ltb, ltb-true, and_parts}
 use Rattle.std.proofs.lemmas.List.{length-append}
 use Rattle.std.proofs.lemmas.Int.Digits.{length-digits_of-le, all_below_base_digits_of}
-use Rattle.rpki_der.specs.Values.{AreOctets, length_octets, enc, IsEnc}
-use Rattle.rpki_der.specs.Times.{Moment, leap_day, days_in_month, IsMoment, two, after_year}
-use Rattle.rpki_der.specs.Writing.{nested, unsigned, number, time, bool_or_false}
+use Rattle.rpki_der.specs.Values.{AreOctets, length_octets, enc, IsEnc, nested}
+use Rattle.rpki_der.specs.Times.{Moment, leap_day, days_in_month, IsMoment, two, after_year, time}
+use Rattle.rpki_der.specs.Primitives.{unsigned, number, bool_or_false}
 use Rattle.rpki_der.proofs.Octets.{AreOctets-append}
-use Rattle.rpki_der.proofs.Written.{bool_cases, enc_longer}
+use Rattle.rpki_der.proofs.ValueWritten.{bool_cases, enc_longer}
 
 -- octets where it is short enough to be written
 abbrev pub IfShort : List ℕ → Type 0

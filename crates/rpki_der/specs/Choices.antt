@@ -1,5 +1,9 @@
--- A value of one of two forms, which its first octet tells.
-use Rattle.std.specs.Prelude.{ℕ, nat_eq, if◌then◌else◌, List, [], ◌∷◌, Option, ◌⊎◌}
+-- Readings that choose by what stands next or by a test, that depend on what stood before, and that turn what they read.
+use Rattle.std.specs.Prelude.{◌≡◌, ℕ, nat_eq, Bool, if◌then◌else◌, List, [], ◌∷◌, ◌++◌, Option, Some, None, ◌⊎◌}
+use Rattle.rpki_der.specs.Reading.{ended, optional}
+use Rattle.rpki_der.specs.Values.Reading.{value_at, ◌>>=◌}
+
+-- ---- a value of one of two forms, which its first octet tells
 
 -- what begins with this tag is read by the first, all else by the second
 abbrev pub choice : {X : Type 0} → ℕ → (List ℕ → Option X) → (List ℕ → Option X) → List ℕ → Option X
@@ -9,3 +13,64 @@ choice t first second (found ∷ bytes) = if nat_eq found t then first (found �
 -- it is spelled in one of the forms
 abbrev pub Either : {V : Type 0} → (V → List ℕ → Type 0) → (V → List ℕ → Type 0) → V → List ℕ → Type 0
 Either first second v text = first v text ⊎ second v text
+
+-- what a whole content gives, or what is read before another tag
+abbrev pub picked : {X : Type 0} → (List ℕ → Option X) → (List ℕ → Option (X × List ℕ)) → Option (List ℕ) → List ℕ → Option (X × List ℕ)
+picked of other (Some c) rest = of c >>= λ x. Some (x, rest)
+picked of other None rest = other rest
+
+abbrev pub content_or : {X : Type 0} → ℕ → (List ℕ → Option X) → (List ℕ → Option (X × List ℕ)) → List ℕ → Option (X × List ℕ)
+content_or tag of other bytes = do
+  c ← optional tag (value_at tag) bytes
+  picked of other c.0 c.1
+
+-- what a whole content gives, or nothing before another tag
+abbrev pub maybe : {X : Type 0} → (List ℕ → Option X) → Option (List ℕ) → List ℕ → Option (Option X × List ℕ)
+maybe of (Some c) rest = of c >>= λ x. Some (Some x, rest)
+maybe of None rest = Some (None, rest)
+
+abbrev pub optional_of : {X : Type 0} → ℕ → (List ℕ → Option X) → List ℕ → Option (Option X × List ℕ)
+optional_of tag of bytes = do
+  c ← optional tag (value_at tag) bytes
+  maybe of c.0 c.1
+
+-- ---- a test chooses
+
+-- only where the test was passed
+abbrev pub given : {X : Type 0} → Bool → (List ℕ → Option (X × List ℕ)) → List ℕ → Option (X × List ℕ)
+given test read bytes = if test then read bytes else None
+
+-- by one where the test was passed, else by the other
+abbrev pub choose : {X : Type 0} → Bool → (List ℕ → Option (X × List ℕ)) → (List ℕ → Option (X × List ℕ)) → List ℕ → Option (X × List ℕ)
+choose test first second bytes = if test then first bytes else second bytes
+
+-- a value that no octet is read for
+abbrev pub always : {X : Type 0} → X → List ℕ → Option (X × List ℕ)
+always x bytes = Some (x, bytes)
+
+-- ---- what was read decides
+
+-- what a function makes of the value, if it makes anything
+abbrev pub turned : {X Y : Type 0} → (X → Option Y) → (List ℕ → Option (X × List ℕ)) → List ℕ → Option (Y × List ℕ)
+turned f read bytes = do
+  x ← read bytes
+  y ← f x.0
+  Some (y, x.1)
+
+abbrev pub Turned : {X Y : Type 0} → (X → Option Y) → (X → List ℕ → Type 0) → Y → List ℕ → Type 0
+Turned {X} f spells y text = (x : X) × spells x text × (f x ≡ Some y)
+
+-- one value, and then one that depends on it
+abbrev pub followed : {X Y : Type 0} → (List ℕ → Option (X × List ℕ)) → (X → List ℕ → Option (Y × List ℕ)) → List ℕ → Option (Y × List ℕ)
+followed first second bytes = do
+  x ← first bytes
+  second x.0 x.1
+
+abbrev pub Followed : {X Y : Type 0} → (X → List ℕ → Type 0) → (X → Y → List ℕ → Type 0) → Y → List ℕ → Type 0
+Followed {X} first second y text = (x : X) × (a : List ℕ) × (b : List ℕ) × first x a × second x y b × (text ≡ a ++ b)
+
+-- the octets are one value, and nothing follows it
+abbrev pub whole : {X : Type 0} → (List ℕ → Option (X × List ℕ)) → List ℕ → Option X
+whole read bytes = do
+  x ← read bytes
+  ended x.1 x.0

@@ -1,81 +1,81 @@
--- Values of the primitive types as readers meet them (X.690 8.2, 8.3, 8.6, 8.8, 11.1, 11.2), and their reading functions.
-use Rattle.std.specs.Prelude.{◌≡◌, ℕ, ◌%◌, ◌^◌, ◌<◌, Bool, false, ◌&&◌, ◌||◌, not, nat_lt, nat_eq, if◌then◌else◌, List, [], ◌∷◌, ◌++◌, Option, Some, None, Result, Ok, Err}
-use Rattle.std.specs.Int.Digits.{number_from_digits}
-use Rattle.rpki_der.specs.Contents.{IsBoolOrFalse, IsNumber, IsBitString, null}
-use Rattle.rpki_der.specs.Spelling.{BeginsOther}
-use Rattle.rpki_der.specs.Place.{Place, left}
-use Rattle.rpki_der.specs.Reading.{value_at, content, mapped, optional, bool_at}
-use Rattle.rpki_der.specs.declared.error.DecodeError.{DecodeError}
+-- Values of the primitive types (X.690 8.2, 8.3, 8.6, 8.8, 8.19, 11.1, 11.2).
+use Rattle.std.specs.Int.Digits.{number_from_digits, digits_of}
+use Rattle.std.specs.Prelude.{◌≡◌, ℕ, ◌⊎◌, Bool, true, false, List, [], ◌∷◌, ◌<◌, ◌≤◌, ◌^◌, ◌++◌, ◌%◌, cond, nat_lt}
+use Rattle.rpki_der.specs.Tags.{BOOLEAN, INTEGER, OBJECT_IDENTIFIER, BIT_STRING, NULL}
+use Rattle.rpki_der.specs.Values.{IsEnc, enc}
+pub mod Reading
 
--- ---- relations
+-- BOOLEAN with the default false (X.690 8.2, 11.1): an explicit false is read too (own)
+abbrev pub IsBoolOrFalse : Bool → List ℕ → Type 0
+IsBoolOrFalse true b = b ≡ BOOLEAN ∷ 1 ∷ 255 ∷ []
+IsBoolOrFalse false b = (b ≡ []) ⊎ (b ≡ BOOLEAN ∷ 1 ∷ 0 ∷ [])
 
-abbrev pub IsNull : Unit {0} → List ℕ → Type 0
-IsNull u b = b ≡ null
+-- the content of an INTEGER (X.690 8.3): at least one octet, and the first nine bits are neither all 0 nor all 1
+abbrev pub IsInteger : List ℕ → Type 0
+IsInteger [] = ⊥
+IsInteger (x ∷ []) = Unit {0}
+IsInteger (x ∷ y ∷ rest) = ((x ≡ 0 → 128 ≤ y) × (x ≡ 255 → y < 128))
 
--- unused bits and octets
-abbrev pub IsBits : ℕ × List ℕ → List ℕ → Type 0
-IsBits v b = IsBitString v.0 v.1 b
+-- an INTEGER from 0 on
+pub record IsNumber (n : ℕ) (b : List ℕ) : Type 0 where
+  pub first : ℕ
+  pub more : List ℕ
+  pub enc : IsEnc INTEGER (first ∷ more) b
+  pub shortest : IsInteger (first ∷ more)
+  pub not_negative : first < 128
+  pub is : n ≡ number_from_digits 256 (first ∷ more)
 
 -- an INTEGER from 0 to 2^32 - 1
 pub record IsU32 (n : ℕ) (b : List ℕ) : Type 0 where
   pub number : IsNumber n b
   pub small : n < 2 ^ 32
 
--- The octets begin with a BOOLEAN whose default is false, and the rest follows. It is absent only where no BOOLEAN stands
--- next: at the end, or before another identifier.
-pub record BeginsBoolOrFalse (octets : List ℕ) (v : Bool) (rest : List ℕ) : Type 0 where
-  pub text : List ℕ
-  pub spelled : IsBoolOrFalse v text
-  pub parts : octets ≡ text ++ rest
-  pub absent : text ≡ [] → BeginsOther 1 octets
+-- the content of an OBJECT IDENTIFIER (X.690 8.19): the last octet is below 80, and no subidentifier begins with 80, so
+-- wherever 80 stands an octet of 80 or more stands before it
+pub record IsOid (id : List ℕ) : Type 0 where
+  pub front : List ℕ
+  pub last : ℕ
+  pub is : id ≡ front ++ last ∷ []
+  pub ends : last < 128
+  pub no_padding : (x y : List ℕ) → id ≡ x ++ 128 ∷ y → (z : List ℕ) × (k : ℕ) × (x ≡ z ++ k ∷ []) × (128 ≤ k)
 
--- a reader's answer: the octets begin so, and the cursor stands behind it; or they begin so with neither value
-abbrev pub AnswersBoolOrFalse : Place → Result Bool DecodeError → Place → Type 0
-AnswersBoolOrFalse old (Ok v) new = BeginsBoolOrFalse (left old) v (left new)
-AnswersBoolOrFalse old (Err e) new = (v : Bool) (rest : List ℕ) → BeginsBoolOrFalse (left old) v rest → ⊥
+-- an OBJECT IDENTIFIER with this content
+pub record IsObjectIdentifier (id b : List ℕ) : Type 0 where
+  pub enc : IsEnc OBJECT_IDENTIFIER id b
+  pub oid : IsOid id
 
--- ---- reading functions
+-- BIT STRING (X.690 8.6, 11.2): unused bits at its end, which are 0, and octets
+pub record IsBitString (unused : ℕ) (octets b : List ℕ) : Type 0 where
+  pub enc : IsEnc BIT_STRING (unused ∷ octets) b
+  pub few : unused < 8
+  pub none : octets ≡ [] → unused ≡ 0
+  pub zero_bits : number_from_digits 256 octets % 2 ^ unused ≡ 0
 
--- OCTET STRING
-abbrev pub octets_at : List ℕ → Option (List ℕ × List ℕ)
-octets_at = value_at 0x04
+-- unused bits and octets
+abbrev pub IsBits : ℕ × List ℕ → List ℕ → Type 0
+IsBits v b = IsBitString v.0 v.1 b
 
--- NULL
-abbrev pub null_of : List ℕ → Option (Unit {0})
-null_of [] = Some tt
-null_of (b ∷ bytes) = None
+-- NULL (X.690 8.8)
+abbrev pub null : List ℕ
+null = NULL ∷ 0 ∷ []
 
-unfoldable pub null_at : List ℕ → Option (Unit {0} × List ℕ)
-null_at = content 0x05 null_of
+abbrev pub IsNull : Unit {0} → List ℕ → Type 0
+IsNull u b = b ≡ null
 
--- BOOLEAN with the default false
-abbrev pub or_false : Option Bool → Bool
-or_false None = false
-or_false (Some b) = b
+-- ---- what is written
 
-unfoldable pub bool_or_false_at : List ℕ → Option (Bool × List ℕ)
-bool_or_false_at = mapped or_false (optional 0x01 bool_at)
+abbrev pub boolean : Bool → List ℕ
+boolean true = BOOLEAN ∷ 1 ∷ 255 ∷ []
+boolean false = BOOLEAN ∷ 1 ∷ 0 ∷ []
 
--- BIT STRING
-abbrev pub has_zero_bits : ℕ → List ℕ → Bool
-has_zero_bits unused [] = nat_eq unused 0
-has_zero_bits unused (b ∷ octets) = nat_lt unused 8 && nat_eq (number_from_digits 256 (b ∷ octets) % 2 ^ unused) 0
+abbrev pub bool_or_false : Bool → List ℕ
+bool_or_false true = BOOLEAN ∷ 1 ∷ 255 ∷ []
+bool_or_false false = []
 
-abbrev pub bits_of : List ℕ → Option (ℕ × List ℕ)
-bits_of [] = None
-bits_of (unused ∷ octets) = if has_zero_bits unused octets then Some (unused, octets) else None
+-- the content of an INTEGER: with a 0 before a first octet of 80 or more, and for no octets
+abbrev pub unsigned : List ℕ → List ℕ
+unsigned [] = 0 ∷ []
+unsigned (d ∷ ds) = cond (nat_lt d 128) (d ∷ ds) (0 ∷ d ∷ ds)
 
-unfoldable pub bits_at : List ℕ → Option ((ℕ × List ℕ) × List ℕ)
-bits_at = content 0x03 bits_of
-
--- INTEGER of a number that isn't negative, and below a limit
-abbrev pub is_unsigned : List ℕ → Bool
-is_unsigned [] = false
-is_unsigned (b ∷ []) = nat_lt b 0x80
-is_unsigned (b ∷ c ∷ bytes) = nat_lt b 0x80 && (nat_lt 0 b || not (nat_lt c 0x80))
-
-abbrev pub number_below : ℕ → List ℕ → Option ℕ
-number_below limit c = if is_unsigned c && nat_lt (number_from_digits 256 c) limit then Some (number_from_digits 256 c) else None
-
-unfoldable pub u32_at : List ℕ → Option (ℕ × List ℕ)
-u32_at = content 0x02 (number_below (2 ^ 32))
+unfoldable pub number : ℕ → List ℕ
+number n = enc INTEGER (unsigned (digits_of 256 n))

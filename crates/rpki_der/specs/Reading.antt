@@ -1,57 +1,8 @@
--- Reading functions: of octets they give a value and the octets after it, or nothing.
-use Rattle.std.specs.Prelude.{ℕ, ◌+◌, ◌*◌, ◌%◌, Bool, true, false, ◌&&◌, not, List, [], ◌∷◌, length, take, drop, nat_lt, nat_eq, if◌then◌else◌, Option, Some, None}
-
-infixl 10 ◌>>=◌
-abbrev pub ◌>>=◌ : {A B : Type 0} → Option A → (A → Option B) → Option B
-(Some x) >>= f = f x
-None >>= f = None
-
--- the length and the rest, if the length is long enough for its form
-abbrev pub at_least : ℕ → ℕ → List ℕ → Option (ℕ × List ℕ)
-at_least least n rest = if nat_lt n least then None else Some (n, rest)
-
-abbrev pub long1 : List ℕ → Option (ℕ × List ℕ)
-long1 (a ∷ rest) = at_least 0x80 a rest
-long1 [] = None
-
-abbrev pub long2 : List ℕ → Option (ℕ × List ℕ)
-long2 (a ∷ b ∷ rest) = at_least 0x100 (a * 0x100 + b) rest
-long2 (a ∷ []) = None
-long2 [] = None
-
-abbrev pub long3 : List ℕ → Option (ℕ × List ℕ)
-long3 (a ∷ b ∷ c ∷ rest) = at_least 0x10000 (a * 0x10000 + b * 0x100 + c) rest
-long3 (a ∷ b ∷ []) = None
-long3 (a ∷ []) = None
-long3 [] = None
-
-abbrev pub long4 : List ℕ → Option (ℕ × List ℕ)
-long4 (a ∷ b ∷ c ∷ d ∷ rest) = at_least 0x1000000 (a * 0x1000000 + b * 0x10000 + c * 0x100 + d) rest
-long4 (a ∷ b ∷ c ∷ []) = None
-long4 (a ∷ b ∷ []) = None
-long4 (a ∷ []) = None
-long4 [] = None
-
--- the length that stands at the front
-abbrev pub length_at : List ℕ → Option (ℕ × List ℕ)
-length_at [] = None
-length_at (n ∷ rest) =
-    if nat_lt n 0x80 then Some (n, rest)
-    else if nat_eq n 0x81 then long1 rest
-    else if nat_eq n 0x82 then long2 rest
-    else if nat_eq n 0x83 then long3 rest
-    else if nat_eq n 0x84 then long4 rest
-    else None
-
--- as many octets as the length says
-abbrev pub content_at : ℕ × List ℕ → Option (List ℕ × List ℕ)
-content_at x = if nat_lt (length x.1) x.0 then None else Some (take x.0 x.1, drop x.0 x.1)
-
--- the content of the value of this tag that stands at the front
-unfoldable pub value_at : ℕ → List ℕ → Option (List ℕ × List ℕ)
-value_at t [] = None
-value_at t (found ∷ rest) =
-    if nat_eq found t && not (nat_eq (t % 32) 31) then length_at rest >>= content_at else None
+-- Readings made of readings, what is spelled where they read, and when a reading and a spelling say the same.
+use Rattle.std.specs.Prelude.{ℕ, List, [], ◌∷◌, Option, Some, None, ◌≡◌, ◌++◌, nat_eq, if◌then◌else◌}
+use Rattle.rpki_der.specs.Spelling.{Begins, BeginsOrAbsent}
+use Rattle.rpki_der.specs.Values.{IsEnc, AreOctets}
+use Rattle.rpki_der.specs.Values.Reading.{◌>>=◌, value_at}
 
 -- the value, where nothing is left
 abbrev pub ended : {X : Type 0} → List ℕ → X → Option X
@@ -65,12 +16,20 @@ inside t read bytes = do
   x ← read v.0
   ended x.1 (x.0, v.1)
 
+-- a value that is the content of a value of this tag
+abbrev pub Inside : {V : Type 0} → ℕ → (V → List ℕ → Type 0) → V → List ℕ → Type 0
+Inside tag spells v text = (content : List ℕ) × spells v content × IsEnc tag content text
+
 -- one after the other
 abbrev pub both : {X Y : Type 0} → (List ℕ → Option (X × List ℕ)) → (List ℕ → Option (Y × List ℕ)) → List ℕ → Option ((X × Y) × List ℕ)
 both first second bytes = do
   x ← first bytes
   y ← second x.1
   Some ((x.0, y.0), y.1)
+
+-- one value after the other
+abbrev pub Both : {X Y : Type 0} → (X → List ℕ → Type 0) → (Y → List ℕ → Type 0) → X × Y → List ℕ → Type 0
+Both first second v text = (a : List ℕ) × (b : List ℕ) × first v.0 a × second v.1 b × (text ≡ a ++ b)
 
 -- the same value, in another form
 abbrev pub mapped : {X Y : Type 0} → (X → Y) → (List ℕ → Option (X × List ℕ)) → List ℕ → Option (Y × List ℕ)
@@ -90,28 +49,36 @@ abbrev pub optional : {X : Type 0} → ℕ → (List ℕ → Option (X × List �
 optional t read [] = Some (None, [])
 optional t read (found ∷ bytes) = if nat_eq found t then (read (found ∷ bytes) >>= λ x. Some (Some x.0, x.1)) else Some (None, found ∷ bytes)
 
--- ---- contents
+-- a value, or nothing
+abbrev pub Optional : {V : Type 0} → (V → List ℕ → Type 0) → Option V → List ℕ → Type 0
+Optional spells None text = text ≡ []
+Optional spells (Some v) text = spells v text
 
--- BOOLEAN
-abbrev pub bool_of : List ℕ → Option Bool
-bool_of [] = None
-bool_of (n ∷ []) = if nat_eq n 0xFF then Some true else if nat_eq n 0x00 then Some false else None
-bool_of (n ∷ m ∷ bytes) = None
+-- every spelling of these values begins with this tag
+abbrev pub BeginWith : {V : Type 0} → ℕ → (V → List ℕ → Type 0) → Type 0
+BeginWith {V} tag spells = (v : V) (text : List ℕ) → spells v text → (tail : List ℕ) × (text ≡ tag ∷ tail)
 
-unfoldable pub bool_at : List ℕ → Option (Bool × List ℕ)
-bool_at = content 0x01 bool_of
+-- ---- a reading function and a spelling
 
--- OBJECT IDENTIFIER: whole subidentifiers, behind one that has ended or has not
-abbrev pub ends_oid : Bool → List ℕ → Bool
-ends_oid ended [] = ended
-ends_oid ended (n ∷ id) = not (ended && nat_eq n 128) && ends_oid (nat_lt n 128) id
+-- what is read is spelled so, and what is spelled so is read, where such octets follow
+pub record ReadsBefore {V : Type 0} (follows : List ℕ → Type 0) (read : List ℕ → Option (V × List ℕ)) (spells : V → List ℕ → Type 0) : Type 0 where
+  pub takes : (octets : List ℕ) (v : V) (rest : List ℕ) → AreOctets octets → read octets ≡ Some (v, rest) → Begins spells octets v rest
+  pub again : (v : V) (text rest : List ℕ) → spells v text → follows rest → read (text ++ rest) ≡ Some (v, rest)
 
-abbrev pub is_oid : List ℕ → Bool
-is_oid [] = false
-is_oid (n ∷ id) = ends_oid true (n ∷ id)
+abbrev pub Anything : List ℕ → Type 0
+Anything rest = Unit {0}
 
-abbrev pub oid_of : List ℕ → Option (List ℕ)
-oid_of id = if is_oid id then Some id else None
+-- the same whatever follows
+pub record Reads {V : Type 0} (read : List ℕ → Option (V × List ℕ)) (spells : V → List ℕ → Type 0) : Type 0 where
+  pub takes : (octets : List ℕ) (v : V) (rest : List ℕ) → AreOctets octets → read octets ≡ Some (v, rest) → Begins spells octets v rest
+  pub again : (v : V) (text rest : List ℕ) → spells v text → read (text ++ rest) ≡ Some (v, rest)
 
-unfoldable pub oid_at : List ℕ → Option (List ℕ × List ℕ)
-oid_at = content 0x06 oid_of
+-- the same of whole octets
+pub record ReadsWhole {V : Type 0} (read : List ℕ → Option V) (spells : V → List ℕ → Type 0) : Type 0 where
+  pub takes : (octets : List ℕ) (v : V) → AreOctets octets → read octets ≡ Some v → spells v octets
+  pub again : (v : V) (octets : List ℕ) → spells v octets → read octets ≡ Some v
+
+-- the same of a value that may be absent
+pub record ReadsOrAbsent {V : Type 0} (tag : ℕ) (read : List ℕ → Option (V × List ℕ)) (spells : V → List ℕ → Type 0) : Type 0 where
+  pub takes : (octets : List ℕ) (v : V) (rest : List ℕ) → AreOctets octets → read octets ≡ Some (v, rest) → BeginsOrAbsent tag spells octets v rest
+  pub again : (octets : List ℕ) (v : V) (rest : List ℕ) → BeginsOrAbsent tag spells octets v rest → read octets ≡ Some (v, rest)

@@ -1,25 +1,30 @@
--- Values one after the other, to the end.
-use Rattle.std.specs.Prelude.{◌≡◌, ℕ, ◌<◌, suc, zero, List, [], ◌∷◌, ◌++◌, length, Option, Some, None}
-use Rattle.rpki_der.specs.Reading.{◌>>=◌}
+-- Values one after the other, to the end, and one or the first among them.
+use Rattle.std.specs.List.{AllByRecursion}
+use Rattle.std.specs.Prelude.{◌≡◌, ℕ, List, [], ◌∷◌, ◌++◌, Option, Some, None}
+pub mod Reading
 
 -- the text is the spellings of these values, one after the other
 abbrev pub IsRow : {V : Type 0} → (V → List ℕ → Type 0) → List V → List ℕ → Type 0
 IsRow spells [] text = text ≡ []
 IsRow spells (v ∷ vs) text = (a : List ℕ) × (b : List ℕ) × spells v a × IsRow spells vs b × (text ≡ a ++ b)
 
--- at most n values, and nothing after them
-abbrev pub row_at : {V : Type 0} → (List ℕ → Option (V × List ℕ)) → ℕ → List ℕ → Option (List V)
-row_at read n [] = Some []
-row_at read zero (b ∷ bytes) = None
-row_at read (suc n) (b ∷ bytes) = do
-  v ← read (b ∷ bytes)
-  vs ← row_at read n v.1
-  Some (v.0 ∷ vs)
+-- ---- one of the values
 
--- the row that the octets are
-unfoldable pub row_of : {V : Type 0} → (List ℕ → Option (V × List ℕ)) → List ℕ → Option (List V)
-row_of read octets = row_at read (length octets) octets
+-- x is the first element of xs with P: those before it are without
+pub record IsFirstWith {X : Type 0} (P : X → Type 0) (x : X) (xs : List X) : Type 0 where
+  pub before : List X
+  pub after : List X
+  pub is : xs ≡ before ++ x ∷ after
+  pub has : P x
+  pub none_before : AllByRecursion (λ y. P y → ⊥) before
 
--- what is left after a value is less
-abbrev pub Shrinks : {V : Type 0} → (List ℕ → Option (V × List ℕ)) → Type 0
-Shrinks {V} read = (octets : List ℕ) (v : V) (rest : List ℕ) → read octets ≡ Some (v, rest) → length rest < length octets
+-- What the first of the xs of which P says something gives; None where P says nothing of any
+abbrev pub IsFirstOf : {X V : Type 0} → (X → V → Type 0) → Option V → List X → Type 0
+IsFirstOf {X} {V} P None xs = AllByRecursion (λ x. (v : V) → P x v → ⊥) xs
+IsFirstOf {X} {V} P (Some v) xs = (x : X) × IsFirstWith (λ y. (w : V) × P y w) x xs × P x v
+
+-- there is none and v is None, or there is one and tells v
+abbrev pub IsAtMostOne : {X V : Type 0} → (X → V → Type 0) → List X → Option V → Type 0
+IsAtMostOne P [] v = v ≡ None
+IsAtMostOne {X} {V} P (x ∷ []) v = (w : V) × P x w × (v ≡ Some w)
+IsAtMostOne P (x ∷ y ∷ more) v = ⊥

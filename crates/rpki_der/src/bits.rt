@@ -1,10 +1,14 @@
+//! BIT STRING.
 ghost use Rattle.std.specs.Prelude.{◌≡◌, IfOk};
-ghost use Rattle.rpki_der.specs.Place.{Place, left, IsWithin, Keeps, Took, Answers};
-ghost use Rattle.rpki_der.specs.Primitives.{IsBits, has_zero_bits, bits_at};
+ghost use Rattle.rpki_der.specs.Place.{Place, left, IsWithin, Keeps, AnswersBy};
+ghost use Rattle.rpki_der.specs.Place.Reading.{TookBy};
+ghost use Rattle.rpki_der.specs.Primitives.{IsBits};
+ghost use Rattle.rpki_der.specs.Primitives.Reading.{has_zero_bits, bits_at};
 ghost use Rattle.rpki_der.specs.Values.{AreOctets};
 
 use crate::cursor::Cursor;
 use crate::error::DecodeError;
+use crate::tag;
 
 // Whether as many bits as are unused are 0 at the end, and none are unused where there is no octet.
 fn has_zero_bits(unused: u8, octets: &[u8]) -> bool
@@ -18,15 +22,15 @@ fn has_zero_bits(unused: u8, octets: &[u8]) -> bool
 
 impl<'a> Cursor<'a> {
     // The next BIT STRING, by the reading function.
-    #[tactic(auto, unfolding(crate::specs::Primitives::bits_at))]
+    #[tactic(auto, unfolding(crate::specs::Primitives::Reading::bits_at))]
     fn next_bits(&mut self) -> Result<(u8, Cursor<'a>), DecodeError>
-        ensures reads { Took (λ x. (x.0, left x.1)) bits_at self.old result self.new }
+        ensures reads { TookBy (λ x. (x.0, left x.1)) bits_at self.old result self.new }
         ensures keeps { Keeps result self.old self.new }
         ensures inside { IfOk result (λ x. IsWithin x.1 self.old) }
         ensures octets { AreOctets (left self.old) }
     {
         let mut ahead = self.fork();
-        let mut octets = ahead.take_value(0x03)?;
+        let mut octets = ahead.take_value(tag::BIT_STRING)?;
         let unused = match octets.rest() {
             [unused, bits @ ..] if has_zero_bits(*unused, bits) => *unused,
             _ => return Err(DecodeError::BadValue),
@@ -39,8 +43,8 @@ impl<'a> Cursor<'a> {
     /// How many bits are unused at the end of the BIT STRING that must stand next, and a cursor over its octets (X.690 8.6). The
     /// unused bits are 0 (X.690 11.2.1).
     pub fn take_bits(&mut self) -> Result<(u8, Cursor<'a>), DecodeError>
-        ensures answers { Answers (λ x. (x.0, left x.1)) IsBits self.old result self.new }
-        ensures reads { Took (λ x. (x.0, left x.1)) bits_at self.old result self.new }
+        ensures answers { AnswersBy (λ x. (x.0, left x.1)) IsBits self.old result self.new }
+        ensures reads { TookBy (λ x. (x.0, left x.1)) bits_at self.old result self.new }
         ensures keeps { Keeps result self.old self.new }
         ensures inside { IfOk result (λ x. IsWithin x.1 self.old) }
     {

@@ -1,12 +1,17 @@
+//! A cursor over shared octets.
 ghost use Rattle.std.specs.Prelude.{◌≡◌, ℕ, ◌≤◌, ◌-◌, List, [], length, take, drop, slice_range, IfOk, IfSome, IfErr, IsOk, IsTrue, ◌↔◌, option_map};
-ghost use Rattle.rpki_der.specs.Place.{Place, left, IsWithin, MovesOn, Keeps, Took, Answers, AnswersOptional};
-ghost use Rattle.rpki_der.specs.Reading.{value_at, optional};
+ghost use Rattle.rpki_der.specs.Place.{Place, left, IsWithin, MovesOn, Keeps, AnswersBy, AnswersOptionalBy};
+ghost use Rattle.rpki_der.specs.Place.Reading.{TookBy};
+ghost use Rattle.rpki_der.specs.Reading.{optional};
+ghost use Rattle.rpki_der.specs.Values.Reading.{value_at};
+ghost use Rattle.rpki_der.specs.Tags.{SEQUENCE};
 ghost use Rattle.rpki_der.specs.Values.{AreOctets, IsEnc};
 ghost use Rattle.rpki_der.specs.declared.error.DecodeError.TheVariants.{Trailing, Memory};
 
 use crate::error::DecodeError;
 use crate::header::value_of;
 use crate::piece::Piece;
+use crate::tag;
 use bytes::Bytes;
 use std::marker::Model;
 
@@ -29,7 +34,8 @@ impl<'a> Model for Cursor<'a> {
 impl<'a> Cursor<'a> {
     /// A cursor over all of the source.
     pub fn new(source: &'a Bytes) -> Cursor<'a>
-        ensures whole { result ≡ record { source = source.now; from = 0; to = length source.now } }
+        ensures whole { result
+            ≡ record { source = source.now; from = 0; to = length source.now } }
         ensures all { left result ≡ source.now }
     {
         Cursor {
@@ -44,6 +50,7 @@ impl<'a> Cursor<'a> {
         ensures same { result ≡ self.now }
         ensures octets { AreOctets (left self.now) }
     {
+        // For the proof only: what is left are octets.
         let _octets = self.rest();
         Cursor {
             source: self.source,
@@ -102,7 +109,8 @@ impl<'a> Cursor<'a> {
     // A cursor over the octets from here to a later place.
     pub(crate) fn until(&self, later: &Cursor<'a>) -> Cursor<'a>
         requires { MovesOn self.now later.now }
-        ensures { left result ≡ take (length (left self.now) - length (left later.now)) (left self.now) }
+        ensures { left result
+            ≡ take (length (left self.now) - length (left later.now)) (left self.now) }
     {
         Cursor {
             source: self.source,
@@ -113,7 +121,7 @@ impl<'a> Cursor<'a> {
 
     // The next value, by the reading function.
     fn next_value(&mut self, tag: u8) -> Result<Cursor<'a>, DecodeError>
-        ensures reads { Took left (value_at tag) self.old result self.new }
+        ensures reads { TookBy left (value_at tag) self.old result self.new }
         ensures keeps { Keeps result self.old self.new }
         ensures inside { IfOk result (λ c. IsWithin c self.old) }
         ensures octets { AreOctets (left self.old) }
@@ -132,8 +140,8 @@ impl<'a> Cursor<'a> {
 
     /// A cursor over the content of the next value, which must have this identifier octet (X.690 8.1, 10.1).
     pub fn take_value(&mut self, tag: u8) -> Result<Cursor<'a>, DecodeError>
-        ensures answers { Answers left (IsEnc tag) self.old result self.new }
-        ensures reads { Took left (value_at tag) self.old result self.new }
+        ensures answers { AnswersBy left (IsEnc tag) self.old result self.new }
+        ensures reads { TookBy left (value_at tag) self.old result self.new }
         ensures keeps { Keeps result self.old self.new }
         ensures inside { IfOk result (λ c. IsWithin c self.old) }
     {
@@ -142,8 +150,9 @@ impl<'a> Cursor<'a> {
 
     /// The same where the next value has this identifier octet, else `None`: at the end, or before another one.
     pub fn take_opt_value(&mut self, tag: u8) -> Result<Option<Cursor<'a>>, DecodeError>
-        ensures answers { AnswersOptional left tag (IsEnc tag) self.old result self.new }
-        ensures reads { Took (option_map left) (optional tag (value_at tag)) self.old result self.new }
+        ensures answers { AnswersOptionalBy left tag (IsEnc tag) self.old result self.new }
+        ensures reads { let reading = optional tag (value_at tag) in
+            TookBy (option_map left) reading self.old result self.new }
         ensures keeps { Keeps result self.old self.new }
         ensures inside { IfOk result (λ o. IfSome o (λ c. IsWithin c self.old)) }
     {
@@ -155,22 +164,24 @@ impl<'a> Cursor<'a> {
 
     /// A cursor over the content of the SEQUENCE that must stand next.
     pub fn take_sequence(&mut self) -> Result<Cursor<'a>, DecodeError>
-        ensures answers { Answers left (IsEnc 0x30) self.old result self.new }
-        ensures reads { Took left (value_at 0x30) self.old result self.new }
+        ensures answers { AnswersBy left (IsEnc SEQUENCE) self.old result self.new }
+        ensures reads { TookBy left (value_at SEQUENCE) self.old result self.new }
         ensures keeps { Keeps result self.old self.new }
         ensures inside { IfOk result (λ c. IsWithin c self.old) }
     {
-        self.take_value(0x30)
+        self.take_value(tag::SEQUENCE)
     }
 
     /// The same where a SEQUENCE stands next, else `None`.
     pub fn take_opt_sequence(&mut self) -> Result<Option<Cursor<'a>>, DecodeError>
-        ensures answers { AnswersOptional left 0x30 (IsEnc 0x30) self.old result self.new }
-        ensures reads { Took (option_map left) (optional 0x30 (value_at 0x30)) self.old result self.new }
+        ensures answers { let spells = IsEnc SEQUENCE in
+            AnswersOptionalBy left SEQUENCE spells self.old result self.new }
+        ensures reads { let reading = optional SEQUENCE (value_at SEQUENCE) in
+            TookBy (option_map left) reading self.old result self.new }
         ensures keeps { Keeps result self.old self.new }
         ensures inside { IfOk result (λ o. IfSome o (λ c. IsWithin c self.old)) }
     {
-        self.take_opt_value(0x30)
+        self.take_opt_value(tag::SEQUENCE)
     }
 
     /// All that is left, kept. The cursor then stands at the end; the only error is `Memory`.

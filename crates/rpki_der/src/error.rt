@@ -1,3 +1,4 @@
+//! Errors of reading and of writing.
 use crate::oid::Oid;
 use std::alloc::AllocError;
 use thiserror::Error;

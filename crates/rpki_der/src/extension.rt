@@ -1,12 +1,19 @@
-ghost use Rattle.std.specs.Prelude.{◌≡◌, ◌+◌, ◌^◌, ◌≤◌, ◌<◌, ◌↔◌, [], ◌∷◌, ◌++◌, length, take, MatchOption, OnOk, OnErr, IsErrOf};
+//! Extensions, read and appended to vectors.
+ghost use Rattle.std.specs.Prelude.{◌≡◌, ◌+◌, ◌^◌, ◌≤◌, ◌<◌, ◌++◌, length, take, MatchOption, OnOk, OnErr};
 ghost use Rattle.std.specs.List.{concat};
-ghost use Rattle.rpki_der.specs.Contents.{IsOid};
-ghost use Rattle.rpki_der.specs.Values.{length_octets, enc};
-ghost use Rattle.rpki_der.specs.Writing.{bool_or_false, sequence};
-ghost use Rattle.rpki_der.specs.WrittenPrimitives.{extension_pieces, extension};
+ghost use Rattle.rpki_der.specs.Primitives.{IsOid, bool_or_false};
+ghost use Rattle.rpki_der.specs.Extensions.Reading.{extension_at};
+ghost use Rattle.rpki_der.specs.Extensions.Views.{extension_view};
+ghost use Rattle.rpki_der.specs.Place.{Place, left, Keeps, AnswersBy};
+ghost use Rattle.rpki_der.specs.Place.Reading.{TookBy};
+ghost use Rattle.rpki_der.specs.Values.{AreOctets, length_octets, sequence};
+ghost use Rattle.rpki_der.specs.Extensions.{IsExtension, extension_part, pieces_with};
+ghost use Rattle.rpki_der.specs.Writers.{WritesOrTooLong};
 
-use crate::error::EncodeError;
+use crate::cursor::Cursor;
+use crate::error::{DecodeError, EncodeError};
 use crate::put::{MAX_LEN, append_value, put_length};
+use crate::tag;
 use std::alloc::AllocError;
 
 // The BOOLEAN where it is true.
@@ -14,7 +21,11 @@ fn flag_octets(critical: bool) -> &'static [u8]
     ensures octets { result.now ≡ bool_or_false critical }
     ensures short { length result.now ≤ 3 }
 {
-    if critical { &[0x01, 0x01, 0xFF] } else { &[] }
+    if critical {
+        &[tag::BOOLEAN, 0x01, 0xFF]
+    } else {
+        &[]
+    }
 }
 
 // How many octets a value has whose content has this many.
@@ -36,7 +47,7 @@ fn value_len(len: usize) -> usize
 // How many octets the identifier, the flag and the content have together, if each content has fewer than 2^32 and they too.
 fn pieces_len(id: &[u8], flag: &[u8], content: &[u8]) -> Option<u32>
     requires { length flag.now ≤ 3 }
-    ensures { let pieces = concat (enc 6 id.now ∷ flag.now ∷ enc 4 content.now ∷ []) in
+    ensures { let pieces = concat (pieces_with id.now flag.now content.now) in
         MatchOption result (2 ^ 32 ≤ length pieces) (λ len. len ≡ length pieces) }
 {
     if id.len() > MAX_LEN || content.len() > MAX_LEN {
@@ -57,15 +68,16 @@ fn append_extension(
     flag: &[u8],
     content: &[u8],
 ) -> Result<(), AllocError>
-    requires { len ≡ length (concat (enc 6 id.now ∷ flag.now ∷ enc 4 content.now ∷ [])) }
-    ensures ok { OnOk result (out.new.items ≡ out.old.items ++ sequence (enc 6 id.now ∷ flag.now ∷ enc 4 content.now ∷ [])) }
+    requires { len ≡ length (concat (pieces_with id.now flag.now content.now)) }
+    ensures ok { let pieces = pieces_with id.now flag.now content.now in
+        OnOk result (out.new.items ≡ out.old.items ++ sequence pieces) }
     ensures err { OnErr result (take (length out.old.items) out.new.items ≡ out.old.items) }
 {
-    out.push(0x30)?;
+    out.push(tag::SEQUENCE)?;
     put_length(out, len)?;
-    append_value(out, 0x06, &[], id)?;
+    append_value(out, tag::OBJECT_IDENTIFIER, &[], id)?;
     out.extend_from_slice(flag)?;
-    append_value(out, 0x04, &[], content)
+    append_value(out, tag::OCTET_STRING, &[], content)
 }
 
 /// Appends the extension with this identifier, flag and content (RFC 5280 4.1): the flag only where it is true (X.690 11.5).
@@ -77,9 +89,8 @@ pub fn put_extension(
     content: &[u8],
 ) -> Result<(), EncodeError>
     requires { IsOid id.now }
-    ensures ok { OnOk result (out.new.items ≡ out.old.items ++ extension id.now critical content.now) }
-    ensures err { OnErr result (out.new.items ≡ out.old.items) }
-    ensures too_long { IsErrOf result EncodeError.TooLong ↔ (2 ^ 32 ≤ length (concat (extension_pieces id.now critical content.now))) }
+    ensures { WritesOrTooLong (extension_part id.now critical content.now)
+        out.old.items result out.new.items }
 {
     let flag = flag_octets(critical);
     let Some(len) = pieces_len(id, flag, content) else {
@@ -91,4 +102,32 @@ pub fn put_extension(
         return Err(EncodeError::from(error));
     }
     Ok(())
+}
+
+// The same, by the reading function.
+#[tactic(auto, unfolding(crate::specs::Extensions::Reading::extension_at))]
+fn read<'a>(cursor: &mut Cursor<'a>) -> Result<(&'a [u8], bool, Cursor<'a>), DecodeError>
+    ensures reads { TookBy extension_view extension_at cursor.old result cursor.new }
+    ensures keeps { Keeps result cursor.old cursor.new }
+    ensures octets { AreOctets (left cursor.old) }
+{
+    let mut ahead = cursor.fork();
+    let mut inner = ahead.take_sequence()?;
+    let identifier = inner.take_oid()?;
+    let critical = inner.take_bool_or_false()?;
+    let content = inner.take_value(tag::OCTET_STRING)?;
+    inner.finish()?;
+    *cursor = ahead;
+    Ok((identifier, critical, content))
+}
+
+/// The identifier, the critical flag and the content of the extension that stands next (RFC 5280 4.1.2.9).
+pub fn take_extension<'a>(
+    cursor: &mut Cursor<'a>,
+) -> Result<(&'a [u8], bool, Cursor<'a>), DecodeError>
+    ensures answers { AnswersBy extension_view IsExtension cursor.old result cursor.new }
+    ensures reads { TookBy extension_view extension_at cursor.old result cursor.new }
+    ensures keeps { Keeps result cursor.old cursor.new }
+{
+    read(cursor)
 }

@@ -1,13 +1,13 @@
 //! Identifier and length octets.
 ghost use Rattle.std.specs.Prelude.{◌≡◌, ◌+◌, ◌<◌, List, length, Ok, IfOk};
-ghost use Rattle.rpki_der.specs.Place.{Gives};
-ghost use Rattle.rpki_der.specs.Reading.{length_at, value_at};
+ghost use Rattle.rpki_der.specs.Place.Reading.{ReturnsBy};
+ghost use Rattle.rpki_der.specs.Values.Reading.{length_at, value_at};
 
 use crate::error::DecodeError;
 
 /// The length that stands at the front, and what follows it.
 fn length_of(bytes: &[u8]) -> Result<(usize, &[u8]), DecodeError>
-    ensures { Gives (λ x. (x.0, x.1.now)) result (length_at bytes.now) }
+    ensures { ReturnsBy (λ x. (x.0, x.1.now)) result (length_at bytes.now) }
 {
     match bytes {
         [] => Err(DecodeError::Truncated),
@@ -49,9 +49,9 @@ fn length_of(bytes: &[u8]) -> Result<(usize, &[u8]), DecodeError>
 }
 
 /// The content of the value that stands at the front, if it has this tag, and what follows it.
-#[tactic(auto, unfolding(crate::specs::Reading::value_at))]
+#[tactic(auto, unfolding(crate::specs::Values::Reading::value_at))]
 pub fn value_of(tag: u8, bytes: &[u8]) -> Result<(&[u8], &[u8]), DecodeError>
-    ensures reads { Gives (λ x. (x.0.now, x.1.now)) result (value_at tag bytes.now) }
+    ensures reads { ReturnsBy (λ x. (x.0.now, x.1.now)) result (value_at tag bytes.now) }
     ensures shorter { IfOk result (λ x. length x.0.now + length x.1.now < length bytes.now) }
 {
     let [found, rest @ ..] = bytes else {

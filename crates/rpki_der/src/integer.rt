@@ -1,12 +1,15 @@
+//! INTEGER of a number that is not negative.
 ghost use Rattle.std.specs.Prelude.{◌≡◌, ◌^◌, ◌≤◌, ◌++◌, length};
 ghost use Rattle.std.specs.Int.Digits.{digits_of, number_from_digits};
-ghost use Rattle.rpki_der.specs.Place.{Place, left, Keeps, Took, Gives, Answers};
-ghost use Rattle.rpki_der.specs.Primitives.{IsU32, is_unsigned, number_below, u32_at};
+ghost use Rattle.rpki_der.specs.Place.{Place, left, Keeps, Answers};
+ghost use Rattle.rpki_der.specs.Place.Reading.{Took, Returns};
+ghost use Rattle.rpki_der.specs.Primitives.{IsU32, unsigned};
+ghost use Rattle.rpki_der.specs.Primitives.Reading.{is_unsigned, number_below, u32_at};
 ghost use Rattle.rpki_der.specs.Values.{AreOctets};
-ghost use Rattle.rpki_der.specs.Writing.{unsigned};
 
 use crate::cursor::Cursor;
 use crate::error::DecodeError;
+use crate::tag;
 
 // Whether these are the content of an INTEGER that is not negative.
 pub(crate) fn is_unsigned(content: &[u8]) -> bool
@@ -20,7 +23,7 @@ pub(crate) fn is_unsigned(content: &[u8]) -> bool
 
 // The number of a whole content.
 fn u32_in(content: &[u8]) -> Result<u32, DecodeError>
-    ensures { Gives (λ n. n) result (number_below (2 ^ 32) content.now) }
+    ensures { Returns result (number_below (2 ^ 32) content.now) }
 {
     if !is_unsigned(content) {
         return Err(DecodeError::BadValue);
@@ -59,14 +62,14 @@ pub(crate) fn sign(digits: &[u8]) -> &'static [u8]
 
 impl<'a> Cursor<'a> {
     // The next INTEGER, by the reading function.
-    #[tactic(auto, unfolding(crate::specs::Primitives::u32_at))]
+    #[tactic(auto, unfolding(crate::specs::Primitives::Reading::u32_at))]
     fn next_u32(&mut self) -> Result<u32, DecodeError>
-        ensures reads { Took (λ n. n) u32_at self.old result self.new }
+        ensures reads { Took u32_at self.old result self.new }
         ensures keeps { Keeps result self.old self.new }
         ensures octets { AreOctets (left self.old) }
     {
         let mut ahead = self.fork();
-        let content = ahead.take_value(0x02)?;
+        let content = ahead.take_value(tag::INTEGER)?;
         let number = u32_in(content.rest())?;
         *self = ahead;
         Ok(number)
@@ -74,8 +77,8 @@ impl<'a> Cursor<'a> {
 
     /// The INTEGER from 0 to 2^32 - 1 that must stand next (X.690 8.3).
     pub fn take_u32(&mut self) -> Result<u32, DecodeError>
-        ensures answers { Answers (λ n. n) IsU32 self.old result self.new }
-        ensures reads { Took (λ n. n) u32_at self.old result self.new }
+        ensures answers { Answers IsU32 self.old result self.new }
+        ensures reads { Took u32_at self.old result self.new }
         ensures keeps { Keeps result self.old self.new }
     {
         self.next_u32()

@@ -3,21 +3,22 @@
 ghost use Rattle.std.specs.Prelude.{◌≡◌, ℕ, ◌^◌, ◌<◌, ◌≤◌, List, ◌++◌};
 ghost use Rattle.std.specs.List.{AllByRecursion, concat};
 ghost use Rattle.rpki_der.specs.Values.{IsValue, IsUnambiguous};
-ghost use Rattle.rpki_der.specs.Contents.{IsObjectIdentifier};
+ghost use Rattle.rpki_der.specs.Primitives.{IsObjectIdentifier, number};
 ghost use Rattle.rpki_der.specs.Serials.{IsSerial};
 ghost use Rattle.rpki_der.specs.Skipping.{IsSkippableWithin};
 ghost use Rattle.rpki_der.specs.Spelling.{Begins};
-ghost use Rattle.rpki_der.specs.Times.{Moment, IsMoment, IsTime, second_number};
-ghost use Rattle.rpki_der.specs.Writing.{number, time};
+ghost use Rattle.rpki_der.specs.Times.{Moment, IsMoment, IsTime, second_number, time};
 
 /// No value is a proper beginning of another (X.690 8.1, 10.1).
 pub fn one_value()
-    ensures { (a b x y : List ℕ) → IsValue a → IsValue b → a ++ x ≡ b ++ y → (a ≡ b) × (x ≡ y) }
+    ensures { (a b x y : List ℕ) → IsValue a → IsValue b
+        → a ++ x ≡ b ++ y → (a ≡ b) × (x ≡ y) }
 {}
 
 /// A row of values splits in one way.
 pub fn one_row()
-    ensures { (vs ws : List (List ℕ)) → AllByRecursion IsValue vs → AllByRecursion IsValue ws → concat vs ≡ concat ws → vs ≡ ws }
+    ensures { (vs ws : List (List ℕ)) → AllByRecursion IsValue vs → AllByRecursion IsValue ws
+        → concat vs ≡ concat ws → vs ≡ ws }
 {}
 
 /// A string begins with at most one serial, time or identifier, and each spelling is of one.
@@ -29,22 +30,28 @@ pub fn one_field()
 
 /// What is written of a serial is read as that serial and no other, whatever follows it.
 pub fn serial_again()
-    ensures read { (n : ℕ) (rest : List ℕ) → n < 2 ^ 160 → Begins IsSerial (number n ++ rest) n rest }
-    ensures alone { (n m : ℕ) (rest tail : List ℕ) → n < 2 ^ 160 → Begins IsSerial (number n ++ rest) m tail → (m ≡ n) × (tail ≡ rest) }
+    ensures read { (n : ℕ) (rest : List ℕ) → n < 2 ^ 160
+        → Begins IsSerial (number n ++ rest) n rest }
+    ensures alone { (n m : ℕ) (rest tail : List ℕ) → n < 2 ^ 160
+        → Begins IsSerial (number n ++ rest) m tail → (m ≡ n) × (tail ≡ rest) }
 {}
 
 /// What is written of a time is read as that time and no other, whatever follows it.
 pub fn time_again()
-    ensures read { (m : Moment) (rest : List ℕ) → IsMoment m → Begins IsTime (time m ++ rest) m rest }
-    ensures alone { (m n : Moment) (rest tail : List ℕ) → IsMoment m → Begins IsTime (time m ++ rest) n tail → (n ≡ m) × (tail ≡ rest) }
+    ensures read { (m : Moment) (rest : List ℕ) → IsMoment m
+        → Begins IsTime (time m ++ rest) m rest }
+    ensures alone { (m n : Moment) (rest tail : List ℕ) → IsMoment m
+        → Begins IsTime (time m ++ rest) n tail → (n ≡ m) × (tail ≡ rest) }
 {}
 
 /// Times that are equal, so with one number of seconds, are one.
 pub fn one_moment()
-    ensures { (m n : Moment) → IsMoment m → IsMoment n → second_number m ≡ second_number n → m ≡ n }
+    ensures { (m n : Moment) → IsMoment m → IsMoment n
+        → second_number m ≡ second_number n → m ≡ n }
 {}
 
 /// What may be skipped under one bound of depth may be skipped under a greater one.
 pub fn deeper()
-    ensures { (d e : ℕ) (b : List ℕ) → d ≤ e → IsSkippableWithin d b → IsSkippableWithin e b }
+    ensures { (d e : ℕ) (b : List ℕ) → d ≤ e
+        → IsSkippableWithin d b → IsSkippableWithin e b }
 {}

@@ -15,13 +15,14 @@ mod put;
 mod serial;
 mod simple;
 mod skip;
+pub mod tag;
 mod time;
 
 pub use cursor::Cursor;
 pub use error::{DecodeError, EncodeError, Field};
-pub use extension::put_extension;
+pub use extension::{put_extension, take_extension};
 pub use oid::Oid;
 pub use piece::Piece;
-pub use put::{put_bits, put_bool, put_oid, put_parts, put_unsigned, put_value};
+pub use put::{MAX_LEN, put_bits, put_bool, put_oid, put_parts, put_unsigned, put_value};
 pub use serial::Serial;
 pub use time::Time;

@@ -2,15 +2,17 @@
 ghost use Rattle.std.specs.Prelude.{◌≡◌, List, ℕ, IfOk, IfErr, IsOk, ◌↔◌, bytes_eq};
 ghost use Rattle.std.proofs.Common.{rules};
 ghost use Rattle.std.specs.Cmp.Rules.{comparing};
-ghost use Rattle.rpki_der.specs.Contents.{IsOid, IsObjectIdentifier};
-ghost use Rattle.rpki_der.specs.Place.{Place, left, Keeps, Took, Answers};
-ghost use Rattle.rpki_der.specs.Reading.{is_oid, oid_at};
+ghost use Rattle.rpki_der.specs.Primitives.{IsOid, IsObjectIdentifier};
+ghost use Rattle.rpki_der.specs.Place.{Place, left, Keeps, AnswersBy};
+ghost use Rattle.rpki_der.specs.Place.Reading.{TookBy};
+ghost use Rattle.rpki_der.specs.Primitives.Reading.{is_oid, oid_at};
 ghost use Rattle.rpki_der.specs.Values.{AreOctets};
 ghost use Rattle.rpki_der.specs.declared.error.DecodeError.TheVariants.{BadValue};
 
 use crate::cursor::Cursor;
 use crate::error::DecodeError;
 use crate::piece::Piece;
+use crate::tag;
 use bytes::Bytes;
 use std::alloc::AllocError;
 use std::fmt;
@@ -75,7 +77,7 @@ pub struct Oid {
 
 impl Model for Oid {
     ghost use Rattle.std.specs.Prelude.{◌≡◌, List, ℕ, true};
-    ghost use Rattle.rpki_der.specs.Reading.{is_oid};
+    ghost use Rattle.rpki_der.specs.Primitives.Reading.{is_oid};
 
     ghost Value = { List ℕ };
 
@@ -142,14 +144,14 @@ impl Oid {
 
 impl<'a> Cursor<'a> {
     // The content of the next OBJECT IDENTIFIER, by the reading function.
-    #[tactic(auto, unfolding(crate::specs::Reading::oid_at))]
+    #[tactic(auto, unfolding(crate::specs::Primitives::Reading::oid_at))]
     fn next_oid(&mut self) -> Result<&'a [u8], DecodeError>
-        ensures reads { Took (λ id. id.now) oid_at self.old result self.new }
+        ensures reads { TookBy (λ id. id.now) oid_at self.old result self.new }
         ensures keeps { Keeps result self.old self.new }
         ensures octets { AreOctets (left self.old) }
     {
         let mut ahead = self.fork();
-        let content = ahead.take_value(0x06)?.rest();
+        let content = ahead.take_value(tag::OBJECT_IDENTIFIER)?.rest();
         if !is_oid(content) {
             return Err(DecodeError::BadValue);
         }
@@ -159,8 +161,8 @@ impl<'a> Cursor<'a> {
 
     /// The content octets of the OBJECT IDENTIFIER that must stand next (X.690 8.19).
     pub fn take_oid(&mut self) -> Result<&'a [u8], DecodeError>
-        ensures answers { Answers (λ id. id.now) IsObjectIdentifier self.old result self.new }
-        ensures reads { Took (λ id. id.now) oid_at self.old result self.new }
+        ensures answers { AnswersBy (λ id. id.now) IsObjectIdentifier self.old result self.new }
+        ensures reads { TookBy (λ id. id.now) oid_at self.old result self.new }
         ensures keeps { Keeps result self.old self.new }
     {
         self.next_oid()

@@ -1,3 +1,4 @@
+//! Octets that are kept.
 ghost use Rattle.std.specs.Prelude.{◌≡◌, List, ℕ, length, IfOk, bytes_eq};
 ghost use Rattle.std.proofs.Common.{rules};
 ghost use Rattle.std.specs.Cmp.Rules.{comparing};
@@ -45,6 +46,7 @@ impl Piece {
         ensures octets { AreOctets self.now }
     {
         let cursor = Cursor::new(&self.octets);
+        // For the proof only: what is left are octets.
         let _octets = cursor.rest();
         cursor
     }

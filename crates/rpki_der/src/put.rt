@@ -1,17 +1,18 @@
 //! Values appended to vectors.
 ghost use Rattle.std.specs.Prelude.{◌≡◌, ◌+◌, ◌%◌, ◌^◌, ◌<◌, ◌≤◌, ◌↔◌, [], ◌∷◌, ◌++◌, length, take, OnOk, OnErr, IfErr, IsErrOf};
-ghost use Rattle.std.specs.Int.Digits.{digits_of, number_from_digits};
-ghost use Rattle.rpki_der.specs.Contents.{IsOid};
+ghost use Rattle.std.specs.Int.Digits.{number_from_digits};
+ghost use Rattle.rpki_der.specs.Primitives.{IsOid, boolean};
+ghost use Rattle.rpki_der.specs.Tags.{BIT_STRING, OBJECT_IDENTIFIER};
 ghost use Rattle.rpki_der.specs.Values.{length_octets, enc};
-ghost use Rattle.rpki_der.specs.Writing.{unsigned, number};
-ghost use Rattle.rpki_der.specs.WrittenPrimitives.{boolean};
+ghost use Rattle.rpki_der.specs.Writers.{WritesOrTooLong, value, number_part};
 
 use crate::error::EncodeError;
 use crate::integer::{sign, significant};
+use crate::tag;
 use std::alloc::AllocError;
 
-// The greatest length of a content (own).
-pub(crate) const MAX_LEN: usize = 0xFFFF_FFFF;
+/// The greatest length of a content (own).
+pub const MAX_LEN: usize = 0xFFFF_FFFF;
 
 // The shortest length octets.
 pub(crate) fn put_length(out: &mut Vec<u8>, len: u32) -> Result<(), AllocError>
@@ -55,9 +56,8 @@ pub(crate) fn append_value(
 /// they have 2^32 octets or more together.
 pub fn put_parts(out: &mut Vec<u8>, tag: u8, head: &[u8], tail: &[u8]) -> Result<(), EncodeError>
     requires { tag % 32 < 31 }
-    ensures ok { OnOk result (out.new.items ≡ out.old.items ++ enc tag (head.now ++ tail.now)) }
-    ensures err { OnErr result (out.new.items ≡ out.old.items) }
-    ensures too_long { IsErrOf result EncodeError.TooLong ↔ (2 ^ 32 ≤ length (head.now ++ tail.now)) }
+    ensures { WritesOrTooLong (value tag (head.now ++ tail.now))
+        out.old.items result out.new.items }
 {
     if head.len() + tail.len() > MAX_LEN {
         return Err(EncodeError::TooLong);
@@ -73,9 +73,7 @@ pub fn put_parts(out: &mut Vec<u8>, tag: u8, head: &[u8], tail: &[u8]) -> Result
 /// Appends the value with this identifier octet and content (X.690 8.1, 10.1). Answers `TooLong` where the content has 2^32 octets or more.
 pub fn put_value(out: &mut Vec<u8>, tag: u8, content: &[u8]) -> Result<(), EncodeError>
     requires { tag % 32 < 31 }
-    ensures ok { OnOk result (out.new.items ≡ out.old.items ++ enc tag content.now) }
-    ensures err { OnErr result (out.new.items ≡ out.old.items) }
-    ensures too_long { IsErrOf result EncodeError.TooLong ↔ (2 ^ 32 ≤ length content.now) }
+    ensures { WritesOrTooLong (value tag content.now) out.old.items result out.new.items }
 {
     put_parts(out, tag, &[], content)
 }
@@ -87,20 +85,19 @@ pub fn put_bool(out: &mut Vec<u8>, value: bool) -> Result<(), EncodeError>
     ensures memory { IfErr result (λ e. e ≡ EncodeError.Memory) }
 {
     let octet = if value { 0xFF } else { 0x00 };
-    out.extend_from_slice(&[0x01, 0x01, octet])?;
+    out.extend_from_slice(&[tag::BOOLEAN, 0x01, octet])?;
     Ok(())
 }
 
 /// Appends the number of these octets, the greatest first and none for 0, as the shortest INTEGER (X.690 8.3). Answers `TooLong`
 /// where its content would have 2^32 octets or more.
-#[tactic(auto, unfolding(crate::specs::Writing::number))]
+#[tactic(auto, unfolding(crate::specs::Primitives::number))]
 pub fn put_unsigned(out: &mut Vec<u8>, octets: &[u8]) -> Result<(), EncodeError>
-    ensures ok { OnOk result (out.new.items ≡ out.old.items ++ number (number_from_digits 256 octets.now)) }
-    ensures err { OnErr result (out.new.items ≡ out.old.items) }
-    ensures too_long { IsErrOf result EncodeError.TooLong ↔ (2 ^ 32 ≤ length (unsigned (digits_of 256 (number_from_digits 256 octets.now)))) }
+    ensures { WritesOrTooLong (number_part (number_from_digits 256 octets.now))
+        out.old.items result out.new.items }
 {
     let digits = significant(octets);
-    put_parts(out, 0x02, sign(digits), digits)
+    put_parts(out, tag::INTEGER, sign(digits), digits)
 }
 
 /// Appends a BIT STRING of these octets, at whose end so many bits are unused (X.690 8.6, 11.2.1). Answers `TooLong` where there are
@@ -109,19 +106,18 @@ pub fn put_bits(out: &mut Vec<u8>, unused: u8, octets: &[u8]) -> Result<(), Enco
     requires few { unused < 8 }
     requires none { octets.now ≡ [] → unused ≡ 0 }
     requires zero_bits { number_from_digits 256 octets.now % 2 ^ unused ≡ 0 }
-    ensures ok { OnOk result (out.new.items ≡ out.old.items ++ enc 3 (unused ∷ octets.now)) }
+    ensures ok { OnOk result
+        (out.new.items ≡ out.old.items ++ enc BIT_STRING (unused ∷ octets.now)) }
     ensures err { OnErr result (out.new.items ≡ out.old.items) }
     ensures too_long { IsErrOf result EncodeError.TooLong ↔ (2 ^ 32 ≤ length octets.now + 1) }
 {
-    put_parts(out, 0x03, &[unused], octets)
+    put_parts(out, tag::BIT_STRING, &[unused], octets)
 }
 
 /// Appends the OBJECT IDENTIFIER with this content (X.690 8.19). Answers `TooLong` where it has 2^32 octets or more.
 pub fn put_oid(out: &mut Vec<u8>, id: &[u8]) -> Result<(), EncodeError>
     requires { IsOid id.now }
-    ensures ok { OnOk result (out.new.items ≡ out.old.items ++ enc 6 id.now) }
-    ensures err { OnErr result (out.new.items ≡ out.old.items) }
-    ensures too_long { IsErrOf result EncodeError.TooLong ↔ (2 ^ 32 ≤ length id.now) }
+    ensures { WritesOrTooLong (value OBJECT_IDENTIFIER id.now) out.old.items result out.new.items }
 {
-    put_value(out, 0x06, id)
+    put_value(out, tag::OBJECT_IDENTIFIER, id)
 }

@@ -1,19 +1,23 @@
+//! Serial numbers.
 ghost use Rattle.std.specs.Prelude.{◌≡◌, ◌↔◌, ◌+◌, ◌*◌, ◌^◌, ◌<◌, ◌≤◌, ◌++◌, ℕ, true, OnOk, OnErr, length, slice_index, IsSome, IfSome, IfErr, Some, nat_eq};
 ghost use Rattle.std.specs.Ordering.{nat_cmp};
 ghost use Rattle.std.specs.Int.Digits.{number_from_digits};
 ghost use Rattle.std.proofs.Common.{rules};
 ghost use Rattle.std.specs.Cmp.Rules.{comparing};
-ghost use Rattle.rpki_der.specs.Place.{Place, left, Keeps, Took, Answers, Gives};
+ghost use Rattle.rpki_der.specs.Place.{Place, left, Keeps, Answers};
+ghost use Rattle.rpki_der.specs.Place.Reading.{Took, Returns};
 ghost use Rattle.rpki_der.specs.Values.{AreOctets};
 ghost use Rattle.rpki_der.specs.Serials.{IsSerial};
-ghost use Rattle.rpki_der.specs.Writing.{number};
-ghost use Rattle.rpki_der.specs.ReadSerials.{is_unsigned, serial_of, serial_at};
+ghost use Rattle.rpki_der.specs.Primitives.{number};
+ghost use Rattle.rpki_der.specs.Serials.Reading.{serial_of, serial_at};
+ghost use Rattle.rpki_der.specs.Primitives.Reading.{is_unsigned};
 ghost use Rattle.rpki_der.specs.declared.error.EncodeError.TheVariants.{Memory};
 
 use crate::cursor::Cursor;
 use crate::error::{DecodeError, EncodeError};
 use crate::integer::is_unsigned;
 use crate::put::put_unsigned;
+use crate::tag;
 use std::cmp::Ordering;
 use std::marker::Model;
 
@@ -29,7 +33,7 @@ pub struct Serial {
 
 impl Model for Serial {
     ghost use Rattle.std.specs.Prelude.{ℕ, ◌+◌, ◌*◌, ◌/◌, ◌%◌, ◌^◌, ◌<◌};
-    ghost use Rattle.rpki_der.specs.Halves.{high_half, low_half};
+    ghost use Rattle.rpki_der.specs.Serials.Views.{high_half, low_half};
 
     ghost Value = { ℕ };
 
@@ -101,14 +105,14 @@ impl Serial {
     }
 
     // The serial that stands next, by the reading function.
-    #[tactic(auto, unfolding(crate::specs::ReadSerials::serial_at))]
+    #[tactic(auto, unfolding(crate::specs::Serials::Reading::serial_at))]
     fn take_number(cursor: &mut Cursor<'_>) -> Result<Serial, DecodeError>
-        ensures reads { Took (λ s. s) serial_at cursor.old result cursor.new }
+        ensures reads { Took serial_at cursor.old result cursor.new }
         ensures keeps { Keeps result cursor.old cursor.new }
         ensures octets { AreOctets (left cursor.old) }
     {
         let mut ahead = cursor.fork();
-        let content = ahead.take_value(0x02)?;
+        let content = ahead.take_value(tag::INTEGER)?;
         let serial = serial_in(content.rest())?;
         *cursor = ahead;
         Ok(serial)
@@ -116,8 +120,8 @@ impl Serial {
 
     /// The INTEGER that must stand next, from 0 to 2^160 - 1 (RFC 5280 4.1.2.2).
     pub fn take_from(cursor: &mut Cursor<'_>) -> Result<Serial, DecodeError>
-        ensures answers { Answers (λ s. s) IsSerial cursor.old result cursor.new }
-        ensures reads { Took (λ s. s) serial_at cursor.old result cursor.new }
+        ensures answers { Answers IsSerial cursor.old result cursor.new }
+        ensures reads { Took serial_at cursor.old result cursor.new }
         ensures keeps { Keeps result cursor.old cursor.new }
     {
         Serial::take_number(cursor)
@@ -126,7 +130,7 @@ impl Serial {
 
 // The serial of a whole content.
 fn serial_in(content: &[u8]) -> Result<Serial, DecodeError>
-    ensures { Gives (λ s. s) result (serial_of content.now) }
+    ensures { Returns result (serial_of content.now) }
 {
     if !is_unsigned(content) {
         return Err(DecodeError::BadValue);

@@ -1,7 +1,9 @@
 //! Values of any kind: passed over, or kept whole.
 ghost use Rattle.std.specs.Prelude.{◌≡◌, ◌↔◌, [], IsOk, IsSome, OnOk};
-ghost use Rattle.rpki_der.specs.Place.{Place, left, Keeps, Took, TookOrMemory, Gives, Answers, AnswersOrMemory};
-ghost use Rattle.rpki_der.specs.Skipping.{IsSkipped, IsSkippableRow, IsCaptured, any_at, captured_at, skip_within, skip_row_within, skip_at, skip_all_of};
+ghost use Rattle.rpki_der.specs.Place.{Place, left, Keeps, Answers, AnswersOrMemory};
+ghost use Rattle.rpki_der.specs.Place.Reading.{Took, TookBy, TookOrMemory, Returns};
+ghost use Rattle.rpki_der.specs.Skipping.{IsSkipped, IsSkippableRow, IsCaptured};
+ghost use Rattle.rpki_der.specs.Skipping.Reading.{any_at, captured_at, skip_within, skip_row_within, skip_at, skip_all_of};
 ghost use Rattle.rpki_der.specs.Values.{AreOctets};
 
 use crate::cursor::Cursor;
@@ -14,7 +16,7 @@ const LEVELS: u8 = 16;
 impl<'a> Cursor<'a> {
     // The identifier octet and the content of the next value.
     fn next_any(&mut self) -> Result<(u8, Cursor<'a>), DecodeError>
-        ensures reads { Took (λ x. (x.0, left x.1)) any_at self.old result self.new }
+        ensures reads { TookBy (λ x. (x.0, left x.1)) any_at self.old result self.new }
         ensures keeps { Keeps result self.old self.new }
         ensures octets { AreOctets (left self.old) }
     {
@@ -28,7 +30,7 @@ impl<'a> Cursor<'a> {
     // Past the next value, with at most so many levels.
     #[cycle(skipping)]
     fn skip_within(&mut self, levels: u8) -> Result<(), DecodeError>
-        ensures reads { Took (λ u. u) (skip_within levels) self.old result self.new }
+        ensures reads { Took (skip_within levels) self.old result self.new }
         ensures keeps { Keeps result self.old self.new }
     {
         let mut ahead = self.fork();
@@ -46,7 +48,7 @@ impl<'a> Cursor<'a> {
     // Past all values that are left, each with at most so many levels.
     #[cycle(skipping)]
     fn skip_row_within(mut self, levels: u8) -> Result<(), DecodeError>
-        ensures { Gives (λ u. u) result (skip_row_within levels (left self.entry)) }
+        ensures { Returns result (skip_row_within levels (left self.entry)) }
     {
         while !self.is_empty() {
             self.skip_within(levels)?;
@@ -55,12 +57,13 @@ impl<'a> Cursor<'a> {
     }
 
     // Past the next value, by the reading function.
-    #[tactic(auto, unfolding(crate::specs::Skipping::skip_at))]
+    #[tactic(auto, unfolding(crate::specs::Skipping::Reading::skip_at))]
     fn next_skippable(&mut self) -> Result<(), DecodeError>
-        ensures reads { Took (λ u. u) skip_at self.old result self.new }
+        ensures reads { Took skip_at self.old result self.new }
         ensures keeps { Keeps result self.old self.new }
         ensures octets { AreOctets (left self.old) }
     {
+        // For the proof only: what is left are octets.
         let _here = self.fork();
         self.skip_within(LEVELS)
     }
@@ -68,17 +71,17 @@ impl<'a> Cursor<'a> {
     /// Passes over one well-formed value (X.690 8.1, 10.1) in which constructed values stand at most 16 deep, this one counted as
     /// the first (own). Answers `TooDeep` at a constructed value below the last level. Takes no memory.
     pub fn skip_one(&mut self) -> Result<(), DecodeError>
-        ensures answers { Answers (λ u. u) IsSkipped self.old result self.new }
-        ensures reads { Took (λ u. u) skip_at self.old result self.new }
+        ensures answers { Answers IsSkipped self.old result self.new }
+        ensures reads { Took skip_at self.old result self.new }
         ensures keeps { Keeps result self.old self.new }
     {
         self.next_skippable()
     }
 
     // Past all values that are left, by the reading function.
-    #[tactic(auto, unfolding(crate::specs::Skipping::skip_at, crate::specs::Skipping::skip_all_of))]
+    #[tactic(auto, unfolding(crate::specs::Skipping::Reading::skip_at, crate::specs::Skipping::Reading::skip_all_of))]
     fn rest_skippable(&mut self) -> Result<(), DecodeError>
-        ensures reads { Gives (λ u. u) result (skip_all_of (left self.old)) }
+        ensures reads { Returns result (skip_all_of (left self.old)) }
         ensures end { OnOk result (left self.new ≡ []) }
         ensures keeps { Keeps result self.old self.new }
         ensures octets { AreOctets (left self.old) }
@@ -91,7 +94,7 @@ impl<'a> Cursor<'a> {
     /// Passes over all values that are left, each as [`Cursor::skip_one`] says. The cursor then stands at the end.
     pub fn skip_all(&mut self) -> Result<(), DecodeError>
         ensures skippable { IsOk result ↔ IsSkippableRow (left self.old) }
-        ensures reads { Gives (λ u. u) result (skip_all_of (left self.old)) }
+        ensures reads { Returns result (skip_all_of (left self.old)) }
         ensures end { OnOk result (left self.new ≡ []) }
         ensures keeps { Keeps result self.old self.new }
     {
@@ -99,9 +102,9 @@ impl<'a> Cursor<'a> {
     }
 
     // The octets of the next value, by the reading function.
-    #[tactic(auto, unfolding(crate::specs::Skipping::captured_at))]
+    #[tactic(auto, unfolding(crate::specs::Skipping::Reading::captured_at))]
     fn next_captured(&mut self) -> Result<Piece, DecodeError>
-        ensures reads { TookOrMemory (λ p. p) captured_at self.old result self.new }
+        ensures reads { TookOrMemory captured_at self.old result self.new }
         ensures keeps { Keeps result self.old self.new }
         ensures octets { AreOctets (left self.old) }
     {
@@ -115,8 +118,8 @@ impl<'a> Cursor<'a> {
     /// Keeps the next value whole, whatever its identifier octet (X.690 8.1, 10.1). Its inside is not tested. The only other
     /// error than those of the identifier and the length is `Memory`.
     pub fn capture_one(&mut self) -> Result<Piece, DecodeError>
-        ensures answers { AnswersOrMemory (λ p. p) IsCaptured self.old result self.new }
-        ensures reads { TookOrMemory (λ p. p) captured_at self.old result self.new }
+        ensures answers { AnswersOrMemory IsCaptured self.old result self.new }
+        ensures reads { TookOrMemory captured_at self.old result self.new }
         ensures keeps { Keeps result self.old self.new }
     {
         self.next_captured()

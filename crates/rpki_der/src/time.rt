@@ -1,18 +1,20 @@
+//! Times.
 ghost use Rattle.std.specs.Prelude.{◌≡◌, ◌↔◌, ◌++◌, ◌/◌, ◌%◌, ◌<◌, ◌≤◌, List, pos, ◌≤ℤ◌, unsigned_abs, nat_eq, OnOk, OnErr, IsSome, IfSome, IfOk, IfErr};
 ghost use Rattle.std.specs.Ordering.{nat_cmp, on, as_partial_cmp};
 ghost use Rattle.std.specs.Cmp.{partial_order_from_own_ties};
 ghost use Rattle.std.proofs.Common.{rules};
 ghost use Rattle.std.specs.Cmp.Rules.{comparing};
-ghost use Rattle.rpki_der.specs.Place.{Place, left, Keeps, Took, Answers, Gives};
+ghost use Rattle.rpki_der.specs.Place.{Place, left, Keeps, Answers};
+ghost use Rattle.rpki_der.specs.Place.Reading.{Took, Returns, ReturnsBy};
 ghost use Rattle.rpki_der.specs.Values.{AreOctets};
-ghost use Rattle.rpki_der.specs.Times.{Moment, IsMoment, IsTime, second_number, two, after_year};
-ghost use Rattle.rpki_der.specs.Writing.{time};
+ghost use Rattle.rpki_der.specs.Times.{Moment, moment, IsMoment, IsTime, second_number, two, after_year, time};
 ghost use Rattle.rpki_der.specs.declared.error.EncodeError.TheVariants.{Memory};
-ghost use Rattle.rpki_der.specs.ReadTimes.{two_at, after_year_of, utc_of, generalized_of, time_at};
+ghost use Rattle.rpki_der.specs.Times.Reading.{two_at, after_year_of, utc_of, generalized_of, time_at};
 
 use crate::cursor::Cursor;
 use crate::error::{DecodeError, EncodeError};
 use crate::put::put_value;
+use crate::tag;
 use jiff::civil::DateTime;
 use std::cmp::Ordering;
 use std::marker::Model;
@@ -28,7 +30,7 @@ pub struct Time {
 
 impl Model for Time {
     ghost use Rattle.rpki_der.specs.Times.{Moment};
-    ghost use Rattle.rpki_der.specs.CivilTimes.{moment_of, IsWhole, datetime_of, datetime_is};
+    ghost use Rattle.rpki_der.specs.Times.Views.{moment_of, IsWhole, datetime_of, datetime_is};
 
     ghost Value = { Moment };
 
@@ -61,9 +63,9 @@ impl Time {
     pub fn utc(year: i32, month: u32, day: u32, hour: u32, minute: u32, second: u32) -> Option<Time>
         ensures exists { IsSome result
             ↔ ((pos 0 ≤ℤ year)
-            × IsMoment (record { year = unsigned_abs year; month = month; day = day; hour = hour; minute = minute; second = second })) }
+            × IsMoment (moment (unsigned_abs year) month day hour minute second)) }
         ensures value { IfSome result
-            (λ t. t ≡ record { year = unsigned_abs year; month = month; day = day; hour = hour; minute = minute; second = second }) }
+            (λ t. t ≡ moment (unsigned_abs year) month day hour minute second) }
     {
         if year < 0 {
             return None;
@@ -74,9 +76,9 @@ impl Time {
     // The same from a year that is not negative.
     fn at(year: u32, month: u32, day: u32, hour: u32, minute: u32, second: u32) -> Option<Time>
         ensures exists { IsSome result
-            ↔ IsMoment (record { year = year; month = month; day = day; hour = hour; minute = minute; second = second }) }
+            ↔ IsMoment (moment year month day hour minute second) }
         ensures value { IfSome result
-            (λ t. t ≡ record { year = year; month = month; day = day; hour = hour; minute = minute; second = second }) }
+            (λ t. t ≡ moment year month day hour minute second) }
     {
         if year > 9999 || month > 12 || day > 31 || hour > 23 || minute > 59 || second > 59 {
             return None;
@@ -97,16 +99,16 @@ impl Time {
     }
 
     // The time that stands next, by the reading function.
-    #[tactic(auto, unfolding(crate::specs::ReadTimes::time_at))]
+    #[tactic(auto, unfolding(crate::specs::Times::Reading::time_at))]
     fn take_time(cursor: &mut Cursor<'_>) -> Result<Time, DecodeError>
-        ensures reads { Took (λ t. t) time_at cursor.old result cursor.new }
+        ensures reads { Took time_at cursor.old result cursor.new }
         ensures keeps { Keeps result cursor.old cursor.new }
         ensures octets { AreOctets (left cursor.old) }
     {
         let mut ahead = cursor.fork();
         let time = match ahead.rest() {
-            [0x17, ..] => utc_time(ahead.take_value(0x17)?.rest())?,
-            _ => generalized_time(ahead.take_value(0x18)?.rest())?,
+            [tag::UTC_TIME, ..] => utc_time(ahead.take_value(tag::UTC_TIME)?.rest())?,
+            _ => generalized_time(ahead.take_value(tag::GENERALIZED_TIME)?.rest())?,
         };
         *cursor = ahead;
         Ok(time)
@@ -114,8 +116,8 @@ impl Time {
 
     /// The UTCTime or GeneralizedTime that must stand next, in the form that ends in seconds and Z (RFC 5280 4.1.2.5).
     pub fn take_from(cursor: &mut Cursor<'_>) -> Result<Time, DecodeError>
-        ensures answers { Answers (λ t. t) IsTime cursor.old result cursor.new }
-        ensures reads { Took (λ t. t) time_at cursor.old result cursor.new }
+        ensures answers { Answers IsTime cursor.old result cursor.new }
+        ensures reads { Took time_at cursor.old result cursor.new }
         ensures keeps { Keeps result cursor.old cursor.new }
     {
         Time::take_time(cursor)
@@ -130,7 +132,8 @@ impl Time {
 
     // The parts in decimal digits, the year in four, and Z.
     fn text(&self) -> [u8; 15]
-        ensures digits { result ≡ two (self.now.year / 100) ++ (two (self.now.year % 100) ++ after_year self.now) }
+        ensures digits { result
+            ≡ two (self.now.year / 100) ++ (two (self.now.year % 100) ++ after_year self.now) }
         ensures exists { IsMoment self.now }
     {
         let year = self.year();
@@ -171,9 +174,9 @@ impl Time {
         let text = self.text();
         let year = self.year();
         if year >= 1950 && year < 2050 {
-            put_value(out, 0x17, &text[2..])
+            put_value(out, tag::UTC_TIME, &text[2..])
         } else {
-            put_value(out, 0x18, &text)
+            put_value(out, tag::GENERALIZED_TIME, &text)
         }
     }
 }
@@ -187,9 +190,9 @@ fn digits(n: u8) -> [u8; 2]
 }
 
 // The number of the two decimal digits at the front, and what follows them.
-#[tactic(auto, unfolding(crate::specs::ReadTimes::two_at))]
+#[tactic(auto, unfolding(crate::specs::Times::Reading::two_at))]
 fn two_digits(text: &[u8]) -> Result<(u32, &[u8]), DecodeError>
-    ensures reads { Gives (λ x. (x.0, x.1.now)) result (two_at text.now) }
+    ensures reads { ReturnsBy (λ x. (x.0, x.1.now)) result (two_at text.now) }
     ensures small { IfOk result (λ x. x.0 < 100) }
 {
     match text {
@@ -202,10 +205,10 @@ fn two_digits(text: &[u8]) -> Result<(u32, &[u8]), DecodeError>
 }
 
 // The time of this year with this text after it, MMDDhhmmssZ.
-#[tactic(auto, unfolding(crate::specs::ReadTimes::after_year_of))]
+#[tactic(auto, unfolding(crate::specs::Times::Reading::after_year_of))]
 fn after_year(year: u32, text: &[u8]) -> Result<Time, DecodeError>
     requires { year < 10000 }
-    ensures { Gives (λ t. t) result (after_year_of year text.now) }
+    ensures { Returns result (after_year_of year text.now) }
 {
     let (month, text) = two_digits(text)?;
     let (day, text) = two_digits(text)?;
@@ -219,9 +222,9 @@ fn after_year(year: u32, text: &[u8]) -> Result<Time, DecodeError>
 }
 
 // The time of a whole content YYMMDDhhmmssZ.
-#[tactic(auto, unfolding(crate::specs::ReadTimes::utc_of))]
+#[tactic(auto, unfolding(crate::specs::Times::Reading::utc_of))]
 fn utc_time(text: &[u8]) -> Result<Time, DecodeError>
-    ensures { Gives (λ t. t) result (utc_of text.now) }
+    ensures { Returns result (utc_of text.now) }
 {
     let (year, text) = two_digits(text)?;
     let year = if year < 50 { 2000 + year } else { 1900 + year };
@@ -229,9 +232,9 @@ fn utc_time(text: &[u8]) -> Result<Time, DecodeError>
 }
 
 // The time of a whole content YYYYMMDDhhmmssZ.
-#[tactic(auto, unfolding(crate::specs::ReadTimes::generalized_of))]
+#[tactic(auto, unfolding(crate::specs::Times::Reading::generalized_of))]
 fn generalized_time(text: &[u8]) -> Result<Time, DecodeError>
-    ensures { Gives (λ t. t) result (generalized_of text.now) }
+    ensures { Returns result (generalized_of text.now) }
 {
     let (century, text) = two_digits(text)?;
     let (year, text) = two_digits(text)?;

@@ -2,9 +2,9 @@
 use Rattle.std.proofs.Common.{ℕ, List, ◌++◌, Option, refl, sym, ap, ◌∙◌}
 use Rattle.std.proofs.lemmas.List.{append_cancel_right}
 use Rattle.rpki_der.specs.Values.{IsUnambiguous}
-use Rattle.rpki_der.specs.Spelling.{Reads}
-use Rattle.rpki_der.proofs.Made.{one_reading}
-use Rattle.rpki_ext.specs.Extensions.{HasOneMeaning}
+use Rattle.rpki_der.specs.Reading.{Reads}
+use Rattle.rpki_der.proofs.Readings.{one_reading}
+use Rattle.rpki_ext.specs.Kinds.{HasOneMeaning}
 
 pub one_meaning : {V : Type 0} (read : List ℕ → Option (V × List ℕ)) (spells : V → List ℕ → Type 0) → Reads read spells → HasOneMeaning spells
 one_meaning read spells law content v w p q =

@@ -3,27 +3,27 @@ use Rattle.std.specs.List.{concat}
 use Rattle.std.proofs.Common.{◌≡◌, Bool, ℕ, ◌≤◌, List, [], ◌∷◌, ◌++◌, Option, Some, None, length, refl, append_assoc, arith}
 use Rattle.std.proofs.lemmas.List.{length-append, append-nil}
 use Rattle.std.proofs.lemmas.List.Folds.{concat-append}
-use Rattle.rpki_der.specs.Values.{enc}
-use Rattle.rpki_der.specs.Writing.{sequence, sequence_of_some}
+use Rattle.rpki_der.specs.Values.{enc, sequence, sequence_of_some}
 use Rattle.rpki_der.proofs.Appending.{length-enc}
-use Rattle.rpki_der.proofs.Written.{enc_longer}
-use Rattle.rpki_blocks.specs.WrittenResources.{content_of_some}
-use Rattle.rpki_ext.specs.Contents.{Access, method_identifier}
-use Rattle.rpki_ext.specs.WrittenExtensions.{uri_name, description, description_of, descriptions}
+use Rattle.rpki_der.proofs.ValueWritten.{enc_longer}
+use Rattle.rpki_der.specs.Extensions.{content_of_some}
+use Rattle.rpki_ext.specs.SubjectAccess.{Access, method_identifier, description_if, descriptions}
+use Rattle.rpki_ext.specs.GeneralNames.{uri_name}
+use Rattle.rpki_ext.specs.AuthorityAccess.{description}
 use Rattle.rpki_ext.specs.declared.subject_access.AccessMethod.{AccessMethod}
 use Rattle.rpki_ext.specs.declared.subject_access.AccessMethod.TheVariants.{CaRepository, RpkiManifest, SignedObject, RpkiNotify}
 use Rattle.rpki_ext.proofs.WrittenLengths.{content_longer}
 
-pub concat-descriptions : (a : Access) → concat (descriptions a) ≡ concat (description_of CaRepository a.ca_repository) ++ (concat (description_of RpkiManifest a.rpki_manifest) ++ (concat (description_of SignedObject a.signed_object) ++ concat (description_of RpkiNotify a.rpki_notify)))
+pub concat-descriptions : (a : Access) → concat (descriptions a) ≡ concat (description_if CaRepository a.ca_repository) ++ (concat (description_if RpkiManifest a.rpki_manifest) ++ (concat (description_if SignedObject a.signed_object) ++ concat (description_if RpkiNotify a.rpki_notify)))
 concat-descriptions a = simp concat-append refl
 
 -- each behind what was there before
-pub one_by_one : (a : Access) (old one two three new : List ℕ) → one ≡ old ++ concat (description_of CaRepository a.ca_repository) → two ≡ one ++ concat (description_of RpkiManifest a.rpki_manifest) → three ≡ two ++ concat (description_of SignedObject a.signed_object) → new ≡ three ++ concat (description_of RpkiNotify a.rpki_notify) → new ≡ old ++ concat (descriptions a)
+pub one_by_one : (a : Access) (old one two three new : List ℕ) → one ≡ old ++ concat (description_if CaRepository a.ca_repository) → two ≡ one ++ concat (description_if RpkiManifest a.rpki_manifest) → three ≡ two ++ concat (description_if SignedObject a.signed_object) → new ≡ three ++ concat (description_if RpkiNotify a.rpki_notify) → new ≡ old ++ concat (descriptions a)
 one_by_one a old one two three new e f g h = rw (h, g, f, e, concat-descriptions a) (simp append_assoc refl)
 
 -- ---- no description at all
 
-none_here : (method : AccessMethod) (uri : Option (List ℕ)) (rest : List (List ℕ)) → length (concat (description_of method uri ++ rest)) ≡ 0 → (description_of method uri ≡ []) × (length (concat rest) ≡ 0)
+none_here : (method : AccessMethod) (uri : Option (List ℕ)) (rest : List (List ℕ)) → length (concat (description_if method uri ++ rest)) ≡ 0 → (description_if method uri ≡ []) × (length (concat rest) ≡ 0)
 none_here method None rest e = (refl, e)
 none_here method (Some uri) rest e = absurd (omega (arith, e, length-append (description (method_identifier method) uri) (concat rest), length-enc 0x30 (concat (enc 6 (method_identifier method) ∷ uri_name uri ∷ []))))
 

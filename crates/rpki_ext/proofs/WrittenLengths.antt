@@ -2,11 +2,12 @@
 use Rattle.std.proofs.Common.{Bool, ◌≤◌, ℕ, ◌+◌, ◌-◌, List, [], ◌∷◌, ◌++◌, length, take, drop, arith}
 use Rattle.std.specs.List.{concat}
 use Rattle.std.proofs.lemmas.List.{length-append, take_rest}
-use Rattle.rpki_der.specs.Values.{enc}
-use Rattle.rpki_der.specs.Writing.{nested, bool_or_false}
-use Rattle.rpki_der.specs.WrittenPrimitives.{extension_pieces}
-use Rattle.rpki_ext.specs.WrittenExtensions.{uri_name, description}
-use Rattle.rpki_der.proofs.Written.{enc_longer}
+use Rattle.rpki_der.specs.Values.{enc, nested}
+use Rattle.rpki_der.specs.Primitives.{bool_or_false}
+use Rattle.rpki_der.specs.Extensions.{extension_pieces}
+use Rattle.rpki_ext.specs.GeneralNames.{uri_name}
+use Rattle.rpki_ext.specs.AuthorityAccess.{description}
+use Rattle.rpki_der.proofs.ValueWritten.{enc_longer}
 
 pub nested_longer : (tags b : List ℕ) → length b ≤ length (nested tags b)
 nested_longer [] b = omega arith

@@ -1,12 +1,11 @@
-ghost use Rattle.std.specs.Prelude.{◌≡◌, ◌^◌, ◌<◌, ◌≤◌, ◌++◌, false, length, OnOk, OnErr, IsErrOf};
-ghost use Rattle.std.specs.List.{concat};
-ghost use Rattle.rpki_der.specs.Identifiers.{pkix};
-ghost use Rattle.rpki_der.specs.Place.{Place, left, Keeps, Took, GivesOrMemory, TookOrMemory, AnswersOrMemory};
+//! Authority Information Access (RFC 6487 4.8.7).
+ghost use Rattle.std.specs.Prelude.{Some};
+ghost use Rattle.rpki_der.specs.Place.{Place, left, Keeps, AnswersOrMemory};
+ghost use Rattle.rpki_der.specs.Place.Reading.{TookBy, ReturnsOrMemory, TookOrMemory};
 ghost use Rattle.rpki_der.specs.Values.{AreOctets};
-ghost use Rattle.rpki_der.specs.WrittenPrimitives.{extension, extension_pieces};
-ghost use Rattle.rpki_ext.specs.Contents.{IsAuthorityInformationAccess};
-ghost use Rattle.rpki_ext.specs.ReadContents.{issuers_of, only_description_at, authority_information_access_at};
-ghost use Rattle.rpki_ext.specs.WrittenExtensions.{authority_information_access_content};
+ghost use Rattle.rpki_der.specs.Writers.{Writes};
+ghost use Rattle.rpki_ext.specs.Kinds.{part};
+ghost use Rattle.rpki_ext.specs.AuthorityAccess.{issuers_of, only_description_at, authority_information_access};
 
 use crate::encode::{put_description, put_nested_extension};
 use crate::names::only_rsync;
@@ -14,9 +13,9 @@ use rpki_der::{Cursor, DecodeError, EncodeError, oid};
 use rpki_parts::Rsync;
 
 // The only description.
-#[tactic(auto, unfolding(crate::specs::ReadContents::only_description_at))]
+#[tactic(auto, unfolding(crate::specs::AuthorityAccess::only_description_at))]
 fn take_only_description<'a>(cursor: &mut Cursor<'a>) -> Result<Cursor<'a>, DecodeError>
-    ensures reads { Took left only_description_at cursor.old result cursor.new }
+    ensures reads { TookBy left only_description_at cursor.old result cursor.new }
     ensures keeps { Keeps result cursor.old cursor.new }
 {
     let mut ahead = cursor.fork();
@@ -29,7 +28,7 @@ fn take_only_description<'a>(cursor: &mut Cursor<'a>) -> Result<Cursor<'a>, Deco
 
 // The only rsync URI of a description that says where certificates of issuers are.
 fn issuer_in(mut description: Cursor<'_>) -> Result<Rsync, DecodeError>
-    ensures { GivesOrMemory (λ uri. uri) result (issuers_of (left description.entry)) }
+    ensures { ReturnsOrMemory result (issuers_of (left description.entry)) }
 {
     if description.take_oid()? != oid::AD_CA_ISSUERS {
         return Err(DecodeError::BadValue);
@@ -38,9 +37,9 @@ fn issuer_in(mut description: Cursor<'_>) -> Result<Rsync, DecodeError>
 }
 
 // The same as `take_authority_information_access`, by the reading function.
-#[tactic(auto, unfolding(crate::specs::ReadContents::authority_information_access_at))]
+#[tactic(auto, unfolding(crate::specs::AuthorityAccess::authority_information_access_at))]
 fn read(cursor: &mut Cursor<'_>) -> Result<Rsync, DecodeError>
-    ensures reads { TookOrMemory (λ uri. uri) authority_information_access_at cursor.old result cursor.new }
+    ensures reads { TookOrMemory authority_information_access.reads cursor.old result cursor.new }
     ensures keeps { Keeps result cursor.old cursor.new }
     ensures octets { AreOctets (left cursor.old) }
 {
@@ -54,8 +53,9 @@ fn read(cursor: &mut Cursor<'_>) -> Result<Rsync, DecodeError>
 /// The content of Authority Information Access: the only rsync URI among the names of one description, which says where the
 /// issuer's certificate is (RFC 6487 4.8.7).
 pub fn take_authority_information_access(cursor: &mut Cursor<'_>) -> Result<Rsync, DecodeError>
-    ensures answers { AnswersOrMemory (λ uri. uri) IsAuthorityInformationAccess cursor.old result cursor.new }
-    ensures reads { TookOrMemory (λ uri. uri) authority_information_access_at cursor.old result cursor.new }
+    ensures answers { AnswersOrMemory authority_information_access.spells cursor.old
+        result cursor.new }
+    ensures reads { TookOrMemory authority_information_access.reads cursor.old result cursor.new }
     ensures keeps { Keeps result cursor.old cursor.new }
 {
     read(cursor)
@@ -67,10 +67,8 @@ pub fn encode_authority_information_access(
     out: &mut Vec<u8>,
     uri: &Rsync,
 ) -> Result<(), EncodeError>
-    ensures ok { OnOk result (out.new.items ≡ out.old.items ++ extension (pkix 0x01 0x01) false (authority_information_access_content uri.now)) }
-    ensures err { OnErr result (out.new.items ≡ out.old.items) }
-    ensures fits { OnOk result (length (concat (extension_pieces (pkix 0x01 0x01) false (authority_information_access_content uri.now))) < 2 ^ 32) }
-    ensures too_long { IsErrOf result EncodeError.TooLong → 2 ^ 32 ≤ length (concat (extension_pieces (pkix 0x01 0x01) false (authority_information_access_content uri.now))) }
+    ensures { Writes (part authority_information_access (Some uri.now)) out.old.items
+        result out.new.items }
 {
     let mut row = Vec::new(*out.allocator());
     put_description(&mut row, oid::AD_CA_ISSUERS, uri.as_bytes())?;

@@ -1,10 +1,11 @@
 //! What the writers of extensions share.
-ghost use Rattle.std.specs.Prelude.{◌≡◌, ◌^◌, ◌<◌, ◌≤◌, ◌%◌, ◌++◌, nat_lt, true, length, OnOk, OnErr, IsErrOf};
-ghost use Rattle.std.specs.List.{concat, list_all};
-ghost use Rattle.rpki_der.specs.Reading.{is_oid};
-ghost use Rattle.rpki_der.specs.Writing.{nested};
-ghost use Rattle.rpki_der.specs.WrittenPrimitives.{extension, extension_pieces};
-ghost use Rattle.rpki_ext.specs.WrittenExtensions.{description};
+ghost use Rattle.std.specs.Prelude.{◌≡◌, ◌^◌, ◌≤◌, ◌%◌, ◌++◌, nat_lt, true, length, OnOk, IsErrOf};
+ghost use Rattle.std.specs.List.{list_all};
+ghost use Rattle.rpki_der.specs.Primitives.Reading.{is_oid};
+ghost use Rattle.rpki_der.specs.Values.{nested};
+ghost use Rattle.rpki_der.specs.Writers.{Writes};
+ghost use Rattle.rpki_ext.specs.Kinds.{extension_part};
+ghost use Rattle.rpki_ext.specs.AuthorityAccess.{description};
 
 use rpki_der::{EncodeError, put_extension, put_oid, put_value};
 
@@ -13,7 +14,8 @@ use rpki_der::{EncodeError, put_extension, put_oid, put_value};
 fn put_nested(out: &mut Vec<u8>, tags: &[u8], octets: &[u8]) -> Result<(), EncodeError>
     requires { list_all (λ tag. nat_lt (tag % 32) 31) tags.now ≡ true }
     ensures ok { OnOk result (out.new.items ≡ out.old.items ++ nested tags.now octets.now) }
-    ensures too_long { IsErrOf result EncodeError.TooLong → 2 ^ 32 ≤ length (nested tags.now octets.now) }
+    ensures too_long { IsErrOf result EncodeError.TooLong
+        → 2 ^ 32 ≤ length (nested tags.now octets.now) }
 {
     match tags {
         [] => Ok(out.extend_from_slice(octets)?),
@@ -37,10 +39,8 @@ pub(crate) fn put_nested_extension(
 ) -> Result<(), EncodeError>
     requires oid { is_oid id.now ≡ true }
     requires low { list_all (λ tag. nat_lt (tag % 32) 31) tags.now ≡ true }
-    ensures ok { OnOk result (out.new.items ≡ out.old.items ++ extension id.now critical (nested tags.now octets.now)) }
-    ensures err { OnErr result (out.new.items ≡ out.old.items) }
-    ensures fits { OnOk result (length (concat (extension_pieces id.now critical (nested tags.now octets.now))) < 2 ^ 32) }
-    ensures too_long { IsErrOf result EncodeError.TooLong → 2 ^ 32 ≤ length (concat (extension_pieces id.now critical (nested tags.now octets.now))) }
+    ensures { Writes (extension_part id.now critical (nested tags.now octets.now))
+        out.old.items result out.new.items }
 {
     let mut content = Vec::new(*out.allocator());
     put_nested(&mut content, tags, octets)?;
@@ -55,7 +55,8 @@ pub(crate) fn put_description(
 ) -> Result<(), EncodeError>
     requires { is_oid method.now ≡ true }
     ensures ok { OnOk result (out.new.items ≡ out.old.items ++ description method.now uri.now) }
-    ensures too_long { IsErrOf result EncodeError.TooLong → 2 ^ 32 ≤ length (description method.now uri.now) }
+    ensures too_long { IsErrOf result EncodeError.TooLong
+        → 2 ^ 32 ≤ length (description method.now uri.now) }
 {
     let mut parts = Vec::new(*out.allocator());
     put_oid(&mut parts, method)?;

@@ -6,7 +6,6 @@ mod basic_constraints;
 mod distribution_points;
 mod encode;
 mod extended_key_usage;
-mod extension;
 mod key_identifiers;
 mod key_usage;
 pub mod laws;
@@ -22,12 +21,11 @@ pub use distribution_points::{encode_crl_distribution_points, take_crl_distribut
 pub use extended_key_usage::{
     ExtendedKeyUsage, encode_extended_key_usage, take_extended_key_usage,
 };
-pub use extension::take_extension;
 pub use key_identifiers::{
     encode_authority_key_identifier, encode_subject_key_identifier, take_authority_key_identifier,
     take_subject_key_identifier,
 };
 pub use key_usage::{KeyUsage, encode_key_usage, take_key_usage};
 pub use policies::{encode_certificate_policies, take_certificate_policies};
+pub use rpki_der::take_extension;
 pub use subject_access::{Sia, encode_subject_information_access, take_subject_information_access};
-

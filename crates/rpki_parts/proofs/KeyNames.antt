@@ -3,14 +3,14 @@ use Rattle.std.specs.List.{concat}
 use Rattle.std.proofs.Common.{◌≡◌, ℕ, ◌*◌, ◌/◌, ◌%◌, ◌<◌, true, List, [], ◌∷◌, ◌++◌, length, refl, sym, ap, ◌∙◌, arith, inl, inr}
 use Rattle.std.proofs.lemmas.List.{append-nil, length-append}
 use Rattle.std.proofs.lemmas.Bool.{cases_lt, lt-ltb, le-ltb}
-use Rattle.rpki_der.specs.Values.{AreOctets, enc, length_octets, IsEnc}
+use Rattle.rpki_der.specs.Values.{AreOctets, enc, length_octets, IsEnc, sequence}
 use Rattle.rpki_der.specs.Skipping.{IsSkippableWithin, IsSkippable}
-use Rattle.rpki_der.specs.Writing.{sequence}
 use Rattle.rpki_der.proofs.Octets.{AreOctets-append}
-use Rattle.rpki_der.proofs.Written.{Short, made, content_short, pieces_short, plain_oid}
-use Rattle.rpki_parts.specs.Names.{Attribute, is_name, common_name}
-use Rattle.rpki_parts.specs.WrittenParts.{digit, hexadecimal, name_of_digits}
-use Rattle.rpki_parts.proofs.NameLaws.{IsAttribute, IsPart, AreParts, is_name_again}
+use Rattle.rpki_der.proofs.ValueWritten.{Short, made, content_short, pieces_short, plain_oid}
+use Rattle.rpki_parts.specs.Names.{Attribute}
+use Rattle.rpki_parts.specs.Names.Reading.{is_name}
+use Rattle.rpki_parts.specs.KeyNames.{common_name, digit, hexadecimal, name_of_digits}
+use Rattle.rpki_parts.proofs.NameReads.{IsAttribute, IsPart, AreParts, is_name_again}
 
 digit_small : (n : ℕ) → n < 16 → digit n < 256
 digit_small n h =

@@ -6,7 +6,7 @@ use Rattle.std.proofs.lemmas.Slice.Eq.{bytes_eq-Decides}
 use Rattle.std.specs.Str.{str_eq_ignore_ascii_case, str_to_ascii_lowercase}
 use Rattle.std.specs.List.{position_or_len, slice_split, onto_first}
 use Rattle.rpki_parts.specs.Uris.{slash, HasNoSlash, IsEmptyOrBeginsWithSlash, IsEmptyOrEndsWithSlash, IsTrimmed}
-use Rattle.rpki_parts.specs.UriParts.{is_slash, is_empty, before_slash, from_slash, trimmed, through_slash}
+use Rattle.rpki_parts.specs.Uris.Tests.{is_slash, is_empty, before_slash, from_slash, trimmed, through_slash}
 
 slash_is : (x : ℕ) → is_slash x ≡ true → x ≡ slash
 slash_is x e = eqb-true x slash e

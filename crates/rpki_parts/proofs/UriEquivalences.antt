@@ -4,7 +4,7 @@ use Rattle.std.specs.List.{concat}
 use Rattle.std.specs.Str.{str_to_ascii_lowercase}
 use Rattle.rpki_parts.specs.Uris.{IsUri, IsHttps, IsRsync, AreEqual, AreIdentical, IsParent, IsTrimmed}
 use Rattle.rpki_parts.specs.UriLaws.{IsEquivalence}
-use Rattle.rpki_parts.specs.UriParts.{trimmed}
+use Rattle.rpki_parts.specs.Uris.Tests.{trimmed}
 use Rattle.rpki_parts.proofs.Slashes.{trimmed_is, trimmed_again}
 use Rattle.rpki_parts.proofs.UriTests.{authority_again, rest_again}
 use Rattle.rpki_parts.proofs.UriParents.{trimmed_top, parent_again, parent_rsync, path_found}

@@ -2,7 +2,7 @@
 use Rattle.std.proofs.Common.{◌≡◌, ◌≢◌, inl, inr, ℕ, ◌≤◌, List, [], ◌∷◌, ◌++◌, drop, codes, refl, sym, ap, ◌∙◌, subst, append_assoc, append-nil, Decides}
 use Rattle.std.specs.List.{AllByRecursion, concat, slice_split}
 use Rattle.rpki_parts.specs.Uris.{slash, IsEmptyOrEndsWithSlash, ArePrintable, IsUri, HasNoDots, IsRsync, AreEqual, IsTrimmed, AreIdentical, HasPath, HasNoPath, IsParent, HasParent}
-use Rattle.rpki_parts.specs.UriParts.{is_slash, is_empty, path_of, are_equal, trimmed, through_slash}
+use Rattle.rpki_parts.specs.Uris.Tests.{is_slash, is_empty, path_of, are_equal, trimmed, through_slash}
 use Rattle.rpki_parts.proofs.Slashes.{trimmed_is, trimmed_again, trimmed-append, through-front, through_is, through_again, segments-append}
 use Rattle.rpki_parts.proofs.UriTests.{empty_decides, path_again, tail_begins, nothing_dotted, equal_decides}
 

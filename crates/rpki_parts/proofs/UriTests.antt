@@ -7,7 +7,7 @@ use Rattle.std.specs.Char.{is_ascii_graphic, to_ascii_lowercase}
 use Rattle.std.specs.List.{AllByRecursion, concat, list_all, slice_split}
 use Rattle.std.specs.Str.{str_to_ascii_lowercase, str_eq_ignore_ascii_case}
 use Rattle.rpki_parts.specs.Uris.{slash, HasNoSlash, IsEmptyOrBeginsWithSlash, ArePrintable, IsUri, IsHttps, HasNoDots, IsRsync, AreEqual}
-use Rattle.rpki_parts.specs.UriParts.{is_slash, is_empty, is_segment, before_slash, from_slash, authority_of, rest_of, module_of, path_of, has_scheme, is_uri, is_https, has_module_and_path, is_rsync, are_equal}
+use Rattle.rpki_parts.specs.Uris.Tests.{is_slash, is_empty, is_segment, before_slash, from_slash, authority_of, rest_of, module_of, path_of, has_scheme, is_uri, is_https, has_module_and_path, is_rsync, are_equal}
 use Rattle.rpki_parts.proofs.Slashes.{cut_is, before_has_none, from_begins, before_again, from_again}
 
 -- ---- each octet, each segment

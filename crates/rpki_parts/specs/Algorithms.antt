@@ -1,26 +1,42 @@
 -- The signature algorithm (RFC 7935 2, RFC 4055 5).
-use Rattle.std.specs.Prelude.{ℕ, List, [], ◌∷◌, Bool, true, false, bytes_eq, Option, is_some}
-use Rattle.rpki_der.specs.Values.{IsSequence}
-use Rattle.rpki_der.specs.Contents.{IsObjectIdentifier, null}
-use Rattle.rpki_der.specs.Primitives.{null_at}
-use Rattle.rpki_der.specs.Reading.{inside, mapped, optional, oid_at}
-use Rattle.rpki_der.specs.Alternatives.{followed}
-use Rattle.rpki_parts.specs.Choices.{given}
+use Rattle.std.specs.Prelude.{ℕ, List, [], ◌∷◌, Bool, true, false}
+use Rattle.std.specs.List.{concat}
+use Rattle.rpki_der.specs.Values.{enc, IsSequence, sequence}
+use Rattle.rpki_der.specs.Primitives.{IsObjectIdentifier, null}
+use Rattle.rpki_der.specs.Tags.{OBJECT_IDENTIFIER, SEQUENCE}
+use Rattle.rpki_der.specs.Writers.{Part, value}
+pub mod Reading
 
--- sha256WithRSAEncryption
+-- sha256WithRSAEncryption, with NULL as its parameters or without any; the Rust struct RpkiSignatureAlgorithm
+pub record Algorithm : Type 0 where
+  pub has_null : Bool
+
+abbrev pub with_null : Algorithm
+with_null = record { has_null = true }
+
+abbrev pub without_null : Algorithm
+without_null = record { has_null = false }
+
 abbrev pub sha256_with_rsa : List ℕ
 sha256_with_rsa = 0x2A ∷ 0x86 ∷ 0x48 ∷ 0x86 ∷ 0xF7 ∷ 0x0D ∷ 0x01 ∷ 0x01 ∷ 0x0B ∷ []
 
--- AlgorithmIdentifier of the signature: its parameters are NULL where the flag is true, and may be left out (own)
-abbrev pub IsSignatureAlgorithm : Bool → List ℕ → Type 0
-IsSignatureAlgorithm true b = (id : List ℕ) × IsObjectIdentifier sha256_with_rsa id × IsSequence (id ∷ null ∷ []) b
-IsSignatureAlgorithm false b = (id : List ℕ) × IsObjectIdentifier sha256_with_rsa id × IsSequence (id ∷ []) b
+abbrev pub parameters : Bool → List ℕ
+parameters true = null
+parameters false = []
 
--- ---- reading
+-- AlgorithmIdentifier of the signature: its parameters are NULL, and may be left out (own)
+pub record IsSignatureAlgorithm (a : Algorithm) (b : List ℕ) : Type 0 where
+  pub identifier : List ℕ
+  pub identifier_is : IsObjectIdentifier sha256_with_rsa identifier
+  pub sequence : IsSequence (identifier ∷ parameters a.has_null ∷ []) b
 
--- whether NULL stands next
-abbrev pub null_or_none : List ℕ → Option (Bool × List ℕ)
-null_or_none = mapped is_some (optional 0x05 null_at)
+-- ---- what is written
 
-unfoldable pub algorithm_at : List ℕ → Option (Bool × List ℕ)
-algorithm_at = inside 0x30 (followed oid_at (λ id. given (bytes_eq id sha256_with_rsa) null_or_none))
+abbrev pub algorithm_pieces : Algorithm → List (List ℕ)
+algorithm_pieces a = enc OBJECT_IDENTIFIER sha256_with_rsa ∷ parameters a.has_null ∷ []
+
+abbrev pub algorithm : Algorithm → List ℕ
+algorithm a = sequence (algorithm_pieces a)
+
+abbrev pub algorithm_part : Algorithm → Part
+algorithm_part a = value SEQUENCE (concat (algorithm_pieces a))

@@ -1,13 +1,11 @@
-pub mod Choices
 pub mod Algorithms
 pub mod Keys
 pub mod Names
+pub mod KeyNames
 pub mod Signatures
 pub mod SignedDatas
 pub mod SigningErrors
 pub mod Validities
-pub mod WrittenParts
 pub mod Uris
-pub mod UriParts
 pub mod UriErrors
 pub mod UriLaws

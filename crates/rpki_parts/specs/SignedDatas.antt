@@ -1,12 +1,12 @@
 -- Signed data: a value, an algorithm and a signature (RFC 5280 4.1.1, 5.1.1).
-use Rattle.std.specs.Prelude.{◌≡◌, ℕ, Bool, List, [], ◌∷◌, Option}
+use Rattle.std.specs.Prelude.{◌≡◌, ℕ, List, [], ◌∷◌}
 use Rattle.std.specs.List.{concat}
-use Rattle.rpki_der.specs.Values.{IsEnc, IsValue}
-use Rattle.rpki_der.specs.Reading.{both, mapped}
-use Rattle.rpki_der.specs.Skipping.{captured_at}
-use Rattle.rpki_parts.specs.Algorithms.{IsSignatureAlgorithm, algorithm_at}
-use Rattle.rpki_parts.specs.Keys.{whole_bits_at}
+use Rattle.rpki_der.specs.Tags.{BIT_STRING, SEQUENCE}
+use Rattle.rpki_der.specs.Values.{enc, IsEnc, IsValue, sequence}
+use Rattle.rpki_der.specs.Writers.{Part, value}
+use Rattle.rpki_parts.specs.Algorithms.{IsSignatureAlgorithm, algorithm}
 use Rattle.rpki_parts.specs.Signatures.{SignatureFields}
+pub mod Reading
 
 -- what a contract sees of a SignedData
 pub record SignedFields : Type 0 where
@@ -20,13 +20,16 @@ pub record IsSignedDataContent (s : SignedFields) (content : List ℕ) : Type 0 
   pub signature : List ℕ
   pub message_is : IsValue s.message
   pub algorithm_is : IsSignatureAlgorithm s.signature.algorithm algorithm
-  pub signature_is : IsEnc 3 (0 ∷ s.signature.value) signature
+  pub signature_is : IsEnc BIT_STRING (0 ∷ s.signature.value) signature
   pub is : content ≡ concat (s.message ∷ algorithm ∷ signature ∷ [])
 
--- ---- reading
+-- ---- what is written
 
-abbrev pub signed : List ℕ × (Bool × List ℕ) → SignedFields
-signed p = record { message = p.0; signature = record { algorithm = p.1.0; value = p.1.1 } }
+abbrev pub signed_pieces : SignedFields → List (List ℕ)
+signed_pieces s = s.message ∷ algorithm s.signature.algorithm ∷ enc BIT_STRING (0 ∷ s.signature.value) ∷ []
 
-unfoldable pub signed_content_at : List ℕ → Option (SignedFields × List ℕ)
-signed_content_at = mapped signed (both captured_at (both algorithm_at whole_bits_at))
+abbrev pub signed_data : SignedFields → List ℕ
+signed_data s = sequence (signed_pieces s)
+
+abbrev pub signed_part : SignedFields → Part
+signed_part s = value SEQUENCE (concat (signed_pieces s))

@@ -3,6 +3,7 @@
 use Rattle.std.specs.Prelude.{ℕ, ◌≤◌, List, [], ◌∷◌, ◌++◌, codes, ◌≡◌, ◌≢◌, ◌==◌, ◌⊎◌}
 use Rattle.std.specs.List.{AllByRecursion, concat, slice_split}
 use Rattle.std.specs.Str.{str_to_ascii_lowercase}
+pub mod Tests
 
 abbrev pub slash : ℕ
 slash = 47
@@ -14,8 +15,8 @@ abbrev pub HasNoSlash : List ℕ → Type 0
 HasNoSlash text = AllByRecursion (λ octet. octet ≢ slash) text
 
 -- what stands between two slashes of a URI, or after the last one, and isn't empty
-abbrev pub IsName : List ℕ → Type 0
-IsName text = (text ≢ []) × HasNoSlash text
+abbrev pub IsUriPart : List ℕ → Type 0
+IsUriPart text = (text ≢ []) × HasNoSlash text
 
 abbrev pub IsEmptyOrBeginsWithSlash : List ℕ → Type 0
 IsEmptyOrBeginsWithSlash text = (text ≡ []) ⊎ ((rest : List ℕ) × (text ≡ slash ∷ rest))
@@ -28,7 +29,7 @@ pub record IsUri (scheme authority rest uri : List ℕ) : Type 0 where
   pub written : List ℕ
   pub written_is : str_to_ascii_lowercase written ≡ scheme
   pub is : uri ≡ concat (written ∷ authority ∷ rest ∷ [])
-  pub authority_is : IsName authority
+  pub authority_is : IsUriPart authority
   pub rest_is : IsEmptyOrBeginsWithSlash rest
 
 pub record IsHttps (uri : List ℕ) : Type 0 where
@@ -47,7 +48,7 @@ pub record IsRsync (uri : List ℕ) : Type 0 where
   pub top : List ℕ
   pub tail : List ℕ
   pub is : IsUri (codes "rsync://") authority (concat (codes "/" ∷ top ∷ tail ∷ [])) uri
-  pub top_is : IsName top
+  pub top_is : IsUriPart top
   pub tail_is : (tail ≡ []) ⊎ ((path : List ℕ) × (tail ≡ slash ∷ path) × HasNoDots path)
   pub printable : ArePrintable uri
 
@@ -79,7 +80,7 @@ pub record HasPath (front path uri : List ℕ) : Type 0 where
   pub authority : List ℕ
   pub top : List ℕ
   pub is : IsUri (codes "rsync://") authority (concat (codes "/" ∷ top ∷ codes "/" ∷ path ∷ [])) uri
-  pub top_is : IsName top
+  pub top_is : IsUriPart top
   pub front_is : front ≡ concat (is.written ∷ authority ∷ codes "/" ∷ top ∷ codes "/" ∷ [])
 
 -- the path is empty, or there is none
@@ -88,7 +89,7 @@ pub record HasNoPath (uri : List ℕ) : Type 0 where
   pub top : List ℕ
   pub tail : List ℕ
   pub is : IsUri (codes "rsync://") authority (concat (codes "/" ∷ top ∷ tail ∷ [])) uri
-  pub top_is : IsName top
+  pub top_is : IsUriPart top
   pub tail_is : (tail ≡ []) ⊎ (tail ≡ slash ∷ [])
 
 -- The path isn't empty. It loses one slash at its end, and what is left is kept through its last slash, if it has one.

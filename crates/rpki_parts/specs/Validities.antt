@@ -1,9 +1,11 @@
 -- Validity periods (RFC 5280 4.1.2.5).
-use Rattle.std.specs.Prelude.{ℕ, List, [], ◌∷◌, Option}
-use Rattle.rpki_der.specs.Reading.{inside, both, mapped}
-use Rattle.rpki_der.specs.ReadTimes.{time_at}
-use Rattle.rpki_der.specs.Times.{Moment, IsTime}
-use Rattle.rpki_der.specs.Values.{IsSequence}
+use Rattle.std.specs.Prelude.{ℕ, List, [], ◌∷◌}
+use Rattle.std.specs.List.{concat}
+use Rattle.rpki_der.specs.Tags.{SEQUENCE}
+use Rattle.rpki_der.specs.Times.{Moment, IsTime, time}
+use Rattle.rpki_der.specs.Values.{IsSequence, sequence}
+use Rattle.rpki_der.specs.Writers.{Part, value}
+pub mod Reading
 
 -- what a contract sees of a Validity; the order of the two isn't tested (own)
 pub record ValidityFields : Type 0 where
@@ -17,10 +19,13 @@ pub record IsValidity (v : ValidityFields) (b : List ℕ) : Type 0 where
   pub after_is : IsTime v.not_after after
   pub sequence : IsSequence (before ∷ after ∷ []) b
 
--- ---- reading
+-- ---- what is written
 
-abbrev pub period : Moment × Moment → ValidityFields
-period p = record { not_before = p.0; not_after = p.1 }
+abbrev pub validity_pieces : ValidityFields → List (List ℕ)
+validity_pieces v = time v.not_before ∷ time v.not_after ∷ []
 
-unfoldable pub validity_at : List ℕ → Option (ValidityFields × List ℕ)
-validity_at = inside 0x30 (mapped period (both time_at time_at))
+abbrev pub validity : ValidityFields → List ℕ
+validity v = sequence (validity_pieces v)
+
+abbrev pub validity_part : ValidityFields → Part
+validity_part v = value SEQUENCE (concat (validity_pieces v))

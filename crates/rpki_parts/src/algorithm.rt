@@ -1,33 +1,36 @@
-ghost use Rattle.std.specs.Prelude.{◌≡◌, ◌++◌, true, false, OnOk, OnErr, IfErr};
+//! The signature algorithm, read and written.
+ghost use Rattle.std.specs.Prelude.{◌≡◌, IfErr};
 ghost use Rattle.rpki_der.specs.declared.error.EncodeError.TheVariants.{Memory};
-ghost use Rattle.rpki_der.specs.Place.{Place, left, Keeps, Took, Answers};
+ghost use Rattle.rpki_der.specs.Place.{Place, left, Keeps, Answers};
+ghost use Rattle.rpki_der.specs.Place.Reading.{Took};
 ghost use Rattle.rpki_der.specs.Values.{AreOctets};
-ghost use Rattle.rpki_parts.specs.Algorithms.{IsSignatureAlgorithm, null_or_none, algorithm_at};
-ghost use Rattle.rpki_parts.specs.WrittenParts.{algorithm};
+ghost use Rattle.rpki_der.specs.Writers.{Writes};
+ghost use Rattle.rpki_parts.specs.Algorithms.{with_null, without_null, IsSignatureAlgorithm};
+ghost use Rattle.rpki_parts.specs.Algorithms.{sha256_with_rsa, algorithm_part};
+ghost use Rattle.rpki_parts.specs.Algorithms.Reading.{null_or_none, algorithm_at};
 
-use rpki_der::{Cursor, DecodeError, EncodeError, put_value};
+use rpki_der::{Cursor, DecodeError, EncodeError, put_value, tag};
 use std::marker::Model;
-
-// The content of the identifier.
-const SHA256_WITH_RSA: &[u8] = &[0x2A, 0x86, 0x48, 0x86, 0xF7, 0x0D, 0x01, 0x01, 0x0B];
 
 // What stands in the SEQUENCE: the identifier, and NULL.
 const WITH_NULL: [u8; 13] = [
     0x06, 0x09, 0x2A, 0x86, 0x48, 0x86, 0xF7, 0x0D, 0x01, 0x01, 0x0B, 0x05, 0x00,
 ];
 
-// The identifier alone.
-const WITHOUT_NULL: [u8; 11] = [
-    0x06, 0x09, 0x2A, 0x86, 0x48, 0x86, 0xF7, 0x0D, 0x01, 0x01, 0x0B,
-];
+// The content of the identifier.
+fn identifier() -> &'static [u8]
+    ensures { result.now ≡ sha256_with_rsa }
+{
+    &WITH_NULL[2..11]
+}
 
 // Whether NULL stands next, which is then read.
 pub(crate) fn take_opt_null(cursor: &mut Cursor<'_>) -> Result<bool, DecodeError>
-    ensures reads { Took (λ b. b) null_or_none cursor.old result cursor.new }
+    ensures reads { Took null_or_none cursor.old result cursor.new }
     ensures keeps { Keeps result cursor.old cursor.new }
 {
     match cursor.rest() {
-        [0x05, ..] => {
+        [tag::NULL, ..] => {
             cursor.take_null()?;
             Ok(true)
         }
@@ -42,19 +45,19 @@ pub struct RpkiSignatureAlgorithm {
 }
 
 impl Model for RpkiSignatureAlgorithm {
-    ghost use Rattle.std.specs.Prelude.{Bool};
+    ghost use Rattle.rpki_parts.specs.Algorithms.{Algorithm};
 
-    ghost Value = { Bool };
+    ghost Value = { Algorithm };
 
-    ghost view = { λ a. a.has_parameter };
+    ghost view = { λ a. record { has_null = a.has_parameter } };
 
-    ghost inverse = { λ b. record { has_parameter = b } };
+    ghost inverse = { λ a. record { has_parameter = a.has_null } };
 }
 
 impl RpkiSignatureAlgorithm {
     /// The algorithm with NULL as its parameters.
     pub fn default() -> RpkiSignatureAlgorithm
-        ensures { result ≡ true }
+        ensures { result ≡ with_null }
     {
         RpkiSignatureAlgorithm {
             has_parameter: true,
@@ -63,7 +66,7 @@ impl RpkiSignatureAlgorithm {
 
     /// The algorithm whose parameters are left out.
     pub fn without_parameter() -> RpkiSignatureAlgorithm
-        ensures { result ≡ false }
+        ensures { result ≡ without_null }
     {
         RpkiSignatureAlgorithm {
             has_parameter: false,
@@ -71,15 +74,15 @@ impl RpkiSignatureAlgorithm {
     }
 
     // The algorithm that stands next, by the reading function.
-    #[tactic(auto, unfolding(crate::specs::Algorithms::algorithm_at))]
+    #[tactic(auto, unfolding(crate::specs::Algorithms::Reading::algorithm_at))]
     fn read(cursor: &mut Cursor<'_>) -> Result<RpkiSignatureAlgorithm, DecodeError>
-        ensures reads { Took (λ a. a) algorithm_at cursor.old result cursor.new }
+        ensures reads { Took algorithm_at cursor.old result cursor.new }
         ensures keeps { Keeps result cursor.old cursor.new }
         ensures octets { AreOctets (left cursor.old) }
     {
         let mut ahead = cursor.fork();
         let mut content = ahead.take_sequence()?;
-        if content.take_oid()? != SHA256_WITH_RSA {
+        if content.take_oid()? != identifier() {
             return Err(DecodeError::BadValue);
         }
         let has_parameter = take_opt_null(&mut content)?;
@@ -90,8 +93,8 @@ impl RpkiSignatureAlgorithm {
 
     /// The AlgorithmIdentifier that stands next. Answers `BadValue` at another algorithm.
     pub fn x509_take_from(cursor: &mut Cursor<'_>) -> Result<RpkiSignatureAlgorithm, DecodeError>
-        ensures answers { Answers (λ a. a) IsSignatureAlgorithm cursor.old result cursor.new }
-        ensures reads { Took (λ a. a) algorithm_at cursor.old result cursor.new }
+        ensures answers { Answers IsSignatureAlgorithm cursor.old result cursor.new }
+        ensures reads { Took algorithm_at cursor.old result cursor.new }
         ensures keeps { Keeps result cursor.old cursor.new }
     {
         RpkiSignatureAlgorithm::read(cursor)
@@ -99,14 +102,13 @@ impl RpkiSignatureAlgorithm {
 
     /// Appends the AlgorithmIdentifier as it was read or made (RFC 5280 4.1.1.2). The only error is `Memory`.
     pub fn x509_encode(&self, out: &mut Vec<u8>) -> Result<(), EncodeError>
-        ensures ok { OnOk result (out.new.items ≡ out.old.items ++ algorithm self.now) }
-        ensures err { OnErr result (out.new.items ≡ out.old.items) }
+        ensures writes { Writes (algorithm_part self.now) out.old.items result out.new.items }
         ensures memory { IfErr result (λ e. e ≡ Memory) }
     {
         if self.has_parameter {
-            put_value(out, 0x30, &WITH_NULL)
+            put_value(out, tag::SEQUENCE, &WITH_NULL)
         } else {
-            put_value(out, 0x30, &WITHOUT_NULL)
+            put_value(out, tag::SEQUENCE, &WITH_NULL[..11])
         }
     }
 }

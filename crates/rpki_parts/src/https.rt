@@ -1,8 +1,9 @@
+//! URIs of the scheme https.
 ghost use Rattle.std.specs.Prelude.{◌≡◌, IfOk, IsOk, OnOk, Err, IsTrue, ◌↔◌, codes};
 ghost use Rattle.std.proofs.Common.{rules};
 ghost use Rattle.std.specs.Cmp.Rules.{comparing};
 ghost use Rattle.rpki_parts.specs.Uris.{IsHttps, AreEqual};
-ghost use Rattle.rpki_parts.specs.UriParts as parts;
+ghost use Rattle.rpki_parts.specs.Uris.Tests as parts;
 ghost use Rattle.rpki_parts.specs.declared.uri.UriError.TheVariants as error;
 
 use crate::uri::{BadUri, UriError, are_equal, is_https};
@@ -19,7 +20,7 @@ pub struct Https {
 
 impl Model for Https {
     ghost use Rattle.std.specs.Prelude.{◌≡◌, List, ℕ, true};
-    ghost use Rattle.rpki_parts.specs.UriParts.{is_https};
+    ghost use Rattle.rpki_parts.specs.Uris.Tests.{is_https};
 
     ghost Value = { List ℕ };
 
@@ -100,28 +101,4 @@ impl PartialEq for Https {
 
 impl Eq for Https {
     ghost laws = { Prim.search (comparing, rules) };
-}
-
-#[cfg(test)]
-mod tests {
-    use super::*;
-    use std::test::Fail;
-
-    #[test]
-    fn reads(rt: HostRuntime) -> Result<(), Fail> {
-        let octets = Bytes::from_static(b"HTTPS://h/");
-        let uri = Https::from_bytes(octets.clone()?)?;
-        assert_eq!(rt; uri.try_clone()?.as_bytes(), b"HTTPS://h/".as_slice());
-        assert!(rt; Https::from_piece(Piece::from(octets))? == uri);
-        Ok(())
-    }
-
-    #[test]
-    fn reads_texts(rt: HostRuntime) -> Result<(), Fail> {
-        let uri = Https::from_text(rt.alloc(), "https://example.com")?;
-        assert_eq!(rt; uri.as_bytes(), b"https://example.com".as_slice());
-        let refused = Https::from_text(rt.alloc(), "https:///x");
-        assert!(rt; matches!(refused, Err(UriError::BadUri)));
-        Ok(())
-    }
 }

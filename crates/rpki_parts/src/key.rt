@@ -1,15 +1,19 @@
-ghost use Rattle.std.specs.Prelude.{◌≡◌, ◌↔◌, ◌%◌, ◌^◌, ◌<◌, ◌≤◌, ◌++◌, length, IfOk, OnOk, OnErr, IfErr, IsErrOf, IsOk, IsTrue};
-ghost use Rattle.std.specs.List.{concat};
-ghost use Rattle.rpki_der.specs.Values.{AreOctets, enc};
-ghost use Rattle.rpki_der.specs.Place.{Place, left, IsWithin, Keeps, Took, TookOrMemory, Answers, AnswersOrMemory};
-ghost use Rattle.rpki_parts.specs.Keys.{KeyFields, IsPublicKey, key_identifier, IsKeyIdentifier, key_identifier_at, format_at, whole_bits_at, public_key_at};
-ghost use Rattle.rpki_parts.specs.WrittenParts.{subject_name, key, key_algorithm, key_pieces};
+//! Public keys and their identifiers.
+ghost use Rattle.std.specs.Prelude.{◌≡◌, ◌↔◌, ◌%◌, ◌^◌, ◌<◌, ◌≤◌, length, IfOk, IfErr, IsTrue};
+ghost use Rattle.rpki_der.specs.Values.{AreOctets};
+ghost use Rattle.rpki_der.specs.Tags.{OCTET_STRING};
+ghost use Rattle.rpki_der.specs.Writers.{Writes, value};
+ghost use Rattle.rpki_der.specs.Place.{Place, left, IsWithin, Keeps, Answers, AnswersOrMemory};
+ghost use Rattle.rpki_der.specs.Place.Reading.{Took, TookBy, TookOrMemory};
+ghost use Rattle.rpki_parts.specs.Keys.{KeyFields, IsPublicKey, key_identifier, IsKeyIdentifier, key_algorithm, key_part};
+ghost use Rattle.rpki_parts.specs.Keys.Reading.{key_identifier_at, format_at, whole_bits_at, public_key_at};
+ghost use Rattle.rpki_parts.specs.KeyNames.{subject_name};
 ghost use Rattle.rpki_der.specs.declared.error.EncodeError.TheVariants.{Memory};
 
 use crate::algorithm::take_opt_null;
 use crate::name::Name;
 use bytes::Bytes;
-use rpki_der::{Cursor, DecodeError, EncodeError, Piece, put_bits, put_parts, put_value};
+use rpki_der::{Cursor, DecodeError, EncodeError, Piece, put_bits, put_parts, put_value, tag};
 use sha1::Sha1;
 use std::alloc::{AllocError, Global};
 use std::marker::Model;
@@ -62,19 +66,20 @@ impl KeyIdentifier {
         ensures octets { AreOctets self.now }
     {
         let octets = self.octets.as_slice();
+        // Called for what it ensures alone.
         let _all = &octets[0..20];
         &self.octets
     }
 
     // The identifier that stands next, by the reading function.
-    #[tactic(auto, unfolding(crate::specs::Keys::key_identifier_at))]
+    #[tactic(auto, unfolding(crate::specs::Keys::Reading::key_identifier_at))]
     fn read(cursor: &mut Cursor<'_>) -> Result<KeyIdentifier, DecodeError>
-        ensures reads { Took (λ k. k) key_identifier_at cursor.old result cursor.new }
+        ensures reads { Took key_identifier_at cursor.old result cursor.new }
         ensures keeps { Keeps result cursor.old cursor.new }
         ensures octets { AreOctets (left cursor.old) }
     {
         let mut ahead = cursor.fork();
-        let content = ahead.take_value(0x04)?;
+        let content = ahead.take_value(tag::OCTET_STRING)?;
         let Ok(octets) = <[u8; 20]>::try_from(content.rest()) else {
             return Err(DecodeError::BadValue);
         };
@@ -84,8 +89,8 @@ impl KeyIdentifier {
 
     /// The identifier that stands next, an OCTET STRING of 20 octets.
     pub fn take_from(cursor: &mut Cursor<'_>) -> Result<KeyIdentifier, DecodeError>
-        ensures answers { Answers (λ k. k) IsKeyIdentifier cursor.old result cursor.new }
-        ensures reads { Took (λ k. k) key_identifier_at cursor.old result cursor.new }
+        ensures answers { Answers IsKeyIdentifier cursor.old result cursor.new }
+        ensures reads { Took key_identifier_at cursor.old result cursor.new }
         ensures keeps { Keeps result cursor.old cursor.new }
     {
         KeyIdentifier::read(cursor)
@@ -93,18 +98,16 @@ impl KeyIdentifier {
 
     /// Appends the identifier as an OCTET STRING. The only error is `Memory`.
     pub fn encode_ref(&self, out: &mut Vec<u8>) -> Result<(), EncodeError>
-        ensures ok { OnOk result (out.new.items ≡ out.old.items ++ enc 0x04 self.now) }
-        ensures err { OnErr result (out.new.items ≡ out.old.items) }
+        ensures writes { Writes (value OCTET_STRING self.now) out.old.items result out.new.items }
         ensures memory { IfErr result (λ e. e ≡ Memory) }
     {
-        self.encode_ref_as(out, 0x04)
+        self.encode_ref_as(out, tag::OCTET_STRING)
     }
 
     /// The same under another identifier octet, the low five bits of which aren't all ones.
     pub fn encode_ref_as(&self, out: &mut Vec<u8>, tag: u8) -> Result<(), EncodeError>
         requires { tag % 32 < 31 }
-        ensures ok { OnOk result (out.new.items ≡ out.old.items ++ enc tag self.now) }
-        ensures err { OnErr result (out.new.items ≡ out.old.items) }
+        ensures writes { Writes (value tag self.now) out.old.items result out.new.items }
         ensures memory { IfErr result (λ e. e ≡ Memory) }
     {
         put_value(out, tag, &self.octets)
@@ -154,9 +157,9 @@ impl PublicKeyFormat {
 }
 
 // The algorithm of the key that stands next.
-#[tactic(auto, unfolding(crate::specs::Keys::format_at))]
+#[tactic(auto, unfolding(crate::specs::Keys::Reading::format_at))]
 fn take_format(cursor: &mut Cursor<'_>) -> Result<PublicKeyFormat, DecodeError>
-    ensures reads { Took (λ f. f) format_at cursor.old result cursor.new }
+    ensures reads { Took format_at cursor.old result cursor.new }
     ensures keeps { Keeps result cursor.old cursor.new }
 {
     let mut ahead = cursor.fork();
@@ -176,9 +179,9 @@ fn take_format(cursor: &mut Cursor<'_>) -> Result<PublicKeyFormat, DecodeError>
 }
 
 // A cursor over the octets of the BIT STRING that stands next, of which no bits are unused.
-#[tactic(auto, unfolding(crate::specs::Keys::whole_bits_at))]
+#[tactic(auto, unfolding(crate::specs::Keys::Reading::whole_bits_at))]
 pub(crate) fn take_whole_bits<'a>(cursor: &mut Cursor<'a>) -> Result<Cursor<'a>, DecodeError>
-    ensures reads { Took left whole_bits_at cursor.old result cursor.new }
+    ensures reads { TookBy left whole_bits_at cursor.old result cursor.new }
     ensures keeps { Keeps result cursor.old cursor.new }
     ensures inside { IfOk result (λ c. IsWithin c cursor.old) }
 {
@@ -220,9 +223,9 @@ impl PublicKey {
     }
 
     // The key that stands next, by the reading function.
-    #[tactic(auto, unfolding(crate::specs::Keys::public_key_at))]
+    #[tactic(auto, unfolding(crate::specs::Keys::Reading::public_key_at))]
     fn read(cursor: &mut Cursor<'_>) -> Result<PublicKey, DecodeError>
-        ensures reads { TookOrMemory (λ k. k) public_key_at cursor.old result cursor.new }
+        ensures reads { TookOrMemory public_key_at cursor.old result cursor.new }
         ensures keeps { Keeps result cursor.old cursor.new }
         ensures octets { AreOctets (left cursor.old) }
     {
@@ -238,8 +241,8 @@ impl PublicKey {
     /// The SubjectPublicKeyInfo that stands next (RFC 5280 4.1.2.7). Answers `BadValue` at another algorithm or curve and where bits
     /// are unused.
     pub fn take_from(cursor: &mut Cursor<'_>) -> Result<PublicKey, DecodeError>
-        ensures answers { AnswersOrMemory (λ k. k) IsPublicKey cursor.old result cursor.new }
-        ensures reads { TookOrMemory (λ k. k) public_key_at cursor.old result cursor.new }
+        ensures answers { AnswersOrMemory IsPublicKey cursor.old result cursor.new }
+        ensures reads { TookOrMemory public_key_at cursor.old result cursor.new }
         ensures keeps { Keeps result cursor.old cursor.new }
     {
         PublicKey::read(cursor)
@@ -248,14 +251,11 @@ impl PublicKey {
     /// Appends the SubjectPublicKeyInfo, with NULL behind rsaEncryption. Answers `TooLong` where its content would have 2^32 octets or
     /// more.
     pub fn encode_ref(&self, out: &mut Vec<u8>) -> Result<(), EncodeError>
-        ensures ok { OnOk result (out.new.items ≡ out.old.items ++ key self.now) }
-        ensures err { OnErr result (out.new.items ≡ out.old.items) }
-        ensures too_long { IsErrOf result EncodeError.TooLong → 2 ^ 32 ≤ length (concat (key_pieces self.now)) }
-        ensures fits { IsOk result → length (concat (key_pieces self.now)) < 2 ^ 32 }
+        ensures { Writes (key_part self.now) out.old.items result out.new.items }
     {
         let mut bits = Vec::new(*out.allocator());
         put_bits(&mut bits, 0, self.bits())?;
-        put_parts(out, 0x30, self.format.algorithm(), &bits)
+        put_parts(out, tag::SEQUENCE, self.format.algorithm(), &bits)
     }
 
     /// The key's bits, as octets.

@@ -1,15 +1,19 @@
-ghost use Rattle.rpki_parts.specs.WrittenParts.{digit, hexadecimal, name_of_digits};
-ghost use Rattle.std.specs.Prelude.{◌≡◌, ◌<◌, ◌++◌, IfOk, IfErr, OnOk, OnErr, is_ok, is_some};
-ghost use Rattle.rpki_der.specs.Place.{Place, left, Keeps, Took, TookOrMemory, AnswersOrMemory};
+//! Names, kept as they stand.
+ghost use Rattle.rpki_parts.specs.KeyNames.{digit, hexadecimal, name_of_digits};
+ghost use Rattle.std.specs.Prelude.{◌≡◌, ◌<◌, ◌++◌, IfOk, IfErr, OnOk, is_ok, is_some};
+ghost use Rattle.rpki_der.specs.Place.{Place, left, Keeps, AnswersOrMemory};
+ghost use Rattle.rpki_der.specs.Place.Reading.{Took, TookBy, TookOrMemory};
 ghost use Rattle.rpki_der.specs.Reading.{mapped};
-ghost use Rattle.rpki_der.specs.Rows.{row_of};
+ghost use Rattle.rpki_der.specs.Rows.Reading.{row_of};
 ghost use Rattle.rpki_der.specs.Values.{AreOctets};
+ghost use Rattle.rpki_der.specs.Writers.{Writes};
 ghost use Rattle.rpki_der.specs.declared.error.EncodeError.TheVariants.{Memory};
-ghost use Rattle.rpki_parts.specs.Names.{Attribute, IsName, is_name, tagged_at, attribute_at, part_at, name_at};
+ghost use Rattle.rpki_parts.specs.Names.{Attribute, IsName, name_part};
+ghost use Rattle.rpki_parts.specs.Names.Reading.{is_name, tagged_at, attribute_at, part_at, name_at};
 
 use crate::key::KeyIdentifier;
 use bytes::Bytes;
-use rpki_der::{Cursor, DecodeError, EncodeError, Piece};
+use rpki_der::{Cursor, DecodeError, EncodeError, Piece, tag};
 use std::alloc::{AllocError, Global};
 use std::marker::Model;
 use thiserror::Error;
@@ -28,7 +32,7 @@ pub struct Name {
 
 impl Model for Name {
     ghost use Rattle.std.specs.Prelude.{◌≡◌, List, ℕ, true};
-    ghost use Rattle.rpki_parts.specs.Names.{is_name};
+    ghost use Rattle.rpki_parts.specs.Names.Reading.{is_name};
 
     ghost Value = { List ℕ };
 
@@ -39,7 +43,7 @@ impl Model for Name {
 
 // The identifier octet of the value that stands next and is skipped.
 fn skip_tagged(cursor: &mut Cursor<'_>) -> Result<u8, DecodeError>
-    ensures reads { Took (λ tag. tag) tagged_at cursor.old result cursor.new }
+    ensures reads { Took tagged_at cursor.old result cursor.new }
     ensures keeps { Keeps result cursor.old cursor.new }
 {
     match cursor.rest() {
@@ -52,9 +56,10 @@ fn skip_tagged(cursor: &mut Cursor<'_>) -> Result<u8, DecodeError>
 }
 
 // The type of the attribute that stands next, and the identifier octet of its value.
-#[tactic(auto, unfolding(crate::specs::Names::attribute_at))]
+#[tactic(auto, unfolding(crate::specs::Names::Reading::attribute_at))]
 fn take_attribute<'a>(cursor: &mut Cursor<'a>) -> Result<(&'a [u8], u8), DecodeError>
-    ensures reads { Took (λ x. record { type_id = x.0.now; value_tag = x.1 }) attribute_at cursor.old result cursor.new }
+    ensures reads { TookBy (λ x. record { type_id = x.0.now; value_tag = x.1 }) attribute_at
+        cursor.old result cursor.new }
     ensures keeps { Keeps result cursor.old cursor.new }
 {
     let mut ahead = cursor.fork();
@@ -77,13 +82,13 @@ fn check_attributes(mut row: Cursor<'_>) -> Result<(), DecodeError>
 }
 
 // Past the SET of at least one attribute that stands next.
-#[tactic(auto, unfolding(crate::specs::Names::part_at))]
+#[tactic(auto, unfolding(crate::specs::Names::Reading::part_at))]
 fn skip_part(cursor: &mut Cursor<'_>) -> Result<(), DecodeError>
-    ensures reads { Took (λ u. u) (mapped (λ _. tt) part_at) cursor.old result cursor.new }
+    ensures reads { Took (mapped (λ _. tt) part_at) cursor.old result cursor.new }
     ensures keeps { Keeps result cursor.old cursor.new }
 {
     let mut ahead = cursor.fork();
-    let set = ahead.take_value(0x31)?;
+    let set = ahead.take_value(tag::SET)?;
     if set.is_empty() {
         return Err(DecodeError::BadValue);
     }
@@ -103,7 +108,7 @@ fn check_parts(mut row: Cursor<'_>) -> Result<(), DecodeError>
 }
 
 // Whether the octets are a name.
-#[tactic(auto, unfolding(crate::specs::Names::name_of))]
+#[tactic(auto, unfolding(crate::specs::Names::Reading::name_of))]
 fn check_name(mut octets: Cursor<'_>) -> Result<(), DecodeError>
     ensures { is_ok result ≡ is_name (left octets.entry) }
 {
@@ -143,9 +148,9 @@ impl Name {
     }
 
     // The name that stands next, by the reading function.
-    #[tactic(auto, unfolding(crate::specs::Names::name_at))]
+    #[tactic(auto, unfolding(crate::specs::Names::Reading::name_at))]
     fn read(cursor: &mut Cursor<'_>) -> Result<Name, DecodeError>
-        ensures reads { TookOrMemory (λ n. n) name_at cursor.old result cursor.new }
+        ensures reads { TookOrMemory name_at cursor.old result cursor.new }
         ensures keeps { Keeps result cursor.old cursor.new }
         ensures octets { AreOctets (left cursor.old) }
     {
@@ -159,8 +164,8 @@ impl Name {
     /// The name that stands next: a SEQUENCE of SETs, each of at least one SEQUENCE of an identifier and a value. Of the values no more
     /// is tested than that they can be skipped, and the order in a SET isn't tested.
     pub fn take_from(cursor: &mut Cursor<'_>) -> Result<Name, DecodeError>
-        ensures answers { AnswersOrMemory (λ n. n) IsName cursor.old result cursor.new }
-        ensures reads { TookOrMemory (λ n. n) name_at cursor.old result cursor.new }
+        ensures answers { AnswersOrMemory IsName cursor.old result cursor.new }
+        ensures reads { TookOrMemory name_at cursor.old result cursor.new }
         ensures keeps { Keeps result cursor.old cursor.new }
     {
         Name::read(cursor)
@@ -171,14 +176,14 @@ impl Name {
         ensures octets { result.now ≡ self.now }
         ensures valid { IsName self.now self.now }
     {
+        // Called for what it ensures alone.
         let _octets = self.octets.cursor();
         self.octets.as_bytes()
     }
 
     /// Appends the name as it stands. The only error is `Memory`.
     pub fn encode_ref(&self, out: &mut Vec<u8>) -> Result<(), EncodeError>
-        ensures ok { OnOk result (out.new.items ≡ out.old.items ++ self.now) }
-        ensures err { OnErr result (out.new.items ≡ out.old.items) }
+        ensures writes { Writes (name_part self.now) out.old.items result out.new.items }
         ensures memory { IfErr result (λ e. e ≡ Memory) }
     {
         out.extend_from_slice(self.as_bytes())?;

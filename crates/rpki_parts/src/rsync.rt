@@ -1,8 +1,9 @@
+//! URIs of the scheme rsync.
 ghost use Rattle.std.specs.Prelude.{◌≡◌, IfOk, IfSome, IsOk, IsNone, OnOk, Err, IsTrue, ◌↔◌, codes};
 ghost use Rattle.std.proofs.Common.{rules};
 ghost use Rattle.std.specs.Cmp.Rules.{comparing};
 ghost use Rattle.rpki_parts.specs.Uris.{IsRsync, AreEqual, AreIdentical, HasNoPath, IsParent, HasParent};
-ghost use Rattle.rpki_parts.specs.UriParts as parts;
+ghost use Rattle.rpki_parts.specs.Uris.Tests as parts;
 ghost use Rattle.rpki_parts.specs.declared.uri.UriError.TheVariants as error;
 
 use crate::uri::{BadUri, UriError, are_equal, are_identical, is_rsync, parent_of};
@@ -19,7 +20,7 @@ pub struct Rsync {
 
 impl Model for Rsync {
     ghost use Rattle.std.specs.Prelude.{◌≡◌, List, ℕ, true};
-    ghost use Rattle.rpki_parts.specs.UriParts.{is_rsync};
+    ghost use Rattle.rpki_parts.specs.Uris.Tests.{is_rsync};
 
     ghost Value = { List ℕ };
 
@@ -133,69 +134,4 @@ impl PartialEq for Rsync {
 
 impl Eq for Rsync {
     ghost laws = { Prim.search (comparing, rules) };
-}
-
-#[cfg(test)]
-mod tests {
-    use super::*;
-    use std::test::Fail;
-
-    const MANIFEST: &str = "rsync://example.com/m/p/mft.mft";
-
-    #[test]
-    fn reads(rt: HostRuntime) -> Result<(), Fail> {
-        let octets = Bytes::from_static(MANIFEST.as_bytes());
-        let uri = Rsync::from_bytes(octets.clone()?)?;
-        assert_eq!(rt; uri.try_clone()?.as_bytes(), MANIFEST.as_bytes());
-        assert!(rt; Rsync::from_piece(Piece::from(octets))? == uri);
-        Ok(())
-    }
-
-    #[test]
-    fn refuses(rt: HostRuntime) {
-        for text in [
-            "rsync://example.com/m/../p",
-            "rsync://example.com/",
-            "rsync:///m/p",
-        ] {
-            let refused = Rsync::from_text(rt.alloc(), text);
-            assert!(rt; matches!(refused, Err(UriError::BadUri)), "{text}");
-        }
-    }
-
-    #[test]
-    fn compares(rt: HostRuntime) -> Result<(), Fail> {
-        let uri = Rsync::from_text(rt.alloc(), "rsync://example.com/m/p")?;
-        let upper = Rsync::from_text(rt.alloc(), "RSYNC://EXAMPLE.com/m/p")?;
-        let other = Rsync::from_text(rt.alloc(), "rsync://example.com/M/p")?;
-        assert!(rt; uri == upper && uri != other);
-        Ok(())
-    }
-
-    // Whether the first text's URI has the second one's as its parent.
-    fn is_parent(alloc: Global, text: &str, parent: &str) -> Result<bool, UriError> {
-        let uri = Rsync::from_text(alloc, text)?;
-        let parent = Rsync::from_text(alloc, parent)?;
-        let Some(found) = uri.parent(alloc)? else {
-            return Ok(false);
-        };
-        Ok(found.as_bytes() == parent.as_bytes() && uri.parent_is(&parent))
-    }
-
-    // Whether the text's URI has no parent.
-    fn is_top(alloc: Global, text: &str) -> Result<bool, UriError> {
-        let uri = Rsync::from_text(alloc, text)?;
-        Ok(uri.parent(alloc)?.is_none() && !uri.parent_is(&uri))
-    }
-
-    #[test]
-    fn has_a_parent(rt: HostRuntime) -> Result<(), Fail> {
-        let folder = "rsync://example.com/m/p/";
-        let top = "rsync://example.com/m/";
-        assert!(rt; is_parent(rt.alloc(), MANIFEST, folder)?);
-        assert!(rt; is_parent(rt.alloc(), folder, top)?);
-        assert!(rt; is_top(rt.alloc(), top)?);
-        assert!(rt; is_top(rt.alloc(), "rsync://example.com/m")?);
-        Ok(())
-    }
 }

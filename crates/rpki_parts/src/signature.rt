@@ -1,3 +1,4 @@
+//! Signatures, and who verifies and makes them.
 ghost use Rattle.std.specs.Prelude.{◌≡◌, ◌↔◌, IfOk, IsTrue};
 ghost use Rattle.rpki_parts.specs.Signatures.{SignatureFields};
 
@@ -87,7 +88,8 @@ pub trait Verifier {
 
 /// Makes signatures by keys that it knows.
 pub trait Signer {
-    ghost use Rattle.std.specs.Prelude.{ℕ, Bool, List, Result};
+    ghost use Rattle.std.specs.Prelude.{ℕ, List, Result};
+    ghost use Rattle.rpki_parts.specs.Algorithms.{Algorithm};
     ghost use Rattle.rpki_parts.specs.Signatures.{SignatureFields};
     ghost use Rattle.rpki_parts.specs.declared.signature.SigningError.{SigningError as Refusal};
 
@@ -98,7 +100,8 @@ pub trait Signer {
     type Error;
 
     /// The relation of key, algorithm, message and answer that each answer meets, a refusal too.
-    ghost signs: { Self → Self.KeyId → Bool → List ℕ → Result SignatureFields (Refusal Self.Error) → Type 0 };
+    ghost signs: { Self → Self.KeyId → Algorithm → List ℕ
+        → Result SignatureFields (Refusal Self.Error) → Type 0 };
 
     fn sign(
         &self,

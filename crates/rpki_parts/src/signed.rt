@@ -1,15 +1,17 @@
-ghost use Rattle.std.specs.Prelude.{◌≡◌, ◌↔◌, ◌^◌, ◌<◌, ◌≤◌, ◌++◌, length, IfOk, IsOk, OnOk, OnErr, IsErrOf};
-ghost use Rattle.std.specs.List.{concat};
-ghost use Rattle.rpki_parts.specs.WrittenParts.{signed_data, signed_pieces};
-ghost use Rattle.rpki_der.specs.Place.{Place, left, Keeps, TookOrMemory, AnswersOrMemory};
+//! Signed data: octets and their signature.
+ghost use Rattle.std.specs.Prelude.{◌≡◌, ◌↔◌, IfOk, IsOk};
+ghost use Rattle.rpki_der.specs.Writers.{Writes};
+ghost use Rattle.rpki_der.specs.Place.{Place, left, Keeps, AnswersOrMemory};
+ghost use Rattle.rpki_der.specs.Place.Reading.{TookOrMemory};
 ghost use Rattle.rpki_der.specs.Values.{AreOctets};
-ghost use Rattle.rpki_parts.specs.SignedDatas.{IsSignedDataContent, signed_content_at};
+ghost use Rattle.rpki_parts.specs.SignedDatas.{IsSignedDataContent, signed_part};
+ghost use Rattle.rpki_parts.specs.SignedDatas.Reading.{signed_content_at};
 
 use crate::algorithm::RpkiSignatureAlgorithm;
 use crate::key::{PublicKey, take_whole_bits};
 use crate::signature::{Signature, SignatureVerificationError, Verifier};
 use bytes::Bytes;
-use rpki_der::{Cursor, DecodeError, EncodeError, Piece, put_bits, put_parts};
+use rpki_der::{Cursor, DecodeError, EncodeError, Piece, put_bits, put_parts, tag};
 use std::alloc::AllocError;
 use std::marker::Model;
 
@@ -40,9 +42,9 @@ impl SignedData {
     }
 
     // What stands in the SEQUENCE, by the reading function.
-    #[tactic(auto, unfolding(crate::specs::SignedDatas::signed_content_at))]
+    #[tactic(auto, unfolding(crate::specs::SignedDatas::Reading::signed_content_at))]
     fn read(content: &mut Cursor<'_>) -> Result<SignedData, DecodeError>
-        ensures reads { TookOrMemory (λ s. s) signed_content_at content.old result content.new }
+        ensures reads { TookOrMemory signed_content_at content.old result content.new }
         ensures keeps { Keeps result content.old content.new }
         ensures octets { AreOctets (left content.old) }
     {
@@ -60,8 +62,8 @@ impl SignedData {
     /// What stands in the SEQUENCE: a value, which is kept as it stands, the algorithm, and the BIT STRING of the signature, of which no
     /// bits are unused.
     pub fn from_constructed(content: &mut Cursor<'_>) -> Result<SignedData, DecodeError>
-        ensures answers { AnswersOrMemory (λ s. s) IsSignedDataContent content.old result content.new }
-        ensures reads { TookOrMemory (λ s. s) signed_content_at content.old result content.new }
+        ensures answers { AnswersOrMemory IsSignedDataContent content.old result content.new }
+        ensures reads { TookOrMemory signed_content_at content.old result content.new }
         ensures keeps { Keeps result content.old content.new }
     {
         SignedData::read(content)
@@ -87,7 +89,8 @@ impl SignedData {
         key: &PublicKey,
         verifier: &V,
     ) -> Result<(), SignatureVerificationError>
-        ensures { IsOk result ↔ V.verifies verifier.now key.now self.now.signature.algorithm self.now.message self.now.signature.value }
+        ensures { IsOk result ↔ V.verifies verifier.now key.now self.now.signature.algorithm
+            self.now.message self.now.signature.value }
     {
         let signature = &self.signature;
         if verifier.verify(key, *signature.algorithm(), self.data(), signature.value()) {
@@ -100,15 +103,12 @@ impl SignedData {
     /// Appends the SEQUENCE of the octets as they are kept, the algorithm and the signature. Answers `TooLong` where its content would
     /// have 2^32 octets or more.
     pub fn encode_ref(&self, out: &mut Vec<u8>) -> Result<(), EncodeError>
-        ensures ok { OnOk result (out.new.items ≡ out.old.items ++ signed_data self.now) }
-        ensures err { OnErr result (out.new.items ≡ out.old.items) }
-        ensures too_long { IsErrOf result EncodeError.TooLong → 2 ^ 32 ≤ length (concat (signed_pieces self.now)) }
-        ensures fits { IsOk result → length (concat (signed_pieces self.now)) < 2 ^ 32 }
+        ensures { Writes (signed_part self.now) out.old.items result out.new.items }
     {
         let mut tail = Vec::new(*out.allocator());
         self.signature.algorithm().x509_encode(&mut tail)?;
         put_bits(&mut tail, 0, self.signature.value())?;
-        put_parts(out, 0x30, self.data(), &tail)
+        put_parts(out, tag::SEQUENCE, self.data(), &tail)
     }
 
     /// The same once more.

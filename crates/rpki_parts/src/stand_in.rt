@@ -1,3 +1,4 @@
+//! A signer and verifier for tests, which protects nothing.
 ghost use Rattle.std.specs.Prelude.{◌≡◌, ◌++◌, IfOk};
 
 use crate::algorithm::RpkiSignatureAlgorithm;
@@ -48,7 +49,9 @@ impl Signer for StandIn {
 
     type Error = ();
 
-    ghost signs = { λ _ key algorithm message r. MatchResult r (λ s. (s.algorithm ≡ algorithm) × IsStandInSignature key algorithm message s.value) (λ e. e ≡ Memory) };
+    ghost signs = { λ _ key algorithm message r. MatchResult r
+        (λ s. (s.algorithm ≡ algorithm) × IsStandInSignature key algorithm message s.value)
+        (λ e. e ≡ Memory) };
 
     fn sign(
         &self,

@@ -1,3 +1,4 @@
+//! Trust anchor locators.
 ghost use Rattle.std.specs.Prelude.{◌≡◌, IfOk};
 ghost use Rattle.std.proofs.Common.{string_bytes, rc_value};
 
@@ -40,20 +41,5 @@ impl TalInfo {
         ensures { IfOk result (λ t. rc_value t ≡ self) }
     {
         Ok(Rc::new(alloc, self)?)
-    }
-}
-
-#[cfg(test)]
-mod tests {
-    use super::*;
-    use std::test::Fail;
-
-    #[test]
-    fn keeps_its_name(rt: HostRuntime) -> Result<(), Fail> {
-        let alloc = rt.alloc();
-        let name = String::from_str(alloc, "example")?;
-        let locator = TalInfo::from_name(name).into_rc(alloc)?;
-        assert_eq!(rt; locator.name(), "example");
-        Ok(())
     }
 }

@@ -1,7 +1,8 @@
+//! What both kinds of URIs have in common.
 ghost use Rattle.std.specs.Prelude.{◌≡◌, ◌≤◌, ◌↔◌, IsTrue, IsNone, IfSome, length, take, drop};
 ghost use Rattle.std.specs.Char.{is_ascii_graphic};
 ghost use Rattle.std.specs.List.{list_all, position_or_len, slice_split};
-ghost use Rattle.rpki_parts.specs.UriParts as parts;
+ghost use Rattle.rpki_parts.specs.Uris.Tests as parts;
 ghost use Rattle.rpki_parts.specs.Uris.{IsHttps, IsRsync, AreIdentical, HasNoPath, IsParent};
 
 use std::alloc::AllocError;

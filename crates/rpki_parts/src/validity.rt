@@ -1,11 +1,14 @@
-ghost use Rattle.std.specs.Prelude.{◌≡◌, ◌++◌, OnOk, OnErr, IfErr};
+//! Periods of validity.
+ghost use Rattle.std.specs.Prelude.{◌≡◌, IfErr};
 ghost use Rattle.rpki_der.specs.Values.{AreOctets};
-ghost use Rattle.rpki_der.specs.Place.{Place, left, Keeps, Took, Answers};
+ghost use Rattle.rpki_der.specs.Place.{Place, left, Keeps, Answers};
+ghost use Rattle.rpki_der.specs.Place.Reading.{Took};
 ghost use Rattle.rpki_der.specs.declared.error.EncodeError.TheVariants.{Memory};
-ghost use Rattle.rpki_parts.specs.Validities.{IsValidity, validity_at};
-ghost use Rattle.rpki_parts.specs.WrittenParts.{validity};
+ghost use Rattle.rpki_parts.specs.Validities.{IsValidity, validity_part};
+ghost use Rattle.rpki_parts.specs.Validities.Reading.{validity_at};
+ghost use Rattle.rpki_der.specs.Writers.{Writes};
 
-use rpki_der::{Cursor, DecodeError, EncodeError, Time, put_value};
+use rpki_der::{Cursor, DecodeError, EncodeError, Time, put_value, tag};
 use std::marker::Model;
 
 /// The period in which a certificate is valid, both ends included (RFC 5280 4.1.2.5). Which of them is earlier isn't tested.
@@ -51,9 +54,9 @@ impl Validity {
     }
 
     // The period that stands next, by the reading function.
-    #[tactic(auto, unfolding(crate::specs::Validities::validity_at))]
+    #[tactic(auto, unfolding(crate::specs::Validities::Reading::validity_at))]
     fn read(cursor: &mut Cursor<'_>) -> Result<Validity, DecodeError>
-        ensures reads { Took (λ v. v) validity_at cursor.old result cursor.new }
+        ensures reads { Took validity_at cursor.old result cursor.new }
         ensures keeps { Keeps result cursor.old cursor.new }
         ensures octets { AreOctets (left cursor.old) }
     {
@@ -68,8 +71,8 @@ impl Validity {
 
     /// The SEQUENCE of two times that stands next.
     pub fn take_from(cursor: &mut Cursor<'_>) -> Result<Validity, DecodeError>
-        ensures answers { Answers (λ v. v) IsValidity cursor.old result cursor.new }
-        ensures reads { Took (λ v. v) validity_at cursor.old result cursor.new }
+        ensures answers { Answers IsValidity cursor.old result cursor.new }
+        ensures reads { Took validity_at cursor.old result cursor.new }
         ensures keeps { Keeps result cursor.old cursor.new }
     {
         Validity::read(cursor)
@@ -77,13 +80,12 @@ impl Validity {
 
     /// Appends the SEQUENCE of both times. The only error is `Memory`.
     pub fn encode(&self, out: &mut Vec<u8>) -> Result<(), EncodeError>
-        ensures ok { OnOk result (out.new.items ≡ out.old.items ++ validity self.now) }
-        ensures err { OnErr result (out.new.items ≡ out.old.items) }
+        ensures writes { Writes (validity_part self.now) out.old.items result out.new.items }
         ensures memory { IfErr result (λ e. e ≡ Memory) }
     {
         let mut content = Vec::new(*out.allocator());
         self.not_before.encode_varied(&mut content)?;
         self.not_after.encode_varied(&mut content)?;
-        put_value(out, 0x30, &content)
+        put_value(out, tag::SEQUENCE, &content)
     }
 }

@@ -1,18 +1,17 @@
 -- An entry that is read is spelled so, and what is spelled so is read again.
 use Rattle.std.proofs.Common.{ℕ, refl}
-use Rattle.rpki_der.specs.Reading.{both, mapped}
-use Rattle.rpki_der.specs.ReadSerials.{serial_at}
-use Rattle.rpki_der.specs.ReadTimes.{time_at}
-use Rattle.rpki_der.specs.Rows.{Shrinks}
+use Rattle.rpki_der.specs.Reading.{both, mapped, Both, Inside, Reads}
+use Rattle.rpki_der.specs.Serials.Reading.{serial_at}
+use Rattle.rpki_der.specs.Times.Reading.{time_at}
+use Rattle.rpki_der.specs.Rows.Reading.{Shrinks}
 use Rattle.rpki_der.specs.Serials.{IsSerial}
 use Rattle.rpki_der.specs.Times.{Moment, IsTime}
-use Rattle.rpki_der.specs.Spelling.{Both, Inside, Reads}
-use Rattle.rpki_der.proofs.Made.{both_reads, inside_reads, mapped_reads, same_reads}
+use Rattle.rpki_der.proofs.Readings.{both_reads, inside_reads, mapped_reads, same_reads}
 use Rattle.rpki_der.proofs.Rows.{inside_shrinks}
 use Rattle.rpki_der.proofs.SerialReads.{serial_reads}
 use Rattle.rpki_der.proofs.TimeReads.{time_reads}
 use Rattle.rpki_path.specs.RevokedEntries.{Entry, IsEntry}
-use Rattle.rpki_path.specs.ReadEntries.{entry_from, entry_at}
+use Rattle.rpki_path.specs.RevokedEntries.Reading.{entry_from, entry_at}
 
 abbrev parts : Entry → ℕ × Moment
 parts e = (e.serial, e.date)

@@ -1,63 +1,78 @@
--- A row of entries, one entry at a time.
-use Rattle.std.proofs.Common.{◌≡◌, ℕ, zero, suc, ◌<◌, Bool, true, false, List, [], ◌∷◌, length, get_or, Option, Some, None, Result, Ok, Err, refl, sym, ap, subst, ◌∙◌, arith}
-use Rattle.std.specs.Prelude.{is_some, IsOk, IsErr, ◌↔◌, map, nat_eq}
-use Rattle.std.proofs.lemmas.Bool.{false≢true, eq-eqb, eqb-true}
+-- A row of entries, gone over one entry at a time.
+use Rattle.std.specs.Prelude.{nat_eq, not, map}
+use Rattle.std.proofs.Common.{◌≡◌, ℕ, zero, suc, ◌<◌, Bool, List, [], ◌∷◌, length, get_or, Option, Some, None, refl, sym, subst, ◌∙◌, inl, inr, arith}
+use Rattle.std.proofs.lemmas.Bool.{cases_Bool, eqb-true, eqb-false}
+use Rattle.rpki_der.specs.Folding.{each, over, steps}
+use Rattle.rpki_der.specs.Rows.Reading.{row_of}
 use Rattle.rpki_der.specs.Values.{AreOctets}
-use Rattle.rpki_der.specs.Reading.{◌>>=◌}
-use Rattle.rpki_der.specs.Rows.{row_of}
-use Rattle.rpki_der.proofs.Rows.{row_steps, row_is}
-use Rattle.rpki_der.proofs.RowTests.{goes_on}
+use Rattle.rpki_der.proofs.Octets.{bind_some, nothing}
+use Rattle.rpki_der.proofs.Rows.{row_is}
+use Rattle.rpki_der.proofs.Walking.{passed}
 use Rattle.rpki_path.specs.RevokedEntries.{Entry, Revoked, IsEntry, AreEntries, IsRevoked}
-use Rattle.rpki_path.specs.ReadEntries.{entry_at, entries_in, or_none}
-use Rattle.rpki_path.proofs.EntryReads.{entry_reads, entry_shrinks}
-
-entries_after : (r : Option (List Entry)) (e : Entry) → is_some r ≡ true → or_none (r >>= λ es. Some (e ∷ es)) ≡ e ∷ or_none r
-entries_after (Some es) e is = refl
-entries_after None e is = absurd cc
-
-pub entries_more : (octets : List ℕ) (e : Entry) (rest : List ℕ) → entry_at octets ≡ Some (e, rest) → is_some (row_of entry_at octets) ≡ true → entries_in octets ≡ e ∷ entries_in rest
-entries_more octets e rest is whole =
-    let g = goes_on entry_at entry_shrinks octets e rest is in
-    ap (λ (r : Option (List Entry)). or_none r) (row_steps entry_at entry_shrinks octets (omega (arith, g.shorter))) ∙ rw is (entries_after (row_of entry_at rest) e (sym g.same ∙ whole))
+use Rattle.rpki_path.specs.RevokedEntries.Reading.{entry_at, entries_in, entries_pass}
+use Rattle.rpki_path.proofs.EntryReads.{entry_reads}
 
 pub all_read : row_of entry_at [] ≡ Some []
 unfolding row_of
 all_read = refl
 
-pub refused : {T E : Type 0} (r : Result T E) (whole : Bool) → IsErr r → whole ≡ false → (IsOk r → whole ≡ true) × (whole ≡ true → IsOk r)
-refused (Ok x) whole e f = absurd cc
-refused (Err d) whole e f = (λ ok. absurd cc, λ w. absurd cc)
+-- octets that pass are their entries
+pub entries_are : (octets : List ℕ) → entries_pass octets ≡ Some tt → row_of entry_at octets ≡ Some (entries_in octets)
+unfolding entries_pass
+entries_are octets whole =
+    let row = bind_some (row_of entry_at octets) (λ entries. Some tt) tt (sym (passed entry_at octets) ∙ whole) in
+    rw row.1 refl
+
+-- and they are spelled so
+pub kept_entries : (octets : List ℕ) (r : Revoked) → record { entries = entries_in octets; octets = octets } ≡ r → entries_pass octets ≡ Some tt → AreOctets octets → AreEntries r.entries r.octets
+kept_entries octets r view whole fits =
+    subst (λ (s : Revoked). AreEntries s.entries s.octets) view (row_is entry_at IsEntry entry_reads octets (entries_in octets) fits (entries_are octets whole))
 
 -- ---- a serial among those of entries
 
-first_is : (serial : ℕ) (e : Entry) (es : List Entry) → e.serial ≡ serial → IsRevoked serial (e ∷ es)
-first_is serial e es same = (0, omega arith, same)
+module _ (serial : ℕ) where
+  -- an entry has another serial
+  abbrev pub differs : Entry → Bool
+  differs entry = not (nat_eq entry.serial serial)
 
-among_rest : (serial : ℕ) (e : Entry) (es : List Entry) → IsRevoked serial es → IsRevoked serial (e ∷ es)
-among_rest serial e es found = let less : found.0 < length (map (λ (d : Entry). d.serial) es) = found.1 in (suc (found.0), omega arith, found.2)
+  -- no entry has it
+  unfoldable pub spares : List ℕ → Option (Unit {0})
+  spares = over entry_at (each differs) tt
 
-not_first : (serial : ℕ) (e : Entry) (es : List Entry) (k : ℕ) → (e.serial ≡ serial → ⊥) → k < length (map (λ (d : Entry). d.serial) (e ∷ es)) → get_or (map (λ (d : Entry). d.serial) (e ∷ es)) k serial ≡ serial → IsRevoked serial es
-not_first serial e es zero other less same = absurd (other same)
-not_first serial e es (suc k) other less same = (k, omega arith, same)
+  found_among : (entries : List Entry) → steps (each differs) tt entries ≡ None → IsRevoked serial entries
+  found_among [] e = absurd cc
+  found_among (entry ∷ entries) e =
+      elim (cases_Bool (nat_eq entry.serial serial)) [
+        | inl y ↦ (0, omega arith, eqb-true entry.serial serial y)
+        | inr n ↦
+            let later = found_among entries (rw n at e) in
+            let less : later.0 < length (map (λ (other : Entry). other.serial) entries) = later.1 in
+            (suc later.0, omega arith, later.2)
+      ]
 
-pub found_here : (serial : ℕ) (octets : List ℕ) (e : Entry) (rest : List ℕ) → entries_in octets ≡ e ∷ entries_in rest → true ≡ nat_eq e.serial serial → IsRevoked serial (entries_in octets)
-found_here serial octets e rest more same = rw more (first_is serial e (entries_in rest) (eqb-true e.serial serial (sym same)))
+  spared_by : (entries : List Entry) (k : ℕ) → steps (each differs) tt entries ≡ Some tt → k < length (map (λ (entry : Entry). entry.serial) entries)
+      → get_or (map (λ (entry : Entry). entry.serial) entries) k serial ≡ serial → ⊥
+  spared_by [] k e less same = omega (arith, less)
+  spared_by (entry ∷ entries) k e less same =
+      elim (cases_Bool (nat_eq entry.serial serial)) [
+        | inl y ↦ nothing {B = ⊥} tt (rw y at e)
+        | inr n ↦ behind k (eqb-false entry.serial serial n) (spared_by entries) (rw n at e) less same
+      ]
+    where
+      behind : (k : ℕ) → (entry.serial ≡ serial → ⊥) → ((j : ℕ) → steps (each differs) tt entries ≡ Some tt → j < length (map (λ (entry : Entry). entry.serial) entries)
+          → get_or (map (λ (entry : Entry). entry.serial) entries) j serial ≡ serial → ⊥) → steps (each differs) tt entries ≡ Some tt
+          → k < length (map (λ (entry : Entry). entry.serial) (entry ∷ entries)) → get_or (map (λ (entry : Entry). entry.serial) (entry ∷ entries)) k serial ≡ serial → ⊥
+      behind zero other later e less same = other same
+      behind (suc j) other later e less same = later j e (omega (arith, less)) same
 
-pub found_later : (serial : ℕ) (octets : List ℕ) (e : Entry) (rest : List ℕ) → entries_in octets ≡ e ∷ entries_in rest → false ≡ nat_eq e.serial serial → IsRevoked serial (entries_in rest) ↔ IsRevoked serial (entries_in octets)
-found_later serial octets e rest more other = rw more (
-  among_rest serial e (entries_in rest),
-  λ found. not_first serial e (entries_in rest) found.0 (λ same. false≢true (other ∙ eq-eqb e.serial serial same)) found.1 found.2,
-)
+  -- what a kept list is seen as
+  module _ (octets : List ℕ) (r : Revoked) (view : record { entries = entries_in octets; octets = octets } ≡ r) (whole : entries_pass octets ≡ Some tt) where
+    pub found : spares r.octets ≡ None → IsRevoked serial r.entries
+    unfolding spares over
+    found = subst (λ (s : Revoked). spares s.octets ≡ None → IsRevoked serial s.entries) view (λ e. found_among (entries_in octets) (rw (entries_are octets whole) at e))
 
-pub none_found : (serial : ℕ) → IsRevoked serial (entries_in []) → ⊥
-none_found serial found = let none : found.0 < 0 = rw all_read at found.1 in omega arith
-
--- ---- kept octets
-
-of_row : (octets : List ℕ) (r : Option (List Entry)) → row_of entry_at octets ≡ r → is_some r ≡ true → AreOctets octets → AreEntries (or_none r) octets
-of_row octets (Some es) is whole fits = row_is entry_at IsEntry entry_reads octets es fits is
-of_row octets None is whole fits = absurd cc
-
--- kept octets are the entries that they are seen as
-pub kept_entries : (octets : List ℕ) (r : Revoked) → record { entries = entries_in octets; octets = octets } ≡ r → is_some (row_of entry_at octets) ≡ true → AreOctets octets → AreEntries r.entries r.octets
-kept_entries octets r view whole fits = subst (λ (s : Revoked). AreEntries s.entries s.octets) view (of_row octets (row_of entry_at octets) refl whole fits)
+    pub spared : spares r.octets ≡ Some tt → IsRevoked serial r.entries → ⊥
+    unfolding spares over
+    spared =
+        subst (λ (s : Revoked). spares s.octets ≡ Some tt → IsRevoked serial s.entries → ⊥) view
+        (λ e among. spared_by (entries_in octets) among.0 (rw (entries_are octets whole) at e) among.1 among.2)

@@ -6,4 +6,4 @@ pub mod InputLines
 pub mod EntryReads
 pub mod EntryRows
 pub mod ListReads
-pub mod Answered
+pub mod Reports

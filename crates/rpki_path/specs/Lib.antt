@@ -5,6 +5,4 @@ pub mod RevokedEntries
 pub mod Program
 pub mod Questions
 pub mod Reports
-pub mod ReadEntries
-pub mod EntryViews
 pub mod FaultNames

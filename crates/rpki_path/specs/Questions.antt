@@ -11,7 +11,7 @@ abbrev pub Asks : List ℕ → List ℕ → ℕ → Type 0
 Asks line list number = (serial : List ℕ) × IsRevokedLine list serial line × (number ≡ number_from_digits 256 serial)
 
 -- what the text is read as
-abbrev pub Means : Input → List ℕ → Type 0
-Means (Asked question) text =
+abbrev pub IsInput : Input → List ℕ → Type 0
+IsInput (Asked question) text =
     (line : List ℕ) × AreLines (line ∷ []) text × Asks line question.list question.serial
-Means (Bad number) text = (lines : List (List ℕ)) × AreLines lines text × IsBadLine number lines
+IsInput (Bad number) text = (lines : List (List ℕ)) × AreLines lines text × IsBadLine number lines

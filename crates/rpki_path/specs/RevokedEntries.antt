@@ -1,12 +1,12 @@
 -- Entries of a certificate revocation list (RFC 5280 5.1).
-use Rattle.std.specs.Prelude.{◌≡◌, ℕ, ◌⊎◌, List, [], ◌++◌, map, Contains, Result, Ok, Err}
-use Rattle.rpki_der.specs.declared.error.DecodeError.{DecodeError}
-use Rattle.rpki_der.specs.Place.{Place, left, Refuses}
+use Rattle.std.specs.Prelude.{◌≡◌, ℕ, ◌⊎◌, List, [], ◌++◌, map, Contains}
+use Rattle.rpki_der.specs.Tags.{SEQUENCE}
 use Rattle.rpki_der.specs.Values.{IsEnc, IsSequenceOf}
-use Rattle.rpki_der.specs.Spelling.{BeginsOther}
 use Rattle.rpki_der.specs.Rows.{IsRow}
 use Rattle.rpki_der.specs.Serials.{IsSerial}
 use Rattle.rpki_der.specs.Times.{Moment, IsTime}
+pub mod Reading
+pub mod Views
 
 -- userCertificate and revocationDate
 pub record Entry : Type 0 where
@@ -40,16 +40,4 @@ pub record Revoked : Type 0 where
 -- revokedCertificates: absent, or a SEQUENCE of entries, which may be empty (own)
 pub record IsRevokedCertificates (r : Revoked) (b : List ℕ) : Type 0 where
   pub entries : AreEntries r.entries r.octets
-  pub sequence : ((r.octets ≡ []) × (b ≡ [])) ⊎ IsEnc 0x30 r.octets b
-
--- the front of the octets is such a list, and the rest follows; it is absent only where no SEQUENCE stands
-pub record BeginsRevoked (octets : List ℕ) (r : Revoked) (rest : List ℕ) : Type 0 where
-  pub text : List ℕ
-  pub spelled : IsRevokedCertificates r text
-  pub parts : octets ≡ text ++ rest
-  pub absent : text ≡ [] → BeginsOther 0x30 octets
-
--- what a reader of such a list answered; an error other than want of memory says that none stands there
-abbrev pub AnswersRevoked : Place → Result Revoked DecodeError → Place → Type 0
-AnswersRevoked old (Ok r) new = BeginsRevoked (left old) r (left new)
-AnswersRevoked old (Err e) new = Refuses e ((r : Revoked) (rest : List ℕ) → BeginsRevoked (left old) r rest → ⊥)
+  pub sequence : ((r.octets ≡ []) × (b ≡ [])) ⊎ IsEnc SEQUENCE r.octets b

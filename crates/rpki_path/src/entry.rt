@@ -1,10 +1,11 @@
 //! An entry of a certificate revocation list.
 ghost use Rattle.std.specs.Prelude.{◌≡◌};
-ghost use Rattle.rpki_der.specs.Place.{Place, left, Keeps, Took, Answers};
+ghost use Rattle.rpki_der.specs.Place.{Place, left, Keeps, AnswersBy};
+ghost use Rattle.rpki_der.specs.Place.Reading.{TookBy};
 ghost use Rattle.rpki_der.specs.Values.{AreOctets};
 ghost use Rattle.rpki_path.specs.RevokedEntries.{IsEntry};
-ghost use Rattle.rpki_path.specs.ReadEntries.{entry_at};
-ghost use Rattle.rpki_path.specs.EntryViews.{entry_of};
+ghost use Rattle.rpki_path.specs.RevokedEntries.Reading.{entry_at};
+ghost use Rattle.rpki_path.specs.RevokedEntries.Views.{entry_of};
 
 use rpki_der::{Cursor, DecodeError, Serial, Time};
 
@@ -17,9 +18,9 @@ pub(crate) struct CrlEntry {
 
 impl CrlEntry {
     // The entry that stands next, by the reading function.
-    #[tactic(auto, unfolding(crate::specs::ReadEntries::entry_at))]
+    #[tactic(auto, unfolding(crate::specs::RevokedEntries::Reading::entry_at))]
     pub(crate) fn take_entry(cursor: &mut Cursor<'_>) -> Result<CrlEntry, DecodeError>
-        ensures reads { Took entry_of entry_at cursor.old result cursor.new }
+        ensures reads { TookBy entry_of entry_at cursor.old result cursor.new }
         ensures keeps { Keeps result cursor.old cursor.new }
         ensures octets { AreOctets (left cursor.old) }
     {
@@ -37,8 +38,8 @@ impl CrlEntry {
 
     /// The SEQUENCE of a serial number and a time that must stand next (RFC 5280 5.1).
     pub(crate) fn take_from(cursor: &mut Cursor<'_>) -> Result<CrlEntry, DecodeError>
-        ensures answers { Answers entry_of IsEntry cursor.old result cursor.new }
-        ensures reads { Took entry_of entry_at cursor.old result cursor.new }
+        ensures answers { AnswersBy entry_of IsEntry cursor.old result cursor.new }
+        ensures reads { TookBy entry_of entry_at cursor.old result cursor.new }
         ensures keeps { Keeps result cursor.old cursor.new }
     {
         CrlEntry::take_entry(cursor)

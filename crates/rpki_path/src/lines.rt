@@ -4,7 +4,7 @@ ghost use Rattle.std.specs.List.{position};
 ghost use Rattle.rpki_path.specs.HexWords.{AreHexDigits, IsHexWord};
 ghost use Rattle.rpki_path.specs.TextLines.{IsWithout, line_end, space};
 ghost use Rattle.rpki_path.specs.Program.{revoked_line, IsRevokedLine};
-ghost use Rattle.rpki_path.specs.Questions.{Asks, Means};
+ghost use Rattle.rpki_path.specs.Questions.{Asks, IsInput};
 
 use bytes::Bytes;
 use hex::FromHexError;
@@ -23,7 +23,8 @@ fn position_of(octet: u8, octets: &[u8]) -> Option<usize>
 
 // What stands before the first separator, and after it.
 fn split_once(separator: u8, text: &[u8]) -> Option<(&[u8], &[u8])>
-    ensures parts { IfSome result (λ parts. text.now ≡ parts.0.now ++ separator ∷ parts.1.now) }
+    ensures parts { IfSome result (λ parts.
+        text.now ≡ parts.0.now ++ separator ∷ parts.1.now) }
     ensures first { IfSome result (λ parts. IsWithout separator parts.0.now) }
     ensures none { IfNone result (IsWithout separator text.now) }
 {
@@ -45,8 +46,10 @@ fn split_line(text: &[u8]) -> (&[u8], &[u8])
 
 // The words LIST and SERIAL of a line `revoked LIST SERIAL`.
 fn split_words(line: &[u8]) -> Option<(&[u8], &[u8])>
-    ensures words { IfSome result (λ words. IsWithout space words.0.now × (line.now ≡ revoked_line words.0.now words.1.now)) }
-    ensures none { IfNone result ((list serial : List ℕ) → IsWithout space list → line.now ≡ revoked_line list serial → ⊥) }
+    ensures words { IfSome result (λ words.
+        IsWithout space words.0.now × (line.now ≡ revoked_line words.0.now words.1.now)) }
+    ensures none { IfNone result ((list serial : List ℕ) → IsWithout space list
+        → line.now ≡ revoked_line list serial → ⊥) }
 {
     let (form, words) = split_once(b' ', line)?;
     if form != REVOKED {
@@ -57,8 +60,10 @@ fn split_words(line: &[u8]) -> Option<(&[u8], &[u8])>
 
 // The octets that hexadecimal digits spell.
 fn from_digits(alloc: Global, digits: &[u8]) -> Result<Option<Vec<u8>>, AllocError>
-    ensures spelled { IfOk result (λ found. IfSome found (λ octets. AreHexDigits octets.items digits.now)) }
-    ensures none { IfOk result (λ found. IfNone found ((octets : List ℕ) → AreHexDigits octets digits.now → ⊥)) }
+    ensures spelled { IfOk result (λ found.
+        IfSome found (λ octets. AreHexDigits octets.items digits.now)) }
+    ensures none { IfOk result (λ found.
+        IfNone found ((octets : List ℕ) → AreHexDigits octets digits.now → ⊥)) }
 {
     match hex::decode(alloc, digits) {
         Ok(octets) => Ok(Some(octets)),
@@ -71,8 +76,10 @@ fn from_digits(alloc: Global, digits: &[u8]) -> Result<Option<Vec<u8>>, AllocErr
 
 // The octets that a word spells.
 fn from_word(alloc: Global, word: &[u8]) -> Result<Option<Vec<u8>>, AllocError>
-    ensures spelled { IfOk result (λ found. IfSome found (λ octets. IsHexWord octets.items word.now)) }
-    ensures none { IfOk result (λ found. IfNone found ((octets : List ℕ) → IsHexWord octets word.now → ⊥)) }
+    ensures spelled { IfOk result (λ found.
+        IfSome found (λ octets. IsHexWord octets.items word.now)) }
+    ensures none { IfOk result (λ found.
+        IfNone found ((octets : List ℕ) → IsHexWord octets word.now → ⊥)) }
 {
     if word == NO_OCTETS {
         return Ok(Some(Vec::new(alloc)));
@@ -92,8 +99,10 @@ pub(crate) struct Question {
 
 // The question of a line `revoked LIST SERIAL`.
 fn from_line(alloc: Global, line: &[u8]) -> Result<Option<Question>, AllocError>
-    ensures asked { IfOk result (λ found. IfSome found (λ question. Asks line.now question.list question.serial)) }
-    ensures none { IfOk result (λ found. IfNone found ((list serial : List ℕ) → IsRevokedLine list serial line.now → ⊥)) }
+    ensures asked { IfOk result (λ found.
+        IfSome found (λ question. Asks line.now question.list question.serial)) }
+    ensures none { IfOk result (λ found.
+        IfNone found ((list serial : List ℕ) → IsRevokedLine list serial line.now → ⊥)) }
 {
     let Some((list, serial)) = split_words(line) else {
         return Ok(None);
@@ -121,7 +130,7 @@ pub(crate) enum Input {
 
 /// Reads the whole input.
 pub(crate) fn from_text(alloc: Global, text: &[u8]) -> Result<Input, AllocError>
-    ensures { IfOk result (λ input. Means input text.now) }
+    ensures { IfOk result (λ input. IsInput input text.now) }
 {
     let (line, others) = split_line(text);
     let Some(question) = from_line(alloc, line)? else {

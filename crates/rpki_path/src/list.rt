@@ -1,10 +1,11 @@
 //! The list of entries of a certificate revocation list.
-ghost use Rattle.std.specs.Prelude.{◌≡◌, ◌↔◌, ℕ, List, IsOk, IsTrue, is_some, true};
-ghost use Rattle.rpki_der.specs.Place.{Place, left, Keeps, GivesOrMemory, TookOrMemory};
+ghost use Rattle.std.specs.Prelude.{◌≡◌, ◌↔◌, IsTrue};
+ghost use Rattle.rpki_der.specs.Place.{Place, left, Keeps, AnswersOrAbsentOrMemory};
+ghost use Rattle.rpki_der.specs.Place.Reading.{Returns, ReturnsOrMemory, TookOrMemory};
+ghost use Rattle.rpki_der.specs.Tags.{SEQUENCE};
 ghost use Rattle.rpki_der.specs.Values.{AreOctets};
-ghost use Rattle.rpki_der.specs.Rows.{row_of};
-ghost use Rattle.rpki_path.specs.RevokedEntries.{AreEntries, IsRevoked, Revoked, AnswersRevoked};
-ghost use Rattle.rpki_path.specs.ReadEntries.{entry_at, no_entries, revoked_of, revoked_at};
+ghost use Rattle.rpki_path.specs.RevokedEntries.{AreEntries, IsRevoked, IsRevokedCertificates};
+ghost use Rattle.rpki_path.specs.RevokedEntries.Reading.{entries_pass, no_entries, revoked_of, revoked_at};
 
 use crate::entry::CrlEntry;
 use bytes::Bytes;
@@ -18,21 +19,20 @@ pub(crate) struct RevokedCertificates {
 }
 
 impl Model for RevokedCertificates {
-    ghost use Rattle.std.specs.Prelude.{◌≡◌, is_some, true};
-    ghost use Rattle.rpki_der.specs.Rows.{row_of};
+    ghost use Rattle.std.specs.Prelude.{◌≡◌, Some};
     ghost use Rattle.rpki_path.specs.RevokedEntries.{Revoked};
-    ghost use Rattle.rpki_path.specs.ReadEntries.{entry_at, entries_in};
+    ghost use Rattle.rpki_path.specs.RevokedEntries.Reading.{entries_in, entries_pass};
 
     ghost Value = { Revoked };
 
     ghost view = { λ r. record { entries = entries_in r.octets; octets = r.octets } };
 
-    ghost invariant = { λ r. is_some (row_of entry_at r.octets) ≡ true };
+    ghost invariant = { λ r. entries_pass r.octets ≡ Some tt };
 }
 
 // Whether what is left is a row of entries.
 fn check(cursor: &Cursor<'_>) -> Result<(), DecodeError>
-    ensures { IsOk result ↔ (is_some (row_of entry_at (left cursor.now)) ≡ true) }
+    ensures { Returns result (entries_pass (left cursor.now)) }
 {
     let mut rest = cursor.fork();
     while !rest.is_empty() {
@@ -42,9 +42,9 @@ fn check(cursor: &Cursor<'_>) -> Result<(), DecodeError>
 }
 
 // The content of the SEQUENCE, if it is a row of entries.
-#[tactic(auto, unfolding(crate::specs::ReadEntries::revoked_of))]
+#[tactic(auto, unfolding(crate::specs::RevokedEntries::Reading::revoked_of))]
 fn kept(content: &mut Cursor<'_>) -> Result<RevokedCertificates, DecodeError>
-    ensures { GivesOrMemory (λ r. r) result (revoked_of (left content.old)) }
+    ensures { ReturnsOrMemory result (revoked_of (left content.old)) }
 {
     check(content)?;
     let octets = content.capture_rest()?;
@@ -62,9 +62,9 @@ impl RevokedCertificates {
     }
 
     // The list that stands next, by the reading function.
-    #[tactic(auto, unfolding(crate::specs::ReadEntries::revoked_at))]
+    #[tactic(auto, unfolding(crate::specs::RevokedEntries::Reading::revoked_at))]
     fn take_list(cursor: &mut Cursor<'_>) -> Result<RevokedCertificates, DecodeError>
-        ensures reads { TookOrMemory (λ r. r) revoked_at cursor.old result cursor.new }
+        ensures reads { TookOrMemory revoked_at cursor.old result cursor.new }
         ensures keeps { Keeps result cursor.old cursor.new }
         ensures octets { AreOctets (left cursor.old) }
     {
@@ -79,7 +79,8 @@ impl RevokedCertificates {
 
     /// The SEQUENCE of entries that stands next (RFC 5280 5.1), or none where no SEQUENCE does.
     pub(crate) fn take_from(cursor: &mut Cursor<'_>) -> Result<RevokedCertificates, DecodeError>
-        ensures answers { AnswersRevoked cursor.old result cursor.new }
+        ensures answers { let spells = IsRevokedCertificates in
+            AnswersOrAbsentOrMemory SEQUENCE spells cursor.old result cursor.new }
         ensures keeps { Keeps result cursor.old cursor.new }
     {
         RevokedCertificates::take_list(cursor)

@@ -1,7 +1,7 @@
 //! What the program prints.
 ghost use Rattle.std.specs.Prelude.{◌≡◌, ℕ, List, [], ◌∷◌, IfOk, string_bytes, codes, decimal};
 ghost use Rattle.rpki_path.specs.Program.{printed, Says};
-ghost use Rattle.rpki_path.specs.Questions.{Means};
+ghost use Rattle.rpki_path.specs.Questions.{IsInput};
 ghost use Rattle.rpki_path.specs.RevokedEntries.{IsRevokedCertificates};
 ghost use Rattle.rpki_der.specs.Place.{MeansOrMemory};
 ghost use Rattle.rpki_path.specs.Reports.{status_of, line_of};
@@ -26,7 +26,7 @@ pub(crate) enum Report {
 
 // The list that the octets are, all of them.
 fn read_list(octets: &Bytes) -> Result<RevokedCertificates, DecodeError>
-    ensures { MeansOrMemory (λ r. r) IsRevokedCertificates result octets.now }
+    ensures { MeansOrMemory IsRevokedCertificates result octets.now }
 {
     let mut cursor = Cursor::new(octets);
     let list = RevokedCertificates::take_from(&mut cursor)?;
@@ -37,7 +37,8 @@ fn read_list(octets: &Bytes) -> Result<RevokedCertificates, DecodeError>
 impl Report {
     /// The answer to an input.
     pub(crate) fn of(input: &Input) -> Result<Report, AllocError>
-        ensures { (text : List ℕ) → Means input.now text → IfOk result (λ report. Says text (line_of report) (status_of report)) }
+        ensures { (text : List ℕ) → IsInput input.now text
+            → IfOk result (λ report. Says text (line_of report) (status_of report)) }
     {
         let question = match input {
             Input::Asked(question) => question,
@@ -79,7 +80,8 @@ impl Report {
 }
 
 fn bad_line(alloc: Global, number: usize) -> Result<String, AllocError>
-    ensures { IfOk result (λ text. string_bytes text ≡ printed (codes "bad input " ∷ decimal number ∷ [])) }
+    ensures { IfOk result (λ text.
+        string_bytes text ≡ printed (codes "bad input " ∷ decimal number ∷ [])) }
 {
     format!(in alloc; "bad input {number}\n")
 }

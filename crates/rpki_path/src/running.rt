@@ -96,8 +96,10 @@ pub fn run<R: Read, W: Write>(
         → IfSome (R.remaining (device reader.old)) (λ octets. 2 ^ 24 < length octets) }
 
     // What is left alone.
-    ensures unwritten { IsErrOf result RunFault.Read ⊎ IsErrOf result RunFault.TooLong → writer.new ≡ writer.old }
-    ensures taken { TakesAtMost (2 ^ 24 + 1) (R.remaining (device reader.old)) (R.remaining (device reader.new)) }
+    ensures unwritten { IsErrOf result RunFault.Read ⊎ IsErrOf result RunFault.TooLong
+        → writer.new ≡ writer.old }
+    ensures taken { TakesAtMost (2 ^ 24 + 1)
+        (R.remaining (device reader.old)) (R.remaining (device reader.new)) }
 {
     let text = read_whole(alloc, reader)?;
     let input = from_text(alloc, &text)?;
@@ -114,11 +116,12 @@ fn read_whole<R: Read>(alloc: Global, reader: &mut Watched<R>) -> Result<Vec<u8>
         Consumes (R.remaining (device reader.old)) (R.remaining (device reader.new)) input.items) }
     ensures end { OnOk result (IsAtEnd (R.remaining (device reader.new))) }
     ensures short { IfOk result (λ input. length input.items ≤ MAX_INPUT) }
-    ensures too_long { IsErrOf result RunFault.TooLong → IfSome (R.remaining (device reader.old)) (λ octets.
-        MAX_INPUT < length octets) }
+    ensures too_long { IsErrOf result RunFault.TooLong
+        → IfSome (R.remaining (device reader.old)) (λ octets. MAX_INPUT < length octets) }
     ensures failed { IsErrOf result RunFault.Read ↔ HasFailed reader.new }
     ensures unwritten { result ≢ Err RunFault.Write }
-    ensures taken { TakesAtMost (MAX_INPUT + 1) (R.remaining (device reader.old)) (R.remaining (device reader.new)) }
+    ensures taken { TakesAtMost (MAX_INPUT + 1)
+        (R.remaining (device reader.old)) (R.remaining (device reader.new)) }
 {
     let mut input = Vec::new(alloc);
     let mut chunk = [0u8; 0x4000];
@@ -136,7 +139,8 @@ fn read_whole<R: Read>(alloc: Global, reader: &mut Watched<R>) -> Result<Vec<u8>
 // Writes all of the octets.
 fn write_whole<W: Write>(writer: &mut Watched<W>, octets: &[u8]) -> Result<(), RunFault>
     requires { HasFailed writer.old → ⊥ }
-    ensures written { OnOk result (Appends (W.contents (device writer.old)) (W.contents (device writer.new)) octets.now) }
+    ensures written { OnOk result
+        (Appends (W.contents (device writer.old)) (W.contents (device writer.new)) octets.now) }
     ensures failed { IsErr result ↔ HasFailed writer.new }
     ensures fault { IfErr result (λ e. e ≡ RunFault.Write) }
 {

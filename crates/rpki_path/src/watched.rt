@@ -38,7 +38,8 @@ impl<T: Read> Watched<T> {
     /// Reads into the slice, and answers how many octets were read: none at the end.
     pub fn read(&mut self, buf: &mut [u8]) -> io::Result<usize>
         ensures bound { ReadsAtMost result buf.new }
-        ensures bytes { ReadConsumes (T.remaining (device self.old)) (T.remaining (device self.new)) result buf.new }
+        ensures bytes { ReadConsumes
+            (T.remaining (device self.old)) (T.remaining (device self.new)) result buf.new }
         ensures failed { HasFailed self.new ↔ (HasFailed self.old ⊎ IsErr result) }
     {
         let result = self.inner.read(buf);
@@ -53,7 +54,8 @@ impl<T: Write> Watched<T> {
     /// Writes a front of the slice, and answers how many octets were written.
     pub fn write(&mut self, buf: &[u8]) -> io::Result<usize>
         ensures bound { WritesAtMost result buf.now }
-        ensures bytes { WriteAppends (T.contents (device self.old)) (T.contents (device self.new)) result buf.now }
+        ensures bytes { WriteAppends
+            (T.contents (device self.old)) (T.contents (device self.new)) result buf.now }
         ensures failed { HasFailed self.new
             ↔ (HasFailed self.old ⊎ (IsErr result ⊎ ((result ≡ Ok 0) × (buf.now ≢ [])))) }
     {

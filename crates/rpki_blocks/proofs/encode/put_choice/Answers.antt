@@ -1,7 +1,7 @@
 use Rattle.std.proofs.Common.{ℕ, ◌≤◌, ◌^◌, List, length, ◌∙◌, subst}
-use Rattle.rpki_der.proofs.Written.{enc_longer}
+use Rattle.rpki_der.proofs.ValueWritten.{enc_longer}
 use Rattle.rpki_blocks.proofs.Lengths.{long_value}
-use Rattle.rpki_blocks.proofs.TooLong.{passed_long, null_is_enc}
+use Rattle.rpki_blocks.proofs.Lengths.{passed_long, null_is_enc}
 use Rattle.rpki_blocks.proofs.encode.put_choice.Goals as goal
 
 pub returns-in_err-elements-in-Some-clause-too_long : goal.returns-in_err-elements-in-Some-clause-too_long

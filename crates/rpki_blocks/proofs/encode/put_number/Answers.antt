@@ -1,6 +1,6 @@
 use Rattle.std.proofs.Common.{◌≡◌, ℕ, ◌≤◌, ◌^◌, length, arith, subst}
 use Rattle.std.specs.Int.Digits.{number_from_digits, digits_of}
-use Rattle.rpki_der.specs.Writing.{number, unsigned}
+use Rattle.rpki_der.specs.Primitives.{number, unsigned}
 use Rattle.rpki_blocks.proofs.Lengths.{long_value}
 use Rattle.rpki_blocks.proofs.encode.put_number.Goals as goal
 

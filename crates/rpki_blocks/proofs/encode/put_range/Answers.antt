@@ -1,4 +1,4 @@
-use Rattle.rpki_blocks.proofs.WrittenRanges.{two_long}
+use Rattle.rpki_blocks.proofs.Lengths.{two_long}
 use Rattle.rpki_blocks.proofs.encode.put_range.Goals as goal
 
 pub returns-clause-too_long : goal.returns-clause-too_long

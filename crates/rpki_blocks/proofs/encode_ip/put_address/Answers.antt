@@ -1,7 +1,7 @@
 use Rattle.std.proofs.Common.{◌≡◌, ℕ, ◌+◌, ◌*◌, ◌/◌, ◌%◌, ◌^◌, ◌-◌, List, take, sym, arith, subst, ◌≤◌, ◌<◌}
 use Rattle.std.specs.Int.{bytes_high_first}
 use Rattle.std.proofs.lemmas.Nat.{one_shl}
-use Rattle.rpki_blocks.specs.WrittenResources.{without}
+use Rattle.rpki_blocks.specs.AddressBits.{without}
 use Rattle.rpki_blocks.proofs.Lengths.{long_value}
 use Rattle.rpki_blocks.proofs.AddressOctets.{IsCut, cut_address}
 use Rattle.rpki_blocks.proofs.encode_ip.put_address.Goals as goal

@@ -1,6 +1,6 @@
 use Rattle.std.proofs.Common.{ap, ◌∙◌, ◌++◌, ℕ}
-use Rattle.rpki_blocks.specs.WrittenResources.{without}
-use Rattle.rpki_blocks.proofs.WrittenRanges.{two_long}
+use Rattle.rpki_blocks.specs.AddressBits.{without}
+use Rattle.rpki_blocks.proofs.Lengths.{two_long}
 use Rattle.rpki_blocks.proofs.encode_ip.put_range.Goals as goal
 
 pub returns-clause-too_long : goal.returns-clause-too_long

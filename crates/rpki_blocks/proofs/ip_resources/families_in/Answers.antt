@@ -1,7 +1,7 @@
 use Rattle.std.proofs.Common.{◌≡◌, [], refl}
 use Rattle.rpki_der.specs.Place.{left}
-use Rattle.rpki_der.specs.Reading.{value_at}
-use Rattle.rpki_blocks.specs.ResourceReading.{families_in}
+use Rattle.rpki_der.specs.Values.Reading.{value_at}
+use Rattle.rpki_blocks.specs.Addresses.Reading.{families_in}
 use Rattle.rpki_blocks.proofs.ip_resources.families_in.Goals as goal
 
 pub returns-then-is_empty : goal.returns-then-is_empty

@@ -2,7 +2,7 @@ use Rattle.std.specs.Int.Digits.{number_from_digits}
 use Rattle.std.proofs.Common.{◌≡◌, ◌<◌, ◌-◌, ◌*◌, ◌^◌, ◌%◌, ℕ, length, ap, subst, ◌∙◌, arith}
 use Rattle.std.proofs.lemmas.Int.Digits.{number_more}
 use Rattle.std.proofs.lemmas.List.{take_all}
-use Rattle.rpki_blocks.proofs.Filled.{room, one_octet, shift_fits}
+use Rattle.rpki_blocks.proofs.FirstBits.{room, one_octet, shift_fits}
 use Rattle.rpki_blocks.proofs.ip_resources.lower.Goals as goal
 
 pub overflow_mul-number : goal.overflow_mul-number

@@ -2,7 +2,7 @@ use Rattle.std.proofs.Common.{◌≤◌, ◌*◌, ◌-◌, Some, ap, sym, length
 use Rattle.std.proofs.lemmas.Bool.{le-ltb}
 use Rattle.rpki_blocks.specs.Addresses.{lower}
 use Rattle.rpki_blocks.specs.Prefixes.{IsPrefixBlock}
-use Rattle.rpki_blocks.proofs.Filled.{prefix_is}
+use Rattle.rpki_blocks.proofs.FirstBits.{prefix_is}
 use Rattle.rpki_blocks.proofs.ip_resources.prefix_of.Goals as goal
 
 pub returns : goal.returns

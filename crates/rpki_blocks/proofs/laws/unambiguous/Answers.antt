@@ -1,5 +1,5 @@
 use Rattle.rpki_der.proofs.Formats.{unambiguous as of_format}
-use Rattle.rpki_blocks.proofs.BlockFormats.{ip_format, as_format}
+use Rattle.rpki_blocks.proofs.ResourceFormats.{ip_format, as_format}
 use Rattle.rpki_blocks.proofs.laws.unambiguous.Goals as goal
 
 pub returns : goal.returns

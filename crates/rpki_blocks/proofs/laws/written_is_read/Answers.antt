@@ -1,5 +1,5 @@
-use Rattle.rpki_blocks.proofs.OctetsOfBlocks.{ip_octets, as_octets}
-use Rattle.rpki_blocks.proofs.WrittenBlocks.{ip_made, as_resources_made, written_families, present_is}
+use Rattle.rpki_blocks.proofs.ResourceOctets.{ip_octets, as_octets}
+use Rattle.rpki_blocks.proofs.ResourcesWritten.{ip_made, as_resources_made, written_families, present_is}
 use Rattle.rpki_blocks.proofs.laws.written_is_read.Goals as goal
 
 pub returns : goal.returns

@@ -1,8 +1,7 @@
 use Rattle.rpki_ext.proofs.OneMeaning.{unambiguous}
 use Rattle.rpki_cert.specs.Certificates.{IsTbsCertificate, IsCertificate}
-use Rattle.rpki_cert.specs.ReadCertificates.{tbs_at, cert_at}
-use Rattle.rpki_cert.proofs.ReadTbs.{tbs_reads}
-use Rattle.rpki_cert.proofs.ReadCerts.{cert_reads}
+use Rattle.rpki_cert.specs.Certificates.Reading.{tbs_at, cert_at}
+use Rattle.rpki_cert.proofs.CertificatesReads.{tbs_reads, cert_reads}
 use Rattle.rpki_cert.proofs.laws.unambiguous.Goals as goal
 
 pub returns-clause-certificate : goal.returns-clause-certificate

@@ -1,7 +1,7 @@
 use Rattle.std.proofs.Common.{◌≡◌, Err, rules, ap}
 use Rattle.rpki_der.specs.declared.error.EncodeError.TheVariants.{TooLong}
-use Rattle.rpki_parts.specs.WrittenParts.{algorithm}
-use Rattle.rpki_parts.proofs.WrittenLaws.{bits_too_long, longer_behind}
+use Rattle.rpki_parts.specs.Algorithms.{algorithm}
+use Rattle.rpki_parts.proofs.Lengths.{bits_too_long, longer_behind}
 use Rattle.rpki_cert.proofs.making.check_length.Goals as goal
 
 pub returns-in_err-put_bits-clause-too_long : goal.returns-in_err-put_bits-clause-too_long

@@ -1,10 +1,10 @@
 use Rattle.std.proofs.Common.{◌≡◌, List, ℕ, Some, subst}
 use Rattle.std.proofs.lemmas.Bool.{false≢true}
 use Rattle.rpki_der.specs.Place.{Place, left}
-use Rattle.rpki_der.specs.Reading.{value_at}
-use Rattle.rpki_cert.specs.FieldViews.{fields_view}
-use Rattle.rpki_cert.specs.ReadCertificates.{fields_in_order, fields_at}
-use Rattle.rpki_cert.proofs.UsedUp.{not_used_up}
+use Rattle.rpki_der.specs.Values.Reading.{value_at}
+use Rattle.rpki_cert.specs.Certificates.Views.{fields_view}
+use Rattle.rpki_cert.specs.Certificates.Reading.{fields_in_order, fields_at}
+use Rattle.rpki_cert.proofs.CertificatesReads.{not_used_up}
 use Rattle.rpki_cert.proofs.tbs.take_fields.Goals as goal
 
 pub returns-then-not-is_empty-clause-reads : goal.returns-then-not-is_empty-clause-reads

@@ -2,8 +2,8 @@ use Rattle.std.proofs.Common.{◌≡◌, ◌<◌, ◌%◌, ◌^◌, ℕ, List, [
 use Rattle.std.specs.Int.Digits.{number_from_digits}
 use Rattle.std.proofs.lemmas.Bool.{lt-ltb}
 use Rattle.std.proofs.lemmas.Nat.{one_shl}
-use Rattle.rpki_der.specs.Primitives.{has_zero_bits}
-use Rattle.rpki_der.proofs.ReadPrimitives.{last_octet}
+use Rattle.rpki_der.specs.Primitives.Reading.{has_zero_bits}
+use Rattle.rpki_der.proofs.PrimitiveReads.{last_octet}
 use Rattle.rpki_der.proofs.bits.has_zero_bits.Goals as goal
 
 by_number : (unused : ℕ) (octets : List ℕ) → unused < 8 → 0 < length octets → has_zero_bits unused octets ≡ eqb (number_from_digits 256 octets % 2 ^ unused) 0

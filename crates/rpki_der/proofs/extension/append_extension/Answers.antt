@@ -2,7 +2,7 @@ use Rattle.std.proofs.Common.{ℕ, List, [], ◌∷◌, ◌++◌, ap, ◌∙◌,
 use Rattle.std.proofs.lemmas.Result.{on_ok_weaker, on_err_weaker}
 use Rattle.rpki_der.specs.Values.{length_octets, enc}
 use Rattle.rpki_der.proofs.Appending.{still_front, on_err, assembled, length-pieces}
-use Rattle.rpki_der.proofs.Written.{enc_longer}
+use Rattle.rpki_der.proofs.ValueWritten.{enc_longer}
 use Rattle.rpki_der.proofs.extension.append_extension.Goals as goal
 
 pub append_value-requires : goal.append_value-requires

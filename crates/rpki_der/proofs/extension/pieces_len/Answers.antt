@@ -1,7 +1,7 @@
 use Rattle.std.proofs.Common.{arith}
 use Rattle.rpki_der.specs.Values.{enc}
 use Rattle.rpki_der.proofs.Appending.{length-enc, length-pieces}
-use Rattle.rpki_der.proofs.Written.{enc_longer}
+use Rattle.rpki_der.proofs.ValueWritten.{enc_longer}
 use Rattle.rpki_der.proofs.extension.pieces_len.Goals as goal
 use Rattle.rpki_der.proofs.extension.pieces_len.Goals.{then-id-gt-MAX_LEN-via-then-id-gt-MAX_LEN, then-id-gt-MAX_LEN-via-else-id-gt-MAX_LEN+then-content-gt-MAX_LEN}
 

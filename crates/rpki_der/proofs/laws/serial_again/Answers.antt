@@ -1,8 +1,8 @@
 use Rattle.rpki_der.specs.Serials.{IsSerial}
-use Rattle.rpki_der.specs.Writing.{number}
+use Rattle.rpki_der.specs.Primitives.{number}
 use Rattle.rpki_der.proofs.Formats.{unambiguous}
 use Rattle.rpki_der.proofs.Numbers.{serial_format}
-use Rattle.rpki_der.proofs.ReadAgain.{serial_made, begins, begins_one}
+use Rattle.rpki_der.proofs.RoundTrips.{serial_made, begins, begins_one}
 use Rattle.rpki_der.proofs.laws.serial_again.Goals as goal
 
 pub returns : goal.returns

@@ -1,8 +1,7 @@
-use Rattle.rpki_der.specs.Times.{IsTime}
-use Rattle.rpki_der.specs.Writing.{time}
+use Rattle.rpki_der.specs.Times.{IsTime, time}
 use Rattle.rpki_der.proofs.Formats.{unambiguous}
 use Rattle.rpki_der.proofs.Moments.{time_format}
-use Rattle.rpki_der.proofs.ReadAgain.{moment_made, begins, begins_one}
+use Rattle.rpki_der.proofs.RoundTrips.{moment_made, begins, begins_one}
 use Rattle.rpki_der.proofs.laws.time_again.Goals as goal
 
 pub returns : goal.returns

@@ -1,5 +1,5 @@
 use Rattle.std.proofs.Common.{◌≡◌, true, drop}
-use Rattle.rpki_der.specs.Reading.{ends_oid}
+use Rattle.rpki_der.specs.Primitives.Reading.{ends_oid}
 use Rattle.rpki_der.proofs.oid.is_oid.Given as goal
 
 abbrev pub invariant-loop-octet : goal.invariant-loop-octet

@@ -1,7 +1,7 @@
 use Rattle.std.specs.Prelude.{bytes_eq}
 use Rattle.std.proofs.Common.{◌≡◌, true, [], ◌∷◌, rules}
 use Rattle.rpki_der.specs.Times.{Moment}
-use Rattle.rpki_der.specs.ReadTimes.{after_year_of}
+use Rattle.rpki_der.specs.Times.Reading.{after_year_of}
 use Rattle.rpki_der.proofs.MomentTests.{gives_moment}
 use Rattle.rpki_der.proofs.time.after_year.Goals as goal
 

@@ -1,14 +1,18 @@
-use Rattle.std.proofs.Common.{ℕ, List, false, length, ap, arith}
+use Rattle.std.proofs.Common.{ℕ, List, false, length, rules, ap, arith}
 use Rattle.rpki_der.specs.Identifiers.{pkix}
 use Rattle.rpki_der.specs.Values.{enc}
-use Rattle.rpki_der.proofs.Written.{enc_longer}
-use Rattle.rpki_blocks.proofs.TooLong.{passed_long}
-use Rattle.rpki_ext.specs.Contents.{ca_issuers}
-use Rattle.rpki_ext.specs.WrittenExtensions.{description}
+use Rattle.rpki_der.proofs.ValueWritten.{enc_longer}
+use Rattle.rpki_blocks.proofs.Lengths.{passed_long}
+use Rattle.rpki_ext.specs.AuthorityAccess.{ca_issuers, description}
 use Rattle.rpki_ext.proofs.WrittenLengths.{content_longer}
 use Rattle.rpki_ext.proofs.authority_access.encode_authority_information_access.Goals as goal
 
-pub returns-in_err-put_description-clause-too_long : goal.returns-in_err-put_description-clause-too_long
-returns-in_err-put_description-clause-too_long c =
+pub returns-in_err-put_description : goal.returns-in_err-put_description
+returns-in_err-put_description c =
     let row = description ca_issuers c.args.uri.now in
-    passed_long c.from_residual.result _ _ _ c.from_residual.ensures.1 c.in_err-put_description.ensures.too_long (omega (arith, enc_longer 0x30 row, content_longer (pkix 0x01 0x01) false (enc 0x30 row), ap (λ (uri : List ℕ). length (description ca_issuers uri)) c.as_bytes.ensures.octets))
+    record {
+      ok = search rules;
+      err = search rules;
+      fits = search rules;
+      too_long = passed_long c.from_residual.result _ _ _ c.from_residual.ensures.1 c.in_err-put_description.ensures.too_long (omega (arith, enc_longer 0x30 row, content_longer (pkix 0x01 0x01) false (enc 0x30 row), ap (λ (uri : List ℕ). length (description ca_issuers uri)) c.as_bytes.ensures.octets));
+    }

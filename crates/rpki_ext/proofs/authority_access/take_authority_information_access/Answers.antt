@@ -1,7 +1,6 @@
 use Rattle.rpki_der.proofs.Answering.{answers_or_memory}
-use Rattle.rpki_ext.specs.Contents.{IsAuthorityInformationAccess}
-use Rattle.rpki_ext.specs.ReadContents.{authority_information_access_at}
-use Rattle.rpki_ext.proofs.ReadNames.{authority_information_access_reads}
+use Rattle.rpki_ext.specs.AuthorityAccess.{IsAuthorityInformationAccess, authority_information_access_at}
+use Rattle.rpki_ext.proofs.AuthorityAccess.{authority_information_access_reads}
 use Rattle.rpki_ext.proofs.authority_access.take_authority_information_access.Goals as goal
 
 pub returns-clause-answers : goal.returns-clause-answers

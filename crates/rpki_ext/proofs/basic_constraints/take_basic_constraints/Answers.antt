@@ -1,7 +1,6 @@
 use Rattle.rpki_der.proofs.Answering.{answers}
-use Rattle.rpki_ext.specs.Contents.{IsBasicConstraints}
-use Rattle.rpki_ext.specs.ReadContents.{basic_constraints_at}
-use Rattle.rpki_ext.proofs.ReadContents.{basic_constraints_reads}
+use Rattle.rpki_ext.specs.BasicConstraints.{IsBasicConstraints, basic_constraints_at}
+use Rattle.rpki_ext.proofs.BasicConstraints.{basic_constraints_reads}
 use Rattle.rpki_ext.proofs.basic_constraints.take_basic_constraints.Goals as goal
 
 pub returns-clause-answers : goal.returns-clause-answers

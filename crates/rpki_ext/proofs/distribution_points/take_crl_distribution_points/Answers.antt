@@ -1,7 +1,6 @@
 use Rattle.rpki_der.proofs.Answering.{answers_or_memory}
-use Rattle.rpki_ext.specs.Contents.{IsCrlDistributionPoints}
-use Rattle.rpki_ext.specs.ReadContents.{crl_distribution_points_at}
-use Rattle.rpki_ext.proofs.ReadNames.{crl_distribution_points_reads}
+use Rattle.rpki_ext.specs.DistributionPoints.{IsCrlDistributionPoints, crl_distribution_points_at}
+use Rattle.rpki_ext.proofs.DistributionPoints.{crl_distribution_points_reads}
 use Rattle.rpki_ext.proofs.distribution_points.take_crl_distribution_points.Goals as goal
 
 pub returns-clause-answers : goal.returns-clause-answers

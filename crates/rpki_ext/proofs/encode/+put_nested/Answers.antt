@@ -1,6 +1,6 @@
 use Rattle.std.proofs.Common.{ℕ, length, ap, arith}
 use Rattle.std.proofs.lemmas.List.{length-append}
-use Rattle.rpki_blocks.proofs.TooLong.{passed_long}
+use Rattle.rpki_blocks.proofs.Lengths.{passed_long}
 use Rattle.rpki_ext.proofs.WrittenLengths.{nested_longer, inner_longer}
 use Rattle.rpki_ext.proofs.encode.+put_nested.Goals as goal
 

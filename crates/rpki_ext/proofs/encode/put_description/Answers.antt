@@ -1,8 +1,8 @@
 use Rattle.std.proofs.Common.{ℕ, length, ap, arith}
 use Rattle.std.proofs.lemmas.List.{length-append}
-use Rattle.rpki_der.proofs.Identifiers.{oid_takes}
-use Rattle.rpki_der.proofs.Written.{enc_longer}
-use Rattle.rpki_blocks.proofs.TooLong.{passed_long}
+use Rattle.rpki_der.proofs.IdentifierReads.{oid_takes}
+use Rattle.rpki_der.proofs.ValueWritten.{enc_longer}
+use Rattle.rpki_blocks.proofs.Lengths.{passed_long}
 use Rattle.rpki_ext.proofs.WrittenLengths.{description_longer}
 use Rattle.rpki_ext.proofs.encode.put_description.Goals as goal
 

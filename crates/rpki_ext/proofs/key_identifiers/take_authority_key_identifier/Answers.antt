@@ -1,7 +1,6 @@
 use Rattle.rpki_der.proofs.Answering.{answers}
-use Rattle.rpki_ext.specs.Contents.{IsAuthorityKeyIdentifier}
-use Rattle.rpki_ext.specs.ReadContents.{authority_key_identifier_at}
-use Rattle.rpki_ext.proofs.ReadContents.{authority_key_identifier_reads}
+use Rattle.rpki_ext.specs.KeyIdentifiers.{IsAuthorityKeyIdentifier, authority_key_identifier_at}
+use Rattle.rpki_ext.proofs.KeyIdentifiers.{authority_key_identifier_reads}
 use Rattle.rpki_ext.proofs.key_identifiers.take_authority_key_identifier.Goals as goal
 
 pub returns-clause-answers : goal.returns-clause-answers

@@ -2,9 +2,9 @@ use Rattle.std.proofs.Common.{sym, subst}
 use Rattle.std.proofs.lemmas.Bool.{false≢true}
 use Rattle.rpki_der.specs.Place.{left}
 use Rattle.rpki_parts.specs.Uris.{IsHttps}
-use Rattle.rpki_parts.specs.UriParts.{is_https}
+use Rattle.rpki_parts.specs.Uris.Tests.{is_https}
 use Rattle.rpki_parts.proofs.UriTests.{https_decides}
-use Rattle.rpki_ext.proofs.ReadNames.{text_is_not}
+use Rattle.rpki_ext.proofs.GeneralNames.{text_is_not}
 use Rattle.rpki_ext.proofs.names.https_of.Goals as goal
 
 pub returns-in-Err-clause-ok : goal.returns-in-Err-clause-ok

@@ -2,8 +2,8 @@ use Rattle.rpki_der.specs.Place.{left}
 use Rattle.std.proofs.Common.{rules, ◌∙◌, sym, ◌≡◌, ℕ, true, false, List, Option, Some, None, refl}
 use Rattle.std.specs.Prelude.{is_some}
 use Rattle.rpki_der.proofs.Octets.{if_some}
-use Rattle.rpki_parts.specs.UriParts.{is_rsync}
-use Rattle.rpki_ext.specs.ReadContents.{rsync_of, keep_rsync}
+use Rattle.rpki_parts.specs.Uris.Tests.{is_rsync}
+use Rattle.rpki_ext.specs.GeneralNames.{rsync_of, keep_rsync}
 use Rattle.rpki_ext.proofs.names.keep.Goals as goal
 
 second : (v : Option (List ℕ)) (text w : List ℕ) → rsync_of text ≡ Some w → is_some v ≡ true → keep_rsync v text ≡ None

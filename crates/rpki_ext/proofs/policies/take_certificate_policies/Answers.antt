@@ -1,7 +1,6 @@
 use Rattle.rpki_der.proofs.Answering.{answers}
-use Rattle.rpki_ext.specs.Contents.{IsCertificatePolicies}
-use Rattle.rpki_ext.specs.ReadContents.{certificate_policies_at}
-use Rattle.rpki_ext.proofs.ReadPolicies.{certificate_policies_reads}
+use Rattle.rpki_ext.specs.CertificatePolicies.{IsCertificatePolicies, certificate_policies_at}
+use Rattle.rpki_ext.proofs.CertificatePolicies.{certificate_policies_reads}
 use Rattle.rpki_ext.proofs.policies.take_certificate_policies.Goals as goal
 
 pub returns-clause-answers : goal.returns-clause-answers

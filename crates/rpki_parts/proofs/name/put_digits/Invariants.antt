@@ -1,5 +1,5 @@
 use Rattle.std.proofs.Common.{◌≡◌, ◌++◌, take}
-use Rattle.rpki_parts.specs.WrittenParts.{hexadecimal}
+use Rattle.rpki_parts.specs.KeyNames.{hexadecimal}
 use Rattle.rpki_parts.proofs.name.put_digits.Given as goal
 
 abbrev pub invariant-loop-octet : goal.invariant-loop-octet

@@ -4,7 +4,7 @@ use Rattle.std.proofs.lemmas.Iterator.{YieldsList-from_slice}
 use Rattle.std.proofs.lemmas.Iterator.Search.{position_from_yields_List}
 use Rattle.std.proofs.lemmas.List.Sums.{prefix_len-le-length}
 use Rattle.std.specs.List.{position_or_len}
-use Rattle.rpki_parts.specs.UriParts.{is_slash}
+use Rattle.rpki_parts.specs.Uris.Tests.{is_slash}
 use Rattle.rpki_parts.proofs.uri.first_slash.Goals as goal
 
 -- a place that was found is one within the list

@@ -1,7 +1,7 @@
 use Rattle.std.proofs.Common.{rules, tests}
 use Rattle.std.proofs.lemmas.Iterator.Splits.{YieldsList-from_slice_split}
 use Rattle.std.proofs.lemmas.Iterator.Search.{all_from_yields_List}
-use Rattle.rpki_parts.specs.UriParts.{is_slash, is_segment}
+use Rattle.rpki_parts.specs.Uris.Tests.{is_slash, is_segment}
 use Rattle.rpki_parts.proofs.uri.has_no_dots.Goals as goal
 
 pub returns : goal.returns

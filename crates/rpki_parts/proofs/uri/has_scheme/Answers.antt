@@ -1,5 +1,5 @@
 use Rattle.std.proofs.Common.{refl}
-use Rattle.rpki_parts.specs.UriParts.{authority_of}
+use Rattle.rpki_parts.specs.Uris.Tests.{authority_of}
 use Rattle.rpki_parts.proofs.Slashes.{empty_is, folded}
 use Rattle.rpki_parts.proofs.uri.has_scheme.Goals as goal
 

@@ -1,6 +1,6 @@
 use Rattle.std.proofs.Common.{◌≡◌, ◌&&◌, sym, ap, ◌∙◌, subst, Decides}
 use Rattle.rpki_parts.specs.Uris.{IsRsync}
-use Rattle.rpki_parts.specs.UriParts.{has_module_and_path, is_rsync}
+use Rattle.rpki_parts.specs.Uris.Tests.{has_module_and_path, is_rsync}
 use Rattle.rpki_parts.proofs.UriTests.{rsync_decides}
 use Rattle.rpki_parts.proofs.uri.is_rsync.Goals as goal
 

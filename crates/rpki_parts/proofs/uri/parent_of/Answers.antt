@@ -1,7 +1,7 @@
 use Rattle.std.proofs.Common.{◌≡◌, ◌≢◌, ◌==◌, Bool, List, ℕ, [], length, refl, sym, ap, ◌∙◌, subst}
 use Rattle.std.proofs.lemmas.Bool.{both_ways}
 use Rattle.rpki_parts.specs.Uris.{IsParent, IsRsync}
-use Rattle.rpki_parts.specs.UriParts.{path_of, is_empty, through_slash}
+use Rattle.rpki_parts.specs.Uris.Tests.{path_of, is_empty, through_slash}
 use Rattle.rpki_parts.proofs.Slashes.{empty_is}
 use Rattle.rpki_parts.proofs.UriTests.{empty_decides}
 use Rattle.rpki_parts.proofs.UriParents.{no_path_decides, parent_takes, parent_rsync}

@@ -1,7 +1,7 @@
 use Rattle.std.proofs.Common.{◌≡◌, ◌≢◌, ℕ, ◌+◌, ◌-◌, ◌<◌, ◌≤◌, List, [], ◌∷◌, ◌++◌, length, get_or, take, refl, sym, ◌∙◌, subst, arith}
 use Rattle.std.proofs.lemmas.List.{take_more}
 use Rattle.rpki_parts.specs.Uris.{slash}
-use Rattle.rpki_parts.specs.UriParts.{through_slash}
+use Rattle.rpki_parts.specs.Uris.Tests.{through_slash}
 use Rattle.rpki_parts.proofs.Slashes.{through-kept, through-other}
 use Rattle.rpki_parts.proofs.uri.through_slash.Goals.{then-loop-end-test+else-text-end-ne47, else-loop-end-test}
 use Rattle.rpki_parts.proofs.uri.through_slash.Goals as goal

@@ -1,5 +1,5 @@
 use Rattle.std.proofs.Common.{◌≡◌, ◌≤◌, length, take}
-use Rattle.rpki_parts.specs.UriParts.{through_slash}
+use Rattle.rpki_parts.specs.Uris.Tests.{through_slash}
 use Rattle.rpki_parts.proofs.uri.through_slash.Given as goal
 
 abbrev pub invariant-loop-end : goal.invariant-loop-end

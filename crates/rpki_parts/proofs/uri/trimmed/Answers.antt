@@ -2,7 +2,7 @@ use Rattle.std.proofs.Common.{◌≡◌, ◌≢◌, List, ℕ, [], ◌∷◌, �
 use Rattle.std.proofs.lemmas.Slice.Eq.{strip_suffix_is}
 use Rattle.std.proofs.lemmas.Bool.Decides.{Decides-eqb}
 use Rattle.rpki_parts.specs.Uris.{slash}
-use Rattle.rpki_parts.specs.UriParts.{trimmed}
+use Rattle.rpki_parts.specs.Uris.Tests.{trimmed}
 use Rattle.rpki_parts.proofs.Slashes.{trimmed_again}
 use Rattle.rpki_parts.proofs.uri.trimmed.Goals as goal
 

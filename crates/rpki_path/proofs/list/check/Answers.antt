@@ -1,27 +1,28 @@
-use Rattle.std.proofs.Common.{◌≡◌, true, false, sym, ◌∙◌, refl}
-use Rattle.std.specs.Prelude.{is_some}
+use Rattle.std.proofs.Common.{sym, ◌∙◌, refl}
+use Rattle.rpki_der.specs.Folding.{over, pass}
 use Rattle.rpki_der.specs.Place.{left}
-use Rattle.rpki_der.specs.Rows.{row_of}
-use Rattle.rpki_path.specs.ReadEntries.{entry_at}
-use Rattle.rpki_path.specs.EntryViews.{entry_of}
-use Rattle.rpki_der.proofs.RowTests.{goes_on, no_row, some_left}
+use Rattle.rpki_der.proofs.Answering.{gives_none}
+use Rattle.rpki_der.proofs.Walking.{ends, goes_on, over_end, shorter, some_left}
+use Rattle.rpki_path.specs.RevokedEntries.Views.{entry_of}
+use Rattle.rpki_path.specs.RevokedEntries.Reading.{entry_at, entries_pass}
 use Rattle.rpki_path.proofs.EntryReads.{entry_shrinks}
-use Rattle.rpki_path.proofs.EntryRows.{all_read, refused}
 use Rattle.rpki_path.proofs.list.check.Goals as goal
 
 pub returns-in_err-_entry : goal.returns-in_err-_entry
+unfolding entries_pass
 returns-in_err-_entry c =
-    let w : is_some (row_of entry_at (left c.args.cursor.now)) ≡ false = sym c.loop-rest.invariant ∙ no_row entry_at entry_shrinks (left c.loop-rest.rest) (some_left (left c.loop-rest.rest) c.loop-rest-test.ensures.1) c.in_err-_entry.ensures.reads in
-    refused c.from_residual.result _ c.from_residual.ensures.0 w
+    let rest = left c.loop-rest.rest in
+    let none = ends entry_at pass entry_shrinks tt rest (some_left rest c.loop-rest-test.ensures.1) c.in_err-_entry.ensures.reads in
+    gives_none (λ (u : Unit {0}). u) c.from_residual.result (over entry_at pass tt (left c.args.cursor.now)) c.from_residual.ensures.0 (sym c.loop-rest.invariant ∙ none)
 
 pub loop-rest-smaller : goal.loop-rest-smaller
-loop-rest-smaller c = (goes_on entry_at entry_shrinks (left c.loop-rest.rest) (entry_of c.in_ok-_entry._entry) (left c.take_from.new.cursor) c.in_ok-_entry.ensures.reads).shorter
+loop-rest-smaller c = shorter entry_at pass entry_shrinks tt (left c.loop-rest.rest) (entry_of c.in_ok-_entry._entry) (left c.take_from.new.cursor) c.in_ok-_entry.ensures.reads
 
 pub loop-rest-preserved : goal.loop-rest-preserved
-loop-rest-preserved c = sym (goes_on entry_at entry_shrinks (left c.loop-rest.rest) (entry_of c.in_ok-_entry._entry) (left c.take_from.new.cursor) c.in_ok-_entry.ensures.reads).same ∙ c.loop-rest.invariant
+unfolding entries_pass
+loop-rest-preserved c =
+    sym (goes_on entry_at pass entry_shrinks tt (left c.loop-rest.rest) (entry_of c.in_ok-_entry._entry) (left c.take_from.new.cursor) c.in_ok-_entry.ensures.reads tt refl) ∙ c.loop-rest.invariant
 
 pub returns : goal.returns
-returns c =
-    let nil = c.loop-rest-test.ensures.0 refl in
-    let w : is_some (row_of entry_at (left c.args.cursor.now)) ≡ true = sym c.loop-rest.invariant ∙ rw (nil, all_read) refl in
-    (λ _. w, λ _. refl)
+unfolding entries_pass
+returns c = sym c.loop-rest.invariant ∙ rw (c.loop-rest-test.ensures.0 refl) (over_end entry_at pass tt)

@@ -1,7 +1,7 @@
 use Rattle.rpki_der.proofs.Answering.{answers_or_memory}
 use Rattle.rpki_blocks.specs.Systems.{IsASIdentifiers}
-use Rattle.rpki_blocks.specs.ResourceReading.{as_identifiers_at}
-use Rattle.rpki_blocks.proofs.ReadChoices.{as_reads}
+use Rattle.rpki_blocks.specs.Systems.Reading.{as_identifiers_at}
+use Rattle.rpki_blocks.proofs.SystemReads.{as_reads}
 use Rattle.rpki_blocks.proofs.as_resources.AsResources.take_from.Goals as goal
 
 pub returns-clause-answers : goal.returns-clause-answers

@@ -1,7 +1,8 @@
 use Rattle.rpki_der.proofs.Answering.{answers_or_memory}
 use Rattle.rpki_blocks.specs.Addresses.{IsIPAddrBlocks}
-use Rattle.rpki_blocks.specs.ResourceReading.{families_of, families_at}
-use Rattle.rpki_blocks.proofs.ReadAddresses.{ip_reads}
+use Rattle.rpki_blocks.specs.Addresses.Views.{families_of}
+use Rattle.rpki_blocks.specs.Addresses.Reading.{families_at}
+use Rattle.rpki_blocks.proofs.AddressReads.{ip_reads}
 use Rattle.rpki_blocks.proofs.ip_resources.IpResources.take_families_from.Goals as goal
 
 pub returns-clause-answers : goal.returns-clause-answers

@@ -1,5 +1,5 @@
 use Rattle.rpki_blocks.specs.Overclaims.{as_identifier}
-use Rattle.rpki_blocks.proofs.OverclaimIdentifiers.{was_named}
+use Rattle.rpki_blocks.proofs.OverclaimReads.{was_named}
 use Rattle.rpki_blocks.proofs.overclaim.Overclaim.from_as_res.Goals as goal
 
 pub returns-clause-named : goal.returns-clause-named

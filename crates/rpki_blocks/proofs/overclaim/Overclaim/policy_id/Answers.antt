@@ -1,5 +1,5 @@
 use Rattle.std.proofs.Common.{refl}
-use Rattle.rpki_der.proofs.Identifiers.{oid_takes}
+use Rattle.rpki_der.proofs.IdentifierReads.{oid_takes}
 use Rattle.rpki_blocks.proofs.overclaim.Overclaim.policy_id.Goals as goal
 
 pub returns-in-Refuse-clause-valid : goal.returns-in-Refuse-clause-valid

@@ -1,6 +1,6 @@
 use Rattle.std.proofs.Common.{◌∙◌}
 use Rattle.rpki_cert.specs.Certificates.{CertFields, IsCertificate}
-use Rattle.rpki_cert.proofs.Fronts.{front_means}
+use Rattle.rpki_cert.proofs.CertificatesReads.{front_means}
 use Rattle.rpki_cert.proofs.cert.Cert.decode.Goals as goal
 
 pub returns : goal.returns

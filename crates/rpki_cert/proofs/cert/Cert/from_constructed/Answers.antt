@@ -1,7 +1,7 @@
 use Rattle.rpki_der.proofs.Answering.{answers_or_memory}
 use Rattle.rpki_cert.specs.Certificates.{CertFields, IsCertificateContent}
-use Rattle.rpki_cert.specs.ReadCertificates.{cert_content_at}
-use Rattle.rpki_cert.proofs.ReadCerts.{cert_content_reads}
+use Rattle.rpki_cert.specs.Certificates.Reading.{cert_content_at}
+use Rattle.rpki_cert.proofs.CertificatesReads.{cert_content_reads}
 use Rattle.rpki_cert.proofs.cert.Cert.from_constructed.Goals as goal
 
 pub returns-clause-answers : goal.returns-clause-answers

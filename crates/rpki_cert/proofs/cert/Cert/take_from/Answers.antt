@@ -1,7 +1,7 @@
 use Rattle.rpki_der.proofs.Answering.{answers_or_memory}
 use Rattle.rpki_cert.specs.Certificates.{CertFields, IsCertificate}
-use Rattle.rpki_cert.specs.ReadCertificates.{cert_at}
-use Rattle.rpki_cert.proofs.ReadCerts.{cert_reads}
+use Rattle.rpki_cert.specs.Certificates.Reading.{cert_at}
+use Rattle.rpki_cert.proofs.CertificatesReads.{cert_reads}
 use Rattle.rpki_cert.proofs.cert.Cert.take_from.Goals as goal
 
 pub returns-clause-answers : goal.returns-clause-answers

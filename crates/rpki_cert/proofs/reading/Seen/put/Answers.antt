@@ -1,5 +1,5 @@
 use Rattle.rpki_der.proofs.Answering.{certainly}
-use Rattle.rpki_cert.proofs.SecondKinds.{refused}
+use Rattle.rpki_cert.proofs.RefusedExtensions.{refused}
 use Rattle.rpki_cert.proofs.reading.Seen.put.Goals as goal
 
 pub returns-in-Err : goal.returns-in-Err

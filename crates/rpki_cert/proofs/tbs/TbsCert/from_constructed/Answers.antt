@@ -1,7 +1,7 @@
 use Rattle.rpki_der.proofs.Answering.{answers_or_memory}
 use Rattle.rpki_cert.specs.Certificates.{TbsFields, IsTbsCertificate}
-use Rattle.rpki_cert.specs.ReadCertificates.{tbs_at}
-use Rattle.rpki_cert.proofs.ReadTbs.{tbs_reads}
+use Rattle.rpki_cert.specs.Certificates.Reading.{tbs_at}
+use Rattle.rpki_cert.proofs.CertificatesReads.{tbs_reads}
 use Rattle.rpki_cert.proofs.tbs.TbsCert.from_constructed.Goals as goal
 
 pub returns-clause-answers : goal.returns-clause-answers

@@ -1,7 +1,7 @@
 use Rattle.std.proofs.Common.{◌≡◌, ◌≤◌, ◌^◌, length, Ok, Err, inl, inr, rules}
 use Rattle.std.specs.List.{concat}
-use Rattle.rpki_parts.specs.WrittenParts.{signed_pieces}
-use Rattle.rpki_cert.specs.Spelling.{spelling}
+use Rattle.rpki_parts.specs.SignedDatas.{signed_pieces}
+use Rattle.rpki_cert.specs.Certificates.{spelling}
 use Rattle.rpki_cert.proofs.Refusals.{writing_refused, memory_refused, signer_refused}
 use Rattle.rpki_cert.proofs.tbs.TbsCert.sign.Goals as goal
 

@@ -1,7 +1,8 @@
 use Rattle.std.proofs.Common.{ℕ, List}
-use Rattle.rpki_der.specs.Skipping.{IsCaptured, captured_at}
+use Rattle.rpki_der.specs.Skipping.{IsCaptured}
+use Rattle.rpki_der.specs.Skipping.Reading.{captured_at}
 use Rattle.rpki_der.proofs.Answering.{answers_or_memory}
-use Rattle.rpki_der.proofs.ReadSkipping.{captured_reads}
+use Rattle.rpki_der.proofs.SkippingReads.{captured_reads}
 use Rattle.rpki_der.proofs.cursor.Cursor.capture_one.Goals as goal
 
 pub returns-clause-answers : goal.returns-clause-answers

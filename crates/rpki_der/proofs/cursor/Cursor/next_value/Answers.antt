@@ -1,6 +1,6 @@
 use Rattle.std.proofs.Common.{◌≡◌, Some, subst, arith}
 use Rattle.rpki_der.specs.Place.{Place, left}
-use Rattle.rpki_der.specs.Reading.{value_at}
+use Rattle.rpki_der.specs.Values.Reading.{value_at}
 use Rattle.rpki_der.proofs.Places.{placed}
 use Rattle.rpki_der.proofs.cursor.Cursor.next_value.Goals as goal
 

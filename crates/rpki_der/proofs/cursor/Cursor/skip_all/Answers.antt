@@ -1,5 +1,5 @@
 use Rattle.rpki_der.specs.Place.{left}
-use Rattle.rpki_der.proofs.ReadSkipping.{skips_all}
+use Rattle.rpki_der.proofs.SkippingReads.{skips_all}
 use Rattle.rpki_der.proofs.cursor.Cursor.skip_all.Goals as goal
 
 pub returns-clause-skippable : goal.returns-clause-skippable

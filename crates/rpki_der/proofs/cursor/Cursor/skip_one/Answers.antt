@@ -1,6 +1,7 @@
-use Rattle.rpki_der.specs.Skipping.{IsSkipped, skip_at}
+use Rattle.rpki_der.specs.Skipping.{IsSkipped}
+use Rattle.rpki_der.specs.Skipping.Reading.{skip_at}
 use Rattle.rpki_der.proofs.Answering.{answers}
-use Rattle.rpki_der.proofs.ReadSkipping.{skip_reads}
+use Rattle.rpki_der.proofs.SkippingReads.{skip_reads}
 use Rattle.rpki_der.proofs.cursor.Cursor.skip_one.Goals as goal
 
 pub returns-clause-answers : goal.returns-clause-answers

@@ -1,8 +1,9 @@
 use Rattle.std.proofs.Common.{ℕ}
 use Rattle.rpki_der.specs.Place.{Place, left}
-use Rattle.rpki_der.specs.Primitives.{IsBits, bits_at}
+use Rattle.rpki_der.specs.Primitives.{IsBits}
+use Rattle.rpki_der.specs.Primitives.Reading.{bits_at}
 use Rattle.rpki_der.proofs.Answering.{answers}
-use Rattle.rpki_der.proofs.ReadPrimitives.{bits_reads}
+use Rattle.rpki_der.proofs.PrimitiveReads.{bits_reads}
 use Rattle.rpki_der.proofs.cursor.Cursor.take_bits.Goals as goal
 
 pub returns-clause-answers : goal.returns-clause-answers

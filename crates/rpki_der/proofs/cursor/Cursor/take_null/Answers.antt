@@ -1,6 +1,7 @@
-use Rattle.rpki_der.specs.Primitives.{IsNull, null_at}
+use Rattle.rpki_der.specs.Primitives.{IsNull}
+use Rattle.rpki_der.specs.Primitives.Reading.{null_at}
 use Rattle.rpki_der.proofs.Answering.{answers}
-use Rattle.rpki_der.proofs.ReadPrimitives.{null_reads}
+use Rattle.rpki_der.proofs.PrimitiveReads.{null_reads}
 use Rattle.rpki_der.proofs.cursor.Cursor.take_null.Goals as goal
 
 pub returns-clause-answers : goal.returns-clause-answers

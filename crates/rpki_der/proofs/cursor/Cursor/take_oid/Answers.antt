@@ -1,9 +1,9 @@
 use Rattle.std.proofs.Common.{ℕ, List}
 use Rattle.std.specs.Borrow.{Bor}
-use Rattle.rpki_der.specs.Contents.{IsObjectIdentifier}
-use Rattle.rpki_der.specs.Reading.{oid_at}
+use Rattle.rpki_der.specs.Primitives.{IsObjectIdentifier}
+use Rattle.rpki_der.specs.Primitives.Reading.{oid_at}
 use Rattle.rpki_der.proofs.Answering.{answers}
-use Rattle.rpki_der.proofs.Identifiers.{oid_reads}
+use Rattle.rpki_der.proofs.IdentifierReads.{oid_reads}
 use Rattle.rpki_der.proofs.cursor.Cursor.take_oid.Goals as goal
 
 pub returns-clause-answers : goal.returns-clause-answers

@@ -1,7 +1,8 @@
 use Rattle.std.proofs.Common.{ℕ}
-use Rattle.rpki_der.specs.Primitives.{IsU32, u32_at}
+use Rattle.rpki_der.specs.Primitives.{IsU32}
+use Rattle.rpki_der.specs.Primitives.Reading.{u32_at}
 use Rattle.rpki_der.proofs.Answering.{answers}
-use Rattle.rpki_der.proofs.ReadPrimitives.{u32_reads}
+use Rattle.rpki_der.proofs.PrimitiveReads.{u32_reads}
 use Rattle.rpki_der.proofs.cursor.Cursor.take_u32.Goals as goal
 
 pub returns-clause-answers : goal.returns-clause-answers

@@ -1,8 +1,8 @@
 use Rattle.rpki_der.specs.Place.{left}
-use Rattle.rpki_der.specs.Reading.{value_at}
+use Rattle.rpki_der.specs.Values.Reading.{value_at}
 use Rattle.rpki_der.specs.Values.{IsEnc}
 use Rattle.rpki_der.proofs.Answering.{answers}
-use Rattle.rpki_der.proofs.ReadValues.{value_reads}
+use Rattle.rpki_der.proofs.ValueReads.{value_reads}
 use Rattle.rpki_der.proofs.cursor.Cursor.take_value.Goals as goal
 
 pub returns-clause-answers : goal.returns-clause-answers

@@ -1,6 +1,6 @@
 use Rattle.std.proofs.Common.{◌≡◌, true, refl}
-use Rattle.rpki_der.specs.Reading.{is_oid}
-use Rattle.rpki_der.proofs.Identifiers.{oid_takes, oid_again}
+use Rattle.rpki_der.specs.Primitives.Reading.{is_oid}
+use Rattle.rpki_der.proofs.IdentifierReads.{oid_takes, oid_again}
 use Rattle.rpki_der.proofs.oid.Oid.from_piece.Goals as goal
 
 pub returns-then-is_oid-clause-accepted : goal.returns-then-is_oid-clause-accepted

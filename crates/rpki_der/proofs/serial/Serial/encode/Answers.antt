@@ -1,9 +1,9 @@
 use Rattle.std.specs.Int.Digits.{number_from_digits, digits_of}
 use Rattle.std.proofs.Common.{◌^◌, ◌<◌, arith}
 use Rattle.std.proofs.lemmas.Int.Digits.{length-digits_of-le}
-use Rattle.rpki_der.specs.Writing.{unsigned}
+use Rattle.rpki_der.specs.Primitives.{unsigned}
 use Rattle.rpki_der.proofs.OnlyMemory.{only_memory}
-use Rattle.rpki_der.proofs.ReadAgain.{unsigned_small}
+use Rattle.rpki_der.proofs.RoundTrips.{unsigned_small}
 use Rattle.rpki_der.proofs.serial.Serial.encode.Goals as goal
 
 pub returns-clause-memory : goal.returns-clause-memory

@@ -1,7 +1,7 @@
 use Rattle.std.specs.Int.Digits.{number_from_digits}
 use Rattle.std.proofs.Common.{◌≡◌, ◌+◌, ◌*◌, ◌^◌, ◌≤◌, take, arith}
 use Rattle.std.proofs.lemmas.Int.Digits.{number_more}
-use Rattle.rpki_der.proofs.ReadPrimitives.{number_grows}
+use Rattle.rpki_der.proofs.PrimitiveReads.{number_grows}
 use Rattle.rpki_der.proofs.serial.Serial.from_slice.Goals as goal
 
 pub returns-then-high-ge16777216-clause-some : goal.returns-then-high-ge16777216-clause-some

@@ -1,6 +1,6 @@
 use Rattle.std.proofs.Common.{ℕ}
 use Rattle.rpki_der.specs.Serials.{IsSerial}
-use Rattle.rpki_der.specs.ReadSerials.{serial_at}
+use Rattle.rpki_der.specs.Serials.Reading.{serial_at}
 use Rattle.rpki_der.proofs.Answering.{answers}
 use Rattle.rpki_der.proofs.SerialReads.{serial_reads}
 use Rattle.rpki_der.proofs.serial.Serial.take_from.Goals as goal

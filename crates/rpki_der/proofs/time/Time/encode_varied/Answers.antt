@@ -2,7 +2,7 @@ use Rattle.std.proofs.Common.{◌≡◌, ◌<◌, ◌≤◌, ◌++◌, ◌%◌, 
 use Rattle.std.proofs.lemmas.Result.{on_ok_weaker}
 use Rattle.rpki_der.specs.Times.{Moment, two, after_year}
 use Rattle.rpki_der.specs.Values.{enc}
-use Rattle.rpki_der.proofs.WrittenTimes.{utc_written, generalized_written}
+use Rattle.rpki_der.proofs.TimeWritten.{utc_written, generalized_written}
 use Rattle.rpki_der.proofs.time.Time.encode_varied.Goals.{else-year-ge1950-via-then-year-ge1950+else-year-lt2050, else-year-ge1950-via-else-year-ge1950}
 use Rattle.rpki_der.proofs.time.Time.encode_varied.Goals as goal
 

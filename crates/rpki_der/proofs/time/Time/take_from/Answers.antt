@@ -1,5 +1,5 @@
 use Rattle.rpki_der.specs.Times.{Moment, IsTime}
-use Rattle.rpki_der.specs.ReadTimes.{time_at}
+use Rattle.rpki_der.specs.Times.Reading.{time_at}
 use Rattle.rpki_der.proofs.Answering.{answers}
 use Rattle.rpki_der.proofs.TimeReads.{time_reads}
 use Rattle.rpki_der.proofs.time.Time.take_from.Goals as goal

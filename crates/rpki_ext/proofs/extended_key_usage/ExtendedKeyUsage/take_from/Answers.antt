@@ -1,7 +1,6 @@
 use Rattle.rpki_der.proofs.Answering.{answers_or_memory}
-use Rattle.rpki_ext.specs.Contents.{IsExtendedKeyUsage}
-use Rattle.rpki_ext.specs.ReadContents.{extended_key_usage_at}
-use Rattle.rpki_ext.proofs.ReadContents.{extended_key_usage_reads}
+use Rattle.rpki_ext.specs.ExtendedKeyUsages.{IsExtendedKeyUsage, extended_key_usage_at}
+use Rattle.rpki_ext.proofs.ExtendedKeyUsages.{extended_key_usage_reads}
 use Rattle.rpki_ext.proofs.extended_key_usage.ExtendedKeyUsage.take_from.Goals as goal
 
 pub returns-clause-answers : goal.returns-clause-answers

@@ -1,7 +1,6 @@
 use Rattle.rpki_der.proofs.Answering.{answers_or_memory}
-use Rattle.rpki_ext.specs.Contents.{IsSubjectInformationAccess}
-use Rattle.rpki_ext.specs.ReadContents.{subject_information_access_at}
-use Rattle.rpki_ext.proofs.ReadAccess.{subject_information_access_reads}
+use Rattle.rpki_ext.specs.SubjectAccess.{IsSubjectInformationAccess, subject_information_access_at}
+use Rattle.rpki_ext.proofs.SubjectAccess.{subject_information_access_reads}
 use Rattle.rpki_ext.proofs.subject_access.Sia.take_from.Goals as goal
 
 pub returns-clause-answers : goal.returns-clause-answers

@@ -1,15 +1,15 @@
-use Rattle.std.proofs.Common.{◌≡◌, true, false}
+use Rattle.std.proofs.Common.{◌≡◌, true, false, rules}
 use Rattle.rpki_der.specs.Values.{enc, length_octets}
 use Rattle.rpki_parts.proofs.algorithm.RpkiSignatureAlgorithm.x509_encode.Goals as goal
 
-pub returns-then-self-clause-ok : goal.returns-then-self-clause-ok
+pub returns-then-self-clause-writes : goal.returns-then-self-clause-writes
 unfolding enc length_octets
-returns-then-self-clause-ok c =
-    let is : c.args.self.now ≡ true = cc in
-    rw is c.put_value.ensures.ok
+returns-then-self-clause-writes c =
+    let is : c.args.self.now.has_null ≡ true = cc in
+    rw is (record { ok = c.put_value.ensures.ok; err = c.put_value.ensures.err; fits = search rules; too_long = c.put_value.ensures.too_long.0 })
 
-pub returns-else-self-clause-ok : goal.returns-else-self-clause-ok
+pub returns-else-self-clause-writes : goal.returns-else-self-clause-writes
 unfolding enc length_octets
-returns-else-self-clause-ok c =
-    let is : c.args.self.now ≡ false = cc in
-    rw is c.put_value-else-self.ensures.ok
+returns-else-self-clause-writes c =
+    let is : c.args.self.now.has_null ≡ false = cc in
+    rw is (record { ok = c.put_value-else-self.ensures.ok; err = c.put_value-else-self.ensures.err; fits = search rules; too_long = c.put_value-else-self.ensures.too_long.0 })

@@ -1,6 +1,7 @@
 use Rattle.rpki_der.proofs.Answering.{answers}
-use Rattle.rpki_parts.specs.Algorithms.{IsSignatureAlgorithm, algorithm_at}
-use Rattle.rpki_parts.proofs.AlgorithmLaws.{algorithm_reads}
+use Rattle.rpki_parts.specs.Algorithms.{IsSignatureAlgorithm}
+use Rattle.rpki_parts.specs.Algorithms.Reading.{algorithm_at}
+use Rattle.rpki_parts.proofs.AlgorithmReads.{algorithm_reads}
 use Rattle.rpki_parts.proofs.algorithm.RpkiSignatureAlgorithm.x509_take_from.Goals as goal
 
 pub returns-clause-answers : goal.returns-clause-answers

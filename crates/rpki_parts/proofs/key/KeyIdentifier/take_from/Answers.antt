@@ -1,6 +1,7 @@
 use Rattle.rpki_der.proofs.Answering.{answers}
-use Rattle.rpki_parts.specs.Keys.{IsKeyIdentifier, key_identifier_at}
-use Rattle.rpki_parts.proofs.KeyLaws.{key_identifier_reads}
+use Rattle.rpki_parts.specs.Keys.{IsKeyIdentifier}
+use Rattle.rpki_parts.specs.Keys.Reading.{key_identifier_at}
+use Rattle.rpki_parts.proofs.KeyReads.{key_identifier_reads}
 use Rattle.rpki_parts.proofs.key.KeyIdentifier.take_from.Goals as goal
 
 pub returns-clause-answers : goal.returns-clause-answers

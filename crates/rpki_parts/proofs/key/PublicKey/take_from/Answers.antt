@@ -1,6 +1,7 @@
 use Rattle.rpki_der.proofs.Answering.{answers_or_memory}
-use Rattle.rpki_parts.specs.Keys.{IsPublicKey, public_key_at}
-use Rattle.rpki_parts.proofs.KeyLaws.{public_key_reads}
+use Rattle.rpki_parts.specs.Keys.{IsPublicKey}
+use Rattle.rpki_parts.specs.Keys.Reading.{public_key_at}
+use Rattle.rpki_parts.proofs.KeyReads.{public_key_reads}
 use Rattle.rpki_parts.proofs.key.PublicKey.take_from.Goals as goal
 
 pub returns-clause-answers : goal.returns-clause-answers

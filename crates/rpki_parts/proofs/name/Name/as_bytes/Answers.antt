@@ -1,6 +1,6 @@
 use Rattle.std.proofs.Common.{subst}
 use Rattle.rpki_parts.specs.Names.{IsName}
-use Rattle.rpki_parts.proofs.NameLaws.{name_is}
+use Rattle.rpki_parts.proofs.NameReads.{name_is}
 use Rattle.rpki_parts.proofs.name.Name.as_bytes.Goals as goal
 
 pub returns-clause-valid : goal.returns-clause-valid

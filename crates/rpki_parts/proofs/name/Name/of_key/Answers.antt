@@ -1,6 +1,6 @@
 use Rattle.std.proofs.Common.{◌≡◌, ◌++◌, rules, sym, ◌∙◌, ap}
-use Rattle.rpki_parts.specs.Names.{is_name}
-use Rattle.rpki_parts.specs.WrittenParts.{hexadecimal}
+use Rattle.rpki_parts.specs.Names.Reading.{is_name}
+use Rattle.rpki_parts.specs.KeyNames.{hexadecimal}
 use Rattle.rpki_parts.proofs.KeyNames.{IsKeyName, before_digits, key_name}
 use Rattle.rpki_parts.proofs.name.Name.of_key.Goals as goal
 

@@ -1,6 +1,7 @@
 use Rattle.rpki_der.proofs.Answering.{answers_or_memory}
-use Rattle.rpki_parts.specs.Names.{IsName, name_at}
-use Rattle.rpki_parts.proofs.NameLaws.{name_reads}
+use Rattle.rpki_parts.specs.Names.{IsName}
+use Rattle.rpki_parts.specs.Names.Reading.{name_at}
+use Rattle.rpki_parts.proofs.NameReads.{name_reads}
 use Rattle.rpki_parts.proofs.name.Name.take_from.Goals as goal
 
 pub returns-clause-answers : goal.returns-clause-answers

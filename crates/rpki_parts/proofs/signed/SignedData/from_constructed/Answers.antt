@@ -1,6 +1,7 @@
 use Rattle.rpki_der.proofs.Answering.{answers_or_memory}
-use Rattle.rpki_parts.specs.SignedDatas.{IsSignedDataContent, signed_content_at}
-use Rattle.rpki_parts.proofs.SignedLaws.{signed_content_reads}
+use Rattle.rpki_parts.specs.SignedDatas.{IsSignedDataContent}
+use Rattle.rpki_parts.specs.SignedDatas.Reading.{signed_content_at}
+use Rattle.rpki_parts.proofs.SignedDataReads.{signed_content_reads}
 use Rattle.rpki_parts.proofs.signed.SignedData.from_constructed.Goals as goal
 
 pub returns-clause-answers : goal.returns-clause-answers

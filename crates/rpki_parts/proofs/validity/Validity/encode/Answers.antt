@@ -1,7 +1,7 @@
 use Rattle.std.proofs.Common.{◌≡◌, ◌++◌, [], length, ap, rules, arith}
-use Rattle.rpki_der.specs.Writing.{time}
+use Rattle.rpki_der.specs.Times.{time}
 use Rattle.rpki_der.proofs.OnlyMemory.{only_memory}
-use Rattle.rpki_parts.proofs.WrittenLaws.{two_times_short}
+use Rattle.rpki_parts.proofs.Lengths.{two_times_short}
 use Rattle.rpki_parts.proofs.validity.Validity.encode.Goals as goal
 
 pub returns-clause-memory : goal.returns-clause-memory

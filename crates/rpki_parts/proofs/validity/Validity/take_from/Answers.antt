@@ -1,6 +1,7 @@
 use Rattle.rpki_der.proofs.Answering.{answers}
-use Rattle.rpki_parts.specs.Validities.{IsValidity, validity_at}
-use Rattle.rpki_parts.proofs.ValidityLaws.{validity_reads}
+use Rattle.rpki_parts.specs.Validities.{IsValidity}
+use Rattle.rpki_parts.specs.Validities.Reading.{validity_at}
+use Rattle.rpki_parts.proofs.ValidityReads.{validity_reads}
 use Rattle.rpki_parts.proofs.validity.Validity.take_from.Goals as goal
 
 pub returns-clause-answers : goal.returns-clause-answers

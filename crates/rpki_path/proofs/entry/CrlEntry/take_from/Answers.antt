@@ -1,7 +1,7 @@
 use Rattle.rpki_der.proofs.Answering.{answers}
 use Rattle.rpki_path.specs.RevokedEntries.{IsEntry}
-use Rattle.rpki_path.specs.ReadEntries.{entry_at}
-use Rattle.rpki_path.specs.EntryViews.{entry_of}
+use Rattle.rpki_path.specs.RevokedEntries.Reading.{entry_at}
+use Rattle.rpki_path.specs.RevokedEntries.Views.{entry_of}
 use Rattle.rpki_path.proofs.EntryReads.{entry_reads}
 use Rattle.rpki_path.proofs.entry.CrlEntry.take_from.Goals as goal
 

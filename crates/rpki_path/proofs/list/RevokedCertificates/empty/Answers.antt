@@ -1,9 +1,13 @@
 use Rattle.std.proofs.Common.{◌≡◌, [], refl, ◌∙◌}
+use Rattle.rpki_der.specs.Folding.{pass}
+use Rattle.rpki_der.proofs.Walking.{over_end}
+use Rattle.rpki_path.specs.RevokedEntries.Reading.{entry_at, entries_pass}
 use Rattle.rpki_path.proofs.EntryRows.{all_read}
 use Rattle.rpki_path.proofs.list.RevokedCertificates.empty.Goals as goal
 
 pub invariant_of-result : goal.invariant_of-result
-invariant_of-result c = let e : c.from.result ≡ [] = c.from.ensures ∙ c.new.ensures in rw (e, all_read) refl
+unfolding entries_pass
+invariant_of-result c = let e : c.from.result ≡ [] = c.from.ensures ∙ c.new.ensures in rw e (over_end entry_at pass tt)
 
 pub returns : goal.returns
 returns c = let e : c.from.result ≡ [] = c.from.ensures ∙ c.new.ensures in rw (e, all_read) refl

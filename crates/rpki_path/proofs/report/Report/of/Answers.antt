@@ -1,4 +1,4 @@
-use Rattle.rpki_path.proofs.Answered.{says_found, says_refused}
+use Rattle.rpki_path.proofs.Reports.{says_found, says_refused}
 use Rattle.rpki_path.proofs.report.Report.of.Goals as goal
 
 pub returns-in-Ok : goal.returns-in-Ok

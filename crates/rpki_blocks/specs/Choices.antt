@@ -1,9 +1,0 @@
--- What clauses see of a choice.
-use Rattle.rpki_blocks.specs.Resources.{Resources, missing, inherit, blocks}
-use Rattle.rpki_blocks.specs.declared.resources.Choice.{Choice}
-use Rattle.rpki_blocks.specs.declared.resources.Choice.TheVariants.{Missing, Inherit, Blocks}
-
-abbrev pub resources_of : {B : Type 0} → Choice B → Resources
-resources_of Missing = missing
-resources_of Inherit = inherit
-resources_of (Blocks chain) = blocks chain

@@ -1,0 +1,122 @@
+-- What is written of fields is a TBSCertificate of these fields, and signed data round it is a certificate; a certificate is
+-- written as it was read.
+use Rattle.std.specs.List.{concat}
+use Rattle.std.proofs.Common.{ℕ, List, [], ◌∷◌, ◌≡◌, map, refl, arith, ◌<◌, ◌^◌, length, Bool, true, false, ap, ◌∙◌}
+use Rattle.rpki_der.specs.Values.{AreOctets, IsEnc, enc, nested}
+use Rattle.rpki_der.specs.Extensions.{text}
+use Rattle.rpki_der.specs.Primitives.{null, number}
+use Rattle.rpki_der.proofs.ValueWritten.{Short, pieces_short, nested_made, nested_short, number_made, made}
+use Rattle.rpki_der.proofs.WrittenOctets.{literal, value_octets, ok_concat, ok_nested, ok_number, ok_enc}
+use Rattle.rpki_blocks.specs.Prefixes.{AreV4}
+use Rattle.rpki_parts.specs.Validities.{validity}
+use Rattle.rpki_parts.specs.Keys.{key}
+use Rattle.rpki_parts.specs.Algorithms.{Algorithm, parameters, IsSignatureAlgorithm, algorithm}
+use Rattle.rpki_parts.specs.SignedDatas.{SignedFields, IsSignedDataContent, signed_data, signed_pieces}
+use Rattle.rpki_parts.proofs.ValidityWritten.{validity_made, ok_validity}
+use Rattle.rpki_parts.proofs.KeyWritten.{key_made, ok_key}
+use Rattle.rpki_parts.proofs.AlgorithmWritten.{algorithm_made, ok_algorithm}
+use Rattle.rpki_cert.specs.Certificates.{TbsFields, version_3, IsTbsCertificate, tbs_content, spelling, Fits, CertFields, IsCertificate}
+use Rattle.rpki_cert.specs.CertificateExtensions.{extensions, parts, HasResources}
+use Rattle.rpki_cert.proofs.CertificateExtensionsWritten.{written, row_made, contents_short, ok_row, known_parts, ok_contents, fields_given}
+
+abbrev pieces : TbsFields → List (List ℕ)
+pieces f = version_3 ∷ number f.serial ∷ algorithm f.algorithm ∷ f.issuer ∷ validity f.validity ∷ f.subject ∷ key f.key ∷ nested (0xA3 ∷ 0x30 ∷ []) (extensions f.extensions) ∷ []
+
+module _ (f : TbsFields) (fits : Fits f) (only_v4 : AreV4 f.extensions.v4_resources) where
+  content_octets : AreOctets (tbs_content f)
+  unfolding extensions
+  content_octets =
+      ok_concat (pieces f) (
+        (λ l. literal version_3 refl),
+        (
+          ok_number f.serial,
+          (
+            ok_algorithm f.algorithm,
+            (
+              (λ l. value_octets fits.issuer_is.parts_are.sequence),
+              (
+                ok_validity f.validity fits.not_before_is fits.not_after_is,
+                (
+                  (λ l. value_octets fits.subject_is.parts_are.sequence),
+                  (
+                    ok_key f.key fits.key_is,
+                    (ok_nested (0xA3 ∷ 0x30 ∷ []) (extensions f.extensions) (literal (0xA3 ∷ 0x30 ∷ []) refl) (ok_row (parts f.extensions) (known_parts f.extensions) (ok_contents f.extensions fits.extensions_are only_v4)), tt),
+                  ),
+                ),
+              ),
+            ),
+          ),
+        ),
+      )
+      fits.short
+
+  enc_made : (b : List ℕ) → b ≡ spelling f → IsEnc 0x30 (tbs_content f) b
+  enc_made b is = record { octet = omega arith; low_tag = omega arith; octets = content_octets; short = fits.short; is = is }
+
+  pub tbs_made : (b : List ℕ) → b ≡ spelling f → HasResources f.extensions → IsTbsCertificate f b
+  unfolding extensions
+  tbs_made b is some =
+      let s = pieces_short (pieces f) (fits.short, content_octets) in
+      let last : Short (nested (0xA3 ∷ 0x30 ∷ []) (extensions f.extensions)) = s.1.1.1.1.1.1.1.0 in
+      let row = pieces_short (map text (parts f.extensions)) (nested_short (0xA3 ∷ 0x30 ∷ []) (extensions f.extensions) last) in
+      record {
+        content = tbs_content f;
+        content_is = record {
+          serial = number f.serial;
+          algorithm = algorithm f.algorithm;
+          issuer = f.issuer;
+          validity = validity f.validity;
+          subject = f.subject;
+          key = key f.key;
+          extensions = nested (0xA3 ∷ 0x30 ∷ []) (extensions f.extensions);
+          serial_is = record { number = number_made f.serial s.1.0; small = fits.serial_is };
+          algorithm_is = algorithm_made f.algorithm s.1.1.0;
+          issuer_is = fits.issuer_is;
+          validity_is = validity_made f.validity fits.not_before_is fits.not_after_is s.1.1.1.1.0;
+          subject_is = fits.subject_is;
+          key_is = key_made f.key s.1.1.1.1.1.1.0;
+          row = extensions f.extensions;
+          triples = written (parts f.extensions);
+          row_is = row_made (parts f.extensions) (known_parts f.extensions) row;
+          extensions_is = nested_made (0xA3 ∷ 0x30 ∷ []) (extensions f.extensions) (omega arith, (omega arith, tt)) last;
+          gives = fields_given f.extensions fits.extensions_are only_v4 some (contents_short (parts f.extensions) row);
+          is = refl;
+        };
+        enc = enc_made b is;
+      }
+
+pub certificate_made : (c : CertFields) → Fits c.fields → c.signed_data.message ≡ spelling c.fields → AreOctets c.signed_data.signature.value → length (concat (signed_pieces c.signed_data)) < 2 ^ 32 → HasResources c.fields.extensions → AreV4 c.fields.extensions.v4_resources → IsCertificate c (signed_data c.signed_data)
+certificate_made c fits is octets short some only_v4 =
+    let s = c.signed_data in
+    let message = enc_made c.fields fits only_v4 s.message is in
+    let all = ok_concat (signed_pieces s) ((λ l. value_octets message), (ok_algorithm s.signature.algorithm, (ok_enc 3 (0 ∷ s.signature.value) (omega arith) (λ l. (omega arith, octets)), tt))) short in
+    let shorts = pieces_short (signed_pieces s) (short, all) in
+    record {
+      content = concat (signed_pieces s);
+      content_is = record {
+        signed_is = record {
+          algorithm = algorithm s.signature.algorithm;
+          signature = enc 3 (0 ∷ s.signature.value);
+          message_is = record { tag = 0x30; content = tbs_content c.fields; enc = message };
+          algorithm_is = algorithm_made s.signature.algorithm shorts.1.0;
+          signature_is = made 3 (0 ∷ s.signature.value) (omega arith) shorts.1.1.0;
+          is = refl;
+        };
+        fields_are = tbs_made c.fields fits only_v4 s.message is some;
+      };
+      enc = record { octet = omega arith; low_tag = omega arith; octets = all; short = short; is = refl };
+    }
+
+-- ---- what was read
+
+algorithm_is : (a : Algorithm) (b : List ℕ) → IsSignatureAlgorithm a b → b ≡ algorithm a
+algorithm_is a b h = h.sequence.is ∙ ap (λ (id : List ℕ). enc 0x30 (concat (id ∷ parameters a.has_null ∷ []))) h.identifier_is.enc.is
+
+content_is : (s : SignedFields) (content : List ℕ) → IsSignedDataContent s content → content ≡ concat (signed_pieces s)
+content_is s content h =
+    h.is
+    ∙ ap (λ (a : List ℕ). concat (s.message ∷ a ∷ h.signature ∷ [])) (algorithm_is s.signature.algorithm h.algorithm h.algorithm_is)
+    ∙ ap (λ (b : List ℕ). concat (s.message ∷ algorithm s.signature.algorithm ∷ b ∷ [])) h.signature_is.is
+
+pub certificate_is : (c : CertFields) (b : List ℕ) → IsCertificate c b → b ≡ signed_data c.signed_data
+certificate_is c b h = h.enc.is ∙ ap (enc 0x30) (content_is c.signed_data h.content h.content_is.signed_is)

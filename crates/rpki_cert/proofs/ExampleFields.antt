@@ -1,0 +1,68 @@
+-- Fields that have a spelling.
+use Rattle.std.proofs.Common.{ℕ, List, [], ◌∷◌, true, refl, arith, ◌<◌, ◌^◌, length, inl}
+use Rattle.rpki_der.specs.Times.{Moment, IsMoment, time}
+use Rattle.rpki_der.specs.Values.{enc, length_octets}
+use Rattle.rpki_der.specs.Primitives.{number}
+use Rattle.rpki_der.proofs.WrittenOctets.{literal}
+use Rattle.rpki_blocks.specs.declared.overclaim.Overclaim.TheVariants.{Refuse}
+use Rattle.rpki_blocks.specs.Resources.{inherit}
+use Rattle.rpki_parts.specs.Algorithms.{with_null}
+use Rattle.rpki_parts.specs.declared.key.PublicKeyFormat.TheVariants.{Rsa}
+use Rattle.rpki_parts.specs.Names.{IsName}
+use Rattle.rpki_ext.specs.declared.key_usage.KeyUsage.TheVariants.{Ee}
+use Rattle.rpki_cert.specs.Certificates.{TbsFields, tbs_content, Fits}
+use Rattle.rpki_cert.specs.CertificateExtensions.{bare, extensions, HasResources}
+
+abbrev year_2000 : Moment
+year_2000 = record { year = 2000; month = 1; day = 1; hour = 0; minute = 0; second = 0 }
+
+-- a name without parts
+abbrev no_name : List ℕ
+no_name = 0x30 ∷ 0 ∷ []
+
+abbrev pub some_fields : TbsFields
+some_fields = record {
+  serial = 1;
+  algorithm = with_null;
+  issuer = no_name;
+  validity = record { not_before = year_2000; not_after = year_2000 };
+  subject = no_name;
+  key = record { format = Rsa; bits = [] };
+  extensions = record (bare (0 ∷ 0 ∷ 0 ∷ 0 ∷ 0 ∷ 0 ∷ 0 ∷ 0 ∷ 0 ∷ 0 ∷ 0 ∷ 0 ∷ 0 ∷ 0 ∷ 0 ∷ 0 ∷ 0 ∷ 0 ∷ 0 ∷ 0 ∷ []) Ee Refuse) { v4_resources = inherit };
+}
+
+is_name : IsName no_name no_name
+unfolding enc length_octets
+is_name = record { parts = []; parts_are = record { content = []; row = refl; sequence = record { octet = omega arith; low_tag = omega arith; octets = tt; short = omega arith; is = refl } }; kept = refl }
+
+is_moment : IsMoment year_2000
+is_moment = record { year = omega arith; month = (omega arith, omega arith); day = (omega arith, omega arith); hour = omega arith; minute = omega arith; second = omega arith }
+
+short : length (tbs_content some_fields) < 2 ^ 32
+unfolding extensions enc length_octets number time
+short = omega arith
+
+pub some_fit : Fits some_fields
+some_fit = record {
+  serial_is = omega arith;
+  issuer_is = is_name;
+  not_before_is = is_moment;
+  not_after_is = is_moment;
+  subject_is = is_name;
+  key_is = tt;
+  extensions_are = record {
+    subject_key_identifier_is = (literal some_fields.extensions.subject_key_identifier refl, refl);
+    authority_key_identifier_is = tt;
+    extended_key_usage_is = tt;
+    crl_uri_is = tt;
+    ca_issuer_is = tt;
+    access_is = record { ca_repository_is = tt; rpki_manifest_is = tt; signed_object_is = tt; rpki_notify_is = tt };
+    v4_is = tt;
+    v6_is = tt;
+    as_is = tt;
+  };
+  short = short;
+}
+
+pub some_resources : HasResources some_fields.extensions
+some_resources = inl (λ e. cc)

@@ -1,0 +1,54 @@
+-- Reading functions of certificates.
+use Rattle.std.specs.Prelude.{ℕ, bytes_eq, if◌then◌else◌, List, [], ◌∷◌, Option, Some, None, Bool}
+use Rattle.rpki_der.specs.Reading.{inside, content, both}
+use Rattle.rpki_der.specs.Values.Reading.{◌>>=◌, value_at}
+use Rattle.rpki_der.specs.Serials.Reading.{serial_at}
+use Rattle.rpki_der.specs.Choices.{turned}
+use Rattle.rpki_parts.specs.Algorithms.{Algorithm}
+use Rattle.rpki_parts.specs.Validities.{ValidityFields}
+use Rattle.rpki_parts.specs.Validities.Reading.{validity_at}
+use Rattle.rpki_parts.specs.Keys.{KeyFields}
+use Rattle.rpki_parts.specs.Keys.Reading.{public_key_at}
+use Rattle.rpki_parts.specs.Algorithms.Reading.{algorithm_at}
+use Rattle.rpki_parts.specs.Names.Reading.{name_at}
+use Rattle.rpki_parts.specs.SignedDatas.Reading.{signed_content_at}
+use Rattle.rpki_cert.specs.Certificates.{TbsFields, CertFields}
+use Rattle.rpki_cert.specs.CertificateExtensions.Reading.{extensions_of}
+
+-- ---- TBSCertificate
+
+abbrev pub is_two : List ℕ → Option (Unit {0})
+is_two c = if bytes_eq c (2 ∷ []) then Some tt else None
+
+unfoldable pub version_at : List ℕ → Option (Unit {0} × List ℕ)
+version_at = inside 0xA0 (content 0x02 is_two)
+
+-- the fields in their order, and the row of extensions as it stands
+abbrev pub Fields : Type 0
+Fields = Unit {0} × (ℕ × (Algorithm × (List ℕ × (ValidityFields × (List ℕ × (KeyFields × List ℕ))))))
+
+abbrev pub with_extensions : Fields → Option TbsFields
+with_extensions (_, (serial, (algorithm, (issuer, (validity, (subject, (key, row))))))) = do
+  x ← extensions_of row
+  Some (record { serial = serial; algorithm = algorithm; issuer = issuer; validity = validity; subject = subject; key = key; extensions = x })
+
+unfoldable pub fields_in_order : List ℕ → Option (Fields × List ℕ)
+fields_in_order = both version_at (both serial_at (both algorithm_at (both name_at (both validity_at (both name_at (both public_key_at (inside 0xA3 (value_at 0x30))))))))
+
+unfoldable pub fields_at : List ℕ → Option (Fields × List ℕ)
+fields_at = inside 0x30 fields_in_order
+
+unfoldable pub tbs_at : List ℕ → Option (TbsFields × List ℕ)
+tbs_at = turned with_extensions fields_at
+
+-- ---- certificates
+
+-- the signed value is kept, and read as a TBSCertificate where it stands
+unfoldable pub cert_content_at : List ℕ → Option (CertFields × List ℕ)
+cert_content_at octets = do
+  s ← signed_content_at octets
+  t ← tbs_at octets
+  Some (record { fields = t.0; signed_data = s.0 }, s.1)
+
+unfoldable pub cert_at : List ℕ → Option (CertFields × List ℕ)
+cert_at = inside 0x30 cert_content_at

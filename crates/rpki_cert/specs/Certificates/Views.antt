@@ -1,0 +1,12 @@
+-- What contracts see of the fields before the extensions, and of the row of extensions.
+use Rattle.rpki_der.specs.Place.{Place, left}
+use Rattle.std.specs.Prelude.{ℕ, List}
+use Rattle.rpki_parts.specs.Keys.{KeyFields}
+use Rattle.rpki_cert.specs.Certificates.Reading.{Fields}
+use Rattle.rpki_cert.specs.declared.tbs.Head.{Head}
+
+abbrev pub fields_view : Head × Place → Fields
+fields_view (h, row) = (tt, (h.serial_number, (h.signature, (h.issuer, (h.validity, (h.subject, (h.subject_public_key_info, left row)))))))
+
+abbrev pub key_view : KeyFields × Place → KeyFields × List ℕ
+key_view x = (x.0, left x.1)

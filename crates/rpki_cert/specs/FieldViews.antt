@@ -1,7 +1,0 @@
--- What clauses see of the fields before the extensions, and of the row of extensions.
-use Rattle.rpki_der.specs.Place.{Place, left}
-use Rattle.rpki_cert.specs.ReadCertificates.{Fields}
-use Rattle.rpki_cert.specs.declared.tbs.Head.{Head}
-
-abbrev pub fields_view : Head × Place → Fields
-fields_view (h, row) = (tt, (h.serial_number, (h.signature, (h.issuer, (h.validity, (h.subject, (h.subject_public_key_info, left row)))))))

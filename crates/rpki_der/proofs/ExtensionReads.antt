@@ -1,0 +1,76 @@
+-- An extension is read as it is spelled.
+use Rattle.std.proofs.Common.{◌≡◌, ℕ, Bool, List, [], ◌++◌, refl, sym, ap, subst, ◌∙◌, arith}
+use Rattle.std.proofs.lemmas.List.{append-nil}
+use Rattle.rpki_der.specs.Values.{enc, IsEnc, AreOctets}
+use Rattle.rpki_der.specs.Extensions.{Extension, IsExtension}
+use Rattle.rpki_der.specs.Extensions.Reading.{extension_made, extension_at}
+use Rattle.rpki_der.specs.Primitives.{IsBoolOrFalse, IsObjectIdentifier}
+use Rattle.rpki_der.specs.Primitives.Reading.{bool_or_false_at, oid_at}
+use Rattle.rpki_der.specs.Reading.{inside, both, mapped, Reads, Both, Inside}
+use Rattle.rpki_der.specs.Values.Reading.{value_at}
+use Rattle.rpki_der.specs.Rows.Reading.{Shrinks}
+use Rattle.rpki_der.specs.Spelling.{BeginsOther}
+use Rattle.rpki_der.proofs.Readings.{before_then}
+use Rattle.rpki_der.proofs.IdentifierReads.{oid_reads}
+use Rattle.rpki_der.proofs.Readings.{both_reads, inside_reads, mapped_reads, same_reads}
+use Rattle.rpki_der.proofs.PrimitiveReads.{bool_or_false_reads}
+use Rattle.rpki_der.proofs.ValueReads.{value_reads}
+use Rattle.rpki_der.proofs.Rows.{inside_shrinks}
+
+abbrev Parts : List ℕ × (Bool × List ℕ) → List ℕ → Type 0
+Parts = Both IsObjectIdentifier (Both IsBoolOrFalse (IsEnc 4))
+
+content_begins : (c text rest : List ℕ) → IsEnc 4 c text → BeginsOther 1 (text ++ rest)
+unfolding enc
+content_begins c text rest v = rw v.is (λ e. absurd (omega (arith, e)))
+
+parts_read : Reads (both oid_at (both bool_or_false_at (value_at 4))) Parts
+parts_read = both_reads oid_at (both bool_or_false_at (value_at 4)) IsObjectIdentifier (Both IsBoolOrFalse (IsEnc 4)) oid_reads (before_then (BeginsOther 1) bool_or_false_at (value_at 4) IsBoolOrFalse (IsEnc 4) bool_or_false_reads (value_reads 4) content_begins)
+
+abbrev parts : Extension → List ℕ × (Bool × List ℕ)
+parts x = (x.identifier, (x.critical, x.content))
+
+abbrev Spelled : Extension → List ℕ → Type 0
+Spelled x = Parts (parts x)
+
+is_extension : (x : Extension) (text : List ℕ) → Inside 0x30 Spelled x text → IsExtension x text
+is_extension x text s =
+    let p = s.1 in
+    let q = p.3 in
+    let all : s.0 ≡ p.0 ++ (q.0 ++ (q.1 ++ [])) = p.4 ∙ ap (λ (t : List ℕ). p.0 ++ t) (q.4 ∙ ap (λ (t : List ℕ). q.0 ++ t) (sym (append-nil q.1))) in
+    record {
+      identifier = p.0;
+      flag = q.0;
+      content = q.1;
+      identifier_is = p.2;
+      flag_is = q.2;
+      content_is = q.3;
+      sequence = subst (λ (c : List ℕ). IsEnc 0x30 c text) all s.2;
+    }
+
+extension_is : (x : Extension) (text : List ℕ) → IsExtension x text → Inside 0x30 Spelled x text
+extension_is x text s =
+    let all : s.identifier ++ (s.flag ++ (s.content ++ [])) ≡ s.identifier ++ (s.flag ++ s.content) = ap (λ (t : List ℕ). s.identifier ++ (s.flag ++ t)) (append-nil s.content) in (
+      s.identifier ++ (s.flag ++ s.content),
+      (s.identifier, s.flag ++ s.content, s.identifier_is, (s.flag, s.content, s.flag_is, s.content_is, refl), refl),
+      subst (λ (c : List ℕ). IsEnc 0x30 c text) all s.sequence,
+    )
+
+pub extension_reads : Reads extension_at IsExtension
+unfolding extension_at
+extension_reads =
+    same_reads (inside 0x30 (mapped extension_made (both oid_at (both bool_or_false_at (value_at 4))))) (Inside 0x30 Spelled) IsExtension
+    (inside_reads 0x30 (mapped extension_made (both oid_at (both bool_or_false_at (value_at 4)))) Spelled
+    (mapped_reads (both oid_at (both bool_or_false_at (value_at 4))) Parts extension_made parts (λ p. refl) (λ x. refl) parts_read))
+    is_extension extension_is
+
+pub extension_shrinks : Shrinks extension_at
+unfolding extension_at
+extension_shrinks = inside_shrinks 0x30 (mapped extension_made (both oid_at (both bool_or_false_at (value_at 4))))
+
+-- the content of an extension is octets
+abbrev pub HasOctets : Extension → Type 0
+HasOctets x = AreOctets x.content
+
+pub extension_octets : (x : Extension) (text : List ℕ) → IsExtension x text → HasOctets x
+extension_octets x text s = s.content_is.octets

@@ -1,0 +1,180 @@
+-- Readings made of readings, with what follows them where that has to be known.
+use Rattle.std.proofs.Common.{◌≡◌, ℕ, List, [], ◌∷◌, ◌++◌, length, Option, Some, refl, sym, ap, subst, ◌∙◌, append_assoc}
+use Rattle.std.proofs.lemmas.List.{append-nil}
+use Rattle.rpki_der.specs.Choices.{followed, Followed, whole}
+use Rattle.rpki_der.specs.Reading.{ended, inside, both, mapped, content, ReadsBefore, Anything, Reads, ReadsWhole, Both, Inside}
+use Rattle.rpki_der.specs.Values.Reading.{value_at, ◌>>=◌}
+use Rattle.rpki_der.specs.Spelling.{Begins}
+use Rattle.rpki_der.specs.Values.{AreOctets, length_octets, enc, IsEnc}
+use Rattle.rpki_der.proofs.Octets.{AreOctets-after, AreOctets-front, bind_some, some, some_is, both_are, nothing}
+use Rattle.rpki_der.proofs.ValueReads.{value_takes, value_again}
+
+-- a reading's answer is the only one: two texts that spell values and begin the same octets are one
+pub one_reading : {A : Type 0} (read : List ℕ → Option (A × List ℕ)) (spells : A → List ℕ → Type 0) → Reads read spells
+    → (bytes : List ℕ) (x y : A) (p q : List ℕ) → Begins spells bytes x p → Begins spells bytes y q → (x ≡ y) × (p ≡ q)
+one_reading {A} read spells law bytes x y p q a b =
+    let one : read bytes ≡ some {A = A × List ℕ} (x, p) = rw a.parts (law.again x a.text p a.spelled) in
+    let two : read bytes ≡ some {A = A × List ℕ} (y, q) = rw b.parts (law.again y b.text q b.spelled) in
+    both_are (x, p) (y, q) (sym one ∙ two)
+
+pub AreOctets-content : {rest : List ℕ} (bytes : List ℕ) (t : ℕ) (c : List ℕ) → Begins (IsEnc t) bytes c rest → AreOctets bytes → AreOctets c
+unfolding enc
+AreOctets-content {rest} bytes t c v fits =
+    let text = AreOctets-front bytes v.text rest v.parts fits in
+    AreOctets-after v.text (t ∷ length_octets (length c)) c v.spelled.is text
+
+pub ended_some : {X : Type 0} (rest : List ℕ) (x y : X) → ended rest x ≡ some y → (rest ≡ []) × (x ≡ y)
+ended_some [] x y e = (refl, some_is x y e)
+ended_some (b ∷ rest) x y e = nothing y e
+
+-- ---- before such octets
+
+module _ (P : List ℕ → Type 0) where
+  pub before : {X : Type 0} (f : List ℕ → Option (X × List ℕ)) (S : X → List ℕ → Type 0) → Reads f S → ReadsBefore P f S
+  before f S F = record { takes = F.takes; again = λ v text rest s p. F.again v text rest s }
+
+  -- the same relation in other words
+  pub same_before : {X : Type 0} (f : List ℕ → Option (X × List ℕ)) (S T : X → List ℕ → Type 0) → ReadsBefore P f S → ((x : X) (text : List ℕ) → S x text → T x text) → ((x : X) (text : List ℕ) → T x text → S x text) → ReadsBefore P f T
+  same_before f S T F to back = record {
+    takes = λ bytes x rest fits e. let one = F.takes bytes x rest fits e in record { text = one.text; spelled = to x one.text one.spelled; parts = one.parts };
+    again = λ x text rest t p. F.again x text rest (back x text t) p;
+  }
+
+  -- what a function makes of the value
+  pub mapped_before : {X Y : Type 0} (to : X → Y) (f : List ℕ → Option (X × List ℕ)) (S : X → List ℕ → Type 0) (T : Y → List ℕ → Type 0) → ReadsBefore P f S
+      → ((x : X) (text : List ℕ) → S x text → T (to x) text) → ((y : Y) (text : List ℕ) → T y text → (x : X) × (to x ≡ y) × S x text) → ReadsBefore P (mapped to f) T
+  mapped_before {X} {Y} to f S T F there back = record {
+    takes = λ bytes y rest fits e.
+        let a = bind_some (f bytes) (λ x. Some (to x.0, x.1)) (y, rest) e in
+        let one = F.takes bytes a.0.0 a.0.1 fits a.1 in
+        let made : Y × List ℕ = (to a.0.0, a.0.1) in
+        subst (λ (q : Y × List ℕ). Begins T bytes q.0 q.1) (some_is made (y, rest) a.2) (record { text = one.text; spelled = there a.0.0 one.text one.spelled; parts = one.parts });
+    again = λ y text rest t p. let x = back y text t in rw (F.again x.0 text rest x.2 p, x.1) refl;
+  }
+
+  pub followed_before : {X Y : Type 0} (f : List ℕ → Option (X × List ℕ)) (g : X → List ℕ → Option (Y × List ℕ)) (S : X → List ℕ → Type 0) (T : X → Y → List ℕ → Type 0)
+      → Reads f S → ((x : X) → ReadsBefore P (g x) (T x)) → ReadsBefore P (followed f g) (Followed S T)
+  followed_before f g S T F G = record {
+    takes = λ bytes y rest fits e.
+        let a = bind_some (f bytes) (λ x. g x.0 x.1) (y, rest) e in
+        let one = F.takes bytes a.0.0 a.0.1 fits a.1 in
+        let two = (G a.0.0).takes a.0.1 y rest (AreOctets-after bytes one.text a.0.1 one.parts fits) a.2 in
+        record {
+          text = one.text ++ two.text;
+          spelled = (a.0.0, one.text, two.text, one.spelled, two.spelled, refl);
+          parts = one.parts ∙ ap (λ (t : List ℕ). one.text ++ t) two.parts ∙ sym (append_assoc one.text two.text rest);
+        };
+    again = λ y text rest s p.
+        let all : text ++ rest ≡ s.1 ++ (s.2 ++ rest) = rw s.5 (append_assoc s.1 s.2 rest) in
+        rw (all, F.again s.0 s.1 (s.2 ++ rest) s.3) ((G s.0).again y s.2 rest s.4 p);
+  }
+
+  -- the octets end
+  pub whole_before : {X : Type 0} (f : List ℕ → Option (X × List ℕ)) (S : X → List ℕ → Type 0) → P [] → ReadsBefore P f S → ReadsWhole (whole f) S
+  whole_before {X} f S end F = record {
+    takes = λ octets x fits e.
+        let a = bind_some (f octets) (λ r. ended r.1 r.0) x e in
+        let g = ended_some a.0.1 a.0.0 x a.2 in
+        let one = F.takes octets a.0.0 a.0.1 fits a.1 in
+        let used : one.text ≡ octets = sym (append-nil one.text) ∙ sym (ap (λ (r : List ℕ). one.text ++ r) g.0) ∙ sym one.parts in
+        subst (λ (c : List ℕ). S x c) used (subst (λ (y : X). S y one.text) g.1 one.spelled);
+    again = λ x octets s.
+        let all : f octets ≡ some {A = X × List ℕ} (x, []) = ap f (sym (append-nil octets)) ∙ F.again x octets [] s end in
+        rw all refl;
+  }
+
+  -- the enclosing value ends
+  pub inside_before : {X : Type 0} (t : ℕ) (f : List ℕ → Option (X × List ℕ)) (S : X → List ℕ → Type 0) → P [] → ReadsBefore P f S → Reads (inside t f) (Inside t S)
+  inside_before {X} t f S end F = record {
+    takes = λ bytes p rest fits e.
+        let a = bind_some (value_at t bytes) (λ v. f v.0 >>= λ x. ended x.1 (x.0, v.1)) (p, rest) e in
+        let b = bind_some (f a.0.0) (λ x. ended x.1 (x.0, a.0.1)) (p, rest) a.2 in
+        let made : X × List ℕ = (b.0.0, a.0.1) in
+        let g = ended_some b.0.1 made (p, rest) b.2 in
+        let one = value_takes t bytes a.0.0 a.0.1 fits a.1 in
+        let low = AreOctets-content bytes t a.0.0 one fits in
+        let two = F.takes a.0.0 b.0.0 b.0.1 low b.1 in
+        let used : two.text ≡ a.0.0 = sym (append-nil two.text) ∙ sym (ap (λ (r : List ℕ). two.text ++ r) g.0) ∙ sym two.parts in
+        subst (λ (q : X × List ℕ). Begins (Inside t S) bytes q.0 q.1) g.1 (record {
+          text = one.text;
+          spelled = (a.0.0, subst (λ (c : List ℕ). S b.0.0 c) used two.spelled, one.spelled);
+          parts = one.parts;
+        });
+    again = λ p text rest s.
+        let all : f s.0 ≡ some {A = X × List ℕ} (p, []) = ap f (sym (append-nil s.0)) ∙ F.again p s.0 [] s.1 end in
+        rw (value_again t s.0 text rest s.2, all) refl;
+  }
+
+  -- a second value stands between the first and what follows
+  pub both_before : {X Y : Type 0} (Q : List ℕ → Type 0) (f : List ℕ → Option (X × List ℕ)) (g : List ℕ → Option (Y × List ℕ)) (S : X → List ℕ → Type 0) (T : Y → List ℕ → Type 0)
+      → ReadsBefore Q f S → ReadsBefore P g T → ((y : Y) (text rest : List ℕ) → T y text → P rest → Q (text ++ rest)) → ReadsBefore P (both f g) (Both S T)
+  both_before {X} {Y} Q f g S T F G other = record {
+    takes = λ bytes p rest fits e.
+        let a = bind_some (f bytes) (λ x. g x.1 >>= λ y. Some ((x.0, y.0), y.1)) (p, rest) e in
+        let b = bind_some (g a.0.1) (λ y. Some ((a.0.0, y.0), y.1)) (p, rest) a.2 in
+        let one = F.takes bytes a.0.0 a.0.1 fits a.1 in
+        let two = G.takes a.0.1 b.0.0 b.0.1 (AreOctets-after bytes one.text a.0.1 one.parts fits) b.1 in
+        let made : (X × Y) × List ℕ = ((a.0.0, b.0.0), b.0.1) in
+        subst (λ (q : (X × Y) × List ℕ). Begins (Both S T) bytes q.0 q.1) (some_is made (p, rest) b.2) (record {
+          text = one.text ++ two.text;
+          spelled = (one.text, two.text, one.spelled, two.spelled, refl);
+          parts = one.parts ∙ ap (λ (t : List ℕ). one.text ++ t) two.parts ∙ sym (append_assoc one.text two.text b.0.1);
+        });
+    again = λ p text rest s follows.
+        let all : text ++ rest ≡ s.0 ++ (s.1 ++ rest) = rw s.4 (append_assoc s.0 s.1 rest) in
+        rw (all, F.again p.0 s.0 (s.1 ++ rest) s.2 (other p.1 s.1 rest s.3 follows), G.again p.1 s.1 rest s.3 follows) refl;
+  }
+
+-- ---- whatever follows
+
+pub before_anything : {X : Type 0} (f : List ℕ → Option (X × List ℕ)) (S : X → List ℕ → Type 0) → ReadsBefore Anything f S → Reads f S
+before_anything f S F = record { takes = F.takes; again = λ v text rest s. F.again v text rest s tt }
+
+-- another value follows
+pub before_then : {X Y : Type 0} (P : List ℕ → Type 0) (f : List ℕ → Option (X × List ℕ)) (g : List ℕ → Option (Y × List ℕ)) (S : X → List ℕ → Type 0) (T : Y → List ℕ → Type 0)
+    → ReadsBefore P f S → Reads g T → ((y : Y) (text rest : List ℕ) → T y text → P (text ++ rest)) → Reads (both f g) (Both S T)
+before_then P f g S T F G other = before_anything (both f g) (Both S T) (both_before Anything P f g S T F (before Anything g T G) (λ y text rest s follows. other y text rest s))
+
+pub both_reads : {X Y : Type 0} (f : List ℕ → Option (X × List ℕ)) (g : List ℕ → Option (Y × List ℕ)) (S : X → List ℕ → Type 0) (T : Y → List ℕ → Type 0)
+    → Reads f S → Reads g T → Reads (both f g) (Both S T)
+both_reads f g S T F G = before_then Anything f g S T (before Anything f S F) G (λ y text rest s. tt)
+
+pub inside_reads : {X : Type 0} (t : ℕ) (f : List ℕ → Option (X × List ℕ)) (S : X → List ℕ → Type 0) → Reads f S → Reads (inside t f) (Inside t S)
+inside_reads t f S F = inside_before Anything t f S tt (before Anything f S F)
+
+pub followed_reads : {X Y : Type 0} (f : List ℕ → Option (X × List ℕ)) (g : X → List ℕ → Option (Y × List ℕ)) (S : X → List ℕ → Type 0) (T : X → Y → List ℕ → Type 0)
+    → Reads f S → ((x : X) → Reads (g x) (T x)) → Reads (followed f g) (Followed S T)
+followed_reads f g S T F G = before_anything (followed f g) (Followed S T) (followed_before Anything f g S T F (λ x. before Anything (g x) (T x) (G x)))
+
+-- the whole of some octets
+pub whole_reads : {X : Type 0} (f : List ℕ → Option (X × List ℕ)) (S : X → List ℕ → Type 0) → Reads f S → ReadsWhole (whole f) S
+whole_reads f S F = whole_before Anything f S tt (before Anything f S F)
+
+-- the same value, in another form
+pub mapped_reads : {X Y : Type 0} (f : List ℕ → Option (X × List ℕ)) (S : X → List ℕ → Type 0) (to : X → Y) (back : Y → X)
+    → ((x : X) → back (to x) ≡ x) → ((y : Y) → to (back y) ≡ y) → Reads f S → Reads (mapped to f) (λ y. S (back y))
+mapped_reads {X} {Y} f S to back bt tb F =
+    let T : Y → List ℕ → Type 0 = λ y. S (back y) in
+    before_anything (mapped to f) T (mapped_before Anything to f S T (before Anything f S F)
+    (λ x text s. subst (λ (z : X). S z text) (sym (bt x)) s)
+    (λ y text t. (back y, tb y, t)))
+
+pub content_reads : {X : Type 0} (t : ℕ) (f : List ℕ → Option X) (S : X → List ℕ → Type 0) → ReadsWhole f S → Reads (content t f) (Inside t S)
+content_reads {X} t f S F = record {
+  takes = λ bytes p rest fits e.
+      let a = bind_some (value_at t bytes) (λ v. f v.0 >>= λ x. Some (x, v.1)) (p, rest) e in
+      let b = bind_some (f a.0.0) (λ x. Some (x, a.0.1)) (p, rest) a.2 in
+      let made : X × List ℕ = (b.0, a.0.1) in
+      let one = value_takes t bytes a.0.0 a.0.1 fits a.1 in
+      let low = AreOctets-content bytes t a.0.0 one fits in
+      subst (λ (q : X × List ℕ). Begins (Inside t S) bytes q.0 q.1) (some_is made (p, rest) b.2) (record {
+        text = one.text;
+        spelled = (a.0.0, F.takes a.0.0 b.0 low b.1, one.spelled);
+        parts = one.parts;
+      });
+  again = λ p text rest s. rw (value_again t s.0 text rest s.2, F.again p s.0 s.1) refl;
+}
+
+-- the same relation in other words
+pub same_reads : {X : Type 0} (f : List ℕ → Option (X × List ℕ)) (S T : X → List ℕ → Type 0) → Reads f S → ((x : X) (text : List ℕ) → S x text → T x text) → ((x : X) (text : List ℕ) → T x text → S x text) → Reads f T
+same_reads f S T F to back = before_anything f T (same_before Anything f S T (before Anything f S F) to back)

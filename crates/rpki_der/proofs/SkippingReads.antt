@@ -1,0 +1,162 @@
+-- Values of any kind, both ways.
+use Rattle.std.specs.List.{AllByRecursion, concat}
+use Rattle.std.proofs.Common.{◌≡◌, ℕ, zero, suc, ◌-◌, cond, List, [], ◌∷◌, ◌++◌, length, take, None, Result, Ok, Err, refl, sym, ap, subst, ◌∙◌, arith, inl, inr, ◌↔◌}
+use Rattle.std.specs.Prelude.{IsOk}
+use Rattle.std.proofs.lemmas.Bool.{cases_Bool, eq-eqb, eqb-true}
+use Rattle.std.proofs.lemmas.List.{length-append, take_at}
+use Rattle.rpki_der.specs.Values.{AreOctets, enc, IsEnc, IsValue}
+use Rattle.rpki_der.specs.Reading.{Reads, ReadsWhole}
+use Rattle.rpki_der.specs.Values.Reading.{value_at, ◌>>=◌}
+use Rattle.rpki_der.specs.Rows.{IsRow}
+use Rattle.rpki_der.specs.Rows.Reading.{row_of}
+use Rattle.rpki_der.specs.Place.Reading.{Returns}
+use Rattle.rpki_der.specs.declared.error.DecodeError.{DecodeError}
+use Rattle.rpki_der.specs.Spelling.{Begins}
+use Rattle.rpki_der.specs.Skipping.{IsSkippableWithin, IsSkippableRow, IsSkipped, IsCaptured, levels}
+use Rattle.rpki_der.specs.Skipping.Reading.{any_at, captured_at, is_primitive, skip_within, skip_row_within, skip_at, skip_all_of}
+use Rattle.rpki_der.proofs.Octets.{bind_some, if_some, some, some_is, nothing}
+use Rattle.rpki_der.proofs.ValueReads.{value_takes, value_again}
+use Rattle.rpki_der.proofs.Rows.{row_is, row_again}
+use Rattle.rpki_der.proofs.SkippingSteps.{within_shrinks}
+
+-- ---- a value of any identifier octet
+
+abbrev pub IsTagged : ℕ × List ℕ → List ℕ → Type 0
+IsTagged v b = IsEnc v.0 v.1 b
+
+any_takes : (octets : List ℕ) (v : ℕ × List ℕ) (rest : List ℕ) → AreOctets octets → any_at octets ≡ some {A = (ℕ × List ℕ) × List ℕ} (v, rest) → Begins IsTagged octets v rest
+any_takes [] v rest fits e = nothing (v, rest) e
+any_takes (tag ∷ bytes) v rest fits e =
+    let a = bind_some (value_at tag (tag ∷ bytes)) (λ x. some {A = (ℕ × List ℕ) × List ℕ} ((tag, x.0), x.1)) (v, rest) e in
+    let one = value_takes tag (tag ∷ bytes) a.0.0 a.0.1 fits a.1 in
+    let made : (ℕ × List ℕ) × List ℕ = ((tag, a.0.0), a.0.1) in
+    subst (λ (q : (ℕ × List ℕ) × List ℕ). Begins IsTagged (tag ∷ bytes) q.0 q.1) (some_is made (v, rest) a.2) (record { text = one.text; spelled = one.spelled; parts = one.parts })
+
+pub begins_tag : (tag : ℕ) (content text rest : List ℕ) → IsEnc tag content text → (tail : List ℕ) × (text ++ rest ≡ tag ∷ tail)
+unfolding enc
+begins_tag tag content text rest v = (_, ap (λ (t : List ℕ). t ++ rest) v.is)
+
+any_from : (octets : List ℕ) (tag : ℕ) (tail content rest : List ℕ) → octets ≡ tag ∷ tail → value_at tag octets ≡ some {A = List ℕ × List ℕ} (content, rest) → any_at octets ≡ some {A = (ℕ × List ℕ) × List ℕ} ((tag, content), rest)
+any_from octets tag tail content rest begins e = rw begins (let f : value_at tag (tag ∷ tail) ≡ some {A = List ℕ × List ℕ} (content, rest) = rw begins at e in rw f refl)
+
+any_again : (v : ℕ × List ℕ) (text rest : List ℕ) → IsTagged v text → any_at (text ++ rest) ≡ some {A = (ℕ × List ℕ) × List ℕ} (v, rest)
+any_again v text rest s =
+    let b = begins_tag v.0 v.1 text rest s in
+    any_from (text ++ rest) v.0 b.0 v.1 rest b.1 (value_again v.0 v.1 text rest s)
+
+-- ---- a value that is kept whole
+
+pub captured_reads : Reads captured_at IsCaptured
+unfolding captured_at
+captured_reads = record {
+  takes = λ octets text rest fits e.
+      let a = bind_some (any_at octets) (λ v. some {A = List ℕ × List ℕ} (take (length octets - length v.1) octets, v.1)) (text, rest) e in
+      let one = any_takes octets a.0.0 a.0.1 fits a.1 in
+      let made : List ℕ × List ℕ = (take (length octets - length a.0.1) octets, a.0.1) in
+      let front : take (length octets - length a.0.1) octets ≡ one.text = front_is octets one.text a.0.1 one.parts in
+      let value : IsValue one.text = record { tag = a.0.0.0; content = a.0.0.1; enc = one.spelled } in
+      subst (λ (q : List ℕ × List ℕ). Begins IsCaptured octets q.0 q.1) (some_is made (text, rest) a.2) (record { text = one.text; spelled = (value, front); parts = one.parts });
+  again = λ octets text rest s.
+      let found : ℕ × List ℕ = (s.0.tag, s.0.content) in
+      let front : take (length (text ++ rest) - length rest) (text ++ rest) ≡ text = front_is (text ++ rest) text rest refl in
+      rw (any_again found text rest s.0.enc, front, s.1) refl;
+}
+  where
+    front_is : (octets text rest : List ℕ) → octets ≡ text ++ rest → take (length octets - length rest) octets ≡ text
+    front_is octets text rest e = rw e (take_at text rest (length (text ++ rest) - length rest) (omega (arith, length-append text rest)))
+
+-- ---- a value that is skipped
+
+abbrev Within : ℕ → Unit {0} → List ℕ → Type 0
+Within d u b = IsSkippableWithin d b
+
+-- a row of them, as its pieces
+row_to : (P : List ℕ → Type 0) (us : List (Unit {0})) (b : List ℕ) → IsRow {V = Unit {0}} (λ u x. P x) us b → (row : List (List ℕ)) × (b ≡ concat row) × AllByRecursion P row
+row_to P [] b h = ([], h, tt)
+row_to P (u ∷ us) b h =
+    let r = row_to P us h.1 h.3 in
+    (h.0 ∷ r.0, h.4 ∙ ap (λ (x : List ℕ). h.0 ++ x) r.1, (h.2, r.2))
+
+row_from : (P : List ℕ → Type 0) (row : List (List ℕ)) → AllByRecursion P row → (us : List (Unit {0})) × IsRow {V = Unit {0}} (λ u x. P x) us (concat row)
+row_from P [] h = ([], refl)
+row_from P (b ∷ row) h = let r = row_from P row h.1 in (tt ∷ r.0, (b, concat row, h.0, r.1, refl))
+
+pub row_reads : (d : ℕ) → Reads (skip_within d) (Within d) → ReadsWhole (skip_row_within d) (λ u b. (row : List (List ℕ)) × (b ≡ concat row) × AllByRecursion (IsSkippableWithin d) row)
+row_reads d R = record {
+  takes = λ octets u fits e.
+      let a = bind_some (row_of (skip_within d) octets) (λ row. some {A = Unit {0}} tt) u e in
+      row_to (IsSkippableWithin d) a.0 octets (row_is (skip_within d) (Within d) R octets a.0 fits a.1);
+  again = λ u octets s.
+      let r = row_from (IsSkippableWithin d) s.0 s.2 in
+      rw (s.1, row_again (skip_within d) (Within d) R (within_shrinks d) r.0 (concat s.0) r.1) refl;
+}
+
+primitive_reads : Reads (skip_within 0) (Within 0)
+unfolding skip_within IsSkippableWithin
+primitive_reads = record {
+  takes = λ octets u rest fits e.
+      let a = bind_some (any_at octets) (λ v. cond (is_primitive v.0.0) (some {A = Unit {0} × List ℕ} (tt, v.1)) None) (u, rest) e in
+      let made : Unit {0} × List ℕ = (tt, a.0.1) in
+      let g = if_some (is_primitive a.0.0.0) made (u, rest) a.2 in
+      let one = any_takes octets a.0.0 a.0.1 fits a.1 in
+      let value : IsValue one.text = record { tag = a.0.0.0; content = a.0.0.1; enc = one.spelled } in
+      subst (λ (q : Unit {0} × List ℕ). Begins (Within 0) octets q.0 q.1) g.1 (record { text = one.text; spelled = (value, eqb-true _ 0 g.0); parts = one.parts });
+  again = λ u text rest s.
+      let found : ℕ × List ℕ = (s.0.tag, s.0.content) in
+      rw (any_again found text rest s.0.enc, eq-eqb _ 0 s.1) refl;
+}
+
+deeper_reads : (d : ℕ) → Reads (skip_within d) (Within d) → Reads (skip_within (suc d)) (Within (suc d))
+unfolding skip_within IsSkippableWithin
+deeper_reads d R = record {
+  takes = λ octets u rest fits e.
+      let a = bind_some (any_at octets) (λ v. cond (is_primitive v.0.0) (some {A = Unit {0} × List ℕ} (tt, v.1)) (row_of (skip_within d) v.0.1 >>= λ row. some {A = Unit {0} × List ℕ} (tt, v.1))) (u, rest) e in
+      let tag = a.0.0.0 in
+      let content = a.0.0.1 in
+      let one = any_takes octets a.0.0 a.0.1 fits a.1 in
+      let value : IsValue one.text = record { tag = tag; content = content; enc = one.spelled } in
+      let made : Unit {0} × List ℕ = (tt, a.0.1) in
+      elim (cases_Bool (is_primitive tag)) [
+        | inl y ↦
+            let same : some made ≡ some {A = Unit {0} × List ℕ} (u, rest) = rw y at a.2 in
+            subst (λ (q : Unit {0} × List ℕ). Begins (Within (suc d)) octets q.0 q.1) (some_is made (u, rest) same) (record { text = one.text; spelled = (value, inl (eqb-true _ 0 y)); parts = one.parts })
+        | inr n ↦
+            let inside : (row_of (skip_within d) content >>= λ row. some made) ≡ some {A = Unit {0} × List ℕ} (u, rest) = rw n at a.2 in
+            let b = bind_some (row_of (skip_within d) content) (λ row. some made) (u, rest) inside in
+            let low : AreOctets content = one.spelled.octets in
+            let row = row_to (IsSkippableWithin d) b.0 content (row_is (skip_within d) (Within d) R content b.0 low b.1) in
+            subst (λ (q : Unit {0} × List ℕ). Begins (Within (suc d)) octets q.0 q.1) (some_is made (u, rest) b.2) (record { text = one.text; spelled = (value, inr row); parts = one.parts })
+      ];
+  again = λ u text rest s.
+      let tag = s.0.tag in
+      let content = s.0.content in
+      let found : ℕ × List ℕ = (tag, content) in
+      let next = any_again found text rest s.0.enc in
+      elim s.1 [
+        | inl p ↦ rw (next, eq-eqb _ 0 p) refl
+        | inr row ↦
+            let r = row_from (IsSkippableWithin d) row.0 row.2 in
+            let inside : row_of (skip_within d) content ≡ some r.0 = rw row.1 (row_again (skip_within d) (Within d) R (within_shrinks d) r.0 (concat row.0) r.1) in
+            elim (cases_Bool (is_primitive tag)) [
+              | inl y ↦ rw (next, y) refl
+              | inr n ↦ rw (next, n, inside) refl
+            ]
+      ];
+}
+
+pub within_reads : (d : ℕ) → Reads (skip_within d) (Within d)
+within_reads zero = primitive_reads
+within_reads (suc d) = deeper_reads d (within_reads d)
+
+pub skip_reads : Reads skip_at IsSkipped
+unfolding skip_at
+skip_reads = within_reads levels
+
+pub skip_all_reads : ReadsWhole skip_all_of (λ u b. IsSkippableRow b)
+unfolding skip_all_of
+skip_all_reads = row_reads levels (within_reads levels)
+
+-- what a reader of the whole gave, both ways
+pub skips_all : (r : Result (Unit {0}) DecodeError) (octets : List ℕ) → AreOctets octets → Returns r (skip_all_of octets) → IsOk r ↔ IsSkippableRow octets
+skips_all (Ok u) octets fits e = (λ _. skip_all_reads.takes octets u fits e, λ _. refl)
+skips_all (Err d) octets fits e = (λ h. absurd cc, λ row. nothing tt (sym e ∙ skip_all_reads.again tt octets row))

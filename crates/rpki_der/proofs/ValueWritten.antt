@@ -1,0 +1,109 @@
+-- What is written of a value spells it.
+use Rattle.std.specs.List.{AllByRecursion, concat}
+use Rattle.std.specs.Prelude.{◌≢◌, nat_le, nat_lt, ◌&&◌}
+use Rattle.std.specs.Int.Digits.{number_from_digits, digits_of}
+use Rattle.std.proofs.Common.{◌≡◌, ◌⊎◌, Bool, true, false, refl, inl, inr, ℕ, ◌^◌, ◌<◌, List, length, ◌≤◌, arith, [], ◌∷◌, ◌%◌, ◌/◌, get_or, sym, subst, zero, suc, ◌++◌, ap}
+use Rattle.std.proofs.lemmas.List.{length-append}
+use Rattle.std.proofs.lemmas.Bool.{cases_lt, lt-ltb, le-ltb, leb-true, ltb-true, and_parts}
+use Rattle.std.proofs.lemmas.Int.Digits.{first_digits_of, number_digits_of}
+use Rattle.rpki_der.proofs.Octets.{AreOctets-parts}
+use Rattle.rpki_der.specs.Values.{AreOctets, length_octets, enc, IsEnc, IsNested, nested}
+use Rattle.rpki_der.specs.Primitives.{IsInteger, IsNumber, IsOid, IsObjectIdentifier, IsBoolOrFalse, unsigned, number, bool_or_false}
+use Rattle.rpki_der.specs.Times.{Moment, two, after_year, IsMoment, IsTime, time}
+
+pub bool_cases : (b : Bool) → (b ≡ true) ⊎ (b ≡ false)
+bool_cases true = inl refl
+bool_cases false = inr refl
+
+-- a string that is short enough to be written, of octets
+abbrev pub Short : List ℕ → Type 0
+Short b = (length b < 2 ^ 32) × AreOctets b
+
+pub enc_longer : (t : ℕ) (c : List ℕ) → length c ≤ length (enc t c)
+unfolding enc
+enc_longer t c = omega (arith, length-append (length_octets (length c)) c)
+
+pub content_short : (t : ℕ) (c : List ℕ) → Short (enc t c) → Short c
+unfolding enc
+content_short t c h = (omega (arith, enc_longer t c, h.0), (AreOctets-parts (length_octets (length c)) c h.1.1).1)
+
+pub pieces_short : (ps : List (List ℕ)) → Short (concat ps) → AllByRecursion Short ps
+pieces_short [] h = tt
+pieces_short (p ∷ ps) h =
+    let whole = length-append p (concat ps) in
+    let octets = AreOctets-parts p (concat ps) h.1 in
+    ((omega (arith, whole, h.0), octets.0), pieces_short ps (omega (arith, whole, h.0), octets.1))
+
+pub made : (t : ℕ) (c : List ℕ) → t % 32 < 31 → Short (enc t c) → IsEnc t c (enc t c)
+unfolding enc
+made t c tag h = let inside = content_short t c h in record { octet = h.1.0; low_tag = tag; octets = inside.1; short = inside.0; is = refl }
+
+pub nested_made : (tags : List ℕ) (c : List ℕ) → AllByRecursion (λ t. t % 32 < 31) tags → Short (nested tags c) → IsNested tags c (nested tags c)
+nested_made [] c tags h = refl
+nested_made (t ∷ ts) c tags h = (nested ts c, made t (nested ts c) tags.0 h, nested_made ts c tags.1 (content_short t (nested ts c) h))
+
+pub nested_short : (tags : List ℕ) (c : List ℕ) → Short (nested tags c) → Short c
+nested_short [] c h = h
+nested_short (t ∷ ts) c h = nested_short ts c (content_short t (nested ts c) h)
+
+number_from : (n : ℕ) (ds : List ℕ) → (ds ≢ [] → 0 < get_or ds 0 0) → number_from_digits 256 ds ≡ n → Short (enc 2 (unsigned ds)) → IsNumber n (enc 2 (unsigned ds))
+number_from n [] first value h = record { first = 0; more = []; enc = made 2 (0 ∷ []) (omega arith) h; shortest = tt; not_negative = omega arith; is = sym value }
+number_from n (d ∷ ds) first value h =
+    let positive : 0 < d = first (λ e. cc) in
+    elim (cases_lt d 128) [
+      | inl low ↦
+          let is : unsigned (d ∷ ds) ≡ d ∷ ds = rw (lt-ltb d 128 low) in
+          let short : Short (enc 2 (d ∷ ds)) = subst (λ (c : List ℕ). Short (enc 2 c)) is h in
+          let result : IsNumber n (enc 2 (d ∷ ds)) = record { first = d; more = ds; enc = made 2 (d ∷ ds) (omega arith) short; shortest = integer d ds positive low; not_negative = low; is = sym value } in
+          subst (λ (c : List ℕ). IsNumber n (enc 2 c)) (sym is) result
+      | inr high ↦
+          let is : unsigned (d ∷ ds) ≡ 0 ∷ d ∷ ds = rw (le-ltb d 128 high) in
+          let short : Short (enc 2 (0 ∷ d ∷ ds)) = subst (λ (c : List ℕ). Short (enc 2 c)) is h in
+          let result : IsNumber n (enc 2 (0 ∷ d ∷ ds)) = record { first = 0; more = d ∷ ds; enc = made 2 (0 ∷ d ∷ ds) (omega arith) short; shortest = ((λ e. high), λ e. absurd (omega arith)); not_negative = omega arith; is = sym value } in
+          subst (λ (c : List ℕ). IsNumber n (enc 2 c)) (sym is) result
+    ]
+  where
+    integer : (d : ℕ) (ds : List ℕ) → 0 < d → d < 128 → IsInteger (d ∷ ds)
+    integer d [] p low = tt
+    integer d (y ∷ ds) p low = ((λ e. absurd (omega arith)), λ e. absurd (omega arith))
+
+pub number_made : (n : ℕ) → Short (number n) → IsNumber n (number n)
+unfolding number
+number_made zero h = number_from 0 [] (λ e. absurd (e refl)) refl h
+number_made (suc n) h = number_from (suc n) (digits_of 256 (suc n)) (λ e. first_digits_of 256 (suc n) (omega arith) (omega arith)) (number_digits_of 256 (suc n) (omega arith)) h
+
+pub time_made : (m : Moment) → IsMoment m → Short (time m) → IsTime m (time m)
+unfolding time
+time_made m e h =
+    elim (bool_cases (nat_le 1950 m.year && nat_lt m.year 2050)) [
+      | inl t ↦
+          let r = and_parts _ _ t in
+          let short : Short (enc 0x17 (two (m.year % 100) ++ after_year m)) = rw t at h in
+          record { exists = e; spelled = rw t (inl (leb-true 1950 m.year r.0, ltb-true m.year 2050 r.1, made 0x17 _ (omega arith) short)) }
+      | inr f ↦
+          let short : Short (enc 0x18 (two (m.year / 100) ++ (two (m.year % 100) ++ after_year m))) = rw f at h in
+          record { exists = e; spelled = rw f (inr (made 0x18 _ (omega arith) short)) }
+    ]
+
+abbrev Plain : List ℕ → Type 0
+Plain id = AllByRecursion (λ k. k < 128) id
+
+plain_apart : (x y : List ℕ) → Plain (x ++ 128 ∷ y) → ⊥
+plain_apart [] y h = omega (arith, h.0)
+plain_apart (k ∷ x) y h = plain_apart x y h.1
+
+last_of : (k : ℕ) (id : List ℕ) → Plain (k ∷ id) → (front : List ℕ) × (last : ℕ) × (k ∷ id ≡ front ++ last ∷ []) × (last < 128)
+last_of k [] h = ([], k, refl, h.0)
+last_of k (l ∷ id) h = let r = last_of l id h.1 in (k ∷ r.0, r.1, ap (λ (x : List ℕ). k ∷ x) r.2, r.3)
+
+pub plain_oid : (k : ℕ) (id : List ℕ) → Plain (k ∷ id) → IsOid (k ∷ id)
+plain_oid k id h =
+    let r = last_of k id h in
+    record { front = r.0; last = r.1; is = r.2; ends = r.3; no_padding = λ x y e. absurd (plain_apart x y (subst (λ (s : List ℕ). Plain s) e h)) }
+
+pub identifier_made : (id : List ℕ) → IsOid id → Short (enc 6 id) → IsObjectIdentifier id (enc 6 id)
+identifier_made id oid h = record { enc = made 6 id (omega arith) h; oid = oid }
+
+pub flag_made : (v : Bool) → IsBoolOrFalse v (bool_or_false v)
+flag_made true = refl
+flag_made false = inl refl

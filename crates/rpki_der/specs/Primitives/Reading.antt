@@ -1,0 +1,74 @@
+-- The reading functions of values of the primitive types.
+use Rattle.std.specs.Int.Digits.{number_from_digits}
+use Rattle.std.specs.Prelude.{ℕ, Bool, true, false, List, [], ◌∷◌, nat_eq, if◌then◌else◌, Option, Some, None, ◌&&◌, ◌||◌, not, nat_lt, ◌^◌, ◌%◌}
+use Rattle.rpki_der.specs.Reading.{content, mapped, optional, ended}
+use Rattle.rpki_der.specs.Tags.{BOOLEAN, INTEGER, OCTET_STRING, NULL, BIT_STRING, OBJECT_IDENTIFIER}
+use Rattle.rpki_der.specs.Values.Reading.{value_at}
+
+-- BOOLEAN
+abbrev pub bool_of : List ℕ → Option Bool
+bool_of [] = None
+bool_of (n ∷ []) = if nat_eq n 0xFF then Some true else if nat_eq n 0x00 then Some false else None
+bool_of (n ∷ m ∷ bytes) = None
+
+unfoldable pub bool_at : List ℕ → Option (Bool × List ℕ)
+bool_at = content BOOLEAN bool_of
+
+-- BOOLEAN with the default false
+abbrev pub or_false : Option Bool → Bool
+or_false None = false
+or_false (Some b) = b
+
+unfoldable pub bool_or_false_at : List ℕ → Option (Bool × List ℕ)
+bool_or_false_at = mapped or_false (optional BOOLEAN bool_at)
+
+-- INTEGER of a number that isn't negative, and below a limit
+abbrev pub is_unsigned : List ℕ → Bool
+is_unsigned [] = false
+is_unsigned (b ∷ []) = nat_lt b 0x80
+is_unsigned (b ∷ c ∷ bytes) = nat_lt b 0x80 && (nat_lt 0 b || not (nat_lt c 0x80))
+
+abbrev pub number_below : ℕ → List ℕ → Option ℕ
+number_below limit c = if is_unsigned c && nat_lt (number_from_digits 256 c) limit then Some (number_from_digits 256 c) else None
+
+unfoldable pub u32_at : List ℕ → Option (ℕ × List ℕ)
+u32_at = content INTEGER (number_below (2 ^ 32))
+
+-- OCTET STRING
+abbrev pub octets_at : List ℕ → Option (List ℕ × List ℕ)
+octets_at = value_at OCTET_STRING
+
+-- NULL
+abbrev pub null_of : List ℕ → Option (Unit {0})
+null_of [] = Some tt
+null_of (b ∷ bytes) = None
+
+unfoldable pub null_at : List ℕ → Option (Unit {0} × List ℕ)
+null_at = content NULL null_of
+
+-- BIT STRING
+abbrev pub has_zero_bits : ℕ → List ℕ → Bool
+has_zero_bits unused [] = nat_eq unused 0
+has_zero_bits unused (b ∷ octets) = nat_lt unused 8 && nat_eq (number_from_digits 256 (b ∷ octets) % 2 ^ unused) 0
+
+abbrev pub bits_of : List ℕ → Option (ℕ × List ℕ)
+bits_of [] = None
+bits_of (unused ∷ octets) = if has_zero_bits unused octets then Some (unused, octets) else None
+
+unfoldable pub bits_at : List ℕ → Option ((ℕ × List ℕ) × List ℕ)
+bits_at = content BIT_STRING bits_of
+
+-- OBJECT IDENTIFIER: whole subidentifiers, behind one that has ended or has not
+abbrev pub ends_oid : Bool → List ℕ → Bool
+ends_oid ended [] = ended
+ends_oid ended (n ∷ id) = not (ended && nat_eq n 128) && ends_oid (nat_lt n 128) id
+
+abbrev pub is_oid : List ℕ → Bool
+is_oid [] = false
+is_oid (n ∷ id) = ends_oid true (n ∷ id)
+
+abbrev pub oid_of : List ℕ → Option (List ℕ)
+oid_of id = if is_oid id then Some id else None
+
+unfoldable pub oid_at : List ℕ → Option (List ℕ × List ℕ)
+oid_at = content OBJECT_IDENTIFIER oid_of

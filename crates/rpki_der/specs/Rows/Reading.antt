@@ -1,0 +1,20 @@
+-- The reading function of a row.
+use Rattle.std.specs.Prelude.{ℕ, suc, zero, List, [], ◌∷◌, Option, Some, None, length, ◌≡◌, ◌<◌}
+use Rattle.rpki_der.specs.Values.Reading.{◌>>=◌}
+
+-- at most n values, and nothing after them
+abbrev pub row_at : {V : Type 0} → (List ℕ → Option (V × List ℕ)) → ℕ → List ℕ → Option (List V)
+row_at read n [] = Some []
+row_at read zero (b ∷ bytes) = None
+row_at read (suc n) (b ∷ bytes) = do
+  v ← read (b ∷ bytes)
+  vs ← row_at read n v.1
+  Some (v.0 ∷ vs)
+
+-- the row that the octets are
+unfoldable pub row_of : {V : Type 0} → (List ℕ → Option (V × List ℕ)) → List ℕ → Option (List V)
+row_of read octets = row_at read (length octets) octets
+
+-- what is left after a value is less
+abbrev pub Shrinks : {V : Type 0} → (List ℕ → Option (V × List ℕ)) → Type 0
+Shrinks {V} read = (octets : List ℕ) (v : V) (rest : List ℕ) → read octets ≡ Some (v, rest) → length rest < length octets

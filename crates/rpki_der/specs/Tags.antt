@@ -1,0 +1,48 @@
+-- Identifier octets of DER (X.690 8.1.2; X.680 8.6, 42). The octet of a constructed value is 0x20 more.
+use Rattle.std.specs.Prelude.{ℕ, ◌+◌}
+
+abbrev pub BOOLEAN : ℕ
+BOOLEAN = 0x01
+
+abbrev pub INTEGER : ℕ
+INTEGER = 0x02
+
+abbrev pub BIT_STRING : ℕ
+BIT_STRING = 0x03
+
+abbrev pub OCTET_STRING : ℕ
+OCTET_STRING = 0x04
+
+abbrev pub NULL : ℕ
+NULL = 0x05
+
+abbrev pub OBJECT_IDENTIFIER : ℕ
+OBJECT_IDENTIFIER = 0x06
+
+abbrev pub UTF8_STRING : ℕ
+UTF8_STRING = 0x0C
+
+abbrev pub PRINTABLE_STRING : ℕ
+PRINTABLE_STRING = 0x13
+
+abbrev pub IA5_STRING : ℕ
+IA5_STRING = 0x16
+
+abbrev pub UTC_TIME : ℕ
+UTC_TIME = 0x17
+
+abbrev pub GENERALIZED_TIME : ℕ
+GENERALIZED_TIME = 0x18
+
+abbrev pub SEQUENCE : ℕ
+SEQUENCE = 0x30
+
+abbrev pub SET : ℕ
+SET = 0x31
+
+-- [n], primitive or constructed; n is below 31
+abbrev pub CONTEXT : ℕ → ℕ
+CONTEXT n = 0x80 + n
+
+abbrev pub CONTEXT_CONSTRUCTED : ℕ → ℕ
+CONTEXT_CONSTRUCTED n = 0xA0 + n

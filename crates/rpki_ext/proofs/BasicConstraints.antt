@@ -1,0 +1,29 @@
+-- Basic Constraints, both ways, and what is written of them.
+use Rattle.std.proofs.Common.{Bool, arith}
+use Rattle.rpki_der.specs.Spelling.{BeginsOther}
+use Rattle.rpki_der.specs.Reading.{Reads}
+use Rattle.rpki_der.specs.Primitives.{IsBoolOrFalse, bool_or_false}
+use Rattle.rpki_der.specs.Primitives.Reading.{bool_or_false_at}
+use Rattle.rpki_der.proofs.Readings.{inside_before}
+use Rattle.rpki_der.proofs.PrimitiveReads.{bool_or_false_reads}
+use Rattle.rpki_der.proofs.ValueWritten.{Short, made, flag_made}
+use Rattle.rpki_der.proofs.WrittenOctets.{IfShort, ok_enc, ok_flag}
+use Rattle.rpki_ext.specs.BasicConstraints.{IsBasicConstraints, basic_constraints_at, basic_constraints_content, basic_constraints}
+use Rattle.rpki_ext.proofs.LawfulKinds.{IsKind, always}
+
+pub basic_constraints_reads : Reads basic_constraints_at IsBasicConstraints
+unfolding basic_constraints_at
+basic_constraints_reads = inside_before (BeginsOther 1) 0x30 bool_or_false_at IsBoolOrFalse tt bool_or_false_reads
+
+pub basic_constraints_made : (ca : Bool) → Short (basic_constraints_content ca) → IsBasicConstraints ca (basic_constraints_content ca)
+basic_constraints_made ca h = (bool_or_false ca, flag_made ca, made 0x30 (bool_or_false ca) (omega arith) h)
+
+pub ok_basic_constraints : (ca : Bool) → IfShort (basic_constraints_content ca)
+ok_basic_constraints ca = ok_enc 0x30 _ (omega arith) (λ l. ok_flag ca)
+
+pub basic_constraints_is : IsKind basic_constraints
+basic_constraints_is = record {
+  law = basic_constraints_reads;
+  made = λ ca c fits e short. always (basic_constraints.spells ca) _ c e short (basic_constraints_made ca);
+  octets = λ ca fits. ok_basic_constraints ca;
+}

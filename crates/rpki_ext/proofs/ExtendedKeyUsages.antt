@@ -1,0 +1,98 @@
+-- Extended Key Usage, both ways, and what is written of it.
+use Rattle.std.specs.List.{AllByRecursion, AllZip, concat}
+use Rattle.std.proofs.Common.{arith, ◌≡◌, ℕ, List, ◌∷◌, true, [], refl, ◌++◌, Some, sym, ap, subst, ◌∙◌}
+use Rattle.rpki_der.specs.Reading.{content, ReadsWhole, Inside, Reads}
+use Rattle.rpki_der.specs.Primitives.Reading.{oid_of, oid_at}
+use Rattle.rpki_der.specs.Rows.{IsRow}
+use Rattle.rpki_der.specs.Rows.Reading.{Shrinks}
+use Rattle.rpki_der.specs.Primitives.{IsObjectIdentifier}
+use Rattle.rpki_der.specs.Folding.{each_fold, IsFolded, each, over}
+use Rattle.rpki_der.specs.Values.{enc, AreOctets, IsEnc}
+use Rattle.rpki_der.proofs.Choices.{content_shrinks}
+use Rattle.rpki_der.proofs.IdentifierReads.{oid_reads}
+use Rattle.rpki_der.proofs.Folding.{over_reads, each_law}
+use Rattle.rpki_der.proofs.Octets.{AreOctets-append, bind_some, some, some_is, nothing}
+use Rattle.rpki_der.proofs.Readings.{content_reads, same_reads}
+use Rattle.rpki_der.proofs.WrittenOctets.{ok_enc, value_octets}
+use Rattle.rpki_ext.specs.ExtendedKeyUsages.{ArePurposes, purposes_of, IsExtendedKeyUsage, extended_key_usage_at, extended_key_usage}
+use Rattle.rpki_ext.proofs.Pieces.{row_pieces, pieces_row}
+use Rattle.rpki_der.proofs.ValueWritten.{made}
+use Rattle.rpki_ext.proofs.LawfulKinds.{IsKind, always}
+
+pub oid_shrinks : Shrinks oid_at
+unfolding oid_at
+oid_shrinks = content_shrinks 6 oid_of
+
+abbrev AreSome : List ℕ → List ℕ → Type 0
+AreSome kept c = (id : List ℕ) × (more : List (List ℕ)) × IsRow IsObjectIdentifier (id ∷ more) c × (kept ≡ c)
+
+abbrev AnyRow : Unit {0} → List ℕ → Type 0
+AnyRow = IsFolded IsObjectIdentifier (each_fold (λ id. true))
+
+any_reads : ReadsWhole (over oid_at (each (λ id. true)) tt) AnyRow
+any_reads = over_reads oid_at IsObjectIdentifier (λ id. Unit {0}) (each_fold (λ id. true)) oid_reads oid_shrinks (λ id text s. tt) (each_law (λ id. true))
+
+all_true : (ids : List (List ℕ)) → AllByRecursion (λ id. true ≡ true) ids
+all_true [] = tt
+all_true (id ∷ ids) = (refl, all_true ids)
+
+not_nil : (id b : List ℕ) → IsObjectIdentifier id b → (rest : List ℕ) → [] ≡ b ++ rest → ⊥
+unfolding enc
+not_nil id b s rest e = let f : [] ≡ enc 6 id ++ rest = rw s.enc.is at e in absurd cc
+
+some_from : (b : ℕ) (c : List ℕ) (ids : List (List ℕ)) → IsRow IsObjectIdentifier ids (b ∷ c) → AreSome (b ∷ c) (b ∷ c)
+some_from b c [] s = absurd cc
+some_from b c (id ∷ ids) s = (id, ids, s, refl)
+
+identifiers_read : ReadsWhole purposes_of AreSome
+identifiers_read = record { takes = takes; again = again }
+  where
+    takes : (c kept : List ℕ) → AreOctets c → purposes_of c ≡ Some kept → AreSome kept c
+    takes [] kept low e = nothing kept e
+    takes (b ∷ c) kept low e =
+        let a = bind_some (over oid_at (each (λ id. true)) tt (b ∷ c)) (λ s. some (b ∷ c)) kept e in
+        let m = any_reads.takes (b ∷ c) a.0 low a.1 in
+        subst (λ (k : List ℕ). AreSome k (b ∷ c)) (some_is (b ∷ c) kept a.2) (some_from b c m.0 m.1)
+
+    again : (kept c : List ℕ) → AreSome kept c → purposes_of c ≡ Some kept
+    again kept [] s = absurd (not_nil s.0 s.2.0 s.2.2 s.2.1 s.2.4)
+    again kept (b ∷ c) s =
+        let m : over oid_at (each (λ id. true)) tt (b ∷ c) ≡ Some tt = any_reads.again tt (b ∷ c) (s.0 ∷ s.1, s.2, all_true (s.0 ∷ s.1)) in
+        rw m (ap some (sym s.3))
+
+usage_is : (kept text : List ℕ) → Inside 0x30 AreSome kept text → IsExtendedKeyUsage kept text
+usage_is kept text s =
+    let a = s.1 in
+    let row = row_pieces IsObjectIdentifier (a.0 ∷ a.1) s.0 a.2 in
+    record {
+      purposes = record { id = a.0; more = a.1; pieces = row.0; identifiers = row.1; is = a.3 ∙ row.2 };
+      sequence = subst (λ (c : List ℕ). IsEnc 0x30 c text) (sym a.3) s.2;
+    }
+
+is_usage : (kept text : List ℕ) → IsExtendedKeyUsage kept text → Inside 0x30 AreSome kept text
+is_usage kept text s =
+    let p = s.purposes in
+    let row = pieces_row IsObjectIdentifier (p.id ∷ p.more) p.pieces p.identifiers in
+    (kept, (p.id, p.more, subst (λ (c : List ℕ). IsRow IsObjectIdentifier (p.id ∷ p.more) c) (sym p.is) row, refl), s.sequence)
+
+pub extended_key_usage_reads : Reads extended_key_usage_at IsExtendedKeyUsage
+unfolding extended_key_usage_at
+extended_key_usage_reads = same_reads (content 0x30 purposes_of) (Inside 0x30 AreSome) IsExtendedKeyUsage (content_reads 0x30 purposes_of AreSome identifiers_read) usage_is is_usage
+
+-- ---- what is written
+
+row_octets : (ids pieces : List (List ℕ)) → AllZip IsObjectIdentifier ids pieces → AreOctets (concat pieces)
+row_octets [] [] z = tt
+row_octets [] (p ∷ ps) z = elim z [ ]
+row_octets (id ∷ ids) [] z = elim z [ ]
+row_octets (id ∷ ids) (p ∷ ps) z = AreOctets-append p (concat ps) (value_octets z.0.enc) (row_octets ids ps z.1)
+
+purposes_octets : (ids : List ℕ) → ArePurposes ids → AreOctets ids
+purposes_octets ids p = rw p.is (row_octets (p.id ∷ p.more) p.pieces p.identifiers)
+
+pub extended_key_usage_is : IsKind extended_key_usage
+extended_key_usage_is = record {
+  law = extended_key_usage_reads;
+  made = λ ids c fits e short. always (extended_key_usage.spells ids) _ c e short (λ s. record { purposes = fits; sequence = made 0x30 ids (omega arith) s });
+  octets = λ ids fits. ok_enc 0x30 ids (omega arith) (λ l. purposes_octets ids fits);
+}

@@ -1,0 +1,47 @@
+-- Key identifiers, both ways, and what is written of them.
+use Rattle.std.proofs.Common.{length, refl, ◌≡◌, ℕ, List, arith, [], ◌∷◌}
+use Rattle.std.proofs.lemmas.Bool.{eq-eqb}
+use Rattle.rpki_der.specs.Reading.{content, inside, Reads, Inside}
+use Rattle.rpki_der.specs.Values.{AreOctets}
+use Rattle.rpki_der.proofs.Readings.{content_reads, inside_reads, same_reads}
+use Rattle.rpki_der.proofs.ValueWritten.{Short, made, nested_made}
+use Rattle.rpki_der.proofs.WrittenOctets.{IfShort, ok_enc, literal, ok_nested}
+use Rattle.rpki_parts.specs.Keys.Reading.{twenty}
+use Rattle.rpki_parts.proofs.KeyReads.{IsTwenty, takes_twenty, key_identifier_reads}
+use Rattle.rpki_ext.specs.KeyIdentifiers.{IsAuthorityKeyIdentifier, authority_key_identifier_at, IsSubjectKeyIdentifier, subject_key_identifier_content, subject_key_identifier, authority_key_identifier_content, authority_key_identifier}
+use Rattle.rpki_ext.proofs.LawfulKinds.{IsKind, always}
+
+pub authority_key_identifier_reads : Reads authority_key_identifier_at IsAuthorityKeyIdentifier
+unfolding authority_key_identifier_at
+authority_key_identifier_reads =
+    same_reads (inside 0x30 (content 0x80 twenty)) (Inside 0x30 (Inside 0x80 IsTwenty)) IsAuthorityKeyIdentifier
+    (inside_reads 0x30 (content 0x80 twenty) (Inside 0x80 IsTwenty)
+    (content_reads 0x80 twenty IsTwenty (record { takes = λ c id low e. takes_twenty c id e; again = λ id c s. rw (s.0, eq-eqb (length id) 20 s.1) refl })))
+    (λ id text s. ((s.0, s.2, (s.1.0, s.1.2, s.1.1.0)), s.1.1.1))
+    (λ id text s. (s.0.0, (s.0.2.0, (s.0.2.2, s.1), s.0.2.1), s.0.1))
+
+pub subject_key_identifier_made : (id : List ℕ) → length id ≡ 20 → Short (subject_key_identifier_content id) → IsSubjectKeyIdentifier id (subject_key_identifier_content id)
+subject_key_identifier_made id l h = record { enc = made 4 id (omega arith) h; size = l }
+
+pub ok_subject_key_identifier : (id : List ℕ) → AreOctets id → IfShort (subject_key_identifier_content id)
+ok_subject_key_identifier id h = ok_enc 4 id (omega arith) (λ l. h)
+
+pub subject_key_identifier_is : IsKind subject_key_identifier
+subject_key_identifier_is = record {
+  law = key_identifier_reads;
+  made = λ id c fits e short. always (subject_key_identifier.spells id) _ c e short (subject_key_identifier_made id fits.1);
+  octets = λ id fits. ok_subject_key_identifier id fits.0;
+}
+
+pub authority_key_identifier_made : (id : List ℕ) → length id ≡ 20 → Short (authority_key_identifier_content id) → IsAuthorityKeyIdentifier id (authority_key_identifier_content id)
+authority_key_identifier_made id l h = (nested_made (0x30 ∷ 0x80 ∷ []) id (omega arith, (omega arith, tt)) h, l)
+
+pub ok_authority_key_identifier : (id : List ℕ) → AreOctets id → IfShort (authority_key_identifier_content id)
+ok_authority_key_identifier id h = ok_nested (0x30 ∷ 0x80 ∷ []) id (literal (0x30 ∷ 0x80 ∷ []) refl) (λ l. h)
+
+pub authority_key_identifier_is : IsKind authority_key_identifier
+authority_key_identifier_is = record {
+  law = authority_key_identifier_reads;
+  made = λ id c fits e short. always (authority_key_identifier.spells id) _ c e short (authority_key_identifier_made id fits.1);
+  octets = λ id fits. ok_authority_key_identifier id fits.0;
+}

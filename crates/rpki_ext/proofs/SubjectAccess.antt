@@ -1,0 +1,344 @@
+-- Subject Information Access, both ways, and what is written of it.
+use Rattle.std.specs.Prelude.{bytes_eq, IfSome}
+use Rattle.std.specs.List.{concat, flat_map, AllByRecursion, AllZip}
+use Rattle.std.proofs.Common.{ℕ, List, Option, ◌≡◌, Some, refl, cond, ap, ◌∙◌, inl, inr, None, sym, arith, ◌≢◌, ◌++◌, subst, [], true, ◌∷◌}
+use Rattle.std.proofs.lemmas.Bool.{cases_Bool}
+use Rattle.std.proofs.lemmas.Slice.Eq.{bytes_eq-Decides}
+use Rattle.std.proofs.lemmas.List.{append-nil}
+use Rattle.std.proofs.lemmas.Option.{IfSome_then}
+use Rattle.rpki_der.specs.Rows.{IsRow, IsFirstOf}
+use Rattle.rpki_der.specs.Rows.Reading.{Shrinks}
+use Rattle.rpki_der.specs.Values.{enc, AreOctets, IsEnc, IsSequence, sequence, sequence_of_some}
+use Rattle.rpki_der.specs.Primitives.{IsObjectIdentifier}
+use Rattle.rpki_der.specs.Skipping.{IsSkippableRow, levels}
+use Rattle.rpki_der.specs.Skipping.Reading.{skip_all_of}
+use Rattle.rpki_der.specs.Reading.{ended, content, Inside, Reads, ReadsWhole}
+use Rattle.rpki_der.specs.Primitives.Reading.{oid_at}
+use Rattle.rpki_der.specs.Folding.{first_fold, IsLawful, over, IsFolded}
+use Rattle.rpki_der.proofs.Choices.{content_shrinks}
+use Rattle.rpki_der.proofs.Octets.{some_is, nothing, bind_some, some, AreOctets-after, both_are}
+use Rattle.rpki_der.proofs.Readings.{ended_some, content_reads, same_reads}
+use Rattle.rpki_der.proofs.SkippingReads.{skip_all_reads}
+use Rattle.rpki_der.proofs.IdentifierReads.{oid_reads}
+use Rattle.rpki_der.proofs.Folding.{first_law, beside_law, over_reads}
+use Rattle.rpki_der.proofs.ValueWritten.{Short, made, content_short, pieces_short}
+use Rattle.rpki_der.proofs.WrittenOctets.{IfShort}
+use Rattle.rpki_blocks.proofs.ResourcesWritten.{no_pieces}
+use Rattle.rpki_blocks.proofs.ResourceOctets.{ok_pieces}
+use Rattle.rpki_parts.specs.Uris.Tests.{is_rsync, is_https}
+use Rattle.rpki_parts.specs.Uris.{IsRsync, IsHttps, ArePrintable}
+use Rattle.rpki_parts.proofs.UriTests.{rsync_decides, https_decides}
+use Rattle.rpki_ext.specs.declared.subject_access.AccessMethod.{AccessMethod}
+use Rattle.rpki_ext.specs.SubjectAccess.{description_of, description_at, method_identifier, method_of, location_of, IsAccessDescriptionWithin, HasUri, uri_under, access_fold, Access, uris_of, Uris, access_made, access_of, IsSubjectInformationAccess, subject_information_access_at, description_if, descriptions, HasUris, IsSubjectInformationAccessWithin, subject_information_access_content, subject_information_access}
+use Rattle.rpki_ext.specs.declared.subject_access.AccessMethod.TheVariants.{CaRepository, RpkiManifest, SignedObject, RpkiNotify}
+use Rattle.rpki_ext.specs.GeneralNames.{IsUniformResourceIdentifier, uri_name_at, rsync_of, https_of}
+use Rattle.rpki_ext.proofs.GeneralNames.{spelled_oid, name_reads, text_is, text_was, uri_name_made}
+use Rattle.rpki_ext.proofs.Pieces.{row_pieces, pieces_row}
+use Rattle.rpki_ext.proofs.AuthorityAccess.{description_pieces_short, ok_description}
+use Rattle.rpki_ext.proofs.LawfulKinds.{IsKind}
+
+abbrev pub Description : Type 0
+Description = Option (AccessMethod × List ℕ)
+
+pub description_shrinks : Shrinks description_at
+unfolding description_at
+description_shrinks = content_shrinks 0x30 description_of
+
+-- ---- methods
+
+pub method_again : (m : AccessMethod) → method_of (method_identifier m) ≡ Some m
+method_again CaRepository = refl
+method_again RpkiManifest = refl
+method_again SignedObject = refl
+method_again RpkiNotify = refl
+
+-- the first of four identifiers, or none
+abbrev named : List ℕ → AccessMethod → Option AccessMethod → Option AccessMethod
+named id m other = cond (bytes_eq id (method_identifier m)) (Some m) other
+
+named_is : (id : List ℕ) (m : AccessMethod) (other : Option AccessMethod) (n : AccessMethod) → (other ≡ Some n → id ≡ method_identifier n) → named id m other ≡ Some n → id ≡ method_identifier n
+named_is id m other n later e =
+    elim (cases_Bool (bytes_eq id (method_identifier m))) [
+      | inl y ↦ (bytes_eq-Decides id (method_identifier m)).0 y ∙ ap method_identifier (some_is m n (rw y at e))
+      | inr k ↦ later (rw k at e)
+    ]
+
+pub method_is : (id : List ℕ) (m : AccessMethod) → method_of id ≡ Some m → id ≡ method_identifier m
+method_is id m e =
+    named_is id CaRepository _ m (named_is id RpkiManifest _ m (named_is id SignedObject _ m (named_is id RpkiNotify None m (λ n. nothing m n)))) e
+
+pub one_method : (m n : AccessMethod) → method_identifier m ≡ method_identifier n → m ≡ n
+one_method m n e = some_is m n (sym (method_again m) ∙ ap method_of e ∙ method_again n)
+
+pub method_spelled : (m : AccessMethod) → IsObjectIdentifier (method_identifier m) (enc 6 (method_identifier m))
+method_spelled CaRepository = spelled_oid (method_identifier CaRepository) refl refl (omega arith)
+method_spelled RpkiManifest = spelled_oid (method_identifier RpkiManifest) refl refl (omega arith)
+method_spelled SignedObject = spelled_oid (method_identifier SignedObject) refl refl (omega arith)
+method_spelled RpkiNotify = spelled_oid (method_identifier RpkiNotify) refl refl (omega arith)
+
+unknown_method : (id : List ℕ) → ((m : AccessMethod) → id ≢ method_identifier m) → (r : Option AccessMethod) → method_of id ≡ r → r ≡ None
+unknown_method id h None e = refl
+unknown_method id h (Some m) e = absurd (h m (method_is id m e))
+
+-- ---- descriptions
+
+-- a whole description
+abbrev IsDescribed : Description → List ℕ → Type 0
+IsDescribed (Some (method, uri)) c = (name : List ℕ) × IsUniformResourceIdentifier uri name × (c ≡ enc 6 (method_identifier method) ++ name)
+IsDescribed None c = (id : List ℕ) × (method : List ℕ) × (rest : List ℕ) × IsObjectIdentifier id method × ((known : AccessMethod) → id ≢ method_identifier known) × IsSkippableRow rest × (c ≡ method ++ rest)
+
+location_takes : (id text rest : List ℕ) (r : Option AccessMethod) (d : Description) → method_of id ≡ r → AreOctets rest → IsObjectIdentifier id text → location_of r rest ≡ Some d → IsDescribed d (text ++ rest)
+location_takes id text rest (Some m) d is low spelled e =
+    let a = bind_some (uri_name_at rest) (λ uri. ended uri.1 (some {A = AccessMethod × List ℕ} (m, uri.0))) d e in
+    let g = ended_some a.0.1 (some {A = AccessMethod × List ℕ} (m, a.0.0)) d a.2 in
+    let one = name_reads.takes rest a.0.0 a.0.1 low a.1 in
+    let used : one.text ≡ rest = sym (append-nil one.text) ∙ sym (ap (λ (r : List ℕ). one.text ++ r) g.0) ∙ sym one.parts in
+    let same : text ≡ enc 6 (method_identifier m) = spelled.enc.is ∙ ap (enc 6) (method_is id m is) in
+    subst (λ (x : Description). IsDescribed x (text ++ rest)) g.1 (rest, subst (λ (t : List ℕ). IsUniformResourceIdentifier a.0.0 t) used one.spelled, ap (λ (t : List ℕ). t ++ rest) same)
+location_takes id text rest None d is low spelled e =
+    let a = bind_some (skip_all_of rest) (λ u. some {A = Description} None) d e in
+    subst (λ (x : Description). IsDescribed x (text ++ rest)) (some_is {A = Description} None d a.2) (id, text, rest, spelled, (λ m same. nothing {B = ⊥} m (sym is ∙ ap method_of same ∙ method_again m)), skip_all_reads.takes rest a.0 low a.1, refl)
+
+description_takes : (c : List ℕ) (d : Description) → AreOctets c → description_of c ≡ Some d → IsDescribed d c
+description_takes c d low e =
+    let a = bind_some (oid_at c) (λ method. location_of (method_of method.0) method.1) d e in
+    let one = oid_reads.takes c a.0.0 a.0.1 low a.1 in
+    subst (λ (x : List ℕ). IsDescribed d x) (sym one.parts) (location_takes a.0.0 one.text a.0.1 (method_of a.0.0) d refl (AreOctets-after c one.text a.0.1 one.parts low) one.spelled a.2)
+
+description_again : (d : Description) (c : List ℕ) → IsDescribed d c → description_of c ≡ Some d
+description_again (Some (m, uri)) c s =
+    let whole : uri_name_at s.0 ≡ some {A = List ℕ × List ℕ} (uri, []) = ap uri_name_at (sym (append-nil s.0)) ∙ name_reads.again uri s.0 [] s.1 in
+    rw (s.2, oid_reads.again (method_identifier m) (enc 6 (method_identifier m)) s.0 (method_spelled m), method_again m, whole) refl
+description_again None c s =
+    rw (s.6, oid_reads.again s.0 s.1 s.2 s.3, unknown_method s.0 s.4 (method_of s.0) refl, skip_all_reads.again tt s.2 s.5) refl
+
+described : (d : Description) (text : List ℕ) → Inside 0x30 IsDescribed d text → IsAccessDescriptionWithin levels d text
+described (Some (m, uri)) text s =
+    (s.1.0, s.1.1, subst (λ (c : List ℕ). IsEnc 0x30 c text) (s.1.2 ∙ ap (λ (t : List ℕ). enc 6 (method_identifier m) ++ t) (sym (append-nil s.1.0))) s.2)
+described None text s =
+    let i = s.1 in
+    record { id = i.0; method = i.1; row = i.5.0; method_is = i.3; unknown = i.4; skipped = i.5.2; sequence = subst (λ (c : List ℕ). IsEnc 0x30 c text) (i.6 ∙ ap (λ (t : List ℕ). i.1 ++ t) i.5.1) s.2 }
+
+is_described : (d : Description) (text : List ℕ) → IsAccessDescriptionWithin levels d text → Inside 0x30 IsDescribed d text
+is_described (Some (m, uri)) text s =
+    (enc 6 (method_identifier m) ++ s.0, (s.0, s.1, refl), subst (λ (c : List ℕ). IsEnc 0x30 c text) (ap (λ (t : List ℕ). enc 6 (method_identifier m) ++ t) (append-nil s.0)) s.2)
+is_described None text s =
+    (s.method ++ concat s.row, (s.id, s.method, concat s.row, s.method_is, s.unknown, (s.row, refl, s.skipped), refl), s.sequence)
+
+pub description_reads : Reads description_at (IsAccessDescriptionWithin levels)
+unfolding description_at
+description_reads =
+    same_reads (content 0x30 description_of) (Inside 0x30 IsDescribed) (IsAccessDescriptionWithin levels)
+    (content_reads 0x30 description_of IsDescribed (record { takes = description_takes; again = description_again }))
+    described is_described
+
+-- ---- URIs
+
+-- what a description gives under a method
+module _ (uri_of : List ℕ → Option (List ℕ)) (IsUri : List ℕ → Type 0) (to : (text uri : List ℕ) → uri_of text ≡ Some uri → (text ≡ uri) × IsUri uri) (back : (uri : List ℕ) → IsUri uri → uri_of uri ≡ Some uri) (m : AccessMethod) where
+  under_takes : (d : Description) (uri : List ℕ) → Unit {0} → uri_under m uri_of d ≡ Some uri → HasUri m IsUri d uri
+  under_takes None uri u e = nothing uri e
+  under_takes (Some (n, text)) uri u e =
+      elim (cases_Bool (bytes_eq (method_identifier n) (method_identifier m))) [
+        | inl y ↦
+            let same : n ≡ m = one_method n m ((bytes_eq-Decides (method_identifier n) (method_identifier m)).0 y) in
+            let g = to text uri (rw y at e) in
+            ((λ i. some {A = AccessMethod × List ℕ} (same i, g.0 i)), g.1)
+        | inr k ↦ nothing uri (rw k at e)
+      ]
+
+  under_again : (d : Description) (uri : List ℕ) → HasUri m IsUri d uri → uri_under m uri_of d ≡ Some uri
+  under_again d uri h =
+      let same : bytes_eq (method_identifier m) (method_identifier m) ≡ true = (bytes_eq-Decides (method_identifier m) (method_identifier m)).1 refl in
+      rw (h.0, same) (back uri h.1)
+
+  pub under_law : {Fits : Description → Type 0} → IsLawful Fits (first_fold (uri_under m uri_of) (HasUri m IsUri))
+  under_law = first_law (uri_under m uri_of) (HasUri m IsUri) (record { takes = under_takes; again = under_again })
+
+abbrev Any : Description → Type 0
+Any d = Unit {0}
+
+access_law : IsLawful Any access_fold
+access_law =
+    beside_law _ _ (under_law rsync_of IsRsync (text_was is_rsync IsRsync rsync_decides) (text_is is_rsync IsRsync rsync_decides) CaRepository)
+    (beside_law _ _ (under_law rsync_of IsRsync (text_was is_rsync IsRsync rsync_decides) (text_is is_rsync IsRsync rsync_decides) RpkiManifest)
+    (beside_law _ _ (under_law rsync_of IsRsync (text_was is_rsync IsRsync rsync_decides) (text_is is_rsync IsRsync rsync_decides) SignedObject)
+    (under_law https_of IsHttps (text_was is_https IsHttps https_decides) (text_is is_https IsHttps https_decides) RpkiNotify)))
+
+uris_read : ReadsWhole (over description_at access_fold.step access_fold.start) (IsFolded (IsAccessDescriptionWithin levels) access_fold)
+uris_read = over_reads description_at (IsAccessDescriptionWithin levels) Any access_fold description_reads description_shrinks (λ d text s. tt) access_law
+
+-- ---- the extension
+
+abbrev IsAccess : Access → List ℕ → Type 0
+IsAccess a c = (d : Description) × (ds : List Description) × IsRow (IsAccessDescriptionWithin levels) (d ∷ ds) c × access_fold.means (d ∷ ds) (uris_of a)
+
+not_nil : (d : Description) (text rest : List ℕ) → IsAccessDescriptionWithin levels d text → [] ≡ text ++ rest → ⊥
+unfolding enc
+not_nil (Some x) text rest s e = let f : [] ≡ enc 0x30 (concat (enc 6 (method_identifier x.0) ∷ s.0 ∷ [])) ++ rest = rw s.2.is at e in absurd cc
+not_nil None text rest s e = let f : [] ≡ enc 0x30 (concat (s.method ∷ s.row)) ++ rest = rw s.sequence.is at e in absurd cc
+
+access_from : (b : ℕ) (c : List ℕ) (uris : Uris) (ds : List Description) → IsRow (IsAccessDescriptionWithin levels) ds (b ∷ c) → access_fold.means ds uris → IsAccess (access_made uris) (b ∷ c)
+access_from b c uris [] s m = absurd cc
+access_from b c uris (d ∷ ds) s m = (d, ds, s, m)
+
+access_takes : (c : List ℕ) (a : Access) → AreOctets c → access_of c ≡ Some a → IsAccess a c
+access_takes [] a low e = nothing a e
+access_takes (b ∷ c) a low e =
+    let u = bind_some (over description_at access_fold.step access_fold.start (b ∷ c)) (λ uris. some (access_made uris)) a e in
+    let m = uris_read.takes (b ∷ c) u.0 low u.1 in
+    subst (λ (x : Access). IsAccess x (b ∷ c)) (some_is (access_made u.0) a u.2) (access_from b c u.0 m.0 m.1 m.2)
+
+access_again : (a : Access) (c : List ℕ) → IsAccess a c → access_of c ≡ Some a
+access_again a [] s = absurd (not_nil s.0 s.2.0 s.2.1 s.2.2 s.2.4)
+access_again a (b ∷ c) s = rw (uris_read.again (uris_of a) (b ∷ c) (s.0 ∷ s.1, s.2, s.3)) refl
+
+access_is : (a : Access) (text : List ℕ) → Inside 0x30 IsAccess a text → IsSubjectInformationAccess a text
+access_is a text s =
+    let i = s.1 in
+    let row = row_pieces (IsAccessDescriptionWithin levels) (i.0 ∷ i.1) s.0 i.2 in
+    record { first = i.0; more = i.1; pieces = row.0; spelled = row.1; sequence = subst (λ (c : List ℕ). IsEnc 0x30 c text) row.2 s.2; repository = i.3.0; manifest = i.3.1.0; object = i.3.1.1.0; notify = i.3.1.1.1 }
+
+is_access : (a : Access) (text : List ℕ) → IsSubjectInformationAccess a text → Inside 0x30 IsAccess a text
+is_access a text s =
+    (concat s.pieces, (s.first, s.more, pieces_row (IsAccessDescriptionWithin levels) (s.first ∷ s.more) s.pieces s.spelled, (s.repository, (s.manifest, (s.object, s.notify)))), s.sequence)
+
+pub subject_information_access_reads : Reads subject_information_access_at IsSubjectInformationAccess
+unfolding subject_information_access_at
+subject_information_access_reads =
+    same_reads (content 0x30 access_of) (Inside 0x30 IsAccess) IsSubjectInformationAccess
+    (content_reads 0x30 access_of IsAccess (record { takes = access_takes; again = access_again }))
+    access_is is_access
+
+-- ---- what is written, method by method
+
+-- each method with its URI
+abbrev Methods : Type 0
+Methods = List (AccessMethod × Option (List ℕ))
+
+abbrev rows : Access → Methods
+rows a = (CaRepository, a.ca_repository) ∷ (RpkiManifest, a.rpki_manifest) ∷ (SignedObject, a.signed_object) ∷ (RpkiNotify, a.rpki_notify) ∷ []
+
+abbrev value_of : AccessMethod → Option (List ℕ) → List Description
+value_of method None = []
+value_of method (Some uri) = some (method, uri) ∷ []
+
+abbrev values : Methods → List Description
+values ms = flat_map (λ (m : AccessMethod × Option (List ℕ)). value_of m.0 m.1) ms
+
+abbrev texts : Methods → List (List ℕ)
+texts ms = flat_map (λ (m : AccessMethod × Option (List ℕ)). description_if m.0 m.1) ms
+
+texts_are : (a : Access) → texts (rows a) ≡ descriptions a
+texts_are a = rw append-nil refl
+
+-- ---- each description
+
+abbrev ArePrintables : Methods → Type 0
+ArePrintables ms = AllByRecursion (λ (m : AccessMethod × Option (List ℕ)). IfSome m.1 ArePrintable) ms
+
+spelled : (depth : ℕ) (ms : Methods) → ArePrintables ms → AllByRecursion Short (texts ms) → AllZip (IsAccessDescriptionWithin depth) (values ms) (texts ms)
+spelled depth [] p h = tt
+spelled depth ((m, None) ∷ ms) p h = spelled depth ms p.1 h
+spelled depth ((m, Some uri) ∷ ms) p h =
+    let shorts = description_pieces_short (method_identifier m) uri h.0 in
+    ((_, uri_name_made uri p.0 shorts.1, made 0x30 _ (omega arith) h.0), spelled depth ms p.1 h.1)
+
+ok_texts : (ms : Methods) → ArePrintables ms → AllByRecursion IfShort (texts ms)
+ok_texts [] p = tt
+ok_texts ((m, None) ∷ ms) p = ok_texts ms p.1
+ok_texts ((m, Some uri) ∷ ms) p = (ok_description (method_identifier m) uri (method_spelled m).enc.octets p.0, ok_texts ms p.1)
+
+-- ---- the first of each method
+
+module _ (method : AccessMethod) (IsUri : List ℕ → Type 0) where
+  abbrev AreOthers : Methods → Type 0
+  AreOthers ms = AllByRecursion (λ (m : AccessMethod × Option (List ℕ)). m.0 ≡ method → ⊥) ms
+
+  silent : (m : AccessMethod) (text : List ℕ) → (m ≡ method → ⊥) → (uri : List ℕ) → HasUri method IsUri (some (m, text)) uri → ⊥
+  silent m text other uri h = other (both_are (m, text) (method, uri) h.0).0
+
+  after_other : (m : AccessMethod) (o : Option (List ℕ)) → (m ≡ method → ⊥) → (ds : List Description) (v : Option (List ℕ)) → IsFirstOf (HasUri method IsUri) v ds → IsFirstOf (HasUri method IsUri) v (value_of m o ++ ds)
+  after_other m None other ds v h = h
+  after_other m (Some text) other ds None h = (silent m text other, h)
+  after_other m (Some text) other ds (Some v) h = (
+    h.0,
+    record {
+      before = some (m, text) ∷ h.1.before;
+      after = h.1.after;
+      is = ap (λ (es : List Description). some (m, text) ∷ es) h.1.is;
+      has = h.1.has;
+      none_before = ((λ g. silent m text other g.0 g.1), h.1.none_before);
+    },
+    h.2,
+  )
+
+  none : (ms : Methods) → AreOthers ms → IsFirstOf (HasUri method IsUri) None (values ms)
+  none [] others = tt
+  none (m ∷ ms) others = after_other m.0 m.1 others.0 (values ms) None (none ms others.1)
+
+  first : (before : Methods) (o : Option (List ℕ)) (after : Methods) → AreOthers before → AreOthers after → IfSome o IsUri → IsFirstOf (HasUri method IsUri) o (values (before ++ (method, o) ∷ after))
+  first [] None after b a is = none after a
+  first [] (Some uri) after b a is = (some (method, uri), record { before = []; after = values after; is = refl; has = (uri, (refl, is)); none_before = tt }, (refl, is))
+  first (m ∷ before) o after b a is = after_other m.0 m.1 b.0 (values (before ++ (method, o) ∷ after)) o (first before o after b.1 a is)
+
+record Firsts (a : Access) (ds : List Description) : Type 0 where
+  repository : IsFirstOf (HasUri CaRepository IsRsync) a.ca_repository ds
+  manifest : IsFirstOf (HasUri RpkiManifest IsRsync) a.rpki_manifest ds
+  object : IsFirstOf (HasUri SignedObject IsRsync) a.signed_object ds
+  notify : IsFirstOf (HasUri RpkiNotify IsHttps) a.rpki_notify ds
+
+firsts : (a : Access) → HasUris a → Firsts a (values (rows a))
+firsts a h =
+    let r : AccessMethod × Option (List ℕ) = (CaRepository, a.ca_repository) in
+    let m : AccessMethod × Option (List ℕ) = (RpkiManifest, a.rpki_manifest) in
+    let o : AccessMethod × Option (List ℕ) = (SignedObject, a.signed_object) in
+    let n : AccessMethod × Option (List ℕ) = (RpkiNotify, a.rpki_notify) in
+    record {
+      repository = first CaRepository IsRsync [] a.ca_repository (m ∷ o ∷ n ∷ []) tt ((λ e. cc), ((λ e. cc), ((λ e. cc), tt))) h.ca_repository_is;
+      manifest = first RpkiManifest IsRsync (r ∷ []) a.rpki_manifest (o ∷ n ∷ []) ((λ e. cc), tt) ((λ e. cc), ((λ e. cc), tt)) h.rpki_manifest_is;
+      object = first SignedObject IsRsync (r ∷ m ∷ []) a.signed_object (n ∷ []) ((λ e. cc), ((λ e. cc), tt)) ((λ e. cc), tt) h.signed_object_is;
+      notify = first RpkiNotify IsHttps (r ∷ m ∷ o ∷ []) a.rpki_notify [] ((λ e. cc), ((λ e. cc), ((λ e. cc), tt))) tt h.rpki_notify_is;
+    }
+
+-- ---- the whole
+
+printables : (a : Access) → HasUris a → ArePrintables (rows a)
+printables a h =
+    let rsync : (uri : List ℕ) → IsRsync uri → ArePrintable uri = λ uri u. u.printable in
+    let https : (uri : List ℕ) → IsHttps uri → ArePrintable uri = λ uri u. u.printable in
+    (IfSome_then a.ca_repository h.ca_repository_is rsync, (IfSome_then a.rpki_manifest h.rpki_manifest_is rsync, (IfSome_then a.signed_object h.signed_object_is rsync, (IfSome_then a.rpki_notify h.rpki_notify_is https, tt))))
+
+sequence_made : (depth : ℕ) (a : Access) (ds : List Description) (ps : List (List ℕ)) → (AllByRecursion Short ps → AllZip (IsAccessDescriptionWithin depth) ds ps) → Firsts a ds → (c : List ℕ) → sequence_of_some ps ≡ Some c → Short c → IsSubjectInformationAccessWithin depth a c
+sequence_made depth a ds [] zipped f c e h = absurd cc
+sequence_made depth a ds (p ∷ ps) zipped f c e h =
+    let is : sequence (p ∷ ps) ≡ c = some_is (sequence (p ∷ ps)) c e in
+    subst (λ (x : List ℕ). Short x → IsSubjectInformationAccessWithin depth a x) is (λ short. row ds (zipped (pieces_short (p ∷ ps) (content_short 0x30 _ short))) f (made 0x30 _ (omega arith) short)) h
+  where
+    row : (es : List Description) → AllZip (IsAccessDescriptionWithin depth) es (p ∷ ps) → Firsts a es → IsSequence (p ∷ ps) (sequence (p ∷ ps)) → IsSubjectInformationAccessWithin depth a (sequence (p ∷ ps))
+    row [] zip g enc = elim zip [ ]
+    row (e ∷ es) zip g enc = record { first = e; more = es; pieces = p ∷ ps; spelled = zip; sequence = enc; repository = g.repository; manifest = g.manifest; object = g.object; notify = g.notify }
+
+pub subject_information_access_made : (depth : ℕ) (a : Access) → HasUris a → (c : List ℕ) → subject_information_access_content a ≡ Some c → Short c → IsSubjectInformationAccessWithin depth a c
+subject_information_access_made depth a h = rw (← texts_are a) (sequence_made depth a (values (rows a)) (texts (rows a)) (spelled depth (rows a) (printables a h)) (firsts a h))
+
+-- where there is no URI nothing is written
+all_absent : (ms : Methods) → texts ms ≡ [] → AllByRecursion (λ (m : AccessMethod × Option (List ℕ)). m.1 ≡ None) ms
+all_absent [] e = tt
+all_absent ((m, None) ∷ ms) e = (refl, all_absent ms e)
+all_absent ((m, Some uri) ∷ ms) e = absurd cc
+
+pub no_uris : (a : Access) → subject_information_access_content a ≡ None → a ≡ record { ca_repository = None; rpki_manifest = None; signed_object = None; rpki_notify = None }
+no_uris a e =
+    let h = all_absent (rows a) (texts_are a ∙ no_pieces (descriptions a) e) in
+    λ i. record { ca_repository = h.0 i; rpki_manifest = h.1.0 i; signed_object = h.1.1.0 i; rpki_notify = h.1.1.1.0 i }
+
+pub ok_subject_information_access : (a : Access) → HasUris a → IfSome (subject_information_access_content a) IfShort
+ok_subject_information_access a h = rw (← texts_are a) (ok_pieces (texts (rows a)) (ok_texts (rows a) (printables a h)))
+
+pub subject_information_access_is : IsKind subject_information_access
+subject_information_access_is = record {
+  law = subject_information_access_reads;
+  made = λ a c fits e short. subject_information_access_made levels a fits c e short;
+  octets = ok_subject_information_access;
+}

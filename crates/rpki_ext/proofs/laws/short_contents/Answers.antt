@@ -1,0 +1,50 @@
+use Rattle.std.proofs.Common.{◌≡◌, ℕ, ◌<◌, ◌^◌, Bool, true, false, List, length, refl, arith}
+use Rattle.rpki_der.specs.Primitives.{bool_or_false}
+use Rattle.rpki_der.specs.Values.{enc}
+use Rattle.rpki_der.proofs.RoundTrips.{enc_small}
+use Rattle.rpki_blocks.specs.declared.overclaim.Overclaim.{Overclaim}
+use Rattle.rpki_blocks.specs.declared.overclaim.Overclaim.TheVariants.{Refuse, Trim}
+use Rattle.rpki_blocks.specs.Overclaims.{policy_identifier}
+use Rattle.rpki_ext.specs.BasicConstraints.{basic_constraints_content}
+use Rattle.rpki_ext.specs.CertificatePolicies.{certificate_policies_content}
+use Rattle.rpki_ext.specs.KeyUsages.{key_usage_content}
+use Rattle.rpki_ext.specs.declared.key_usage.KeyUsage.{KeyUsage}
+use Rattle.rpki_ext.specs.declared.key_usage.KeyUsage.TheVariants.{Ca, Ee}
+use Rattle.rpki_ext.proofs.laws.short_contents.Goals as goal
+
+flag_small : (ca : Bool) → length (basic_constraints_content ca) < 2 ^ 32
+flag_small true = omega (arith, enc_small 0x30 (bool_or_false true) (omega arith))
+flag_small false = omega (arith, enc_small 0x30 (bool_or_false false) (omega arith))
+
+identifier_small : (t : ℕ) (id : List ℕ) → length id ≡ 20 → length (enc t id) ≡ 22
+identifier_small t id l = omega (arith, enc_small t id (omega arith))
+
+usage_small : (usage : KeyUsage) → length (key_usage_content usage) < 2 ^ 32
+usage_small Ca = omega arith
+usage_small Ee = omega arith
+
+policy_small : (overclaim : Overclaim) → length (policy_identifier overclaim) ≡ 8
+policy_small Refuse = refl
+policy_small Trim = refl
+
+policies_small : (overclaim : Overclaim) → length (certificate_policies_content overclaim) < 2 ^ 32
+policies_small overclaim =
+    let id = enc 6 (policy_identifier overclaim) in
+    let one : length id ≡ 10 = omega (arith, policy_small overclaim, enc_small 6 (policy_identifier overclaim) (omega (arith, policy_small overclaim))) in
+    let two : length (enc 0x30 id) ≡ 12 = omega (arith, enc_small 0x30 id (omega arith)) in
+    omega (arith, enc_small 0x30 (enc 0x30 id) (omega arith))
+
+pub returns-clause-basic_constraints : goal.returns-clause-basic_constraints
+returns-clause-basic_constraints c = flag_small
+
+pub returns-clause-subject_key_identifier : goal.returns-clause-subject_key_identifier
+returns-clause-subject_key_identifier c = λ id l. omega (arith, identifier_small 4 id l)
+
+pub returns-clause-authority_key_identifier : goal.returns-clause-authority_key_identifier
+returns-clause-authority_key_identifier c = λ id l. omega (arith, enc_small 0x30 (enc 0x80 id) (omega (arith, identifier_small 0x80 id l)), identifier_small 0x80 id l)
+
+pub returns-clause-key_usage : goal.returns-clause-key_usage
+returns-clause-key_usage c = usage_small
+
+pub returns-clause-certificate_policies : goal.returns-clause-certificate_policies
+returns-clause-certificate_policies c = policies_small

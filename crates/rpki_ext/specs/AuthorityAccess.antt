@@ -1,0 +1,49 @@
+-- Authority Information Access (RFC 5280 4.2.2.1, RFC 6487 4.8.7).
+use Rattle.std.specs.Prelude.{ℕ, List, [], ◌∷◌, ◌++◌, bytes_eq, if◌then◌else◌, Option, None, false, Some}
+use Rattle.rpki_der.specs.Identifiers.{pkix}
+use Rattle.rpki_der.specs.Values.{enc, IsNested, sequence}
+use Rattle.rpki_der.specs.Reading.{inside}
+use Rattle.rpki_der.specs.Primitives.Reading.{oid_at}
+use Rattle.rpki_der.specs.Values.Reading.{◌>>=◌, value_at}
+use Rattle.rpki_der.specs.Choices.{turned}
+use Rattle.rpki_parts.specs.Uris.{IsRsync}
+use Rattle.rpki_ext.specs.GeneralNames.{IsGeneralNames, uri_name, names_of}
+use Rattle.rpki_ext.specs.Kinds.{ExtensionKind, required}
+
+abbrev pub ca_issuers : List ℕ
+ca_issuers = pkix 0x30 0x02
+
+-- Authority Information Access (RFC 6487 4.8.7): one AccessDescription, of id-ad-caIssuers
+abbrev pub IsAuthorityInformationAccess : List ℕ → List ℕ → Type 0
+IsAuthorityInformationAccess v b = (names : List ℕ) × IsGeneralNames v names × IsNested (0x30 ∷ 0x30 ∷ []) (enc 6 ca_issuers ++ names) b
+
+-- an AccessDescription
+abbrev pub description : List ℕ → List ℕ → List ℕ
+description method uri = sequence (enc 6 method ∷ uri_name uri ∷ [])
+
+abbrev pub authority_information_access_content : List ℕ → List ℕ
+authority_information_access_content uri = enc 0x30 (description ca_issuers uri)
+
+-- ---- how it is read
+
+abbrev pub issuers_of : List ℕ → Option (List ℕ)
+issuers_of c = oid_at c >>= λ method. if bytes_eq method.0 ca_issuers then names_of method.1 else None
+
+-- the only description
+unfoldable pub only_description_at : List ℕ → Option (List ℕ × List ℕ)
+only_description_at = inside 0x30 (value_at 0x30)
+
+unfoldable pub authority_information_access_at : List ℕ → Option (List ℕ × List ℕ)
+authority_information_access_at = turned issuers_of only_description_at
+
+-- ---- the kind
+
+abbrev pub authority_information_access : ExtensionKind (List ℕ)
+authority_information_access = record {
+  identifier = pkix 0x01 0x01;
+  flag = required false;
+  spells = IsAuthorityInformationAccess;
+  reads = authority_information_access_at;
+  fits = IsRsync;
+  written = λ uri. Some (authority_information_access_content uri);
+}

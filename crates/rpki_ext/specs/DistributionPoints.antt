@@ -1,0 +1,38 @@
+-- CRL Distribution Points (RFC 5280 4.2.1.13, RFC 6487 4.8.6).
+use Rattle.std.specs.Prelude.{ℕ, List, [], ◌∷◌, Option, false, Some}
+use Rattle.rpki_der.specs.Values.{IsNested, nested}
+use Rattle.rpki_der.specs.Reading.{inside}
+use Rattle.rpki_der.specs.Values.Reading.{value_at}
+use Rattle.rpki_der.specs.Choices.{turned}
+use Rattle.rpki_der.specs.Identifiers.{id_ce}
+use Rattle.rpki_parts.specs.Uris.{IsRsync}
+use Rattle.rpki_ext.specs.GeneralNames.{IsGeneralNames, uri_name, names_of}
+use Rattle.rpki_ext.specs.Kinds.{ExtensionKind, required}
+
+-- CRL Distribution Points (RFC 6487 4.8.6): one DistributionPoint with a fullName
+abbrev pub IsCrlDistributionPoints : List ℕ → List ℕ → Type 0
+IsCrlDistributionPoints v b = (names : List ℕ) × IsGeneralNames v names × IsNested (0x30 ∷ 0x30 ∷ 0xA0 ∷ 0xA0 ∷ []) names b
+
+abbrev pub crl_distribution_points_content : List ℕ → List ℕ
+crl_distribution_points_content uri = nested (0x30 ∷ 0x30 ∷ 0xA0 ∷ 0xA0 ∷ []) (uri_name uri)
+
+-- ---- how it is read
+
+-- the names of the only point
+unfoldable pub full_name_at : List ℕ → Option (List ℕ × List ℕ)
+full_name_at = inside 0x30 (inside 0x30 (inside 0xA0 (value_at 0xA0)))
+
+unfoldable pub crl_distribution_points_at : List ℕ → Option (List ℕ × List ℕ)
+crl_distribution_points_at = turned names_of full_name_at
+
+-- ---- the kind
+
+abbrev pub crl_distribution_points : ExtensionKind (List ℕ)
+crl_distribution_points = record {
+  identifier = id_ce 0x1F;
+  flag = required false;
+  spells = IsCrlDistributionPoints;
+  reads = crl_distribution_points_at;
+  fits = IsRsync;
+  written = λ uri. Some (crl_distribution_points_content uri);
+}

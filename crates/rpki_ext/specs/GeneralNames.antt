@@ -1,0 +1,48 @@
+-- GeneralNames that are URIs (RFC 5280 4.2.1.6).
+use Rattle.std.specs.Prelude.{ℕ, ◌<◌, List, ◌≡◌, if◌then◌else◌, Option, Some, None}
+use Rattle.std.specs.List.{AllByRecursion, AllZip, concat, list_all}
+use Rattle.std.specs.Char.{is_ascii}
+use Rattle.rpki_der.specs.Values.{IsEnc, enc}
+use Rattle.rpki_der.specs.Reading.{content}
+use Rattle.rpki_der.specs.Values.Reading.{◌>>=◌}
+use Rattle.rpki_der.specs.Folding.{Step, once, over}
+use Rattle.rpki_parts.specs.Uris.{IsRsync}
+use Rattle.rpki_parts.specs.Uris.Tests.{is_rsync, is_https}
+use Rattle.rpki_ext.specs.Choosing.{IsOnlyWith}
+
+-- uniformResourceIdentifier of GeneralName (RFC 5280 4.2.1.6): octets below 80
+abbrev pub IsUniformResourceIdentifier : List ℕ → List ℕ → Type 0
+IsUniformResourceIdentifier text b = IsEnc 0x86 text b × AllByRecursion (λ octet. octet < 128) text
+
+-- GeneralNames of which exactly one is an rsync URI, v (RFC 6487 4.8.6, 4.8.7)
+pub record IsGeneralNames (v b : List ℕ) : Type 0 where
+  pub texts : List (List ℕ)
+  pub pieces : List (List ℕ)
+  pub spelled : AllZip IsUniformResourceIdentifier texts pieces
+  pub is : b ≡ concat pieces
+  pub one : IsOnlyWith IsRsync v texts
+
+-- uniformResourceIdentifier of GeneralName
+abbrev pub uri_name : List ℕ → List ℕ
+uri_name uri = enc 0x86 uri
+
+-- ---- how they are read
+
+abbrev pub ascii_of : List ℕ → Option (List ℕ)
+ascii_of text = if list_all is_ascii text then Some text else None
+
+unfoldable pub uri_name_at : List ℕ → Option (List ℕ × List ℕ)
+uri_name_at = content 0x86 ascii_of
+
+abbrev pub rsync_of : List ℕ → Option (List ℕ)
+rsync_of text = if is_rsync text then Some text else None
+
+abbrev pub https_of : List ℕ → Option (List ℕ)
+https_of text = if is_https text then Some text else None
+
+abbrev pub keep_rsync : Step (List ℕ) (Option (List ℕ))
+keep_rsync = once is_rsync (λ uri. Some uri)
+
+-- the only rsync URI among names
+abbrev pub names_of : List ℕ → Option (List ℕ)
+names_of c = over uri_name_at keep_rsync None c >>= λ uri. uri

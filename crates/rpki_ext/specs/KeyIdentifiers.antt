@@ -1,0 +1,53 @@
+-- Subject Key Identifier and Authority Key Identifier (RFC 5280 4.2.1.1, 4.2.1.2; RFC 6487 4.8.2, 4.8.3).
+use Rattle.std.specs.Prelude.{ℕ, List, length, ◌≡◌, [], ◌∷◌, Option, false, Some}
+use Rattle.rpki_der.specs.Values.{IsNested, enc, AreOctets, nested}
+use Rattle.rpki_der.specs.Reading.{content, inside}
+use Rattle.rpki_der.specs.Identifiers.{id_ce}
+use Rattle.rpki_parts.specs.Keys.{IsKeyIdentifier}
+use Rattle.rpki_parts.specs.Keys.Reading.{twenty, key_identifier_at}
+use Rattle.rpki_ext.specs.Kinds.{ExtensionKind, required}
+
+-- Subject Key Identifier (RFC 6487 4.8.2): OCTET STRING of 20 octets
+abbrev pub IsSubjectKeyIdentifier : List ℕ → List ℕ → Type 0
+IsSubjectKeyIdentifier = IsKeyIdentifier
+
+-- Authority Key Identifier (RFC 6487 4.8.3): a SEQUENCE of the key identifier alone
+abbrev pub IsAuthorityKeyIdentifier : List ℕ → List ℕ → Type 0
+IsAuthorityKeyIdentifier id b = IsNested (0x30 ∷ 0x80 ∷ []) id b × (length id ≡ 20)
+
+abbrev pub subject_key_identifier_content : List ℕ → List ℕ
+subject_key_identifier_content id = enc 4 id
+
+abbrev pub authority_key_identifier_content : List ℕ → List ℕ
+authority_key_identifier_content id = nested (0x30 ∷ 0x80 ∷ []) id
+
+-- ---- how it is read
+
+unfoldable pub authority_key_identifier_at : List ℕ → Option (List ℕ × List ℕ)
+authority_key_identifier_at = inside 0x30 (content 0x80 twenty)
+
+-- ---- the kinds
+
+-- of 20 octets
+abbrev pub IsIdentifier : List ℕ → Type 0
+IsIdentifier id = AreOctets id × (length id ≡ 20)
+
+abbrev pub subject_key_identifier : ExtensionKind (List ℕ)
+subject_key_identifier = record {
+  identifier = id_ce 0x0E;
+  flag = required false;
+  spells = IsSubjectKeyIdentifier;
+  reads = key_identifier_at;
+  fits = IsIdentifier;
+  written = λ id. Some (subject_key_identifier_content id);
+}
+
+abbrev pub authority_key_identifier : ExtensionKind (List ℕ)
+authority_key_identifier = record {
+  identifier = id_ce 0x23;
+  flag = required false;
+  spells = IsAuthorityKeyIdentifier;
+  reads = authority_key_identifier_at;
+  fits = IsIdentifier;
+  written = λ id. Some (authority_key_identifier_content id);
+}

@@ -1,0 +1,105 @@
+-- Kinds of extensions, and what a kind that stands at most once means (RFC 5280 4.1.2.9, 4.2; RFC 6487 4.8).
+use Rattle.std.specs.Prelude.{◌<◌, ◌^◌, length, Bool, Option, Some, None, ◌≡◌, ℕ, List, bytes_eq, filter, [], ◌∷◌}
+use Rattle.std.specs.List.{list_any}
+use Rattle.rpki_der.specs.Extensions.{Extension, OptionalExtension, part_of}
+use Rattle.rpki_der.specs.Values.{BeginsWith}
+use Rattle.rpki_der.specs.Rows.{IsAtMostOne}
+use Rattle.rpki_der.specs.Values.Reading.{◌>>=◌}
+use Rattle.rpki_der.specs.Writers.{Part}
+use Rattle.rpki_blocks.specs.declared.overclaim.Overclaim.{Overclaim}
+use Rattle.rpki_blocks.specs.declared.overclaim.Overclaim.TheVariants.{Refuse, Trim}
+pub mod Reading
+
+-- ---- kinds
+
+-- the flag of a kind: the one that its extensions must have, or the one that is written where none is asked for
+pub data Flag : Type 0 where
+  required untested : Bool → Flag
+
+abbrev pub flag_of : Flag → Bool
+flag_of (required critical) = critical
+flag_of (untested critical) = critical
+
+abbrev pub tested : Flag → Option Bool
+tested (required wanted) = Some wanted
+tested (untested written) = None
+
+abbrev pub IsFlagFor : Flag → Bool → Type 0
+IsFlagFor (required wanted) critical = critical ≡ wanted
+IsFlagFor (untested written) critical = Unit {0}
+
+-- A kind of extension, of which each value is a V: the identifier that names it and its flag, how a content is spelled and read, and
+-- what is written of a value that can be written, if anything.
+pub record ExtensionKind (V : Type 0) : Type 1 where
+  pub identifier : List ℕ
+  pub flag : Flag
+  pub spells : V → List ℕ → Type 0
+  pub reads : List ℕ → Option (V × List ℕ)
+  pub fits : V → Type 0
+  pub written : V → Option (List ℕ)
+
+-- every value can be written
+abbrev pub Any : {V : Type 0} → V → Type 0
+Any v = Unit {0}
+
+-- under one of these identifiers
+abbrev pub is_of : List (List ℕ) → Extension → Bool
+is_of ids x = list_any (λ id. bytes_eq x.identifier id) ids
+
+-- these extensions, in their order
+abbrev pub only : List (List ℕ) → List Extension → List Extension
+only ids xs = filter (is_of ids) xs
+
+-- the one identifier of a kind
+abbrev pub identifiers : {V : Type 0} → ExtensionKind V → List (List ℕ)
+identifiers kind = kind.identifier ∷ []
+
+-- ---- what extensions mean
+
+-- a front of the content spells v; what follows it in the OCTET STRING is ignored (own)
+abbrev pub Means : {V : Type 0} → (V → List ℕ → Type 0) → V → List ℕ → Type 0
+Means spells v content = (front : List ℕ) × BeginsWith front content × spells v front
+
+-- the extension has the flag of the kind, and its content means v
+abbrev pub Tells : {V : Type 0} → ExtensionKind V → Extension → V → Type 0
+Tells kind x v = IsFlagFor kind.flag x.critical × Means kind.spells v x.content
+
+-- the value that extensions give for a kind: none where none is of the kind, what the only one tells, and nothing where there are
+-- several (RFC 5280 4.2)
+abbrev pub Gives : {V : Type 0} → ExtensionKind V → List Extension → Option V → Type 0
+Gives kind xs v = IsAtMostOne (Tells kind) (only (identifiers kind) xs) v
+
+-- ---- kinds with an identifier for each mode
+
+-- both identifiers (RFC 8360 4.2.2, 4.2.3)
+abbrev pub identifiers_by_mode : {V : Type 0} → (Overclaim → ExtensionKind V) → List (List ℕ)
+identifiers_by_mode kinds = (kinds Refuse).identifier ∷ (kinds Trim).identifier ∷ []
+
+-- the extension stands under the identifier of the mode, and tells v
+abbrev pub TellsUnder : {V : Type 0} → (Overclaim → ExtensionKind V) → Overclaim → Extension → V → Type 0
+TellsUnder kinds mode x v = (x.identifier ≡ (kinds mode).identifier) × Tells (kinds mode) x v
+
+-- at most one under both identifiers, and that one under the identifier of the mode
+abbrev pub GivesUnder : {V : Type 0} → (Overclaim → ExtensionKind V) → Overclaim → List Extension → Option V → Type 0
+GivesUnder kinds mode xs v = IsAtMostOne (TellsUnder kinds mode) (only (identifiers_by_mode kinds) xs) v
+
+-- a content means one value
+abbrev pub HasOneMeaning : {V : Type 0} → (V → List ℕ → Type 0) → Type 0
+HasOneMeaning {V} spells = (content : List ℕ) (v w : V) → Means spells v content → Means spells w content → v ≡ w
+
+-- ---- what is written
+
+-- the extension that is written of a kind's value, if there is one
+abbrev pub extension_for : {V : Type 0} → ExtensionKind V → Option V → OptionalExtension
+extension_for kind v = record { identifier = kind.identifier; critical = flag_of kind.flag; content = v >>= kind.written }
+
+abbrev pub part : {V : Type 0} → ExtensionKind V → Option V → Part
+part kind v = part_of (extension_for kind v)
+
+-- what is written of an extension with this content
+abbrev pub extension_part : List ℕ → Bool → List ℕ → Part
+extension_part id critical content = part_of (record { identifier = id; critical = critical; content = Some content })
+
+-- what is written of a value that fits spells it, if it has fewer than 2^32 octets
+abbrev pub IsReadAgain : {V : Type 0} → ExtensionKind V → Type 0
+IsReadAgain {V} kind = (v : V) (c : List ℕ) → kind.fits v → kind.written v ≡ Some c → length c < 2 ^ 32 → kind.spells v c

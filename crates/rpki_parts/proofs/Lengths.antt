@@ -1,0 +1,25 @@
+-- How long what is written is.
+use Rattle.std.specs.Prelude.{nat_le, nat_lt, ◌&&◌}
+use Rattle.std.proofs.Common.{ℕ, ◌+◌, ◌^◌, ◌≤◌, List, [], ◌∷◌, ◌++◌, length, arith, inl, inr}
+use Rattle.std.proofs.lemmas.List.{length-append}
+use Rattle.rpki_der.specs.Values.{enc, length_octets}
+use Rattle.rpki_der.specs.Times.{Moment, time}
+use Rattle.rpki_der.proofs.ValueWritten.{bool_cases, enc_longer}
+
+pub time_short : (m : Moment) → length (time m) ≤ 17
+unfolding time enc length_octets
+time_short m =
+    elim (bool_cases (nat_le 1950 m.year && nat_lt m.year 2050)) [
+      | inl t ↦ rw t (omega arith)
+      | inr f ↦ rw f (omega arith)
+    ]
+
+-- a content that does not fit makes what it stands in not fit
+pub bits_too_long : (front bits : List ℕ) → 2 ^ 32 ≤ length bits + 1 → 2 ^ 32 ≤ length (front ++ (enc 3 (0 ∷ bits) ++ []))
+bits_too_long front bits h = omega (arith, length-append front (enc 3 (0 ∷ bits) ++ []), length-append (enc 3 (0 ∷ bits)) [], enc_longer 3 (0 ∷ bits))
+
+pub two_times_short : (m n : Moment) → length (time m ++ (time n ++ [])) ≤ 34
+two_times_short m n = omega (arith, length-append (time m) (time n ++ []), length-append (time n) [], time_short m, time_short n)
+
+pub longer_behind : (front rest : List ℕ) → 2 ^ 32 ≤ length rest → 2 ^ 32 ≤ length (front ++ rest)
+longer_behind front rest h = omega (arith, length-append front rest)

@@ -1,0 +1,14 @@
+-- The reading function of signed data.
+use Rattle.std.specs.Prelude.{ℕ, List, Option}
+use Rattle.rpki_der.specs.Reading.{both, mapped}
+use Rattle.rpki_der.specs.Skipping.Reading.{captured_at}
+use Rattle.rpki_parts.specs.Algorithms.{Algorithm}
+use Rattle.rpki_parts.specs.Algorithms.Reading.{algorithm_at}
+use Rattle.rpki_parts.specs.Keys.Reading.{whole_bits_at}
+use Rattle.rpki_parts.specs.SignedDatas.{SignedFields}
+
+abbrev pub signed : List ℕ × (Algorithm × List ℕ) → SignedFields
+signed p = record { message = p.0; signature = record { algorithm = p.1.0; value = p.1.1 } }
+
+unfoldable pub signed_content_at : List ℕ → Option (SignedFields × List ℕ)
+signed_content_at = mapped signed (both captured_at (both algorithm_at whole_bits_at))
