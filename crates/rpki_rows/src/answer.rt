@@ -1,0 +1,226 @@
+//! The line that answers a question.
+use rpki_der::{Cursor, DecodeError, EncodeError, Field};
+use std::alloc::{AllocError, Global};
+
+const DIGITS: [&str; 16] = [
+    "0", "1", "2", "3", "4", "5", "6", "7", "8", "9", "a", "b", "c", "d", "e", "f",
+];
+
+/// A line of answers. It remembers that memory was refused, so that printing needs no exit.
+#[derive(Drop)]
+pub struct Answer {
+    alloc: Global,
+    asked: Vec<u8>,
+    line: String,
+    has_failed: bool,
+}
+
+impl Answer {
+    /// An empty line.
+    pub fn new(alloc: Global) -> Answer {
+        Answer {
+            alloc,
+            asked: Vec::new(alloc),
+            line: String::new(alloc),
+            has_failed: false,
+        }
+    }
+
+    /// The octets that the question is of.
+    pub fn ask(&mut self, octets: &[u8]) {
+        self.asked.clear();
+        if self.asked.extend_from_slice(octets).is_err() {
+            self.has_failed = true;
+        }
+    }
+
+    /// An empty line for the same question.
+    pub fn beside(&self) -> Answer {
+        let mut other = Answer::new(self.alloc);
+        other.ask(&self.asked);
+        other
+    }
+
+    /// Where its memory comes from.
+    pub fn alloc(&self) -> Global {
+        self.alloc
+    }
+
+    /// The text so far.
+    pub fn line(&self) -> &str {
+        self.line.as_str()
+    }
+
+    /// Whether memory was refused.
+    pub fn has_failed(&self) -> bool {
+        self.has_failed
+    }
+
+    /// Memory was refused.
+    pub fn fail(&mut self) {
+        self.has_failed = true;
+    }
+
+    /// The text as it stands.
+    pub fn text(&mut self, text: &str) {
+        if self.line.push_str(text).is_err() {
+            self.has_failed = true;
+        }
+    }
+
+    /// ` NAME=`, before a value.
+    pub fn field(&mut self, name: &str) {
+        self.text(" ");
+        self.text(name);
+        self.text("=");
+    }
+
+    /// `yes` or `no`.
+    pub fn yes(&mut self, holds: bool) {
+        self.text(if holds { "yes" } else { "no" });
+    }
+
+    fn digit(&mut self, half: u8) {
+        match DIGITS.get(usize::from(half & 15)) {
+            Some(digit) => self.text(digit),
+            None => self.fail(),
+        }
+    }
+
+    /// The octets in hexadecimal; `-` for none.
+    pub fn octets(&mut self, octets: &[u8]) {
+        if octets.is_empty() {
+            self.text("-");
+        }
+        for octet in octets {
+            self.digit(*octet >> 4);
+            self.digit(*octet & 15);
+        }
+    }
+
+    /// The octets as text, or in hexadecimal where they are none.
+    pub fn characters(&mut self, octets: &[u8]) {
+        match str::from_utf8(octets) {
+            Ok(text) => self.text(text),
+            Err(_) => self.octets(octets),
+        }
+    }
+
+    fn formed(&mut self, made: Result<String, AllocError>) {
+        match made {
+            Ok(text) => self.text(text.as_str()),
+            Err(_) => self.fail(),
+        }
+    }
+
+    /// The number in decimal digits.
+    pub fn count(&mut self, n: usize) {
+        let made = format!(in self.alloc; "{n}");
+        self.formed(made);
+    }
+
+    /// The number in decimal digits.
+    pub fn number(&mut self, n: u32) {
+        let made = format!(in self.alloc; "{n}");
+        self.formed(made);
+    }
+
+    /// The number in hexadecimal digits, shortest.
+    pub fn address(&mut self, n: u128) {
+        let made = format!(in self.alloc; "{n:x}");
+        self.formed(made);
+    }
+
+    fn about(&mut self, field: Field) {
+        let made = format!(in self.alloc; "({field:?})");
+        self.formed(made);
+    }
+
+    // The identifier of an extension that was refused.
+    fn about_identifier(&mut self, octets: &[u8]) {
+        self.text("(");
+        self.octets(octets);
+        self.text(")");
+    }
+
+    /// Why octets were refused, and what that speaks of.
+    pub fn fault(&mut self, error: &DecodeError) {
+        self.text(error.name());
+        match error {
+            DecodeError::Missing(field)
+            | DecodeError::Duplicate(field)
+            | DecodeError::Critical(field)
+            | DecodeError::NotCritical(field)
+            | DecodeError::WrongResources(field) => self.about(*field),
+            DecodeError::UnexpectedCritical(id) | DecodeError::InvalidExtension(id) => {
+                self.about_identifier(id.as_bytes());
+            }
+            _ => {}
+        }
+    }
+
+    /// `refused` and why.
+    pub fn refused(&mut self, error: &DecodeError) {
+        self.text("refused ");
+        self.fault(error);
+    }
+
+    // The octets; `same` where those of the question begin so.
+    fn known(&mut self, octets: &[u8]) {
+        if !octets.is_empty() && self.asked.starts_with(octets) {
+            self.text("same");
+        } else {
+            self.octets(octets);
+        }
+    }
+
+    /// `FROM-TO`.
+    pub fn range(&mut self, from: usize, to: usize) {
+        self.count(from);
+        self.text("-");
+        self.count(to);
+    }
+
+    /// What was written, or why it was not.
+    pub fn written(&mut self, answer: Result<(), EncodeError>, octets: &[u8]) {
+        match answer {
+            Ok(()) => self.octets(octets),
+            Err(error) => self.text(error.name()),
+        }
+    }
+
+    /// What was written of a value that was read; `same` where the question begins so.
+    pub fn again(&mut self, answer: Result<(), EncodeError>, octets: &[u8]) {
+        self.field("written");
+        match answer {
+            Ok(()) => self.known(octets),
+            Err(error) => self.text(error.name()),
+        }
+    }
+
+    /// `FROM-TO`, where a cursor stands and its end.
+    pub fn span(&mut self, cursor: &Cursor<'_>) {
+        let (from, to) = cursor.span();
+        self.range(from, to);
+    }
+
+    /// What is left of the octets.
+    pub fn left(&mut self, cursor: &Cursor<'_>) {
+        self.field("left");
+        self.span(cursor);
+    }
+
+    /// `same` where another answer is the one that was given first, else that answer.
+    pub fn compared(&mut self, first: &Answer, other: &Answer) {
+        if other.has_failed {
+            self.fail();
+        }
+        if other.line() == first.line() {
+            self.text("same");
+        } else {
+            self.text("[");
+            self.text(other.line());
+            self.text("]");
+        }
+    }
+}

@@ -1,0 +1,201 @@
+//! Values of DER that a cursor reads.
+use crate::answer::Answer;
+use crate::show::{Show, Twin, read};
+use crate::words::Words;
+use rpki_der::{Cursor, DecodeError, Oid, Piece};
+use std::alloc::{AllocError, Global};
+
+fn content(out: &mut Answer, it: &Cursor<'_>) {
+    out.field("content");
+    out.octets(it.rest());
+    out.field("span");
+    out.span(it);
+}
+
+fn inside(out: &mut Answer, found: Result<Cursor<'_>, DecodeError>) {
+    match found {
+        Ok(it) => {
+            out.text("ok");
+            content(out, &it);
+        }
+        Err(error) => out.refused(&error),
+    }
+}
+
+fn optional(out: &mut Answer, found: Result<Option<Cursor<'_>>, DecodeError>) {
+    match found {
+        Ok(None) => out.text("none"),
+        Ok(Some(it)) => {
+            out.text("ok");
+            content(out, &it);
+        }
+        Err(error) => out.refused(&error),
+    }
+}
+
+fn nothing(out: &mut Answer, found: Result<(), DecodeError>) {
+    match found {
+        Ok(()) => out.text("ok"),
+        Err(error) => out.refused(&error),
+    }
+}
+
+impl Show for Piece {
+    fn show(&self, out: &mut Answer) {
+        out.field("piece");
+        out.octets(self.as_bytes());
+        out.field("cursor");
+        out.yes(self.cursor().rest() == self.as_bytes());
+    }
+}
+
+impl Twin for Piece {
+    fn twin(&self, _alloc: Global) -> Result<Piece, AllocError> {
+        self.try_clone()
+    }
+}
+
+impl Show for Oid {
+    fn show(&self, out: &mut Answer) {
+        out.field("oid");
+        out.octets(self.as_bytes());
+    }
+}
+
+impl Twin for Oid {
+    fn twin(&self, _alloc: Global) -> Result<Oid, AllocError> {
+        self.try_clone()
+    }
+}
+
+fn identifier(out: &mut Answer, found: Result<&[u8], DecodeError>) {
+    match found {
+        Ok(octets) => {
+            out.text("ok");
+            out.field("oid");
+            out.octets(octets);
+        }
+        Err(error) => out.refused(&error),
+    }
+}
+
+fn bits(out: &mut Answer, found: Result<(u8, Cursor<'_>), DecodeError>) {
+    match found {
+        Ok((unused, it)) => {
+            out.text("ok");
+            out.field("unused");
+            out.count(usize::from(unused));
+            content(out, &it);
+        }
+        Err(error) => out.refused(&error),
+    }
+}
+
+fn number(out: &mut Answer, found: Result<u32, DecodeError>) {
+    match found {
+        Ok(n) => {
+            out.text("ok");
+            out.field("number");
+            out.number(n);
+        }
+        Err(error) => out.refused(&error),
+    }
+}
+
+fn flag(out: &mut Answer, found: Result<bool, DecodeError>) {
+    match found {
+        Ok(holds) => {
+            out.text("ok");
+            out.field("value");
+            out.yes(holds);
+        }
+        Err(error) => out.refused(&error),
+    }
+}
+
+// Each of the next four says whether the call is one of its own.
+fn tagged(words: &Words<'_>, out: &mut Answer) -> bool {
+    let octets = words.bytes(out, 2);
+    let mut cursor = Cursor::new(&octets);
+    if words.is(0, "value") {
+        inside(out, cursor.take_value(words.octet(1)));
+    } else if words.is(0, "optional-value") {
+        optional(out, cursor.take_opt_value(words.octet(1)));
+    } else {
+        return false;
+    }
+    out.left(&cursor);
+    true
+}
+
+fn enclosing(words: &Words<'_>, cursor: &mut Cursor<'_>, out: &mut Answer) -> bool {
+    if words.is(0, "sequence") {
+        inside(out, cursor.take_sequence());
+    } else if words.is(0, "optional-sequence") {
+        optional(out, cursor.take_opt_sequence());
+    } else if words.is(0, "octets") {
+        inside(out, cursor.take_octets());
+    } else if words.is(0, "bits") {
+        bits(out, cursor.take_bits());
+    } else {
+        return false;
+    }
+    true
+}
+
+fn simple(words: &Words<'_>, cursor: &mut Cursor<'_>, out: &mut Answer) -> bool {
+    if words.is(0, "oid") {
+        identifier(out, cursor.take_oid());
+    } else if words.is(0, "u32") {
+        number(out, cursor.take_u32());
+    } else if words.is(0, "null") {
+        nothing(out, cursor.take_null());
+    } else if words.is(0, "boolean") {
+        flag(out, cursor.take_bool_or_false());
+    } else {
+        return false;
+    }
+    true
+}
+
+fn passed(words: &Words<'_>, cursor: &mut Cursor<'_>, out: &mut Answer) -> bool {
+    if words.is(0, "skip") {
+        nothing(out, cursor.skip_one());
+    } else if words.is(0, "skip-all") {
+        nothing(out, cursor.skip_all());
+    } else if words.is(0, "capture") {
+        read(out, cursor.capture_one());
+    } else if words.is(0, "capture-rest") {
+        read(out, cursor.capture_rest());
+    } else if words.is(0, "finish") {
+        nothing(out, cursor.fork().finish());
+        out.field("empty");
+        out.yes(cursor.is_empty());
+    } else {
+        return false;
+    }
+    true
+}
+
+fn untagged(words: &Words<'_>, out: &mut Answer) -> bool {
+    let octets = words.bytes(out, 1);
+    let mut cursor = Cursor::new(&octets);
+    let known = enclosing(words, &mut cursor, out)
+        || simple(words, &mut cursor, out)
+        || passed(words, &mut cursor, out);
+    if known {
+        out.left(&cursor);
+    }
+    known
+}
+
+/// One call of a cursor over the octets, and where the cursor then stands. It answers whether the
+/// question is one of these.
+pub fn value(words: &Words<'_>, out: &mut Answer) -> bool {
+    if words.is(0, "identifier") {
+        let content = words.bytes(out, 1);
+        read(out, Oid::new(content));
+        return true;
+    }
+    tagged(words, out) || untagged(words, out)
+}

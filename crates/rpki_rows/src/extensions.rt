@@ -1,0 +1,297 @@
+//! Single extensions: the content of a kind, and the whole extension written again.
+use crate::answer::Answer;
+use crate::parts::key_identifier;
+use crate::sets::mode;
+use crate::show::{Show, Twin, read};
+use crate::uris::{https, rsync};
+use crate::words::Words;
+use crate::writing::{behind, started};
+use rpki_blocks::Overclaim;
+use rpki_der::{Cursor, DecodeError, EncodeError};
+use rpki_ext::{
+    ExtendedKeyUsage, KeyUsage, Sia, encode_authority_information_access,
+    encode_authority_key_identifier, encode_basic_constraints, encode_certificate_policies,
+    encode_crl_distribution_points, encode_extended_key_usage, encode_key_usage,
+    encode_subject_information_access, encode_subject_key_identifier,
+    take_authority_information_access, take_authority_key_identifier, take_basic_constraints,
+    take_certificate_policies, take_crl_distribution_points, take_extended_key_usage,
+    take_extension, take_key_usage, take_subject_information_access, take_subject_key_identifier,
+};
+use rpki_parts::{KeyIdentifier, Rsync};
+use std::alloc::{AllocError, Global};
+
+/// What was written of a value.
+pub fn written(out: &mut Answer, answer: Result<(), EncodeError>, octets: &[u8]) {
+    out.field("written");
+    behind(out, answer, octets);
+}
+
+fn whole(out: &mut Answer, found: Result<(&[u8], bool, Cursor<'_>), DecodeError>) {
+    match found {
+        Ok((id, critical, content)) => {
+            out.text("ok");
+            out.field("oid");
+            out.octets(id);
+            out.field("critical");
+            out.yes(critical);
+            out.field("content");
+            out.octets(content.rest());
+            out.field("span");
+            out.span(&content);
+        }
+        Err(error) => out.refused(&error),
+    }
+}
+
+fn basic_constraints(out: &mut Answer, found: Result<bool, DecodeError>) {
+    match found {
+        Ok(ca) => {
+            out.text("ok");
+            out.field("basic-ca");
+            out.yes(ca);
+            let mut octets = started(out);
+            let answer = encode_basic_constraints(&mut octets, ca);
+            written(out, answer, &octets);
+        }
+        Err(error) => out.refused(&error),
+    }
+}
+
+fn subject_key_identifier(out: &mut Answer, found: Result<KeyIdentifier, DecodeError>) {
+    match found {
+        Ok(it) => {
+            out.text("ok");
+            out.field("subject-key-identifier");
+            key_identifier(out, Some(it));
+            let mut octets = started(out);
+            let answer = encode_subject_key_identifier(&mut octets, it);
+            written(out, answer, &octets);
+        }
+        Err(error) => out.refused(&error),
+    }
+}
+
+fn authority_key_identifier(out: &mut Answer, found: Result<KeyIdentifier, DecodeError>) {
+    match found {
+        Ok(it) => {
+            out.text("ok");
+            out.field("authority-key-identifier");
+            key_identifier(out, Some(it));
+            let mut octets = started(out);
+            let answer = encode_authority_key_identifier(&mut octets, it);
+            written(out, answer, &octets);
+        }
+        Err(error) => out.refused(&error),
+    }
+}
+
+/// The usage's name.
+pub fn usage(it: KeyUsage) -> &'static str {
+    match it {
+        KeyUsage::Ca => "Ca",
+        KeyUsage::Ee => "Ee",
+    }
+}
+
+fn usage_bits(out: &mut Answer, it: KeyUsage) {
+    out.field("written-bits");
+    let mut octets = started(out);
+    let answer = it.encode(&mut octets);
+    behind(out, answer, &octets);
+}
+
+fn key_usage(out: &mut Answer, found: Result<KeyUsage, DecodeError>) {
+    match found {
+        Ok(it) => {
+            out.text("ok");
+            out.field("key-usage");
+            out.text(usage(it));
+            let mut octets = started(out);
+            let answer = encode_key_usage(&mut octets, it);
+            written(out, answer, &octets);
+            usage_bits(out, it);
+        }
+        Err(error) => out.refused(&error),
+    }
+}
+
+/// The purposes as they are written, or `none`.
+pub fn purposes(out: &mut Answer, it: Option<&ExtendedKeyUsage>) {
+    match it {
+        Some(it) => {
+            let mut octets = started(out);
+            let answer = it.encode_ref(&mut octets);
+            behind(out, answer, &octets);
+        }
+        None => out.text("none"),
+    }
+}
+
+impl Show for ExtendedKeyUsage {
+    fn show(&self, out: &mut Answer) {
+        out.field("extended-key-usage");
+        purposes(out, Some(self));
+        let mut octets = started(out);
+        let answer = encode_extended_key_usage(&mut octets, self);
+        written(out, answer, &octets);
+    }
+}
+
+impl Twin for ExtendedKeyUsage {
+    fn twin(&self, _alloc: Global) -> Result<ExtendedKeyUsage, AllocError> {
+        self.try_clone()
+    }
+}
+
+fn crl_distribution_points(out: &mut Answer, found: Result<Rsync, DecodeError>) {
+    match found {
+        Ok(it) => {
+            out.text("ok");
+            out.field("crl-uri");
+            rsync(out, Some(&it));
+            let mut octets = started(out);
+            let answer = encode_crl_distribution_points(&mut octets, &it);
+            written(out, answer, &octets);
+        }
+        Err(error) => out.refused(&error),
+    }
+}
+
+fn authority_information_access(out: &mut Answer, found: Result<Rsync, DecodeError>) {
+    match found {
+        Ok(it) => {
+            out.text("ok");
+            out.field("ca-issuer");
+            rsync(out, Some(&it));
+            let mut octets = started(out);
+            let answer = encode_authority_information_access(&mut octets, &it);
+            written(out, answer, &octets);
+        }
+        Err(error) => out.refused(&error),
+    }
+}
+
+fn sia_fields(out: &mut Answer, it: &Sia) {
+    out.field("ca-repository");
+    rsync(out, it.ca_repository());
+    out.field("rpki-manifest");
+    rsync(out, it.rpki_manifest());
+    out.field("signed-object");
+    rsync(out, it.signed_object());
+    out.field("rpki-notify");
+    https(out, it.rpki_notify());
+}
+
+fn sia_written(out: &mut Answer, it: &Sia) {
+    let mut octets = started(out);
+    let answer = encode_subject_information_access(
+        &mut octets,
+        it.ca_repository(),
+        it.rpki_manifest(),
+        it.signed_object(),
+        it.rpki_notify(),
+    );
+    written(out, answer, &octets);
+}
+
+fn subject_information_access(out: &mut Answer, found: Result<Sia, DecodeError>) {
+    match found {
+        Ok(it) => {
+            out.text("ok");
+            sia_fields(out, &it);
+            sia_written(out, &it);
+        }
+        Err(error) => out.refused(&error),
+    }
+}
+
+fn certificate_policies(out: &mut Answer, found: Result<Overclaim, DecodeError>) {
+    match found {
+        Ok(it) => {
+            out.text("ok");
+            out.field("overclaim");
+            out.text(mode(it));
+            let mut octets = started(out);
+            let answer = encode_certificate_policies(&mut octets, it);
+            written(out, answer, &octets);
+        }
+        Err(error) => out.refused(&error),
+    }
+}
+
+// The same by the call of the type.
+fn usage_by_type(out: &mut Answer, cursor: &mut Cursor<'_>) {
+    out.field("by-type");
+    out.yes(ExtendedKeyUsage::take_from(cursor).is_ok());
+}
+
+fn sia_by_type(out: &mut Answer, cursor: &mut Cursor<'_>) {
+    out.field("by-type");
+    out.yes(Sia::take_from(cursor).is_ok());
+}
+
+// Each of the next three says whether the kind is one of its own.
+fn of_the_key(words: &Words<'_>, cursor: &mut Cursor<'_>, out: &mut Answer) -> bool {
+    if words.is(1, "subject-key-identifier") {
+        subject_key_identifier(out, take_subject_key_identifier(cursor));
+    } else if words.is(1, "authority-key-identifier") {
+        authority_key_identifier(out, take_authority_key_identifier(cursor));
+    } else if words.is(1, "key-usage") {
+        key_usage(out, take_key_usage(cursor));
+    } else if words.is(1, "extended-key-usage") {
+        let mut again = cursor.fork();
+        read(out, take_extended_key_usage(cursor));
+        usage_by_type(out, &mut again);
+    } else {
+        return false;
+    }
+    true
+}
+
+fn of_uris(words: &Words<'_>, cursor: &mut Cursor<'_>, out: &mut Answer) -> bool {
+    if words.is(1, "crl-distribution-points") {
+        crl_distribution_points(out, take_crl_distribution_points(cursor));
+    } else if words.is(1, "authority-information-access") {
+        authority_information_access(out, take_authority_information_access(cursor));
+    } else if words.is(1, "subject-information-access") {
+        let mut again = cursor.fork();
+        subject_information_access(out, take_subject_information_access(cursor));
+        sia_by_type(out, &mut again);
+    } else {
+        return false;
+    }
+    true
+}
+
+fn of_the_subject(words: &Words<'_>, cursor: &mut Cursor<'_>, out: &mut Answer) -> bool {
+    if words.is(1, "basic-constraints") {
+        basic_constraints(out, take_basic_constraints(cursor));
+    } else if words.is(1, "certificate-policies") {
+        certificate_policies(out, take_certificate_policies(cursor));
+    } else {
+        return false;
+    }
+    true
+}
+
+fn content(words: &Words<'_>, out: &mut Answer) -> bool {
+    let octets = words.asked(out, 2);
+    let mut cursor = Cursor::new(&octets);
+    let known = of_the_key(words, &mut cursor, out)
+        || of_uris(words, &mut cursor, out)
+        || of_the_subject(words, &mut cursor, out);
+    if known {
+        out.left(&cursor);
+    }
+    known
+}
+
+/// The content of an extension of a kind, or else a whole extension.
+pub fn extension(words: &Words<'_>, out: &mut Answer) {
+    if !content(words, out) {
+        let octets = words.bytes(out, 1);
+        let mut cursor = Cursor::new(&octets);
+        whole(out, take_extension(&mut cursor));
+        out.left(&cursor);
+    }
+}

@@ -1,0 +1,147 @@
+//! Reads questions on standard input, one a line, and prints for each a line with all that the
+//! public calls of the libraries answer.
+//!
+//! A question is a row of words with one space between. HEX is octets in hexadecimal digits, `-`
+//! for none; TEXT stands as it is, or is `octets:HEX`. A line that is empty or begins with `#` is
+//! printed as it stands.
+//!
+//! Certificates:
+//! - `certificate HEX`: a certificate, by each of the four calls that read one.
+//! - `data HEX`: what is signed of a certificate.
+//! - `make NAME=VALUE ..`: a certificate of fields, which have the names that answers give them,
+//!   and moments as `YYYYMMDDhhmmss`. `signer=` is a public key; `set-by=` (`setter`, `iterator`,
+//!   `builder`) says how resources are set; `again=yes` first sets each field to another value
+//!   and back.
+//!
+//! Extensions:
+//! - `extension HEX`: identifier, flag and content.
+//! - `extension KIND HEX`: the content of a kind, which is `basic-constraints`,
+//!   `subject-key-identifier`, `authority-key-identifier`, `key-usage`, `extended-key-usage`,
+//!   `crl-distribution-points`, `authority-information-access`, `subject-information-access` or
+//!   `certificate-policies`.
+//! - `addresses HEX`, `asns HEX`: the contents of the two with resources.
+//!
+//! Parts:
+//! - `serial`, `time`, `validity`, `name`, `key`, `key-identifier` and `algorithm`, each with
+//!   HEX.
+//! - `signed HEX`, `signed HEX KEY`: the content of signed data, and whether the stand-in
+//!   verifies it with a public key.
+//! - `rsync TEXT`, `https TEXT`, `parent TEXT`: a URI, and the parent of an rsync URI.
+//! - `number HEX`, `serial-of NUMBER`: a serial of octets, and of a number in hexadecimal digits.
+//! - `moment YEAR MONTH DAY HOUR MINUTE SECOND`: a time.
+//! - `compare serials A B`, and so `times`, `rsync`, `https`: two of them.
+//!
+//! Values of DER, by one call of a cursor; TAG is an octet in hexadecimal:
+//! - `value TAG HEX`, `optional-value TAG HEX`.
+//! - `sequence`, `optional-sequence`, `octets`, `bits`, `oid`, `u32`, `null`, `boolean`, `skip`,
+//!   `skip-all`, `capture`, `capture-rest` and `finish`, each with HEX.
+//! - `identifier HEX`: the content of an OBJECT IDENTIFIER.
+//! - `write value TAG HEX`, `write parts TAG HEX HEX`, `write boolean yes`, `write unsigned HEX`,
+//!   `write bits UNUSED HEX`, `write oid HEX`, `write extension HEX critical HEX` (or `plain`).
+//!
+//! Sets, as `LOW-HIGH,..` or `-`; addresses are in hexadecimal digits, with IPv4 in the upper 32
+//! of 128 bits, and AS numbers in decimal digits:
+//! - `sets addresses SET SET POINTS`, `sets asns SET SET POINTS`: an issuer's set, what is listed
+//!   under it (which may be `inherit`), and numbers that may be in the first.
+//! - `prefix ADDRESS LENGTH`: the block of a prefix.
+//! - `overclaim HEX`, `mode Refuse`, `mode Trim`: the mode of an identifier, the identifiers of a
+//!   mode.
+//!
+//! The program:
+//! - `run TEXT`: an input, which is all behind the first space, with `|` for LF; what is printed
+//!   has `|` for LF too.
+//!
+//! An answer begins with `ok`, `none` or `refused FAULT`, or is `unfit` where the caller's
+//! condition of the call isn't met. Then come fields, `NAME=VALUE`, most under the names of the
+//! getters: octets in hexadecimal, URIs and moments as text, key bits behind `rpki:` or `router:`
+//! for what the key is allowed. `left=FROM-TO` is what is left of the octets. `written` is what
+//! is written of the value, `same` where the question begins so; of a certificate, `data` and
+//! `signature-value` are places in it, and `data-written` is what is written of the fields,
+//! `same` where that is the data. `copy=same`: the copy shows the same fields; `take=same` and
+//! the like: another call gives the same answer, and stands in brackets where it gives another.
+#![tactic(auto)]
+
+mod answer;
+mod certificates;
+mod cursors;
+mod extensions;
+mod making;
+mod parts;
+mod runs;
+mod sets;
+mod show;
+mod uris;
+mod words;
+mod writing;
+
+use answer::Answer;
+use std::alloc::{AllocError, Global};
+use std::io::{self, BufRead, BufReader};
+use words::Words;
+
+// Each of the next two says whether the question is one of its own.
+fn of_certificates(words: &Words<'_>, out: &mut Answer) -> bool {
+    if words.is(0, "certificate") {
+        certificates::certificate(words, out);
+    } else if words.is(0, "data") {
+        certificates::data(words, out);
+    } else if words.is(0, "make") {
+        making::make(words, out);
+    } else if words.is(0, "extension") {
+        extensions::extension(words, out);
+    } else {
+        return false;
+    }
+    true
+}
+
+fn of_several(words: &Words<'_>, out: &mut Answer) -> bool {
+    if words.is(0, "compare") {
+        parts::compare(words, out);
+    } else if words.is(0, "sets") {
+        sets::sets(words, out);
+    } else if words.is(0, "write") {
+        writing::write(words, out);
+    } else if words.is(0, "run") {
+        runs::answer(words, out);
+    } else {
+        return false;
+    }
+    true
+}
+
+fn answered(words: &Words<'_>, out: &mut Answer) {
+    let known = of_certificates(words, out)
+        || of_several(words, out)
+        || parts::part(words, out)
+        || uris::uri(words, out)
+        || sets::resources(words, out)
+        || cursors::value(words, out);
+    if !known {
+        out.text("unknown");
+    }
+}
+
+fn line_for(alloc: Global, line: &str) -> Result<Answer, AllocError> {
+    let mut out = Answer::new(alloc);
+    if line.is_empty() || line.starts_with('#') {
+        out.text(line);
+    } else {
+        let words = Words::of(alloc, line)?;
+        answered(&words, &mut out);
+    }
+    if out.has_failed() {
+        Err(AllocError)
+    } else {
+        Ok(out)
+    }
+}
+
+fn main(rt: HostRuntime) -> io::Result<()> {
+    let alloc = rt.alloc();
+    for line in BufReader::new(alloc, rt.reader())?.lines(alloc) {
+        let out = line_for(alloc, line?.as_str())?;
+        println!(rt; "{}", out.line())?;
+    }
+    Ok(())
+}

@@ -1,0 +1,331 @@
+//! Serial numbers, times, names, keys, algorithms and signed data.
+use crate::answer::Answer;
+use crate::show::{Show, Twin, found, made, read, read_plain};
+use crate::uris;
+use crate::words::{Words, hexadecimal};
+use rpki_der::{Cursor, DecodeError, EncodeError, Serial, Time};
+use rpki_parts::{
+    KeyIdentifier, Name, PublicKey, RpkiSignatureAlgorithm, SignedData, StandIn, Validity,
+};
+use std::alloc::{AllocError, Global};
+use std::cmp::Ordering;
+
+/// The serial number as it is written.
+pub fn serial(out: &mut Answer, it: Serial) {
+    let mut octets: Vec<u8> = Vec::new(out.alloc());
+    let answer = it.encode(&mut octets);
+    out.written(answer, &octets);
+}
+
+// The text of a time, whose length tells its kind.
+fn characters(out: &mut Answer, octets: &[u8]) {
+    match octets {
+        [0x17, 0x0d, text @ ..] | [0x18, 0x0f, text @ ..] => out.characters(text),
+        _ => out.octets(octets),
+    }
+}
+
+/// The time as it is written.
+pub fn time(out: &mut Answer, it: Time) {
+    let mut octets: Vec<u8> = Vec::new(out.alloc());
+    match it.encode_varied(&mut octets) {
+        Ok(()) => characters(out, &octets),
+        Err(error) => out.text(error.name()),
+    }
+}
+
+/// The algorithm as it is written.
+pub fn algorithm(out: &mut Answer, it: &RpkiSignatureAlgorithm) {
+    let mut octets: Vec<u8> = Vec::new(out.alloc());
+    let answer = it.x509_encode(&mut octets);
+    out.written(answer, &octets);
+}
+
+/// What the key may be used for, and its bits.
+pub fn public_key(out: &mut Answer, it: &PublicKey) {
+    if it.allow_rpki_cert() {
+        out.text("rpki:");
+    }
+    if it.allow_router_cert() {
+        out.text("router:");
+    }
+    out.octets(it.bits());
+}
+
+/// The identifier, or `none`.
+pub fn key_identifier(out: &mut Answer, it: Option<KeyIdentifier>) {
+    match it {
+        Some(it) => out.octets(it.as_octets().as_slice()),
+        None => out.text("none"),
+    }
+}
+
+impl Show for Serial {
+    fn show(&self, out: &mut Answer) {
+        out.field("serial");
+        serial(out, *self);
+    }
+}
+
+impl Show for Time {
+    fn show(&self, out: &mut Answer) {
+        out.field("time");
+        time(out, *self);
+    }
+}
+
+impl Show for Validity {
+    fn show(&self, out: &mut Answer) {
+        out.field("not-before");
+        time(out, self.not_before());
+        out.field("not-after");
+        time(out, self.not_after());
+        let mut octets: Vec<u8> = Vec::new(out.alloc());
+        let answer = self.encode(&mut octets);
+        out.again(answer, &octets);
+    }
+}
+
+impl Show for KeyIdentifier {
+    fn show(&self, out: &mut Answer) {
+        out.field("identifier");
+        key_identifier(out, Some(*self));
+        let mut octets: Vec<u8> = Vec::new(out.alloc());
+        let answer = self.encode_ref(&mut octets);
+        out.again(answer, &octets);
+        out.field("written-80");
+        let mut tagged: Vec<u8> = Vec::new(out.alloc());
+        let answer = self.encode_ref_as(&mut tagged, 0x80);
+        out.written(answer, &tagged);
+    }
+}
+
+impl Show for RpkiSignatureAlgorithm {
+    fn show(&self, out: &mut Answer) {
+        let mut octets: Vec<u8> = Vec::new(out.alloc());
+        let answer = self.x509_encode(&mut octets);
+        out.again(answer, &octets);
+        out.field("is-default");
+        out.yes(*self == RpkiSignatureAlgorithm::default());
+        out.field("is-without-parameter");
+        out.yes(*self == RpkiSignatureAlgorithm::without_parameter());
+    }
+}
+
+impl Show for Name {
+    fn show(&self, out: &mut Answer) {
+        out.field("name");
+        out.octets(self.as_bytes());
+        let mut octets: Vec<u8> = Vec::new(out.alloc());
+        let answer = self.encode_ref(&mut octets);
+        out.again(answer, &octets);
+    }
+}
+
+impl Twin for Name {
+    fn twin(&self, _alloc: Global) -> Result<Name, AllocError> {
+        self.try_clone()
+    }
+}
+
+fn subject_name(out: &mut Answer, found: Result<Name, EncodeError>) {
+    match found {
+        Ok(name) => out.octets(name.as_bytes()),
+        Err(error) => out.text(error.name()),
+    }
+}
+
+impl Show for PublicKey {
+    fn show(&self, out: &mut Answer) {
+        out.field("key");
+        public_key(out, self);
+        out.field("key-identifier");
+        key_identifier(out, Some(self.key_identifier()));
+        out.field("subject-name");
+        let found = self.to_subject_name(out.alloc());
+        subject_name(out, found);
+        let mut octets: Vec<u8> = Vec::new(out.alloc());
+        let answer = self.encode_ref(&mut octets);
+        out.again(answer, &octets);
+    }
+}
+
+impl Twin for PublicKey {
+    fn twin(&self, _alloc: Global) -> Result<PublicKey, AllocError> {
+        self.try_clone()
+    }
+}
+
+impl Show for SignedData {
+    fn show(&self, out: &mut Answer) {
+        out.field("data");
+        out.octets(self.data());
+        out.field("algorithm");
+        algorithm(out, self.signature().algorithm());
+        out.field("signature");
+        out.octets(self.signature().value());
+        let mut octets: Vec<u8> = Vec::new(out.alloc());
+        let answer = self.encode_ref(&mut octets);
+        out.again(answer, &octets);
+    }
+}
+
+impl Twin for SignedData {
+    fn twin(&self, _alloc: Global) -> Result<SignedData, AllocError> {
+        self.try_clone()
+    }
+}
+
+fn verified(out: &mut Answer, it: &SignedData, key: Result<PublicKey, DecodeError>) {
+    out.field("verifies");
+    match key {
+        Ok(public) => out.yes(it.verify_signature(&public, &StandIn).is_ok()),
+        Err(error) => out.fault(&error),
+    }
+}
+
+fn signed(words: &Words<'_>, out: &mut Answer, it: &SignedData) {
+    found(out, it);
+    if !words.is(2, "-") {
+        let octets = words.bytes(out, 2);
+        let mut cursor = Cursor::new(&octets);
+        verified(out, it, PublicKey::take_from(&mut cursor));
+    }
+}
+
+fn signed_read(words: &Words<'_>, out: &mut Answer, found: Result<SignedData, DecodeError>) {
+    match found {
+        Ok(it) => signed(words, out, &it),
+        Err(error) => out.refused(&error),
+    }
+}
+
+// Each of the next two says whether the part is one of its own.
+fn dated(words: &Words<'_>, cursor: &mut Cursor<'_>, out: &mut Answer) -> bool {
+    if words.is(0, "serial") {
+        read_plain(out, Serial::take_from(cursor));
+    } else if words.is(0, "time") {
+        read_plain(out, Time::take_from(cursor));
+    } else if words.is(0, "validity") {
+        read_plain(out, Validity::take_from(cursor));
+    } else if words.is(0, "algorithm") {
+        read_plain(out, RpkiSignatureAlgorithm::x509_take_from(cursor));
+    } else {
+        return false;
+    }
+    true
+}
+
+fn keyed(words: &Words<'_>, cursor: &mut Cursor<'_>, out: &mut Answer) -> bool {
+    if words.is(0, "key-identifier") {
+        read_plain(out, KeyIdentifier::take_from(cursor));
+    } else if words.is(0, "name") {
+        read(out, Name::take_from(cursor));
+    } else if words.is(0, "key") {
+        read(out, PublicKey::take_from(cursor));
+    } else if words.is(0, "signed") {
+        let found = SignedData::from_constructed(cursor);
+        signed_read(words, out, found);
+    } else {
+        return false;
+    }
+    true
+}
+
+fn taken(words: &Words<'_>, out: &mut Answer) -> bool {
+    let octets = words.asked(out, 1);
+    let mut cursor = Cursor::new(&octets);
+    let known = dated(words, &mut cursor, out) || keyed(words, &mut cursor, out);
+    if known {
+        out.left(&cursor);
+    }
+    known
+}
+
+// The serial of a number, and that of its lower half.
+fn serial_of(out: &mut Answer, n: u128) {
+    out.text("ok");
+    out.field("serial");
+    serial(out, Serial::from(n));
+    out.field("serial-of-lower-half");
+    let low = u64::try_from(n & 0xFFFF_FFFF_FFFF_FFFF).unwrap_or(0);
+    serial(out, Serial::from(low));
+}
+
+fn moment(words: &Words<'_>) -> Option<Time> {
+    Time::utc(
+        words.signed(1),
+        words.number(2),
+        words.number(3),
+        words.number(4),
+        words.number(5),
+        words.number(6),
+    )
+}
+
+fn given(words: &Words<'_>, out: &mut Answer) -> bool {
+    if words.is(0, "number") {
+        let octets = words.octets(out, 1);
+        made(out, Serial::from_slice(&octets));
+    } else if words.is(0, "serial-of") {
+        serial_of(out, hexadecimal(words.at(1)));
+    } else if words.is(0, "moment") {
+        made(out, moment(words));
+    } else {
+        return false;
+    }
+    true
+}
+
+/// A part of a certificate. It answers whether the question is of one.
+pub fn part(words: &Words<'_>, out: &mut Answer) -> bool {
+    given(words, out) || taken(words, out)
+}
+
+fn order(out: &mut Answer, it: Ordering) {
+    out.text("ok");
+    out.field("order");
+    out.text(match it {
+        Ordering::Less => "less",
+        Ordering::Equal => "equal",
+        Ordering::Greater => "greater",
+    });
+}
+
+fn ordered<T: Ord + Copy>(out: &mut Answer, one: Option<T>, other: Option<T>) {
+    match (one, other) {
+        (Some(a), Some(b)) => {
+            order(out, a.cmp(&b));
+            out.field("equal");
+            out.yes(a == b);
+            out.field("less");
+            out.yes(a < b);
+        }
+        _ => out.text("none"),
+    }
+}
+
+fn serials(words: &Words<'_>, out: &mut Answer) {
+    let one = words.octets(out, 2);
+    let other = words.octets(out, 3);
+    ordered(out, Serial::from_slice(&one), Serial::from_slice(&other));
+}
+
+fn times(words: &Words<'_>, out: &mut Answer) {
+    let one = words.bytes(out, 2);
+    let other = words.bytes(out, 3);
+    let first = Time::take_from(&mut Cursor::new(&one)).ok();
+    let second = Time::take_from(&mut Cursor::new(&other)).ok();
+    ordered(out, first, second);
+}
+
+/// Two values of a kind.
+pub fn compare(words: &Words<'_>, out: &mut Answer) {
+    if words.is(1, "serials") {
+        serials(words, out);
+    } else if words.is(1, "times") {
+        times(words, out);
+    } else {
+        uris::compare(words, out);
+    }
+}

@@ -1,0 +1,418 @@
+//! Sets of addresses and of AS numbers.
+use crate::answer::Answer;
+use crate::extensions::written;
+use crate::words::{Words, decimal, hexadecimal};
+use crate::writing::{behind, started};
+use rpki_blocks::{
+    Addr, AsResources, Asn, Block, BlocksBuilder, Bound, Chain, Inherited, IpBlock, IpBlocks,
+    IpResources, IssueError, Overclaim, Prefix, Resources,
+};
+use rpki_der::{Cursor, DecodeError};
+use std::alloc::{AllocError, Global};
+
+/// A kind of numbers that sets are made of.
+pub trait Kind: Bound {
+    /// The number of a word; the greatest where it is too great.
+    fn of(word: &str) -> Self;
+
+    /// The number.
+    fn print(self, out: &mut Answer);
+
+    /// What only sets of this kind have.
+    fn print_more(out: &mut Answer, set: &Chain<Self>);
+
+    /// The extension of what is listed.
+    fn print_extension(
+        out: &mut Answer,
+        set: &Chain<Self>,
+        listed: &Resources<Self>,
+        mode: Overclaim,
+    );
+}
+
+// IPv4 where the set is of whole IPv4 addresses.
+fn four_of(out: &mut Answer, set: &IpBlocks) -> IpResources {
+    if set.is_v4() {
+        let copy = set.try_clone(out.alloc());
+        Resources::blocks(or_empty(out, copy))
+    } else {
+        Resources::missing()
+    }
+}
+
+impl Kind for Addr {
+    fn of(word: &str) -> Addr {
+        Addr::from(hexadecimal(word))
+    }
+
+    fn print(self, out: &mut Answer) {
+        out.address(self.to_bits());
+    }
+
+    fn print_more(out: &mut Answer, set: &IpBlocks) {
+        out.field("is-v4");
+        out.yes(set.is_v4());
+    }
+
+    fn print_extension(out: &mut Answer, set: &IpBlocks, listed: &IpResources, mode: Overclaim) {
+        let four = four_of(out, set);
+        let mut octets = started(out);
+        let answer = IpResources::encode_extension(out.alloc(), &mut octets, mode, &four, listed);
+        behind(out, answer, &octets);
+    }
+}
+
+impl Kind for Asn {
+    fn of(word: &str) -> Asn {
+        Asn::from(u32::try_from(decimal(word)).unwrap_or(u32::MAX))
+    }
+
+    fn print(self, out: &mut Answer) {
+        out.number(self.into_u32());
+    }
+
+    fn print_more(_out: &mut Answer, _set: &Chain<Asn>) {}
+
+    fn print_extension(out: &mut Answer, _set: &Chain<Asn>, listed: &AsResources, mode: Overclaim) {
+        let mut octets = started(out);
+        let answer = listed.encode_extension(out.alloc(), &mut octets, mode);
+        behind(out, answer, &octets);
+    }
+}
+
+/// The blocks of a set; `-` for none.
+pub fn set<B: Kind>(out: &mut Answer, blocks: &Chain<B>) {
+    let mut is_first = true;
+    for block in blocks.iter() {
+        if !is_first {
+            out.text(",");
+        }
+        is_first = false;
+        block.min().print(out);
+        out.text("-");
+        block.max().print(out);
+    }
+    if blocks.is_empty() {
+        out.text("-");
+    }
+}
+
+/// `missing`, `inherited`, or the blocks of the set.
+pub fn listed<B: Kind>(out: &mut Answer, resources: &Resources<B>) {
+    if !resources.is_present() {
+        out.text("missing");
+    }
+    if resources.is_inherited() {
+        out.text("inherited");
+    }
+    if let Some(blocks) = resources.as_blocks() {
+        set(out, blocks);
+    }
+}
+
+// The ends of a block.
+fn ends<B: Kind>(word: &str) -> (B, B) {
+    match word.split_once('-') {
+        Some((low, high)) => (B::of(low), B::of(high)),
+        None => (B::of(word), B::of(word)),
+    }
+}
+
+/// The blocks `LOW-HIGH,..` of a word; `-` for none.
+pub fn blocks<B: Kind>(alloc: Global, word: &str) -> Result<Vec<Block<B>>, AllocError> {
+    let mut all: Vec<Block<B>> = Vec::new(alloc);
+    if word != "-" && word != "none" {
+        for pair in word.split(',') {
+            all.push(Block::from(ends::<B>(pair)))?;
+        }
+    }
+    Ok(all)
+}
+
+fn chain<B: Kind>(alloc: Global, word: &str) -> Result<Chain<B>, AllocError> {
+    Chain::from_iter(alloc, blocks::<B>(alloc, word)?)
+}
+
+fn or_empty<B: Bound>(out: &mut Answer, found: Result<Chain<B>, AllocError>) -> Chain<B> {
+    match found {
+        Ok(blocks) => blocks,
+        Err(_) => {
+            out.fail();
+            Chain::empty(out.alloc())
+        }
+    }
+}
+
+fn known<B: Kind>(out: &mut Answer, word: &str) -> Chain<B> {
+    let found = chain::<B>(out.alloc(), word);
+    or_empty(out, found)
+}
+
+/// What a word lists: `inherit`, or blocks.
+pub fn resources_of<B: Kind>(out: &mut Answer, word: &str) -> Resources<B> {
+    if word == "inherit" {
+        Resources::inherit()
+    } else {
+        Resources::blocks(known::<B>(out, word))
+    }
+}
+
+fn built<B: Kind>(alloc: Global, word: &str) -> Result<Chain<B>, AllocError> {
+    let mut builder = BlocksBuilder::new(alloc);
+    for block in blocks::<B>(alloc, word)? {
+        builder.push(block)?;
+    }
+    builder.finalize()
+}
+
+fn shown<B: Kind>(out: &mut Answer, found: Result<Chain<B>, AllocError>) {
+    match found {
+        Ok(blocks) => set(out, &blocks),
+        Err(_) => out.fail(),
+    }
+}
+
+fn contains<B: Kind>(out: &mut Answer, blocks: &Chain<B>, points: &str) {
+    let mut is_first = true;
+    for point in points.split(',') {
+        if !is_first {
+            out.text(",");
+        }
+        is_first = false;
+        out.yes(blocks.contains(B::of(point)));
+    }
+}
+
+fn given<B: Kind>(out: &mut Answer, found: Result<Chain<B>, IssueError>) {
+    match found {
+        Ok(blocks) => set(out, &blocks),
+        Err(error) => out.text(error.name()),
+    }
+}
+
+fn issued<B: Kind>(out: &mut Answer, one: &Chain<B>, resources: &Resources<B>, mode: Overclaim) {
+    let found = one.verify_issued(out.alloc(), resources, mode);
+    given(out, found);
+}
+
+fn alone<B: Kind>(words: &Words<'_>, out: &mut Answer, one: &Chain<B>) {
+    out.text("ok");
+    out.field("set");
+    set(out, one);
+    out.field("built");
+    let found = built::<B>(out.alloc(), words.at(2));
+    shown(out, found);
+    out.field("is-empty");
+    out.yes(one.is_empty());
+    B::print_more(out, one);
+    out.field("contains");
+    contains(out, one, words.at(4));
+}
+
+fn under<B: Kind>(out: &mut Answer, one: &Chain<B>, resources: &Resources<B>) {
+    out.field("listed");
+    listed(out, resources);
+    out.field("issued-refuse");
+    issued(out, one, resources, Overclaim::Refuse);
+    out.field("issued-trim");
+    issued(out, one, resources, Overclaim::Trim);
+    out.field("written-refuse");
+    B::print_extension(out, one, resources, Overclaim::Refuse);
+    out.field("written-trim");
+    B::print_extension(out, one, resources, Overclaim::Trim);
+}
+
+fn both<B: Kind>(out: &mut Answer, one: &Chain<B>, other: &Chain<B>) {
+    out.field("within");
+    out.yes(one.is_encompassed(other));
+    out.field("contains-all");
+    out.yes(other.is_encompassed(one));
+    out.field("common");
+    let found = one.intersection(out.alloc(), other);
+    shown(out, found);
+    out.field("common-too");
+    let found = other.intersection(out.alloc(), one);
+    shown(out, found);
+}
+
+fn beside<B: Kind>(out: &mut Answer, one: &Chain<B>, found: Result<Chain<B>, Inherited>) {
+    out.field("other");
+    match found {
+        Ok(other) => {
+            set(out, &other);
+            both(out, one, &other);
+        }
+        Err(error) => out.text(error.name()),
+    }
+}
+
+// Two sets, and what is asked of them.
+fn pair<B: Kind>(words: &Words<'_>, out: &mut Answer) {
+    let one = known::<B>(out, words.at(2));
+    alone(words, out, &one);
+    let resources = resources_of::<B>(out, words.at(3));
+    under(out, &one, &resources);
+    let found = Chain::from_resources(out.alloc(), resources);
+    beside(out, &one, found);
+}
+
+/// Two sets of a kind.
+pub fn sets(words: &Words<'_>, out: &mut Answer) {
+    if words.is(1, "addresses") {
+        pair::<Addr>(words, out);
+    } else {
+        pair::<Asn>(words, out);
+    }
+}
+
+fn prefix_shown(out: &mut Answer, found: Result<IpBlocks, AllocError>) {
+    match found {
+        Ok(blocks) => {
+            out.text("ok");
+            out.field("set");
+            set(out, &blocks);
+            Addr::print_more(out, &blocks);
+        }
+        Err(_) => out.fail(),
+    }
+}
+
+fn prefix(out: &mut Answer, address: u128, len: u8) {
+    if len <= 128 {
+        let block = IpBlock::from(Prefix::new(address, len));
+        let found = IpBlocks::from_iter(out.alloc(), [block]);
+        prefix_shown(out, found);
+    } else {
+        out.text("unfit");
+    }
+}
+
+/// The mode's name.
+pub fn mode(it: Overclaim) -> &'static str {
+    match it {
+        Overclaim::Refuse => "Refuse",
+        Overclaim::Trim => "Trim",
+    }
+}
+
+fn mode_of(out: &mut Answer, name: &str, found: Option<Overclaim>) {
+    out.field(name);
+    out.text(match found {
+        Some(it) => mode(it),
+        None => "none",
+    });
+}
+
+fn overclaim(words: &Words<'_>, out: &mut Answer) {
+    let octets = words.octets(out, 1);
+    out.text("ok");
+    mode_of(out, "policy", Overclaim::from_policy(&octets));
+    mode_of(out, "ip-resources", Overclaim::from_ip_res(&octets));
+    mode_of(out, "as-resources", Overclaim::from_as_res(&octets));
+}
+
+/// The mode of a word.
+pub fn named_mode(word: &str) -> Overclaim {
+    if word == "Trim" {
+        Overclaim::Trim
+    } else {
+        Overclaim::Refuse
+    }
+}
+
+fn identifiers(out: &mut Answer, it: Overclaim) {
+    out.text("ok");
+    out.field("mode");
+    out.text(mode(it));
+    out.field("policy");
+    out.octets(it.policy_id());
+    out.field("ip-resources");
+    out.octets(it.ip_res_id());
+    out.field("as-resources");
+    out.octets(it.as_res_id());
+}
+
+fn family(out: &mut Answer, it: Option<&IpResources>) {
+    match it {
+        Some(it) => listed(out, it),
+        None => out.text("absent"),
+    }
+}
+
+fn families_written(out: &mut Answer, v4: &IpResources, v6: &IpResources) {
+    let mut octets = started(out);
+    let mode = Overclaim::Refuse;
+    let answer = IpResources::encode_extension(out.alloc(), &mut octets, mode, v4, v6);
+    written(out, answer, &octets);
+}
+
+fn families_or_missing(out: &mut Answer, v4: Option<IpResources>, v6: Option<IpResources>) {
+    let v4 = v4.unwrap_or(IpResources::missing());
+    let v6 = v6.unwrap_or(IpResources::missing());
+    families_written(out, &v4, &v6);
+}
+
+fn families(
+    out: &mut Answer,
+    found: Result<(Option<IpResources>, Option<IpResources>), DecodeError>,
+) {
+    match found {
+        Ok((v4, v6)) => {
+            out.text("ok");
+            out.field("v4-resources");
+            family(out, v4.as_ref());
+            out.field("v6-resources");
+            family(out, v6.as_ref());
+            families_or_missing(out, v4, v6);
+        }
+        Err(error) => out.refused(&error),
+    }
+}
+
+fn numbers(out: &mut Answer, found: Result<AsResources, DecodeError>) {
+    match found {
+        Ok(it) => {
+            out.text("ok");
+            out.field("as-resources");
+            listed(out, &it);
+            let mut octets = started(out);
+            let answer = it.encode_extension(out.alloc(), &mut octets, Overclaim::Trim);
+            written(out, answer, &octets);
+        }
+        Err(error) => out.refused(&error),
+    }
+}
+
+fn read_addresses(words: &Words<'_>, out: &mut Answer) {
+    let octets = words.bytes(out, 1);
+    let mut cursor = Cursor::new(&octets);
+    let found = IpResources::take_families_from(out.alloc(), &mut cursor);
+    families(out, found);
+    out.left(&cursor);
+}
+
+fn read_asns(words: &Words<'_>, out: &mut Answer) {
+    let octets = words.bytes(out, 1);
+    let mut cursor = Cursor::new(&octets);
+    let found = AsResources::take_from(out.alloc(), &mut cursor);
+    numbers(out, found);
+    out.left(&cursor);
+}
+
+/// Resources, a prefix or a mode. It answers whether the question is of one.
+pub fn resources(words: &Words<'_>, out: &mut Answer) -> bool {
+    if words.is(0, "addresses") {
+        read_addresses(words, out);
+    } else if words.is(0, "asns") {
+        read_asns(words, out);
+    } else if words.is(0, "prefix") {
+        prefix(out, hexadecimal(words.at(1)), words.small(2));
+    } else if words.is(0, "overclaim") {
+        overclaim(words, out);
+    } else if words.is(0, "mode") {
+        identifiers(out, named_mode(words.at(1)));
+    } else {
+        return false;
+    }
+    true
+}

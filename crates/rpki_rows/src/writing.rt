@@ -1,0 +1,122 @@
+//! Values of DER that are written.
+use crate::answer::Answer;
+use crate::words::Words;
+use rpki_der::{
+    EncodeError, Oid, put_bits, put_bool, put_extension, put_oid, put_parts, put_unsigned,
+    put_value,
+};
+
+/// A vector with an octet in it, behind which something is written.
+pub fn started(out: &mut Answer) -> Vec<u8> {
+    let mut octets: Vec<u8> = Vec::new(out.alloc());
+    if octets.push(0x55).is_err() {
+        out.fail();
+    }
+    octets
+}
+
+/// What was written behind that octet, or why nothing was.
+pub fn behind(out: &mut Answer, answer: Result<(), EncodeError>, octets: &[u8]) {
+    match octets {
+        [0x55, rest @ ..] => out.written(answer, rest),
+        _ => out.text("clobbered"),
+    }
+}
+
+fn done(out: &mut Answer, answer: Result<(), EncodeError>, octets: &[u8]) {
+    out.text("ok");
+    out.field("written");
+    behind(out, answer, octets);
+}
+
+fn tagged(words: &Words<'_>, out: &mut Answer, tag: u8) {
+    let head = words.octets(out, 3);
+    let tail = words.octets(out, 4);
+    let mut octets = started(out);
+    if tag % 32 < 31 {
+        let answer = if words.is(1, "value") {
+            put_value(&mut octets, tag, &head)
+        } else {
+            put_parts(&mut octets, tag, &head, &tail)
+        };
+        done(out, answer, &octets);
+    } else {
+        out.text("unfit");
+    }
+}
+
+fn with_identifier(words: &Words<'_>, out: &mut Answer, id: &Oid) {
+    let content = words.octets(out, 4);
+    let mut octets = started(out);
+    let answer = if words.is(1, "oid") {
+        put_oid(&mut octets, id.as_bytes())
+    } else {
+        put_extension(
+            &mut octets,
+            id.as_bytes(),
+            words.is(3, "critical"),
+            &content,
+        )
+    };
+    done(out, answer, &octets);
+}
+
+fn identified(words: &Words<'_>, out: &mut Answer) {
+    let content = words.bytes(out, 2);
+    match Oid::new(content) {
+        Ok(id) => with_identifier(words, out, &id),
+        Err(_) => out.text("unfit"),
+    }
+}
+
+fn some_bits(out: &mut Answer, unused: u8, content: &[u8]) {
+    let mut octets = started(out);
+    match content {
+        [.., last] if unused < 8 && *last % (1 << unused) == 0 => {
+            let answer = put_bits(&mut octets, unused, content);
+            done(out, answer, &octets);
+        }
+        _ => out.text("unfit"),
+    }
+}
+
+// The bits that are unused at the end are to be 0.
+fn bits(words: &Words<'_>, out: &mut Answer) {
+    let unused = words.small(2);
+    let content = words.octets(out, 3);
+    if content.is_empty() && unused == 0 {
+        let mut octets = started(out);
+        let answer = put_bits(&mut octets, unused, &content);
+        done(out, answer, &octets);
+    } else {
+        some_bits(out, unused, &content);
+    }
+}
+
+fn boolean(words: &Words<'_>, out: &mut Answer) {
+    let mut octets = started(out);
+    let answer = put_bool(&mut octets, words.is(2, "yes"));
+    done(out, answer, &octets);
+}
+
+fn unsigned(words: &Words<'_>, out: &mut Answer) {
+    let content = words.octets(out, 2);
+    let mut octets = started(out);
+    let answer = put_unsigned(&mut octets, &content);
+    done(out, answer, &octets);
+}
+
+/// What one writer appends.
+pub fn write(words: &Words<'_>, out: &mut Answer) {
+    if words.is(1, "value") || words.is(1, "parts") {
+        tagged(words, out, words.octet(2));
+    } else if words.is(1, "boolean") {
+        boolean(words, out);
+    } else if words.is(1, "unsigned") {
+        unsigned(words, out);
+    } else if words.is(1, "bits") {
+        bits(words, out);
+    } else {
+        identified(words, out);
+    }
+}

@@ -1,0 +1,39 @@
+//! Resources that a caller's closure or iterator gives to certificate data.
+
+use crate::samples;
+use rpki_blocks::{Addr, AsBlock, Asn, IpBlock, Prefix};
+use rpki_cert::TbsCert;
+use std::alloc::Global;
+use std::process::Abort;
+
+fn build_all(rt: &impl Abort, alloc: Global, tbs: &mut TbsCert) {
+    let all = IpBlock::from((Addr::from(0), Addr::from(u128::MAX)));
+    tbs.build_v4_resource_blocks(alloc, |blocks| blocks.push(all))
+        .expect(rt, "memory");
+    tbs.build_v6_resource_blocks(alloc, |blocks| {
+        blocks.push(Prefix::new(1 << 127, 1))?;
+        blocks.push(Prefix::new(0, 1))
+    })
+    .expect(rt, "memory");
+    tbs.build_as_resource_blocks(alloc, |blocks| blocks.push((Asn::MIN, Asn::MAX)))
+        .expect(rt, "memory");
+}
+
+fn build_none(rt: &impl Abort, alloc: Global, tbs: &mut TbsCert) {
+    tbs.build_v4_resource_blocks(alloc, |_| Ok(()))
+        .expect(rt, "memory");
+    tbs.v6_resources_from_iter(alloc, []).expect(rt, "memory");
+    let none: Vec<AsBlock> = Vec::new(alloc);
+    tbs.as_resources_from_iter(alloc, none).expect(rt, "memory");
+}
+
+#[test]
+fn blocks_are_given(rt: HostRuntime) {
+    let mut tbs = samples::anchor(&rt, rt.alloc());
+    build_none(&rt, rt.alloc(), &mut tbs);
+    assert!(rt; !tbs.has_ip_resources());
+    assert!(rt; !tbs.as_resources().is_present());
+    build_all(&rt, rt.alloc(), &mut tbs);
+    let octets = samples::written(&rt, rt.alloc(), &tbs);
+    samples::assert_hash(&rt, rt.alloc(), &octets, samples::ANCHOR_DATA);
+}

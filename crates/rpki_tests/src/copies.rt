@@ -1,0 +1,127 @@
+//! Each `try_clone` and its answer; those of certificates stand with what is read.
+
+use crate::samples::{self, rsa, uri};
+use bytes::Bytes;
+use rpki_blocks::{AsBlock, AsBlocks, AsResources, Asn};
+use rpki_cert::{ExtendedKeyUsage, TbsCert};
+use rpki_der::{Cursor, EncodeError, Oid, Piece};
+use rpki_parts::{Https, RpkiSignatureAlgorithm, Signature, SignedData};
+use std::alloc::Global;
+use std::process::Abort;
+
+#[test]
+fn of_octets(rt: HostRuntime) {
+    let piece = Piece::from(Bytes::from_static(b"\x05\x00"));
+    let copy = piece.try_clone().expect(&rt, "memory");
+    assert!(rt; copy == piece);
+    assert_eq!(rt; copy.as_bytes(), b"\x05\x00".as_slice());
+}
+
+#[test]
+fn of_identifiers(rt: HostRuntime) {
+    let id = Oid::from_piece(Piece::from(Bytes::from_static(b"\x55\x1d\x63")));
+    let id = id.expect(&rt, "an identifier");
+    let copy = id.try_clone().expect(&rt, "memory");
+    assert!(rt; copy == id);
+    assert_eq!(rt; copy.as_bytes(), b"\x55\x1d\x63".as_slice());
+    let other = Oid::new(Bytes::from_static(b"\x55\x1d\x13")).expect(&rt, "an identifier");
+    assert!(rt; other != id);
+}
+
+fn seven_to_nine(rt: &impl Abort, alloc: Global) -> AsBlocks {
+    let block = AsBlock::from((Asn::from(7), Asn::from(9)));
+    AsBlocks::from_iter(alloc, [block]).expect(rt, "memory")
+}
+
+fn assert_seven_to_nine(rt: &impl Abort, set: Option<&AsBlocks>) {
+    let mut blocks = set.expect(rt, "a set").iter();
+    let block = blocks.next().expect(rt, "a block");
+    assert_eq!(rt; block.min().into_u32(), 7);
+    assert_eq!(rt; block.max().into_u32(), 9);
+    assert!(rt; blocks.next().is_none());
+}
+
+#[test]
+fn of_sets(rt: HostRuntime) {
+    let set = seven_to_nine(&rt, rt.alloc());
+    let copy = set.try_clone(rt.alloc()).expect(&rt, "memory");
+    assert_seven_to_nine(&rt, Some(&copy));
+    let listed = AsResources::blocks(set);
+    let copy = listed.try_clone(rt.alloc()).expect(&rt, "memory");
+    assert_seven_to_nine(&rt, copy.as_blocks());
+}
+
+#[test]
+fn of_resources_without_a_set(rt: HostRuntime) {
+    let inherited = AsResources::inherit().try_clone(rt.alloc());
+    assert!(rt; inherited.expect(&rt, "memory").is_inherited());
+    let missing = AsResources::missing().try_clone(rt.alloc());
+    assert!(rt; !missing.expect(&rt, "memory").is_present());
+}
+
+#[test]
+fn of_keys_and_names(rt: HostRuntime) {
+    let key = rsa(b"abc").try_clone().expect(&rt, "memory");
+    assert_eq!(rt; key.bits(), b"abc".as_slice());
+    assert!(rt; key.allow_rpki_cert() && !key.allow_router_cert());
+    let name = key.to_subject_name(rt.alloc()).expect(&rt, "memory");
+    let copy = name.try_clone().expect(&rt, "memory");
+    assert_eq!(rt; copy.as_bytes(), name.as_bytes());
+}
+
+#[test]
+fn of_uris(rt: HostRuntime) {
+    let folder = uri(&rt, rt.alloc(), "rsync://example.com/m/p/");
+    let copy = folder.try_clone().expect(&rt, "memory");
+    assert!(rt; copy == folder);
+    assert_eq!(rt; copy.as_bytes(), b"rsync://example.com/m/p/".as_slice());
+    let site = Https::from_text(rt.alloc(), "https://example.com/n").expect(&rt, "a URI");
+    let copy = site.try_clone().expect(&rt, "memory");
+    assert!(rt; copy == site);
+    assert_eq!(rt; copy.as_bytes(), b"https://example.com/n".as_slice());
+}
+
+#[test]
+fn of_signatures(rt: HostRuntime) {
+    let algorithm = RpkiSignatureAlgorithm::without_parameter();
+    let signature = Signature::new(algorithm, Bytes::from_static(b"abc"));
+    let copy = signature.try_clone().expect(&rt, "memory");
+    assert_eq!(rt; copy.value(), b"abc".as_slice());
+    assert!(rt; *copy.algorithm() == algorithm);
+    let signed = SignedData::new(Bytes::from_static(b"\x05\x00"), copy).try_clone();
+    let signed = signed.expect(&rt, "memory");
+    assert_eq!(rt; signed.data(), b"\x05\x00".as_slice());
+    assert_eq!(rt; signed.signature().value(), b"abc".as_slice());
+}
+
+fn assert_purposes(rt: &impl Abort, alloc: Global, purposes: &ExtendedKeyUsage, kept: &[u8]) {
+    let mut out = Vec::new(alloc);
+    let answer: Result<(), EncodeError> = purposes.encode_ref(&mut out);
+    answer.expect(rt, "memory");
+    assert_eq!(rt; out.as_slice(), kept);
+}
+
+#[test]
+fn of_purposes(rt: HostRuntime) {
+    // The purposes of a server and of a router.
+    let content = "301406082b0601050507030106082b0601050507031e";
+    let octets = samples::shared(&rt, rt.alloc(), content);
+    let kept = samples::octets(&rt, rt.alloc(), "06082b0601050507030106082b0601050507031e");
+    let purposes = ExtendedKeyUsage::take_from(&mut Cursor::new(&octets));
+    let purposes = purposes.expect(&rt, "purposes");
+    assert_purposes(&rt, rt.alloc(), &purposes, &kept);
+    let copy = purposes.try_clone().expect(&rt, "memory");
+    assert_purposes(&rt, rt.alloc(), &copy, &kept);
+}
+
+// What is written of the copy.
+fn written_copy(rt: &impl Abort, alloc: Global, tbs: &TbsCert) -> Vec<u8> {
+    let copy = tbs.try_clone(alloc).expect(rt, "memory");
+    samples::written(rt, alloc, &copy)
+}
+
+#[test]
+fn of_certificate_data(rt: HostRuntime) {
+    let octets = written_copy(&rt, rt.alloc(), &samples::router(&rt, rt.alloc()));
+    samples::assert_hash(&rt, rt.alloc(), &octets, samples::ROUTER_DATA);
+}

@@ -1,0 +1,84 @@
+//! One cursor over several calls.
+
+use crate::samples;
+use bytes::Bytes;
+use rpki_cert::Cert;
+use rpki_der::{Cursor, DecodeError, Serial};
+use rpki_parts::KeyIdentifier;
+use std::alloc::Global;
+use std::process::Abort;
+
+fn assert_next(rt: &impl Abort, found: Result<Option<Cursor<'_>>, DecodeError>, rest: &[u8]) {
+    let next = found.expect(rt, "a value or none").expect(rt, "a value");
+    assert_eq!(rt; next.rest(), rest);
+}
+
+fn assert_none(rt: &impl Abort, found: Result<Option<Cursor<'_>>, DecodeError>) {
+    assert!(rt; found.expect(rt, "a value or none").is_none());
+}
+
+#[test]
+fn a_cursor_goes_on(rt: HostRuntime) {
+    let source = samples::shared(&rt, rt.alloc(), "300302010c040005");
+    let mut cursor = Cursor::new(&source);
+    assert_none(&rt, cursor.take_opt_value(0x02));
+    assert_next(&rt, cursor.take_opt_sequence(), b"\x02\x01\x0c");
+    let kept = cursor.fork().capture_rest().expect(&rt, "memory");
+    assert_eq!(rt; kept.as_bytes(), b"\x04\x00\x05".as_slice());
+    assert_next(&rt, cursor.take_opt_value(0x04), b"");
+    assert_eq!(rt; cursor.span(), (7, 8));
+    assert_eq!(rt; cursor.rest(), b"\x05".as_slice());
+    assert!(rt; matches!(cursor.finish(), Err(DecodeError::Trailing)));
+}
+
+#[test]
+fn a_content_ends(rt: HostRuntime) {
+    let source = Bytes::from_static(b"\x30\x03\x02\x01\x0c\x04\x00");
+    let mut cursor = Cursor::new(&source);
+    let mut content = cursor.take_sequence().expect(&rt, "a SEQUENCE");
+    let serial = Serial::take_from(&mut content).expect(&rt, "a serial number");
+    assert!(rt; serial == Serial::from(12u64));
+    assert!(rt; content.is_empty());
+    assert_none(&rt, content.take_opt_sequence());
+    assert!(rt; content.finish().is_ok());
+}
+
+#[test]
+fn two_forms_of_a_key_identifier(rt: HostRuntime) {
+    let id = samples::rsa(b"abc").key_identifier();
+    let mut out = Vec::new(rt.alloc());
+    id.encode_ref(&mut out).expect(&rt, "memory");
+    id.encode_ref_as(&mut out, 0x80).expect(&rt, "memory");
+    let octets = Bytes::from_vec(out).expect(&rt, "memory");
+    let mut cursor = Cursor::new(&octets);
+    assert!(rt; KeyIdentifier::take_from(&mut cursor).expect(&rt, "an identifier") == id);
+    let other = KeyIdentifier::take_from(&mut cursor);
+    assert!(rt; matches!(other, Err(DecodeError::BadTag)));
+    assert_eq!(rt; cursor.span(), (22, 44));
+    assert_eq!(rt; cursor.rest().first(), Some(&0x80));
+}
+
+fn is_there(rt: &impl Abort, found: Result<Option<Cert>, DecodeError>) -> bool {
+    match found {
+        Ok(Some(_)) => true,
+        Ok(None) => false,
+        Err(_) => {
+            assert!(rt; false, "a certificate or none");
+            false
+        }
+    }
+}
+
+#[test]
+fn a_certificate_is_taken_where_a_sequence_stands(rt: HostRuntime) {
+    let alloc: Global = rt.alloc();
+    let mut octets = samples::signed(&rt, alloc, samples::anchor(&rt, alloc));
+    let mut both = Vec::from_slice(alloc, &octets).expect(&rt, "memory");
+    both.push(0).expect(&rt, "memory");
+    octets = Bytes::from_vec(both).expect(&rt, "memory");
+    let mut cursor = Cursor::new(&octets);
+    assert!(rt; is_there(&rt, Cert::take_opt_from(alloc, &mut cursor)));
+    assert_eq!(rt; cursor.span(), (947, 948));
+    assert!(rt; !is_there(&rt, Cert::take_opt_from(alloc, &mut cursor)));
+    assert_eq!(rt; cursor.span(), (947, 948));
+}

@@ -1,0 +1,183 @@
+//! The names and the texts of all errors.
+
+use bytes::Bytes;
+use rpki_blocks::{Inherited, IssueError};
+use rpki_der::{DecodeError, EncodeError, Field, Oid};
+use rpki_parts::{BadUri, InvalidName, SignatureVerificationError, SigningError, UriError};
+use rpki_path::RunFault;
+use std::alloc::{AllocError, Global};
+use std::process::Abort;
+
+fn assert_shown(rt: &impl Abort, shown: Result<String, AllocError>, text: &str) {
+    assert_eq!(rt; shown.expect(rt, "memory").as_str(), text);
+}
+
+fn assert_read(rt: &impl Abort, alloc: Global, error: &DecodeError, name: &str, text: &str) {
+    assert_eq!(rt; error.name(), name);
+    assert_shown(rt, format!(in alloc; "{error}"), text);
+}
+
+#[test]
+fn of_values_that_are_read(rt: HostRuntime) {
+    let alloc = rt.alloc();
+    let (truncated, length) = (DecodeError::Truncated, DecodeError::BadLength);
+    assert_read(&rt, alloc, &truncated, "Truncated", "truncated value");
+    assert_read(&rt, alloc, &length, "BadLength", "bad length");
+    let (tag, value) = (DecodeError::BadTag, DecodeError::BadValue);
+    assert_read(&rt, alloc, &tag, "BadTag", "unexpected identifier");
+    assert_read(&rt, alloc, &value, "BadValue", "bad value");
+    let (trailing, deep) = (DecodeError::Trailing, DecodeError::TooDeep);
+    assert_read(&rt, alloc, &trailing, "Trailing", "trailing octets");
+    assert_read(&rt, alloc, &deep, "TooDeep", "values nested too deep");
+    let memory = DecodeError::Memory;
+    assert_read(&rt, alloc, &memory, "Memory", "out of memory");
+}
+
+#[test]
+fn of_fields_that_are_read(rt: HostRuntime) {
+    let alloc = rt.alloc();
+    let missing = DecodeError::Missing(Field::Resources);
+    assert_read(&rt, alloc, &missing, "Missing", "missing Resources");
+    let twice = DecodeError::Duplicate(Field::KeyUsage);
+    assert_read(&rt, alloc, &twice, "Duplicate", "duplicate KeyUsage");
+    let critical = DecodeError::Critical(Field::CrlNumber);
+    assert_read(&rt, alloc, &critical, "Critical", "CrlNumber is critical");
+    let uncritical = DecodeError::NotCritical(Field::BasicConstraints);
+    let text = "BasicConstraints is not critical";
+    assert_read(&rt, alloc, &uncritical, "NotCritical", text);
+    let wrong = DecodeError::WrongResources(Field::IpResources);
+    let text = "wrong identifier of IpResources";
+    assert_read(&rt, alloc, &wrong, "WrongResources", text);
+    let algorithms = DecodeError::AlgorithmMismatch;
+    let text = "signature algorithm mismatch";
+    assert_read(&rt, alloc, &algorithms, "AlgorithmMismatch", text);
+}
+
+fn identifier(rt: &impl Abort) -> Oid {
+    Oid::new(Bytes::from_static(b"\x55\x1d\x63")).expect(rt, "an identifier")
+}
+
+#[test]
+fn of_extensions_that_are_read(rt: HostRuntime) {
+    let unknown = DecodeError::UnexpectedCritical(identifier(&rt));
+    let text = "unexpected critical extension 551d63";
+    assert_read(&rt, rt.alloc(), &unknown, "UnexpectedCritical", text);
+    let invalid = DecodeError::InvalidExtension(identifier(&rt));
+    let text = "invalid extension 551d63";
+    assert_read(&rt, rt.alloc(), &invalid, "InvalidExtension", text);
+}
+
+#[test]
+fn of_parts(rt: HostRuntime) {
+    let rows = [
+        (Field::BasicConstraints, "BasicConstraints"),
+        (Field::SubjectKeyIdentifier, "SubjectKeyIdentifier"),
+        (Field::AuthorityKeyIdentifier, "AuthorityKeyIdentifier"),
+        (Field::KeyUsage, "KeyUsage"),
+        (Field::ExtendedKeyUsage, "ExtendedKeyUsage"),
+        (Field::CrlDistributionPoints, "CrlDistributionPoints"),
+        (
+            Field::AuthorityInformationAccess,
+            "AuthorityInformationAccess",
+        ),
+        (Field::SubjectInformationAccess, "SubjectInformationAccess"),
+        (Field::CertificatePolicies, "CertificatePolicies"),
+        (Field::IpResources, "IpResources"),
+        (Field::AsResources, "AsResources"),
+        (Field::Resources, "Resources"),
+        (Field::CrlNumber, "CrlNumber"),
+    ];
+    for (field, text) in rows {
+        assert_shown(&rt, format!(in rt.alloc(); "{field:?}"), text);
+    }
+}
+
+#[test]
+fn of_writing(rt: HostRuntime) {
+    let (long, memory) = (EncodeError::TooLong, EncodeError::Memory);
+    assert_eq!(rt; long.name(), "TooLong");
+    assert_eq!(rt; memory.name(), "Memory");
+    assert_shown(&rt, format!(in rt.alloc(); "{long}"), "content too long");
+    assert_shown(&rt, format!(in rt.alloc(); "{memory}"), "out of memory");
+}
+
+fn assert_unsigned(rt: &impl Abort, alloc: Global, error: &SigningError<u8>, texts: (&str, &str)) {
+    assert_eq!(rt; error.name(), texts.0);
+    assert_shown(rt, format!(in alloc; "{error}"), texts.1);
+}
+
+#[test]
+fn of_signing(rt: HostRuntime) {
+    let own = SigningError::Signer(1u8);
+    assert_unsigned(&rt, rt.alloc(), &own, ("Signer", "signer failed"));
+    let long = SigningError::from(EncodeError::TooLong);
+    assert_unsigned(&rt, rt.alloc(), &long, ("TooLong", "content too long"));
+    let memory = SigningError::from(EncodeError::Memory);
+    assert_unsigned(&rt, rt.alloc(), &memory, ("Memory", "out of memory"));
+    let memory = SigningError::from(AllocError);
+    assert_unsigned(&rt, rt.alloc(), &memory, ("Memory", "out of memory"));
+}
+
+#[test]
+fn of_signatures_and_names(rt: HostRuntime) {
+    let signature = SignatureVerificationError;
+    assert_eq!(rt; signature.name(), "SignatureVerificationError");
+    assert_shown(
+        &rt,
+        format!(in rt.alloc(); "{signature}"),
+        "invalid signature",
+    );
+    assert_eq!(rt; InvalidName.name(), "InvalidName");
+    assert_shown(&rt, format!(in rt.alloc(); "{InvalidName}"), "invalid name");
+}
+
+#[test]
+fn of_uris(rt: HostRuntime) {
+    assert_shown(&rt, format!(in rt.alloc(); "{BadUri}"), "bad URI");
+    let (bad, memory) = (UriError::from(BadUri), UriError::from(AllocError));
+    assert_eq!(rt; bad.name(), "BadUri");
+    assert_eq!(rt; memory.name(), "Memory");
+    assert_shown(&rt, format!(in rt.alloc(); "{bad}"), "bad URI");
+    assert_shown(&rt, format!(in rt.alloc(); "{memory}"), "out of memory");
+}
+
+#[test]
+fn of_sets(rt: HostRuntime) {
+    let (over, memory) = (IssueError::Overclaimed, IssueError::from(AllocError));
+    assert_eq!(rt; over.name(), "Overclaimed");
+    assert_eq!(rt; memory.name(), "Memory");
+    assert_shown(
+        &rt,
+        format!(in rt.alloc(); "{over}"),
+        "resources overclaimed",
+    );
+    assert_shown(&rt, format!(in rt.alloc(); "{memory}"), "out of memory");
+    assert_eq!(rt; Inherited.name(), "Inherited");
+    assert_shown(
+        &rt,
+        format!(in rt.alloc(); "{Inherited}"),
+        "resources are inherited",
+    );
+}
+
+fn assert_fault(rt: &impl Abort, alloc: Global, fault: &RunFault, name: &str, text: &str) {
+    assert_eq!(rt; fault.name(), name);
+    assert_shown(rt, format!(in alloc; "{fault}"), text);
+}
+
+#[test]
+fn of_runs(rt: HostRuntime) {
+    let alloc = rt.alloc();
+    let text = "the input couldn't be read";
+    assert_fault(&rt, alloc, &RunFault::Read, "Read", text);
+    let text = "the output couldn't be written";
+    assert_fault(&rt, alloc, &RunFault::Write, "Write", text);
+    assert_fault(&rt, alloc, &RunFault::Memory, "Memory", "out of memory");
+    assert_fault(
+        &rt,
+        alloc,
+        &RunFault::TooLong,
+        "TooLong",
+        "the input is too long",
+    );
+}

@@ -1,0 +1,31 @@
+//! Tests that cross the layers, and that no line of questions and answers can ask: calls with a
+//! caller's signer, verifier, closure or iterator, setters, copies, what stands after a refusal,
+//! the texts of errors, and calls that may want memory, with enough of it.
+#![tactic(auto)]
+
+#[cfg(test)]
+mod builders;
+#[cfg(test)]
+mod certificates;
+#[cfg(test)]
+mod copies;
+#[cfg(test)]
+mod cursors;
+#[cfg(test)]
+mod errors;
+#[cfg(test)]
+mod making;
+#[cfg(test)]
+mod refusals;
+#[cfg(test)]
+mod samples;
+#[cfg(test)]
+mod sets;
+#[cfg(test)]
+mod signing;
+#[cfg(test)]
+mod uris;
+#[cfg(test)]
+mod verifying;
+#[cfg(test)]
+mod writing;

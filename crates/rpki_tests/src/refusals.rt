@@ -1,0 +1,98 @@
+//! What stands after a refusal: a cursor, certificate data, and a vector where memory is refused.
+
+use crate::samples;
+use bytes::Bytes;
+use rpki_blocks::{Addr, Asn, IpBlock};
+use rpki_cert::{Cert, TbsCert};
+use rpki_der::{Cursor, DecodeError, EncodeError, put_value};
+use rpki_ext::take_extension;
+use rpki_parts::{KeyIdentifier, Name, PublicKey, SignedData, Validity};
+use std::alloc::{AllocError, Global};
+use std::process::Abort;
+
+fn assert_kept<T: Drop>(rt: &impl Abort, answer: Result<T, DecodeError>, cursor: &Cursor<'_>) {
+    assert!(rt; answer.is_err());
+    assert_eq!(rt; cursor.span(), (0, 8));
+}
+
+fn refuse_values(rt: &impl Abort, cursor: &mut Cursor<'_>) {
+    let answer = cursor.take_null();
+    assert_kept(rt, answer, cursor);
+    let answer = cursor.take_oid().map(|_| ());
+    assert_kept(rt, answer, cursor);
+    let answer = cursor.take_bits().map(|_| ());
+    assert_kept(rt, answer, cursor);
+    let answer = cursor.take_octets().map(|_| ());
+    assert_kept(rt, answer, cursor);
+    let answer = cursor.skip_all();
+    assert_kept(rt, answer, cursor);
+}
+
+fn refuse_parts(rt: &impl Abort, cursor: &mut Cursor<'_>) {
+    let answer = KeyIdentifier::take_from(cursor);
+    assert_kept(rt, answer, cursor);
+    let answer = Name::take_from(cursor);
+    assert_kept(rt, answer, cursor);
+    let answer = PublicKey::take_from(cursor);
+    assert_kept(rt, answer, cursor);
+    let answer = Validity::take_from(cursor).map(|_| ());
+    assert_kept(rt, answer, cursor);
+    let answer = SignedData::from_constructed(cursor);
+    assert_kept(rt, answer, cursor);
+    let answer = take_extension(cursor).map(|_| ());
+    assert_kept(rt, answer, cursor);
+}
+
+#[test]
+fn a_cursor_stays(rt: HostRuntime) {
+    let source = Bytes::from_static(b"\x02\x01\x0c\x30\x83\x01\x00\x00");
+    let mut cursor = Cursor::new(&source);
+    refuse_values(&rt, &mut cursor);
+    refuse_parts(&rt, &mut cursor);
+    let answer = Cert::take_from(rt.alloc(), &mut cursor);
+    assert_kept(&rt, answer, &cursor);
+    assert_eq!(rt; cursor.take_u32().expect(&rt, "a number"), 12);
+}
+
+fn refuse_blocks(rt: &impl Abort, alloc: Global, tbs: &mut TbsCert) {
+    let block = IpBlock::from((Addr::from(1), Addr::from(2)));
+    let answer = tbs.build_v4_resource_blocks(alloc, |blocks| {
+        blocks.push(block)?;
+        Err(AllocError)
+    });
+    assert!(rt; answer.is_err());
+    let answer = tbs.build_v6_resource_blocks(alloc, |_| Err(AllocError));
+    assert!(rt; answer.is_err());
+    let answer = tbs.build_as_resource_blocks(alloc, |blocks| {
+        blocks.push((Asn::from(1), Asn::from(2)))?;
+        Err(AllocError)
+    });
+    assert!(rt; answer.is_err());
+}
+
+#[test]
+fn a_closure_that_fails_changes_nothing(rt: HostRuntime) {
+    let mut tbs = samples::anchor(&rt, rt.alloc());
+    refuse_blocks(&rt, rt.alloc(), &mut tbs);
+    let octets = samples::written(&rt, rt.alloc(), &tbs);
+    samples::assert_hash(&rt, rt.alloc(), &octets, samples::ANCHOR_DATA);
+}
+
+// After a refusal the vector has what it had; that is met where an allocation is made to fail.
+fn assert_left(rt: &impl Abort, answer: Result<(), EncodeError>, out: &[u8], before: usize) {
+    match answer {
+        Ok(()) => assert!(rt; before < out.len()),
+        Err(EncodeError::Memory) => assert_eq!(rt; out.len(), before),
+        Err(EncodeError::TooLong) => assert!(rt; false, "too long"),
+    }
+}
+
+#[test]
+fn a_vector_stays(rt: HostRuntime) {
+    let mut out = Vec::new(rt.alloc());
+    let answer = put_value(&mut out, 0x04, b"\x07");
+    assert_left(&rt, answer, &out, 0);
+    let before = out.len();
+    let answer = samples::rsa(b"abc").encode_ref(&mut out);
+    assert_left(&rt, answer, &out, before);
+}

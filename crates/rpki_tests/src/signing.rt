@@ -1,0 +1,152 @@
+//! Certificates are signed, by the stand-in and by signers of a caller's own.
+
+use crate::samples;
+use bytes::Bytes;
+use rpki_cert::{Cert, TbsCert};
+use rpki_parts::{RpkiSignatureAlgorithm, Signature, Signer, SigningError};
+use std::alloc::Global;
+use std::cell::{Cell, RefCell};
+use std::process::Abort;
+
+#[test]
+fn an_anchor_is_made(rt: HostRuntime) {
+    let anchor = samples::signed(&rt, rt.alloc(), samples::anchor(&rt, rt.alloc()));
+    assert_eq!(rt; anchor.len(), 947);
+    samples::assert_hash(&rt, rt.alloc(), &anchor, samples::ANCHOR);
+}
+
+#[test]
+fn an_end_entity_is_made(rt: HostRuntime) {
+    let end_entity = samples::signed(&rt, rt.alloc(), samples::end_entity(&rt, rt.alloc()));
+    samples::assert_hash(&rt, rt.alloc(), &end_entity, samples::END_ENTITY);
+}
+
+#[test]
+fn a_router_is_made(rt: HostRuntime) {
+    let router = samples::signed(&rt, rt.alloc(), samples::router(&rt, rt.alloc()));
+    samples::assert_hash(&rt, rt.alloc(), &router, samples::ROUTER);
+}
+
+// What this signer refuses with.
+#[derive(Clone, Copy)]
+enum Refusal {
+    Own,
+    TooLong,
+    Memory,
+}
+
+// Refuses each time, and counts.
+#[derive(Drop)]
+struct Refusing {
+    refusal: Refusal,
+    calls: Cell<usize>,
+}
+
+impl Signer for Refusing {
+    ghost use Rattle.std.specs.Prelude.{⊤};
+
+    type KeyId = u32;
+
+    type Error = u32;
+
+    ghost signs = { λ _ _ _ _ _. ⊤ };
+
+    fn sign(
+        &self,
+        _alloc: Global,
+        key: &u32,
+        _algorithm: RpkiSignatureAlgorithm,
+        _message: &[u8],
+    ) -> Result<Signature, SigningError<u32>> {
+        self.calls.set(self.calls.get().wrapping_add(1));
+        match self.refusal {
+            Refusal::Own => Err(SigningError::Signer(*key)),
+            Refusal::TooLong => Err(SigningError::TooLong),
+            Refusal::Memory => Err(SigningError::Memory),
+        }
+    }
+}
+
+// What the refused call answered; 0 for a certificate.
+fn answered(made: Result<Cert, SigningError<u32>>) -> (u32, &'static str) {
+    match made {
+        Ok(_) => (0, "Ok"),
+        Err(SigningError::Signer(key)) => (key, "Signer"),
+        Err(refusal) => (0, refusal.name()),
+    }
+}
+
+fn assert_refused(rt: &impl Abort, alloc: Global, refusal: Refusal, answer: (u32, &'static str)) {
+    let signer = Refusing {
+        refusal,
+        calls: Cell::new(0),
+    };
+    let made = samples::anchor(rt, alloc).into_cert(alloc, &signer, &7);
+    let (key, name) = answered(made);
+    assert_eq!(rt; key, answer.0);
+    assert_eq!(rt; name, answer.1);
+    assert_eq!(rt; signer.calls.get(), 1);
+}
+
+#[test]
+fn a_refusal_is_passed_on(rt: HostRuntime) {
+    assert_refused(&rt, rt.alloc(), Refusal::Own, (7, "Signer"));
+    assert_refused(&rt, rt.alloc(), Refusal::TooLong, (0, "TooLong"));
+    assert_refused(&rt, rt.alloc(), Refusal::Memory, (0, "Memory"));
+}
+
+// Signs anything with two octets, and keeps what it was asked for.
+#[derive(Drop)]
+struct Keeping {
+    calls: Cell<usize>,
+    asked: RefCell<Vec<u8>>,
+}
+
+impl Signer for Keeping {
+    ghost use Rattle.std.specs.Prelude.{⊤};
+
+    type KeyId = ();
+
+    type Error = ();
+
+    ghost signs = { λ _ _ _ _ _. ⊤ };
+
+    fn sign(
+        &self,
+        _alloc: Global,
+        _key: &(),
+        algorithm: RpkiSignatureAlgorithm,
+        message: &[u8],
+    ) -> Result<Signature, SigningError<()>> {
+        self.calls.set(self.calls.get().wrapping_add(1));
+        if let Ok(mut asked) = self.asked.try_borrow_mut() {
+            asked.extend_from_slice(message)?;
+        }
+        Ok(Signature::new(algorithm, Bytes::from_static(b"\x01\x02")))
+    }
+}
+
+fn assert_kept(rt: &impl Abort, alloc: Global, signer: &Keeping, cert: &Cert) {
+    assert_eq!(rt; signer.calls.get(), 1);
+    let asked = signer.asked.try_borrow().expect(rt, "no other borrow");
+    assert!(rt; asked.as_slice() == cert.signed_data().data());
+    assert!(rt; asked.as_slice() == samples::written(rt, alloc, cert.as_tbs()).as_slice());
+    assert_eq!(rt;
+        cert.signed_data().signature().value(),
+        b"\x01\x02".as_slice()
+    );
+}
+
+fn assert_signed(rt: &impl Abort, alloc: Global, signer: &Keeping, tbs: TbsCert) {
+    let made = tbs.into_cert(alloc, signer, &());
+    assert_kept(rt, alloc, signer, &made.expect(rt, "a certificate"));
+}
+
+#[test]
+fn what_is_kept_is_signed_once(rt: HostRuntime) {
+    let signer = Keeping {
+        calls: Cell::new(0),
+        asked: RefCell::new(Vec::new(rt.alloc())),
+    };
+    assert_signed(&rt, rt.alloc(), &signer, samples::anchor(&rt, rt.alloc()));
+}

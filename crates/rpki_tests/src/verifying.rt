@@ -1,0 +1,52 @@
+//! Signatures are verified, by the stand-in and by a verifier of a caller's own.
+
+use crate::samples::rsa;
+use bytes::Bytes;
+use rpki_parts::{PublicKey, RpkiSignatureAlgorithm, Signature, SignedData, StandIn, Verifier};
+
+fn signed_data(data: &'static [u8], signature: &'static [u8]) -> SignedData {
+    let algorithm = RpkiSignatureAlgorithm::default();
+    let signature = Signature::new(algorithm, Bytes::from_static(signature));
+    SignedData::new(Bytes::from_static(data), signature)
+}
+
+#[test]
+fn the_stand_in_tells_its_relation(rt: HostRuntime) {
+    let rows: [(&'static [u8], &'static [u8], bool); 4] = [
+        (b"a", b"a\x30\x00", true),
+        (b"a", b"a\x30", false),
+        (b"", b"\x30\x00", true),
+        (b"a", b"", false),
+    ];
+    for (bits, signature, holds) in rows {
+        let answer = signed_data(b"\x30\x00", signature).verify_signature(&rsa(bits), &StandIn);
+        assert_eq!(rt; answer.is_ok(), holds, "{signature:?}");
+    }
+}
+
+// Accepts a message as its own signature.
+struct Itself;
+
+impl Verifier for Itself {
+    ghost use Rattle.std.specs.Prelude.{◌≡◌};
+
+    ghost verifies = { λ _ _ _ message signature. message ≡ signature };
+
+    fn verify(
+        &self,
+        _key: &PublicKey,
+        _algorithm: RpkiSignatureAlgorithm,
+        message: &[u8],
+        signature: &[u8],
+    ) -> bool {
+        message == signature
+    }
+}
+
+#[test]
+fn a_verifier_is_asked(rt: HostRuntime) {
+    let same = signed_data(b"\x30\x00", b"\x30\x00");
+    assert!(rt; same.verify_signature(&rsa(b"a"), &Itself).is_ok());
+    let other = signed_data(b"\x30\x00", b"\x30");
+    assert!(rt; other.verify_signature(&rsa(b"a"), &Itself).is_err());
+}

@@ -1,0 +1,193 @@
+//! Each writer once, behind what stands in the vector, and lengths that no line can have.
+
+use crate::samples::{self, rsa, uri};
+use bytes::Bytes;
+use rpki_blocks::{AsResources, IpResources};
+use rpki_cert::{KeyUsage, Overclaim, TbsCert};
+use rpki_der::{
+    Cursor, Piece, Serial, Time, oid, put_bits, put_bool, put_extension, put_oid, put_parts,
+    put_unsigned, put_value,
+};
+use rpki_ext::{
+    encode_authority_information_access, encode_authority_key_identifier, encode_basic_constraints,
+    encode_certificate_policies, encode_crl_distribution_points, encode_key_usage,
+    encode_subject_information_access, encode_subject_key_identifier,
+};
+use rpki_parts::{Https, Rsync};
+use std::alloc::Global;
+use std::process::Abort;
+
+fn assert_written(rt: &impl Abort, alloc: Global, out: &[u8], digits: &str) {
+    assert_eq!(rt; out, samples::octets(rt, alloc, digits).as_slice());
+}
+
+#[test]
+fn values(rt: HostRuntime) {
+    let mut out = Vec::new(rt.alloc());
+    put_value(&mut out, 0x04, b"\x07").expect(&rt, "memory");
+    put_parts(&mut out, 0x30, b"\x05", b"\x00").expect(&rt, "memory");
+    put_bool(&mut out, true).expect(&rt, "memory");
+    put_bool(&mut out, false).expect(&rt, "memory");
+    put_unsigned(&mut out, b"\x00\x00\x80").expect(&rt, "memory");
+    put_bits(&mut out, 1, b"\x06").expect(&rt, "memory");
+    let digits = "040107300205000101ff0101000202008003020106";
+    assert_written(&rt, rt.alloc(), &out, digits);
+}
+
+#[test]
+fn identifiers_and_extensions(rt: HostRuntime) {
+    let mut out = Vec::new(rt.alloc());
+    put_oid(&mut out, oid::CE_BASIC_CONSTRAINTS).expect(&rt, "memory");
+    put_extension(&mut out, oid::CE_BASIC_CONSTRAINTS, true, b"\x30\x00").expect(&rt, "memory");
+    put_extension(&mut out, oid::CE_KEY_USAGE, false, b"").expect(&rt, "memory");
+    let digits = "0603551d13300c0603551d130101ff0402300030070603551d0f0400";
+    assert_written(&rt, rt.alloc(), &out, digits);
+}
+
+#[test]
+fn numbers_and_times(rt: HostRuntime) {
+    let mut out = Vec::new(rt.alloc());
+    Serial::from(255u64).encode(&mut out).expect(&rt, "memory");
+    let last = Time::utc(2049, 12, 31, 23, 59, 59).expect(&rt, "a time");
+    last.encode_varied(&mut out).expect(&rt, "memory");
+    let next = Time::utc(2050, 1, 1, 0, 0, 0).expect(&rt, "a time");
+    next.encode_varied(&mut out).expect(&rt, "memory");
+    let digits = "020200ff170d3439313233313233353935395a180f32303530303130313030303030305a";
+    assert_written(&rt, rt.alloc(), &out, digits);
+}
+
+#[test]
+fn flags_of_certificates(rt: HostRuntime) {
+    let mut out = Vec::new(rt.alloc());
+    encode_basic_constraints(&mut out, true).expect(&rt, "memory");
+    encode_basic_constraints(&mut out, false).expect(&rt, "memory");
+    encode_key_usage(&mut out, KeyUsage::Ca).expect(&rt, "memory");
+    KeyUsage::Ee.encode(&mut out).expect(&rt, "memory");
+    encode_certificate_policies(&mut out, Overclaim::Trim).expect(&rt, "memory");
+    let digits =
+        "300f0603551d130101ff040530030101ff300c0603551d130101ff04023000300e0603551d0f0101ff0404030201060302078030180603551d200101ff040e300c300a06082b06010505070e03";
+    assert_written(&rt, rt.alloc(), &out, digits);
+}
+
+#[test]
+fn key_identifiers(rt: HostRuntime) {
+    let id = rsa(b"abc").key_identifier();
+    let mut out = Vec::new(rt.alloc());
+    encode_subject_key_identifier(&mut out, id).expect(&rt, "memory");
+    encode_authority_key_identifier(&mut out, id).expect(&rt, "memory");
+    let digits =
+        "301d0603551d0e04160414a9993e364706816aba3e25717850c26c9cd0d89d301f0603551d23041830168014a9993e364706816aba3e25717850c26c9cd0d89d";
+    assert_written(&rt, rt.alloc(), &out, digits);
+}
+
+#[test]
+fn where_an_issuer_is(rt: HostRuntime) {
+    let list = uri(&rt, rt.alloc(), "rsync://example.com/m/p/x.crl");
+    let issuer = uri(&rt, rt.alloc(), "rsync://example.com/m/ta.cer");
+    let mut out = Vec::new(rt.alloc());
+    encode_crl_distribution_points(&mut out, &list).expect(&rt, "memory");
+    encode_authority_information_access(&mut out, &issuer).expect(&rt, "memory");
+    let digits =
+        "302e0603551d1f042730253023a021a01f861d7273796e633a2f2f6578616d706c652e636f6d2f6d2f702f782e63726c303806082b06010505070101042c302a302806082b06010505073002861c7273796e633a2f2f6578616d706c652e636f6d2f6d2f74612e636572";
+    assert_written(&rt, rt.alloc(), &out, digits);
+}
+
+#[test]
+fn where_a_subject_is(rt: HostRuntime) {
+    let folder = uri(&rt, rt.alloc(), "rsync://a/m/");
+    let site = Https::from_text(rt.alloc(), "https://a").expect(&rt, "a URI");
+    let mut out = Vec::new(rt.alloc());
+    encode_subject_information_access(&mut out, None, None, None, None).expect(&rt, "memory");
+    assert!(rt; out.is_empty());
+    encode_subject_information_access(&mut out, Some(&folder), None, None, Some(&site)).expect(
+        &rt, "memory",
+    );
+    let digits =
+        "303f06082b0601050507010b04333031301806082b06010505073005860c7273796e633a2f2f612f6d2f301506082b0601050507300d860968747470733a2f2f61";
+    assert_written(&rt, rt.alloc(), &out, digits);
+}
+
+#[test]
+fn inherited_resources(rt: HostRuntime) {
+    let none = IpResources::missing();
+    let inherited = IpResources::inherit();
+    let mut out = Vec::from_slice(rt.alloc(), b"\xaa").expect(&rt, "memory");
+    IpResources::encode_extension(rt.alloc(), &mut out, Overclaim::Refuse, &none, &none).expect(
+        &rt, "memory",
+    );
+    IpResources::encode_extension(
+        rt.alloc(),
+        &mut out,
+        Overclaim::Refuse,
+        &none,
+        &inherited,
+    ).expect(&rt, "memory");
+    AsResources::inherit()
+        .encode_extension(rt.alloc(), &mut out, Overclaim::Refuse)
+        .expect(&rt, "memory");
+    let digits =
+        "aa301906082b060105050701070101ff040a30083006040200020500301506082b060105050701080101ff04063004a0020500";
+    assert_written(&rt, rt.alloc(), &out, digits);
+}
+
+// The head of an OCTET STRING with so many octets, as it is written and read.
+fn assert_head(rt: &impl Abort, alloc: Global, len: usize, head: &[u8]) {
+    let mut content = Vec::new(alloc);
+    content.resize(len, 7).expect(rt, "memory");
+    let mut out = Vec::new(alloc);
+    put_value(&mut out, 0x04, &content).expect(rt, "memory");
+    assert!(rt; out.starts_with(head), "{len}");
+    let value = Piece::from(Bytes::from_vec(out).expect(rt, "memory"));
+    let mut cursor = value.cursor();
+    let inner = cursor.take_value(0x04).expect(rt, "a value");
+    assert!(rt; inner.rest() == content.as_slice(), "{len}");
+    assert!(rt; cursor.is_empty());
+}
+
+#[test]
+fn long_values(rt: HostRuntime) {
+    assert_head(&rt, rt.alloc(), 0xffff, b"\x04\x82\xff\xff");
+    assert_head(&rt, rt.alloc(), 0x10000, b"\x04\x83\x01\x00\x00");
+    assert_head(&rt, rt.alloc(), 0xffffff, b"\x04\x83\xff\xff\xff");
+    assert_head(&rt, rt.alloc(), 0x1000000, b"\x04\x84\x01\x00\x00\x00");
+}
+
+// A URI with so many letters behind its module.
+fn long_uri(rt: &impl Abort, alloc: Global, letters: usize) -> Rsync {
+    let mut text = Vec::from_slice(alloc, b"rsync://example.com/m/").expect(rt, "memory");
+    for _ in 0..letters {
+        text.push(b'a').expect(rt, "memory");
+    }
+    Rsync::from_bytes(Bytes::from_vec(text).expect(rt, "memory")).expect(rt, "a URI")
+}
+
+fn assert_read_again(rt: &impl Abort, alloc: Global, octets: Vec<u8>, part: &str) {
+    assert!(rt; samples::contains(&octets, &samples::octets(rt, alloc, part)));
+    let octets = Bytes::from_vec(octets).expect(rt, "memory");
+    let again = TbsCert::from_constructed(alloc, &mut Cursor::new(&octets));
+    let again = samples::written(rt, alloc, &again.expect(rt, "certificate data"));
+    assert!(rt; again.as_slice() == octets.as_slice());
+}
+
+fn assert_part(rt: &impl Abort, alloc: Global, letters: usize, part: &str) {
+    let mut tbs = samples::anchor(rt, alloc);
+    tbs.set_ca_repository(Some(long_uri(rt, alloc, letters)));
+    tbs.set_rpki_manifest(None);
+    assert_read_again(rt, alloc, samples::written(rt, alloc, &tbs), part);
+}
+
+#[test]
+fn long_descriptions(rt: HostRuntime) {
+    assert_part(
+        &rt,
+        rt.alloc(),
+        65499,
+        "3082ffff06082b060105050730058682fff1",
+    );
+    assert_part(
+        &rt,
+        rt.alloc(),
+        65500,
+        "308301000006082b060105050730058682fff2",
+    );
+}
