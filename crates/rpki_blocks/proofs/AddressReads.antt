@@ -12,6 +12,7 @@ use Rattle.rpki_der.specs.Rows.Reading.{Shrinks}
 use Rattle.rpki_der.specs.Spelling.{BeginsOther}
 use Rattle.rpki_der.specs.Choices.{Either}
 use Rattle.rpki_der.specs.Choices.{turned, Turned, followed, Followed, whole, content_or, optional_of}
+use Rattle.rpki_der.specs.Tags.{BIT_STRING, OCTET_STRING, SEQUENCE}
 use Rattle.rpki_der.proofs.Octets.{some_is, unless_some, nothing}
 use Rattle.rpki_der.proofs.Readings.{before, whole_before, both_before, followed_reads, whole_reads}
 use Rattle.rpki_der.proofs.Optionals.{optional_before}
@@ -54,13 +55,13 @@ spanned p = ordered p.0.min p.1.max
 abbrev IpRange : ℕ → Block → List ℕ → Type 0
 IpRange bits = Turned spanned (Both (IsIPAddress bits) (IsIPAddress bits))
 
-range_is : (bits : ℕ) (r : Block) (b : List ℕ) → Inside 0x30 (IpRange bits) r b → IsIPAddressOrRange bits r b
+range_is : (bits : ℕ) (r : Block) (b : List ℕ) → Inside SEQUENCE (IpRange bits) r b → IsIPAddressOrRange bits r b
 range_is bits r b s =
     let p = s.1.1 in
     let o = ordered_is s.1.0.0.min s.1.0.1.max r s.1.2 in
     inl (record { low = s.1.0.0; high = s.1.0.1; from = p.0; to = p.1; low_is = p.2; high_is = p.3; sequence = two_pieces p.0 p.1 s.0 b p.4 s.2; ordered = o.0; is = o.1 })
 
-is_element : (bits : ℕ) (r : Block) (b : List ℕ) → IsIPAddressOrRange bits r b → Either (Inside 0x30 (IpRange bits)) (IsIPAddress bits) r b
+is_element : (bits : ℕ) (r : Block) (b : List ℕ) → IsIPAddressOrRange bits r b → Either (Inside SEQUENCE (IpRange bits)) (IsIPAddress bits) r b
 is_element bits r b h =
     elim h [
       | inl s ↦ inl (s.from ++ s.to, ((s.low, s.high), (s.from, s.to, s.low_is, s.high_is, refl), is_ordered s.low.min s.high.max r s.ordered s.is), pieces_two s.from s.to b s.sequence)
@@ -72,18 +73,18 @@ unfolding ip_element_at
 ip_element_reads family =
     let A = IsIPAddress (family_bits family) in
     let R = IpRange (family_bits family) in
-    same_reads (content_or 0x30 (address_range family) (address_at family)) (Either (Inside 0x30 R) A) (IsIPAddressOrRange (family_bits family))
-    (content_or_reads 0x30 (address_range family) (address_at family) R A
+    same_reads (content_or SEQUENCE (address_range family) (address_at family)) (Either (Inside SEQUENCE R) A) (IsIPAddressOrRange (family_bits family))
+    (content_or_reads SEQUENCE (address_range family) (address_at family) R A
     (whole_reads (turned spanned (both (address_at family) (address_at family))) R
     (turned_reads spanned (both (address_at family) (address_at family)) (Both A A) (both_reads (address_at family) (address_at family) A A (address_reads family) (address_reads family))))
     (address_reads family)
-    (λ r text rest s. let b = enc_begins 3 _ text s.spelled.enc in other_tag 0x30 3 text rest b.0 b.1 (λ e. absurd (omega arith))))
+    (λ r text rest s. let b = enc_begins BIT_STRING _ text s.spelled.enc in other_tag SEQUENCE 3 text rest b.0 b.1 (λ e. absurd (omega arith))))
     (λ r text h. elim h [ inl s ↦ range_is (family_bits family) r text s | inr s ↦ inr s ])
     (λ r text h. is_element (family_bits family) r text h)
 
 pub ip_element_shrinks : (family : Family) → Shrinks (ip_element_at family)
 unfolding ip_element_at address_at bits_at
-ip_element_shrinks family = content_or_shrinks 0x30 (address_range family) (address_at family) (turned_shrinks (prefix_of (family_bits family)) bits_at (content_shrinks 3 _))
+ip_element_shrinks family = content_or_shrinks SEQUENCE (address_range family) (address_at family) (turned_shrinks (prefix_of (family_bits family)) bits_at (content_shrinks BIT_STRING _))
 
 -- ---- a family
 
@@ -101,7 +102,7 @@ abbrev kept : Family → Resources → Option (Family × Resources)
 kept family r = Some (family, r)
 
 abbrev Named : Family → List ℕ → Type 0
-Named = Turned family_of (IsEnc 4)
+Named = Turned family_of (IsEnc OCTET_STRING)
 
 abbrev FamilyContent : Family × Resources → List ℕ → Type 0
 FamilyContent = Followed Named (λ family. Turned (kept family) (Choice family))
@@ -130,23 +131,23 @@ named_again : (family : Family) → family_of (0 ∷ number family ∷ []) ≡ S
 named_again V4 = refl
 named_again V6 = refl
 
-number_octets : (family : Family) → IsEnc 4 (0 ∷ number family ∷ []) (4 ∷ 2 ∷ 0 ∷ number family ∷ [])
+number_octets : (family : Family) → IsEnc OCTET_STRING (0 ∷ number family ∷ []) (4 ∷ 2 ∷ 0 ∷ number family ∷ [])
 unfolding enc length_octets
 number_octets V4 = record { octet = omega arith; low_tag = omega arith; octets = (omega arith, (omega arith, tt)); short = omega arith; is = refl }
 number_octets V6 = record { octet = omega arith; low_tag = omega arith; octets = (omega arith, (omega arith, tt)); short = omega arith; is = refl }
 
-family_is : (x : Family × Resources) (b : List ℕ) → Inside 0x30 FamilyContent x b → IsFamily x b
+family_is : (x : Family × Resources) (b : List ℕ) → Inside SEQUENCE FamilyContent x b → IsFamily x b
 family_is x b s =
     let t = s.1 in
     let made : Family × Resources = (t.0, t.4.0) in
-    let octets : t.1 ≡ 4 ∷ 2 ∷ 0 ∷ number t.0 ∷ [] = t.3.1.is ∙ ap (enc 4) (named t.3.0 t.0 t.3.2) ∙ sym (number_octets t.0).is in
+    let octets : t.1 ≡ 4 ∷ 2 ∷ 0 ∷ number t.0 ∷ [] = t.3.1.is ∙ ap (enc OCTET_STRING) (named t.3.0 t.0 t.3.2) ∙ sym (number_octets t.0).is in
     subst (λ (y : Family × Resources). IsFamily y b) (some_is made x t.4.2) (record {
       choice = t.2;
       choice_is = t.4.1;
       sequence = two_pieces (4 ∷ 2 ∷ 0 ∷ number t.0 ∷ []) t.2 s.0 b (t.5 ∙ ap (λ (y : List ℕ). y ++ t.2) octets) s.2;
     })
 
-is_family : (x : Family × Resources) (b : List ℕ) → IsFamily x b → Inside 0x30 FamilyContent x b
+is_family : (x : Family × Resources) (b : List ℕ) → IsFamily x b → Inside SEQUENCE FamilyContent x b
 is_family x b s = (
   (4 ∷ 2 ∷ 0 ∷ number x.0 ∷ []) ++ s.choice,
   (x.0, 4 ∷ 2 ∷ 0 ∷ number x.0 ∷ [], s.choice, (0 ∷ number x.0 ∷ [], number_octets x.0, named_again x.0), (x.1, s.choice_is, refl), refl),
@@ -158,12 +159,12 @@ unfolding family_in
 family_in_reads =
     whole_reads (followed (turned family_of octets_at) of_family) FamilyContent
     (followed_reads (turned family_of octets_at) of_family Named (λ family. Turned (kept family) (Choice family))
-    (turned_reads family_of octets_at (IsEnc 4) octets_reads)
+    (turned_reads family_of octets_at (IsEnc OCTET_STRING) octets_reads)
     (λ family. turned_reads (kept family) (choice_at (ip_element_at family)) (Choice family)
     (choice_reads (ip_element_at family) (IsIPAddressOrRange (family_bits family)) (ip_element_reads family) (ip_element_shrinks family))))
 
-family_reads : Reads (content 0x30 family_in) IsFamily
-family_reads = same_reads (content 0x30 family_in) (Inside 0x30 FamilyContent) IsFamily (content_reads 0x30 family_in FamilyContent family_in_reads) family_is is_family
+family_reads : Reads (content SEQUENCE family_in) IsFamily
+family_reads = same_reads (content SEQUENCE family_in) (Inside SEQUENCE FamilyContent) IsFamily (content_reads SEQUENCE family_in FamilyContent family_in_reads) family_is is_family
 
 -- ---- the families of an extension
 
@@ -208,19 +209,19 @@ families_are f (a ∷ b ∷ c ∷ more) h = elim h [ ]
 families_in_reads : ReadsWhole families_in Pieces
 unfolding families_in
 families_in_reads =
-    let same : optional 0x30 (content 0x30 family_in) ≡ optional_of 0x30 family_in = λ i bytes. sym (optional_of_is 0x30 family_in bytes) i in
-    let second : ReadsBefore (BeginsOther 0x30) (optional_of 0x30 family_in) (Optional IsFamily) =
-    subst (λ (g : List ℕ → Option (Option (Family × Resources) × List ℕ)). ReadsBefore (BeginsOther 0x30) g (Optional IsFamily)) same
-    (optional_before 0x30 (content 0x30 family_in) IsFamily family_reads (λ x text s. enc_begins 0x30 _ text s.sequence)) in
-    same_whole (λ c. whole (both (content 0x30 family_in) (optional_of 0x30 family_in)) c >>= paired) (Turned paired OneOrTwo) Pieces
-    (turned_whole paired (whole (both (content 0x30 family_in) (optional_of 0x30 family_in))) OneOrTwo (whole_before (BeginsOther 0x30) (both (content 0x30 family_in) (optional_of 0x30 family_in)) OneOrTwo tt
-    (both_before (BeginsOther 0x30) Anything (content 0x30 family_in) (optional_of 0x30 family_in) IsFamily (Optional IsFamily) (before Anything (content 0x30 family_in) IsFamily family_reads) second (λ y text rest s follows. tt))))
+    let same : optional SEQUENCE (content SEQUENCE family_in) ≡ optional_of SEQUENCE family_in = λ i bytes. sym (optional_of_is SEQUENCE family_in bytes) i in
+    let second : ReadsBefore (BeginsOther SEQUENCE) (optional_of SEQUENCE family_in) (Optional IsFamily) =
+    subst (λ (g : List ℕ → Option (Option (Family × Resources) × List ℕ)). ReadsBefore (BeginsOther SEQUENCE) g (Optional IsFamily)) same
+    (optional_before SEQUENCE (content SEQUENCE family_in) IsFamily family_reads (λ x text s. enc_begins SEQUENCE _ text s.sequence)) in
+    same_whole (λ c. whole (both (content SEQUENCE family_in) (optional_of SEQUENCE family_in)) c >>= paired) (Turned paired OneOrTwo) Pieces
+    (turned_whole paired (whole (both (content SEQUENCE family_in) (optional_of SEQUENCE family_in))) OneOrTwo (whole_before (BeginsOther SEQUENCE) (both (content SEQUENCE family_in) (optional_of SEQUENCE family_in)) OneOrTwo tt
+    (both_before (BeginsOther SEQUENCE) Anything (content SEQUENCE family_in) (optional_of SEQUENCE family_in) IsFamily (Optional IsFamily) (before Anything (content SEQUENCE family_in) IsFamily family_reads) second (λ y text rest s follows. tt))))
     (λ f c s. let p = second_is s.0.0 s.0.1 f s.1.0 s.1.1 s.1.2 s.1.3 s.2 in (p.0, p.1, s.1.4 ∙ p.2))
     (λ f c s. rw s.2 (families_are f s.0 s.1))
 
 pub ip_reads : Reads families_at IsIPAddrBlocks
 unfolding families_at
 ip_reads =
-    same_reads (content 0x30 families_in) (Inside 0x30 Pieces) IsIPAddrBlocks (content_reads 0x30 families_in Pieces families_in_reads)
-    (λ f text s. record { pieces = s.1.0; families = s.1.1; sequence = subst (λ (c : List ℕ). IsEnc 0x30 c text) s.1.2 s.2 })
+    same_reads (content SEQUENCE families_in) (Inside SEQUENCE Pieces) IsIPAddrBlocks (content_reads SEQUENCE families_in Pieces families_in_reads)
+    (λ f text s. record { pieces = s.1.0; families = s.1.1; sequence = subst (λ (c : List ℕ). IsEnc SEQUENCE c text) s.1.2 s.2 })
     (λ f text s. (concat s.pieces, (s.pieces, s.families, refl), s.sequence))

@@ -7,6 +7,7 @@ use Rattle.std.proofs.lemmas.Nat.{pow-add}
 use Rattle.std.proofs.Math.Nat.{mul-mod_left, mul_assoc, mul_comm, mod-add-div, mul-le-mul_left, mod-lt, mod-one}
 use Rattle.std.proofs.Math.Pow.{pow_pos, pow-lt}
 use Rattle.rpki_der.specs.Values.{sequence}
+use Rattle.rpki_der.specs.Tags.{SEQUENCE, BIT_STRING}
 use Rattle.rpki_der.proofs.ValueWritten.{bool_cases, Short, made, content_short, pieces_short}
 use Rattle.rpki_blocks.specs.Prefixes.{is_v4_block}
 use Rattle.rpki_blocks.specs.AddressBits.{octets_of, without, zero_bits, is_prefix, prefix_bits, one_bits, ip_block}
@@ -56,7 +57,7 @@ module _ (last address : ℕ) (l : last ≤ 128) (h : address < 2 ^ 128) where
     unused = unused_of last;
     octets = octets_of (count_of last) (address / 2 ^ last * 2 ^ unused_of last);
     spelled = record {
-      enc = made 3 (unused_of last ∷ octets_of (count_of last) (address / 2 ^ last * 2 ^ unused_of last)) (omega arith) short;
+      enc = made BIT_STRING (unused_of last ∷ octets_of (count_of last) (address / 2 ^ last * 2 ^ unused_of last)) (omega arith) short;
       few = omega arith;
       none = no_octets;
       zero_bits = ap (λ (k : ℕ). k % 2 ^ unused_of last) octets_is ∙ mul-mod_left (address / 2 ^ last) (2 ^ unused_of last);
@@ -99,7 +100,7 @@ ip_block_made width whole P wide b p order small short =
       | inr f ↦
           let is : ip_block b ≡ sequence (without (zero_bits b.min) b.min ∷ without (one_bits b.max) b.max ∷ []) = rw f in
           let short' : Short (sequence (without (zero_bits b.min) b.min ∷ without (one_bits b.max) b.max ∷ [])) = subst Short is short in
-          let shorts = pieces_short (without (zero_bits b.min) b.min ∷ without (one_bits b.max) b.max ∷ []) (content_short 0x30 _ short') in
+          let shorts = pieces_short (without (zero_bits b.min) b.min ∷ without (one_bits b.max) b.max ∷ []) (content_short SEQUENCE _ short') in
           let low = without_made (zero_bits b.min) b.min (greatest_le _ 128) (omega arith) width (wide b p).0 whole shorts.0 in
           let high = without_made (one_bits b.max) b.max (greatest_le _ 128) small width (wide b p).1 whole shorts.1.0 in
           let low_is = zeros_are b.min (zero_bits b.min) (eqb-true _ _ (greatest_passes (λ last. b.min % 2 ^ last == 0) 128 (eq-eqb _ _ (mod-one b.min)))) in
@@ -111,7 +112,7 @@ ip_block_made width whole P wide b p order small short =
             high = around (one_bits b.max) b.max;
             low_is = low;
             high_is = high;
-            sequence = made 0x30 _ (omega arith) short';
+            sequence = made SEQUENCE _ (omega arith) short';
             ordered = omega (arith, low_is, high_is);
             is = same_block _ _ (sym low_is) (sym high_is);
           } in

@@ -1,51 +1,43 @@
 -- How long what is written is, and an error that says that it is too long.
-use Rattle.std.proofs.Common.{true, ◌≡◌, ◌≢◌, ℕ, ◌+◌, ◌^◌, ◌≤◌, List, [], ◌∷◌, ◌++◌, length, Option, Some, None, Result, Ok, Err, map, arith, refl, ap}
-use Rattle.std.specs.Prelude.{IsErrAnd, IsErrOf}
+use Rattle.std.proofs.Common.{true, ◌≡◌, ◌≢◌, ℕ, ◌+◌, ◌^◌, ◌≤◌, List, [], ◌∷◌, ◌++◌, length, Option, Some, None, map, arith, refl, ap}
 use Rattle.std.specs.List.{concat}
 use Rattle.std.proofs.lemmas.List.{length-append}
 use Rattle.std.proofs.lemmas.List.Folds.{concat-append}
 use Rattle.rpki_der.specs.Values.{enc, length_octets, sequence, sequence_of_some}
 use Rattle.rpki_der.specs.Primitives.{null}
-use Rattle.rpki_blocks.specs.Lengths.{SaysLong, text_of}
+use Rattle.rpki_blocks.specs.Lengths.{text_of}
 use Rattle.rpki_blocks.specs.Resources.{Resources, missing, inherit, blocks}
 use Rattle.rpki_blocks.specs.Addresses.{family, ip_addr_blocks}
 use Rattle.rpki_blocks.specs.AddressBits.{ip_block}
 use Rattle.rpki_blocks.specs.Systems.{as_block, written_as}
 use Rattle.rpki_blocks.specs.Unions.{written_choice}
 use Rattle.rpki_der.specs.Extensions.{content_of_some}
+use Rattle.rpki_der.specs.Tags.{NULL, OBJECT_IDENTIFIER, OCTET_STRING, SEQUENCE, CONTEXT_CONSTRUCTED}
 use Rattle.rpki_der.proofs.ValueWritten.{enc_longer}
-use Rattle.rpki_der.specs.declared.error.EncodeError.{EncodeError}
-use Rattle.rpki_der.specs.declared.error.EncodeError.TheVariants.{TooLong}
-
-pub passed_long : {T U : Type 0} (r : Result T EncodeError) (e : EncodeError) (part whole : List ℕ) → IsErrAnd r (λ y. y ≡ e) → SaysLong {T = U} (Err e) part → length part ≤ length whole → SaysLong r whole
-passed_long (Ok x) e part whole same says le = λ long. absurd cc
-passed_long {T} {U} (Err d) e part whole same says le = λ long.
-    let is : IsErrOf {T = U} {E = EncodeError} (Err e) TooLong = cc in
-    let much : 2 ^ 32 ≤ length part = says is in
-    omega arith
+pub use Rattle.rpki_der.proofs.TooLong.{passed_long}
 
 -- an extension is longer than its content
 pub content_longer : (id : List ℕ) (o : Option (List ℕ)) → length (text_of o) ≤ length (content_of_some id true o)
 content_longer id None = omega arith
-content_longer id (Some c) = omega (arith, enc_longer 4 c, length-append (enc 4 c) [], length-append (1 ∷ 1 ∷ 255 ∷ []) (enc 4 c ++ []), length-append (enc 6 id) ((1 ∷ 1 ∷ 255 ∷ []) ++ (enc 4 c ++ [])))
+content_longer id (Some c) = omega (arith, enc_longer OCTET_STRING c, length-append (enc OCTET_STRING c) [], length-append (1 ∷ 1 ∷ 255 ∷ []) (enc OCTET_STRING c ++ []), length-append (enc OBJECT_IDENTIFIER id) ((1 ∷ 1 ∷ 255 ∷ []) ++ (enc OCTET_STRING c ++ [])))
 
 -- ---- contents are longer than their parts
 
-pub null_is_enc : enc 5 [] ≡ null
+pub null_is_enc : enc NULL [] ≡ null
 unfolding enc length_octets
 null_is_enc = refl
 
 pub choice_longer : (r : Resources) → length (text_of (written_choice as_block r)) ≤ length (text_of (written_as r))
 choice_longer missing = omega arith
-choice_longer inherit = omega (arith, enc_longer 0x30 (enc 0xA0 null), enc_longer 0xA0 null)
-choice_longer (blocks bs) = omega (arith, enc_longer 0x30 (enc 0xA0 (sequence (map as_block bs))), enc_longer 0xA0 (sequence (map as_block bs)))
+choice_longer inherit = omega (arith, enc_longer SEQUENCE (enc (CONTEXT_CONSTRUCTED 0) null), enc_longer (CONTEXT_CONSTRUCTED 0) null)
+choice_longer (blocks bs) = omega (arith, enc_longer SEQUENCE (enc (CONTEXT_CONSTRUCTED 0) (sequence (map as_block bs))), enc_longer (CONTEXT_CONSTRUCTED 0) (sequence (map as_block bs)))
 
-pub numbers_longer : (r : Resources) → r ≢ missing → length (enc 0xA0 (text_of (written_choice as_block r))) ≤ length (text_of (written_as r))
+pub numbers_longer : (r : Resources) → r ≢ missing → length (enc (CONTEXT_CONSTRUCTED 0) (text_of (written_choice as_block r))) ≤ length (text_of (written_as r))
 numbers_longer missing some = absurd (some refl)
-numbers_longer inherit some = enc_longer 0x30 (enc 0xA0 null)
-numbers_longer (blocks bs) some = enc_longer 0x30 (enc 0xA0 (sequence (map as_block bs)))
+numbers_longer inherit some = enc_longer SEQUENCE (enc (CONTEXT_CONSTRUCTED 0) null)
+numbers_longer (blocks bs) some = enc_longer SEQUENCE (enc (CONTEXT_CONSTRUCTED 0) (sequence (map as_block bs)))
 
-family_is : (n : ℕ) (r : Resources) → r ≢ missing → concat (family n r) ≡ enc 0x30 ((4 ∷ 2 ∷ 0 ∷ n ∷ []) ++ (text_of (written_choice ip_block r) ++ [])) ++ []
+family_is : (n : ℕ) (r : Resources) → r ≢ missing → concat (family n r) ≡ enc SEQUENCE ((4 ∷ 2 ∷ 0 ∷ n ∷ []) ++ (text_of (written_choice ip_block r) ++ [])) ++ []
 family_is n missing some = absurd (some refl)
 family_is n inherit some = refl
 family_is n (blocks bs) some = refl
@@ -54,11 +46,11 @@ family_is n (blocks bs) some = refl
 pub family_longer : (n : ℕ) (r : Resources) → r ≢ missing → 4 + length (text_of (written_choice ip_block r)) ≤ length (concat (family n r))
 family_longer n r some =
     let c = text_of (written_choice ip_block r) in
-    omega (arith, ap length (family_is n r some), enc_longer 0x30 ((4 ∷ 2 ∷ 0 ∷ n ∷ []) ++ (text_of (written_choice ip_block r) ++ [])), length-append (4 ∷ 2 ∷ 0 ∷ n ∷ []) (text_of (written_choice ip_block r) ++ []), length-append (text_of (written_choice ip_block r)) [], length-append (enc 0x30 ((4 ∷ 2 ∷ 0 ∷ n ∷ []) ++ (text_of (written_choice ip_block r) ++ []))) [])
+    omega (arith, ap length (family_is n r some), enc_longer SEQUENCE ((4 ∷ 2 ∷ 0 ∷ n ∷ []) ++ (text_of (written_choice ip_block r) ++ [])), length-append (4 ∷ 2 ∷ 0 ∷ n ∷ []) (text_of (written_choice ip_block r) ++ []), length-append (text_of (written_choice ip_block r)) [], length-append (enc SEQUENCE ((4 ∷ 2 ∷ 0 ∷ n ∷ []) ++ (text_of (written_choice ip_block r) ++ []))) [])
 
 pub some_longer : (ps : List (List ℕ)) → length (concat ps) ≤ length (text_of (sequence_of_some ps))
 some_longer [] = omega arith
-some_longer (p ∷ ps) = enc_longer 0x30 (concat (p ∷ ps))
+some_longer (p ∷ ps) = enc_longer SEQUENCE (concat (p ∷ ps))
 
 pub families_longer : (v4 v6 : Resources) → length (concat (family 1 v4)) + length (concat (family 2 v6)) ≤ length (text_of (ip_addr_blocks v4 v6))
 families_longer v4 v6 = omega (arith, some_longer (family 1 v4 ++ family 2 v6), ap length (concat-append (family 1 v4) (family 2 v6)), length-append (concat (family 1 v4)) (concat (family 2 v6)))
@@ -70,7 +62,7 @@ long_value t c h = omega (arith, enc_longer t c)
 
 -- a SEQUENCE of two is longer than both
 pub two_longer : (a b : List ℕ) → length a + length b ≤ length (sequence (a ∷ b ∷ []))
-two_longer a b = omega (arith, length-append a (b ++ []), length-append b [], enc_longer 0x30 (a ++ (b ++ [])))
+two_longer a b = omega (arith, length-append a (b ++ []), length-append b [], enc_longer SEQUENCE (a ++ (b ++ [])))
 
 -- what was put together of two is too long
 pub two_long : (start one two ends a b : List ℕ) → start ≡ [] → one ≡ start ++ a → two ≡ one ++ b → ends ≡ two → 2 ^ 32 ≤ length ends → 2 ^ 32 ≤ length (sequence (a ∷ b ∷ []))

@@ -4,6 +4,7 @@ use Rattle.std.specs.List.{AllByRecursion}
 use Rattle.std.proofs.Common.{ℕ, ◌+◌, ◌-◌, ◌*◌, ◌/◌, ◌%◌, ◌^◌, ◌<◌, zero, suc, List, [], ◌∷◌, ◌++◌, length, map, Option, Some, None, ◌≡◌, subst, sym, refl, arith, inl, inr}
 use Rattle.rpki_der.specs.Values.{AreOctets, sequence, sequence_of_some}
 use Rattle.rpki_der.specs.Primitives.{number}
+use Rattle.rpki_der.specs.Tags.{BIT_STRING, SEQUENCE}
 use Rattle.rpki_blocks.specs.Sets.{Block}
 use Rattle.rpki_blocks.specs.Resources.{Resources, missing, inherit, blocks}
 use Rattle.rpki_blocks.specs.Addresses.{Ip, family_pieces, family, ip}
@@ -20,20 +21,20 @@ octets_of_are (suc count) n = AreOctets-append (octets_of count (n / 256)) ((n %
 
 ok_without : (last address : ℕ) → IfShort (without last address)
 unfolding without
-ok_without last address = ok_enc 3 _ (omega arith) (λ l. (omega arith, octets_of_are ((128 - last + 7) / 8) (address / 2 ^ last * 2 ^ (8 * ((128 - last + 7) / 8) - (128 - last)))))
+ok_without last address = ok_enc BIT_STRING _ (omega arith) (λ l. (omega arith, octets_of_are ((128 - last + 7) / 8) (address / 2 ^ last * 2 ^ (8 * ((128 - last + 7) / 8) - (128 - last)))))
 
 ok_ip_block : (b : Block) → IfShort (ip_block b)
 ok_ip_block b =
     elim (bool_cases (is_prefix b (prefix_bits b))) [
       | inl t ↦ subst IfShort (sym (let e : ip_block b ≡ without (prefix_bits b) b.min = rw t in e)) (ok_without (prefix_bits b) b.min)
-      | inr f ↦ subst IfShort (sym (let e : ip_block b ≡ sequence (without (zero_bits b.min) b.min ∷ without (one_bits b.max) b.max ∷ []) = rw f in e)) (ok_enc 0x30 _ (omega arith) (ok_concat (without (zero_bits b.min) b.min ∷ without (one_bits b.max) b.max ∷ []) (ok_without (zero_bits b.min) b.min, (ok_without (one_bits b.max) b.max, tt))))
+      | inr f ↦ subst IfShort (sym (let e : ip_block b ≡ sequence (without (zero_bits b.min) b.min ∷ without (one_bits b.max) b.max ∷ []) = rw f in e)) (ok_enc SEQUENCE _ (omega arith) (ok_concat (without (zero_bits b.min) b.min ∷ without (one_bits b.max) b.max ∷ []) (ok_without (zero_bits b.min) b.min, (ok_without (one_bits b.max) b.max, tt))))
     ]
 
 ok_as_block : (b : Block) → IfShort (as_block b)
 ok_as_block b =
     elim (bool_cases (b.min == b.max)) [
       | inl t ↦ subst IfShort (sym (let e : as_block b ≡ number b.min = rw t in e)) (ok_number b.min)
-      | inr f ↦ subst IfShort (sym (let e : as_block b ≡ sequence (number b.min ∷ number b.max ∷ []) = rw f in e)) (ok_enc 0x30 _ (omega arith) (ok_concat (number b.min ∷ number b.max ∷ []) (ok_number b.min, (ok_number b.max, tt))))
+      | inr f ↦ subst IfShort (sym (let e : as_block b ≡ sequence (number b.min ∷ number b.max ∷ []) = rw f in e)) (ok_enc SEQUENCE _ (omega arith) (ok_concat (number b.min ∷ number b.max ∷ []) (ok_number b.min, (ok_number b.max, tt))))
     ]
 
 ok_map : (write : Block → List ℕ) → ((b : Block) → IfShort (write b)) → (bs : List Block) → AllByRecursion IfShort (map write bs)
@@ -43,15 +44,15 @@ ok_map write h (b ∷ bs) = (h b, ok_map write h bs)
 ok_choice : (write : Block → List ℕ) → ((b : Block) → IfShort (write b)) → (r : Resources) → IfSome (written_choice write r) IfShort
 ok_choice write h missing = tt
 ok_choice write h inherit = λ l. literal (5 ∷ 0 ∷ []) refl
-ok_choice write h (blocks bs) = ok_enc 0x30 _ (omega arith) (ok_concat (map write bs) (ok_map write h bs))
+ok_choice write h (blocks bs) = ok_enc SEQUENCE _ (omega arith) (ok_concat (map write bs) (ok_map write h bs))
 
 pub ok_pieces : (ps : List (List ℕ)) → AllByRecursion IfShort ps → IfSome (sequence_of_some ps) IfShort
 ok_pieces [] h = tt
-ok_pieces (p ∷ ps) h = ok_enc 0x30 _ (omega arith) (ok_concat (p ∷ ps) h)
+ok_pieces (p ∷ ps) h = ok_enc SEQUENCE _ (omega arith) (ok_concat (p ∷ ps) h)
 
 ok_family_of : (n : ℕ) → n < 256 → (o : Option (List ℕ)) → IfSome o IfShort → (ps : List (List ℕ)) → AllByRecursion IfShort ps → AllByRecursion IfShort (family_pieces n o ++ ps)
 ok_family_of n small None h ps rest = rest
-ok_family_of n small (Some c) h ps rest = (ok_enc 0x30 _ (omega arith) (ok_concat ((4 ∷ 2 ∷ 0 ∷ n ∷ []) ∷ c ∷ []) ((λ l. (omega arith, (omega arith, (omega arith, (small, tt))))), (h, tt))), rest)
+ok_family_of n small (Some c) h ps rest = (ok_enc SEQUENCE _ (omega arith) (ok_concat ((4 ∷ 2 ∷ 0 ∷ n ∷ []) ∷ c ∷ []) ((λ l. (omega arith, (omega arith, (omega arith, (small, tt))))), (h, tt))), rest)
 
 pub ok_ip : (i : Ip) → IfSome (ip i) IfShort
 ok_ip i = ok_pieces (family 1 i.v4 ++ family 2 i.v6) (ok_family_of 1 (omega arith) (written_choice ip_block i.v4) (ok_choice ip_block ok_ip_block i.v4) (family 2 i.v6) (six (written_choice ip_block i.v6) (ok_choice ip_block ok_ip_block i.v6)))

@@ -9,6 +9,7 @@ use Rattle.std.proofs.lemmas.Option.{same_Some}
 use Rattle.rpki_der.specs.Rows.{IsRow}
 use Rattle.rpki_der.specs.Primitives.{number}
 use Rattle.rpki_der.specs.Values.{sequence, nested, sequence_of_some}
+use Rattle.rpki_der.specs.Tags.{SEQUENCE}
 use Rattle.rpki_der.proofs.ValueWritten.{Short, bool_cases, made, content_short, pieces_short, number_made, nested_made, nested_short}
 use Rattle.rpki_blocks.specs.Sets.{Block, IsChain}
 use Rattle.rpki_blocks.specs.Prefixes.{is_v4_block, AreV4}
@@ -29,13 +30,13 @@ as_block_made b order small short =
       | inr f ↦
           let is : as_block b ≡ sequence (number b.min ∷ number b.max ∷ []) = rw f in
           let short' : Short (sequence (number b.min ∷ number b.max ∷ [])) = subst Short is short in
-          let shorts = pieces_short (number b.min ∷ number b.max ∷ []) (content_short 0x30 _ short') in
+          let shorts = pieces_short (number b.min ∷ number b.max ∷ []) (content_short SEQUENCE _ short') in
           let range : IsASRange b (sequence (number b.min ∷ number b.max ∷ [])) = record {
             from = number b.min;
             to = number b.max;
             from_is = record { number = number_made b.min shorts.0; small = omega arith };
             to_is = record { number = number_made b.max shorts.1.0; small = small };
-            sequence = made 0x30 _ (omega arith) short';
+            sequence = made SEQUENCE _ (omega arith) short';
             ordered = order;
           } in
           inl (subst (λ (s : List ℕ). IsASRange b s) (sym is) range)
@@ -104,10 +105,10 @@ choice_made P write element w (blocks []) c e f s = absurd (f.0 refl)
 choice_made P write element w (blocks (b ∷ bs)) c e f s =
     let is : sequence (map write (b ∷ bs)) ≡ c = same_Some _ _ e in
     let short : Short (sequence (map write (b ∷ bs))) = subst Short (sym is) s in
-    let row = elements_made P write element w (b ∷ bs) f.2 (pieces_short (map write (b ∷ bs)) (content_short 0x30 _ short)) in
+    let row = elements_made P write element w (b ∷ bs) f.2 (pieces_short (map write (b ∷ bs)) (content_short SEQUENCE _ short)) in
     subst (λ (x : List ℕ). IsResourceChoice element (blocks (b ∷ bs)) x) is (inl (record {
       elements = b ∷ bs;
-      spelled = record { content = concat (map write (b ∷ bs)); content_is = row; enc = made 0x30 _ (omega arith) short };
+      spelled = record { content = concat (map write (b ∷ bs)); content_is = row; enc = made SEQUENCE _ (omega arith) short };
       union = record { chain = b ∷ bs; is_chain = f.1; same = λ n. refl; is = refl };
     }))
 
@@ -137,8 +138,8 @@ as_resources_made r c e f s = go (written_choice as_block r) refl e
 one_family : (n width : ℕ) (P : Block → Type 0) → Writes P ip_block (IsIPAddressOrRange width) → (r : Resources) (c : List ℕ) → written_choice ip_block r ≡ Some c → FitsWith P r → Short (sequence ((4 ∷ 2 ∷ 0 ∷ n ∷ []) ∷ c ∷ [])) → IsIPAddressFamily n width r (sequence ((4 ∷ 2 ∷ 0 ∷ n ∷ []) ∷ c ∷ []))
 one_family n width P w r c k f short = record {
   choice = c;
-  choice_is = choice_made P ip_block (IsIPAddressOrRange width) w r c k f (pieces_short ((4 ∷ 2 ∷ 0 ∷ n ∷ []) ∷ c ∷ []) (content_short 0x30 _ short)).1.0;
-  sequence = made 0x30 _ (omega arith) short;
+  choice_is = choice_made P ip_block (IsIPAddressOrRange width) w r c k f (pieces_short ((4 ∷ 2 ∷ 0 ∷ n ∷ []) ∷ c ∷ []) (content_short SEQUENCE _ short)).1.0;
+  sequence = made SEQUENCE _ (omega arith) short;
 }
 
 -- a family that is missing isn't written; another is one value
@@ -185,18 +186,18 @@ ip_made i c e f4 only_v4 f6 s =
         | inr b ↦
             let is : sequence (b.0 ∷ []) ≡ c = same_Some _ _ (rw (a.1, b.1) at e) in
             let short : Short (sequence (b.0 ∷ [])) = subst Short (sym is) s in
-            subst (λ (x : List ℕ). IsIPAddrBlocks (written_families i) x) is (record { pieces = b.0 ∷ []; families = inr ((i.v6, b.2 (pieces_short (b.0 ∷ []) (content_short 0x30 _ short)).0, present_some i.v6 b.3), present_none i.v4 a.0); sequence = made 0x30 _ (omega arith) short })
+            subst (λ (x : List ℕ). IsIPAddrBlocks (written_families i) x) is (record { pieces = b.0 ∷ []; families = inr ((i.v6, b.2 (pieces_short (b.0 ∷ []) (content_short SEQUENCE _ short)).0, present_some i.v6 b.3), present_none i.v4 a.0); sequence = made SEQUENCE _ (omega arith) short })
       ]
       | inr a ↦ elim (family_made 2 128 IsV6 v6_writes i.v6 (fits_v6 i.v6 f6)) [
         | inl b ↦
             let is : sequence (a.0 ∷ []) ≡ c = same_Some _ _ (rw (a.1, b.1) at e) in
             let short : Short (sequence (a.0 ∷ [])) = subst Short (sym is) s in
-            subst (λ (x : List ℕ). IsIPAddrBlocks (written_families i) x) is (record { pieces = a.0 ∷ []; families = inl ((i.v4, a.2 (pieces_short (a.0 ∷ []) (content_short 0x30 _ short)).0, present_some i.v4 a.3), present_none i.v6 b.0); sequence = made 0x30 _ (omega arith) short })
+            subst (λ (x : List ℕ). IsIPAddrBlocks (written_families i) x) is (record { pieces = a.0 ∷ []; families = inl ((i.v4, a.2 (pieces_short (a.0 ∷ []) (content_short SEQUENCE _ short)).0, present_some i.v4 a.3), present_none i.v6 b.0); sequence = made SEQUENCE _ (omega arith) short })
         | inr b ↦
             let is : sequence (a.0 ∷ b.0 ∷ []) ≡ c = same_Some _ _ (rw (a.1, b.1) at e) in
             let short : Short (sequence (a.0 ∷ b.0 ∷ [])) = subst Short (sym is) s in
-            let shorts = pieces_short (a.0 ∷ b.0 ∷ []) (content_short 0x30 _ short) in
-            subst (λ (x : List ℕ). IsIPAddrBlocks (written_families i) x) is (record { pieces = a.0 ∷ b.0 ∷ []; families = inl ((i.v4, a.2 shorts.0, present_some i.v4 a.3), (i.v6, b.2 shorts.1.0, present_some i.v6 b.3)); sequence = made 0x30 _ (omega arith) short })
+            let shorts = pieces_short (a.0 ∷ b.0 ∷ []) (content_short SEQUENCE _ short) in
+            subst (λ (x : List ℕ). IsIPAddrBlocks (written_families i) x) is (record { pieces = a.0 ∷ b.0 ∷ []; families = inl ((i.v4, a.2 shorts.0, present_some i.v4 a.3), (i.v6, b.2 shorts.1.0, present_some i.v6 b.3)); sequence = made SEQUENCE _ (omega arith) short })
       ]
     ]
 

@@ -7,6 +7,7 @@ use Rattle.rpki_der.specs.Reading.{inside, both, Reads, Both, Inside}
 use Rattle.rpki_der.specs.Rows.Reading.{Shrinks}
 use Rattle.rpki_der.specs.Choices.{Either}
 use Rattle.rpki_der.specs.Choices.{turned, Turned, content_or}
+use Rattle.rpki_der.specs.Tags.{INTEGER, SEQUENCE, CONTEXT_CONSTRUCTED}
 use Rattle.rpki_der.proofs.Octets.{some, some_is}
 use Rattle.rpki_der.proofs.Readings.{both_reads, inside_reads, same_reads, whole_reads}
 use Rattle.rpki_der.proofs.PrimitiveReads.{u32_reads}
@@ -24,7 +25,7 @@ between p = ordered p.0 p.1
 abbrev AsRange : Block → List ℕ → Type 0
 AsRange = Turned between (Both IsU32 IsU32)
 
-range_is : (r : Block) (b : List ℕ) → Inside 0x30 AsRange r b → IsASIdOrRange r b
+range_is : (r : Block) (b : List ℕ) → Inside SEQUENCE AsRange r b → IsASIdOrRange r b
 range_is r b s =
     let p = s.1.1 in
     let o = ordered_is s.1.0.0 s.1.0.1 r s.1.2 in
@@ -46,7 +47,7 @@ id_is r b s =
     let max : s.0 ≡ r.max = ap (λ (x : Block). x.max) same in
     inr (sym min ∙ max, subst (λ (n : ℕ). IsU32 n b) min s.1)
 
-is_element : (r : Block) (b : List ℕ) → IsASIdOrRange r b → Either (Inside 0x30 AsRange) (Turned single IsU32) r b
+is_element : (r : Block) (b : List ℕ) → IsASIdOrRange r b → Either (Inside SEQUENCE AsRange) (Turned single IsU32) r b
 is_element r b h =
     elim h [
       | inl s ↦ inl (s.from ++ s.to, ((r.min, r.max), (s.from, s.to, s.from_is, s.to_is, refl), is_ordered r.min r.max r s.ordered refl), pieces_two s.from s.to b s.sequence)
@@ -56,25 +57,25 @@ is_element r b h =
 as_element_reads : Reads as_element_at IsASIdOrRange
 unfolding as_element_at
 as_element_reads =
-    same_reads (content_or 0x30 as_range_of as_id) (Either (Inside 0x30 AsRange) (Turned single IsU32)) IsASIdOrRange
-    (content_or_reads 0x30 as_range_of as_id AsRange (Turned single IsU32)
+    same_reads (content_or SEQUENCE as_range_of as_id) (Either (Inside SEQUENCE AsRange) (Turned single IsU32)) IsASIdOrRange
+    (content_or_reads SEQUENCE as_range_of as_id AsRange (Turned single IsU32)
     (whole_reads (turned between (both u32_at u32_at)) AsRange
     (turned_reads between (both u32_at u32_at) (Both IsU32 IsU32) (both_reads u32_at u32_at IsU32 IsU32 u32_reads u32_reads)))
     (turned_reads single u32_at IsU32 u32_reads)
-    (λ r text rest s. let b = enc_begins 2 _ text s.1.number.enc in other_tag 0x30 2 text rest b.0 b.1 (λ e. absurd (omega arith))))
+    (λ r text rest s. let b = enc_begins INTEGER _ text s.1.number.enc in other_tag SEQUENCE 2 text rest b.0 b.1 (λ e. absurd (omega arith))))
     (λ r text h. elim h [ inl s ↦ range_is r text s | inr s ↦ id_is r text s ])
     is_element
 
 pub as_element_shrinks : Shrinks as_element_at
 unfolding as_element_at u32_at
-as_element_shrinks = content_or_shrinks 0x30 as_range_of as_id (turned_shrinks single u32_at (content_shrinks 2 _))
+as_element_shrinks = content_or_shrinks SEQUENCE as_range_of as_id (turned_shrinks single u32_at (content_shrinks INTEGER _))
 
 pub as_reads : Reads as_identifiers_at IsASIdentifiers
 unfolding as_identifiers_at
 as_reads =
     let C = IsResourceChoice IsASIdOrRange in
-    same_reads (inside 0x30 (inside 0xA0 (choice_at as_element_at))) (Inside 0x30 (Inside 0xA0 C)) IsASIdentifiers
-    (inside_reads 0x30 (inside 0xA0 (choice_at as_element_at)) (Inside 0xA0 C)
-    (inside_reads 0xA0 (choice_at as_element_at) C (choice_reads as_element_at IsASIdOrRange as_element_reads as_element_shrinks)))
+    same_reads (inside SEQUENCE (inside (CONTEXT_CONSTRUCTED 0) (choice_at as_element_at))) (Inside SEQUENCE (Inside (CONTEXT_CONSTRUCTED 0) C)) IsASIdentifiers
+    (inside_reads SEQUENCE (inside (CONTEXT_CONSTRUCTED 0) (choice_at as_element_at)) (Inside (CONTEXT_CONSTRUCTED 0) C)
+    (inside_reads (CONTEXT_CONSTRUCTED 0) (choice_at as_element_at) C (choice_reads as_element_at IsASIdOrRange as_element_reads as_element_shrinks)))
     (λ r text s. record { choice = s.1.0; choice_is = s.1.1; nested = (s.0, s.2, (s.1.0, s.1.2, refl)) })
-    (λ r text s. (s.nested.0, (s.choice, s.choice_is, subst (λ (c : List ℕ). IsEnc 0xA0 c s.nested.0) s.nested.2.2 s.nested.2.1), s.nested.1))
+    (λ r text s. (s.nested.0, (s.choice, s.choice_is, subst (λ (c : List ℕ). IsEnc (CONTEXT_CONSTRUCTED 0) c s.nested.0) s.nested.2.2 s.nested.2.1), s.nested.1))

@@ -10,6 +10,7 @@ use Rattle.rpki_der.specs.Rows.Reading.{row_of, Shrinks}
 use Rattle.rpki_der.specs.Reading.{Reads, Inside}
 use Rattle.rpki_der.specs.Choices.{Either}
 use Rattle.rpki_der.specs.Choices.{Turned, content_or}
+use Rattle.rpki_der.specs.Tags.{SEQUENCE}
 use Rattle.rpki_der.proofs.Octets.{some, some_is, unless_some}
 use Rattle.rpki_der.proofs.Readings.{same_reads}
 use Rattle.rpki_der.proofs.PrimitiveReads.{null_reads}
@@ -29,7 +30,7 @@ abbrev inherited : Unit {0} → Option Resources
 inherited u = Some inherit
 
 module _ (element : List ℕ → Option (Block × List ℕ)) (S : Block → List ℕ → Type 0) where
-  choice_is : (r : Resources) (b : List ℕ) → Either (Inside 0x30 (Turned listed_of (IsRow S))) (Turned inherited IsNull) r b → IsResourceChoice S r b
+  choice_is : (r : Resources) (b : List ℕ) → Either (Inside SEQUENCE (Turned listed_of (IsRow S))) (Turned inherited IsNull) r b → IsResourceChoice S r b
   choice_is r b h =
       elim h [
         | inl s ↦ inl (record {
@@ -40,7 +41,7 @@ module _ (element : List ℕ → Option (Block × List ℕ)) (S : Block → List
         | inr s ↦ inr (sym (some_is inherit r s.2), s.1)
       ]
 
-  is_choice : (r : Resources) (b : List ℕ) → IsResourceChoice S r b → Either (Inside 0x30 (Turned listed_of (IsRow S))) (Turned inherited IsNull) r b
+  is_choice : (r : Resources) (b : List ℕ) → IsResourceChoice S r b → Either (Inside SEQUENCE (Turned listed_of (IsRow S))) (Turned inherited IsNull) r b
   is_choice r b h =
       elim h [
         | inl s ↦ inl (s.spelled.content, (s.elements, s.spelled.content_is, ap some (sym (union_is s.elements r s.union))), s.spelled.enc)
@@ -50,11 +51,11 @@ module _ (element : List ℕ → Option (Block × List ℕ)) (S : Block → List
   pub choice_reads : Reads element S → Shrinks element → Reads (choice_at element) (IsResourceChoice S)
   unfolding choice_at
   choice_reads law less =
-      same_reads (content_or 0x30 (union_of element) inherit_at) (Either (Inside 0x30 (Turned listed_of (IsRow S))) (Turned inherited IsNull)) (IsResourceChoice S)
-      (content_or_reads 0x30 (union_of element) inherit_at (Turned listed_of (IsRow S)) (Turned inherited IsNull)
+      same_reads (content_or SEQUENCE (union_of element) inherit_at) (Either (Inside SEQUENCE (Turned listed_of (IsRow S))) (Turned inherited IsNull)) (IsResourceChoice S)
+      (content_or_reads SEQUENCE (union_of element) inherit_at (Turned listed_of (IsRow S)) (Turned inherited IsNull)
       (turned_whole listed_of (row_of element) (IsRow S) (row_reads element S law less))
       (turned_reads inherited null_at IsNull null_reads)
-      (λ r text rest s. other_tag 0x30 5 text rest (0 ∷ []) s.1 (λ e. absurd (omega arith))))
+      (λ r text rest s. other_tag SEQUENCE 5 text rest (0 ∷ []) s.1 (λ e. absurd (omega arith))))
       choice_is is_choice
 
 -- ---- ends in order
@@ -67,8 +68,8 @@ is_ordered low high r h e = rw (le-ltb high low h, e) refl
 
 -- ---- SEQUENCE of two
 
-pub two_pieces : (a b c text : List ℕ) → c ≡ a ++ b → IsEnc 0x30 c text → IsSequence (a ∷ b ∷ []) text
-two_pieces a b c text e s = subst (λ (x : List ℕ). IsEnc 0x30 x text) (e ∙ ap (λ (x : List ℕ). a ++ x) (sym (append-nil b))) s
+pub two_pieces : (a b c text : List ℕ) → c ≡ a ++ b → IsEnc SEQUENCE c text → IsSequence (a ∷ b ∷ []) text
+two_pieces a b c text e s = subst (λ (x : List ℕ). IsEnc SEQUENCE x text) (e ∙ ap (λ (x : List ℕ). a ++ x) (sym (append-nil b))) s
 
-pub pieces_two : (a b text : List ℕ) → IsSequence (a ∷ b ∷ []) text → IsEnc 0x30 (a ++ b) text
-pieces_two a b text s = subst (λ (x : List ℕ). IsEnc 0x30 x text) (ap (λ (x : List ℕ). a ++ x) (append-nil b)) s
+pub pieces_two : (a b text : List ℕ) → IsSequence (a ∷ b ∷ []) text → IsEnc SEQUENCE (a ++ b) text
+pieces_two a b text s = subst (λ (x : List ℕ). IsEnc SEQUENCE x text) (ap (λ (x : List ℕ). a ++ x) (append-nil b)) s

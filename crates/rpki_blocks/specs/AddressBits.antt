@@ -1,4 +1,5 @@
--- How blocks of addresses are written: the bits that stand, and those that are left out (RFC 3779 2.1.2, 2.2.3.8, 2.2.3.9).
+-- How blocks of addresses are written: the bits that stand, and those that are left out (RFC 3779
+-- 2.1.2, 2.2.3.8, 2.2.3.9).
 use Rattle.std.specs.Prelude.{◌≡◌, ℕ, zero, suc, ◌+◌, ◌-◌, ◌*◌, ◌/◌, ◌%◌, ◌^◌, ◌==◌, ◌&&◌, Bool, true, false, cond, List, [], ◌∷◌, ◌++◌, Option, Some, None}
 use Rattle.rpki_der.specs.Tags.{BIT_STRING}
 use Rattle.rpki_der.specs.Values.{enc, sequence}
@@ -40,7 +41,8 @@ zero_bits n = greatest (λ last. n % 2 ^ last == 0) 128
 abbrev pub one_bits : ℕ → ℕ
 one_bits n = greatest (λ last. (n + 1) % 2 ^ last == 0) 128
 
--- IPAddressRange: the lower end without its trailing zero bits, the upper end without its trailing one bits
+-- IPAddressRange: the lower end without its trailing zero bits, the upper end without its trailing
+-- one bits
 abbrev pub ip_range : ℕ → ℕ → List ℕ
 ip_range min max = sequence (without (zero_bits min) min ∷ without (one_bits max) max ∷ [])
 

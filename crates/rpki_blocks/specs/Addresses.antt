@@ -11,7 +11,8 @@ use Rattle.rpki_blocks.specs.Unions.{IsResourceChoice, written_choice}
 pub mod Reading
 pub mod Views
 
--- the least address that begins with some bits: filled with zeros to 128 bits. IPv4 stands in the upper 32 bits (own)
+-- the least address that begins with some bits: filled with zeros to 128 bits. IPv4 stands in the
+-- upper 32 bits (own)
 abbrev pub lower : List ℕ → ℕ
 lower octets = number_from_digits 256 octets * 2 ^ (128 - 8 * length octets)
 
@@ -19,7 +20,8 @@ lower octets = number_from_digits 256 octets * 2 ^ (128 - 8 * length octets)
 abbrev pub upper : ℕ → List ℕ → ℕ
 upper unused octets = lower octets + 2 ^ (128 - 8 * length octets + unused) - 1
 
--- IPAddress (2.2.3.8): a BIT STRING of at most as many bits as an address of the family has. These are the addresses that begin so
+-- IPAddress (2.2.3.8): a BIT STRING of at most as many bits as an address of the family has. These
+-- are the addresses that begin so
 pub record IsIPAddress (bits : ℕ) (r : Block) (b : List ℕ) : Type 0 where
   pub unused : ℕ
   pub octets : List ℕ
@@ -27,8 +29,9 @@ pub record IsIPAddress (bits : ℕ) (r : Block) (b : List ℕ) : Type 0 where
   pub fits : 8 * length octets ≤ bits
   pub is : r ≡ record { min = lower octets; max = upper unused octets }
 
--- IPAddressRange (2.2.3.9): SEQUENCE of the least address, without zeros at its end, and of the greatest, without ones. A range that is
--- a prefix is read too, and so are ends with such bits (own)
+-- IPAddressRange (2.2.3.9): SEQUENCE of the least address, without zeros at its end, and of the
+-- greatest, without ones. A range that is a prefix is read too, and so are ends with such bits
+-- (own)
 pub record IsIPAddressRange (bits : ℕ) (r : Block) (b : List ℕ) : Type 0 where
   pub low : Block
   pub high : Block

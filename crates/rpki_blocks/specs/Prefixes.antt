@@ -14,8 +14,8 @@ pub record IsPrefixBlock (addr len : ℕ) (b : Block) : Type 0 where
   pub lower : b.min ≡ addr / 2 ^ (128 - len) * 2 ^ (128 - len)
   pub upper : b.max + 1 ≡ b.min + 2 ^ (128 - len)
 
--- whether the block is one of whole IPv4 addresses, which stand in the upper 32 bits: 96 zero bits at the foot of the lower
--- end, 96 one bits at that of the upper end
+-- whether the block is one of whole IPv4 addresses, which stand in the upper 32 bits: 96 zero bits
+-- at the foot of the lower end, 96 one bits at that of the upper end
 abbrev pub is_v4_block : Block → Bool
 is_v4_block b = (b.min % 2 ^ 96 == 0) && (b.max % 2 ^ 96 == 2 ^ 96 - 1)
 

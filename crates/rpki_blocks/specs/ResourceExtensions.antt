@@ -1,4 +1,5 @@
--- The extensions that are written of resources: critical, under the identifier of the mode, and none where there is no content.
+-- The extensions that are written of resources: critical, under the identifier of the mode, and
+-- none where there is no content.
 use Rattle.std.specs.Prelude.{ℕ, true, List, Option}
 use Rattle.rpki_der.specs.Extensions.{part_of}
 use Rattle.rpki_der.specs.Writers.{Part}

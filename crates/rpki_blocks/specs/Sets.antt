@@ -21,7 +21,8 @@ is_in n bs = list_any (is_within n) bs
 abbrev pub Has : List Block → ℕ → Type 0
 Has bs n = IsTrue (is_in n bs)
 
--- ascending, disjoint and not adjacent: the one list of blocks of a set; the Rust struct Chain is one
+-- ascending, disjoint and not adjacent: the one list of blocks of a set; the Rust struct Chain is
+-- one
 abbrev pub IsChain : List Block → Type 0
 IsChain [] = Unit {0}
 IsChain (b ∷ []) = b.min ≤ b.max

@@ -13,7 +13,8 @@ pub mod Reading
 abbrev pub IsASId : ℕ → List ℕ → Type 0
 IsASId = IsU32
 
--- ASRange (3.2.3.8): SEQUENCE of the least and the greatest number. A range of one number is read too (own)
+-- ASRange (3.2.3.8): SEQUENCE of the least and the greatest number. A range of one number is read
+-- too (own)
 pub record IsASRange (r : Block) (b : List ℕ) : Type 0 where
   pub from : List ℕ
   pub to : List ℕ
@@ -25,7 +26,8 @@ pub record IsASRange (r : Block) (b : List ℕ) : Type 0 where
 abbrev pub IsASIdOrRange : Block → List ℕ → Type 0
 IsASIdOrRange r b = IsASRange r b ⊎ ((r.min ≡ r.max) × IsASId r.min b)
 
--- ASIdentifiers (3.2.3.1): the AS numbers, under the tag 0. Routing domain identifiers are refused (RFC 6487 4.8.11)
+-- ASIdentifiers (3.2.3.1): the AS numbers, under the tag 0. Routing domain identifiers are refused
+-- (RFC 6487 4.8.11)
 pub record IsASIdentifiers (r : Resources) (b : List ℕ) : Type 0 where
   pub choice : List ℕ
   pub choice_is : IsResourceChoice IsASIdOrRange r choice

@@ -10,7 +10,8 @@ use crate::chain::Chain;
 use std::alloc::{AllocError, Global};
 use std::marker::Model;
 
-/// Blocks that are to become a set, in the order in which they were pushed. They may overlap and touch.
+/// Blocks that are to become a set, in the order in which they were pushed. They may overlap and
+/// touch.
 #[derive(Drop)]
 pub struct BlocksBuilder<B: Bound> {
     blocks: Vec<Block<B>>,
@@ -41,7 +42,8 @@ impl<B: Bound> BlocksBuilder<B> {
         }
     }
 
-    /// One block more: a block, its two ends in either order, or a prefix. After an error the builder is as it was.
+    /// One block more: a block, its two ends in either order, or a prefix. After an error the
+    /// builder is as it was.
     pub fn push<T: Into<Block<B>>>(&mut self, block: T) -> Result<(), AllocError>
         ensures ok { OnOk result
             ((b : Span) × T.converts block b × (self.new ≡ self.old ++ b ∷ [])) }
@@ -51,8 +53,8 @@ impl<B: Bound> BlocksBuilder<B> {
         Ok(())
     }
 
-    /// The set of the numbers of the blocks that were pushed. It is made in place, in time n log n of the number of blocks, and
-    /// never errs.
+    /// The set of the numbers of the blocks that were pushed. It is made in place, in time n log n
+    /// of the number of blocks, and never errs.
     pub fn finalize(self) -> Result<Chain<B>, AllocError>
         ensures ok { IsOk result }
         ensures union { IfOk result (λ chain. HaveSameNumbers chain self) }

@@ -12,7 +12,8 @@ use std::alloc::{AllocError, Global};
 use std::marker::Model;
 use std::slice::Iter;
 
-/// A set of numbers, as blocks that ascend and neither overlap nor touch. So equal sets have equal blocks.
+/// A set of numbers, as blocks that ascend and neither overlap nor touch. So equal sets have equal
+/// blocks.
 #[derive(Drop)]
 pub struct Chain<B: Bound> {
     blocks: Vec<Block<B>>,

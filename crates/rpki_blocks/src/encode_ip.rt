@@ -27,7 +27,8 @@ impl Encode for Addr {
     }
 }
 
-// Appends a SEQUENCE of the lower end without its last zero bits and of the upper end without its last one bits.
+// Appends a SEQUENCE of the lower end without its last zero bits and of the upper end without its
+// last one bits.
 #[tactic(auto, using(crate::proofs::Lengths::two_longer))]
 fn put_range(alloc: Global, out: &mut Vec<u8>, min: u128, max: u128) -> Result<(), EncodeError>
     ensures ok { OnOk result (out.new.items ≡ out.old.items ++ ip_range min max) }

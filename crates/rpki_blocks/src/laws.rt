@@ -1,4 +1,4 @@
-//! Laws about the definitions. Each is the contract of a function with no parameters and an empty body.
+//! Laws about the definitions, each the contract of a function with no parameters and no body.
 
 ghost use Rattle.std.specs.Prelude.{◌≡◌, ◌-◌, ◌^◌, ◌<◌, ℕ, List, Some, length};
 ghost use Rattle.rpki_der.specs.Values.{IsUnambiguous};
@@ -19,8 +19,8 @@ pub fn unambiguous()
     ensures numbers { IsUnambiguous IsASIdentifiers }
 {}
 
-/// What is written of resources spells them, if it has fewer than 2^32 octets, and if what stands as IPv4 are whole IPv4
-/// addresses.
+/// What is written of resources spells them, if it has fewer than 2^32 octets, and if what stands
+/// as IPv4 are whole IPv4 addresses.
 pub fn written_is_read()
     ensures addresses { (i : Ip) (content : List ℕ) → ip i ≡ Some content →
         IsResources (2 ^ 128 - 1) i.v4 → AreV4 i.v4 → IsResources (2 ^ 128 - 1) i.v6 →

@@ -8,6 +8,7 @@ mod block;
 mod bound;
 mod builder;
 mod chain;
+pub mod comparing;
 mod elements;
 mod encode;
 mod encode_ip;

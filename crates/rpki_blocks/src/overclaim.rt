@@ -16,7 +16,8 @@ pub enum Overclaim {
 }
 
 impl Overclaim {
-    /// The content of the OBJECT IDENTIFIER of the certificate policy (RFC 6484 1.2, RFC 8360 4.2.1).
+    /// The content of the OBJECT IDENTIFIER of the certificate policy (RFC 6484 1.2, RFC 8360
+    /// 4.2.1).
     pub fn policy_id(self) -> &'static [u8]
         ensures identifier { result.now ≡ policy_identifier self }
         ensures valid { IsOid result.now }
@@ -27,7 +28,8 @@ impl Overclaim {
         }
     }
 
-    /// The content of the OBJECT IDENTIFIER of the extension with IP resources (RFC 3779 2.2.1, RFC 8360 4.2.2).
+    /// The content of the OBJECT IDENTIFIER of the extension with IP resources (RFC 3779 2.2.1, RFC
+    /// 8360 4.2.2).
     pub fn ip_res_id(self) -> &'static [u8]
         ensures identifier { result.now ≡ ip_identifier self }
         ensures valid { IsOid result.now }
@@ -38,7 +40,8 @@ impl Overclaim {
         }
     }
 
-    /// The content of the OBJECT IDENTIFIER of the extension with AS resources (RFC 3779 3.2.1, RFC 8360 4.2.3).
+    /// The content of the OBJECT IDENTIFIER of the extension with AS resources (RFC 3779 3.2.1, RFC
+    /// 8360 4.2.3).
     pub fn as_res_id(self) -> &'static [u8]
         ensures identifier { result.now ≡ as_identifier self }
         ensures valid { IsOid result.now }
@@ -61,7 +64,8 @@ impl Overclaim {
         )
     }
 
-    /// What the identifier of an extension with IP resources says, if it is [`Overclaim::ip_res_id`] of one.
+    /// What the identifier of an extension with IP resources says, if it is
+    /// [`Overclaim::ip_res_id`] of one.
     pub fn from_ip_res(identifier: &[u8]) -> Option<Overclaim>
         ensures named { IsNamed ip_identifier identifier.now result }
         ensures reads { result ≡ named ip_identifier identifier.now }
@@ -69,7 +73,8 @@ impl Overclaim {
         which(identifier, oid::PE_IP_ADDR_BLOCK, oid::PE_IP_ADDR_BLOCK_V2)
     }
 
-    /// What the identifier of an extension with AS resources says, if it is [`Overclaim::as_res_id`] of one.
+    /// What the identifier of an extension with AS resources says, if it is
+    /// [`Overclaim::as_res_id`] of one.
     pub fn from_as_res(identifier: &[u8]) -> Option<Overclaim>
         ensures named { IsNamed as_identifier identifier.now result }
         ensures reads { result ≡ named as_identifier identifier.now }

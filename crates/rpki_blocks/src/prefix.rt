@@ -66,8 +66,8 @@ fn ends(addr: u128, len: u8) -> (u128, u128)
 }
 
 impl IpBlocks {
-    /// Whether the set is one of whole IPv4 addresses, which stand in the upper 32 bits: every lower end has 96 zero bits and
-    /// every upper end 96 one bits at its foot.
+    /// Whether the set is one of whole IPv4 addresses, which stand in the upper 32 bits: every
+    /// lower end has 96 zero bits and every upper end 96 one bits at its foot.
     pub fn is_v4(&self) -> bool
         ensures { result ≡ list_all is_v4_block self.now }
     {

@@ -70,7 +70,8 @@ enum Choice<B: Bound> {
     Blocks(Chain<B>),
 }
 
-/// What a certificate lists of one kind of numbers: nothing, what its issuer has, or a set that isn't empty.
+/// What a certificate lists of one kind of numbers: nothing, what its issuer has, or a set that
+/// isn't empty.
 #[derive(Drop)]
 pub struct Resources<B: Bound> {
     choice: Choice<B>,
@@ -173,7 +174,8 @@ impl<B: Bound> Chain<B> {
 
     /// The set that resources list; missing ones list the empty set.
     pub fn from_resources(alloc: Global, resources: Resources<B>) -> Result<Chain<B>, Inherited>
-        ensures { MatchResult result (ListsSet resources) (λ _. resources ≡ inherit) }
+        ensures listed { MatchResult result (ListsSet resources) (λ _. resources ≡ inherit) }
+        ensures set { IfOk result (IsSet B.greatest) }
     {
         match resources.choice {
             Choice::Missing => Ok(Self::empty(alloc)),
@@ -182,9 +184,10 @@ impl<B: Bound> Chain<B> {
         }
     }
 
-    /// The set that a certificate gets which lists resources, under an issuer with this set: nothing where they are missing,
-    /// the issuer's set where they are inherited, else the listed numbers. Listed numbers that the issuer doesn't have are
-    /// an error or left out, as `mode` says.
+    /// The set that a certificate gets which lists resources, under an issuer with this set:
+    /// nothing where they are missing, the issuer's set where they are inherited, else the listed
+    /// numbers. Listed numbers that the issuer doesn't have are an error or left out, as `mode`
+    /// says.
     pub fn verify_issued(
         &self,
         alloc: Global,

@@ -1,6 +1,5 @@
 -- Both directions of a reader, from what it gives.
-use Rattle.std.proofs.Common.{◌≡◌, ℕ, List, Option, None, Result, Ok, Err, sym, ◌∙◌}
-use Rattle.std.specs.Result.{IsErr}
+use Rattle.std.proofs.Common.{◌≡◌, ◌≢◌, ℕ, List, Option, None, Result, Ok, Err, sym, ◌∙◌}
 use Rattle.rpki_der.specs.declared.error.DecodeError.{DecodeError}
 use Rattle.rpki_der.specs.declared.error.DecodeError.TheVariants.{Memory}
 use Rattle.rpki_der.specs.Values.{AreOctets}
@@ -24,14 +23,18 @@ pub passed_on : {X Y : Type 0} (view : X → Y) (r : Result X DecodeError) (d : 
 passed_on view (Ok x) d o e h = absurd cc
 passed_on view (Err f) d o e h = let same : f ≡ d = cc in rw same h
 
--- an error of any kind, where nothing is read
-pub took_none : {X Y : Type 0} (view : X → Y) (read : List ℕ → Option (Y × List ℕ)) (old : Place) (r : Result X DecodeError) (new : Place) → IsErr r → read (left old) ≡ None → TookBy view read old r new
-took_none view read old (Ok x) new h e = absurd cc
-took_none view read old (Err d) new h e = e
+-- an error that is passed on, where nothing is read
+pub took_none : {X Y : Type 0} (view : X → Y) (read : List ℕ → Option (Y × List ℕ)) (old : Place) (r : Result X DecodeError) (new : Place) (d : DecodeError) → r ≡ Err d → d ≢ Memory → read (left old) ≡ None → TookBy view read old r new
+took_none view read old (Ok x) new d same other none = absurd cc
+took_none view read old (Err f) new d same other none = let e : f ≡ d = cc in (rw e other, none)
 
-pub gives_none : {X Y : Type 0} (view : X → Y) (r : Result X DecodeError) (o : Option Y) → IsErr r → o ≡ None → ReturnsBy view r o
-gives_none view (Ok x) o h e = absurd cc
-gives_none view (Err d) o h e = e
+pub took_none_or_memory : {X Y : Type 0} (view : X → Y) (read : List ℕ → Option (Y × List ℕ)) (old : Place) (r : Result X DecodeError) (new : Place) (d : DecodeError) → r ≡ Err d → read (left old) ≡ None → TookOrMemoryBy view read old r new
+took_none_or_memory view read old (Ok x) new d same none = absurd cc
+took_none_or_memory view read old (Err f) new d same none = certainly f none
+
+pub gives_none : {X Y : Type 0} (view : X → Y) (r : Result X DecodeError) (d : DecodeError) (o : Option Y) → r ≡ Err d → d ≢ Memory → o ≡ None → ReturnsBy view r o
+gives_none view (Ok x) d o same other none = absurd cc
+gives_none view (Err f) d o same other none = let e : f ≡ d = cc in (rw e other, none)
 
 -- ---- from a reading function to its relation
 
@@ -43,7 +46,7 @@ no_front {Y} read spells law octets e y rest b =
 pub answers : {X Y : Type 0} (view : X → Y) (read : List ℕ → Option (Y × List ℕ)) (spells : Y → List ℕ → Type 0) → Reads read spells
     → (old : Place) (r : Result X DecodeError) (new : Place) → AreOctets (left old) → TookBy view read old r new → AnswersBy view spells old r new
 answers view read spells law old (Ok x) new fits e = law.takes (left old) (view x) (left new) fits e
-answers view read spells law old (Err d) new fits e = no_front read spells law (left old) e
+answers view read spells law old (Err d) new fits e = (e.0, no_front read spells law (left old) e.1)
 
 pub answers_or_memory : {X Y : Type 0} (view : X → Y) (read : List ℕ → Option (Y × List ℕ)) (spells : Y → List ℕ → Type 0) → Reads read spells
     → (old : Place) (r : Result X DecodeError) (new : Place) → AreOctets (left old) → TookOrMemoryBy view read old r new → AnswersOrMemoryBy view spells old r new

@@ -10,6 +10,7 @@ use Rattle.rpki_der.specs.Reading.{inside, both, mapped, Reads, Both, Inside}
 use Rattle.rpki_der.specs.Values.Reading.{value_at}
 use Rattle.rpki_der.specs.Rows.Reading.{Shrinks}
 use Rattle.rpki_der.specs.Spelling.{BeginsOther}
+use Rattle.rpki_der.specs.Tags.{BOOLEAN, OCTET_STRING, SEQUENCE}
 use Rattle.rpki_der.proofs.Readings.{before_then}
 use Rattle.rpki_der.proofs.IdentifierReads.{oid_reads}
 use Rattle.rpki_der.proofs.Readings.{both_reads, inside_reads, mapped_reads, same_reads}
@@ -18,14 +19,14 @@ use Rattle.rpki_der.proofs.ValueReads.{value_reads}
 use Rattle.rpki_der.proofs.Rows.{inside_shrinks}
 
 abbrev Parts : List ℕ × (Bool × List ℕ) → List ℕ → Type 0
-Parts = Both IsObjectIdentifier (Both IsBoolOrFalse (IsEnc 4))
+Parts = Both IsObjectIdentifier (Both IsBoolOrFalse (IsEnc OCTET_STRING))
 
-content_begins : (c text rest : List ℕ) → IsEnc 4 c text → BeginsOther 1 (text ++ rest)
+content_begins : (c text rest : List ℕ) → IsEnc OCTET_STRING c text → BeginsOther BOOLEAN (text ++ rest)
 unfolding enc
 content_begins c text rest v = rw v.is (λ e. absurd (omega (arith, e)))
 
-parts_read : Reads (both oid_at (both bool_or_false_at (value_at 4))) Parts
-parts_read = both_reads oid_at (both bool_or_false_at (value_at 4)) IsObjectIdentifier (Both IsBoolOrFalse (IsEnc 4)) oid_reads (before_then (BeginsOther 1) bool_or_false_at (value_at 4) IsBoolOrFalse (IsEnc 4) bool_or_false_reads (value_reads 4) content_begins)
+parts_read : Reads (both oid_at (both bool_or_false_at (value_at OCTET_STRING))) Parts
+parts_read = both_reads oid_at (both bool_or_false_at (value_at OCTET_STRING)) IsObjectIdentifier (Both IsBoolOrFalse (IsEnc OCTET_STRING)) oid_reads (before_then (BeginsOther BOOLEAN) bool_or_false_at (value_at OCTET_STRING) IsBoolOrFalse (IsEnc OCTET_STRING) bool_or_false_reads (value_reads OCTET_STRING) content_begins)
 
 abbrev parts : Extension → List ℕ × (Bool × List ℕ)
 parts x = (x.identifier, (x.critical, x.content))
@@ -33,7 +34,7 @@ parts x = (x.identifier, (x.critical, x.content))
 abbrev Spelled : Extension → List ℕ → Type 0
 Spelled x = Parts (parts x)
 
-is_extension : (x : Extension) (text : List ℕ) → Inside 0x30 Spelled x text → IsExtension x text
+is_extension : (x : Extension) (text : List ℕ) → Inside SEQUENCE Spelled x text → IsExtension x text
 is_extension x text s =
     let p = s.1 in
     let q = p.3 in
@@ -45,28 +46,28 @@ is_extension x text s =
       identifier_is = p.2;
       flag_is = q.2;
       content_is = q.3;
-      sequence = subst (λ (c : List ℕ). IsEnc 0x30 c text) all s.2;
+      sequence = subst (λ (c : List ℕ). IsEnc SEQUENCE c text) all s.2;
     }
 
-extension_is : (x : Extension) (text : List ℕ) → IsExtension x text → Inside 0x30 Spelled x text
+extension_is : (x : Extension) (text : List ℕ) → IsExtension x text → Inside SEQUENCE Spelled x text
 extension_is x text s =
     let all : s.identifier ++ (s.flag ++ (s.content ++ [])) ≡ s.identifier ++ (s.flag ++ s.content) = ap (λ (t : List ℕ). s.identifier ++ (s.flag ++ t)) (append-nil s.content) in (
       s.identifier ++ (s.flag ++ s.content),
       (s.identifier, s.flag ++ s.content, s.identifier_is, (s.flag, s.content, s.flag_is, s.content_is, refl), refl),
-      subst (λ (c : List ℕ). IsEnc 0x30 c text) all s.sequence,
+      subst (λ (c : List ℕ). IsEnc SEQUENCE c text) all s.sequence,
     )
 
 pub extension_reads : Reads extension_at IsExtension
 unfolding extension_at
 extension_reads =
-    same_reads (inside 0x30 (mapped extension_made (both oid_at (both bool_or_false_at (value_at 4))))) (Inside 0x30 Spelled) IsExtension
-    (inside_reads 0x30 (mapped extension_made (both oid_at (both bool_or_false_at (value_at 4)))) Spelled
-    (mapped_reads (both oid_at (both bool_or_false_at (value_at 4))) Parts extension_made parts (λ p. refl) (λ x. refl) parts_read))
+    same_reads (inside SEQUENCE (mapped extension_made (both oid_at (both bool_or_false_at (value_at OCTET_STRING))))) (Inside SEQUENCE Spelled) IsExtension
+    (inside_reads SEQUENCE (mapped extension_made (both oid_at (both bool_or_false_at (value_at OCTET_STRING)))) Spelled
+    (mapped_reads (both oid_at (both bool_or_false_at (value_at OCTET_STRING))) Parts extension_made parts (λ p. refl) (λ x. refl) parts_read))
     is_extension extension_is
 
 pub extension_shrinks : Shrinks extension_at
 unfolding extension_at
-extension_shrinks = inside_shrinks 0x30 (mapped extension_made (both oid_at (both bool_or_false_at (value_at 4))))
+extension_shrinks = inside_shrinks SEQUENCE (mapped extension_made (both oid_at (both bool_or_false_at (value_at OCTET_STRING))))
 
 -- the content of an extension is octets
 abbrev pub HasOctets : Extension → Type 0

@@ -7,6 +7,7 @@ use Rattle.rpki_der.proofs.Lists.{heads, no_last}
 use Rattle.rpki_der.proofs.Octets.{if_some}
 use Rattle.rpki_der.proofs.Readings.{content_reads, same_reads}
 use Rattle.rpki_der.specs.Primitives.{IsOid, IsObjectIdentifier}
+use Rattle.rpki_der.specs.Tags.{OBJECT_IDENTIFIER}
 
 -- an octet of 80 or more stands at the end
 abbrev EndsHigh : List ℕ → Type 0
@@ -93,7 +94,7 @@ whole_takes c id e = let g = if_some (is_oid c) c id e in (g.1, subst IsOid g.1 
 pub oid_reads : Reads oid_at IsObjectIdentifier
 unfolding oid_at
 oid_reads =
-    same_reads (content 6 oid_of) (Inside 6 IsOidContent) IsObjectIdentifier
-    (content_reads 6 oid_of IsOidContent (record { takes = λ c id low e. whole_takes c id e; again = λ id c s. rw (s.0, oid_again id s.1) refl }))
+    same_reads (content OBJECT_IDENTIFIER oid_of) (Inside OBJECT_IDENTIFIER IsOidContent) IsObjectIdentifier
+    (content_reads OBJECT_IDENTIFIER oid_of IsOidContent (record { takes = λ c id low e. whole_takes c id e; again = λ id c s. rw (s.0, oid_again id s.1) refl }))
     (λ id text s. record { enc = rw (← s.1.0) s.2; oid = s.1.1 })
     (λ id text s. (id, (refl, s.oid), s.enc))

@@ -1,9 +1,10 @@
 -- The test of a moment, both ways.
 use Rattle.std.specs.Prelude.{IsSome, IfSome, ◌↔◌}
 use Rattle.std.specs.Option.{ok_or}
-use Rattle.std.proofs.Common.{◌≡◌, true, false, cond, Option, Some, None, refl, sym, ap, inl, inr}
+use Rattle.std.proofs.Common.{◌≡◌, ◌≢◌, true, false, cond, Option, Some, None, refl, sym, ap, inl, inr}
 use Rattle.std.proofs.lemmas.Bool.{leb-true, ltb-true, lt-ltb, le-leb, and_parts, and_from, cases_Bool}
 use Rattle.rpki_der.specs.declared.error.DecodeError.{DecodeError}
+use Rattle.rpki_der.specs.declared.error.DecodeError.TheVariants.{Memory}
 use Rattle.rpki_der.specs.Place.Reading.{Returns}
 use Rattle.rpki_der.specs.Times.{Moment, IsMoment, days_in_month}
 use Rattle.rpki_der.specs.Times.Reading.{is_moment}
@@ -35,13 +36,13 @@ exists_moment m h =
     (and_from _ _ (lt-ltb m.hour 24 h.hour) (and_from _ _ (lt-ltb m.minute 60 h.minute) (lt-ltb m.second 60 h.second)))
 
 -- a function that answers exactly the moments that exist
-pub gives_moment : (o : Option Moment) (m : Moment) (d : DecodeError) → IsSome o ↔ IsMoment m → IfSome o (λ t. t ≡ m) → Returns (ok_or o d) (cond (is_moment m) (Some m) None)
-gives_moment None m d exists value =
+pub gives_moment : (o : Option Moment) (m : Moment) (d : DecodeError) → IsSome o ↔ IsMoment m → IfSome o (λ t. t ≡ m) → d ≢ Memory → Returns (ok_or o d) (cond (is_moment m) (Some m) None)
+gives_moment None m d exists value other =
     elim (cases_Bool (is_moment m)) [
       | inl y ↦ absurd (none (exists.1 (moment_exists m y)))
-      | inr n ↦ rw n refl
+      | inr n ↦ (other, rw n refl)
     ]
   where
     none : false ≡ true → ⊥
     none e = absurd cc
-gives_moment (Some t) m d exists value = rw (exists_moment m (exists.0 refl)) (ap (λ (x : Moment). Some x) (sym value))
+gives_moment (Some t) m d exists value other = rw (exists_moment m (exists.0 refl)) (ap (λ (x : Moment). Some x) (sym value))

@@ -86,7 +86,7 @@ module _ {X : Type 0} (t : ℕ) (f : List ℕ → Option (X × List ℕ)) (S : X
 
   pub answers_or_absent : (old : Place) (r : Result X DecodeError) (new : Place) → AreOctets (left old) → Took f old r new → AnswersOrAbsent t S old r new
   answers_or_absent old (Ok x) new fits e = F.takes (left old) x (left new) fits e
-  answers_or_absent old (Err d) new fits e = none_begins (left old) e
+  answers_or_absent old (Err d) new fits e = (e.0, none_begins (left old) e.1)
 
   pub answers_or_absent_or_memory : (old : Place) (r : Result X DecodeError) (new : Place) → AreOctets (left old) → TookOrMemory f old r new → AnswersOrAbsentOrMemory t S old r new
   answers_or_absent_or_memory old (Ok x) new fits e = F.takes (left old) x (left new) fits e

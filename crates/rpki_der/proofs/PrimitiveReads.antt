@@ -12,6 +12,7 @@ use Rattle.rpki_der.specs.Primitives.{IsNull, IsBits, IsU32, IsBoolOrFalse, IsIn
 use Rattle.rpki_der.specs.Primitives.Reading.{octets_at, null_of, null_at, or_false, bool_or_false_at, has_zero_bits, bits_of, bits_at, is_unsigned, number_below, u32_at, bool_of, bool_at}
 use Rattle.rpki_der.specs.Reading.{content, optional, Reads, ReadsBefore, ReadsOrAbsent, Inside, Optional, BeginWith}
 use Rattle.rpki_der.specs.Spelling.{BeginsOther}
+use Rattle.rpki_der.specs.Tags.{BIT_STRING, BOOLEAN, INTEGER, NULL, OCTET_STRING}
 use Rattle.rpki_der.proofs.Octets.{if_some, some_is, nothing}
 use Rattle.rpki_der.proofs.Readings.{content_reads, same_reads}
 use Rattle.rpki_der.proofs.ValueReads.{value_reads}
@@ -19,8 +20,8 @@ use Rattle.rpki_der.proofs.Optionals.{optional_or_absent, absent_before, mapped_
 
 -- ---- OCTET STRING
 
-pub octets_reads : Reads octets_at (IsEnc 4)
-octets_reads = value_reads 4
+pub octets_reads : Reads octets_at (IsEnc OCTET_STRING)
+octets_reads = value_reads OCTET_STRING
 
 -- ---- NULL
 
@@ -31,19 +32,19 @@ null_takes : (c : List ℕ) (u : Unit {0}) → null_of c ≡ Some u → c ≡ []
 null_takes [] u e = refl
 null_takes (b ∷ c) u e = absurd cc
 
-null_is : (u : Unit {0}) (text : List ℕ) → Inside 5 IsEmpty u text → IsNull u text
+null_is : (u : Unit {0}) (text : List ℕ) → Inside NULL IsEmpty u text → IsNull u text
 unfolding enc length_octets
-null_is u text s = s.2.is ∙ ap (enc 5) s.1
+null_is u text s = s.2.is ∙ ap (enc NULL) s.1
 
-is_null : (u : Unit {0}) (text : List ℕ) → IsNull u text → Inside 5 IsEmpty u text
+is_null : (u : Unit {0}) (text : List ℕ) → IsNull u text → Inside NULL IsEmpty u text
 unfolding enc length_octets
 is_null u text e = ([], refl, record { octet = omega arith; low_tag = omega arith; octets = tt; short = omega arith; is = e })
 
 pub null_reads : Reads null_at IsNull
 unfolding null_at
 null_reads =
-    same_reads (content 5 null_of) (Inside 5 IsEmpty) IsNull
-    (content_reads 5 null_of IsEmpty (record { takes = λ c u fits e. null_takes c u e; again = λ u c e. rw e refl }))
+    same_reads (content NULL null_of) (Inside NULL IsEmpty) IsNull
+    (content_reads NULL null_of IsEmpty (record { takes = λ c u fits e. null_takes c u e; again = λ u c e. rw e refl }))
     null_is is_null
 
 -- ---- BOOLEAN
@@ -70,26 +71,26 @@ flag_again : (b : Bool) → bool_of (cond b 0xFF 0x00 ∷ []) ≡ Some b
 flag_again true = refl
 flag_again false = refl
 
-flag_is : (b : Bool) (text : List ℕ) → Inside 1 IsFlag b text → IsBoolean b text
+flag_is : (b : Bool) (text : List ℕ) → Inside BOOLEAN IsFlag b text → IsBoolean b text
 unfolding enc length_octets
-flag_is b text s = s.2.is ∙ ap (enc 1) s.1
+flag_is b text s = s.2.is ∙ ap (enc BOOLEAN) s.1
 
 octet_of : (b : Bool) → cond b 0xFF 0x00 < 256
 octet_of true = omega arith
 octet_of false = omega arith
 
-is_flag : (b : Bool) (text : List ℕ) → IsBoolean b text → Inside 1 IsFlag b text
+is_flag : (b : Bool) (text : List ℕ) → IsBoolean b text → Inside BOOLEAN IsFlag b text
 unfolding enc length_octets
 is_flag b text e = (cond b 0xFF 0x00 ∷ [], refl, record { octet = omega arith; low_tag = omega arith; octets = (octet_of b, tt); short = omega arith; is = e })
 
 bool_reads : Reads bool_at IsBoolean
 unfolding bool_at
 bool_reads =
-    same_reads (content 1 bool_of) (Inside 1 IsFlag) IsBoolean
-    (content_reads 1 bool_of IsFlag (record { takes = λ c b fits e. flag_takes c b e; again = λ b c s. rw s (flag_again b) }))
+    same_reads (content BOOLEAN bool_of) (Inside BOOLEAN IsFlag) IsBoolean
+    (content_reads BOOLEAN bool_of IsFlag (record { takes = λ c b fits e. flag_takes c b e; again = λ b c s. rw s (flag_again b) }))
     flag_is is_flag
 
-bool_begins : BeginWith 1 IsBoolean
+bool_begins : BeginWith BOOLEAN IsBoolean
 bool_begins b text s = (1 ∷ cond b 0xFF 0x00 ∷ [], s)
 
 from_option : (o : Option Bool) (text : List ℕ) → Optional IsBoolean o text → IsBoolOrFalse (or_false o) text
@@ -101,13 +102,13 @@ to_option : (b : Bool) (text : List ℕ) → IsBoolOrFalse b text → (o : Optio
 to_option true text s = (Some true, refl, s)
 to_option false text s = elim s [ inl e ↦ (None, refl, e) | inr e ↦ (Some false, refl, e) ]
 
-pub bool_or_false : ReadsOrAbsent 1 bool_or_false_at IsBoolOrFalse
+pub bool_or_false : ReadsOrAbsent BOOLEAN bool_or_false_at IsBoolOrFalse
 unfolding bool_or_false_at
-bool_or_false = mapped_or_absent 1 or_false (optional 1 bool_at) (Optional IsBoolean) IsBoolOrFalse (optional_or_absent 1 bool_at IsBoolean bool_reads bool_begins) from_option to_option
+bool_or_false = mapped_or_absent 1 or_false (optional BOOLEAN bool_at) (Optional IsBoolean) IsBoolOrFalse (optional_or_absent BOOLEAN bool_at IsBoolean bool_reads bool_begins) from_option to_option
 
 -- what follows decides whether it is absent: `before_then` and `inside_before` lead on
-pub bool_or_false_reads : ReadsBefore (BeginsOther 1) bool_or_false_at IsBoolOrFalse
-bool_or_false_reads = absent_before 1 bool_or_false_at IsBoolOrFalse bool_or_false
+pub bool_or_false_reads : ReadsBefore (BeginsOther BOOLEAN) bool_or_false_at IsBoolOrFalse
+bool_or_false_reads = absent_before BOOLEAN bool_or_false_at IsBoolOrFalse bool_or_false
 
 -- ---- BIT STRING
 
@@ -153,8 +154,8 @@ bits_again v c s = rw (s.0, are_zero_bits v.0 v.1 s.1 s.2 s.3) refl
 pub bits_reads : Reads bits_at IsBits
 unfolding bits_at
 bits_reads =
-    same_reads (content 3 bits_of) (Inside 3 AreBits) IsBits (content_reads 3 bits_of AreBits (record { takes = λ c v fits e. bits_takes c v e; again = bits_again }))
-    (λ v text s. record { enc = subst (λ (c : List ℕ). IsEnc 3 c text) s.1.0 s.2; few = s.1.1; none = s.1.2; zero_bits = s.1.3 })
+    same_reads (content BIT_STRING bits_of) (Inside BIT_STRING AreBits) IsBits (content_reads BIT_STRING bits_of AreBits (record { takes = λ c v fits e. bits_takes c v e; again = bits_again }))
+    (λ v text s. record { enc = subst (λ (c : List ℕ). IsEnc BIT_STRING c text) s.1.0 s.2; few = s.1.1; none = s.1.2; zero_bits = s.1.3 })
     (λ v text b. (v.0 ∷ v.1, (refl, b.few, b.none, b.zero_bits), b.enc))
 
 -- ---- INTEGER
@@ -204,22 +205,22 @@ number_again x (y ∷ rest) s low =
     ] in
     and_from _ _ (lt-ltb x 128 low) second
 
-number_is : (limit n : ℕ) (c text : List ℕ) → IsNumberContent limit n c → IsEnc 2 c text → IsNumber n text × (n < limit)
+number_is : (limit n : ℕ) (c text : List ℕ) → IsNumberContent limit n c → IsEnc INTEGER c text → IsNumber n text × (n < limit)
 number_is limit n [] text s v = absurd cc
 number_is limit n (x ∷ more) text s v =
     let h = number_takes x more s.2 in
     (record { first = x; more = more; enc = v; shortest = h.0; not_negative = h.1; is = s.0 }, s.1)
 
-pub number_reads : (limit : ℕ) → Reads (content 2 (number_below limit)) (λ n b. IsNumber n b × (n < limit))
+pub number_reads : (limit : ℕ) → Reads (content INTEGER (number_below limit)) (λ n b. IsNumber n b × (n < limit))
 number_reads limit =
-    same_reads (content 2 (number_below limit)) (Inside 2 (IsNumberContent limit)) (λ n b. IsNumber n b × (n < limit))
-    (content_reads 2 (number_below limit) (IsNumberContent limit) (record { takes = λ c n fits e. below_takes limit c n e; again = below_again limit }))
+    same_reads (content INTEGER (number_below limit)) (Inside INTEGER (IsNumberContent limit)) (λ n b. IsNumber n b × (n < limit))
+    (content_reads INTEGER (number_below limit) (IsNumberContent limit) (record { takes = λ c n fits e. below_takes limit c n e; again = below_again limit }))
     (λ n text s. number_is limit n s.0 text s.1 s.2)
     (λ n text s. (s.0.first ∷ s.0.more, (s.0.is, s.1, number_again s.0.first s.0.more s.0.shortest s.0.not_negative), s.0.enc))
 
 pub u32_reads : Reads u32_at IsU32
 unfolding u32_at
 u32_reads =
-    same_reads (content 2 (number_below (2 ^ 32))) (λ n b. IsNumber n b × (n < 2 ^ 32)) IsU32 (number_reads (2 ^ 32))
+    same_reads (content INTEGER (number_below (2 ^ 32))) (λ n b. IsNumber n b × (n < 2 ^ 32)) IsU32 (number_reads (2 ^ 32))
     (λ n text s. record { number = s.0; small = s.1 })
     (λ n text s. (s.number, s.small))

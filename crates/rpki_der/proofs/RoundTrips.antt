@@ -9,6 +9,7 @@ use Rattle.rpki_der.specs.Spelling.{Begins}
 use Rattle.rpki_der.specs.Times.{Moment, IsMoment, IsTime, two, after_year, time}
 use Rattle.rpki_der.specs.Values.{enc, IsUnambiguous}
 use Rattle.rpki_der.specs.Primitives.{unsigned, number}
+use Rattle.rpki_der.specs.Tags.{GENERALIZED_TIME, INTEGER, UTC_TIME}
 use Rattle.rpki_der.proofs.Lengths.{length_short}
 use Rattle.rpki_der.proofs.ValueWritten.{number_made, time_made}
 use Rattle.rpki_der.proofs.WrittenOctets.{ok_number, ok_time}
@@ -30,15 +31,15 @@ unfolding number
 serial_made n h =
     let digits = length-digits_of-le 256 20 n (omega arith) h in
     let content = unsigned_small (digits_of 256 n) in
-    let whole = enc_small 2 (unsigned (digits_of 256 n)) (omega arith) in
+    let whole = enc_small INTEGER (unsigned (digits_of 256 n)) (omega arith) in
     let short : length (number n) < 2 ^ 32 = omega (arith, whole, content, digits) in
     record { number = number_made n (short, ok_number n short); small = h }
 
 utc_small : (m : Moment) → 1950 ≤ m.year → m.year < 2050 → length (time m) < 2 ^ 32
-utc_small m p q = rw (utc_written m p q, enc_small 0x17 (two (m.year % 100) ++ after_year m) (omega arith)) (omega arith)
+utc_small m p q = rw (utc_written m p q, enc_small UTC_TIME (two (m.year % 100) ++ after_year m) (omega arith)) (omega arith)
 
 generalized_small : (m : Moment) → (m.year < 1950) ⊎ (2050 ≤ m.year) → length (time m) < 2 ^ 32
-generalized_small m h = rw (generalized_written m h, enc_small 0x18 (two (m.year / 100) ++ (two (m.year % 100) ++ after_year m)) (omega arith)) (omega arith)
+generalized_small m h = rw (generalized_written m h, enc_small GENERALIZED_TIME (two (m.year / 100) ++ (two (m.year % 100) ++ after_year m)) (omega arith)) (omega arith)
 
 time_small : (m : Moment) → length (time m) < 2 ^ 32
 time_small m =

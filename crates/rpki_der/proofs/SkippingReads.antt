@@ -159,4 +159,4 @@ skip_all_reads = row_reads levels (within_reads levels)
 -- what a reader of the whole gave, both ways
 pub skips_all : (r : Result (Unit {0}) DecodeError) (octets : List ℕ) → AreOctets octets → Returns r (skip_all_of octets) → IsOk r ↔ IsSkippableRow octets
 skips_all (Ok u) octets fits e = (λ _. skip_all_reads.takes octets u fits e, λ _. refl)
-skips_all (Err d) octets fits e = (λ h. absurd cc, λ row. nothing tt (sym e ∙ skip_all_reads.again tt octets row))
+skips_all (Err d) octets fits e = (λ h. absurd cc, λ row. nothing tt (sym e.1 ∙ skip_all_reads.again tt octets row))

@@ -10,6 +10,7 @@ use Rattle.rpki_der.specs.Times.{Moment, IsMoment, IsTime, two, after_year}
 use Rattle.rpki_der.specs.Choices.{Either}
 use Rattle.rpki_der.specs.Times.Reading.{is_digit, two_at, existing, after_year_of, utc_of, generalized_of, time_at, is_moment}
 use Rattle.rpki_der.specs.Values.{enc}
+use Rattle.rpki_der.specs.Tags.{GENERALIZED_TIME, UTC_TIME}
 use Rattle.rpki_der.proofs.Choices.{choice_reads}
 use Rattle.rpki_der.proofs.Readings.{content_reads, same_reads}
 use Rattle.rpki_der.proofs.MomentTests.{moment_exists, exists_moment}
@@ -159,21 +160,21 @@ generalized_whole = record {
 
 -- ---- the two forms
 
-utc_begins : BeginWith 0x17 (Inside 0x17 IsUtcText)
+utc_begins : BeginWith UTC_TIME (Inside UTC_TIME IsUtcText)
 unfolding enc
 utc_begins m text s = (_, s.2.is)
 
-generalized_other : (m : Moment) (text rest : List ℕ) → Inside 0x18 IsGeneralizedText m text → BeginsOther 0x17 (text ++ rest)
+generalized_other : (m : Moment) (text rest : List ℕ) → Inside GENERALIZED_TIME IsGeneralizedText m text → BeginsOther UTC_TIME (text ++ rest)
 unfolding enc
 generalized_other m text rest s = rw s.2.is (λ e. omega (arith, e))
 
 pub time_reads : Reads time_at IsTime
 unfolding time_at
 time_reads =
-    same_reads time_at (Either (Inside 0x17 IsUtcText) (Inside 0x18 IsGeneralizedText)) IsTime
-    (choice_reads 0x17 (content 0x17 utc_of) (content 0x18 generalized_of) (Inside 0x17 IsUtcText) (Inside 0x18 IsGeneralizedText)
-    (content_reads 0x17 utc_of IsUtcText utc_whole)
-    (content_reads 0x18 generalized_of IsGeneralizedText generalized_whole)
+    same_reads time_at (Either (Inside UTC_TIME IsUtcText) (Inside GENERALIZED_TIME IsGeneralizedText)) IsTime
+    (choice_reads UTC_TIME (content UTC_TIME utc_of) (content GENERALIZED_TIME generalized_of) (Inside UTC_TIME IsUtcText) (Inside GENERALIZED_TIME IsGeneralizedText)
+    (content_reads UTC_TIME utc_of IsUtcText utc_whole)
+    (content_reads GENERALIZED_TIME generalized_of IsGeneralizedText generalized_whole)
     utc_begins generalized_other)
     (λ m text s. elim s [
       | inl a ↦ record { exists = a.1.exists; spelled = inl (a.1.from, a.1.below, rw (← a.1.text_is) a.2) }

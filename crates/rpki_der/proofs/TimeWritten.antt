@@ -4,12 +4,13 @@ use Rattle.std.proofs.Common.{◌≡◌, ◌/◌, ◌%◌, ◌<◌, ◌≤◌, B
 use Rattle.std.proofs.lemmas.Bool.{le-leb, lt-leb, lt-ltb, le-ltb}
 use Rattle.rpki_der.specs.Times.{Moment, two, after_year, time}
 use Rattle.rpki_der.specs.Values.{enc}
+use Rattle.rpki_der.specs.Tags.{GENERALIZED_TIME, UTC_TIME}
 
-pub utc_written : (m : Moment) → 1950 ≤ m.year → m.year < 2050 → time m ≡ enc 0x17 (two (m.year % 100) ++ after_year m)
+pub utc_written : (m : Moment) → 1950 ≤ m.year → m.year < 2050 → time m ≡ enc UTC_TIME (two (m.year % 100) ++ after_year m)
 unfolding time
 utc_written m p q = rw (le-leb 1950 m.year p, lt-ltb m.year 2050 q) refl
 
-pub generalized_written : (m : Moment) → (m.year < 1950) ⊎ (2050 ≤ m.year) → time m ≡ enc 0x18 (two (m.year / 100) ++ (two (m.year % 100) ++ after_year m))
+pub generalized_written : (m : Moment) → (m.year < 1950) ⊎ (2050 ≤ m.year) → time m ≡ enc GENERALIZED_TIME (two (m.year / 100) ++ (two (m.year % 100) ++ after_year m))
 unfolding time
 generalized_written m (inl before) = rw (lt-leb 1950 m.year before) refl
 generalized_written m (inr after) = rw (and_false (nat_le 1950 m.year) (nat_lt m.year 2050) (le-ltb m.year 2050 after)) refl

@@ -10,6 +10,7 @@ use Rattle.rpki_der.proofs.Octets.{AreOctets-parts}
 use Rattle.rpki_der.specs.Values.{AreOctets, length_octets, enc, IsEnc, IsNested, nested}
 use Rattle.rpki_der.specs.Primitives.{IsInteger, IsNumber, IsOid, IsObjectIdentifier, IsBoolOrFalse, unsigned, number, bool_or_false}
 use Rattle.rpki_der.specs.Times.{Moment, two, after_year, IsMoment, IsTime, time}
+use Rattle.rpki_der.specs.Tags.{GENERALIZED_TIME, INTEGER, OBJECT_IDENTIFIER, UTC_TIME}
 
 pub bool_cases : (b : Bool) → (b ≡ true) ⊎ (b ≡ false)
 bool_cases true = inl refl
@@ -46,21 +47,21 @@ pub nested_short : (tags : List ℕ) (c : List ℕ) → Short (nested tags c) �
 nested_short [] c h = h
 nested_short (t ∷ ts) c h = nested_short ts c (content_short t (nested ts c) h)
 
-number_from : (n : ℕ) (ds : List ℕ) → (ds ≢ [] → 0 < get_or ds 0 0) → number_from_digits 256 ds ≡ n → Short (enc 2 (unsigned ds)) → IsNumber n (enc 2 (unsigned ds))
-number_from n [] first value h = record { first = 0; more = []; enc = made 2 (0 ∷ []) (omega arith) h; shortest = tt; not_negative = omega arith; is = sym value }
+number_from : (n : ℕ) (ds : List ℕ) → (ds ≢ [] → 0 < get_or ds 0 0) → number_from_digits 256 ds ≡ n → Short (enc INTEGER (unsigned ds)) → IsNumber n (enc INTEGER (unsigned ds))
+number_from n [] first value h = record { first = 0; more = []; enc = made INTEGER (0 ∷ []) (omega arith) h; shortest = tt; not_negative = omega arith; is = sym value }
 number_from n (d ∷ ds) first value h =
     let positive : 0 < d = first (λ e. cc) in
     elim (cases_lt d 128) [
       | inl low ↦
           let is : unsigned (d ∷ ds) ≡ d ∷ ds = rw (lt-ltb d 128 low) in
-          let short : Short (enc 2 (d ∷ ds)) = subst (λ (c : List ℕ). Short (enc 2 c)) is h in
-          let result : IsNumber n (enc 2 (d ∷ ds)) = record { first = d; more = ds; enc = made 2 (d ∷ ds) (omega arith) short; shortest = integer d ds positive low; not_negative = low; is = sym value } in
-          subst (λ (c : List ℕ). IsNumber n (enc 2 c)) (sym is) result
+          let short : Short (enc INTEGER (d ∷ ds)) = subst (λ (c : List ℕ). Short (enc INTEGER c)) is h in
+          let result : IsNumber n (enc INTEGER (d ∷ ds)) = record { first = d; more = ds; enc = made INTEGER (d ∷ ds) (omega arith) short; shortest = integer d ds positive low; not_negative = low; is = sym value } in
+          subst (λ (c : List ℕ). IsNumber n (enc INTEGER c)) (sym is) result
       | inr high ↦
           let is : unsigned (d ∷ ds) ≡ 0 ∷ d ∷ ds = rw (le-ltb d 128 high) in
-          let short : Short (enc 2 (0 ∷ d ∷ ds)) = subst (λ (c : List ℕ). Short (enc 2 c)) is h in
-          let result : IsNumber n (enc 2 (0 ∷ d ∷ ds)) = record { first = 0; more = d ∷ ds; enc = made 2 (0 ∷ d ∷ ds) (omega arith) short; shortest = ((λ e. high), λ e. absurd (omega arith)); not_negative = omega arith; is = sym value } in
-          subst (λ (c : List ℕ). IsNumber n (enc 2 c)) (sym is) result
+          let short : Short (enc INTEGER (0 ∷ d ∷ ds)) = subst (λ (c : List ℕ). Short (enc INTEGER c)) is h in
+          let result : IsNumber n (enc INTEGER (0 ∷ d ∷ ds)) = record { first = 0; more = d ∷ ds; enc = made INTEGER (0 ∷ d ∷ ds) (omega arith) short; shortest = ((λ e. high), λ e. absurd (omega arith)); not_negative = omega arith; is = sym value } in
+          subst (λ (c : List ℕ). IsNumber n (enc INTEGER c)) (sym is) result
     ]
   where
     integer : (d : ℕ) (ds : List ℕ) → 0 < d → d < 128 → IsInteger (d ∷ ds)
@@ -78,11 +79,11 @@ time_made m e h =
     elim (bool_cases (nat_le 1950 m.year && nat_lt m.year 2050)) [
       | inl t ↦
           let r = and_parts _ _ t in
-          let short : Short (enc 0x17 (two (m.year % 100) ++ after_year m)) = rw t at h in
-          record { exists = e; spelled = rw t (inl (leb-true 1950 m.year r.0, ltb-true m.year 2050 r.1, made 0x17 _ (omega arith) short)) }
+          let short : Short (enc UTC_TIME (two (m.year % 100) ++ after_year m)) = rw t at h in
+          record { exists = e; spelled = rw t (inl (leb-true 1950 m.year r.0, ltb-true m.year 2050 r.1, made UTC_TIME _ (omega arith) short)) }
       | inr f ↦
-          let short : Short (enc 0x18 (two (m.year / 100) ++ (two (m.year % 100) ++ after_year m))) = rw f at h in
-          record { exists = e; spelled = rw f (inr (made 0x18 _ (omega arith) short)) }
+          let short : Short (enc GENERALIZED_TIME (two (m.year / 100) ++ (two (m.year % 100) ++ after_year m))) = rw f at h in
+          record { exists = e; spelled = rw f (inr (made GENERALIZED_TIME _ (omega arith) short)) }
     ]
 
 abbrev Plain : List ℕ → Type 0
@@ -101,8 +102,8 @@ plain_oid k id h =
     let r = last_of k id h in
     record { front = r.0; last = r.1; is = r.2; ends = r.3; no_padding = λ x y e. absurd (plain_apart x y (subst (λ (s : List ℕ). Plain s) e h)) }
 
-pub identifier_made : (id : List ℕ) → IsOid id → Short (enc 6 id) → IsObjectIdentifier id (enc 6 id)
-identifier_made id oid h = record { enc = made 6 id (omega arith) h; oid = oid }
+pub identifier_made : (id : List ℕ) → IsOid id → Short (enc OBJECT_IDENTIFIER id) → IsObjectIdentifier id (enc OBJECT_IDENTIFIER id)
+identifier_made id oid h = record { enc = made OBJECT_IDENTIFIER id (omega arith) h; oid = oid }
 
 pub flag_made : (v : Bool) → IsBoolOrFalse v (bool_or_false v)
 flag_made true = refl

@@ -9,6 +9,7 @@ use Rattle.std.proofs.lemmas.Int.Digits.{length-digits_of-le, all_below_base_dig
 use Rattle.rpki_der.specs.Values.{AreOctets, length_octets, enc, IsEnc, nested}
 use Rattle.rpki_der.specs.Times.{Moment, leap_day, days_in_month, IsMoment, two, after_year, time}
 use Rattle.rpki_der.specs.Primitives.{unsigned, number, bool_or_false}
+use Rattle.rpki_der.specs.Tags.{GENERALIZED_TIME, INTEGER, UTC_TIME}
 use Rattle.rpki_der.proofs.Octets.{AreOctets-append}
 use Rattle.rpki_der.proofs.ValueWritten.{bool_cases, enc_longer}
 
@@ -64,7 +65,7 @@ ok_unsigned (d ∷ ds) h = elim (bool_cases (nat_lt d 128)) [ inl t ↦ rw t h |
 
 pub ok_number : (n : ℕ) → IfShort (number n)
 unfolding number
-ok_number n = ok_enc 2 _ (omega arith) (λ l. ok_unsigned (digits_of 256 n) (below _ (all_below_base_digits_of 256 n (omega arith))))
+ok_number n = ok_enc INTEGER _ (omega arith) (λ l. ok_unsigned (digits_of 256 n) (below _ (all_below_base_digits_of 256 n (omega arith))))
 
 pub ok_flag : (v : Bool) → AreOctets (bool_or_false v)
 ok_flag true = literal (1 ∷ 1 ∷ 255 ∷ []) refl
@@ -99,6 +100,6 @@ unfolding time
 ok_time m e =
     let short = AreOctets-append (two (m.year % 100)) (after_year m) (two_octets (m.year % 100) (omega arith)) (after_octets m e) in
     elim (bool_cases (nat_le 1950 m.year && nat_lt m.year 2050)) [
-      | inl t ↦ rw t (ok_enc 0x17 _ (omega arith) (λ l. short))
-      | inr f ↦ rw f (ok_enc 0x18 _ (omega arith) (λ l. AreOctets-append (two (m.year / 100)) (two (m.year % 100) ++ after_year m) (two_octets (m.year / 100) (omega (arith, e.year))) short))
+      | inl t ↦ rw t (ok_enc UTC_TIME _ (omega arith) (λ l. short))
+      | inr f ↦ rw f (ok_enc GENERALIZED_TIME _ (omega arith) (λ l. AreOctets-append (two (m.year / 100)) (two (m.year % 100) ++ after_year m) (two_octets (m.year / 100) (omega (arith, e.year))) short))
     ]

@@ -1,4 +1,5 @@
--- Readings that choose by what stands next or by a test, that depend on what stood before, and that turn what they read.
+-- Readings that choose by what stands next or by a test, that depend on what stood before, and that
+-- turn what they read.
 use Rattle.std.specs.Prelude.{◌≡◌, ℕ, nat_eq, Bool, if◌then◌else◌, List, [], ◌∷◌, ◌++◌, Option, Some, None, ◌⊎◌}
 use Rattle.rpki_der.specs.Reading.{ended, optional}
 use Rattle.rpki_der.specs.Values.Reading.{value_at, ◌>>=◌}

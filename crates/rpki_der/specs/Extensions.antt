@@ -1,4 +1,5 @@
--- Extensions, how they are spelled, and the one spelling that is written (RFC 5280 4.1, 4.1.2.9, 4.2; X.690 11.1, 11.5).
+-- Extensions, how they are spelled, and the one spelling that is written (RFC 5280 4.1, 4.1.2.9,
+-- 4.2; X.690 11.1, 11.5).
 use Rattle.std.specs.Prelude.{ℕ, Bool, List, [], ◌∷◌, Option, Some, None}
 use Rattle.std.specs.List.{concat}
 use Rattle.rpki_der.specs.Tags.{OCTET_STRING, OBJECT_IDENTIFIER}

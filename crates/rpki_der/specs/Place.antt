@@ -1,5 +1,5 @@
 -- What a contract sees of a cursor, and what a reader answered there.
-use Rattle.std.specs.Prelude.{ℕ, List, slice_range, ◌≡◌, ◌≤◌, Result, Ok, Err, Option, Some, None}
+use Rattle.std.specs.Prelude.{ℕ, List, slice_range, ◌≡◌, ◌≢◌, ◌≤◌, Result, Ok, Err, Option, Some, None}
 use Rattle.rpki_der.specs.declared.error.DecodeError.{DecodeError}
 use Rattle.rpki_der.specs.declared.error.DecodeError.TheVariants.{Memory}
 use Rattle.rpki_der.specs.Spelling.{Begins, BeginsOther, BeginsOrAbsent}
@@ -32,6 +32,11 @@ abbrev pub Keeps : {X : Type 0} → Result X DecodeError → Place → Place →
 Keeps (Ok x) old new = MovesOn old new
 Keeps (Err e) old new = new ≡ old
 
+-- the inner cursor lies in the source of the outer one, and ends where the outer one stands
+pub record EndsAt (inner outer : Place) : Type 0 where
+  pub source : inner.source ≡ outer.source
+  pub end : inner.to ≡ outer.from
+
 -- what want of memory may stand in place of: every other error says P
 abbrev pub Refuses : DecodeError → Type 0 → Type 0
 Refuses Memory P = Unit {0}
@@ -39,10 +44,11 @@ Refuses _ P = P
 
 -- ---- both directions of a relation
 
--- A reader's answer, seen by view: a value that a front spells, and the cursor stands behind it; or no front spells any value.
+-- A reader's answer, seen by view: a value that a front spells, and the cursor stands behind it; or
+-- no front spells any value. No memory is wanted.
 abbrev pub AnswersBy : {X Y : Type 0} → (X → Y) → (Y → List ℕ → Type 0) → Place → Result X DecodeError → Place → Type 0
 AnswersBy view spells old (Ok x) new = Begins spells (left old) (view x) (left new)
-AnswersBy {X} {Y} view spells old (Err e) new = (y : Y) (rest : List ℕ) → Begins spells (left old) y rest → ⊥
+AnswersBy {X} {Y} view spells old (Err e) new = (e ≢ Memory) × ((y : Y) (rest : List ℕ) → Begins spells (left old) y rest → ⊥)
 
 abbrev pub Answers : {X : Type 0} → (X → List ℕ → Type 0) → Place → Result X DecodeError → Place → Type 0
 Answers spells = AnswersBy (λ x. x) spells
@@ -51,7 +57,7 @@ Answers spells = AnswersBy (λ x. x) spells
 abbrev pub AnswersOptionalBy : {X Y : Type 0} → (X → Y) → ℕ → (Y → List ℕ → Type 0) → Place → Result (Option X) DecodeError → Place → Type 0
 AnswersOptionalBy view tag spells old (Ok None) new = BeginsOther tag (left old) × (new ≡ old)
 AnswersOptionalBy view tag spells old (Ok (Some x)) new = Begins spells (left old) (view x) (left new)
-AnswersOptionalBy {X} {Y} view tag spells old (Err e) new = (BeginsOther tag (left old) → ⊥) × ((y : Y) (rest : List ℕ) → Begins spells (left old) y rest → ⊥)
+AnswersOptionalBy {X} {Y} view tag spells old (Err e) new = (e ≢ Memory) × (BeginsOther tag (left old) → ⊥) × ((y : Y) (rest : List ℕ) → Begins spells (left old) y rest → ⊥)
 
 -- the same of a reader that may want memory
 abbrev pub AnswersOrMemoryBy : {X Y : Type 0} → (X → Y) → (Y → List ℕ → Type 0) → Place → Result X DecodeError → Place → Type 0
@@ -70,16 +76,18 @@ AnswersOptionalOrMemoryBy {X} {Y} view tag spells old (Err e) new = (BeginsOther
 abbrev pub AnswersOptionalOrMemory : {X : Type 0} → ℕ → (X → List ℕ → Type 0) → Place → Result (Option X) DecodeError → Place → Type 0
 AnswersOptionalOrMemory tag spells = AnswersOptionalOrMemoryBy (λ x. x) tag spells
 
--- a reader's answer where a value may be absent before another identifier, and what is then read is a value too
+-- a reader's answer where a value may be absent before another identifier, and what is then read is
+-- a value too
 abbrev pub AnswersOrAbsent : {X : Type 0} → ℕ → (X → List ℕ → Type 0) → Place → Result X DecodeError → Place → Type 0
 AnswersOrAbsent tag spells old (Ok x) new = BeginsOrAbsent tag spells (left old) x (left new)
-AnswersOrAbsent {X} tag spells old (Err e) new = (x : X) (rest : List ℕ) → BeginsOrAbsent tag spells (left old) x rest → ⊥
+AnswersOrAbsent {X} tag spells old (Err e) new = (e ≢ Memory) × ((x : X) (rest : List ℕ) → BeginsOrAbsent tag spells (left old) x rest → ⊥)
 
 abbrev pub AnswersOrAbsentOrMemory : {X : Type 0} → ℕ → (X → List ℕ → Type 0) → Place → Result X DecodeError → Place → Type 0
 AnswersOrAbsentOrMemory tag spells old (Ok x) new = BeginsOrAbsent tag spells (left old) x (left new)
 AnswersOrAbsentOrMemory {X} tag spells old (Err e) new = Refuses e ((x : X) (rest : List ℕ) → BeginsOrAbsent tag spells (left old) x rest → ⊥)
 
--- a call's answer on whole octets, seen by view: a value that they spell; or they spell none, or memory was wanted
+-- a call's answer on whole octets, seen by view: a value that they spell; or they spell none, or
+-- memory was wanted
 abbrev pub MeansOrMemoryBy : {X Y : Type 0} → (X → Y) → (Y → List ℕ → Type 0) → Result X DecodeError → List ℕ → Type 0
 MeansOrMemoryBy view spells (Ok x) octets = spells (view x) octets
 MeansOrMemoryBy {X} {Y} view spells (Err e) octets = Refuses e ((y : Y) → spells y octets → ⊥)

@@ -10,7 +10,8 @@ abbrev pub IsBoolOrFalse : Bool → List ℕ → Type 0
 IsBoolOrFalse true b = b ≡ BOOLEAN ∷ 1 ∷ 255 ∷ []
 IsBoolOrFalse false b = (b ≡ []) ⊎ (b ≡ BOOLEAN ∷ 1 ∷ 0 ∷ [])
 
--- the content of an INTEGER (X.690 8.3): at least one octet, and the first nine bits are neither all 0 nor all 1
+-- the content of an INTEGER (X.690 8.3): at least one octet, and the first nine bits are neither
+-- all 0 nor all 1
 abbrev pub IsInteger : List ℕ → Type 0
 IsInteger [] = ⊥
 IsInteger (x ∷ []) = Unit {0}
@@ -30,8 +31,8 @@ pub record IsU32 (n : ℕ) (b : List ℕ) : Type 0 where
   pub number : IsNumber n b
   pub small : n < 2 ^ 32
 
--- the content of an OBJECT IDENTIFIER (X.690 8.19): the last octet is below 80, and no subidentifier begins with 80, so
--- wherever 80 stands an octet of 80 or more stands before it
+-- the content of an OBJECT IDENTIFIER (X.690 8.19): the last octet is below 80, and no
+-- subidentifier begins with 80, so wherever 80 stands an octet of 80 or more stands before it
 pub record IsOid (id : List ℕ) : Type 0 where
   pub front : List ℕ
   pub last : ℕ

@@ -1,4 +1,5 @@
--- Readings made of readings, what is spelled where they read, and when a reading and a spelling say the same.
+-- Readings made of readings, what is spelled where they read, and when a reading and a spelling say
+-- the same.
 use Rattle.std.specs.Prelude.{ℕ, List, [], ◌∷◌, Option, Some, None, ◌≡◌, ◌++◌, nat_eq, if◌then◌else◌}
 use Rattle.rpki_der.specs.Spelling.{Begins, BeginsOrAbsent}
 use Rattle.rpki_der.specs.Values.{IsEnc, AreOctets}

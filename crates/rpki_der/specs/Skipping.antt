@@ -4,7 +4,8 @@ use Rattle.std.specs.Prelude.{ℕ, ◌≡◌, ◌/◌, ◌%◌, zero, suc, ◌�
 use Rattle.rpki_der.specs.Values.{IsValue}
 pub mod Reading
 
--- how many constructed values may stand one inside the other, the skipped one counted as the first (own)
+-- how many constructed values may stand one inside the other, the skipped one counted as the first
+-- (own)
 abbrev pub levels : ℕ
 levels = 16
 

@@ -1,4 +1,5 @@
--- Identifier octets of DER (X.690 8.1.2; X.680 8.6, 42). The octet of a constructed value is 0x20 more.
+-- Identifier octets of DER (X.690 8.1.2; X.680 8.6, 42). The octet of a constructed value is 0x20
+-- more.
 use Rattle.std.specs.Prelude.{ℕ, ◌+◌}
 
 abbrev pub BOOLEAN : ℕ

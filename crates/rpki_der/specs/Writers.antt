@@ -19,8 +19,9 @@ value tag content = record { written = enc tag content; inside = content }
 abbrev pub number_part : ℕ → Part
 number_part n = record { written = number n; inside = unsigned (digits_of 256 n) }
 
--- What the writer of a part did: it appended the whole part, or left the octets as they were. It goes well only where what
--- stands inside has fewer than 2^32 octets, and TooLong says that it has not.
+-- What the writer of a part did: it appended the whole part, or left the octets as they were. It
+-- goes well only where what stands inside has fewer than 2^32 octets, and TooLong says that it has
+-- not.
 pub record Writes {T : Type 0} (p : Part) (old : List ℕ) (r : Result T EncodeError) (new : List ℕ) : Type 0 where
   pub ok : OnOk r (new ≡ old ++ p.written)
   pub err : OnErr r (new ≡ old)

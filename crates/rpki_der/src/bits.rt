@@ -1,6 +1,6 @@
 //! BIT STRING.
 ghost use Rattle.std.specs.Prelude.{◌≡◌, IfOk};
-ghost use Rattle.rpki_der.specs.Place.{Place, left, IsWithin, Keeps, AnswersBy};
+ghost use Rattle.rpki_der.specs.Place.{Place, left, IsWithin, EndsAt, Keeps, AnswersBy};
 ghost use Rattle.rpki_der.specs.Place.Reading.{TookBy};
 ghost use Rattle.rpki_der.specs.Primitives.{IsBits};
 ghost use Rattle.rpki_der.specs.Primitives.Reading.{has_zero_bits, bits_at};
@@ -27,6 +27,7 @@ impl<'a> Cursor<'a> {
         ensures reads { TookBy (λ x. (x.0, left x.1)) bits_at self.old result self.new }
         ensures keeps { Keeps result self.old self.new }
         ensures inside { IfOk result (λ x. IsWithin x.1 self.old) }
+        ensures placed { IfOk result (λ x. EndsAt x.1 self.new) }
         ensures octets { AreOctets (left self.old) }
     {
         let mut ahead = self.fork();
@@ -40,13 +41,14 @@ impl<'a> Cursor<'a> {
         Ok((unused, octets))
     }
 
-    /// How many bits are unused at the end of the BIT STRING that must stand next, and a cursor over its octets (X.690 8.6). The
-    /// unused bits are 0 (X.690 11.2.1).
+    /// How many bits are unused at the end of the BIT STRING that must stand next, and a cursor
+    /// over its octets (X.690 8.6). The unused bits are 0 (X.690 11.2.1).
     pub fn take_bits(&mut self) -> Result<(u8, Cursor<'a>), DecodeError>
         ensures answers { AnswersBy (λ x. (x.0, left x.1)) IsBits self.old result self.new }
         ensures reads { TookBy (λ x. (x.0, left x.1)) bits_at self.old result self.new }
         ensures keeps { Keeps result self.old self.new }
         ensures inside { IfOk result (λ x. IsWithin x.1 self.old) }
+        ensures placed { IfOk result (λ x. EndsAt x.1 self.new) }
     {
         self.next_bits()
     }

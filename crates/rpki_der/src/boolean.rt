@@ -50,8 +50,8 @@ impl<'a> Cursor<'a> {
         }
     }
 
-    /// The BOOLEAN that stands next, else false: at the end, or before another identifier (X.690 8.2, 11.1). An explicit false
-    /// is read too (own).
+    /// The BOOLEAN that stands next, else false: at the end, or before another identifier (X.690
+    /// 8.2, 11.1). An explicit false is read too (own).
     pub fn take_bool_or_false(&mut self) -> Result<bool, DecodeError>
         ensures answers { AnswersOrAbsent BOOLEAN IsBoolOrFalse self.old result self.new }
         ensures reads { Took bool_or_false_at self.old result self.new }

@@ -1,6 +1,6 @@
 //! A cursor over shared octets.
-ghost use Rattle.std.specs.Prelude.{◌≡◌, ℕ, ◌≤◌, ◌-◌, List, [], length, take, drop, slice_range, IfOk, IfSome, IfErr, IsOk, IsTrue, ◌↔◌, option_map};
-ghost use Rattle.rpki_der.specs.Place.{Place, left, IsWithin, MovesOn, Keeps, AnswersBy, AnswersOptionalBy};
+ghost use Rattle.std.specs.Prelude.{◌≡◌, ℕ, ◌≤◌, ◌-◌, List, [], length, take, drop, slice_range, IfOk, IfSome, IfErr, IsOk, OnOk, IsTrue, ◌↔◌, option_map};
+ghost use Rattle.rpki_der.specs.Place.{Place, left, IsWithin, EndsAt, MovesOn, Keeps, AnswersBy, AnswersOptionalBy};
 ghost use Rattle.rpki_der.specs.Place.Reading.{TookBy};
 ghost use Rattle.rpki_der.specs.Reading.{optional};
 ghost use Rattle.rpki_der.specs.Values.Reading.{value_at};
@@ -13,9 +13,11 @@ use crate::header::value_of;
 use crate::piece::Piece;
 use crate::tag;
 use bytes::Bytes;
+use std::alloc::Global;
 use std::marker::Model;
 
-/// A place in shared octets, and how far they may be read from there. Every reader moves it on, or leaves it where it stands when it errs.
+/// A place in shared octets, and how far they may be read from there. Every reader moves it on, or
+/// leaves it where it stands when it errs.
 #[derive(Drop)]
 pub struct Cursor<'a> {
     source: &'a Bytes,
@@ -88,9 +90,10 @@ impl<'a> Cursor<'a> {
     /// Ends the reading of these octets. Answers `Trailing` where some are left.
     pub fn finish(self) -> Result<(), DecodeError>
         ensures end { IsOk result ↔ (left self.entry ≡ []) }
+        ensures at_end { OnOk result (self.entry.from ≡ self.entry.to) }
         ensures trailing { IfErr result (λ e. e ≡ Trailing) }
     {
-        if self.is_empty() {
+        if self.from == self.to {
             Ok(())
         } else {
             Err(DecodeError::Trailing)
@@ -124,6 +127,7 @@ impl<'a> Cursor<'a> {
         ensures reads { TookBy left (value_at tag) self.old result self.new }
         ensures keeps { Keeps result self.old self.new }
         ensures inside { IfOk result (λ c. IsWithin c self.old) }
+        ensures placed { IfOk result (λ c. EndsAt c self.new) }
         ensures octets { AreOctets (left self.old) }
     {
         let rest = self.rest();
@@ -138,23 +142,27 @@ impl<'a> Cursor<'a> {
         Ok(inner)
     }
 
-    /// A cursor over the content of the next value, which must have this identifier octet (X.690 8.1, 10.1).
+    /// A cursor over the content of the next value, which must have this identifier octet (X.690
+    /// 8.1, 10.1).
     pub fn take_value(&mut self, tag: u8) -> Result<Cursor<'a>, DecodeError>
         ensures answers { AnswersBy left (IsEnc tag) self.old result self.new }
         ensures reads { TookBy left (value_at tag) self.old result self.new }
         ensures keeps { Keeps result self.old self.new }
         ensures inside { IfOk result (λ c. IsWithin c self.old) }
+        ensures placed { IfOk result (λ c. EndsAt c self.new) }
     {
         self.next_value(tag)
     }
 
-    /// The same where the next value has this identifier octet, else `None`: at the end, or before another one.
+    /// The same where the next value has this identifier octet, else `None`: at the end, or before
+    /// another one.
     pub fn take_opt_value(&mut self, tag: u8) -> Result<Option<Cursor<'a>>, DecodeError>
         ensures answers { AnswersOptionalBy left tag (IsEnc tag) self.old result self.new }
         ensures reads { let reading = optional tag (value_at tag) in
             TookBy (option_map left) reading self.old result self.new }
         ensures keeps { Keeps result self.old self.new }
         ensures inside { IfOk result (λ o. IfSome o (λ c. IsWithin c self.old)) }
+        ensures placed { IfOk result (λ o. IfSome o (λ c. EndsAt c self.new)) }
     {
         match self.rest() {
             [found, ..] if *found == tag => Ok(Some(self.take_value(tag)?)),
@@ -168,6 +176,7 @@ impl<'a> Cursor<'a> {
         ensures reads { TookBy left (value_at SEQUENCE) self.old result self.new }
         ensures keeps { Keeps result self.old self.new }
         ensures inside { IfOk result (λ c. IsWithin c self.old) }
+        ensures placed { IfOk result (λ c. EndsAt c self.new) }
     {
         self.take_value(tag::SEQUENCE)
     }
@@ -180,12 +189,13 @@ impl<'a> Cursor<'a> {
             TookBy (option_map left) reading self.old result self.new }
         ensures keeps { Keeps result self.old self.new }
         ensures inside { IfOk result (λ o. IfSome o (λ c. IsWithin c self.old)) }
+        ensures placed { IfOk result (λ o. IfSome o (λ c. EndsAt c self.new)) }
     {
         self.take_opt_value(tag::SEQUENCE)
     }
 
     /// All that is left, kept. The cursor then stands at the end; the only error is `Memory`.
-    pub fn capture_rest(&mut self) -> Result<Piece, DecodeError>
+    pub fn capture_rest(&mut self, _alloc: Global) -> Result<Piece, DecodeError>
         ensures ok { IfOk result (λ p. (p ≡ left self.old) × (left self.new ≡ [])) }
         ensures keeps { Keeps result self.old self.new }
         ensures memory { IfErr result (λ e. e ≡ Memory) }

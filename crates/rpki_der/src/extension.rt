@@ -1,10 +1,10 @@
 //! Extensions, read and appended to vectors.
-ghost use Rattle.std.specs.Prelude.{◌≡◌, ◌+◌, ◌^◌, ◌≤◌, ◌<◌, ◌++◌, length, take, MatchOption, OnOk, OnErr};
+ghost use Rattle.std.specs.Prelude.{◌≡◌, ◌+◌, ◌^◌, ◌≤◌, ◌<◌, ◌++◌, length, take, MatchOption, IfOk, OnOk, OnErr};
 ghost use Rattle.std.specs.List.{concat};
 ghost use Rattle.rpki_der.specs.Primitives.{IsOid, bool_or_false};
 ghost use Rattle.rpki_der.specs.Extensions.Reading.{extension_at};
 ghost use Rattle.rpki_der.specs.Extensions.Views.{extension_view};
-ghost use Rattle.rpki_der.specs.Place.{Place, left, Keeps, AnswersBy};
+ghost use Rattle.rpki_der.specs.Place.{Place, left, IsWithin, EndsAt, Keeps, AnswersBy};
 ghost use Rattle.rpki_der.specs.Place.Reading.{TookBy};
 ghost use Rattle.rpki_der.specs.Values.{AreOctets, length_octets, sequence};
 ghost use Rattle.rpki_der.specs.Extensions.{IsExtension, extension_part, pieces_with};
@@ -44,7 +44,8 @@ fn value_len(len: usize) -> usize
     1 + length_len + len
 }
 
-// How many octets the identifier, the flag and the content have together, if each content has fewer than 2^32 and they too.
+// How many octets the identifier, the flag and the content have together, if each content has fewer
+// than 2^32 and they too.
 fn pieces_len(id: &[u8], flag: &[u8], content: &[u8]) -> Option<u32>
     requires { length flag.now ≤ 3 }
     ensures { let pieces = concat (pieces_with id.now flag.now content.now) in
@@ -80,8 +81,8 @@ fn append_extension(
     append_value(out, tag::OCTET_STRING, &[], content)
 }
 
-/// Appends the extension with this identifier, flag and content (RFC 5280 4.1): the flag only where it is true (X.690 11.5).
-/// Answers `TooLong` where that makes a content of 2^32 octets or more.
+/// Appends the extension with this identifier, flag and content (RFC 5280 4.1): the flag only where
+/// it is true (X.690 11.5). Answers `TooLong` where that makes a content of 2^32 octets or more.
 pub fn put_extension(
     out: &mut Vec<u8>,
     id: &[u8],
@@ -109,6 +110,8 @@ pub fn put_extension(
 fn read<'a>(cursor: &mut Cursor<'a>) -> Result<(&'a [u8], bool, Cursor<'a>), DecodeError>
     ensures reads { TookBy extension_view extension_at cursor.old result cursor.new }
     ensures keeps { Keeps result cursor.old cursor.new }
+    ensures inside { IfOk result (λ x. IsWithin x.2 cursor.old) }
+    ensures placed { IfOk result (λ x. EndsAt x.2 cursor.new) }
     ensures octets { AreOctets (left cursor.old) }
 {
     let mut ahead = cursor.fork();
@@ -121,13 +124,16 @@ fn read<'a>(cursor: &mut Cursor<'a>) -> Result<(&'a [u8], bool, Cursor<'a>), Dec
     Ok((identifier, critical, content))
 }
 
-/// The identifier, the critical flag and the content of the extension that stands next (RFC 5280 4.1.2.9).
+/// The identifier, the critical flag and the content of the extension that stands next (RFC 5280
+/// 4.1.2.9).
 pub fn take_extension<'a>(
     cursor: &mut Cursor<'a>,
 ) -> Result<(&'a [u8], bool, Cursor<'a>), DecodeError>
     ensures answers { AnswersBy extension_view IsExtension cursor.old result cursor.new }
     ensures reads { TookBy extension_view extension_at cursor.old result cursor.new }
     ensures keeps { Keeps result cursor.old cursor.new }
+    ensures inside { IfOk result (λ x. IsWithin x.2 cursor.old) }
+    ensures placed { IfOk result (λ x. EndsAt x.2 cursor.new) }
 {
     read(cursor)
 }

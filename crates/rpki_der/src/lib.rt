@@ -3,6 +3,7 @@
 
 mod bits;
 mod boolean;
+pub mod comparing;
 mod cursor;
 mod error;
 mod extension;

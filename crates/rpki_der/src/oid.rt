@@ -14,7 +14,7 @@ use crate::error::DecodeError;
 use crate::piece::Piece;
 use crate::tag;
 use bytes::Bytes;
-use std::alloc::AllocError;
+use std::alloc::{AllocError, Global};
 use std::fmt;
 use std::marker::Model;
 
@@ -45,9 +45,11 @@ pub const PE_SUBJECT_INFO_ACCESS: &[u8] = &[0x2B, 0x06, 0x01, 0x05, 0x05, 0x07, 
 pub const PE_IP_ADDR_BLOCK: &[u8] = &[0x2B, 0x06, 0x01, 0x05, 0x05, 0x07, 0x01, 0x07];
 /// id-pe-autonomousSysIds (RFC 3779 3.2.1): a certificate that overclaims is refused.
 pub const PE_AUTONOMOUS_SYS_IDS: &[u8] = &[0x2B, 0x06, 0x01, 0x05, 0x05, 0x07, 0x01, 0x08];
-/// id-pe-ipAddrBlocks-v2 (RFC 8360 4.2.2.1): the resources of a certificate that overclaims are trimmed.
+/// id-pe-ipAddrBlocks-v2 (RFC 8360 4.2.2.1): the resources of a certificate that overclaims are
+/// trimmed.
 pub const PE_IP_ADDR_BLOCK_V2: &[u8] = &[0x2B, 0x06, 0x01, 0x05, 0x05, 0x07, 0x01, 0x1C];
-/// id-pe-autonomousSysIds-v2 (RFC 8360 4.2.2.3): the resources of a certificate that overclaims are trimmed.
+/// id-pe-autonomousSysIds-v2 (RFC 8360 4.2.2.3): the resources of a certificate that overclaims are
+/// trimmed.
 pub const PE_AUTONOMOUS_SYS_IDS_V2: &[u8] = &[0x2B, 0x06, 0x01, 0x05, 0x05, 0x07, 0x01, 0x1D];
 
 /// id-ad-caIssuers (RFC 5280 4.2.2.1)
@@ -63,7 +65,8 @@ pub const AD_RPKI_NOTIFY: &[u8] = &[0x2B, 0x06, 0x01, 0x05, 0x05, 0x07, 0x30, 0x
 
 /// id-cp-ipAddr-asNumber (RFC 6484 1.2): a certificate that overclaims is refused.
 pub const CP_IPADDR_ASNUMBER: &[u8] = &[0x2B, 0x06, 0x01, 0x05, 0x05, 0x07, 0x0E, 0x02];
-/// id-cp-ipAddr-asNumber-v2 (RFC 8360 4.2.1): the resources of a certificate that overclaims are trimmed.
+/// id-cp-ipAddr-asNumber-v2 (RFC 8360 4.2.1): the resources of a certificate that overclaims are
+/// trimmed.
 pub const CP_IPADDR_ASNUMBER_V2: &[u8] = &[0x2B, 0x06, 0x01, 0x05, 0x05, 0x07, 0x0E, 0x03];
 
 /// id-kp-bgpsec-router (RFC 8209 3.1.3.2)
@@ -103,7 +106,8 @@ pub(crate) fn is_oid(content: &[u8]) -> bool
 }
 
 impl Oid {
-    /// The identifier with these content octets. Answers `BadValue` where they are no content of an OBJECT IDENTIFIER; wants no memory.
+    /// The identifier with these content octets. Answers `BadValue` where they are no content of an
+    /// OBJECT IDENTIFIER; wants no memory.
     pub fn new(content: Bytes) -> Result<Oid, DecodeError>
         ensures ok { IfOk result (λ o. o ≡ content) }
         ensures accepted { IsOk result ↔ IsOid content }
@@ -134,10 +138,10 @@ impl Oid {
     }
 
     /// The same identifier once more.
-    pub fn try_clone(&self) -> Result<Oid, AllocError>
+    pub fn try_clone(&self, alloc: Global) -> Result<Oid, AllocError>
         ensures { IfOk result (λ o. o ≡ self.now) }
     {
-        let content = self.content.try_clone()?;
+        let content = self.content.try_clone(alloc)?;
         Ok(Oid { content })
     }
 }

@@ -7,7 +7,7 @@ ghost use Rattle.rpki_der.specs.Values.{AreOctets};
 
 use crate::cursor::Cursor;
 use bytes::Bytes;
-use std::alloc::AllocError;
+use std::alloc::{AllocError, Global};
 use std::marker::Model;
 
 /// Octets that are kept.
@@ -52,7 +52,7 @@ impl Piece {
     }
 
     /// The same octets once more.
-    pub fn try_clone(&self) -> Result<Piece, AllocError>
+    pub fn try_clone(&self, _alloc: Global) -> Result<Piece, AllocError>
         ensures { IfOk result (λ p. p ≡ self.now) }
     {
         let octets = self.octets.clone()?;

@@ -52,8 +52,8 @@ pub(crate) fn append_value(
     out.extend_from_slice(tail)
 }
 
-/// Appends the value with this identifier octet whose content is the head and the tail, one after the other. Answers `TooLong` where
-/// they have 2^32 octets or more together.
+/// Appends the value with this identifier octet whose content is the head and the tail, one after
+/// the other. Answers `TooLong` where they have 2^32 octets or more together.
 pub fn put_parts(out: &mut Vec<u8>, tag: u8, head: &[u8], tail: &[u8]) -> Result<(), EncodeError>
     requires { tag % 32 < 31 }
     ensures { WritesOrTooLong (value tag (head.now ++ tail.now))
@@ -70,7 +70,8 @@ pub fn put_parts(out: &mut Vec<u8>, tag: u8, head: &[u8], tail: &[u8]) -> Result
     Ok(())
 }
 
-/// Appends the value with this identifier octet and content (X.690 8.1, 10.1). Answers `TooLong` where the content has 2^32 octets or more.
+/// Appends the value with this identifier octet and content (X.690 8.1, 10.1). Answers `TooLong`
+/// where the content has 2^32 octets or more.
 pub fn put_value(out: &mut Vec<u8>, tag: u8, content: &[u8]) -> Result<(), EncodeError>
     requires { tag % 32 < 31 }
     ensures { WritesOrTooLong (value tag content.now) out.old.items result out.new.items }
@@ -89,8 +90,8 @@ pub fn put_bool(out: &mut Vec<u8>, value: bool) -> Result<(), EncodeError>
     Ok(())
 }
 
-/// Appends the number of these octets, the greatest first and none for 0, as the shortest INTEGER (X.690 8.3). Answers `TooLong`
-/// where its content would have 2^32 octets or more.
+/// Appends the number of these octets, the greatest first and none for 0, as the shortest INTEGER
+/// (X.690 8.3). Answers `TooLong` where its content would have 2^32 octets or more.
 #[tactic(auto, unfolding(crate::specs::Primitives::number))]
 pub fn put_unsigned(out: &mut Vec<u8>, octets: &[u8]) -> Result<(), EncodeError>
     ensures { WritesOrTooLong (number_part (number_from_digits 256 octets.now))
@@ -100,8 +101,8 @@ pub fn put_unsigned(out: &mut Vec<u8>, octets: &[u8]) -> Result<(), EncodeError>
     put_parts(out, tag::INTEGER, sign(digits), digits)
 }
 
-/// Appends a BIT STRING of these octets, at whose end so many bits are unused (X.690 8.6, 11.2.1). Answers `TooLong` where there are
-/// 2^32 - 1 octets or more.
+/// Appends a BIT STRING of these octets, at whose end so many bits are unused (X.690 8.6, 11.2.1).
+/// Answers `TooLong` where there are 2^32 - 1 octets or more.
 pub fn put_bits(out: &mut Vec<u8>, unused: u8, octets: &[u8]) -> Result<(), EncodeError>
     requires few { unused < 8 }
     requires none { octets.now ≡ [] → unused ≡ 0 }
@@ -114,7 +115,8 @@ pub fn put_bits(out: &mut Vec<u8>, unused: u8, octets: &[u8]) -> Result<(), Enco
     put_parts(out, tag::BIT_STRING, &[unused], octets)
 }
 
-/// Appends the OBJECT IDENTIFIER with this content (X.690 8.19). Answers `TooLong` where it has 2^32 octets or more.
+/// Appends the OBJECT IDENTIFIER with this content (X.690 8.19). Answers `TooLong` where it has
+/// 2^32 octets or more.
 pub fn put_oid(out: &mut Vec<u8>, id: &[u8]) -> Result<(), EncodeError>
     requires { IsOid id.now }
     ensures { WritesOrTooLong (value OBJECT_IDENTIFIER id.now) out.old.items result out.new.items }

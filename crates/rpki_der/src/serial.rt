@@ -18,6 +18,7 @@ use crate::error::{DecodeError, EncodeError};
 use crate::integer::is_unsigned;
 use crate::put::put_unsigned;
 use crate::tag;
+use std::alloc::Global;
 use std::cmp::Ordering;
 use std::marker::Model;
 
@@ -25,7 +26,7 @@ use std::marker::Model;
 const TOP: u128 = 0x100_0000_0000_0000_0000_0000_0000_0000;
 
 /// A serial number: a whole number below 2^160 (RFC 5280 4.1.2.2).
-#[derive(Clone, Copy)]
+#[derive(Clone, Copy, Hash)]
 pub struct Serial {
     high: u32,
     low: u128,
@@ -94,8 +95,9 @@ impl Serial {
         octets
     }
 
-    /// Appends the number as an INTEGER, in as few octets as it has (X.690 8.3). The only error is `Memory`.
-    pub fn encode(&self, out: &mut Vec<u8>) -> Result<(), EncodeError>
+    /// Appends the number as an INTEGER, in as few octets as it has (X.690 8.3). The only error is
+    /// `Memory`.
+    pub fn encode(&self, _alloc: Global, out: &mut Vec<u8>) -> Result<(), EncodeError>
         ensures ok { OnOk result (out.new.items ≡ out.old.items ++ number self.now) }
         ensures err { OnErr result (out.new.items ≡ out.old.items) }
         ensures memory { IfErr result (λ e. e ≡ Memory) }

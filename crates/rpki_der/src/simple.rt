@@ -1,6 +1,6 @@
 //! OCTET STRING and NULL.
 ghost use Rattle.std.specs.Prelude.{◌≡◌, IfOk};
-ghost use Rattle.rpki_der.specs.Place.{Place, left, IsWithin, Keeps, Answers, AnswersBy};
+ghost use Rattle.rpki_der.specs.Place.{Place, left, IsWithin, EndsAt, Keeps, Answers, AnswersBy};
 ghost use Rattle.rpki_der.specs.Place.Reading.{Took, TookBy};
 ghost use Rattle.rpki_der.specs.Primitives.{IsNull};
 ghost use Rattle.rpki_der.specs.Primitives.Reading.{octets_at, null_at};
@@ -18,6 +18,7 @@ impl<'a> Cursor<'a> {
         ensures reads { TookBy left octets_at self.old result self.new }
         ensures keeps { Keeps result self.old self.new }
         ensures inside { IfOk result (λ c. IsWithin c self.old) }
+        ensures placed { IfOk result (λ c. EndsAt c self.new) }
     {
         self.take_value(tag::OCTET_STRING)
     }

@@ -9,8 +9,10 @@ ghost use Rattle.rpki_der.specs.Values.{AreOctets};
 use crate::cursor::Cursor;
 use crate::error::DecodeError;
 use crate::piece::Piece;
+use std::alloc::Global;
 
-// How many constructed values may stand one inside the other, the skipped one counted as the first (own).
+// How many constructed values may stand one inside the other, the skipped one counted as the first
+// (own).
 const LEVELS: u8 = 16;
 
 impl<'a> Cursor<'a> {
@@ -68,8 +70,9 @@ impl<'a> Cursor<'a> {
         self.skip_within(LEVELS)
     }
 
-    /// Passes over one well-formed value (X.690 8.1, 10.1) in which constructed values stand at most 16 deep, this one counted as
-    /// the first (own). Answers `TooDeep` at a constructed value below the last level. Takes no memory.
+    /// Passes over one well-formed value (X.690 8.1, 10.1) in which constructed values stand at
+    /// most 16 deep, this one counted as the first (own). Answers `TooDeep` at a constructed value
+    /// below the last level. Takes no memory.
     pub fn skip_one(&mut self) -> Result<(), DecodeError>
         ensures answers { Answers IsSkipped self.old result self.new }
         ensures reads { Took skip_at self.old result self.new }
@@ -91,7 +94,8 @@ impl<'a> Cursor<'a> {
         Ok(())
     }
 
-    /// Passes over all values that are left, each as [`Cursor::skip_one`] says. The cursor then stands at the end.
+    /// Passes over all values that are left, each as [`Cursor::skip_one`] says. The cursor then
+    /// stands at the end.
     pub fn skip_all(&mut self) -> Result<(), DecodeError>
         ensures skippable { IsOk result ↔ IsSkippableRow (left self.old) }
         ensures reads { Returns result (skip_all_of (left self.old)) }
@@ -103,25 +107,25 @@ impl<'a> Cursor<'a> {
 
     // The octets of the next value, by the reading function.
     #[tactic(auto, unfolding(crate::specs::Skipping::Reading::captured_at))]
-    fn next_captured(&mut self) -> Result<Piece, DecodeError>
+    fn next_captured(&mut self, alloc: Global) -> Result<Piece, DecodeError>
         ensures reads { TookOrMemory captured_at self.old result self.new }
         ensures keeps { Keeps result self.old self.new }
         ensures octets { AreOctets (left self.old) }
     {
         let mut ahead = self.fork();
         ahead.next_any()?;
-        let octets = self.until(&ahead).capture_rest()?;
+        let octets = self.until(&ahead).capture_rest(alloc)?;
         *self = ahead;
         Ok(octets)
     }
 
-    /// Keeps the next value whole, whatever its identifier octet (X.690 8.1, 10.1). Its inside is not tested. The only other
-    /// error than those of the identifier and the length is `Memory`.
-    pub fn capture_one(&mut self) -> Result<Piece, DecodeError>
+    /// Keeps the next value whole, whatever its identifier octet (X.690 8.1, 10.1). Its inside is
+    /// not tested. The only other error than those of the identifier and the length is `Memory`.
+    pub fn capture_one(&mut self, alloc: Global) -> Result<Piece, DecodeError>
         ensures answers { AnswersOrMemory IsCaptured self.old result self.new }
         ensures reads { TookOrMemory captured_at self.old result self.new }
         ensures keeps { Keeps result self.old self.new }
     {
-        self.next_captured()
+        self.next_captured(alloc)
     }
 }

@@ -16,6 +16,7 @@ use crate::error::{DecodeError, EncodeError};
 use crate::put::put_value;
 use crate::tag;
 use jiff::civil::DateTime;
+use std::alloc::Global;
 use std::cmp::Ordering;
 use std::marker::Model;
 
@@ -59,7 +60,8 @@ fn year_part(year: u32) -> i16
 }
 
 impl Time {
-    /// The second with these parts, where the calendar has the day, in the years 0 to 9999, and a clock the time.
+    /// The second with these parts, where the calendar has the day, in the years 0 to 9999, and a
+    /// clock the time.
     pub fn utc(year: i32, month: u32, day: u32, hour: u32, minute: u32, second: u32) -> Option<Time>
         ensures exists { IsSome result
             ↔ ((pos 0 ≤ℤ year)
@@ -114,13 +116,21 @@ impl Time {
         Ok(time)
     }
 
-    /// The UTCTime or GeneralizedTime that must stand next, in the form that ends in seconds and Z (RFC 5280 4.1.2.5).
+    /// The UTCTime or GeneralizedTime that must stand next, in the form that ends in seconds and Z
+    /// (RFC 5280 4.1.2.5).
     pub fn take_from(cursor: &mut Cursor<'_>) -> Result<Time, DecodeError>
         ensures answers { Answers IsTime cursor.old result cursor.new }
         ensures reads { Took time_at cursor.old result cursor.new }
         ensures keeps { Keeps result cursor.old cursor.new }
     {
         Time::take_time(cursor)
+    }
+
+    /// Does nothing: a time is a moment that exists.
+    pub fn known(&self)
+        ensures { IsMoment self.now }
+    {
+        let _parts = self.inner.to_plain();
     }
 
     fn year(&self) -> u16
@@ -164,8 +174,9 @@ impl Time {
         ]
     }
 
-    /// Appends the time: as UTCTime in the years 1950 to 2049, else as GeneralizedTime (RFC 5280 4.1.2.5). The only error is `Memory`.
-    pub fn encode_varied(&self, out: &mut Vec<u8>) -> Result<(), EncodeError>
+    /// Appends the time: as UTCTime in the years 1950 to 2049, else as GeneralizedTime (RFC 5280
+    /// 4.1.2.5). The only error is `Memory`.
+    pub fn encode_varied(&self, _alloc: Global, out: &mut Vec<u8>) -> Result<(), EncodeError>
         ensures ok { OnOk result (out.new.items ≡ out.old.items ++ time self.now) }
         ensures err { OnErr result (out.new.items ≡ out.old.items) }
         ensures memory { IfErr result (λ e. e ≡ Memory) }

@@ -14,20 +14,21 @@ use Rattle.rpki_der.proofs.IdentifierReads.{oid_reads}
 use Rattle.rpki_der.proofs.PrimitiveReads.{null_reads}
 use Rattle.rpki_der.proofs.Readings.{mapped_reads, same_reads}
 use Rattle.rpki_der.specs.Choices.{given}
+use Rattle.rpki_der.specs.Tags.{NULL, SEQUENCE}
 use Rattle.rpki_parts.specs.Algorithms.{Algorithm, IsSignatureAlgorithm, sha256_with_rsa, parameters}
 use Rattle.rpki_parts.specs.Algorithms.Reading.{null_or_none, algorithm_at, algorithm_with}
 use Rattle.rpki_parts.proofs.Following.{Image, image_before, given_before}
 use Rattle.rpki_parts.proofs.Texts.{same_text, text_is}
 
-null_begins : BeginWith 5 IsNull
+null_begins : BeginWith NULL IsNull
 null_begins u text s = (0 ∷ [], s)
 
 -- NULL, or nothing
 abbrev pub NullOrNone : Bool → List ℕ → Type 0
 NullOrNone = Image is_some (Optional IsNull)
 
-pub null_or_none_before : ReadsBefore (BeginsOther 5) null_or_none NullOrNone
-null_or_none_before = image_before (BeginsOther 5) (optional 5 null_at) (Optional IsNull) is_some (optional_before 5 null_at IsNull null_reads null_begins)
+pub null_or_none_before : ReadsBefore (BeginsOther NULL) null_or_none NullOrNone
+null_or_none_before = image_before (BeginsOther NULL) (optional NULL null_at) (Optional IsNull) is_some (optional_before NULL null_at IsNull null_reads null_begins)
 
 abbrev Parameters : List ℕ → Bool → List ℕ → Type 0
 Parameters id has text = (bytes_eq id sha256_with_rsa ≡ true) × NullOrNone has text
@@ -49,14 +50,14 @@ parameters_spelled : (has : Bool) → NullOrNone has (parameters has ++ [])
 parameters_spelled true = (Some tt, refl, refl)
 parameters_spelled false = (None, refl, refl)
 
-is_algorithm : (a : Algorithm) (text : List ℕ) → Inside 0x30 Content a.has_null text → IsSignatureAlgorithm a text
+is_algorithm : (a : Algorithm) (text : List ℕ) → Inside SEQUENCE Content a.has_null text → IsSignatureAlgorithm a text
 is_algorithm a text (c, (id, x, y, o, (e, n), p), enc) = record {
   identifier = x;
   identifier_is = identifier_is id sha256_with_rsa x e o;
-  sequence = subst (λ (z : List ℕ). IsEnc 0x30 z text) (p ∙ ap (λ (z : List ℕ). x ++ z) (parameters_are a.has_null y n)) enc;
+  sequence = subst (λ (z : List ℕ). IsEnc SEQUENCE z text) (p ∙ ap (λ (z : List ℕ). x ++ z) (parameters_are a.has_null y n)) enc;
 }
 
-algorithm_is : (a : Algorithm) (text : List ℕ) → IsSignatureAlgorithm a text → Inside 0x30 Content a.has_null text
+algorithm_is : (a : Algorithm) (text : List ℕ) → IsSignatureAlgorithm a text → Inside SEQUENCE Content a.has_null text
 algorithm_is a text s =
     let rest = parameters a.has_null ++ [] in
     (s.identifier ++ rest, (sha256_with_rsa, s.identifier, rest, s.identifier_is, (text_is sha256_with_rsa sha256_with_rsa refl, parameters_spelled a.has_null), refl), s.sequence)
@@ -65,9 +66,9 @@ pub algorithm_reads : Reads algorithm_at IsSignatureAlgorithm
 unfolding algorithm_at
 algorithm_reads =
     let read = followed oid_at (λ id. given (bytes_eq id sha256_with_rsa) null_or_none) in
-    same_reads (mapped algorithm_with (inside 0x30 read)) (λ a. Inside 0x30 Content a.has_null) IsSignatureAlgorithm
-    (mapped_reads (inside 0x30 read) (Inside 0x30 Content) algorithm_with (λ a. a.has_null) (λ p. refl) (λ s. refl)
-    (inside_before (BeginsOther 5) 0x30 read Content tt
-    (followed_before (BeginsOther 5) oid_at (λ id. given (bytes_eq id sha256_with_rsa) null_or_none) IsObjectIdentifier Parameters oid_reads
-    (λ id. given_before (BeginsOther 5) (bytes_eq id sha256_with_rsa) null_or_none NullOrNone null_or_none_before))))
+    same_reads (mapped algorithm_with (inside SEQUENCE read)) (λ a. Inside SEQUENCE Content a.has_null) IsSignatureAlgorithm
+    (mapped_reads (inside SEQUENCE read) (Inside SEQUENCE Content) algorithm_with (λ a. a.has_null) (λ p. refl) (λ s. refl)
+    (inside_before (BeginsOther NULL) SEQUENCE read Content tt
+    (followed_before (BeginsOther NULL) oid_at (λ id. given (bytes_eq id sha256_with_rsa) null_or_none) IsObjectIdentifier Parameters oid_reads
+    (λ id. given_before (BeginsOther NULL) (bytes_eq id sha256_with_rsa) null_or_none NullOrNone null_or_none_before))))
     is_algorithm algorithm_is

@@ -5,6 +5,7 @@ use Rattle.std.proofs.lemmas.List.{append-nil, length-append}
 use Rattle.std.proofs.lemmas.Bool.{cases_lt, lt-ltb, le-ltb}
 use Rattle.rpki_der.specs.Values.{AreOctets, enc, length_octets, IsEnc, sequence}
 use Rattle.rpki_der.specs.Skipping.{IsSkippableWithin, IsSkippable}
+use Rattle.rpki_der.specs.Tags.{OBJECT_IDENTIFIER, PRINTABLE_STRING, SEQUENCE, SET}
 use Rattle.rpki_der.proofs.Octets.{AreOctets-append}
 use Rattle.rpki_der.proofs.ValueWritten.{Short, made, content_short, pieces_short, plain_oid}
 use Rattle.rpki_parts.specs.Names.{Attribute}
@@ -37,14 +38,14 @@ before_digits = 0x30 ∷ 0x33 ∷ 0x31 ∷ 0x31 ∷ 0x30 ∷ 0x2F ∷ 0x06 ∷ 0
 
 pub name-digits : (digits : List ℕ) → length digits ≡ 40 → name_of_digits digits ≡ before_digits ++ digits
 name-digits digits e =
-    let id : enc 6 common_name ≡ 6 ∷ 3 ∷ common_name = enc_short 6 common_name 3 refl (omega arith) in
-    let one : enc 0x13 digits ≡ 0x13 ∷ 0x28 ∷ digits = enc_short 0x13 digits 40 e (omega arith) in
-    let two : enc 0x30 (6 ∷ 3 ∷ 0x55 ∷ 4 ∷ 3 ∷ 0x13 ∷ 0x28 ∷ digits) ≡ 0x30 ∷ 47 ∷ 6 ∷ 3 ∷ 0x55 ∷ 4 ∷ 3 ∷ 0x13 ∷ 0x28 ∷ digits = enc_short 0x30 (6 ∷ 3 ∷ 0x55 ∷ 4 ∷ 3 ∷ 0x13 ∷ 0x28 ∷ digits) 47 (omega arith) (omega arith) in
-    let three : enc 0x31 (0x30 ∷ 47 ∷ 6 ∷ 3 ∷ 0x55 ∷ 4 ∷ 3 ∷ 0x13 ∷ 0x28 ∷ digits) ≡ 0x31 ∷ 49 ∷ 0x30 ∷ 47 ∷ 6 ∷ 3 ∷ 0x55 ∷ 4 ∷ 3 ∷ 0x13 ∷ 0x28 ∷ digits = enc_short 0x31 (0x30 ∷ 47 ∷ 6 ∷ 3 ∷ 0x55 ∷ 4 ∷ 3 ∷ 0x13 ∷ 0x28 ∷ digits) 49 (omega arith) (omega arith) in
-    let four : enc 0x30 (0x31 ∷ 49 ∷ 0x30 ∷ 47 ∷ 6 ∷ 3 ∷ 0x55 ∷ 4 ∷ 3 ∷ 0x13 ∷ 0x28 ∷ digits) ≡ before_digits ++ digits = enc_short 0x30 (0x31 ∷ 49 ∷ 0x30 ∷ 47 ∷ 6 ∷ 3 ∷ 0x55 ∷ 4 ∷ 3 ∷ 0x13 ∷ 0x28 ∷ digits) 51 (omega arith) (omega arith) in
+    let id : enc OBJECT_IDENTIFIER common_name ≡ 6 ∷ 3 ∷ common_name = enc_short OBJECT_IDENTIFIER common_name 3 refl (omega arith) in
+    let one : enc PRINTABLE_STRING digits ≡ 0x13 ∷ 0x28 ∷ digits = enc_short PRINTABLE_STRING digits 40 e (omega arith) in
+    let two : enc SEQUENCE (6 ∷ 3 ∷ 0x55 ∷ 4 ∷ 3 ∷ 0x13 ∷ 0x28 ∷ digits) ≡ 0x30 ∷ 47 ∷ 6 ∷ 3 ∷ 0x55 ∷ 4 ∷ 3 ∷ 0x13 ∷ 0x28 ∷ digits = enc_short SEQUENCE (6 ∷ 3 ∷ 0x55 ∷ 4 ∷ 3 ∷ 0x13 ∷ 0x28 ∷ digits) 47 (omega arith) (omega arith) in
+    let three : enc SET (0x30 ∷ 47 ∷ 6 ∷ 3 ∷ 0x55 ∷ 4 ∷ 3 ∷ 0x13 ∷ 0x28 ∷ digits) ≡ 0x31 ∷ 49 ∷ 0x30 ∷ 47 ∷ 6 ∷ 3 ∷ 0x55 ∷ 4 ∷ 3 ∷ 0x13 ∷ 0x28 ∷ digits = enc_short SET (0x30 ∷ 47 ∷ 6 ∷ 3 ∷ 0x55 ∷ 4 ∷ 3 ∷ 0x13 ∷ 0x28 ∷ digits) 49 (omega arith) (omega arith) in
+    let four : enc SEQUENCE (0x31 ∷ 49 ∷ 0x30 ∷ 47 ∷ 6 ∷ 3 ∷ 0x55 ∷ 4 ∷ 3 ∷ 0x13 ∷ 0x28 ∷ digits) ≡ before_digits ++ digits = enc_short SEQUENCE (0x31 ∷ 49 ∷ 0x30 ∷ 47 ∷ 6 ∷ 3 ∷ 0x55 ∷ 4 ∷ 3 ∷ 0x13 ∷ 0x28 ∷ digits) 51 (omega arith) (omega arith) in
     rw (id, one, append-nil digits, two, three, append-nil digits) four
 
-primitive : (content b : List ℕ) → IsEnc 0x13 content b → IsSkippable b
+primitive : (content b : List ℕ) → IsEnc PRINTABLE_STRING content b → IsSkippable b
 unfolding IsSkippableWithin
 primitive content b e = (record { tag = 0x13; content = content; enc = e }, inl refl)
 
@@ -52,25 +53,25 @@ pub is_name_of_digits : (digits : List ℕ) → length digits ≡ 40 → AreOcte
 is_name_of_digits digits e octets =
     let whole : Short (before_digits ++ digits) = (omega (arith, length-append before_digits digits), AreOctets-append before_digits digits (omega arith) octets) in
     let short : Short (name_of_digits digits) = rw (name-digits digits e) whole in
-    let attribute : List ℕ = sequence (enc 6 common_name ∷ enc 0x13 digits ∷ []) in
-    let set : List ℕ = enc 0x31 attribute in
-    let one = content_short 0x30 (concat (set ∷ [])) short in
+    let attribute : List ℕ = sequence (enc OBJECT_IDENTIFIER common_name ∷ enc PRINTABLE_STRING digits ∷ []) in
+    let set : List ℕ = enc SET attribute in
+    let one = content_short SEQUENCE (concat (set ∷ [])) short in
     let two = (pieces_short (set ∷ []) one).0 in
-    let three = content_short 0x31 attribute two in
-    let four = pieces_short (enc 6 common_name ∷ enc 0x13 digits ∷ []) (content_short 0x30 (concat (enc 6 common_name ∷ enc 0x13 digits ∷ [])) three) in
-    let value = made 0x13 digits (omega arith) four.1.0 in
-    let a : Attribute = record { type_id = common_name; value_tag = 0x13 } in
+    let three = content_short SET attribute two in
+    let four = pieces_short (enc OBJECT_IDENTIFIER common_name ∷ enc PRINTABLE_STRING digits ∷ []) (content_short SEQUENCE (concat (enc OBJECT_IDENTIFIER common_name ∷ enc PRINTABLE_STRING digits ∷ [])) three) in
+    let value = made PRINTABLE_STRING digits (omega arith) four.1.0 in
+    let a : Attribute = record { type_id = common_name; value_tag = PRINTABLE_STRING } in
     let spelled : IsAttribute a attribute = record {
-      identifier = enc 6 common_name;
+      identifier = enc OBJECT_IDENTIFIER common_name;
       content = digits;
-      value = enc 0x13 digits;
-      identifier_is = record { enc = made 6 common_name (omega arith) four.0; oid = plain_oid 0x55 (4 ∷ 3 ∷ []) (omega arith, (omega arith, (omega arith, tt))) };
+      value = enc PRINTABLE_STRING digits;
+      identifier_is = record { enc = made OBJECT_IDENTIFIER common_name (omega arith) four.0; oid = plain_oid 0x55 (4 ∷ 3 ∷ []) (omega arith, (omega arith, (omega arith, tt))) };
       value_is = value;
-      skippable = primitive digits (enc 0x13 digits) value;
-      sequence = made 0x30 (concat (enc 6 common_name ∷ enc 0x13 digits ∷ [])) (omega arith) three;
+      skippable = primitive digits (enc PRINTABLE_STRING digits) value;
+      sequence = made SEQUENCE (concat (enc OBJECT_IDENTIFIER common_name ∷ enc PRINTABLE_STRING digits ∷ [])) (omega arith) three;
     } in
-    let part : IsPart (a ∷ []) set = record { content = attribute; row = (attribute, [], spelled, refl, sym (append-nil attribute)); some = omega arith; set = made 0x31 attribute (omega arith) two } in
-    let parts : AreParts ((a ∷ []) ∷ []) (name_of_digits digits) = record { content = concat (set ∷ []); row = (set, [], part, refl, refl); sequence = made 0x30 (concat (set ∷ [])) (omega arith) short } in
+    let part : IsPart (a ∷ []) set = record { content = attribute; row = (attribute, [], spelled, refl, sym (append-nil attribute)); some = omega arith; set = made SET attribute (omega arith) two } in
+    let parts : AreParts ((a ∷ []) ∷ []) (name_of_digits digits) = record { content = concat (set ∷ []); row = (set, [], part, refl, refl); sequence = made SEQUENCE (concat (set ∷ [])) (omega arith) short } in
     is_name_again ((a ∷ []) ∷ []) (name_of_digits digits) parts
 
 -- the name of a key, by its identifier

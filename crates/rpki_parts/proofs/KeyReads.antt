@@ -15,6 +15,7 @@ use Rattle.rpki_der.proofs.IdentifierReads.{oid_reads}
 use Rattle.rpki_der.proofs.PrimitiveReads.{bits_reads}
 use Rattle.rpki_der.proofs.Readings.{content_reads, same_reads}
 use Rattle.rpki_der.specs.Choices.{given, always}
+use Rattle.rpki_der.specs.Tags.{BIT_STRING, NULL, OCTET_STRING, SEQUENCE}
 use Rattle.rpki_parts.specs.Algorithms.Reading.{null_or_none}
 use Rattle.rpki_parts.specs.Keys.{IsKeyIdentifier, KeyFields, IsKeyAlgorithm, IsPublicKey, rsa_encryption, id_ec_public_key, prime256v1}
 use Rattle.rpki_parts.specs.Keys.Reading.{key_identifier_at, twenty, curve_at, parameters_at, format_at, whole_bits_at, public_key_at}
@@ -33,8 +34,8 @@ takes_twenty c id e = let g = if_some (eqb (length c) 20) c id e in (g.1, subst 
 pub key_identifier_reads : Reads key_identifier_at IsKeyIdentifier
 unfolding key_identifier_at
 key_identifier_reads =
-    same_reads (content 4 twenty) (Inside 4 IsTwenty) IsKeyIdentifier
-    (content_reads 4 twenty IsTwenty (record { takes = λ c id low e. takes_twenty c id e; again = λ id c s. rw (s.0, eq-eqb (length id) 20 s.1) refl }))
+    same_reads (content OCTET_STRING twenty) (Inside OCTET_STRING IsTwenty) IsKeyIdentifier
+    (content_reads OCTET_STRING twenty IsTwenty (record { takes = λ c id low e. takes_twenty c id e; again = λ id c s. rw (s.0, eq-eqb (length id) 20 s.1) refl }))
     (λ id text s. record { size = s.1.1; enc = rw (← s.1.0) s.2 })
     (λ id text s. (id, (refl, s.size), s.enc))
 
@@ -43,10 +44,10 @@ key_identifier_reads =
 abbrev Curve : PublicKeyFormat → List ℕ → Type 0
 Curve = Followed IsObjectIdentifier (λ id format text. (bytes_eq id prime256v1 ≡ true) × ((EcdsaP256 ≡ format) × (text ≡ [])))
 
-curve_before : ReadsBefore (BeginsOther 5) curve_at Curve
+curve_before : ReadsBefore (BeginsOther NULL) curve_at Curve
 curve_before =
-    followed_before (BeginsOther 5) oid_at (λ id. given (bytes_eq id prime256v1) (always EcdsaP256)) IsObjectIdentifier (λ id format text. (bytes_eq id prime256v1 ≡ true) × ((EcdsaP256 ≡ format) × (text ≡ []))) oid_reads
-    (λ id. given_before (BeginsOther 5) (bytes_eq id prime256v1) (always EcdsaP256) (λ format text. (EcdsaP256 ≡ format) × (text ≡ [])) (always_before (BeginsOther 5) EcdsaP256))
+    followed_before (BeginsOther NULL) oid_at (λ id. given (bytes_eq id prime256v1) (always EcdsaP256)) IsObjectIdentifier (λ id format text. (bytes_eq id prime256v1 ≡ true) × ((EcdsaP256 ≡ format) × (text ≡ []))) oid_reads
+    (λ id. given_before (BeginsOther NULL) (bytes_eq id prime256v1) (always EcdsaP256) (λ format text. (EcdsaP256 ≡ format) × (text ≡ [])) (always_before (BeginsOther NULL) EcdsaP256))
 
 abbrev RsaParameters : PublicKeyFormat → List ℕ → Type 0
 RsaParameters = Image (λ _. Rsa) NullOrNone
@@ -57,20 +58,20 @@ EcParameters id format text = (bytes_eq id id_ec_public_key ≡ true) × Curve f
 abbrev Parameters : List ℕ → PublicKeyFormat → List ℕ → Type 0
 Parameters id format text = ((bytes_eq id rsa_encryption ≡ true) × RsaParameters format text) ⊎ ((bytes_eq id rsa_encryption ≡ false) × EcParameters id format text)
 
-parameters_before : (id : List ℕ) → ReadsBefore (BeginsOther 5) (parameters_at id) (Parameters id)
+parameters_before : (id : List ℕ) → ReadsBefore (BeginsOther NULL) (parameters_at id) (Parameters id)
 parameters_before id =
-    choose_before (BeginsOther 5) (bytes_eq id rsa_encryption) (mapped (λ _. Rsa) null_or_none) (given (bytes_eq id id_ec_public_key) curve_at) RsaParameters (EcParameters id)
-    (image_before (BeginsOther 5) null_or_none NullOrNone (λ _. Rsa) null_or_none_before)
-    (given_before (BeginsOther 5) (bytes_eq id id_ec_public_key) curve_at Curve curve_before)
+    choose_before (BeginsOther NULL) (bytes_eq id rsa_encryption) (mapped (λ _. Rsa) null_or_none) (given (bytes_eq id id_ec_public_key) curve_at) RsaParameters (EcParameters id)
+    (image_before (BeginsOther NULL) null_or_none NullOrNone (λ _. Rsa) null_or_none_before)
+    (given_before (BeginsOther NULL) (bytes_eq id id_ec_public_key) curve_at Curve curve_before)
 
 abbrev AlgorithmContent : PublicKeyFormat → List ℕ → Type 0
 AlgorithmContent = Followed IsObjectIdentifier Parameters
 
 -- another content of the same value
-in_sequence : (c d text : List ℕ) → c ≡ d → IsEnc 0x30 c text → IsEnc 0x30 d text
-in_sequence c d text e s = subst (λ (x : List ℕ). IsEnc 0x30 x text) e s
+in_sequence : (c d text : List ℕ) → c ≡ d → IsEnc SEQUENCE c text → IsEnc SEQUENCE d text
+in_sequence c d text e s = subst (λ (x : List ℕ). IsEnc SEQUENCE x text) e s
 
-is_key_algorithm : (format : PublicKeyFormat) (text : List ℕ) → Inside 0x30 AlgorithmContent format text → IsKeyAlgorithm format text
+is_key_algorithm : (format : PublicKeyFormat) (text : List ℕ) → Inside SEQUENCE AlgorithmContent format text → IsKeyAlgorithm format text
 is_key_algorithm Rsa text (c, (id, a, b, o, (inl (e, (has, t, (Some u, h, n)))), p), enc) =
     (a, identifier_is id rsa_encryption a e o, inl (in_sequence c (a ++ null) text (p ∙ ap (λ (x : List ℕ). a ++ x) n) enc))
 is_key_algorithm Rsa text (c, (id, a, b, o, (inl (e, (has, t, (None, h, n)))), p), enc) =
@@ -85,7 +86,7 @@ is_key_algorithm EcdsaP256 text (c, (id, a, b, o, (inr (e, (f, (curve, d, r, k, 
   in_sequence c (a ++ (d ++ [])) text (p ∙ ap (λ (x : List ℕ). a ++ x) (q ∙ ap (λ (x : List ℕ). d ++ x) n)) enc,
 )
 
-key_algorithm_is : (format : PublicKeyFormat) (text : List ℕ) → IsKeyAlgorithm format text → Inside 0x30 AlgorithmContent format text
+key_algorithm_is : (format : PublicKeyFormat) (text : List ℕ) → IsKeyAlgorithm format text → Inside SEQUENCE AlgorithmContent format text
 key_algorithm_is Rsa text (a, o, (inl s)) = (a ++ null, (rsa_encryption, a, null, o, inl (text_is rsa_encryption rsa_encryption refl, (true, refl, (Some tt, refl, refl))), refl), s)
 key_algorithm_is Rsa text (a, o, (inr s)) = (a ++ [], (rsa_encryption, a, [], o, inl (text_is rsa_encryption rsa_encryption refl, (false, refl, (None, refl, refl))), refl), s)
 key_algorithm_is EcdsaP256 text (a, d, o, k, s) =
@@ -94,14 +95,14 @@ key_algorithm_is EcdsaP256 text (a, d, o, k, s) =
 pub format_reads : Reads format_at IsKeyAlgorithm
 unfolding format_at
 format_reads =
-    same_reads (inside 0x30 (followed oid_at parameters_at)) (Inside 0x30 AlgorithmContent) IsKeyAlgorithm
-    (inside_before (BeginsOther 5) 0x30 (followed oid_at parameters_at) AlgorithmContent tt (followed_before (BeginsOther 5) oid_at parameters_at IsObjectIdentifier Parameters oid_reads parameters_before))
+    same_reads (inside SEQUENCE (followed oid_at parameters_at)) (Inside SEQUENCE AlgorithmContent) IsKeyAlgorithm
+    (inside_before (BeginsOther NULL) SEQUENCE (followed oid_at parameters_at) AlgorithmContent tt (followed_before (BeginsOther NULL) oid_at parameters_at IsObjectIdentifier Parameters oid_reads parameters_before))
     is_key_algorithm key_algorithm_is
 
 -- ---- bits of which none are unused
 
 abbrev pub IsWholeBits : List ℕ → List ℕ → Type 0
-IsWholeBits bits text = IsEnc 3 (0 ∷ bits) text
+IsWholeBits bits text = IsEnc BIT_STRING (0 ∷ bits) text
 
 abbrev NoneUnused : ℕ × List ℕ → List ℕ → List ℕ → Type 0
 NoneUnused v bits text = (eqb v.0 0 ≡ true) × ((v.1 ≡ bits) × (text ≡ []))
@@ -111,7 +112,7 @@ is_whole_bits bits text (v, a, b, s, (e, (is, n)), p) =
     let none : v.0 ≡ 0 = eqb-true v.0 0 e in
     let same : v.0 ∷ v.1 ≡ 0 ∷ bits = cc in
     let all : a ≡ text = sym (p ∙ ap (λ (x : List ℕ). a ++ x) n ∙ append-nil a) in
-    subst (λ (x : List ℕ). IsEnc 3 (0 ∷ bits) x) all (subst (λ (x : List ℕ). IsEnc 3 x a) same s.enc)
+    subst (λ (x : List ℕ). IsEnc BIT_STRING (0 ∷ bits) x) all (subst (λ (x : List ℕ). IsEnc BIT_STRING x a) same s.enc)
 
 whole_bits_is : (bits text : List ℕ) → IsWholeBits bits text → Followed IsBits NoneUnused bits text
 whole_bits_is bits text s =
@@ -134,7 +135,7 @@ KeyBits format = Image (key_of format) IsWholeBits
 abbrev KeyContent : KeyFields → List ℕ → Type 0
 KeyContent = Followed IsKeyAlgorithm KeyBits
 
-is_public_key : (k : KeyFields) (text : List ℕ) → Inside 0x30 KeyContent k text → IsPublicKey k text
+is_public_key : (k : KeyFields) (text : List ℕ) → Inside SEQUENCE KeyContent k text → IsPublicKey k text
 is_public_key k text (c, (format, a, b, f, (bits, is, s), p), enc) =
     subst (λ (x : KeyFields). IsPublicKey x text) is (record {
       algorithm = a;
@@ -144,7 +145,7 @@ is_public_key k text (c, (format, a, b, f, (bits, is, s), p), enc) =
       sequence = in_sequence c (a ++ (b ++ [])) text (p ∙ ap (λ (x : List ℕ). a ++ x) (sym (append-nil b))) enc;
     })
 
-public_key_is : (k : KeyFields) (text : List ℕ) → IsPublicKey k text → Inside 0x30 KeyContent k text
+public_key_is : (k : KeyFields) (text : List ℕ) → IsPublicKey k text → Inside SEQUENCE KeyContent k text
 public_key_is k text s = (
   s.algorithm ++ s.bits,
   (k.format, s.algorithm, s.bits, s.algorithm_is, (k.bits, refl, s.bits_is), refl),
@@ -154,8 +155,8 @@ public_key_is k text s = (
 pub public_key_reads : Reads public_key_at IsPublicKey
 unfolding public_key_at
 public_key_reads =
-    same_reads (inside 0x30 (followed format_at (λ format. mapped (key_of format) whole_bits_at))) (Inside 0x30 KeyContent) IsPublicKey
-    (inside_before Anything 0x30 (followed format_at (λ format. mapped (key_of format) whole_bits_at)) KeyContent tt
+    same_reads (inside SEQUENCE (followed format_at (λ format. mapped (key_of format) whole_bits_at))) (Inside SEQUENCE KeyContent) IsPublicKey
+    (inside_before Anything SEQUENCE (followed format_at (λ format. mapped (key_of format) whole_bits_at)) KeyContent tt
     (followed_before Anything format_at (λ format. mapped (key_of format) whole_bits_at) IsKeyAlgorithm KeyBits format_reads
     (λ format. image_before Anything whole_bits_at IsWholeBits (key_of format) (before Anything whole_bits_at IsWholeBits whole_bits_reads))))
     is_public_key public_key_is

@@ -2,6 +2,7 @@
 use Rattle.std.proofs.Common.{[], ◌∷◌, refl, arith, inl}
 use Rattle.rpki_der.specs.Values.{AreOctets, enc}
 use Rattle.rpki_der.specs.Primitives.{null}
+use Rattle.rpki_der.specs.Tags.{BIT_STRING, OBJECT_IDENTIFIER, SEQUENCE}
 use Rattle.rpki_der.proofs.IdentifierReads.{oid_takes}
 use Rattle.rpki_der.proofs.ValueWritten.{Short, made, identifier_made, content_short, pieces_short}
 use Rattle.rpki_der.proofs.WrittenOctets.{IfShort, literal, ok_concat, ok_enc}
@@ -12,22 +13,22 @@ use Rattle.rpki_parts.proofs.AlgorithmWritten.{ok_oid}
 
 key_algorithm_made : (v : PublicKeyFormat) → Short (key_algorithm v) → IsKeyAlgorithm v (key_algorithm v)
 key_algorithm_made Rsa h =
-    let shorts = pieces_short (enc 6 rsa_encryption ∷ null ∷ []) (content_short 0x30 _ h) in
-    (enc 6 rsa_encryption, identifier_made rsa_encryption (oid_takes rsa_encryption refl) shorts.0, inl (made 0x30 _ (omega arith) h))
+    let shorts = pieces_short (enc OBJECT_IDENTIFIER rsa_encryption ∷ null ∷ []) (content_short SEQUENCE _ h) in
+    (enc OBJECT_IDENTIFIER rsa_encryption, identifier_made rsa_encryption (oid_takes rsa_encryption refl) shorts.0, inl (made SEQUENCE _ (omega arith) h))
 key_algorithm_made EcdsaP256 h =
-    let shorts = pieces_short (enc 6 id_ec_public_key ∷ enc 6 prime256v1 ∷ []) (content_short 0x30 _ h) in
-    (enc 6 id_ec_public_key, enc 6 prime256v1, identifier_made id_ec_public_key (oid_takes id_ec_public_key refl) shorts.0, identifier_made prime256v1 (oid_takes prime256v1 refl) shorts.1.0, made 0x30 _ (omega arith) h)
+    let shorts = pieces_short (enc OBJECT_IDENTIFIER id_ec_public_key ∷ enc OBJECT_IDENTIFIER prime256v1 ∷ []) (content_short SEQUENCE _ h) in
+    (enc OBJECT_IDENTIFIER id_ec_public_key, enc OBJECT_IDENTIFIER prime256v1, identifier_made id_ec_public_key (oid_takes id_ec_public_key refl) shorts.0, identifier_made prime256v1 (oid_takes prime256v1 refl) shorts.1.0, made SEQUENCE _ (omega arith) h)
 
 pub key_made : (k : KeyFields) → Short (key k) → IsPublicKey k (key k)
 key_made k h =
-    let shorts = pieces_short (key_pieces k) (content_short 0x30 _ h) in
-    record { algorithm = key_algorithm k.format; bits = enc 3 (0 ∷ k.bits); algorithm_is = key_algorithm_made k.format shorts.0; bits_is = made 3 (0 ∷ k.bits) (omega arith) shorts.1.0; sequence = made 0x30 _ (omega arith) h }
+    let shorts = pieces_short (key_pieces k) (content_short SEQUENCE _ h) in
+    record { algorithm = key_algorithm k.format; bits = enc BIT_STRING (0 ∷ k.bits); algorithm_is = key_algorithm_made k.format shorts.0; bits_is = made BIT_STRING (0 ∷ k.bits) (omega arith) shorts.1.0; sequence = made SEQUENCE _ (omega arith) h }
 
 -- ---- octets
 
 ok_key_algorithm : (v : PublicKeyFormat) → IfShort (key_algorithm v)
-ok_key_algorithm Rsa = ok_enc 0x30 _ (omega arith) (ok_concat (enc 6 rsa_encryption ∷ null ∷ []) (ok_oid rsa_encryption (literal rsa_encryption refl), ((λ l. literal null refl), tt)))
-ok_key_algorithm EcdsaP256 = ok_enc 0x30 _ (omega arith) (ok_concat (enc 6 id_ec_public_key ∷ enc 6 prime256v1 ∷ []) (ok_oid id_ec_public_key (literal id_ec_public_key refl), (ok_oid prime256v1 (literal prime256v1 refl), tt)))
+ok_key_algorithm Rsa = ok_enc SEQUENCE _ (omega arith) (ok_concat (enc OBJECT_IDENTIFIER rsa_encryption ∷ null ∷ []) (ok_oid rsa_encryption (literal rsa_encryption refl), ((λ l. literal null refl), tt)))
+ok_key_algorithm EcdsaP256 = ok_enc SEQUENCE _ (omega arith) (ok_concat (enc OBJECT_IDENTIFIER id_ec_public_key ∷ enc OBJECT_IDENTIFIER prime256v1 ∷ []) (ok_oid id_ec_public_key (literal id_ec_public_key refl), (ok_oid prime256v1 (literal prime256v1 refl), tt)))
 
 pub ok_key : (k : KeyFields) → AreOctets k.bits → IfShort (key k)
-ok_key k h = ok_enc 0x30 _ (omega arith) (ok_concat (key_pieces k) (ok_key_algorithm k.format, (ok_enc 3 _ (omega arith) (λ l. (omega arith, h)), tt)))
+ok_key k h = ok_enc SEQUENCE _ (omega arith) (ok_concat (key_pieces k) (ok_key_algorithm k.format, (ok_enc BIT_STRING _ (omega arith) (λ l. (omega arith, h)), tt)))

@@ -4,6 +4,7 @@ use Rattle.std.proofs.Common.{ℕ, ◌+◌, ◌^◌, ◌≤◌, List, [], ◌∷
 use Rattle.std.proofs.lemmas.List.{length-append}
 use Rattle.rpki_der.specs.Values.{enc, length_octets}
 use Rattle.rpki_der.specs.Times.{Moment, time}
+use Rattle.rpki_der.specs.Tags.{BIT_STRING}
 use Rattle.rpki_der.proofs.ValueWritten.{bool_cases, enc_longer}
 
 pub time_short : (m : Moment) → length (time m) ≤ 17
@@ -15,8 +16,8 @@ time_short m =
     ]
 
 -- a content that does not fit makes what it stands in not fit
-pub bits_too_long : (front bits : List ℕ) → 2 ^ 32 ≤ length bits + 1 → 2 ^ 32 ≤ length (front ++ (enc 3 (0 ∷ bits) ++ []))
-bits_too_long front bits h = omega (arith, length-append front (enc 3 (0 ∷ bits) ++ []), length-append (enc 3 (0 ∷ bits)) [], enc_longer 3 (0 ∷ bits))
+pub bits_too_long : (front bits : List ℕ) → 2 ^ 32 ≤ length bits + 1 → 2 ^ 32 ≤ length (front ++ (enc BIT_STRING (0 ∷ bits) ++ []))
+bits_too_long front bits h = omega (arith, length-append front (enc BIT_STRING (0 ∷ bits) ++ []), length-append (enc BIT_STRING (0 ∷ bits)) [], enc_longer BIT_STRING (0 ∷ bits))
 
 pub two_times_short : (m n : Moment) → length (time m ++ (time n ++ [])) ≤ 34
 two_times_short m n = omega (arith, length-append (time m) (time n ++ []), length-append (time n) [], time_short m, time_short n)

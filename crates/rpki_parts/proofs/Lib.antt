@@ -8,6 +8,7 @@ pub mod ValidityReads
 pub mod ValidityWritten
 pub mod Lengths
 pub mod NameReads
+pub mod NameForms
 pub mod Slashes
 pub mod UriTests
 pub mod UriParents

@@ -12,8 +12,10 @@ use Rattle.rpki_der.specs.Spelling.{Begins}
 use Rattle.rpki_der.specs.Reading.{inside, both, mapped, content, ended, Reads, Both, Inside}
 use Rattle.rpki_der.specs.Primitives.Reading.{oid_at}
 use Rattle.rpki_der.specs.Values.Reading.{◌>>=◌, value_at}
+use Rattle.rpki_der.specs.Tags.{SEQUENCE, SET}
 use Rattle.rpki_der.proofs.Octets.{AreOctets-front, bind_some, some, both_are, nothing, if_some}
 use Rattle.rpki_der.proofs.IdentifierReads.{oid_reads}
+use Rattle.rpki_der.proofs.ValueReads.{value_reads}
 use Rattle.rpki_der.proofs.Choices.{content_shrinks}
 use Rattle.rpki_der.proofs.SkippingReads.{skip_reads, captured_reads, begins_tag}
 use Rattle.rpki_der.proofs.Rows.{row_is, row_again, inside_shrinks}
@@ -72,7 +74,7 @@ parts_of a = (a.type_id, a.value_tag)
 abbrev AttributeContent : Attribute → List ℕ → Type 0
 AttributeContent a = Both IsObjectIdentifier IsTagged (parts_of a)
 
-is_attribute : (a : Attribute) (text : List ℕ) → Inside 0x30 AttributeContent a text → IsAttribute a text
+is_attribute : (a : Attribute) (text : List ℕ) → Inside SEQUENCE AttributeContent a text → IsAttribute a text
 is_attribute a text (c, (x, y, o, (d, v, s), p), enc) = record {
   identifier = x;
   content = d;
@@ -80,27 +82,27 @@ is_attribute a text (c, (x, y, o, (d, v, s), p), enc) = record {
   identifier_is = o;
   value_is = v;
   skippable = s;
-  sequence = subst (λ (z : List ℕ). IsEnc 0x30 z text) (p ∙ ap (λ (z : List ℕ). x ++ z) (sym (append-nil y))) enc;
+  sequence = subst (λ (z : List ℕ). IsEnc SEQUENCE z text) (p ∙ ap (λ (z : List ℕ). x ++ z) (sym (append-nil y))) enc;
 }
 
-attribute_is : (a : Attribute) (text : List ℕ) → IsAttribute a text → Inside 0x30 AttributeContent a text
+attribute_is : (a : Attribute) (text : List ℕ) → IsAttribute a text → Inside SEQUENCE AttributeContent a text
 attribute_is a text s = (
   s.identifier ++ s.value,
   (s.identifier, s.value, s.identifier_is, (s.content, s.value_is, s.skippable), refl),
-  subst (λ (z : List ℕ). IsEnc 0x30 z text) (ap (λ (z : List ℕ). s.identifier ++ z) (append-nil s.value)) s.sequence,
+  subst (λ (z : List ℕ). IsEnc SEQUENCE z text) (ap (λ (z : List ℕ). s.identifier ++ z) (append-nil s.value)) s.sequence,
 )
 
 pub attribute_reads : Reads attribute_at IsAttribute
 unfolding attribute_at
 attribute_reads =
-    same_reads (inside 0x30 (mapped attribute (both oid_at tagged_at))) (Inside 0x30 AttributeContent) IsAttribute
-    (inside_reads 0x30 (mapped attribute (both oid_at tagged_at)) AttributeContent
+    same_reads (inside SEQUENCE (mapped attribute (both oid_at tagged_at))) (Inside SEQUENCE AttributeContent) IsAttribute
+    (inside_reads SEQUENCE (mapped attribute (both oid_at tagged_at)) AttributeContent
     (mapped_reads (both oid_at tagged_at) (Both IsObjectIdentifier IsTagged) attribute parts_of (λ p. refl) (λ a. refl) (both_reads oid_at tagged_at IsObjectIdentifier IsTagged oid_reads tagged_reads)))
     is_attribute attribute_is
 
 pub attribute_shrinks : Shrinks attribute_at
 unfolding attribute_at
-attribute_shrinks = inside_shrinks 0x30 (mapped attribute (both oid_at tagged_at))
+attribute_shrinks = inside_shrinks SEQUENCE (mapped attribute (both oid_at tagged_at))
 
 -- ---- parts
 
@@ -133,14 +135,14 @@ part_again xs (b ∷ bytes) s = row_again attribute_at IsAttribute attribute_rea
 pub part_reads : Reads part_at IsPart
 unfolding part_at
 part_reads =
-    same_reads (content 0x31 attributes_of) (Inside 0x31 PartContent) IsPart
-    (content_reads 0x31 attributes_of PartContent (record { takes = part_takes; again = part_again }))
+    same_reads (content SET attributes_of) (Inside SET PartContent) IsPart
+    (content_reads SET attributes_of PartContent (record { takes = part_takes; again = part_again }))
     (λ xs text s. record { content = s.0; row = s.1.0; some = s.1.1; set = s.2 })
     (λ xs text s. (s.content, (s.row, s.some), s.set))
 
 pub part_shrinks : Shrinks part_at
 unfolding part_at
-part_shrinks = content_shrinks 0x31 attributes_of
+part_shrinks = content_shrinks SET attributes_of
 
 -- ---- names
 
@@ -150,8 +152,8 @@ AreParts = IsRdnSequenceWithin levels
 pub parts_reads : Reads parts_at AreParts
 unfolding parts_at
 parts_reads =
-    same_reads (content 0x30 (row_of part_at)) (Inside 0x30 (IsRow IsPart)) AreParts
-    (content_reads 0x30 (row_of part_at) (IsRow IsPart) (record {
+    same_reads (content SEQUENCE (row_of part_at)) (Inside SEQUENCE (IsRow IsPart)) AreParts
+    (content_reads SEQUENCE (row_of part_at) (IsRow IsPart) (record {
       takes = λ c parts fits e. row_is part_at IsPart part_reads c parts fits e;
       again = λ parts c s. row_again part_at IsPart part_reads part_shrinks parts c s;
     }))
@@ -208,17 +210,29 @@ name_reads = record {
       rw (captured_reads.again name text rest (v, s.kept), t) refl;
 }
 
+-- no name stands where no SEQUENCE does
+pub name_none : (bytes : List ℕ) → AreOctets bytes → value_at SEQUENCE bytes ≡ None → name_at bytes ≡ None
+name_none bytes fits e = none_of (name_at bytes) refl
+  where
+    none_of : (o : Option (List ℕ × List ℕ)) → name_at bytes ≡ o → o ≡ None
+    none_of None h = refl
+    none_of (Some v) h =
+        let b = name_reads.takes bytes v.0 v.1 fits h in
+        let sequence = b.spelled.parts_are in
+        let one : value_at SEQUENCE bytes ≡ some {A = List ℕ × List ℕ} (sequence.content, v.1) = ap (value_at SEQUENCE) b.parts ∙ (value_reads SEQUENCE).again sequence.content b.text v.1 sequence.sequence in
+        nothing (sequence.content, v.1) (sym e ∙ one)
+
 -- ---- the test, step by step
 
 pub not_ok : {X E : Type 0} (r : Result X E) → IsErr r → (b : Bool) → b ≡ false → is_ok r ≡ b
 not_ok (Ok x) e b h = absurd cc
 not_ok (Err d) e b h = rw h refl
 
-pub no_sequence : (octets : List ℕ) → value_at 0x30 octets ≡ None → is_name octets ≡ false
+pub no_sequence : (octets : List ℕ) → value_at SEQUENCE octets ≡ None → is_name octets ≡ false
 unfolding name_of parts_at
 no_sequence octets e = rw e refl
 
-pub name_more : (octets c rest : List ℕ) → value_at 0x30 octets ≡ some {A = List ℕ × List ℕ} (c, rest) → rest ≡ [] → is_name octets ≡ is_some (row_of part_at c)
+pub name_more : (octets c rest : List ℕ) → value_at SEQUENCE octets ≡ some {A = List ℕ × List ℕ} (c, rest) → rest ≡ [] → is_name octets ≡ is_some (row_of part_at c)
 unfolding name_of parts_at
 name_more octets c rest e end = rw (e, end) (is_whole (row_of part_at c))
   where
@@ -226,7 +240,7 @@ name_more octets c rest e end = rw (e, end) (is_whole (row_of part_at c))
     is_whole (Some x) = refl
     is_whole None = refl
 
-pub name_ends : (octets c rest : List ℕ) → value_at 0x30 octets ≡ some {A = List ℕ × List ℕ} (c, rest) → (rest ≡ [] → ⊥) → is_name octets ≡ false
+pub name_ends : (octets c rest : List ℕ) → value_at SEQUENCE octets ≡ some {A = List ℕ × List ℕ} (c, rest) → (rest ≡ [] → ⊥) → is_name octets ≡ false
 unfolding name_of parts_at
 name_ends octets c rest e more = rw e (is_none (row_of part_at c) rest more)
   where

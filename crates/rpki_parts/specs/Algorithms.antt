@@ -7,7 +7,8 @@ use Rattle.rpki_der.specs.Tags.{OBJECT_IDENTIFIER, SEQUENCE}
 use Rattle.rpki_der.specs.Writers.{Part, value}
 pub mod Reading
 
--- sha256WithRSAEncryption, with NULL as its parameters or without any; the Rust struct RpkiSignatureAlgorithm
+-- sha256WithRSAEncryption, with NULL as its parameters or without any; the Rust struct
+-- RpkiSignatureAlgorithm
 pub record Algorithm : Type 0 where
   pub has_null : Bool
 

@@ -1,4 +1,5 @@
--- Public keys and their identifiers (RFC 7935 3, RFC 8608 3, RFC 5480 2.1, RFC 5280 4.1.2.7, RFC 6487 4.8.2).
+-- Public keys and their identifiers (RFC 7935 3, RFC 8608 3, RFC 5480 2.1, RFC 5280 4.1.2.7, RFC
+-- 6487 4.8.2).
 use Rattle.std.specs.Prelude.{◌≡◌, ℕ, List, [], ◌∷◌, ◌⊎◌, length}
 use Rattle.std.specs.List.{concat}
 use Rattle.sha1.specs.Sha1.{sha1}

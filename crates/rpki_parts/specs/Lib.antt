@@ -1,11 +1,14 @@
 pub mod Algorithms
 pub mod Keys
 pub mod Names
+pub mod NameForms
 pub mod KeyNames
 pub mod Signatures
 pub mod SignedDatas
 pub mod SigningErrors
 pub mod Validities
+pub mod Conditions
+pub mod ValidAt
 pub mod Uris
 pub mod UriErrors
 pub mod UriLaws

@@ -8,7 +8,8 @@ use Rattle.rpki_der.specs.Tags.{SEQUENCE, SET}
 use Rattle.rpki_der.specs.Writers.{Part}
 pub mod Reading
 
--- what of an AttributeTypeAndValue is told apart: the content of its type, and the identifier octet of its value
+-- what of an AttributeTypeAndValue is told apart: the content of its type, and the identifier octet
+-- of its value
 pub record Attribute : Type 0 where
   pub type_id : List ℕ
   pub value_tag : ℕ

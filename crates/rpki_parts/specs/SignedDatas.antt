@@ -13,8 +13,8 @@ pub record SignedFields : Type 0 where
   pub message : List ℕ
   pub signature : SignatureFields
 
--- what stands inside the SEQUENCE; of the value that is signed nothing is read but its identifier and length, and the BIT STRING
--- has no unused bits (own)
+-- what stands inside the SEQUENCE; of the value that is signed nothing is read but its identifier
+-- and length, and the BIT STRING has no unused bits (own)
 pub record IsSignedDataContent (s : SignedFields) (content : List ℕ) : Type 0 where
   pub algorithm : List ℕ
   pub signature : List ℕ

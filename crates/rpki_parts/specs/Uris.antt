@@ -1,5 +1,6 @@
--- Rsync and https URIs as octets (RFC 3986 3, RFC 5781 2, RFC 9110 4.2.2). Own is that an authority isn't empty and ends
--- at a slash alone, that any octet from 21 to 7E may stand, and how URIs are compared.
+-- Rsync and https URIs as octets (RFC 3986 3, RFC 5781 2, RFC 9110 4.2.2). Own is that an authority
+-- isn't empty and ends at a slash alone, that any octet from 21 to 7E may stand, and how URIs are
+-- compared.
 use Rattle.std.specs.Prelude.{ℕ, ◌≤◌, List, [], ◌∷◌, ◌++◌, codes, ◌≡◌, ◌≢◌, ◌==◌, ◌⊎◌}
 use Rattle.std.specs.List.{AllByRecursion, concat, slice_split}
 use Rattle.std.specs.Str.{str_to_ascii_lowercase}
@@ -24,7 +25,8 @@ IsEmptyOrBeginsWithSlash text = (text ≡ []) ⊎ ((rest : List ℕ) × (text �
 abbrev pub IsEmptyOrEndsWithSlash : List ℕ → Type 0
 IsEmptyOrEndsWithSlash text = (text ≡ []) ⊎ ((front : List ℕ) × (text ≡ front ++ slash ∷ []))
 
--- Uri is a scheme in any case (RFC 3986 3.1), an authority, which ends before the first slash after it (3.2), and the rest.
+-- Uri is a scheme in any case (RFC 3986 3.1), an authority, which ends before the first slash after
+-- it (3.2), and the rest.
 pub record IsUri (scheme authority rest uri : List ℕ) : Type 0 where
   pub written : List ℕ
   pub written_is : str_to_ascii_lowercase written ≡ scheme
@@ -92,7 +94,8 @@ pub record HasNoPath (uri : List ℕ) : Type 0 where
   pub top_is : IsUriPart top
   pub tail_is : (tail ≡ []) ⊎ (tail ≡ slash ∷ [])
 
--- The path isn't empty. It loses one slash at its end, and what is left is kept through its last slash, if it has one.
+-- The path isn't empty. It loses one slash at its end, and what is left is kept through its last
+-- slash, if it has one.
 pub record IsParent (uri parent : List ℕ) : Type 0 where
   pub front : List ℕ
   pub path : List ℕ

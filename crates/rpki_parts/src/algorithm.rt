@@ -10,6 +10,7 @@ ghost use Rattle.rpki_parts.specs.Algorithms.{sha256_with_rsa, algorithm_part};
 ghost use Rattle.rpki_parts.specs.Algorithms.Reading.{null_or_none, algorithm_at};
 
 use rpki_der::{Cursor, DecodeError, EncodeError, put_value, tag};
+use std::alloc::Global;
 use std::marker::Model;
 
 // What stands in the SEQUENCE: the identifier, and NULL.
@@ -38,7 +39,8 @@ pub(crate) fn take_opt_null(cursor: &mut Cursor<'_>) -> Result<bool, DecodeError
     }
 }
 
-/// The signature algorithm of the RPKI, sha256WithRSAEncryption (RFC 7935 2). Its parameters are NULL or left out (RFC 4055 5), which is kept.
+/// The signature algorithm of the RPKI, sha256WithRSAEncryption (RFC 7935 2). Its parameters are
+/// NULL or left out (RFC 4055 5), which is kept.
 #[derive(Clone, Copy, PartialEq, Eq)]
 pub struct RpkiSignatureAlgorithm {
     has_parameter: bool,
@@ -100,8 +102,9 @@ impl RpkiSignatureAlgorithm {
         RpkiSignatureAlgorithm::read(cursor)
     }
 
-    /// Appends the AlgorithmIdentifier as it was read or made (RFC 5280 4.1.1.2). The only error is `Memory`.
-    pub fn x509_encode(&self, out: &mut Vec<u8>) -> Result<(), EncodeError>
+    /// Appends the AlgorithmIdentifier as it was read or made (RFC 5280 4.1.1.2). The only error is
+    /// `Memory`.
+    pub fn x509_encode(&self, _alloc: Global, out: &mut Vec<u8>) -> Result<(), EncodeError>
         ensures writes { Writes (algorithm_part self.now) out.old.items result out.new.items }
         ensures memory { IfErr result (λ e. e ≡ Memory) }
     {

@@ -32,8 +32,8 @@ impl Model for Https {
 }
 
 impl Https {
-    /// The URI of these octets, which must be `21` to `7E`: `https://` in any case, an authority that is not empty, and then
-    /// nothing, or `/` and any more. Wants no memory.
+    /// The URI of these octets, which must be `21` to `7E`: `https://` in any case, an authority
+    /// that is not empty, and then nothing, or `/` and any more. Wants no memory.
     pub fn from_bytes(octets: Bytes) -> Result<Https, BadUri>
         ensures accepted { IsOk result ↔ IsHttps octets }
         ensures ok { IfOk result (λ u. u ≡ octets) }
@@ -77,10 +77,10 @@ impl Https {
     }
 
     /// The same URI once more.
-    pub fn try_clone(&self) -> Result<Https, AllocError>
+    pub fn try_clone(&self, alloc: Global) -> Result<Https, AllocError>
         ensures { IfOk result (λ u. u ≡ self.now) }
     {
-        let octets = self.octets.try_clone()?;
+        let octets = self.octets.try_clone(alloc)?;
         Ok(Https { octets })
     }
 }

@@ -35,7 +35,8 @@ const P256: &[u8] = &[
     0xCE, 0x3D, 0x03, 0x01, 0x07,
 ];
 
-/// The identifier of a key: the 20 octets of the SHA-1 hash of its bits (RFC 5280 4.2.1.2, RFC 6487 4.8.2).
+/// The identifier of a key: the 20 octets of the SHA-1 hash of its bits (RFC 5280 4.2.1.2, RFC 6487
+/// 4.8.2).
 #[derive(Clone, Copy)]
 pub struct KeyIdentifier {
     octets: [u8; 20],
@@ -97,15 +98,20 @@ impl KeyIdentifier {
     }
 
     /// Appends the identifier as an OCTET STRING. The only error is `Memory`.
-    pub fn encode_ref(&self, out: &mut Vec<u8>) -> Result<(), EncodeError>
+    pub fn encode_ref(&self, alloc: Global, out: &mut Vec<u8>) -> Result<(), EncodeError>
         ensures writes { Writes (value OCTET_STRING self.now) out.old.items result out.new.items }
         ensures memory { IfErr result (λ e. e ≡ Memory) }
     {
-        self.encode_ref_as(out, tag::OCTET_STRING)
+        self.encode_ref_as(alloc, out, tag::OCTET_STRING)
     }
 
     /// The same under another identifier octet, the low five bits of which aren't all ones.
-    pub fn encode_ref_as(&self, out: &mut Vec<u8>, tag: u8) -> Result<(), EncodeError>
+    pub fn encode_ref_as(
+        &self,
+        _alloc: Global,
+        out: &mut Vec<u8>,
+        tag: u8,
+    ) -> Result<(), EncodeError>
         requires { tag % 32 < 31 }
         ensures writes { Writes (value tag self.now) out.old.items result out.new.items }
         ensures memory { IfErr result (λ e. e ≡ Memory) }
@@ -224,7 +230,7 @@ impl PublicKey {
 
     // The key that stands next, by the reading function.
     #[tactic(auto, unfolding(crate::specs::Keys::Reading::public_key_at))]
-    fn read(cursor: &mut Cursor<'_>) -> Result<PublicKey, DecodeError>
+    fn read(alloc: Global, cursor: &mut Cursor<'_>) -> Result<PublicKey, DecodeError>
         ensures reads { TookOrMemory public_key_at cursor.old result cursor.new }
         ensures keeps { Keeps result cursor.old cursor.new }
         ensures octets { AreOctets (left cursor.old) }
@@ -232,36 +238,39 @@ impl PublicKey {
         let mut ahead = cursor.fork();
         let mut content = ahead.take_sequence()?;
         let format = take_format(&mut content)?;
-        let bits = take_whole_bits(&mut content)?.capture_rest()?;
+        let bits = take_whole_bits(&mut content)?.capture_rest(alloc)?;
         content.finish()?;
         *cursor = ahead;
         Ok(PublicKey { format, bits })
     }
 
-    /// The SubjectPublicKeyInfo that stands next (RFC 5280 4.1.2.7). Answers `BadValue` at another algorithm or curve and where bits
-    /// are unused.
-    pub fn take_from(cursor: &mut Cursor<'_>) -> Result<PublicKey, DecodeError>
+    /// The SubjectPublicKeyInfo that stands next (RFC 5280 4.1.2.7). Answers `BadValue` at another
+    /// algorithm or curve and where bits are unused.
+    pub fn take_from(alloc: Global, cursor: &mut Cursor<'_>) -> Result<PublicKey, DecodeError>
         ensures answers { AnswersOrMemory IsPublicKey cursor.old result cursor.new }
         ensures reads { TookOrMemory public_key_at cursor.old result cursor.new }
         ensures keeps { Keeps result cursor.old cursor.new }
     {
-        PublicKey::read(cursor)
+        PublicKey::read(alloc, cursor)
     }
 
-    /// Appends the SubjectPublicKeyInfo, with NULL behind rsaEncryption. Answers `TooLong` where its content would have 2^32 octets or
-    /// more.
-    pub fn encode_ref(&self, out: &mut Vec<u8>) -> Result<(), EncodeError>
+    /// Appends the SubjectPublicKeyInfo, with NULL behind rsaEncryption. Answers `TooLong` where
+    /// its content would have 2^32 octets or more.
+    pub fn encode_ref(&self, alloc: Global, out: &mut Vec<u8>) -> Result<(), EncodeError>
         ensures { Writes (key_part self.now) out.old.items result out.new.items }
     {
-        let mut bits = Vec::new(*out.allocator());
+        let mut bits = Vec::new(alloc);
         put_bits(&mut bits, 0, self.bits())?;
         put_parts(out, tag::SEQUENCE, self.format.algorithm(), &bits)
     }
 
     /// The key's bits, as octets.
     pub fn bits(&self) -> &[u8]
-        ensures { result.now ≡ self.now.bits }
+        ensures same { result.now ≡ self.now.bits }
+        ensures octets { AreOctets self.now.bits }
     {
+        // Called for what it ensures alone.
+        let _octets = self.bits.cursor();
         self.bits.as_bytes()
     }
 
@@ -272,8 +281,8 @@ impl PublicKey {
         KeyIdentifier::from_octets(Sha1::digest(self.bits()))
     }
 
-    /// The name that a certificate of this key has as its subject (RFC 6487 4.5): one CommonName, the 40 upper-case hexadecimal digits
-    /// of the key identifier. The only error is `Memory`.
+    /// The name that a certificate of this key has as its subject (RFC 6487 4.5): one CommonName,
+    /// the 40 upper-case hexadecimal digits of the key identifier. The only error is `Memory`.
     pub fn to_subject_name(&self, alloc: Global) -> Result<Name, EncodeError>
         ensures ok { IfOk result (λ n. n ≡ subject_name self.now) }
         ensures memory { IfErr result (λ e. e ≡ Memory) }
@@ -296,10 +305,10 @@ impl PublicKey {
     }
 
     /// The same key once more.
-    pub fn try_clone(&self) -> Result<PublicKey, AllocError>
+    pub fn try_clone(&self, alloc: Global) -> Result<PublicKey, AllocError>
         ensures { IfOk result (λ k. k ≡ self.now) }
     {
-        let bits = self.bits.try_clone()?;
+        let bits = self.bits.try_clone(alloc)?;
         Ok(PublicKey {
             format: self.format,
             bits,

@@ -1,10 +1,12 @@
-//! What certificates and revocation lists are made of beside resources: keys, algorithms, signatures, names, validity periods and URIs.
+//! Keys, names, URIs, periods of validity, algorithms, signatures and signed data.
 #![tactic(auto)]
 
 mod algorithm;
+pub mod comparing;
 mod https;
 mod key;
 mod name;
+mod name_forms;
 mod rsync;
 mod signature;
 mod signed;
@@ -12,6 +14,7 @@ mod stand_in;
 mod tal;
 mod uri;
 pub mod uri_laws;
+mod valid_at;
 mod validity;
 
 pub use algorithm::RpkiSignatureAlgorithm;
@@ -24,4 +27,5 @@ pub use signed::SignedData;
 pub use stand_in::StandIn;
 pub use tal::TalInfo;
 pub use uri::{BadUri, UriError};
+pub use valid_at::ValidityError;
 pub use validity::Validity;

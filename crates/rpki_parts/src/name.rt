@@ -1,12 +1,13 @@
 //! Names, kept as they stand.
 ghost use Rattle.rpki_parts.specs.KeyNames.{digit, hexadecimal, name_of_digits};
-ghost use Rattle.std.specs.Prelude.{◌≡◌, ◌<◌, ◌++◌, IfOk, IfErr, OnOk, is_ok, is_some};
+ghost use Rattle.std.specs.Prelude.{◌≡◌, ◌≢◌, ◌<◌, ◌++◌, IfOk, IfErr, OnOk, is_ok, is_some};
 ghost use Rattle.rpki_der.specs.Place.{Place, left, Keeps, AnswersOrMemory};
 ghost use Rattle.rpki_der.specs.Place.Reading.{Took, TookBy, TookOrMemory};
 ghost use Rattle.rpki_der.specs.Reading.{mapped};
 ghost use Rattle.rpki_der.specs.Rows.Reading.{row_of};
 ghost use Rattle.rpki_der.specs.Values.{AreOctets};
 ghost use Rattle.rpki_der.specs.Writers.{Writes};
+ghost use Rattle.rpki_der.specs.declared.error.DecodeError.TheVariants as decoding;
 ghost use Rattle.rpki_der.specs.declared.error.EncodeError.TheVariants.{Memory};
 ghost use Rattle.rpki_parts.specs.Names.{Attribute, IsName, name_part};
 ghost use Rattle.rpki_parts.specs.Names.Reading.{is_name, tagged_at, attribute_at, part_at, name_at};
@@ -18,8 +19,8 @@ use std::alloc::{AllocError, Global};
 use std::marker::Model;
 use thiserror::Error;
 
-// What stands in the name of a key before the 40 digits of its identifier: SEQUENCE, SET, SEQUENCE, CommonName, and the identifier
-// octet and the length of a PrintableString.
+// What stands in the name of a key before the 40 digits of its identifier: SEQUENCE, SET, SEQUENCE,
+// CommonName, and the identifier octet and the length of a PrintableString.
 const BEFORE_DIGITS: [u8; 13] = [
     0x30, 0x33, 0x31, 0x31, 0x30, 0x2F, 0x06, 0x03, 0x55, 0x04, 0x03, 0x13, 0x28,
 ];
@@ -27,7 +28,7 @@ const BEFORE_DIGITS: [u8; 13] = [
 /// A name, kept as it stands (RFC 5280 4.1.2.4).
 #[derive(Drop)]
 pub struct Name {
-    octets: Piece,
+    pub(crate) octets: Piece,
 }
 
 impl Model for Name {
@@ -57,7 +58,7 @@ fn skip_tagged(cursor: &mut Cursor<'_>) -> Result<u8, DecodeError>
 
 // The type of the attribute that stands next, and the identifier octet of its value.
 #[tactic(auto, unfolding(crate::specs::Names::Reading::attribute_at))]
-fn take_attribute<'a>(cursor: &mut Cursor<'a>) -> Result<(&'a [u8], u8), DecodeError>
+pub(crate) fn take_attribute<'a>(cursor: &mut Cursor<'a>) -> Result<(&'a [u8], u8), DecodeError>
     ensures reads { TookBy (λ x. record { type_id = x.0.now; value_tag = x.1 }) attribute_at
         cursor.old result cursor.new }
     ensures keeps { Keeps result cursor.old cursor.new }
@@ -73,7 +74,8 @@ fn take_attribute<'a>(cursor: &mut Cursor<'a>) -> Result<(&'a [u8], u8), DecodeE
 
 // Whether these are attributes.
 fn check_attributes(mut row: Cursor<'_>) -> Result<(), DecodeError>
-    ensures { is_ok result ≡ is_some (row_of attribute_at (left row.entry)) }
+    ensures row { is_ok result ≡ is_some (row_of attribute_at (left row.entry)) }
+    ensures refused { IfErr result (λ e. e ≢ decoding.Memory) }
 {
     while !row.is_empty() {
         take_attribute(&mut row)?;
@@ -149,26 +151,29 @@ impl Name {
 
     // The name that stands next, by the reading function.
     #[tactic(auto, unfolding(crate::specs::Names::Reading::name_at))]
-    fn read(cursor: &mut Cursor<'_>) -> Result<Name, DecodeError>
+    fn read(alloc: Global, cursor: &mut Cursor<'_>) -> Result<Name, DecodeError>
         ensures reads { TookOrMemory name_at cursor.old result cursor.new }
         ensures keeps { Keeps result cursor.old cursor.new }
         ensures octets { AreOctets (left cursor.old) }
     {
         let mut ahead = cursor.fork();
-        let octets = ahead.capture_one()?;
+        // Another identifier is refused as such, before its length is read.
+        ahead.fork().take_sequence()?;
+        let octets = ahead.capture_one(alloc)?;
         check_name(octets.cursor())?;
         *cursor = ahead;
         Ok(Name { octets })
     }
 
-    /// The name that stands next: a SEQUENCE of SETs, each of at least one SEQUENCE of an identifier and a value. Of the values no more
-    /// is tested than that they can be skipped, and the order in a SET isn't tested.
-    pub fn take_from(cursor: &mut Cursor<'_>) -> Result<Name, DecodeError>
+    /// The name that stands next: a SEQUENCE of SETs, each of at least one SEQUENCE of an
+    /// identifier and a value. Of the values no more is tested than that they can be skipped, and
+    /// the order in a SET isn't tested.
+    pub fn take_from(alloc: Global, cursor: &mut Cursor<'_>) -> Result<Name, DecodeError>
         ensures answers { AnswersOrMemory IsName cursor.old result cursor.new }
         ensures reads { TookOrMemory name_at cursor.old result cursor.new }
         ensures keeps { Keeps result cursor.old cursor.new }
     {
-        Name::read(cursor)
+        Name::read(alloc, cursor)
     }
 
     /// The octets of the SEQUENCE.
@@ -182,7 +187,7 @@ impl Name {
     }
 
     /// Appends the name as it stands. The only error is `Memory`.
-    pub fn encode_ref(&self, out: &mut Vec<u8>) -> Result<(), EncodeError>
+    pub fn encode_ref(&self, _alloc: Global, out: &mut Vec<u8>) -> Result<(), EncodeError>
         ensures writes { Writes (name_part self.now) out.old.items result out.new.items }
         ensures memory { IfErr result (λ e. e ≡ Memory) }
     {
@@ -191,10 +196,10 @@ impl Name {
     }
 
     /// The same name once more.
-    pub fn try_clone(&self) -> Result<Name, AllocError>
+    pub fn try_clone(&self, alloc: Global) -> Result<Name, AllocError>
         ensures { IfOk result (λ n. n ≡ self.now) }
     {
-        let octets = self.octets.try_clone()?;
+        let octets = self.octets.try_clone(alloc)?;
         Ok(Name { octets })
     }
 }

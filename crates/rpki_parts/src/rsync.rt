@@ -32,8 +32,9 @@ impl Model for Rsync {
 }
 
 impl Rsync {
-    /// The URI of these octets, which must be `21` to `7E`: `rsync://` in any case, an authority, `/`, a module, and then
-    /// nothing, or `/` and a path none of whose segments is `.` or `..`. Authority and module are not empty. Wants no memory.
+    /// The URI of these octets, which must be `21` to `7E`: `rsync://` in any case, an authority,
+    /// `/`, a module, and then nothing, or `/` and a path none of whose segments is `.` or `..`.
+    /// Authority and module are not empty. Wants no memory.
     pub fn from_bytes(octets: Bytes) -> Result<Rsync, BadUri>
         ensures accepted { IsOk result ↔ IsRsync octets }
         ensures ok { IfOk result (λ u. u ≡ octets) }
@@ -76,7 +77,8 @@ impl Rsync {
         self.octets.as_bytes()
     }
 
-    /// The parent, where the path is not empty: without one slash at the end, the URI through its last slash.
+    /// The parent, where the path is not empty: without one slash at the end, the URI through its
+    /// last slash.
     pub fn parent(&self, alloc: Global) -> Result<Option<Rsync>, AllocError>
         ensures none { IfOk result (λ p. IsNone p ↔ HasNoPath self.now) }
         ensures some { IfOk result (λ p. IfSome p (IsParent self.now)) }
@@ -110,10 +112,10 @@ impl Rsync {
     }
 
     /// The same URI once more.
-    pub fn try_clone(&self) -> Result<Rsync, AllocError>
+    pub fn try_clone(&self, alloc: Global) -> Result<Rsync, AllocError>
         ensures { IfOk result (λ u. u ≡ self.now) }
     {
-        let octets = self.octets.try_clone()?;
+        let octets = self.octets.try_clone(alloc)?;
         Ok(Rsync { octets })
     }
 }

@@ -1,5 +1,6 @@
 //! Signatures, and who verifies and makes them.
 ghost use Rattle.std.specs.Prelude.{◌≡◌, ◌↔◌, IfOk, IsTrue};
+ghost use Rattle.rpki_der.specs.Values.{AreOctets};
 ghost use Rattle.rpki_parts.specs.Signatures.{SignatureFields};
 
 use crate::algorithm::RpkiSignatureAlgorithm;
@@ -51,16 +52,19 @@ impl Signature {
 
     /// The octets of the signature.
     pub fn value(&self) -> &[u8]
-        ensures { result.now ≡ self.now.value }
+        ensures same { result.now ≡ self.now.value }
+        ensures octets { AreOctets self.now.value }
     {
+        // Called for what it ensures alone.
+        let _octets = self.value.cursor();
         self.value.as_bytes()
     }
 
     /// The same signature once more.
-    pub fn try_clone(&self) -> Result<Signature, AllocError>
+    pub fn try_clone(&self, alloc: Global) -> Result<Signature, AllocError>
         ensures { IfOk result (λ s. s ≡ self.now) }
     {
-        let value = self.value.try_clone()?;
+        let value = self.value.try_clone(alloc)?;
         Ok(Signature {
             algorithm: self.algorithm,
             value,

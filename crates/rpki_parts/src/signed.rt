@@ -12,7 +12,7 @@ use crate::key::{PublicKey, take_whole_bits};
 use crate::signature::{Signature, SignatureVerificationError, Verifier};
 use bytes::Bytes;
 use rpki_der::{Cursor, DecodeError, EncodeError, Piece, put_bits, put_parts, tag};
-use std::alloc::AllocError;
+use std::alloc::{AllocError, Global};
 use std::marker::Model;
 
 /// Octets that are signed, kept as they stand, and their signature.
@@ -43,15 +43,15 @@ impl SignedData {
 
     // What stands in the SEQUENCE, by the reading function.
     #[tactic(auto, unfolding(crate::specs::SignedDatas::Reading::signed_content_at))]
-    fn read(content: &mut Cursor<'_>) -> Result<SignedData, DecodeError>
+    fn read(alloc: Global, content: &mut Cursor<'_>) -> Result<SignedData, DecodeError>
         ensures reads { TookOrMemory signed_content_at content.old result content.new }
         ensures keeps { Keeps result content.old content.new }
         ensures octets { AreOctets (left content.old) }
     {
         let mut ahead = content.fork();
-        let data = ahead.capture_one()?;
+        let data = ahead.capture_one(alloc)?;
         let algorithm = RpkiSignatureAlgorithm::x509_take_from(&mut ahead)?;
-        let value = take_whole_bits(&mut ahead)?.capture_rest()?;
+        let value = take_whole_bits(&mut ahead)?.capture_rest(alloc)?;
         *content = ahead;
         Ok(SignedData {
             data,
@@ -59,14 +59,17 @@ impl SignedData {
         })
     }
 
-    /// What stands in the SEQUENCE: a value, which is kept as it stands, the algorithm, and the BIT STRING of the signature, of which no
-    /// bits are unused.
-    pub fn from_constructed(content: &mut Cursor<'_>) -> Result<SignedData, DecodeError>
+    /// What stands in the SEQUENCE: a value, which is kept as it stands, the algorithm, and the BIT
+    /// STRING of the signature, of which no bits are unused.
+    pub fn from_constructed(
+        alloc: Global,
+        content: &mut Cursor<'_>,
+    ) -> Result<SignedData, DecodeError>
         ensures answers { AnswersOrMemory IsSignedDataContent content.old result content.new }
         ensures reads { TookOrMemory signed_content_at content.old result content.new }
         ensures keeps { Keeps result content.old content.new }
     {
-        SignedData::read(content)
+        SignedData::read(alloc, content)
     }
 
     /// The octets that are signed.
@@ -83,7 +86,8 @@ impl SignedData {
         &self.signature
     }
 
-    /// Asks the verifier whether the signature belongs to the key and to the octets as they are kept. It wants no memory.
+    /// Asks the verifier whether the signature belongs to the key and to the octets as they are
+    /// kept. It wants no memory.
     pub fn verify_signature<V: Verifier>(
         &self,
         key: &PublicKey,
@@ -100,23 +104,23 @@ impl SignedData {
         }
     }
 
-    /// Appends the SEQUENCE of the octets as they are kept, the algorithm and the signature. Answers `TooLong` where its content would
-    /// have 2^32 octets or more.
-    pub fn encode_ref(&self, out: &mut Vec<u8>) -> Result<(), EncodeError>
+    /// Appends the SEQUENCE of the octets as they are kept, the algorithm and the signature.
+    /// Answers `TooLong` where its content would have 2^32 octets or more.
+    pub fn encode_ref(&self, alloc: Global, out: &mut Vec<u8>) -> Result<(), EncodeError>
         ensures { Writes (signed_part self.now) out.old.items result out.new.items }
     {
-        let mut tail = Vec::new(*out.allocator());
-        self.signature.algorithm().x509_encode(&mut tail)?;
+        let mut tail = Vec::new(alloc);
+        self.signature.algorithm().x509_encode(alloc, &mut tail)?;
         put_bits(&mut tail, 0, self.signature.value())?;
         put_parts(out, tag::SEQUENCE, self.data(), &tail)
     }
 
     /// The same once more.
-    pub fn try_clone(&self) -> Result<SignedData, AllocError>
+    pub fn try_clone(&self, alloc: Global) -> Result<SignedData, AllocError>
         ensures { IfOk result (λ s. s ≡ self.now) }
     {
-        let data = self.data.try_clone()?;
-        let signature = self.signature.try_clone()?;
+        let data = self.data.try_clone(alloc)?;
+        let signature = self.signature.try_clone(alloc)?;
         Ok(SignedData { data, signature })
     }
 }

@@ -13,6 +13,17 @@ use thiserror::Error;
 #[error("bad URI")]
 pub struct BadUri;
 
+impl BadUri {
+    ghost use Rattle.std.specs.Prelude.{◌≡◌, codes};
+
+    /// The type's name.
+    pub fn name(&self) -> &'static str
+        ensures { result.now ≡ codes "BadUri" }
+    {
+        "BadUri"
+    }
+}
+
 /// Why a text gave no URI.
 #[derive(Debug, Drop, Error)]
 pub enum UriError {

@@ -9,9 +9,11 @@ ghost use Rattle.rpki_parts.specs.Validities.Reading.{validity_at};
 ghost use Rattle.rpki_der.specs.Writers.{Writes};
 
 use rpki_der::{Cursor, DecodeError, EncodeError, Time, put_value, tag};
+use std::alloc::Global;
 use std::marker::Model;
 
-/// The period in which a certificate is valid, both ends included (RFC 5280 4.1.2.5). Which of them is earlier isn't tested.
+/// The period in which a certificate is valid, both ends included (RFC 5280 4.1.2.5). Which of them
+/// is earlier isn't tested.
 #[derive(Clone, Copy)]
 pub struct Validity {
     not_before: Time,
@@ -29,7 +31,8 @@ impl Model for Validity {
 }
 
 impl Validity {
-    /// The period from `not_before` to `not_after`, both included. Whether the first is the earlier isn't tested.
+    /// The period from `not_before` to `not_after`, both included. Whether the first is the earlier
+    /// isn't tested.
     pub fn new(not_before: Time, not_after: Time) -> Validity
         ensures { result ≡ record { not_before = not_before; not_after = not_after } }
     {
@@ -79,13 +82,13 @@ impl Validity {
     }
 
     /// Appends the SEQUENCE of both times. The only error is `Memory`.
-    pub fn encode(&self, out: &mut Vec<u8>) -> Result<(), EncodeError>
+    pub fn encode(&self, alloc: Global, out: &mut Vec<u8>) -> Result<(), EncodeError>
         ensures writes { Writes (validity_part self.now) out.old.items result out.new.items }
         ensures memory { IfErr result (λ e. e ≡ Memory) }
     {
-        let mut content = Vec::new(*out.allocator());
-        self.not_before.encode_varied(&mut content)?;
-        self.not_after.encode_varied(&mut content)?;
+        let mut content = Vec::new(alloc);
+        self.not_before.encode_varied(alloc, &mut content)?;
+        self.not_after.encode_varied(alloc, &mut content)?;
         put_value(out, tag::SEQUENCE, &content)
     }
 }

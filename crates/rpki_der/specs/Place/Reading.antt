@@ -1,12 +1,14 @@
 -- What a reader answered, by a reading function.
-use Rattle.std.specs.Prelude.{◌≡◌, ℕ, List, Option, Some, None, Result, Ok, Err}
+use Rattle.std.specs.Prelude.{◌≡◌, ◌≢◌, ℕ, List, Option, Some, None, Result, Ok, Err}
 use Rattle.rpki_der.specs.declared.error.DecodeError.{DecodeError}
 use Rattle.rpki_der.specs.Place.{Place, left, Refuses}
+use Rattle.rpki_der.specs.declared.error.DecodeError.TheVariants.{Memory}
 
--- a reader's answer, seen by view, is what reading gives of what was left, and the cursor stands behind it
+-- A reader's answer, seen by view, is what reading gives of what was left, and the cursor stands
+-- behind it. No memory is wanted.
 abbrev pub TookBy : {X Y : Type 0} → (X → Y) → (List ℕ → Option (Y × List ℕ)) → Place → Result X DecodeError → Place → Type 0
 TookBy view read old (Ok x) new = read (left old) ≡ Some (view x, left new)
-TookBy view read old (Err e) new = read (left old) ≡ None
+TookBy view read old (Err e) new = (e ≢ Memory) × (read (left old) ≡ None)
 
 abbrev pub Took : {X : Type 0} → (List ℕ → Option (X × List ℕ)) → Place → Result X DecodeError → Place → Type 0
 Took read = TookBy (λ x. x) read
@@ -19,10 +21,10 @@ TookOrMemoryBy view read old (Err e) new = Refuses e (read (left old) ≡ None)
 abbrev pub TookOrMemory : {X : Type 0} → (List ℕ → Option (X × List ℕ)) → Place → Result X DecodeError → Place → Type 0
 TookOrMemory read = TookOrMemoryBy (λ x. x) read
 
--- what a function returned, seen by view, is what reading gives
+-- what a function returned, seen by view, is what reading gives, and no memory is wanted
 abbrev pub ReturnsBy : {X Y : Type 0} → (X → Y) → Result X DecodeError → Option Y → Type 0
 ReturnsBy view (Ok x) read = read ≡ Some (view x)
-ReturnsBy view (Err e) read = read ≡ None
+ReturnsBy view (Err e) read = (e ≢ Memory) × (read ≡ None)
 
 abbrev pub Returns : {X : Type 0} → Result X DecodeError → Option X → Type 0
 Returns = ReturnsBy (λ x. x)

@@ -1,6 +1,7 @@
 use Rattle.std.proofs.Common.{◌≡◌, ◌≤◌, ℕ, List, ◌++◌, length, refl, ap, ◌∙◌, arith}
 use Rattle.std.proofs.lemmas.List.{length-append}
 use Rattle.rpki_der.specs.Values.{enc}
+use Rattle.rpki_der.specs.Tags.{CONTEXT_CONSTRUCTED}
 use Rattle.rpki_blocks.specs.Lengths.{text_of}
 use Rattle.rpki_blocks.specs.Systems.{as_block, written_as}
 use Rattle.rpki_blocks.specs.Unions.{written_choice}
@@ -18,6 +19,6 @@ returns-in_err-put_value-clause-too_long c =
 pub returns-in_err-put_value-2-clause-too_long : goal.returns-in_err-put_value-2-clause-too_long
 returns-in_err-put_value-2-clause-too_long c =
     let held : c.deref.result.now ≡ text_of (written_choice as_block c.args.resources.now) = c.deref.ensures.value ∙ c.in_ok-put_choice.ensures.ok ∙ ap (λ (b : List ℕ). b ++ text_of (written_choice as_block c.args.resources.now)) c.new-choice.ensures.items in
-    let made : c.deref-2.result.now ≡ enc 0xA0 (text_of (written_choice as_block c.args.resources.now)) = c.deref-2.ensures.value ∙ c.in_ok-put_value.ensures.ok ∙ ap (λ (b : List ℕ). b ++ enc 0xA0 c.deref.result.now) c.new-numbers.ensures.items ∙ ap (enc 0xA0) held in
+    let made : c.deref-2.result.now ≡ enc (CONTEXT_CONSTRUCTED 0) (text_of (written_choice as_block c.args.resources.now)) = c.deref-2.ensures.value ∙ c.in_ok-put_value.ensures.ok ∙ ap (λ (b : List ℕ). b ++ enc (CONTEXT_CONSTRUCTED 0) c.deref.result.now) c.new-numbers.ensures.items ∙ ap (enc (CONTEXT_CONSTRUCTED 0)) held in
     let le : length c.deref-2.result.now ≤ length (text_of (written_as c.args.resources.now)) = omega (arith, ap length made, numbers_longer c.args.resources.now (c.if-not-is_present.ensures.present.0 refl)) in
     passed_long c.from_residual-in_err-put_value-2.result _ _ _ c.from_residual-in_err-put_value-2.ensures.1 c.in_err-put_value-2.ensures.too_long.0 le

@@ -8,7 +8,7 @@ pub returns-then-number-ge16777216 : goal.returns-then-number-ge16777216
 returns-then-number-ge16777216 c =
     let octets = c.args.content.now in
     let so_far : c.loop-octet.number ≡ number_from_digits 256 (take c.loop-octet.octet-index octets) = c.loop-octet.invariant in
-    too_large (2 ^ 32) octets (omega (arith, so_far, number_grows octets c.loop-octet.octet-index (omega arith)))
+    (λ e. absurd cc, too_large (2 ^ 32) octets (omega (arith, so_far, number_grows octets c.loop-octet.octet-index (omega arith))))
 
 pub loop-octet-preserved : goal.loop-octet-preserved
 loop-octet-preserved c =

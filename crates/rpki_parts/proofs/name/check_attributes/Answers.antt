@@ -13,10 +13,10 @@ loop-row-smaller c = shorter attribute_at pass attribute_shrinks tt (left c.loop
 pub loop-row-preserved : goal.loop-row-preserved
 loop-row-preserved c = sym (goes_on attribute_at pass attribute_shrinks tt (left c.loop-row.row) _ (left c.take_attribute.new.cursor) c.in_ok-take_attribute.ensures.reads tt refl) ∙ c.loop-row.invariant
 
-pub returns-in_err-take_attribute : goal.returns-in_err-take_attribute
-returns-in_err-take_attribute c =
-    let none = ends attribute_at pass attribute_shrinks tt (left c.loop-row.row) (some_left (left c.loop-row.row) c.loop-row-test.ensures.1) c.in_err-take_attribute.ensures.reads in
+pub returns-in_err-take_attribute-clause-row : goal.returns-in_err-take_attribute-clause-row
+returns-in_err-take_attribute-clause-row c =
+    let none = ends attribute_at pass attribute_shrinks tt (left c.loop-row.row) (some_left (left c.loop-row.row) c.loop-row-test.ensures.1) c.in_err-take_attribute.ensures.reads.1 in
     not_ok c.from_residual.result c.from_residual.ensures.0 _ (whole_row attribute_at (left c.args.row) ∙ ap is_some (sym c.loop-row.invariant ∙ none))
 
-pub returns : goal.returns
-returns c = sym (whole_row attribute_at (left c.args.row) ∙ ap is_some (sym c.loop-row.invariant ∙ ap (over attribute_at pass tt) (c.loop-row-test.ensures.0 refl) ∙ over_end attribute_at pass tt))
+pub returns-clause-row : goal.returns-clause-row
+returns-clause-row c = sym (whole_row attribute_at (left c.args.row) ∙ ap is_some (sym c.loop-row.invariant ∙ ap (over attribute_at pass tt) (c.loop-row-test.ensures.0 refl) ∙ over_end attribute_at pass tt))

@@ -5,7 +5,7 @@ use Rattle.rpki_parts.proofs.NameReads.{no_sequence, not_ok, name_more, name_end
 use Rattle.rpki_parts.proofs.name.check_name.Goals as goal
 
 pub returns-in_err-parts : goal.returns-in_err-parts
-returns-in_err-parts c = not_ok c.from_residual.result c.from_residual.ensures.0 _ (no_sequence (left c.args.octets) c.in_err-parts.ensures.reads)
+returns-in_err-parts c = not_ok c.from_residual.result c.from_residual.ensures.0 _ (no_sequence (left c.args.octets) c.in_err-parts.ensures.reads.1)
 
 pub returns-in_err-finish : goal.returns-in_err-finish
 returns-in_err-finish c =

@@ -20,7 +20,7 @@ loop-row-preserved c = sym (goes_on part_at pass part_shrinks tt (left c.loop-ro
 
 pub returns-in_err-skip_part : goal.returns-in_err-skip_part
 returns-in_err-skip_part c =
-    let none = ends part_at pass part_shrinks tt (left c.loop-row.row) (some_left (left c.loop-row.row) c.loop-row-test.ensures.1) (nothing_mapped (λ _. tt) part_at (left c.loop-row.row) c.in_err-skip_part.ensures.reads) in
+    let none = ends part_at pass part_shrinks tt (left c.loop-row.row) (some_left (left c.loop-row.row) c.loop-row-test.ensures.1) (nothing_mapped (λ _. tt) part_at (left c.loop-row.row) c.in_err-skip_part.ensures.reads.1) in
     not_ok c.from_residual.result c.from_residual.ensures.0 _ (whole_row part_at (left c.args.row) ∙ ap is_some (sym c.loop-row.invariant ∙ none))
 
 pub returns : goal.returns

@@ -12,5 +12,5 @@ returns-in_err-put_bits c = record {
   too_long = λ h.
       let same : c.in_err-put_bits.field-0.0 ≡ TooLong = search rules in
       let long = c.in_err-put_bits.ensures.too_long.0 (ap Err same) in
-      bits_too_long (key_algorithm c.args.self.now.format) c.args.self.now.bits (rw (← c.bits.ensures) long);
+      bits_too_long (key_algorithm c.args.self.now.format) c.args.self.now.bits (rw (← c.bits.ensures.same) long);
 }

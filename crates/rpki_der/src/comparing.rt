@@ -1,0 +1,96 @@
+//! What copies, equality, order and hashes of values promise, each in a function that only asks.
+
+ghost use Rattle.std.specs.Prelude.{◌≡◌, ◌↔◌, IsTrue, IsOkAnd};
+ghost use Rattle.std.specs.Ordering.{nat_cmp};
+ghost use Rattle.rpki_der.specs.Times.{second_number};
+
+use crate::error::Field;
+use crate::oid::Oid;
+use crate::piece::Piece;
+use crate::serial::Serial;
+use crate::time::Time;
+use std::alloc::AllocError;
+use std::cmp::Ordering;
+use std::hash::{Hash, Hasher};
+
+/// A copy of a serial has its number.
+pub fn copied_serial(serial: &Serial) -> Result<Serial, AllocError>
+    ensures { IsOkAnd result (λ copy. copy ≡ serial.now) }
+{
+    serial.clone()
+}
+
+/// Serials are equal where their numbers are.
+pub fn equal_serials(one: &Serial, other: &Serial) -> bool
+    ensures { IsTrue result ↔ one.now ≡ other.now }
+{
+    one == other
+}
+
+/// Serials stand in the order of their numbers.
+pub fn ordered_serials(one: &Serial, other: &Serial) -> Ordering
+    ensures { result ≡ nat_cmp one.now other.now }
+{
+    one.cmp(other)
+}
+
+/// Equal serials feed a hash function alike.
+pub fn hashed_serials<H: Hasher>(one: &Serial, other: &Serial, first: &mut H, second: &mut H)
+    ensures { one.now ≡ other.now → first.old ≡ second.old → first.new ≡ second.new }
+{
+    one.hash(first);
+    other.hash(second);
+}
+
+/// A copy of a time is the same time.
+pub fn copied_time(time: &Time) -> Result<Time, AllocError>
+    ensures { IsOkAnd result (λ copy. copy ≡ time.now) }
+{
+    time.clone()
+}
+
+/// Times are equal where they are the same.
+#[tactic(auto, using(crate::proofs::OneMoment::one_moment))]
+pub fn equal_times(one: &Time, other: &Time) -> bool
+    ensures { IsTrue result ↔ one.now ≡ other.now }
+{
+    // Called for what they ensure alone.
+    one.known();
+    other.known();
+    one == other
+}
+
+/// Times stand in the order of their numbers of seconds.
+pub fn ordered_times(one: &Time, other: &Time) -> Ordering
+    ensures { result ≡ nat_cmp (second_number one.now) (second_number other.now) }
+{
+    one.cmp(other)
+}
+
+/// A copy of a field is the same field.
+pub fn copied_field(field: &Field) -> Result<Field, AllocError>
+    ensures { IsOkAnd result (λ copy. copy ≡ field.now) }
+{
+    field.clone()
+}
+
+/// Fields are equal where they are the same.
+pub fn equal_fields(one: &Field, other: &Field) -> bool
+    ensures { IsTrue result ↔ one.now ≡ other.now }
+{
+    one == other
+}
+
+/// Identifiers are equal where their octets are.
+pub fn equal_identifiers(one: &Oid, other: &Oid) -> bool
+    ensures { IsTrue result ↔ one.now ≡ other.now }
+{
+    one == other
+}
+
+/// Kept octets are equal where they are the same.
+pub fn equal_pieces(one: &Piece, other: &Piece) -> bool
+    ensures { IsTrue result ↔ one.now ≡ other.now }
+{
+    one == other
+}

@@ -1,0 +1,24 @@
+-- The form of a name, tested attribute by attribute.
+use Rattle.std.specs.Prelude.{ℕ, Bool, true, not, ◌&&◌, ◌||◌, ◌==◌, List, Option, Some, None, if◌then◌else◌, bytes_eq}
+use Rattle.rpki_der.specs.Folding.{Step, over}
+use Rattle.rpki_parts.specs.Names.{Attribute}
+use Rattle.rpki_parts.specs.Names.Reading.{attribute_at}
+use Rattle.rpki_parts.specs.NameForms.{common_name, serial_number}
+use Rattle.rpki_parts.specs.declared.name_forms.Seen.{Seen}
+
+abbrev pub is_text_tag : Bool → ℕ → Bool
+is_text_tag strict tag = (tag == 0x13) || (not strict && (tag == 0x0C))
+
+abbrev pub unseen : Bool → Seen → Option Seen
+unseen before after = if before then None else Some after
+
+-- what was seen, with one attribute more; a second one of a type, another type or another string is refused
+abbrev pub seen_with : Bool → Step Attribute Seen
+seen_with strict s a =
+    if is_text_tag strict a.value_tag
+    then (if bytes_eq a.type_id common_name then unseen s.name (record s { name = true }) else (if bytes_eq a.type_id serial_number then unseen s.number (record s { number = true }) else None))
+    else None
+
+-- the same of the attributes of a part
+abbrev pub seen_in : Bool → Step (List ℕ) Seen
+seen_in strict s part = over attribute_at (seen_with strict) s part

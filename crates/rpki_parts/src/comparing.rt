@@ -1,0 +1,59 @@
+//! What copies and equality of values promise, each in a function that only asks.
+
+ghost use Rattle.std.specs.Prelude.{◌≡◌, ◌↔◌, IsTrue, IsOkAnd};
+
+use crate::algorithm::RpkiSignatureAlgorithm;
+use crate::key::{KeyIdentifier, PublicKeyFormat};
+use crate::validity::Validity;
+use std::alloc::AllocError;
+
+/// A copy of an algorithm is the same, with NULL where it has one.
+pub fn copied_algorithm(
+    algorithm: &RpkiSignatureAlgorithm,
+) -> Result<RpkiSignatureAlgorithm, AllocError>
+    ensures { IsOkAnd result (λ copy. copy ≡ algorithm.now) }
+{
+    algorithm.clone()
+}
+
+/// Algorithms are equal where they are the same: two that differ in their NULL are unequal.
+pub fn equal_algorithms(one: &RpkiSignatureAlgorithm, other: &RpkiSignatureAlgorithm) -> bool
+    ensures { IsTrue result ↔ one.now ≡ other.now }
+{
+    one == other
+}
+
+/// A copy of a format of keys is the same format.
+pub fn copied_format(format: &PublicKeyFormat) -> Result<PublicKeyFormat, AllocError>
+    ensures { IsOkAnd result (λ copy. copy ≡ format.now) }
+{
+    format.clone()
+}
+
+/// Formats of keys are equal where they are the same.
+pub fn equal_formats(one: &PublicKeyFormat, other: &PublicKeyFormat) -> bool
+    ensures { IsTrue result ↔ one.now ≡ other.now }
+{
+    one == other
+}
+
+/// A copy of a key identifier has its octets.
+pub fn copied_key_identifier(identifier: &KeyIdentifier) -> Result<KeyIdentifier, AllocError>
+    ensures { IsOkAnd result (λ copy. copy ≡ identifier.now) }
+{
+    identifier.clone()
+}
+
+/// Key identifiers are equal where their octets are.
+pub fn equal_key_identifiers(one: &KeyIdentifier, other: &KeyIdentifier) -> bool
+    ensures { IsTrue result ↔ one.now ≡ other.now }
+{
+    one == other
+}
+
+/// A copy of a period has its two times.
+pub fn copied_validity(validity: &Validity) -> Result<Validity, AllocError>
+    ensures { IsOkAnd result (λ copy. copy ≡ validity.now) }
+{
+    validity.clone()
+}

@@ -1,0 +1,124 @@
+//! Names of certificates are inspected.
+ghost use Rattle.std.specs.Prelude.{◌≡◌, ◌↔◌, false, IsOk, IsTrue};
+ghost use Rattle.rpki_der.specs.Folding.{over};
+ghost use Rattle.rpki_der.specs.Place.{Place, left};
+ghost use Rattle.rpki_der.specs.Values.Reading.{value_at};
+ghost use Rattle.rpki_parts.specs.Names.Reading.{attribute_at};
+ghost use Rattle.rpki_parts.specs.NameForms.{IsRpkiName, IsRouterName};
+ghost use Rattle.rpki_parts.specs.NameForms.Reading.{is_text_tag, seen_with, seen_in};
+
+use crate::name::{InvalidName, Name, take_attribute};
+use rpki_der::{Cursor, tag};
+
+// The types of attributes that may stand: contents of OBJECT IDENTIFIERs.
+const COMMON_NAME: &[u8] = &[0x55, 0x04, 0x03];
+
+const SERIAL_NUMBER: &[u8] = &[0x55, 0x04, 0x05];
+
+// Which of the attributes that may stand once were seen.
+#[derive(Clone, Copy)]
+struct Seen {
+    name: bool,
+    number: bool,
+}
+
+// Whether a value with this identifier octet may stand: PrintableString, or UTF8String where inspection isn't strict.
+fn is_text_tag(strict: bool, tag: u8) -> bool
+    ensures { result ≡ is_text_tag strict tag }
+{
+    tag == 0x13 || (!strict && tag == 0x0C)
+}
+
+impl Seen {
+    // The same with one attribute more, unless it may not stand.
+    fn with(self, strict: bool, type_id: &[u8], tag: u8) -> Option<Seen>
+        ensures { result ≡ seen_with strict self
+            (record { type_id = type_id.now; value_tag = tag }) }
+    {
+        if !is_text_tag(strict, tag) {
+            return None;
+        }
+        if type_id == COMMON_NAME {
+            if self.name {
+                None
+            } else {
+                Some(Seen { name: true, ..self })
+            }
+        } else if type_id == SERIAL_NUMBER {
+            if self.number {
+                None
+            } else {
+                Some(Seen {
+                    number: true,
+                    ..self
+                })
+            }
+        } else {
+            None
+        }
+    }
+
+    // The same with the attributes of a part more.
+    fn with_part(self, strict: bool, part: &Cursor<'_>) -> Option<Seen>
+        ensures { result ≡ seen_in strict self (left part.now) }
+    {
+        let mut rest = part.fork();
+        let mut seen = self;
+        while !rest.is_empty() {
+            let (type_id, tag) = match take_attribute(&mut rest) {
+                Ok(attribute) => attribute,
+                Err(_) => return None,
+            };
+            seen = seen.with(strict, type_id, tag)?;
+        }
+        Some(seen)
+    }
+
+    // What is seen in these parts of a name.
+    fn in_parts(strict: bool, parts: &Cursor<'_>) -> Option<Seen>
+        ensures { result ≡ over (value_at 0x31) (seen_in strict)
+            (record { name = false; number = false }) (left parts.now) }
+    {
+        let mut rest = parts.fork();
+        let mut seen = Seen {
+            name: false,
+            number: false,
+        };
+        while !rest.is_empty() {
+            let part = match rest.take_value(tag::SET) {
+                Ok(part) => part,
+                Err(_) => return None,
+            };
+            seen = seen.with_part(strict, &part)?;
+        }
+        Some(seen)
+    }
+}
+
+impl Name {
+    /// Whether the name has the form that certificates of the RPKI ask for (RFC 6487 4.4, 4.5): one CommonName, at most one serialNumber
+    /// and nothing else, as PrintableString, or where inspection isn't strict, also as UTF8String.
+    pub fn inspect_rpki(&self, strict: bool) -> Result<(), InvalidName>
+        ensures { IsOk result ↔ IsRpkiName strict self.now }
+    {
+        // Called for what it ensures alone.
+        let _octets = self.as_bytes();
+        let mut octets = self.octets.cursor();
+        let parts = match octets.take_sequence() {
+            Ok(parts) => parts,
+            Err(_) => return Err(InvalidName),
+        };
+        match Seen::in_parts(strict, &parts) {
+            Some(seen) if seen.name => Ok(()),
+            _ => Err(InvalidName),
+        }
+    }
+
+    /// Whether the name has the form that routers' certificates ask for (RFC 8209 3.1.1), which is the same in both modes: strings of both
+    /// kinds may stand.
+    pub fn inspect_router(&self, _strict: bool) -> Result<(), InvalidName>
+        ensures { IsOk result ↔ IsRouterName self.now }
+    {
+        self.inspect_rpki(false)
+    }
+}
