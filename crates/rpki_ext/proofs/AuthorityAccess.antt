@@ -22,7 +22,7 @@ use Rattle.rpki_parts.specs.Uris.{IsRsync, ArePrintable}
 use Rattle.rpki_ext.specs.GeneralNames.{IsGeneralNames, names_of, uri_name}
 use Rattle.rpki_ext.specs.AuthorityAccess.{ca_issuers, issuers_of, only_description_at, IsAuthorityInformationAccess, authority_information_access_at, description, authority_information_access_content, authority_information_access}
 use Rattle.rpki_ext.proofs.GeneralNames.{names_read, spelled_oid, names_made, ok_uri_name}
-use Rattle.rpki_ext.proofs.LawfulKinds.{IsKind, always}
+use Rattle.rpki_ext.proofs.LawfulKinds.{IsKind, always, AnsweringOrMemory, answering_or_memory}
 
 abbrev AreIssuers : List ℕ → List ℕ → Type 0
 AreIssuers v c = (method : List ℕ) × (names : List ℕ) × IsObjectIdentifier ca_issuers method × IsGeneralNames v names × (c ≡ method ++ names)
@@ -84,3 +84,6 @@ authority_information_access_is = record {
   made = λ uri c fits e short. always (authority_information_access.spells uri) _ c e short (authority_information_access_made uri fits);
   octets = ok_authority_information_access;
 }
+
+pub authority_information_access_answers : AnsweringOrMemory authority_information_access
+authority_information_access_answers = answering_or_memory authority_information_access authority_information_access_is

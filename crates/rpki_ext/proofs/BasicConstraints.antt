@@ -9,7 +9,7 @@ use Rattle.rpki_der.proofs.PrimitiveReads.{bool_or_false_reads}
 use Rattle.rpki_der.proofs.ValueWritten.{Short, made, flag_made}
 use Rattle.rpki_der.proofs.WrittenOctets.{IfShort, ok_enc, ok_flag}
 use Rattle.rpki_ext.specs.BasicConstraints.{IsBasicConstraints, basic_constraints_at, basic_constraints_content, basic_constraints}
-use Rattle.rpki_ext.proofs.LawfulKinds.{IsKind, always}
+use Rattle.rpki_ext.proofs.LawfulKinds.{IsKind, always, Answering, answering}
 
 pub basic_constraints_reads : Reads basic_constraints_at IsBasicConstraints
 unfolding basic_constraints_at
@@ -27,3 +27,6 @@ basic_constraints_is = record {
   made = λ ca c fits e short. always (basic_constraints.spells ca) _ c e short (basic_constraints_made ca);
   octets = λ ca fits. ok_basic_constraints ca;
 }
+
+pub basic_constraints_answers : Answering basic_constraints
+basic_constraints_answers = answering basic_constraints basic_constraints_is

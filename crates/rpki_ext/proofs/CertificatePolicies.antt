@@ -22,7 +22,7 @@ use Rattle.rpki_blocks.specs.declared.overclaim.Overclaim.TheVariants.{Refuse, T
 use Rattle.rpki_blocks.proofs.OverclaimReads.{was_named}
 use Rattle.rpki_ext.specs.CertificatePolicies.{policy_of, IsCertificatePolicies, certificate_policies_at, IsCertificatePoliciesWithin, certificate_policies_content, certificate_policies}
 use Rattle.rpki_ext.proofs.GeneralNames.{spelled_oid}
-use Rattle.rpki_ext.proofs.LawfulKinds.{IsKind, always}
+use Rattle.rpki_ext.proofs.LawfulKinds.{IsKind, always, Answering, answering}
 
 named_again : (overclaim : Overclaim) → named policy_identifier (policy_identifier overclaim) ≡ Some overclaim
 named_again Refuse = refl
@@ -83,3 +83,6 @@ certificate_policies_is = record {
   made = λ m c fits e short. always (certificate_policies.spells m) _ c e short (certificate_policies_made levels m);
   octets = λ m fits. ok_certificate_policies m;
 }
+
+pub certificate_policies_answers : Answering certificate_policies
+certificate_policies_answers = answering certificate_policies certificate_policies_is

@@ -13,7 +13,7 @@ use Rattle.rpki_parts.specs.Uris.{IsRsync}
 use Rattle.rpki_ext.specs.DistributionPoints.{full_name_at, IsCrlDistributionPoints, crl_distribution_points_at, crl_distribution_points_content, crl_distribution_points}
 use Rattle.rpki_ext.specs.GeneralNames.{names_of, uri_name}
 use Rattle.rpki_ext.proofs.GeneralNames.{names_read, names_made, ok_uri_name}
-use Rattle.rpki_ext.proofs.LawfulKinds.{IsKind, always}
+use Rattle.rpki_ext.proofs.LawfulKinds.{IsKind, always, AnsweringOrMemory, answering_or_memory}
 
 abbrev IsFullName : List ℕ → List ℕ → Type 0
 IsFullName = Inside 0x30 (Inside 0x30 (Inside 0xA0 (IsEnc 0xA0)))
@@ -46,3 +46,6 @@ crl_distribution_points_is = record {
   made = λ uri c fits e short. always (crl_distribution_points.spells uri) _ c e short (crl_distribution_points_made uri fits);
   octets = ok_crl_distribution_points;
 }
+
+pub crl_distribution_points_answers : AnsweringOrMemory crl_distribution_points
+crl_distribution_points_answers = answering_or_memory crl_distribution_points crl_distribution_points_is

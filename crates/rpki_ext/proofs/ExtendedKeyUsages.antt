@@ -1,6 +1,7 @@
 -- Extended Key Usage, both ways, and what is written of it.
+use Rattle.std.specs.Prelude.{is_some}
 use Rattle.std.specs.List.{AllByRecursion, AllZip, concat}
-use Rattle.std.proofs.Common.{arith, ◌≡◌, ℕ, List, ◌∷◌, true, [], refl, ◌++◌, Some, sym, ap, subst, ◌∙◌}
+use Rattle.std.proofs.Common.{arith, ◌≡◌, ℕ, List, ◌∷◌, true, [], refl, ◌++◌, Option, Some, None, sym, ap, subst, ◌∙◌}
 use Rattle.rpki_der.specs.Reading.{content, ReadsWhole, Inside, Reads}
 use Rattle.rpki_der.specs.Primitives.Reading.{oid_of, oid_at}
 use Rattle.rpki_der.specs.Rows.{IsRow}
@@ -17,7 +18,7 @@ use Rattle.rpki_der.proofs.WrittenOctets.{ok_enc, value_octets}
 use Rattle.rpki_ext.specs.ExtendedKeyUsages.{ArePurposes, purposes_of, IsExtendedKeyUsage, extended_key_usage_at, extended_key_usage}
 use Rattle.rpki_ext.proofs.Pieces.{row_pieces, pieces_row}
 use Rattle.rpki_der.proofs.ValueWritten.{made}
-use Rattle.rpki_ext.proofs.LawfulKinds.{IsKind, always}
+use Rattle.rpki_ext.proofs.LawfulKinds.{IsKind, always, AnsweringOrMemory, answering_or_memory}
 
 pub oid_shrinks : Shrinks oid_at
 unfolding oid_at
@@ -79,6 +80,17 @@ pub extended_key_usage_reads : Reads extended_key_usage_at IsExtendedKeyUsage
 unfolding extended_key_usage_at
 extended_key_usage_reads = same_reads (content 0x30 purposes_of) (Inside 0x30 AreSome) IsExtendedKeyUsage (content_reads 0x30 purposes_of AreSome identifiers_read) usage_is is_usage
 
+-- what is kept, by its test
+pub kept_purposes : (c : List ℕ) → AreOctets c → is_some (purposes_of c) ≡ true → ArePurposes c
+kept_purposes c low e = kept (purposes_of c) refl e
+  where
+    kept : (o : Option (List ℕ)) → purposes_of c ≡ o → is_some o ≡ true → ArePurposes c
+    kept None h e = absurd cc
+    kept (Some k) h e =
+        let a = identifiers_read.takes c k low h in
+        let row = row_pieces IsObjectIdentifier (a.0 ∷ a.1) c a.2 in
+        record { id = a.0; more = a.1; pieces = row.0; identifiers = row.1; is = row.2 }
+
 -- ---- what is written
 
 row_octets : (ids pieces : List (List ℕ)) → AllZip IsObjectIdentifier ids pieces → AreOctets (concat pieces)
@@ -96,3 +108,6 @@ extended_key_usage_is = record {
   made = λ ids c fits e short. always (extended_key_usage.spells ids) _ c e short (λ s. record { purposes = fits; sequence = made 0x30 ids (omega arith) s });
   octets = λ ids fits. ok_enc 0x30 ids (omega arith) (λ l. purposes_octets ids fits);
 }
+
+pub extended_key_usage_answers : AnsweringOrMemory extended_key_usage
+extended_key_usage_answers = answering_or_memory extended_key_usage extended_key_usage_is

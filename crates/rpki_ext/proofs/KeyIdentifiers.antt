@@ -9,7 +9,7 @@ use Rattle.rpki_der.proofs.WrittenOctets.{IfShort, ok_enc, literal, ok_nested}
 use Rattle.rpki_parts.specs.Keys.Reading.{twenty}
 use Rattle.rpki_parts.proofs.KeyReads.{IsTwenty, takes_twenty, key_identifier_reads}
 use Rattle.rpki_ext.specs.KeyIdentifiers.{IsAuthorityKeyIdentifier, authority_key_identifier_at, IsSubjectKeyIdentifier, subject_key_identifier_content, subject_key_identifier, authority_key_identifier_content, authority_key_identifier}
-use Rattle.rpki_ext.proofs.LawfulKinds.{IsKind, always}
+use Rattle.rpki_ext.proofs.LawfulKinds.{IsKind, always, Answering, answering}
 
 pub authority_key_identifier_reads : Reads authority_key_identifier_at IsAuthorityKeyIdentifier
 unfolding authority_key_identifier_at
@@ -45,3 +45,6 @@ authority_key_identifier_is = record {
   made = λ id c fits e short. always (authority_key_identifier.spells id) _ c e short (authority_key_identifier_made id fits.1);
   octets = λ id fits. ok_authority_key_identifier id fits.0;
 }
+
+pub authority_key_identifier_answers : Answering authority_key_identifier
+authority_key_identifier_answers = answering authority_key_identifier authority_key_identifier_is

@@ -35,7 +35,7 @@ use Rattle.rpki_ext.specs.GeneralNames.{IsUniformResourceIdentifier, uri_name_at
 use Rattle.rpki_ext.proofs.GeneralNames.{spelled_oid, name_reads, text_is, text_was, uri_name_made}
 use Rattle.rpki_ext.proofs.Pieces.{row_pieces, pieces_row}
 use Rattle.rpki_ext.proofs.AuthorityAccess.{description_pieces_short, ok_description}
-use Rattle.rpki_ext.proofs.LawfulKinds.{IsKind}
+use Rattle.rpki_ext.proofs.LawfulKinds.{IsKind, AnsweringOrMemory, answering_or_memory}
 
 abbrev pub Description : Type 0
 Description = Option (AccessMethod × List ℕ)
@@ -342,3 +342,6 @@ subject_information_access_is = record {
   made = λ a c fits e short. subject_information_access_made levels a fits c e short;
   octets = ok_subject_information_access;
 }
+
+pub subject_information_access_answers : AnsweringOrMemory subject_information_access
+subject_information_access_answers = answering_or_memory subject_information_access subject_information_access_is

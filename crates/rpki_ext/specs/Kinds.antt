@@ -96,10 +96,6 @@ extension_for kind v = record { identifier = kind.identifier; critical = flag_of
 abbrev pub part : {V : Type 0} → ExtensionKind V → Option V → Part
 part kind v = part_of (extension_for kind v)
 
--- what is written of an extension with this content
-abbrev pub extension_part : List ℕ → Bool → List ℕ → Part
-extension_part id critical content = part_of (record { identifier = id; critical = critical; content = Some content })
-
 -- what is written of a value that fits spells it, if it has fewer than 2^32 octets
 abbrev pub IsReadAgain : {V : Type 0} → ExtensionKind V → Type 0
 IsReadAgain {V} kind = (v : V) (c : List ℕ) → kind.fits v → kind.written v ≡ Some c → length c < 2 ^ 32 → kind.spells v c

@@ -11,6 +11,7 @@ use crate::encode::{put_description, put_nested_extension};
 use crate::names::only_rsync;
 use rpki_der::{Cursor, DecodeError, EncodeError, oid};
 use rpki_parts::Rsync;
+use std::alloc::Global;
 
 // The only description.
 #[tactic(auto, unfolding(crate::specs::AuthorityAccess::only_description_at))]
@@ -27,50 +28,55 @@ fn take_only_description<'a>(cursor: &mut Cursor<'a>) -> Result<Cursor<'a>, Deco
 }
 
 // The only rsync URI of a description that says where certificates of issuers are.
-fn issuer_in(mut description: Cursor<'_>) -> Result<Rsync, DecodeError>
+fn issuer_in(alloc: Global, mut description: Cursor<'_>) -> Result<Rsync, DecodeError>
     ensures { ReturnsOrMemory result (issuers_of (left description.entry)) }
 {
     if description.take_oid()? != oid::AD_CA_ISSUERS {
         return Err(DecodeError::BadValue);
     }
-    only_rsync(&description)
+    only_rsync(alloc, &description)
 }
 
 // The same as `take_authority_information_access`, by the reading function.
 #[tactic(auto, unfolding(crate::specs::AuthorityAccess::authority_information_access_at))]
-fn read(cursor: &mut Cursor<'_>) -> Result<Rsync, DecodeError>
+fn read(alloc: Global, cursor: &mut Cursor<'_>) -> Result<Rsync, DecodeError>
     ensures reads { TookOrMemory authority_information_access.reads cursor.old result cursor.new }
     ensures keeps { Keeps result cursor.old cursor.new }
     ensures octets { AreOctets (left cursor.old) }
 {
     let mut ahead = cursor.fork();
     let description = take_only_description(&mut ahead)?;
-    let uri = issuer_in(description)?;
+    let uri = issuer_in(alloc, description)?;
     *cursor = ahead;
     Ok(uri)
 }
 
 /// The content of Authority Information Access: the only rsync URI among the names of one description, which says where the
 /// issuer's certificate is (RFC 6487 4.8.7).
-pub fn take_authority_information_access(cursor: &mut Cursor<'_>) -> Result<Rsync, DecodeError>
+#[tactic(auto, using(crate::proofs::AuthorityAccess::authority_information_access_answers))]
+pub fn take_authority_information_access(
+    alloc: Global,
+    cursor: &mut Cursor<'_>,
+) -> Result<Rsync, DecodeError>
     ensures answers { AnswersOrMemory authority_information_access.spells cursor.old
         result cursor.new }
     ensures reads { TookOrMemory authority_information_access.reads cursor.old result cursor.new }
     ensures keeps { Keeps result cursor.old cursor.new }
 {
-    read(cursor)
+    read(alloc, cursor)
 }
 
 /// Appends the extension with one description, which says that the issuer's certificate is at this URI. Answers `TooLong` where a
 /// content would have 2^32 octets or more.
 pub fn encode_authority_information_access(
+    alloc: Global,
     out: &mut Vec<u8>,
     uri: &Rsync,
 ) -> Result<(), EncodeError>
     ensures { Writes (part authority_information_access (Some uri.now)) out.old.items
         result out.new.items }
 {
-    let mut row = Vec::new(*out.allocator());
+    let mut row = Vec::new(alloc);
     put_description(&mut row, oid::AD_CA_ISSUERS, uri.as_bytes())?;
     put_nested_extension(out, oid::PE_AUTHORITY_INFO_ACCESS, false, &[0x30], &row)
 }

@@ -3,8 +3,8 @@ ghost use Rattle.std.specs.Prelude.{◌≡◌, ◌^◌, ◌≤◌, ◌%◌, ◌+
 ghost use Rattle.std.specs.List.{list_all};
 ghost use Rattle.rpki_der.specs.Primitives.Reading.{is_oid};
 ghost use Rattle.rpki_der.specs.Values.{nested};
+ghost use Rattle.rpki_der.specs.Extensions.{extension_part};
 ghost use Rattle.rpki_der.specs.Writers.{Writes};
-ghost use Rattle.rpki_ext.specs.Kinds.{extension_part};
 ghost use Rattle.rpki_ext.specs.AuthorityAccess.{description};
 
 use rpki_der::{EncodeError, put_extension, put_oid, put_value};

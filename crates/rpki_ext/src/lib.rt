@@ -3,15 +3,22 @@
 
 mod authority_access;
 mod basic_constraints;
+pub mod comparing;
 mod distribution_points;
 mod encode;
 mod extended_key_usage;
+mod extensions;
+mod inspection;
 mod key_identifiers;
 mod key_usage;
 pub mod laws;
+mod named;
 mod names;
 mod policies;
+mod reading;
+mod router_purpose;
 mod subject_access;
+mod writing;
 
 pub use authority_access::{
     encode_authority_information_access, take_authority_information_access,
@@ -21,6 +28,8 @@ pub use distribution_points::{encode_crl_distribution_points, take_crl_distribut
 pub use extended_key_usage::{
     ExtendedKeyUsage, encode_extended_key_usage, take_extended_key_usage,
 };
+pub use extensions::Extensions;
+pub use inspection::InspectionError;
 pub use key_identifiers::{
     encode_authority_key_identifier, encode_subject_key_identifier, take_authority_key_identifier,
     take_subject_key_identifier,

@@ -1,0 +1,129 @@
+-- The extensions of a certificate (RFC 5280 4.2, RFC 6487 4.8; the order in which they are written is own).
+use Rattle.std.specs.Prelude.{unwrap_or, ℕ, Bool, List, Option, None, ◌≡◌, ◌≢◌, ◌⊎◌, false, Some, ◌-◌, [], ◌∷◌, map, ◌^◌, IfSome}
+use Rattle.std.specs.List.{AllByRecursion, concat}
+use Rattle.rpki_der.specs.Rows.{IsRow}
+use Rattle.rpki_der.specs.Extensions.{IsExtension, Extension, OptionalExtension, text}
+use Rattle.rpki_der.specs.Skipping.{levels}
+use Rattle.rpki_blocks.specs.declared.overclaim.Overclaim.{Overclaim}
+use Rattle.rpki_blocks.specs.Resources.{Resources, missing, IsResources}
+use Rattle.rpki_blocks.specs.Addresses.{Ip, addresses}
+use Rattle.rpki_ext.specs.ExtensionKinds.{subject_key_identifier, authority_key_identifier, key_usage, extended_key_usage, as_resources, subject_information_access_within, basic_constraints, crl_distribution_points, authority_information_access, certificate_policies_within, ip_resources, known, subject_information_access, certificate_policies}
+use Rattle.rpki_ext.specs.SubjectAccess.{Access}
+use Rattle.rpki_ext.specs.declared.key_usage.KeyUsage.{KeyUsage}
+use Rattle.rpki_ext.specs.Kinds.{is_of, Gives, GivesUnder, extension_for}
+pub mod Reading
+pub mod Views
+
+-- what the extensions of a certificate give
+pub record ExtensionFields : Type 0 where
+  pub basic_ca : Option Bool
+  pub subject_key_identifier : List ℕ
+  pub authority_key_identifier : Option (List ℕ)
+  pub key_usage : KeyUsage
+  pub extended_key_usage : Option (List ℕ)
+  pub crl_uri : Option (List ℕ)
+  pub ca_issuer : Option (List ℕ)
+  pub access : Access
+  pub overclaim : Overclaim
+  pub v4_resources : Resources
+  pub v6_resources : Resources
+  pub as_resources : Resources
+
+abbrev pub no_access : Access
+no_access = record { ca_repository = None; rpki_manifest = None; signed_object = None; rpki_notify = None }
+
+abbrev pub no_addresses : Ip
+no_addresses = addresses None
+
+-- nothing that may be left out, and no resources
+abbrev pub bare : List ℕ → KeyUsage → Overclaim → ExtensionFields
+bare identifier usage overclaim = record {
+  basic_ca = None;
+  subject_key_identifier = identifier;
+  authority_key_identifier = None;
+  key_usage = usage;
+  extended_key_usage = None;
+  crl_uri = None;
+  ca_issuer = None;
+  access = no_access;
+  overclaim = overclaim;
+  v4_resources = missing;
+  v6_resources = missing;
+  as_resources = missing;
+}
+
+-- The extensions give these fields: at most one of each known kind, whatever their order, and none of an unknown kind is
+-- critical (RFC 5280 4.2, RFC 6487 4.8). Resources stand under the identifiers of the policy's mode (RFC 8360 4.2).
+pub record GiveFieldsWithin (depth : ℕ) (xs : List Extension) (f : ExtensionFields) : Type 0 where
+  pub passed_over : AllByRecursion (λ x. is_of known x ≡ false → x.critical ≡ false) xs
+  pub basic_constraints_is : Gives basic_constraints xs f.basic_ca
+  pub subject_key_identifier_is : Gives subject_key_identifier xs (Some f.subject_key_identifier)
+  pub authority_key_identifier_is : Gives authority_key_identifier xs f.authority_key_identifier
+  pub key_usage_is : Gives key_usage xs (Some f.key_usage)
+  pub extended_key_usage_is : Gives extended_key_usage xs f.extended_key_usage
+  pub crl_distribution_points_is : Gives crl_distribution_points xs f.crl_uri
+  pub authority_information_access_is : Gives authority_information_access xs f.ca_issuer
+  pub access : Option Access
+  pub subject_information_access_is : Gives (subject_information_access_within depth) xs access
+  pub access_is : f.access ≡ unwrap_or access no_access
+  pub certificate_policies_is : Gives (certificate_policies_within depth) xs (Some f.overclaim)
+  pub ip : Option Ip
+  pub ip_resources_is : GivesUnder ip_resources f.overclaim xs ip
+  pub v4_is : f.v4_resources ≡ (unwrap_or ip no_addresses).v4
+  pub v6_is : f.v6_resources ≡ (unwrap_or ip no_addresses).v6
+  pub numbers : Option Resources
+  pub as_resources_is : GivesUnder as_resources f.overclaim xs numbers
+  pub as_is : f.as_resources ≡ unwrap_or numbers missing
+  pub some_resources : (ip ≢ None) ⊎ (numbers ≢ None)
+
+abbrev pub GiveFields : List Extension → ExtensionFields → Type 0
+GiveFields = GiveFieldsWithin levels
+
+-- the octets are a row of extensions that give these fields
+abbrev pub AreExtensions : ExtensionFields → List ℕ → Type 0
+AreExtensions f row = (xs : List Extension) × IsRow IsExtension xs row × GiveFields xs f
+
+-- ---- what is written
+
+-- in the order in which they are written
+abbrev pub parts : ExtensionFields → List OptionalExtension
+parts x =
+    extension_for basic_constraints x.basic_ca
+    ∷ extension_for subject_key_identifier (Some x.subject_key_identifier)
+    ∷ extension_for authority_key_identifier x.authority_key_identifier
+    ∷ extension_for key_usage (Some x.key_usage)
+    ∷ extension_for extended_key_usage x.extended_key_usage
+    ∷ extension_for crl_distribution_points x.crl_uri
+    ∷ extension_for authority_information_access x.ca_issuer
+    ∷ extension_for subject_information_access (Some x.access)
+    ∷ extension_for certificate_policies (Some x.overclaim)
+    ∷ extension_for (ip_resources x.overclaim) (Some (record { v4 = x.v4_resources; v6 = x.v6_resources }))
+    ∷ extension_for (as_resources x.overclaim) (Some x.as_resources)
+    ∷ []
+
+unfoldable pub extensions : ExtensionFields → List ℕ
+extensions x = concat (map text (parts x))
+
+-- the values can be written
+pub record ExtensionsFit (x : ExtensionFields) : Type 0 where
+  pub subject_key_identifier_is : subject_key_identifier.fits x.subject_key_identifier
+  pub authority_key_identifier_is : IfSome x.authority_key_identifier authority_key_identifier.fits
+  pub extended_key_usage_is : IfSome x.extended_key_usage extended_key_usage.fits
+  pub crl_uri_is : IfSome x.crl_uri crl_distribution_points.fits
+  pub ca_issuer_is : IfSome x.ca_issuer authority_information_access.fits
+  pub access_is : subject_information_access.fits x.access
+  pub v4_is : IsResources (2 ^ 128 - 1) x.v4_resources
+  pub v6_is : IsResources (2 ^ 128 - 1) x.v6_resources
+  pub as_is : IsResources (2 ^ 32 - 1) x.as_resources
+
+-- at least one kind of resources is there
+abbrev pub HasResources : ExtensionFields → Type 0
+HasResources x = (x.v4_resources ≢ missing) ⊎ ((x.v6_resources ≢ missing) ⊎ (x.as_resources ≢ missing))
+
+-- addresses are there, listed or inherited
+abbrev pub HasIpResources : ExtensionFields → Type 0
+HasIpResources x = (x.v4_resources ≢ missing) ⊎ (x.v6_resources ≢ missing)
+
+-- no other key than the subject's is named as the one that signs
+abbrev pub NamesNoOtherKey : ExtensionFields → Type 0
+NamesNoOtherKey x = (x.authority_key_identifier ≡ None) ⊎ (x.authority_key_identifier ≡ Some x.subject_key_identifier)

@@ -1,0 +1,219 @@
+//! What the extensions of a certificate give.
+ghost use Rattle.std.specs.Prelude.{◌≡◌, IfOk, IfSome};
+ghost use Rattle.rpki_parts.specs.Uris.{IsRsync, IsHttps};
+ghost use Rattle.rpki_ext.specs.KeyIdentifiers.{IsIdentifier};
+ghost use Rattle.rpki_ext.specs.ExtendedKeyUsages.{ArePurposes};
+ghost use Rattle.rpki_ext.specs.CertificateExtensions.{bare, ExtensionsFit};
+
+use crate::extended_key_usage::ExtendedKeyUsage;
+use crate::key_usage::KeyUsage;
+use rpki_blocks::{AsResources, IpResources, Overclaim};
+use rpki_parts::{Https, KeyIdentifier, Rsync};
+use std::alloc::{AllocError, Global};
+use std::marker::Model;
+
+/// What the extensions of a certificate give.
+#[derive(Drop)]
+pub struct Extensions {
+    /// Whether the subject is a CA (RFC 6487 4.8.1).
+    pub basic_ca: Option<bool>,
+    /// The identifier of the subject's key (RFC 6487 4.8.2).
+    pub subject_key_identifier: KeyIdentifier,
+    /// The identifier of the issuer's key (RFC 6487 4.8.3).
+    pub authority_key_identifier: Option<KeyIdentifier>,
+    /// What the key is for (RFC 6487 4.8.4).
+    pub key_usage: KeyUsage,
+    /// Further purposes of the key (RFC 6487 4.8.5).
+    pub extended_key_usage: Option<ExtendedKeyUsage>,
+    /// Where the issuer's revocation list is (RFC 6487 4.8.6).
+    pub crl_uri: Option<Rsync>,
+    /// Where the issuer's certificate is (RFC 6487 4.8.7).
+    pub ca_issuer: Option<Rsync>,
+    /// Where what the key signs is published (RFC 6487 4.8.8.1).
+    pub ca_repository: Option<Rsync>,
+    /// Where the manifest of that is (RFC 6487 4.8.8.1).
+    pub rpki_manifest: Option<Rsync>,
+    /// Where the object is that the key signs (RFC 6487 4.8.8.2).
+    pub signed_object: Option<Rsync>,
+    /// Where changes of the repository are told (RFC 8182 3.2).
+    pub rpki_notify: Option<Https>,
+    /// What becomes of resources that go past the issuer's (RFC 8360).
+    pub overclaim: Overclaim,
+    /// The IPv4 addresses (RFC 6487 4.8.10).
+    pub v4_resources: IpResources,
+    /// The IPv6 addresses (RFC 6487 4.8.10).
+    pub v6_resources: IpResources,
+    /// The AS numbers (RFC 6487 4.8.11).
+    pub as_resources: AsResources,
+}
+
+impl Model for Extensions {
+    ghost use Rattle.rpki_ext.specs.CertificateExtensions.{ExtensionFields};
+
+    ghost Value = { ExtensionFields };
+
+    ghost view = { λ x. record {
+      basic_ca = x.basic_ca;
+      subject_key_identifier = x.subject_key_identifier;
+      authority_key_identifier = x.authority_key_identifier;
+      key_usage = x.key_usage;
+      extended_key_usage = x.extended_key_usage;
+      crl_uri = x.crl_uri;
+      ca_issuer = x.ca_issuer;
+      access = record {
+        ca_repository = x.ca_repository;
+        rpki_manifest = x.rpki_manifest;
+        signed_object = x.signed_object;
+        rpki_notify = x.rpki_notify;
+      };
+      overclaim = x.overclaim;
+      v4_resources = x.v4_resources;
+      v6_resources = x.v6_resources;
+      as_resources = x.as_resources;
+    } };
+}
+
+fn rsync_copy(alloc: Global, uri: &Option<Rsync>) -> Result<Option<Rsync>, AllocError>
+    ensures { IfOk result (λ copy. copy ≡ uri.now) }
+{
+    match uri {
+        Some(uri) => Ok(Some(uri.try_clone(alloc)?)),
+        None => Ok(None),
+    }
+}
+
+fn https_copy(alloc: Global, uri: &Option<Https>) -> Result<Option<Https>, AllocError>
+    ensures { IfOk result (λ copy. copy ≡ uri.now) }
+{
+    match uri {
+        Some(uri) => Ok(Some(uri.try_clone(alloc)?)),
+        None => Ok(None),
+    }
+}
+
+fn usage_copy(
+    alloc: Global,
+    usage: &Option<ExtendedKeyUsage>,
+) -> Result<Option<ExtendedKeyUsage>, AllocError>
+    ensures { IfOk result (λ copy. copy ≡ usage.now) }
+{
+    match usage {
+        Some(usage) => Ok(Some(usage.try_clone(alloc)?)),
+        None => Ok(None),
+    }
+}
+
+// What a URI and purposes keep, where they are there. Called for what they ensure alone.
+
+fn known_rsync(uri: &Option<Rsync>)
+    ensures { IfSome uri.now IsRsync }
+{
+    if let Some(uri) = uri {
+        let _octets = uri.as_bytes();
+    }
+}
+
+fn known_https(uri: &Option<Https>)
+    ensures { IfSome uri.now IsHttps }
+{
+    if let Some(uri) = uri {
+        let _octets = uri.as_bytes();
+    }
+}
+
+fn known_usage(usage: &Option<ExtendedKeyUsage>)
+    ensures { IfSome usage.now ArePurposes }
+{
+    if let Some(usage) = usage {
+        let _octets = usage.as_bytes();
+    }
+}
+
+fn known_identifier(identifier: &Option<KeyIdentifier>)
+    ensures { IfSome identifier.now IsIdentifier }
+{
+    if let Some(identifier) = identifier {
+        let _octets = identifier.as_octets();
+    }
+}
+
+impl Extensions {
+    /// Nothing that may be left out, and no resources.
+    pub fn bare(
+        subject_key_identifier: KeyIdentifier,
+        key_usage: KeyUsage,
+        overclaim: Overclaim,
+    ) -> Extensions
+        ensures { result ≡ bare subject_key_identifier key_usage overclaim }
+    {
+        Extensions {
+            basic_ca: None,
+            subject_key_identifier,
+            authority_key_identifier: None,
+            key_usage,
+            extended_key_usage: None,
+            crl_uri: None,
+            ca_issuer: None,
+            ca_repository: None,
+            rpki_manifest: None,
+            signed_object: None,
+            rpki_notify: None,
+            overclaim,
+            v4_resources: IpResources::missing(),
+            v6_resources: IpResources::missing(),
+            as_resources: AsResources::missing(),
+        }
+    }
+
+    /// Does nothing: what is kept can be written.
+    pub fn known(&self)
+        ensures { ExtensionsFit self.now }
+    {
+        // Called for what they ensure alone.
+        let _octets = self.subject_key_identifier.as_octets();
+        known_identifier(&self.authority_key_identifier);
+        known_usage(&self.extended_key_usage);
+        known_rsync(&self.crl_uri);
+        known_rsync(&self.ca_issuer);
+        known_rsync(&self.ca_repository);
+        known_rsync(&self.rpki_manifest);
+        known_rsync(&self.signed_object);
+        known_https(&self.rpki_notify);
+        let _v4 = self.v4_resources.is_present();
+        let _v6 = self.v6_resources.is_present();
+        let _numbers = self.as_resources.is_present();
+    }
+
+    /// The same once more.
+    pub fn try_clone(&self, alloc: Global) -> Result<Extensions, AllocError>
+        ensures { IfOk result (λ copy. copy ≡ self.now) }
+    {
+        let extended_key_usage = usage_copy(alloc, &self.extended_key_usage)?;
+        let crl_uri = rsync_copy(alloc, &self.crl_uri)?;
+        let ca_issuer = rsync_copy(alloc, &self.ca_issuer)?;
+        let ca_repository = rsync_copy(alloc, &self.ca_repository)?;
+        let rpki_manifest = rsync_copy(alloc, &self.rpki_manifest)?;
+        let signed_object = rsync_copy(alloc, &self.signed_object)?;
+        let rpki_notify = https_copy(alloc, &self.rpki_notify)?;
+        let v4_resources = self.v4_resources.try_clone(alloc)?;
+        let v6_resources = self.v6_resources.try_clone(alloc)?;
+        let as_resources = self.as_resources.try_clone(alloc)?;
+        Ok(Extensions {
+            basic_ca: self.basic_ca,
+            subject_key_identifier: self.subject_key_identifier,
+            authority_key_identifier: self.authority_key_identifier,
+            key_usage: self.key_usage,
+            extended_key_usage,
+            crl_uri,
+            ca_issuer,
+            ca_repository,
+            rpki_manifest,
+            signed_object,
+            rpki_notify,
+            overclaim: self.overclaim,
+            v4_resources,
+            v6_resources,
+            as_resources,
+        })
+    }
+}

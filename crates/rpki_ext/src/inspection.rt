@@ -1,0 +1,143 @@
+//! What inspection finds wrong with a certificate.
+ghost use Rattle.std.specs.Prelude.{◌≡◌};
+ghost use Rattle.rpki_ext.specs.Inspection.{inspection_error_name};
+
+use std::error::Error;
+use std::fmt;
+
+/// What is wrong with a certificate, or with a part of it, as its kind asks (RFC 6487 4, RFC 8209 3.1).
+#[derive(Debug, Clone, Copy, PartialEq, Eq)]
+pub enum InspectionError {
+    /// The algorithm inside what is signed is not the one of the signature.
+    AlgorithmMismatch,
+    /// The issuer's name has not the form that is asked for.
+    Issuer,
+    /// The subject's name has not the form that is asked for.
+    Subject,
+    /// The key is not of the kind that is asked for.
+    KeyAlgorithm,
+    /// The subject key identifier is not that of the key.
+    SubjectKeyIdentifier,
+    /// There is an Extended Key Usage, and must not be.
+    ExtendedKeyUsagePresent,
+    /// Basic Constraints say that it is no CA.
+    CaFlagFalse,
+    /// There are no Basic Constraints.
+    MissingBasicConstraints,
+    /// The key usage is not the one that is asked for.
+    KeyUsage,
+    /// There is no URI of the repository.
+    MissingCaRepository,
+    /// There is no URI of the manifest.
+    MissingManifest,
+    /// The manifest doesn't stand right in the repository.
+    ManifestNotChild,
+    /// There is a URI of a signed object, and must not be.
+    SignedObjectPresent,
+    /// The authority key identifier is there, and is not the subject's.
+    AuthorityKeyIdentifier,
+    /// There is a URI of a revocation list, and must not be.
+    CrlUriPresent,
+    /// There is a URI of the issuer's certificate, and must not be.
+    CaIssuerPresent,
+    /// There is no URI of a revocation list.
+    MissingCrlUri,
+    /// There are Basic Constraints, and must not be.
+    BasicConstraintsPresent,
+    /// There is a URI of a repository, and must not be.
+    CaRepositoryPresent,
+    /// There is a URI of a manifest, and must not be.
+    ManifestPresent,
+    /// There is no URI of the signed object.
+    MissingSignedObject,
+    /// There is no Extended Key Usage.
+    MissingExtendedKeyUsage,
+    /// The router's purpose isn't among those of the key.
+    MissingRouterPurpose,
+    /// There is a URI in Subject Information Access, and must not be.
+    SubjectInformationPresent,
+    /// There are IP resources, and must not be.
+    IpResourcesPresent,
+    /// There are no AS resources.
+    MissingAsResources,
+    /// The AS resources are inherited, and must not be.
+    InheritedAsResources,
+}
+
+impl InspectionError {
+    /// The variant's name.
+    pub fn name(&self) -> &'static str
+        ensures { result.now ≡ inspection_error_name self.now }
+    {
+        match self {
+            InspectionError::AlgorithmMismatch => "AlgorithmMismatch",
+            InspectionError::Issuer => "Issuer",
+            InspectionError::Subject => "Subject",
+            InspectionError::KeyAlgorithm => "KeyAlgorithm",
+            InspectionError::SubjectKeyIdentifier => "SubjectKeyIdentifier",
+            InspectionError::ExtendedKeyUsagePresent => "ExtendedKeyUsagePresent",
+            InspectionError::CaFlagFalse => "CaFlagFalse",
+            InspectionError::MissingBasicConstraints => "MissingBasicConstraints",
+            InspectionError::KeyUsage => "KeyUsage",
+            InspectionError::MissingCaRepository => "MissingCaRepository",
+            InspectionError::MissingManifest => "MissingManifest",
+            InspectionError::ManifestNotChild => "ManifestNotChild",
+            InspectionError::SignedObjectPresent => "SignedObjectPresent",
+            InspectionError::AuthorityKeyIdentifier => "AuthorityKeyIdentifier",
+            InspectionError::CrlUriPresent => "CrlUriPresent",
+            InspectionError::CaIssuerPresent => "CaIssuerPresent",
+            InspectionError::MissingCrlUri => "MissingCrlUri",
+            InspectionError::BasicConstraintsPresent => "BasicConstraintsPresent",
+            InspectionError::CaRepositoryPresent => "CaRepositoryPresent",
+            InspectionError::ManifestPresent => "ManifestPresent",
+            InspectionError::MissingSignedObject => "MissingSignedObject",
+            InspectionError::MissingExtendedKeyUsage => "MissingExtendedKeyUsage",
+            InspectionError::MissingRouterPurpose => "MissingRouterPurpose",
+            InspectionError::SubjectInformationPresent => "SubjectInformationPresent",
+            InspectionError::IpResourcesPresent => "IpResourcesPresent",
+            InspectionError::MissingAsResources => "MissingAsResources",
+            InspectionError::InheritedAsResources => "InheritedAsResources",
+        }
+    }
+
+    // What is printed of it.
+    fn text(&self) -> &'static str {
+        match self {
+            InspectionError::AlgorithmMismatch => "signature algorithm mismatch",
+            InspectionError::Issuer => "invalid issuer",
+            InspectionError::Subject => "invalid subject",
+            InspectionError::KeyAlgorithm => "invalid key algorithm",
+            InspectionError::SubjectKeyIdentifier => "subject key identifier mismatch",
+            InspectionError::ExtendedKeyUsagePresent => "extended key usage present",
+            InspectionError::CaFlagFalse => "CA flag is false",
+            InspectionError::MissingBasicConstraints => "missing basic constraints",
+            InspectionError::KeyUsage => "wrong key usage",
+            InspectionError::MissingCaRepository => "missing CA repository",
+            InspectionError::MissingManifest => "missing manifest",
+            InspectionError::ManifestNotChild => "manifest outside the repository",
+            InspectionError::SignedObjectPresent => "signed object present",
+            InspectionError::AuthorityKeyIdentifier => "authority key identifier mismatch",
+            InspectionError::CrlUriPresent => "CRL URI present",
+            InspectionError::CaIssuerPresent => "CA issuer present",
+            InspectionError::MissingCrlUri => "missing CRL URI",
+            InspectionError::BasicConstraintsPresent => "basic constraints present",
+            InspectionError::CaRepositoryPresent => "CA repository present",
+            InspectionError::ManifestPresent => "manifest present",
+            InspectionError::MissingSignedObject => "missing signed object",
+            InspectionError::MissingExtendedKeyUsage => "missing extended key usage",
+            InspectionError::MissingRouterPurpose => "missing router purpose",
+            InspectionError::SubjectInformationPresent => "subject information access present",
+            InspectionError::IpResourcesPresent => "IP resources present",
+            InspectionError::MissingAsResources => "missing AS resources",
+            InspectionError::InheritedAsResources => "inherited AS resources",
+        }
+    }
+}
+
+impl fmt::Display for InspectionError {
+    fn fmt<W: fmt::Write>(&self, f: &mut fmt::Formatter<W>) -> fmt::Result {
+        f.write_str(self.text())
+    }
+}
+
+impl Error for InspectionError {}

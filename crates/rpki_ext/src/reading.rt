@@ -1,0 +1,364 @@
+//! The extensions of a certificate, in one pass, whatever order they stand in.
+ghost use Rattle.std.specs.Prelude.{◌≡◌, ◌⊎◌, true, false, OnOk, OnErr, IfErr, option_map, unwrap_or};
+ghost use Rattle.rpki_der.specs.Place.{Place, left, MeansOrMemory, Refuses};
+ghost use Rattle.rpki_der.specs.Place.Reading.{Returns, ReturnsOrMemory, ReturnsOrMemoryBy};
+ghost use Rattle.rpki_der.specs.Extensions.{Extension};
+ghost use Rattle.rpki_der.specs.Extensions.Reading.{extension_at};
+ghost use Rattle.rpki_der.specs.Folding.{over};
+ghost use Rattle.rpki_blocks.specs.Addresses.{or_missing};
+ghost use Rattle.rpki_blocks.specs.Resources.{missing};
+ghost use Rattle.rpki_ext.specs.CertificateExtensions.{AreExtensions, no_access, no_addresses};
+ghost use Rattle.rpki_ext.specs.CertificateExtensions.Reading.{all_kinds, under, agreed, disagreement, completed, extensions_of};
+ghost use Rattle.rpki_ext.specs.CertificateExtensions.Views.{wanted, HasFlag, state_of, is_seen, ip_of, ip_in, access_with};
+
+use crate::authority_access::take_authority_information_access;
+use crate::basic_constraints::take_basic_constraints;
+use crate::distribution_points::take_crl_distribution_points;
+use crate::extended_key_usage::{ExtendedKeyUsage, take_extended_key_usage};
+use crate::extensions::Extensions;
+use crate::key_identifiers::{take_authority_key_identifier, take_subject_key_identifier};
+use crate::key_usage::{KeyUsage, take_key_usage};
+use crate::named::Named;
+use crate::policies::take_certificate_policies;
+use crate::subject_access::{Sia, take_subject_information_access};
+use bytes::Bytes;
+use rpki_blocks::{AsResources, Bound, IpResources, Overclaim, Resources};
+use rpki_der::{Cursor, DecodeError, Field, Oid, take_extension};
+use rpki_parts::{Https, KeyIdentifier, Rsync};
+use std::alloc::Global;
+use std::marker::Model;
+
+// An extension of no known kind: unread where it isn't critical, else refused (RFC 5280 4.2).
+fn pass_over(alloc: Global, identifier: &[u8], critical: bool) -> Result<(), DecodeError>
+    ensures ok { OnOk result (critical ≡ false) }
+    ensures err { IfErr result (λ e. Refuses e (critical ≡ true)) }
+{
+    if !critical {
+        return Ok(());
+    }
+    let identifier = Bytes::copy_from_slice(alloc, identifier)?;
+    Err(DecodeError::UnexpectedCritical(Oid::new(identifier)?))
+}
+
+/// What the extensions that were seen so far gave.
+#[derive(Drop)]
+pub(crate) struct Seen {
+    basic_ca: Option<bool>,
+    subject_key_identifier: Option<KeyIdentifier>,
+    authority_key_identifier: Option<KeyIdentifier>,
+    key_usage: Option<KeyUsage>,
+    extended_key_usage: Option<ExtendedKeyUsage>,
+    crl_uri: Option<Rsync>,
+    ca_issuer: Option<Rsync>,
+    access: Option<Sia>,
+    overclaim: Option<Overclaim>,
+    ip_resources: Option<(Overclaim, (Option<IpResources>, Option<IpResources>))>,
+    as_resources: Option<(Overclaim, AsResources)>,
+}
+
+impl Seen {
+    fn nothing() -> Seen
+        ensures { state_of result ≡ all_kinds.start }
+    {
+        Seen {
+            basic_ca: None,
+            subject_key_identifier: None,
+            authority_key_identifier: None,
+            key_usage: None,
+            extended_key_usage: None,
+            crl_uri: None,
+            ca_issuer: None,
+            access: None,
+            overclaim: None,
+            ip_resources: None,
+            as_resources: None,
+        }
+    }
+
+    fn has(&self, kind: Named) -> bool
+        ensures { result ≡ is_seen self.now kind }
+    {
+        match kind {
+            Named::BasicConstraints => self.basic_ca.is_some(),
+            Named::SubjectKeyIdentifier => self.subject_key_identifier.is_some(),
+            Named::AuthorityKeyIdentifier => self.authority_key_identifier.is_some(),
+            Named::KeyUsage => self.key_usage.is_some(),
+            Named::ExtendedKeyUsage => self.extended_key_usage.is_some(),
+            Named::CrlDistributionPoints => self.crl_uri.is_some(),
+            Named::AuthorityInformationAccess => self.ca_issuer.is_some(),
+            Named::SubjectInformationAccess => self.access.is_some(),
+            Named::CertificatePolicies => self.overclaim.is_some(),
+            Named::IpResources(_) => self.ip_resources.is_some(),
+            Named::AsResources(_) => self.as_resources.is_some(),
+        }
+    }
+
+    // Refuses a second extension of a kind, and one with another flag than its kind's.
+    fn check(&self, kind: Named, critical: bool) -> Result<(), DecodeError>
+        ensures first { OnOk result (is_seen self.now kind ≡ false) }
+        ensures flag { OnOk result (HasFlag (wanted kind) critical) }
+        ensures refused { OnErr result
+            ((is_seen self.now kind ≡ true) ⊎ (HasFlag (wanted kind) critical → ⊥)) }
+    {
+        if self.has(kind) {
+            return Err(DecodeError::Duplicate(kind.field()));
+        }
+        match kind.must_be_critical() {
+            Some(true) if !critical => Err(DecodeError::NotCritical(kind.field())),
+            Some(false) if critical => Err(DecodeError::Critical(kind.field())),
+            _ => Ok(()),
+        }
+    }
+
+    // One extension more.
+    fn put(
+        &mut self,
+        alloc: Global,
+        identifier: &[u8],
+        critical: bool,
+        content: &mut Cursor<'_>,
+    ) -> Result<(), DecodeError>
+        ensures { ReturnsOrMemoryBy (λ _. state_of self.new) result
+            (all_kinds.step (state_of self.old) (record {
+              identifier = identifier.now;
+              critical = critical;
+              content = left content.old;
+            })) }
+    {
+        let Some(kind) = Named::of(identifier) else {
+            return pass_over(alloc, identifier, critical);
+        };
+        if let Err(error) = self.check(kind, critical) {
+            return Err(error);
+        }
+        match kind {
+            Named::BasicConstraints => self.basic_ca = Some(take_basic_constraints(content)?),
+            Named::SubjectKeyIdentifier => {
+                self.subject_key_identifier = Some(take_subject_key_identifier(content)?);
+            }
+            Named::AuthorityKeyIdentifier => {
+                self.authority_key_identifier = Some(take_authority_key_identifier(content)?);
+            }
+            Named::KeyUsage => self.key_usage = Some(take_key_usage(content)?),
+            Named::ExtendedKeyUsage => {
+                self.extended_key_usage = Some(take_extended_key_usage(alloc, content)?);
+            }
+            Named::CrlDistributionPoints => {
+                self.crl_uri = Some(take_crl_distribution_points(alloc, content)?);
+            }
+            Named::AuthorityInformationAccess => {
+                self.ca_issuer = Some(take_authority_information_access(alloc, content)?);
+            }
+            Named::SubjectInformationAccess => {
+                self.access = Some(take_subject_information_access(alloc, content)?);
+            }
+            Named::CertificatePolicies => {
+                self.overclaim = Some(take_certificate_policies(content)?);
+            }
+            Named::IpResources(mode) => {
+                self.ip_resources = Some((mode, IpResources::take_families_from(alloc, content)?));
+                return Ok(());
+            }
+            Named::AsResources(mode) => {
+                self.as_resources = Some((mode, AsResources::take_from(alloc, content)?));
+                return Ok(());
+            }
+        }
+        Ok(())
+    }
+
+    // A row of extensions, one after the other.
+    fn from_row(alloc: Global, row: &Cursor<'_>) -> Result<Seen, DecodeError>
+        ensures { ReturnsOrMemoryBy state_of result
+            (over extension_at all_kinds.step all_kinds.start (left row.now)) }
+    {
+        let mut rest = row.fork();
+        let mut seen = Seen::nothing();
+        while !rest.is_empty() {
+            let (identifier, critical, mut content) = match take_extension(&mut rest) {
+                Ok(extension) => extension,
+                Err(error) => return Err(error),
+            };
+            match seen.put(alloc, identifier, critical, &mut content) {
+                Ok(()) => {}
+                Err(error) => return Err(error),
+            }
+        }
+        Ok(seen)
+    }
+}
+
+/// The resources that a certificate lists, and whether it may overclaim.
+#[derive(Drop)]
+struct Listed {
+    overclaim: Overclaim,
+    v4_resources: IpResources,
+    v6_resources: IpResources,
+    as_resources: AsResources,
+}
+
+impl Model for Listed {
+    ghost use Rattle.rpki_ext.specs.CertificateExtensions.Reading.{ListedFields};
+
+    ghost Value = { ListedFields };
+
+    ghost view = { λ l. record {
+      overclaim = l.overclaim;
+      v4_resources = l.v4_resources;
+      v6_resources = l.v6_resources;
+      as_resources = l.as_resources;
+    } };
+}
+
+// What stands under the policy's mode; `None` where another mode is shown.
+fn under<T: Drop>(mode: Overclaim, resources: Option<(Overclaim, T)>) -> Option<Option<T>>
+    ensures { result ≡ under mode resources }
+{
+    match resources {
+        None => Some(None),
+        Some((shown, listed)) => {
+            if shown == mode {
+                Some(Some(listed))
+            } else {
+                None
+            }
+        }
+    }
+}
+
+fn or_missing<B: Bound>(resources: Option<Resources<B>>) -> Resources<B>
+    ensures addresses { result ≡ or_missing resources }
+    ensures numbers { result ≡ unwrap_or resources missing }
+{
+    match resources {
+        Some(listed) => listed,
+        None => Resources::missing(),
+    }
+}
+
+// The families, each missing where it isn't there.
+fn both_families(
+    families: Option<(Option<IpResources>, Option<IpResources>)>,
+) -> (IpResources, IpResources)
+    ensures v4 { result.0 ≡ (unwrap_or (ip_in families) no_addresses).v4 }
+    ensures v6 { result.1 ≡ (unwrap_or (ip_in families) no_addresses).v6 }
+{
+    match families {
+        None => (IpResources::missing(), IpResources::missing()),
+        Some((v4, v6)) => (or_missing(v4), or_missing(v6)),
+    }
+}
+
+// Some resources must be there, and their identifiers be those of the policy; of several that are not, the addresses are named.
+fn agreed(
+    overclaim: Option<Overclaim>,
+    ip: Option<(Overclaim, (Option<IpResources>, Option<IpResources>))>,
+    numbers: Option<(Overclaim, AsResources)>,
+) -> Result<Listed, DecodeError>
+    ensures reads { Returns result (agreed overclaim (ip_of ip) numbers) }
+    ensures names { IfErr result (λ e. e ≡ disagreement overclaim (ip_of ip) numbers) }
+{
+    if ip.is_none() && numbers.is_none() {
+        return Err(DecodeError::Missing(Field::Resources));
+    }
+    let Some(overclaim) = overclaim else {
+        let field = if ip.is_some() {
+            Field::IpResources
+        } else {
+            Field::AsResources
+        };
+        return Err(DecodeError::WrongResources(field));
+    };
+    let Some(families) = under(overclaim, ip) else {
+        return Err(DecodeError::WrongResources(Field::IpResources));
+    };
+    let Some(numbers) = under(overclaim, numbers) else {
+        return Err(DecodeError::WrongResources(Field::AsResources));
+    };
+    let (v4_resources, v6_resources) = both_families(families);
+    Ok(Listed {
+        overclaim,
+        v4_resources,
+        v6_resources,
+        as_resources: or_missing(numbers),
+    })
+}
+
+// The URIs of Subject Information Access; none where it isn't there.
+fn uris(access: Option<Sia>) -> (Option<Rsync>, Option<Rsync>, Option<Rsync>, Option<Https>)
+    ensures { access_with result ≡ unwrap_or access no_access }
+{
+    match access {
+        Some(access) => access.into_uris(),
+        None => (None, None, None, None),
+    }
+}
+
+impl Extensions {
+    // What was seen, if all is there that must be, and the identifiers of the resources are those of
+    // the policy.
+    fn complete(seen: Seen) -> Result<Extensions, DecodeError>
+        ensures { Returns result (completed (state_of seen)) }
+    {
+        let Seen {
+            basic_ca,
+            subject_key_identifier,
+            authority_key_identifier,
+            key_usage,
+            extended_key_usage,
+            crl_uri,
+            ca_issuer,
+            access,
+            overclaim,
+            ip_resources,
+            as_resources,
+        } = seen;
+        let resources = match agreed(overclaim, ip_resources, as_resources) {
+            Ok(resources) => resources,
+            Err(error) => return Err(error),
+        };
+        let Some(subject_key_identifier) = subject_key_identifier else {
+            return Err(DecodeError::Missing(Field::SubjectKeyIdentifier));
+        };
+        let Some(key_usage) = key_usage else {
+            return Err(DecodeError::Missing(Field::KeyUsage));
+        };
+        let (ca_repository, rpki_manifest, signed_object, rpki_notify) = uris(access);
+        Ok(Extensions {
+            basic_ca,
+            subject_key_identifier,
+            authority_key_identifier,
+            key_usage,
+            extended_key_usage,
+            crl_uri,
+            ca_issuer,
+            ca_repository,
+            rpki_manifest,
+            signed_object,
+            rpki_notify,
+            overclaim: resources.overclaim,
+            v4_resources: resources.v4_resources,
+            v6_resources: resources.v6_resources,
+            as_resources: resources.as_resources,
+        })
+    }
+
+    // The same as `from_row`, by the reading function.
+    #[tactic(auto, unfolding(crate::specs::CertificateExtensions::Reading::extensions_of))]
+    fn read(alloc: Global, row: &Cursor<'_>) -> Result<Extensions, DecodeError>
+        ensures { ReturnsOrMemory result (extensions_of (left row.now)) }
+    {
+        Extensions::complete(Seen::from_row(alloc, row)?)
+    }
+
+    /// What a whole row of extensions gives (RFC 6487 4.8). Errs with the name of a fault where it gives no fields.
+    #[tactic(auto, using(crate::proofs::CertificateExtensionsReads::row_means))]
+    pub fn from_row(alloc: Global, row: &Cursor<'_>) -> Result<Extensions, DecodeError>
+        ensures means { MeansOrMemory AreExtensions result (left row.now) }
+        ensures reads { ReturnsOrMemory result (extensions_of (left row.now)) }
+    {
+        // Called for what it ensures alone.
+        let _octets = row.rest();
+        Extensions::read(alloc, row)
+    }
+}
