@@ -34,9 +34,9 @@ use Rattle.rpki_parts.proofs.SignedDataReads.{signed_content_reads}
 use Rattle.rpki_ext.specs.Kinds.{Means}
 use Rattle.rpki_cert.specs.Certificates.{version_3, TbsFields, IsTbsCertificateContent, IsTbsCertificate, CertFields, IsCertificateContent, IsCertificate}
 use Rattle.rpki_cert.specs.Certificates.Reading.{is_two, version_at, Fields, fields_in_order, fields_at, with_extensions, tbs_at, cert_content_at, cert_at}
-use Rattle.rpki_cert.specs.CertificateExtensions.{ExtensionFields}
-use Rattle.rpki_cert.specs.CertificateExtensions.Reading.{extensions_of}
-use Rattle.rpki_cert.proofs.CertificateExtensionsReads.{extensions_read, AreExtensions}
+use Rattle.rpki_ext.specs.CertificateExtensions.{AreExtensions, ExtensionFields}
+use Rattle.rpki_ext.specs.CertificateExtensions.Reading.{extensions_of}
+use Rattle.rpki_ext.proofs.CertificateExtensionsReads.{extensions_read}
 
 -- ---- the version
 

@@ -1,10 +1,10 @@
 -- What is written of fields is a TBSCertificate of these fields, and signed data round it is a certificate; a certificate is
 -- written as it was read.
 use Rattle.std.specs.List.{concat}
-use Rattle.std.proofs.Common.{ℕ, List, [], ◌∷◌, ◌≡◌, map, refl, arith, ◌<◌, ◌^◌, length, Bool, true, false, ap, ◌∙◌}
+use Rattle.std.proofs.Common.{ℕ, List, [], ◌∷◌, ◌≡◌, map, refl, arith, ◌<◌, ◌^◌, length, ap, ◌∙◌}
 use Rattle.rpki_der.specs.Values.{AreOctets, IsEnc, enc, nested}
 use Rattle.rpki_der.specs.Extensions.{text}
-use Rattle.rpki_der.specs.Primitives.{null, number}
+use Rattle.rpki_der.specs.Primitives.{number}
 use Rattle.rpki_der.proofs.ValueWritten.{Short, pieces_short, nested_made, nested_short, number_made, made}
 use Rattle.rpki_der.proofs.WrittenOctets.{literal, value_octets, ok_concat, ok_nested, ok_number, ok_enc}
 use Rattle.rpki_blocks.specs.Prefixes.{AreV4}
@@ -15,12 +15,12 @@ use Rattle.rpki_parts.specs.SignedDatas.{SignedFields, IsSignedDataContent, sign
 use Rattle.rpki_parts.proofs.ValidityWritten.{validity_made, ok_validity}
 use Rattle.rpki_parts.proofs.KeyWritten.{key_made, ok_key}
 use Rattle.rpki_parts.proofs.AlgorithmWritten.{algorithm_made, ok_algorithm}
-use Rattle.rpki_cert.specs.Certificates.{TbsFields, version_3, IsTbsCertificate, tbs_content, spelling, Fits, CertFields, IsCertificate}
-use Rattle.rpki_cert.specs.CertificateExtensions.{extensions, parts, HasResources}
-use Rattle.rpki_cert.proofs.CertificateExtensionsWritten.{written, row_made, contents_short, ok_row, known_parts, ok_contents, fields_given}
+use Rattle.rpki_cert.specs.Certificates.{TbsFields, version_3, IsTbsCertificate, tagged_extensions, tbs_content, spelling, Fits, CertFields, IsCertificate}
+use Rattle.rpki_ext.specs.CertificateExtensions.{extensions, parts, HasResources}
+use Rattle.rpki_ext.proofs.CertificateExtensionsWritten.{written, row_made, contents_short, ok_row, known_parts, ok_contents, fields_given}
 
 abbrev pieces : TbsFields → List (List ℕ)
-pieces f = version_3 ∷ number f.serial ∷ algorithm f.algorithm ∷ f.issuer ∷ validity f.validity ∷ f.subject ∷ key f.key ∷ nested (0xA3 ∷ 0x30 ∷ []) (extensions f.extensions) ∷ []
+pieces f = version_3 ∷ number f.serial ∷ algorithm f.algorithm ∷ f.issuer ∷ validity f.validity ∷ f.subject ∷ key f.key ∷ tagged_extensions f.extensions ∷ []
 
 module _ (f : TbsFields) (fits : Fits f) (only_v4 : AreV4 f.extensions.v4_resources) where
   content_octets : AreOctets (tbs_content f)

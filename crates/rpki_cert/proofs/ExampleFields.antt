@@ -1,5 +1,5 @@
 -- Fields that have a spelling.
-use Rattle.std.proofs.Common.{ℕ, List, [], ◌∷◌, true, refl, arith, ◌<◌, ◌^◌, length, inl}
+use Rattle.std.proofs.Common.{ℕ, List, [], ◌∷◌, refl, arith, ◌<◌, ◌^◌, length, inl}
 use Rattle.rpki_der.specs.Times.{Moment, IsMoment, time}
 use Rattle.rpki_der.specs.Values.{enc, length_octets}
 use Rattle.rpki_der.specs.Primitives.{number}
@@ -10,8 +10,9 @@ use Rattle.rpki_parts.specs.Algorithms.{with_null}
 use Rattle.rpki_parts.specs.declared.key.PublicKeyFormat.TheVariants.{Rsa}
 use Rattle.rpki_parts.specs.Names.{IsName}
 use Rattle.rpki_ext.specs.declared.key_usage.KeyUsage.TheVariants.{Ee}
+use Rattle.rpki_ext.proofs.CertificateExtensionsWritten.{inheriting_fits}
 use Rattle.rpki_cert.specs.Certificates.{TbsFields, tbs_content, Fits}
-use Rattle.rpki_cert.specs.CertificateExtensions.{bare, extensions, HasResources}
+use Rattle.rpki_ext.specs.CertificateExtensions.{bare, extensions, HasResources}
 
 abbrev year_2000 : Moment
 year_2000 = record { year = 2000; month = 1; day = 1; hour = 0; minute = 0; second = 0 }
@@ -19,6 +20,10 @@ year_2000 = record { year = 2000; month = 1; day = 1; hour = 0; minute = 0; seco
 -- a name without parts
 abbrev no_name : List ℕ
 no_name = 0x30 ∷ 0 ∷ []
+
+-- an identifier of a key
+abbrev no_key : List ℕ
+no_key = 0 ∷ 0 ∷ 0 ∷ 0 ∷ 0 ∷ 0 ∷ 0 ∷ 0 ∷ 0 ∷ 0 ∷ 0 ∷ 0 ∷ 0 ∷ 0 ∷ 0 ∷ 0 ∷ 0 ∷ 0 ∷ 0 ∷ 0 ∷ []
 
 abbrev pub some_fields : TbsFields
 some_fields = record {
@@ -28,7 +33,7 @@ some_fields = record {
   validity = record { not_before = year_2000; not_after = year_2000 };
   subject = no_name;
   key = record { format = Rsa; bits = [] };
-  extensions = record (bare (0 ∷ 0 ∷ 0 ∷ 0 ∷ 0 ∷ 0 ∷ 0 ∷ 0 ∷ 0 ∷ 0 ∷ 0 ∷ 0 ∷ 0 ∷ 0 ∷ 0 ∷ 0 ∷ 0 ∷ 0 ∷ 0 ∷ 0 ∷ []) Ee Refuse) { v4_resources = inherit };
+  extensions = record (bare no_key Ee Refuse) { v4_resources = inherit };
 }
 
 is_name : IsName no_name no_name
@@ -50,17 +55,7 @@ some_fit = record {
   not_after_is = is_moment;
   subject_is = is_name;
   key_is = tt;
-  extensions_are = record {
-    subject_key_identifier_is = (literal some_fields.extensions.subject_key_identifier refl, refl);
-    authority_key_identifier_is = tt;
-    extended_key_usage_is = tt;
-    crl_uri_is = tt;
-    ca_issuer_is = tt;
-    access_is = record { ca_repository_is = tt; rpki_manifest_is = tt; signed_object_is = tt; rpki_notify_is = tt };
-    v4_is = tt;
-    v6_is = tt;
-    as_is = tt;
-  };
+  extensions_are = inheriting_fits no_key Ee Refuse (literal no_key refl, refl);
   short = short;
 }
 

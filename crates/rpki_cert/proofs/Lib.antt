@@ -1,8 +1,10 @@
-pub mod CertificateExtensionsReads
-pub mod CertificateExtensionsWritten
 pub mod CertificatesReads
 pub mod CertificatesWritten
 pub mod ExampleFields
+pub mod RoundTrips
 pub mod WritingSteps
-pub mod RefusedExtensions
-pub mod Refusals
+pub mod Exclusive
+pub mod Testing
+pub mod Lines
+pub mod IssuedNumbers
+pub mod ReadAgain

@@ -1,3 +1,8 @@
-pub mod CertificateExtensions
+pub use Rattle.rpki_ext.specs.CertificateExtensions
 pub mod Certificates
 pub mod Making
+pub mod Profiles
+pub mod Verification
+pub mod Errors
+pub mod Validation
+pub mod Issuing

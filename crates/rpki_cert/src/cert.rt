@@ -43,7 +43,7 @@ impl Cert {
         ensures octets { AreOctets (left content.old) }
     {
         let mut ahead = content.fork();
-        let signed_data = SignedData::from_constructed(&mut ahead)?;
+        let signed_data = SignedData::from_constructed(alloc, &mut ahead)?;
         let tbs = TbsCert::read(alloc, &mut content.fork())?;
         *content = ahead;
         Ok(Cert { tbs, signed_data })
@@ -70,7 +70,13 @@ impl Cert {
     pub fn decode(alloc: Global, octets: &[u8]) -> Result<Cert, DecodeError>
         ensures { MeansOrMemory (Means IsCertificate) result octets.now }
     {
-        let octets = Bytes::copy_from_slice(alloc, octets)?;
+        Cert::decode_shared(alloc, Bytes::copy_from_slice(alloc, octets)?)
+    }
+
+    /// The same of octets that are shared: what the certificate keeps shares their buffer (own).
+    pub fn decode_shared(alloc: Global, octets: Bytes) -> Result<Cert, DecodeError>
+        ensures { MeansOrMemory (Means IsCertificate) result octets }
+    {
         let mut cursor = Cursor::new(&octets);
         Cert::take_from(alloc, &mut cursor)
     }
@@ -121,11 +127,11 @@ impl Cert {
 
     /// Appends the certificate: the SEQUENCE of what is signed, as it was read or made, the algorithm and the signature. Of a
     /// certificate that was read these are its own octets. Answers `TooLong` where the content would have 2^32 octets or more.
-    pub fn encode_ref(&self, out: &mut Vec<u8>) -> Result<(), EncodeError>
+    pub fn encode_ref(&self, alloc: Global, out: &mut Vec<u8>) -> Result<(), EncodeError>
         ensures { Writes (value 0x30 (concat (signed_pieces self.now.signed_data)))
             out.old.items result out.new.items }
     {
-        self.signed_data.encode_ref(out)
+        self.signed_data.encode_ref(alloc, out)
     }
 
     /// The same octets, on their own.
@@ -136,7 +142,7 @@ impl Cert {
         ensures fits { IsOk result → length (concat (signed_pieces self.now.signed_data)) < 2 ^ 32 }
     {
         let mut octets = Vec::new(alloc);
-        self.encode_ref(&mut octets)?;
+        self.encode_ref(alloc, &mut octets)?;
         Ok(Bytes::from_vec(octets).map_err(AllocError::from)?)
     }
 
@@ -144,7 +150,7 @@ impl Cert {
     pub fn try_clone(&self, alloc: Global) -> Result<Cert, AllocError>
         ensures { IfOk result (λ c. c ≡ self.now) }
     {
-        let signed_data = self.signed_data.try_clone()?;
+        let signed_data = self.signed_data.try_clone(alloc)?;
         let tbs = self.tbs.try_clone(alloc)?;
         Ok(Cert { tbs, signed_data })
     }

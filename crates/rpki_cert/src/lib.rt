@@ -2,17 +2,30 @@
 #![tactic(auto)]
 
 mod cert;
-mod extensions;
 mod fields;
+mod inspect;
+mod issue;
 pub mod laws;
 mod making;
-mod named;
-mod reading;
+pub mod profile_laws;
+mod resource_cert;
 mod resources;
+pub mod round_trip;
 mod tbs;
+mod validate;
+mod validation_error;
+mod verification_error;
+pub mod verification_laws;
+mod verify;
+mod verify_owned;
 mod writing;
 
 pub use cert::Cert;
+pub use inspect::Kind;
+pub use issue::{IssueCaError, issue_ca};
+pub use resource_cert::ResourceCert;
 pub use rpki_blocks::Overclaim;
-pub use rpki_ext::{ExtendedKeyUsage, KeyUsage, Sia};
+pub use rpki_ext::{ExtendedKeyUsage, InspectionError, KeyUsage, Sia};
 pub use tbs::TbsCert;
+pub use validation_error::ValidationError;
+pub use verification_error::VerificationError;

@@ -4,23 +4,19 @@ ghost use Rattle.std.specs.List.{concat};
 ghost use Rattle.rpki_der.specs.declared.error.EncodeError.TheVariants.{Memory};
 ghost use Rattle.rpki_parts.specs.KeyNames.{subject_name};
 ghost use Rattle.rpki_parts.specs.SignedDatas.{signed_pieces};
-ghost use Rattle.rpki_cert.specs.Making.{new_fields, IsRefusal};
-ghost use Rattle.rpki_cert.specs.Certificates.{spelling};
+ghost use Rattle.rpki_cert.specs.Making.{new_fields, IsRefusalOnceAsked, IsRefusal};
+ghost use Rattle.rpki_cert.specs.Certificates.{Fits, spelling};
 
 use crate::cert::Cert;
-use crate::extensions::Extensions;
 use crate::tbs::TbsCert;
 use bytes::Bytes;
 use rpki_blocks::Overclaim;
-use rpki_der::{EncodeError, Serial, put_bits};
-use rpki_ext::KeyUsage;
+use rpki_der::{EncodeError, MAX_LEN, Serial, put_bits};
+use rpki_ext::{Extensions, KeyUsage};
 use rpki_parts::{
     Name, PublicKey, RpkiSignatureAlgorithm, SignedData, Signer, SigningError, Validity,
 };
 use std::alloc::{AllocError, Global};
-
-// The greatest length of a content (own).
-const MAX_LEN: usize = 0xFFFF_FFFF;
 
 // The subject that is given, else the name of the key.
 fn subject_or_own(
@@ -45,7 +41,7 @@ fn check_length(alloc: Global, signed_data: &SignedData) -> Result<(), EncodeErr
 {
     let signature = signed_data.signature();
     let mut tail = Vec::new(alloc);
-    signature.algorithm().x509_encode(&mut tail)?;
+    signature.algorithm().x509_encode(alloc, &mut tail)?;
     put_bits(&mut tail, 0, signature.value())?;
     if signed_data.data().len() + tail.len() > MAX_LEN {
         return Err(EncodeError::TooLong);
@@ -84,6 +80,27 @@ impl TbsCert {
         })
     }
 
+    // These octets, with the signer's signature. What the signer refuses is passed on as it stands, whatever it is.
+    fn ask<S: Signer>(
+        &self,
+        alloc: Global,
+        signer: &S,
+        key: &S::KeyId,
+        octets: Bytes,
+    ) -> Result<SignedData, SigningError<S::Error>>
+        ensures message { IfOk result (λ s. s.message ≡ octets) }
+        ensures signed { IfOk result
+            (λ s. S.signs signer.now key.now self.now.algorithm octets (Ok s.signature)) }
+        ensures fits { IfOk result (λ s. length (concat (signed_pieces s)) < 2 ^ 32) }
+        ensures refused { IfErr result (IsRefusalOnceAsked octets
+            (S.signs signer.now key.now self.now.algorithm octets)) }
+    {
+        let signature = signer.sign(alloc, key, self.signature(), &octets)?;
+        let signed_data = SignedData::new(octets, signature);
+        check_length(alloc, &signed_data)?;
+        Ok(signed_data)
+    }
+
     // The octets that `encode_ref` writes, with the signer's signature.
     fn sign<S: Signer>(
         &self,
@@ -91,6 +108,7 @@ impl TbsCert {
         signer: &S,
         key: &S::KeyId,
     ) -> Result<SignedData, SigningError<S::Error>>
+        ensures fields { OnOk result (Fits self.now) }
         ensures message { IfOk result (λ s. s.message ≡ spelling self.now) }
         ensures signed { IfOk result
             (λ s. S.signs signer.now key.now self.now.algorithm (spelling self.now)
@@ -100,16 +118,13 @@ impl TbsCert {
             (S.signs signer.now key.now self.now.algorithm (spelling self.now))) }
     {
         let mut octets = Vec::new(alloc);
-        self.encode_ref(&mut octets)?;
+        self.encode_ref(alloc, &mut octets)?;
         let octets = Bytes::from_vec(octets).map_err(AllocError::from)?;
-        let signature = signer.sign(alloc, key, self.signature(), &octets)?;
-        let signed_data = SignedData::new(octets, signature);
-        check_length(alloc, &signed_data)?;
-        Ok(signed_data)
+        self.ask(alloc, signer, key, octets)
     }
 
     /// The certificate with these fields: the signer signs exactly the octets that `encode_ref` writes, with the key that `key` names.
-    /// Whether there are resources isn't tested. What the signer refuses is passed on; answers `TooLong` also where the data or the
+    /// Whether there are resources isn't tested. What the signer refuses is passed on as it stands; answers `TooLong` also where the data or the
     /// whole certificate would have a content of 2^32 octets or more.
     pub fn into_cert<S: Signer>(
         self,
@@ -118,6 +133,7 @@ impl TbsCert {
         key: &S::KeyId,
     ) -> Result<Cert, SigningError<S::Error>>
         ensures fields { IfOk result (λ c. c.fields ≡ self) }
+        ensures written { OnOk result (Fits self) }
         ensures message { IfOk result (λ c. c.signed_data.message ≡ spelling self) }
         ensures signed { IfOk result
             (λ c. S.signs signer.now key.now self.algorithm (spelling self)

@@ -1,5 +1,5 @@
 -- Reading functions of certificates.
-use Rattle.std.specs.Prelude.{ℕ, bytes_eq, if◌then◌else◌, List, [], ◌∷◌, Option, Some, None, Bool}
+use Rattle.std.specs.Prelude.{ℕ, bytes_eq, if◌then◌else◌, List, [], ◌∷◌, Option, Some, None}
 use Rattle.rpki_der.specs.Reading.{inside, content, both}
 use Rattle.rpki_der.specs.Values.Reading.{◌>>=◌, value_at}
 use Rattle.rpki_der.specs.Serials.Reading.{serial_at}
@@ -13,7 +13,7 @@ use Rattle.rpki_parts.specs.Algorithms.Reading.{algorithm_at}
 use Rattle.rpki_parts.specs.Names.Reading.{name_at}
 use Rattle.rpki_parts.specs.SignedDatas.Reading.{signed_content_at}
 use Rattle.rpki_cert.specs.Certificates.{TbsFields, CertFields}
-use Rattle.rpki_cert.specs.CertificateExtensions.Reading.{extensions_of}
+use Rattle.rpki_ext.specs.CertificateExtensions.Reading.{extensions_of}
 
 -- ---- TBSCertificate
 

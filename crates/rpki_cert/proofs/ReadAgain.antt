@@ -1,0 +1,98 @@
+-- A certificate that was made is read again from its own octets.
+use Rattle.std.specs.List.{concat}
+use Rattle.std.specs.Prelude.{Result, Ok, Err, IfOk, IfErr}
+use Rattle.std.proofs.Common.{◌≤◌, arith, ℕ, List, [], ◌≡◌, ◌<◌, ◌^◌, length, refl, sym, ◌∙◌, subst}
+use Rattle.std.proofs.lemmas.List.{append-nil}
+use Rattle.rpki_der.specs.Values.{AreOctets, IsEnc, IsValue, enc, length_octets}
+use Rattle.rpki_der.specs.Values.Reading.{value_at}
+use Rattle.rpki_der.specs.Place.{Refuses}
+use Rattle.rpki_der.specs.declared.error.DecodeError.{DecodeError}
+use Rattle.rpki_der.specs.declared.error.DecodeError.TheVariants as reading
+use Rattle.rpki_der.specs.declared.error.EncodeError.{EncodeError}
+use Rattle.rpki_der.specs.declared.error.EncodeError.TheVariants as writing
+use Rattle.rpki_parts.specs.Signatures.{SignatureFields}
+use Rattle.rpki_parts.specs.declared.signature.SigningError.{SigningError}
+use Rattle.rpki_der.proofs.Octets.{AreOctets-parts}
+use Rattle.rpki_der.proofs.Readings.{one_reading}
+use Rattle.rpki_der.proofs.ValueReads.{value_reads}
+use Rattle.rpki_der.proofs.ValueWritten.{Short, pieces_short, content_short}
+use Rattle.rpki_der.proofs.Values.{one_value}
+use Rattle.rpki_parts.specs.SignedDatas.{SignedFields, signed_data, signed_pieces}
+use Rattle.rpki_ext.specs.Kinds.{Means}
+use Rattle.rpki_ext.proofs.OneMeaning.{one_meaning}
+use Rattle.rpki_cert.specs.Certificates.{TbsFields, CertFields, IsCertificate, IsMade, spelling, tbs_content}
+use Rattle.rpki_cert.specs.Certificates.Reading.{cert_at}
+use Rattle.rpki_cert.specs.Issuing.{IsMadeOf, IsUnreadable, IsNotMade, IsSigningOrMemory, IsNotReadAgain}
+use Rattle.rpki_cert.specs.declared.issue.IssueCaError.{IssueCaError}
+use Rattle.rpki_cert.specs.declared.issue.IssueCaError.TheVariants.{Signing, Encode, Decode, Validation}
+use Rattle.rpki_cert.proofs.CertificatesReads.{cert_reads}
+use Rattle.rpki_cert.proofs.CertificatesWritten.{certificate_made}
+
+abbrev content_of : SignedFields → List ℕ
+content_of s = concat (signed_pieces s)
+
+content_octets : (c : List ℕ) → AreOctets (enc 0x30 c) → AreOctets c
+unfolding enc
+content_octets c h = (AreOctets-parts (length_octets (length c)) c h.1).1
+
+-- whatever is read of what was made has its message
+pub message_again : (s : SignedFields) (f : TbsFields) (c : CertFields) → s.message ≡ spelling f → AreOctets (signed_data s) → length (content_of s) < 2 ^ 32
+    → Means IsCertificate c (signed_data s) → c.signed_data.message ≡ spelling f
+message_again s f c is octets short (front, begins, cert) =
+    let low = content_octets (content_of s) octets in
+    let whole : IsEnc 0x30 (content_of s) (signed_data s) = record { octet = omega arith; low_tag = omega arith; octets = low; short = short; is = refl } in
+    let one = one_reading (value_at 0x30) (IsEnc 0x30) (value_reads 0x30) (signed_data s) (content_of s) cert.content [] begins.rest
+    (record { text = signed_data s; spelled = whole; parts = sym (append-nil (signed_data s)) })
+    (record { text = front; spelled = cert.enc; parts = begins.is }) in
+    let signed = cert.content_is.signed_is in
+    let shorts = pieces_short (signed_pieces s) (short, low) in
+    let inner : Short (tbs_content f) = content_short 0x30 (tbs_content f) (subst Short is shorts.0) in
+    let mine : IsValue s.message = record { tag = 0x30; content = tbs_content f; enc = record { octet = omega arith; low_tag = omega arith; octets = inner.1; short = inner.0; is = is } } in
+    sym (one_value s.message c.signed_data.message _ _ mine signed.message_is (one.0 ∙ signed.is)).0 ∙ is
+
+-- what was made of fields that can be written is read as it was made
+pub certificate_again : (c d : CertFields) → IsMade c → Means IsCertificate d (signed_data c.signed_data) → d ≡ c
+certificate_again c d made h =
+    let can = made.fields_are in
+    let own = certificate_made c can.fits made.message_is made.signature_is made.short can.resources can.only_v4 in
+    one_meaning cert_at IsCertificate cert_reads (signed_data c.signed_data) d c h (signed_data c.signed_data, record { rest = []; is = sym (append-nil (signed_data c.signed_data)) }, own)
+
+-- ---- why it isn't
+
+-- it isn't too long
+pub captured_or_memory : (E : Type 0) (s : SignedFields) (e : EncodeError) → (e ≡ writing.TooLong → 2 ^ 32 ≤ length (content_of s)) → length (content_of s) < 2 ^ 32 → IsSigningOrMemory {E = E} (Encode e)
+captured_or_memory E s writing.TooLong long short = let h = long refl in omega arith
+captured_or_memory E s writing.Memory long short = tt
+
+-- it can be read
+pub read_or_memory : (E : Type 0) {P : Type 0} (e : DecodeError) → Refuses e P → (P → ⊥) → IsSigningOrMemory {E = E} (Decode e)
+read_or_memory E reading.Memory h no_p = tt
+read_or_memory E _ h no_p = no_p h
+
+pub readable : (c : CertFields) → IsMade c → IsUnreadable c.signed_data → ⊥
+readable c made no_c =
+    let can = made.fields_are in
+    let own = certificate_made c can.fits made.message_is made.signature_is made.short can.resources can.only_v4 in
+    no_c c (signed_data c.signed_data, record { rest = []; is = sym (append-nil (signed_data c.signed_data)) }, own)
+
+-- of what was made of the fields
+pub not_made : {E : Type 0} (f : TbsFields) (Answers : Result SignatureFields (SigningError E) → Type 0) (s : SignedFields) (e : IssueCaError E) → IsMadeOf f Answers s → IsNotReadAgain s e → IsNotMade f Answers e
+not_made f Answers s (Signing e) made h = absurd h
+not_made f Answers s (Encode writing.TooLong) made h = let short = made.short in omega arith
+not_made f Answers s (Encode writing.Memory) made h = tt
+not_made f Answers s (Validation e) made h = absurd h
+not_made f Answers s (Decode e) made h = of_it e h
+  where
+    of_it : (e : DecodeError) → Refuses e (IsUnreadable s) → Refuses e ((t : SignedFields) × IsMadeOf f Answers t × IsUnreadable t)
+    of_it reading.Memory h = tt
+    of_it _ h = (s, made, h)
+
+-- ---- of a result
+
+pub if_ok : {T E : Type 0} (r : Result T E) (P Q : T → Type 0) → ((x : T) → P x → Q x) → IfOk r P → IfOk r Q
+if_ok (Ok x) P Q f h = f x h
+if_ok (Err e) P Q f h = tt
+
+pub if_err : {T E : Type 0} (r : Result T E) (P Q : E → Type 0) → ((e : E) → P e → Q e) → IfErr r P → IfErr r Q
+if_err (Ok x) P Q f h = tt
+if_err (Err e) P Q f h = f e h

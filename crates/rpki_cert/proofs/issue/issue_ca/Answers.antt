@@ -1,0 +1,18 @@
+use Rattle.std.proofs.Common.{Ok, sym, ap, subst, ◌∙◌}
+use Rattle.rpki_cert.specs.Certificates.{CertFields, spelling}
+use Rattle.rpki_cert.specs.Profiles.{MeetsProfile}
+use Rattle.rpki_cert.specs.Verification.{LineUnder, IsVerified, issued_lines}
+use Rattle.rpki_cert.specs.declared.inspect.Kind.TheVariants.{Authority}
+use Rattle.rpki_cert.proofs.issue.issue_ca.Goals as goal
+
+pub returns-in-Ok-validate_ca_at-clause-fields : goal.returns-in-Ok-validate_ca_at-clause-fields
+returns-in-Ok-validate_ca_at-clause-fields g c can = ap (λ (x : CertFields). x.fields) c.in-Ok-validate_ca_at.ensures.gives.cert_is ∙ c.in-Ok.ensures.fields can
+
+pub returns-in-Ok-validate_ca_at-clause-signed : goal.returns-in-Ok-validate_ca_at-clause-signed
+returns-in-Ok-validate_ca_at-clause-signed g c can = subst (λ (x : CertFields). g.S.Signer.signs c.args.signer.now c.args.key.now c.args.tbs.algorithm (spelling c.args.tbs) (Ok x.signed_data.signature)) (sym c.in-Ok-validate_ca_at.ensures.gives.cert_is) (c.in-Ok.ensures.signed can)
+
+pub returns-in-Ok-validate_ca_at-clause-profile : goal.returns-in-Ok-validate_ca_at-clause-profile
+returns-in-Ok-validate_ca_at-clause-profile g c = subst (λ (x : CertFields). MeetsProfile Authority c.args.strict x) (sym c.in-Ok-validate_ca_at.ensures.gives.cert_is) c.in-Ok-validate_ca_at.ensures.profile
+
+pub returns-in-Ok-validate_ca_at-clause-lines : goal.returns-in-Ok-validate_ca_at-clause-lines
+returns-in-Ok-validate_ca_at-clause-lines g c = subst (λ (x : CertFields). IsVerified (LineUnder (g.V.Verifier.verifies c.args.verifier.now) c.args.now c.args.issuer.now x) issued_lines) (sym c.in-Ok-validate_ca_at.ensures.gives.cert_is) c.in-Ok-validate_ca_at.ensures.lines

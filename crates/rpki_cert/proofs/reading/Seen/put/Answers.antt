@@ -1,6 +1,0 @@
-use Rattle.rpki_der.proofs.Answering.{certainly}
-use Rattle.rpki_cert.proofs.RefusedExtensions.{refused}
-use Rattle.rpki_cert.proofs.reading.Seen.put.Goals as goal
-
-pub returns-in-Err : goal.returns-in-Err
-returns-in-Err c = certainly c.in-Err.error (refused _ _ _ _ _ c.in-Some.ensures c.in-Err.ensures.refused)

@@ -1,0 +1,176 @@
+-- What is verified of a certificate, line by line (RFC 6487 7.2, RFC 8360 4.2.4.4; the order of the lines is own).
+use Rattle.std.specs.Prelude.{◌≡◌, ◌≢◌, ◌↔◌, ◌⊎◌, ◌≤◌, ◌^◌, ◌-◌, ℕ, List, [], ◌∷◌, IsSome, IfSome, codes}
+use Rattle.std.specs.List.{AllByRecursion}
+use Rattle.rpki_der.specs.Times.{Moment}
+use Rattle.rpki_blocks.specs.Sets.{Block, Has}
+use Rattle.rpki_blocks.specs.Resources.{Resources, inherit}
+use Rattle.rpki_blocks.specs.IssuedSets.{IsListed, IsIssued}
+use Rattle.rpki_blocks.specs.declared.overclaim.Overclaim.{Overclaim}
+use Rattle.rpki_blocks.specs.declared.overclaim.Overclaim.TheVariants.{Refuse}
+use Rattle.rpki_parts.specs.Conditions.{IsFirstFalse}
+use Rattle.rpki_parts.specs.Keys.{KeyFields}
+use Rattle.rpki_parts.specs.Signatures.{Verifies}
+use Rattle.rpki_parts.specs.SignedDatas.{SignedFields}
+use Rattle.rpki_parts.specs.ValidAt.{IsInTime}
+use Rattle.rpki_parts.specs.declared.valid_at.ValidityError.TheVariants as time
+use Rattle.rpki_cert.specs.Certificates.{TbsFields, CertFields}
+use Rattle.rpki_cert.specs.declared.verification_error.VerificationError.{VerificationError}
+use Rattle.rpki_cert.specs.declared.verification_error.VerificationError.TheVariants.{NotYetValid, Expired, InheritedV4, InheritedV6, InheritedAs, MissingKeyId, WrongKeyId, MissingIssuerUri, BadSignature, OverclaimV4, OverclaimV6, OverclaimAs, Memory}
+
+-- sets of numbers: which IPv4 addresses, IPv6 addresses and AS numbers are held
+pub record Held : Type 1 where
+  pub v4 : ℕ → Type 0
+  pub v6 : ℕ → Type 0
+  pub as_numbers : ℕ → Type 0
+
+abbrev pub nothing_held : Held
+nothing_held = record { v4 = λ n. ⊥; v6 = λ n. ⊥; as_numbers = λ n. ⊥ }
+
+-- the signature belongs to the data as they are kept, and to the key
+abbrev pub IsSignedBy : Verifies → KeyFields → SignedFields → Type 0
+IsSignedBy V key s = V key s.signature.algorithm s.message s.signature.value
+
+-- where it may not overclaim, it lists only numbers that are held (RFC 6487 7.2)
+abbrev pub ListsOnlyHeld : Overclaim → ℕ → (ℕ → Type 0) → Resources → Type 0
+ListsOnlyHeld mode greatest held r = mode ≡ Refuse → (n : ℕ) → n ≤ greatest → IsListed n r → held n
+
+-- the moment is one at which c is valid
+abbrev pub TimeLine : Moment → CertFields → VerificationError → Type 0
+TimeLine now c NotYetValid = IsInTime c.fields.validity now time.NotYetValid
+TimeLine now c Expired = IsInTime c.fields.validity now time.Expired
+TimeLine now c _ = Unit {0}
+
+-- c claims to be issued by this issuer
+abbrev pub ClaimLine : TbsFields → CertFields → VerificationError → Type 0
+ClaimLine issuer c MissingKeyId = IsSome c.fields.extensions.authority_key_identifier
+ClaimLine issuer c WrongKeyId = IfSome c.fields.extensions.authority_key_identifier (λ id. id ≡ issuer.extensions.subject_key_identifier)
+ClaimLine issuer c MissingIssuerUri = IsSome c.fields.extensions.ca_issuer
+ClaimLine issuer c _ = Unit {0}
+
+-- c lists its resources itself
+abbrev pub OwnLine : CertFields → VerificationError → Type 0
+OwnLine c InheritedV4 = c.fields.extensions.v4_resources ≢ inherit
+OwnLine c InheritedV6 = c.fields.extensions.v6_resources ≢ inherit
+OwnLine c InheritedAs = c.fields.extensions.as_resources ≢ inherit
+OwnLine c _ = Unit {0}
+
+-- c doesn't overclaim under an issuer with these sets
+abbrev pub HeldLine : Held → CertFields → VerificationError → Type 0
+HeldLine held c OverclaimV4 = ListsOnlyHeld c.fields.extensions.overclaim (2 ^ 128 - 1) held.v4 c.fields.extensions.v4_resources
+HeldLine held c OverclaimV6 = ListsOnlyHeld c.fields.extensions.overclaim (2 ^ 128 - 1) held.v6 c.fields.extensions.v6_resources
+HeldLine held c OverclaimAs = ListsOnlyHeld c.fields.extensions.overclaim (2 ^ 32 - 1) held.as_numbers c.fields.extensions.as_resources
+HeldLine held c _ = Unit {0}
+
+-- The line is true of c, at this moment, under an issuer with these sets and a verifier that answers by this relation. A line is named by
+-- the error that it gives where it isn't true.
+abbrev pub Line : Verifies → Moment → TbsFields → Held → CertFields → VerificationError → Type 0
+Line V now issuer held c NotYetValid = TimeLine now c NotYetValid
+Line V now issuer held c Expired = TimeLine now c Expired
+Line V now issuer held c InheritedV4 = OwnLine c InheritedV4
+Line V now issuer held c InheritedV6 = OwnLine c InheritedV6
+Line V now issuer held c InheritedAs = OwnLine c InheritedAs
+Line V now issuer held c MissingKeyId = ClaimLine issuer c MissingKeyId
+Line V now issuer held c WrongKeyId = ClaimLine issuer c WrongKeyId
+Line V now issuer held c MissingIssuerUri = ClaimLine issuer c MissingIssuerUri
+Line V now issuer held c BadSignature = IsSignedBy V issuer.key c.signed_data
+Line V now issuer held c OverclaimV4 = HeldLine held c OverclaimV4
+Line V now issuer held c OverclaimV6 = HeldLine held c OverclaimV6
+Line V now issuer held c OverclaimAs = HeldLine held c OverclaimAs
+Line V now issuer held c Memory = Unit {0}
+
+-- ---- the lines of each call, in their order
+
+abbrev pub validity_lines : List VerificationError
+validity_lines = NotYetValid ∷ Expired ∷ []
+
+abbrev pub claim_lines : List VerificationError
+claim_lines = MissingKeyId ∷ WrongKeyId ∷ MissingIssuerUri ∷ []
+
+abbrev pub own_lines : List VerificationError
+own_lines = InheritedV4 ∷ InheritedV6 ∷ InheritedAs ∷ []
+
+abbrev pub held_lines : List VerificationError
+held_lines = OverclaimV4 ∷ OverclaimV6 ∷ OverclaimAs ∷ []
+
+-- below an issuer, before resources are looked at
+abbrev pub basis_lines : List VerificationError
+basis_lines = NotYetValid ∷ Expired ∷ MissingKeyId ∷ WrongKeyId ∷ MissingIssuerUri ∷ BadSignature ∷ []
+
+-- of an anchor, whose issuer it is itself
+abbrev pub anchor_lines : List VerificationError
+anchor_lines = NotYetValid ∷ Expired ∷ InheritedV4 ∷ InheritedV6 ∷ InheritedAs ∷ BadSignature ∷ []
+
+-- of a certificate that another one issued
+abbrev pub issued_lines : List VerificationError
+issued_lines = NotYetValid ∷ Expired ∷ MissingKeyId ∷ WrongKeyId ∷ MissingIssuerUri ∷ BadSignature ∷ OverclaimV4 ∷ OverclaimV6 ∷ OverclaimAs ∷ []
+
+-- of a router's certificate the AS numbers alone
+abbrev pub router_lines : List VerificationError
+router_lines = NotYetValid ∷ Expired ∷ MissingKeyId ∷ WrongKeyId ∷ MissingIssuerUri ∷ BadSignature ∷ OverclaimAs ∷ []
+
+-- all of these lines are true
+abbrev pub IsVerified : (VerificationError → Type 0) → List VerificationError → Type 0
+IsVerified line lines = AllByRecursion line lines
+
+-- the first of them that isn't true; or memory was wanted
+abbrev pub IsFirstFalseOrMemory : (VerificationError → Type 0) → List VerificationError → VerificationError → Type 0
+IsFirstFalseOrMemory line lines e = (e ≡ Memory) ⊎ IsFirstFalse line lines e
+
+-- ---- what a certificate that was verified has
+
+-- what a contract sees of a ResourceCert: the certificate, its sets of numbers, and the name of the trust anchor locator
+pub record ResourceFields : Type 0 where
+  pub cert : CertFields
+  pub v4 : List Block
+  pub v6 : List Block
+  pub as_numbers : List Block
+  pub tal : List ℕ
+
+-- as its lines see an issuer
+abbrev pub held_by : ResourceFields → Held
+held_by r = record { v4 = Has r.v4; v6 = Has r.v6; as_numbers = Has r.as_numbers }
+
+-- the lines under an issuer that was verified
+abbrev pub LineUnder : Verifies → Moment → ResourceFields → CertFields → VerificationError → Type 0
+LineUnder V now issuer c = Line V now issuer.cert.fields (held_by issuer) c
+
+-- the lines of an anchor, which issued itself
+abbrev pub AnchorLine : Verifies → Moment → CertFields → VerificationError → Type 0
+AnchorLine V now c = Line V now c.fields nothing_held c
+
+-- the set has the numbers that are listed
+abbrev pub ListsNumbers : Resources → List Block → Type 0
+ListsNumbers r set = (n : ℕ) → Has set n ↔ IsListed n r
+
+-- of an anchor: what it lists
+pub record HasListed (c : CertFields) (tal : List ℕ) (r : ResourceFields) : Type 0 where
+  pub cert_is : r.cert ≡ c
+  pub v4_is : ListsNumbers c.fields.extensions.v4_resources r.v4
+  pub v6_is : ListsNumbers c.fields.extensions.v6_resources r.v6
+  pub as_is : ListsNumbers c.fields.extensions.as_resources r.as_numbers
+  pub tal_is : r.tal ≡ tal
+
+-- below an issuer: what it lists or inherits of the issuer's, and the issuer's locator (RFC 6487 7.2, RFC 8360 4.2.4.4)
+pub record HasIssued (c : CertFields) (issuer : ResourceFields) (r : ResourceFields) : Type 0 where
+  pub cert_is : r.cert ≡ c
+  pub v4_is : IsIssued issuer.v4 c.fields.extensions.v4_resources r.v4
+  pub v6_is : IsIssued issuer.v6 c.fields.extensions.v6_resources r.v6
+  pub as_is : IsIssued issuer.as_numbers c.fields.extensions.as_resources r.as_numbers
+  pub tal_is : r.tal ≡ issuer.tal
+
+-- ---- names
+
+abbrev pub verification_error_name : VerificationError → List ℕ
+verification_error_name NotYetValid = codes "NotYetValid"
+verification_error_name Expired = codes "Expired"
+verification_error_name InheritedV4 = codes "InheritedV4"
+verification_error_name InheritedV6 = codes "InheritedV6"
+verification_error_name InheritedAs = codes "InheritedAs"
+verification_error_name MissingKeyId = codes "MissingKeyId"
+verification_error_name WrongKeyId = codes "WrongKeyId"
+verification_error_name MissingIssuerUri = codes "MissingIssuerUri"
+verification_error_name BadSignature = codes "BadSignature"
+verification_error_name OverclaimV4 = codes "OverclaimV4"
+verification_error_name OverclaimV6 = codes "OverclaimV6"
+verification_error_name OverclaimAs = codes "OverclaimAs"
+verification_error_name Memory = codes "Memory"

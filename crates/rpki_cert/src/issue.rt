@@ -1,0 +1,132 @@
+//! Certification authorities issue certificates.
+ghost use Rattle.std.specs.Prelude.{◌≡◌, Ok, IfOk, IfErr};
+ghost use Rattle.rpki_cert.specs.Certificates.{TbsFields, CanBeWritten, IsMade, spelling};
+ghost use Rattle.rpki_cert.specs.Issuing.{IsNotMade, IsNotReadAgain, IsNotIssued, IsSigningOrMemory};
+ghost use Rattle.rpki_cert.specs.Profiles.{MeetsProfile};
+ghost use Rattle.rpki_cert.specs.Validation.{IsInvalid};
+ghost use Rattle.rpki_cert.specs.Verification.{LineUnder, IsVerified, IsFirstFalseOrMemory, HasIssued, issued_lines};
+ghost use Rattle.rpki_cert.specs.declared.inspect.Kind.TheVariants.{Authority};
+
+use crate::cert::Cert;
+use crate::resource_cert::ResourceCert;
+use crate::tbs::TbsCert;
+use crate::validation_error::ValidationError;
+use rpki_der::{Cursor, DecodeError, EncodeError, Time};
+use rpki_parts::{Signer, SigningError, Verifier};
+use std::alloc::Global;
+use thiserror::Error;
+
+/// Why no certificate was issued: which of the steps refused.
+#[derive(Debug, Drop, Error)]
+pub enum IssueCaError<E> {
+    /// None was made.
+    #[error("certificate not signed")]
+    Signing(SigningError<E>),
+    /// What was made could not be captured.
+    #[error("certificate not captured")]
+    Encode(EncodeError),
+    /// What was captured could not be read again.
+    #[error("certificate not read again")]
+    Decode(DecodeError),
+    /// What was read again is not valid below the issuer.
+    #[error("issued certificate not valid")]
+    Validation(ValidationError),
+}
+
+impl<E> IssueCaError<E> {
+    ghost use Rattle.rpki_cert.specs.Issuing.{issue_ca_error_name};
+
+    /// The variant's name.
+    pub fn name(&self) -> &'static str
+        ensures { result.now ≡ issue_ca_error_name self.now }
+    {
+        match self {
+            IssueCaError::Signing(_) => "Signing",
+            IssueCaError::Encode(_) => "Encode",
+            IssueCaError::Decode(_) => "Decode",
+            IssueCaError::Validation(_) => "Validation",
+        }
+    }
+}
+
+// What was made, read again from its own octets.
+fn read_again<E>(alloc: Global, made: &Cert) -> Result<Cert, IssueCaError<E>>
+    ensures message { IfOk result (λ c. (f : TbsFields)
+        → made.now.signed_data.message ≡ spelling f → c.signed_data.message ≡ spelling f) }
+    ensures same { IfOk result (λ c. IsMade made.now → c ≡ made.now) }
+    ensures refused { IfErr result (IsNotReadAgain made.now.signed_data) }
+    ensures readable { IsMade made.now → IfErr result IsSigningOrMemory }
+{
+    let octets = match made.to_captured(alloc) {
+        Ok(octets) => octets,
+        Err(error) => return Err(IssueCaError::Encode(error)),
+    };
+    // Called for what it ensures alone.
+    let _octets = Cursor::new(&octets).rest();
+    match Cert::decode(alloc, &octets) {
+        Ok(cert) => Ok(cert),
+        Err(error) => Err(IssueCaError::Decode(error)),
+    }
+}
+
+// A certificate with these fields, made and read again.
+fn make_and_read<S: Signer>(
+    alloc: Global,
+    tbs: TbsCert,
+    signer: &S,
+    key: &S::KeyId,
+) -> Result<Cert, IssueCaError<S::Error>>
+    ensures message { IfOk result (λ c. c.signed_data.message ≡ spelling tbs) }
+    ensures fields { CanBeWritten tbs → IfOk result (λ c. c.fields ≡ tbs) }
+    ensures signed { CanBeWritten tbs → IfOk result
+        (λ c. S.signs signer.now key.now tbs.algorithm (spelling tbs)
+        (Ok c.signed_data.signature)) }
+    ensures refused { IfErr result
+        (IsNotMade tbs (S.signs signer.now key.now tbs.algorithm (spelling tbs))) }
+    ensures readable { CanBeWritten tbs → IfErr result IsSigningOrMemory }
+{
+    match tbs.into_cert(alloc, signer, key) {
+        Ok(made) => {
+            // Called for what it ensures alone.
+            let _signature = made.signed_data().signature().value();
+            read_again(alloc, &made)
+        }
+        Err(refusal) => Err(IssueCaError::Signing(refusal)),
+    }
+}
+
+/// The certification authority with these fields, below this issuer: the certificate is made and signed, captured, read again from its octets, and validated
+/// as [`Cert::validate_ca_at`] says. Errs with what the first of these steps answers that refuses. Fields that can be written are read again as they are.
+pub fn issue_ca<S: Signer, V: Verifier>(
+    alloc: Global,
+    tbs: TbsCert,
+    signer: &S,
+    key: &S::KeyId,
+    issuer: &ResourceCert,
+    strict: bool,
+    now: Time,
+    verifier: &V,
+) -> Result<ResourceCert, IssueCaError<S::Error>>
+    ensures message { IfOk result (λ r. r.cert.signed_data.message ≡ spelling tbs) }
+    ensures fields { CanBeWritten tbs → IfOk result (λ r. r.cert.fields ≡ tbs) }
+    ensures signed { CanBeWritten tbs → IfOk result
+        (λ r. S.signs signer.now key.now tbs.algorithm (spelling tbs)
+        (Ok r.cert.signed_data.signature)) }
+    ensures profile { IfOk result (λ r. MeetsProfile Authority strict r.cert) }
+    ensures lines { IfOk result (λ r. IsVerified
+        (LineUnder (V.verifies verifier.now) now issuer.now r.cert) issued_lines) }
+    ensures gives { IfOk result (λ r. HasIssued r.cert issuer.now r) }
+    ensures refused { IfErr result (IsNotIssued tbs
+        (S.signs signer.now key.now tbs.algorithm (spelling tbs))
+        (λ c. IsInvalid Authority strict c (IsFirstFalseOrMemory
+        (LineUnder (V.verifies verifier.now) now issuer.now c) issued_lines))) }
+    ensures readable { CanBeWritten tbs → IfErr result IsSigningOrMemory }
+{
+    match make_and_read(alloc, tbs, signer, key) {
+        Ok(cert) => match cert.validate_ca_at(alloc, issuer, strict, now, verifier) {
+            Ok(issued) => Ok(issued),
+            Err(error) => Err(IssueCaError::Validation(error)),
+        },
+        Err(refusal) => Err(refusal),
+    }
+}

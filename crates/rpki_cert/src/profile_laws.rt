@@ -1,0 +1,27 @@
+//! Laws about the profiles of certificates. Each is the contract of a function with no parameters and an empty body.
+ghost use Rattle.std.specs.Prelude.{◌≡◌, Bool, Some, true};
+ghost use Rattle.rpki_ext.specs.CertificateExtensions.{NamesNoOtherKey};
+ghost use Rattle.rpki_cert.specs.Certificates.{CertFields};
+ghost use Rattle.rpki_cert.specs.Profiles.{MeetsProfile, group};
+ghost use Rattle.rpki_cert.specs.declared.inspect.Kind.{Kind};
+ghost use Rattle.rpki_cert.specs.declared.inspect.Kind.TheVariants.{Anchor, Authority, EndEntity, Detached};
+
+/// At most one of anchor, CA, end entity and router is accepted of a certificate, whichever of them are asked strictly. An end entity whose
+/// object is named is accepted as one whose object isn't.
+pub fn one_kind()
+    ensures one { (k l : Kind) (strict other : Bool) (c : CertFields)
+        → MeetsProfile k strict c → MeetsProfile l other c → group k ≡ group l }
+    ensures end_entity { (strict : Bool) (c : CertFields)
+        → MeetsProfile EndEntity strict c → MeetsProfile Detached strict c }
+{}
+
+/// What meets the profile of an anchor is a CA, and names no other key than its own as the one that signs. What meets the profile of a CA is
+/// one.
+pub fn authorities()
+    ensures anchor { (strict : Bool) (c : CertFields)
+        → MeetsProfile Anchor strict c → c.fields.extensions.basic_ca ≡ Some true }
+    ensures signs_itself { (strict : Bool) (c : CertFields)
+        → MeetsProfile Anchor strict c → NamesNoOtherKey c.fields.extensions }
+    ensures authority { (strict : Bool) (c : CertFields)
+        → MeetsProfile Authority strict c → c.fields.extensions.basic_ca ≡ Some true }
+{}

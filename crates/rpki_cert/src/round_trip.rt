@@ -1,0 +1,50 @@
+//! What the public clauses give together: a certificate that was made is read again from its own octets.
+ghost use Rattle.std.specs.Prelude.{◌≡◌, ◌↔◌, IsTrue, ◌^◌, ◌<◌, length, IfOk, IfErr};
+ghost use Rattle.std.specs.List.{concat};
+ghost use Rattle.rpki_der.specs.declared.error.DecodeError.TheVariants as decoding;
+ghost use Rattle.rpki_der.specs.declared.error.EncodeError.TheVariants.{Memory};
+ghost use Rattle.rpki_parts.specs.SignedDatas.{signed_pieces};
+ghost use Rattle.rpki_blocks.specs.Prefixes.{AreV4};
+ghost use Rattle.rpki_ext.specs.CertificateExtensions.{HasResources};
+ghost use Rattle.rpki_cert.specs.Certificates.{Fits, spelling};
+
+use crate::cert::Cert;
+use crate::laws;
+use rpki_der::{DecodeError, EncodeError};
+use std::alloc::Global;
+
+fn is_memory(error: &DecodeError) -> bool
+    ensures { IsTrue result ↔ (error.now ≡ decoding.Memory) }
+{
+    match error {
+        DecodeError::Memory => true,
+        _ => false,
+    }
+}
+
+/// Writes a certificate that `into_cert` made, and reads it again: it is the same, its fields too, where at least one kind of resources
+/// is there and what stands as IPv4 are whole IPv4 addresses. The only error is `Memory`.
+pub fn read_again(alloc: Global, made: &Cert) -> Result<Cert, EncodeError>
+    requires written { Fits made.now.fields }
+    requires message { made.now.signed_data.message ≡ spelling made.now.fields }
+    requires fits { length (concat (signed_pieces made.now.signed_data)) < 2 ^ 32 }
+    requires resources { HasResources made.now.fields.extensions }
+    requires only_v4 { AreV4 made.now.fields.extensions.v4_resources }
+    ensures same { IfOk result (λ c. c ≡ made.now) }
+    ensures memory { IfErr result (λ e. e ≡ Memory) }
+{
+    let octets = made.to_captured(alloc)?;
+    // Called for what they ensure alone.
+    let _value = made.signed_data().signature().value();
+    laws::written_is_read();
+    laws::unambiguous();
+    match Cert::decode_shared(alloc, octets) {
+        Ok(read) => Ok(read),
+        Err(error) => {
+            if !is_memory(&error) {
+                unreachable!();
+            }
+            Err(EncodeError::Memory)
+        }
+    }
+}

@@ -1,0 +1,127 @@
+//! Certificates are validated: inspected, then verified (RFC 6487 7.2).
+ghost use Rattle.std.specs.Prelude.{OnOk, IfOk, IfErr};
+ghost use Rattle.std.proofs.Common.{rc_value};
+ghost use Rattle.rpki_parts.specs.Conditions.{IsFirstFalse};
+ghost use Rattle.rpki_cert.specs.Profiles.{MeetsProfile};
+ghost use Rattle.rpki_cert.specs.Verification.{LineUnder, AnchorLine, IsVerified, IsFirstFalseOrMemory, HasListed, HasIssued, issued_lines, anchor_lines, router_lines};
+ghost use Rattle.rpki_cert.specs.Validation.{IsInvalid};
+ghost use Rattle.rpki_cert.specs.declared.inspect.Kind.TheVariants.{Anchor, Authority, EndEntity, Detached, Router};
+
+use crate::cert::Cert;
+use crate::resource_cert::ResourceCert;
+use crate::validation_error::ValidationError;
+use crate::verify_owned::beside;
+use rpki_der::Time;
+use rpki_parts::{TalInfo, Verifier};
+use std::alloc::Global;
+use std::rc::Rc;
+
+impl Cert {
+    /// The trust anchor that the certificate is of: it is inspected as one, then verified as
+    /// [`Cert::verify_ta_at`] says.
+    pub fn validate_ta_at<V: Verifier>(
+        self,
+        alloc: Global,
+        tal: Rc<TalInfo>,
+        strict: bool,
+        now: Time,
+        verifier: &V,
+    ) -> Result<ResourceCert, ValidationError>
+        ensures profile { OnOk result (MeetsProfile Anchor strict self) }
+        ensures lines { OnOk result
+            (IsVerified (AnchorLine (V.verifies verifier.now) now self) anchor_lines) }
+        ensures gives { IfOk result (HasListed self (rc_value tal)) }
+        ensures fault { IfErr result (IsInvalid Anchor strict self (IsFirstFalseOrMemory
+            (AnchorLine (V.verifies verifier.now) now self) anchor_lines)) }
+    {
+        let tested = self.inspect_ta(strict);
+        let (cert, _done) = beside(self, tested)?;
+        Ok(cert.verify_ta_at(alloc, tal, strict, now, verifier)?)
+    }
+
+    /// The certification authority that the certificate is of, below this issuer: it is
+    /// inspected as one, then verified as [`Cert::verify_ca_at`] says.
+    pub fn validate_ca_at<V: Verifier>(
+        self,
+        alloc: Global,
+        issuer: &ResourceCert,
+        strict: bool,
+        now: Time,
+        verifier: &V,
+    ) -> Result<ResourceCert, ValidationError>
+        ensures profile { OnOk result (MeetsProfile Authority strict self) }
+        ensures lines { OnOk result (IsVerified
+            (LineUnder (V.verifies verifier.now) now issuer.now self) issued_lines) }
+        ensures gives { IfOk result (HasIssued self issuer.now) }
+        ensures fault { IfErr result (IsInvalid Authority strict self (IsFirstFalseOrMemory
+            (LineUnder (V.verifies verifier.now) now issuer.now self) issued_lines)) }
+    {
+        let tested = self.inspect_ca(strict);
+        let (cert, _done) = beside(self, tested)?;
+        Ok(cert.verify_ca_at(alloc, issuer, strict, now, verifier)?)
+    }
+
+    /// The end entity whose object is named that the certificate is of, below this issuer: it is
+    /// inspected as one, then verified as [`Cert::verify_ee_at`] says.
+    pub fn validate_ee_at<V: Verifier>(
+        self,
+        alloc: Global,
+        issuer: &ResourceCert,
+        strict: bool,
+        now: Time,
+        verifier: &V,
+    ) -> Result<ResourceCert, ValidationError>
+        ensures profile { OnOk result (MeetsProfile EndEntity strict self) }
+        ensures lines { OnOk result (IsVerified
+            (LineUnder (V.verifies verifier.now) now issuer.now self) issued_lines) }
+        ensures gives { IfOk result (HasIssued self issuer.now) }
+        ensures fault { IfErr result (IsInvalid EndEntity strict self (IsFirstFalseOrMemory
+            (LineUnder (V.verifies verifier.now) now issuer.now self) issued_lines)) }
+    {
+        let tested = self.inspect_ee(strict);
+        let (cert, _done) = beside(self, tested)?;
+        Ok(cert.verify_ee_at(alloc, issuer, strict, now, verifier)?)
+    }
+
+    /// The end entity, of which no object needs to be named, that the certificate is of, below this issuer: it is
+    /// inspected as one, then verified as [`Cert::verify_ee_at`] says.
+    pub fn validate_detached_ee_at<V: Verifier>(
+        self,
+        alloc: Global,
+        issuer: &ResourceCert,
+        strict: bool,
+        now: Time,
+        verifier: &V,
+    ) -> Result<ResourceCert, ValidationError>
+        ensures profile { OnOk result (MeetsProfile Detached strict self) }
+        ensures lines { OnOk result (IsVerified
+            (LineUnder (V.verifies verifier.now) now issuer.now self) issued_lines) }
+        ensures gives { IfOk result (HasIssued self issuer.now) }
+        ensures fault { IfErr result (IsInvalid Detached strict self (IsFirstFalseOrMemory
+            (LineUnder (V.verifies verifier.now) now issuer.now self) issued_lines)) }
+    {
+        let tested = self.inspect_detached_ee(strict);
+        let (cert, _done) = beside(self, tested)?;
+        Ok(cert.verify_ee_at(alloc, issuer, strict, now, verifier)?)
+    }
+
+    /// Whether the certificate is valid as one of a router below this issuer: it is inspected as
+    /// one, then verified as [`Cert::verify_router_at`] says. Wants no memory.
+    pub fn validate_router_at<V: Verifier>(
+        &self,
+        issuer: &ResourceCert,
+        strict: bool,
+        now: Time,
+        verifier: &V,
+    ) -> Result<(), ValidationError>
+        ensures profile { OnOk result (MeetsProfile Router strict self.now) }
+        ensures lines { OnOk result (IsVerified
+            (LineUnder (V.verifies verifier.now) now issuer.now self.now) router_lines) }
+        ensures fault { IfErr result (IsInvalid Router strict self.now (IsFirstFalse
+            (LineUnder (V.verifies verifier.now) now issuer.now self.now) router_lines)) }
+    {
+        self.inspect_router(strict)?;
+        self.verify_router_at(issuer, strict, now, verifier)?;
+        Ok(())
+    }
+}

@@ -1,0 +1,51 @@
+//! Why a certificate isn't valid.
+ghost use Rattle.std.specs.Prelude.{◌≡◌};
+
+use crate::verification_error::VerificationError;
+use rpki_ext::InspectionError;
+use thiserror::Error;
+
+/// Why a certificate isn't valid: it isn't of its kind, or it isn't verified.
+#[derive(Debug, Drop, Error)]
+pub enum ValidationError {
+    /// It doesn't meet the profile of its kind.
+    #[error("{0}")]
+    Inspection(InspectionError),
+    /// It meets the profile, and isn't verified.
+    #[error("{0}")]
+    Verification(VerificationError),
+}
+
+impl ValidationError {
+    ghost use Rattle.rpki_cert.specs.Validation.{validation_error_name};
+
+    /// The variant's name.
+    pub fn name(&self) -> &'static str
+        ensures { result.now ≡ validation_error_name self.now }
+    {
+        match self {
+            ValidationError::Inspection(_) => "Inspection",
+            ValidationError::Verification(_) => "Verification",
+        }
+    }
+}
+
+impl From<InspectionError> for ValidationError {
+    ghost use Rattle.rpki_cert.specs.declared.validation_error.ValidationError.TheVariants.{Inspection};
+
+    ghost from_gives = { λ d e. e ≡ Inspection d };
+
+    fn from(error: InspectionError) -> ValidationError {
+        ValidationError::Inspection(error)
+    }
+}
+
+impl From<VerificationError> for ValidationError {
+    ghost use Rattle.rpki_cert.specs.declared.validation_error.ValidationError.TheVariants.{Verification};
+
+    ghost from_gives = { λ d e. e ≡ Verification d };
+
+    fn from(error: VerificationError) -> ValidationError {
+        ValidationError::Verification(error)
+    }
+}

@@ -1,0 +1,245 @@
+//! Certificates are verified, at a moment and under an issuer (RFC 6487 7.2).
+ghost use Rattle.std.specs.Prelude.{◌≡◌, ◌↔◌, ◌⊎◌, IsTrue, IsOk, OnOk, IfOk, IfErr};
+ghost use Rattle.rpki_blocks.specs.Sets.{Has};
+ghost use Rattle.rpki_parts.specs.Conditions.{IsFirstFalse, Tests};
+ghost use Rattle.rpki_blocks.specs.IssuedSets.{IsIssued};
+ghost use Rattle.rpki_cert.specs.Verification.{IsSignedBy, ListsOnlyHeld, ListsNumbers, TimeLine, ClaimLine, OwnLine, HeldLine, LineUnder, AnchorLine, held_by, validity_lines, claim_lines, own_lines, held_lines, basis_lines, anchor_lines, router_lines, IsVerified, IsFirstFalseOrMemory};
+ghost use Rattle.rpki_cert.specs.declared.verification_error.VerificationError.TheVariants.{Memory};
+
+use crate::cert::Cert;
+use crate::resource_cert::ResourceCert;
+use crate::verification_error::VerificationError;
+use rpki_blocks::{AsBlocks, Bound, Chain, IpBlocks, IssueError, Overclaim, Resources};
+use rpki_der::Time;
+use rpki_parts::{SignatureVerificationError, Verifier};
+use std::alloc::{AllocError, Global};
+
+// Whether resources list only what is in the issuer's set, where they must.
+fn lists_only_held<B: Bound>(listed: &Resources<B>, held: &Chain<B>, mode: Overclaim) -> bool
+    ensures { IsTrue result ↔ ListsOnlyHeld mode B.greatest (Has held.now) listed.now }
+{
+    match mode {
+        Overclaim::Trim => true,
+        Overclaim::Refuse => match listed.as_blocks() {
+            Some(blocks) => blocks.is_encompassed(held),
+            None => true,
+        },
+    }
+}
+
+// The numbers that are issued of those that are held; errs with this fault where some are overclaimed.
+fn issued<B: Bound>(
+    alloc: Global,
+    held: &Chain<B>,
+    listed: &Resources<B>,
+    mode: Overclaim,
+    fault: VerificationError,
+) -> Result<Chain<B>, VerificationError>
+    ensures issued { IfOk result (IsIssued held.now listed.now) }
+    ensures held { OnOk result (ListsOnlyHeld mode B.greatest (Has held.now) listed.now) }
+    ensures fault { IfErr result (λ e. (e ≡ Memory)
+        ⊎ ((e ≡ fault) × (ListsOnlyHeld mode B.greatest (Has held.now) listed.now → ⊥))) }
+{
+    match held.verify_issued(alloc, listed, mode) {
+        Ok(set) => Ok(set),
+        Err(IssueError::Overclaimed) => Err(fault),
+        Err(IssueError::Memory) => Err(VerificationError::Memory),
+    }
+}
+
+// The numbers that are listed.
+fn listed<B: Bound>(alloc: Global, resources: &Resources<B>) -> Result<Chain<B>, AllocError>
+    ensures { IfOk result (ListsNumbers resources.now) }
+{
+    match resources.as_blocks() {
+        Some(blocks) => blocks.try_clone(alloc),
+        None => Ok(Chain::empty(alloc)),
+    }
+}
+
+// The sets of a certificate that is verified.
+#[derive(Drop)]
+pub(crate) struct Sets {
+    pub(crate) v4: IpBlocks,
+    pub(crate) v6: IpBlocks,
+    pub(crate) as_numbers: AsBlocks,
+}
+
+impl Cert {
+    // What the certificate lists.
+    pub(crate) fn listed_sets(&self, alloc: Global) -> Result<Sets, AllocError>
+        ensures v4 { IfOk result (λ s. ListsNumbers self.now.fields.extensions.v4_resources s.v4) }
+        ensures v6 { IfOk result (λ s. ListsNumbers self.now.fields.extensions.v6_resources s.v6) }
+        ensures as_numbers { IfOk result
+            (λ s. ListsNumbers self.now.fields.extensions.as_resources s.as_numbers) }
+    {
+        let tbs = self.as_tbs();
+        let v4 = listed(alloc, tbs.v4_resources())?;
+        let v6 = listed(alloc, tbs.v6_resources())?;
+        let as_numbers = listed(alloc, tbs.as_resources())?;
+        Ok(Sets { v4, v6, as_numbers })
+    }
+
+    // What the certificate gets of the issuer's numbers.
+    pub(crate) fn issued_sets(
+        &self,
+        alloc: Global,
+        issuer: &ResourceCert,
+    ) -> Result<Sets, VerificationError>
+        ensures v4 { IfOk result
+            (λ s. IsIssued issuer.now.v4 self.now.fields.extensions.v4_resources s.v4) }
+        ensures v6 { IfOk result
+            (λ s. IsIssued issuer.now.v6 self.now.fields.extensions.v6_resources s.v6) }
+        ensures as_numbers { IfOk result (λ s. IsIssued
+            issuer.now.as_numbers self.now.fields.extensions.as_resources s.as_numbers) }
+        ensures held { OnOk result
+            (IsVerified (HeldLine (held_by issuer.now) self.now) held_lines) }
+        ensures fault { IfErr result
+            (IsFirstFalseOrMemory (HeldLine (held_by issuer.now) self.now) held_lines) }
+    {
+        let tbs = self.as_tbs();
+        let mode = tbs.overclaim();
+        let v4 = issued(
+            alloc,
+            issuer.v4_resources(),
+            tbs.v4_resources(),
+            mode,
+            VerificationError::OverclaimV4,
+        )?;
+        let v6 = issued(
+            alloc,
+            issuer.v6_resources(),
+            tbs.v6_resources(),
+            mode,
+            VerificationError::OverclaimV6,
+        )?;
+        let as_numbers = issued(
+            alloc,
+            issuer.as_resources(),
+            tbs.as_resources(),
+            mode,
+            VerificationError::OverclaimAs,
+        )?;
+        Ok(Sets { v4, v6, as_numbers })
+    }
+
+    // Whether the certificate lists its resources itself.
+    fn verify_inherits_nothing(&self) -> Result<(), VerificationError>
+        ensures { Tests (OwnLine self.now) own_lines result }
+    {
+        let tbs = self.as_tbs();
+        if tbs.v4_resources().is_inherited() {
+            return Err(VerificationError::InheritedV4);
+        }
+        if tbs.v6_resources().is_inherited() {
+            return Err(VerificationError::InheritedV6);
+        }
+        if tbs.as_resources().is_inherited() {
+            return Err(VerificationError::InheritedAs);
+        }
+        Ok(())
+    }
+
+    // What is verified below an issuer, before resources are looked at.
+    pub(crate) fn verify_basis<V: Verifier>(
+        &self,
+        issuer: &ResourceCert,
+        strict: bool,
+        now: Time,
+        verifier: &V,
+    ) -> Result<(), VerificationError>
+        ensures { Tests (LineUnder (V.verifies verifier.now) now issuer.now self.now)
+            basis_lines result }
+    {
+        self.verify_validity(now)?;
+        self.verify_issuer_claim(issuer, strict)?;
+        self.verify_signature(issuer.as_cert(), strict, verifier)?;
+        Ok(())
+    }
+
+    /// Whether the certificate is one of a trust anchor: it is valid at this moment, inherits nothing, and its own key signed it. Wants no
+    /// memory. Errs with the first of these lines that isn't true.
+    pub fn verify_ta_ref_at<V: Verifier>(
+        &self,
+        strict: bool,
+        now: Time,
+        verifier: &V,
+    ) -> Result<(), VerificationError>
+        ensures ok { OnOk result
+            (IsVerified (AnchorLine (V.verifies verifier.now) now self.now) anchor_lines) }
+        ensures fault { IfErr result
+            (IsFirstFalse (AnchorLine (V.verifies verifier.now) now self.now) anchor_lines) }
+    {
+        self.verify_validity(now)?;
+        self.verify_inherits_nothing()?;
+        self.verify_signature(self, strict, verifier)?;
+        Ok(())
+    }
+
+    /// Whether the certificate is one of a router below this issuer: it is valid at this moment, names the issuer's key and where the
+    /// issuer's certificate is, the issuer's key signed it, and it doesn't overclaim AS numbers. Wants no memory. Errs with the first of
+    /// these lines that isn't true.
+    pub fn verify_router_at<V: Verifier>(
+        &self,
+        issuer: &ResourceCert,
+        strict: bool,
+        now: Time,
+        verifier: &V,
+    ) -> Result<(), VerificationError>
+        ensures ok { OnOk result (IsVerified
+            (LineUnder (V.verifies verifier.now) now issuer.now self.now) router_lines) }
+        ensures fault { IfErr result (IsFirstFalse
+            (LineUnder (V.verifies verifier.now) now issuer.now self.now) router_lines) }
+    {
+        self.verify_basis(issuer, strict, now, verifier)?;
+        let tbs = self.as_tbs();
+        if lists_only_held(tbs.as_resources(), issuer.as_resources(), tbs.overclaim()) {
+            Ok(())
+        } else {
+            Err(VerificationError::OverclaimAs)
+        }
+    }
+
+    /// Whether the certificate is valid at this moment. Wants no memory.
+    pub fn verify_validity(&self, now: Time) -> Result<(), VerificationError>
+        ensures { Tests (TimeLine now self.now) validity_lines result }
+    {
+        self.as_tbs().validity().verify_at(now)?;
+        Ok(())
+    }
+
+    /// Whether the certificate names the issuer's key as the one that signs it, and where the issuer's certificate is. Wants no memory.
+    pub fn verify_issuer_claim(
+        &self,
+        issuer: &ResourceCert,
+        _strict: bool,
+    ) -> Result<(), VerificationError>
+        ensures { Tests (ClaimLine issuer.now.cert.fields self.now) claim_lines result }
+    {
+        let tbs = self.as_tbs();
+        let Some(id) = tbs.authority_key_identifier() else {
+            return Err(VerificationError::MissingKeyId);
+        };
+        if id != issuer.as_cert().as_tbs().subject_key_identifier() {
+            return Err(VerificationError::WrongKeyId);
+        }
+        if tbs.ca_issuer().is_none() {
+            return Err(VerificationError::MissingIssuerUri);
+        }
+        Ok(())
+    }
+
+    /// Whether the issuer's key signed the certificate, as the verifier answers of the octets that are kept. Wants no memory.
+    pub fn verify_signature<V: Verifier>(
+        &self,
+        issuer: &Cert,
+        _strict: bool,
+        verifier: &V,
+    ) -> Result<(), SignatureVerificationError>
+        ensures { IsOk result ↔ IsSignedBy (V.verifies verifier.now) issuer.now.fields.key
+            self.now.signed_data }
+    {
+        self.signed_data()
+            .verify_signature(issuer.as_tbs().subject_public_key_info(), verifier)
+    }
+}

@@ -1,0 +1,182 @@
+//! Certificates that are verified become resource certificates (RFC 6487 7.2).
+ghost use Rattle.std.specs.Prelude.{◌≡◌, Ok, Err, OnOk, IfOk, IfErr};
+ghost use Rattle.std.proofs.Common.{rc_value};
+ghost use Rattle.rpki_blocks.specs.IssuedSets.{IsIssued};
+ghost use Rattle.rpki_cert.specs.Verification.{LineUnder, AnchorLine, IsVerified, IsFirstFalseOrMemory, ListsNumbers, HasListed, HasIssued, issued_lines, anchor_lines};
+
+use crate::cert::Cert;
+use crate::resource_cert::ResourceCert;
+use crate::verification_error::VerificationError;
+use crate::verify::Sets;
+use rpki_der::Time;
+use rpki_parts::{TalInfo, Verifier};
+use std::alloc::Global;
+use std::rc::Rc;
+
+// What is kept beside a certificate that is verified.
+#[derive(Drop)]
+struct Kept {
+    sets: Sets,
+    tal: Rc<TalInfo>,
+}
+
+// A value beside what a test of it gave; without it where the test failed.
+pub(crate) fn beside<T: Drop, S, E>(value: T, tested: Result<S, E>) -> Result<(T, S), E>
+    ensures ok { IfOk result (λ r. (r.0 ≡ value) × (tested ≡ Ok r.1)) }
+    ensures refused { IfErr result (λ e. tested ≡ Err e) }
+{
+    match tested {
+        Ok(given) => Ok((value, given)),
+        Err(error) => Err(error),
+    }
+}
+
+// The two in one.
+fn joined(cert: Cert, kept: Kept) -> ResourceCert
+    ensures cert { result.cert ≡ cert }
+    ensures v4 { result.v4 ≡ kept.sets.v4 }
+    ensures v6 { result.v6 ≡ kept.sets.v6 }
+    ensures as_numbers { result.as_numbers ≡ kept.sets.as_numbers }
+    ensures tal { result.tal ≡ rc_value kept.tal }
+{
+    let Kept { sets, tal } = kept;
+    let Sets { v4, v6, as_numbers } = sets;
+    ResourceCert {
+        cert,
+        v4_resources: v4,
+        v6_resources: v6,
+        as_resources: as_numbers,
+        tal,
+    }
+}
+
+impl Cert {
+    // What is kept of a certificate that another one issued.
+    fn kept_below<V: Verifier>(
+        &self,
+        alloc: Global,
+        issuer: &ResourceCert,
+        strict: bool,
+        now: Time,
+        verifier: &V,
+    ) -> Result<Kept, VerificationError>
+        ensures lines { OnOk result (IsVerified
+            (LineUnder (V.verifies verifier.now) now issuer.now self.now) issued_lines) }
+        ensures fault { IfErr result (IsFirstFalseOrMemory
+            (LineUnder (V.verifies verifier.now) now issuer.now self.now) issued_lines) }
+        ensures v4 { IfOk result
+            (λ k. IsIssued issuer.now.v4 self.now.fields.extensions.v4_resources k.sets.v4) }
+        ensures v6 { IfOk result
+            (λ k. IsIssued issuer.now.v6 self.now.fields.extensions.v6_resources k.sets.v6) }
+        ensures as_numbers { IfOk result (λ k. IsIssued
+            issuer.now.as_numbers self.now.fields.extensions.as_resources k.sets.as_numbers) }
+        ensures tal { IfOk result (λ k. rc_value k.tal ≡ issuer.now.tal) }
+    {
+        self.verify_basis(issuer, strict, now, verifier)?;
+        let sets = self.issued_sets(alloc, issuer)?;
+        let tal = issuer.tal().clone()?;
+        Ok(Kept { sets, tal })
+    }
+
+    // A certificate that another one issued, with its sets.
+    fn verify_issued_at<V: Verifier>(
+        self,
+        alloc: Global,
+        issuer: &ResourceCert,
+        strict: bool,
+        now: Time,
+        verifier: &V,
+    ) -> Result<ResourceCert, VerificationError>
+        ensures lines { OnOk result (IsVerified
+            (LineUnder (V.verifies verifier.now) now issuer.now self) issued_lines) }
+        ensures fault { IfErr result (IsFirstFalseOrMemory
+            (LineUnder (V.verifies verifier.now) now issuer.now self) issued_lines) }
+        ensures gives { IfOk result (HasIssued self issuer.now) }
+    {
+        let tested = self.kept_below(alloc, issuer, strict, now, verifier);
+        let (cert, kept) = beside(self, tested)?;
+        Ok(joined(cert, kept))
+    }
+
+    /// The certification authority that the certificate is of, below this issuer: it is valid at this moment, names the issuer's key and where the
+    /// issuer's certificate is, the issuer's key signed it, and it overclaims nothing (RFC 6487 7.2). It has what it lists or inherits of the issuer's
+    /// numbers. Errs with the first of these lines that isn't true.
+    pub fn verify_ca_at<V: Verifier>(
+        self,
+        alloc: Global,
+        issuer: &ResourceCert,
+        strict: bool,
+        now: Time,
+        verifier: &V,
+    ) -> Result<ResourceCert, VerificationError>
+        ensures lines { OnOk result (IsVerified
+            (LineUnder (V.verifies verifier.now) now issuer.now self) issued_lines) }
+        ensures fault { IfErr result (IsFirstFalseOrMemory
+            (LineUnder (V.verifies verifier.now) now issuer.now self) issued_lines) }
+        ensures gives { IfOk result (HasIssued self issuer.now) }
+    {
+        self.verify_issued_at(alloc, issuer, strict, now, verifier)
+    }
+
+    /// The end entity that the certificate is of, below this issuer; the lines are those of a certification authority.
+    pub fn verify_ee_at<V: Verifier>(
+        self,
+        alloc: Global,
+        issuer: &ResourceCert,
+        strict: bool,
+        now: Time,
+        verifier: &V,
+    ) -> Result<ResourceCert, VerificationError>
+        ensures lines { OnOk result (IsVerified
+            (LineUnder (V.verifies verifier.now) now issuer.now self) issued_lines) }
+        ensures fault { IfErr result (IsFirstFalseOrMemory
+            (LineUnder (V.verifies verifier.now) now issuer.now self) issued_lines) }
+        ensures gives { IfOk result (HasIssued self issuer.now) }
+    {
+        self.verify_issued_at(alloc, issuer, strict, now, verifier)
+    }
+
+    // What a trust anchor lists.
+    fn kept_of_anchor<V: Verifier>(
+        &self,
+        alloc: Global,
+        strict: bool,
+        now: Time,
+        verifier: &V,
+    ) -> Result<Sets, VerificationError>
+        ensures lines { OnOk result
+            (IsVerified (AnchorLine (V.verifies verifier.now) now self.now) anchor_lines) }
+        ensures fault { IfErr result (IsFirstFalseOrMemory
+            (AnchorLine (V.verifies verifier.now) now self.now) anchor_lines) }
+        ensures v4 { IfOk result
+            (λ s. ListsNumbers self.now.fields.extensions.v4_resources s.v4) }
+        ensures v6 { IfOk result
+            (λ s. ListsNumbers self.now.fields.extensions.v6_resources s.v6) }
+        ensures as_numbers { IfOk result
+            (λ s. ListsNumbers self.now.fields.extensions.as_resources s.as_numbers) }
+    {
+        self.verify_ta_ref_at(strict, now, verifier)?;
+        Ok(self.listed_sets(alloc)?)
+    }
+
+    /// The trust anchor that the certificate is of, which a locator names: it is valid at this moment, inherits nothing, and its own key signed it
+    /// (RFC 6487 7.2). It has what it lists. Errs with the first of these lines that isn't true.
+    pub fn verify_ta_at<V: Verifier>(
+        self,
+        alloc: Global,
+        tal: Rc<TalInfo>,
+        strict: bool,
+        now: Time,
+        verifier: &V,
+    ) -> Result<ResourceCert, VerificationError>
+        ensures lines { OnOk result
+            (IsVerified (AnchorLine (V.verifies verifier.now) now self) anchor_lines) }
+        ensures fault { IfErr result (IsFirstFalseOrMemory
+            (AnchorLine (V.verifies verifier.now) now self) anchor_lines) }
+        ensures gives { IfOk result (HasListed self (rc_value tal)) }
+    {
+        let tested = self.kept_of_anchor(alloc, strict, now, verifier);
+        let (cert, sets) = beside(self, tested)?;
+        Ok(joined(cert, Kept { sets, tal }))
+    }
+}
