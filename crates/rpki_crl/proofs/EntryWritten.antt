@@ -1,0 +1,63 @@
+-- What is written of entries is short, and is read as these entries.
+use Rattle.std.specs.Int.Digits.{digits_of}
+use Rattle.std.specs.List.{AllByRecursion}
+use Rattle.std.proofs.Common.{◌≡◌, ℕ, ◌^◌, ◌<◌, ◌≤◌, List, [], ◌∷◌, length, ◌++◌, Some, refl, sym, ap, ◌∙◌, append_assoc, arith}
+use Rattle.std.proofs.lemmas.Int.Digits.{length-digits_of-le}
+use Rattle.std.proofs.lemmas.List.{append-nil, length-append}
+use Rattle.rpki_der.specs.Primitives.{unsigned, number}
+use Rattle.rpki_der.specs.Times.{Moment, time}
+use Rattle.rpki_der.specs.Rows.Reading.{row_of}
+use Rattle.rpki_der.proofs.Octets.{some}
+use Rattle.rpki_der.proofs.RoundTrips.{enc_small, moment_made, serial_made, unsigned_small}
+use Rattle.rpki_der.proofs.Rows.{row_again}
+use Rattle.rpki_der.proofs.Walking.{passed}
+use Rattle.rpki_der.proofs.WrittenOctets.{ok_append, ok_number, ok_time}
+use Rattle.rpki_parts.proofs.Lengths.{time_short}
+use Rattle.rpki_crl.specs.RevokedEntries.{Entry, IsEntry, AreEntries, FitsEntry, entry, entry_content, entries}
+use Rattle.rpki_crl.specs.RevokedEntries.Reading.{entry_at, entries_in, entries_pass, or_none}
+use Rattle.rpki_crl.proofs.EntryReads.{entry_reads, entry_shrinks}
+
+pub serial_short : (n : ℕ) → n < 2 ^ 160 → length (number n) ≤ 23
+unfolding number
+serial_short n h =
+    let digits = length-digits_of-le 256 20 n (omega arith) h in
+    let content = unsigned_small (digits_of 256 n) in
+    let whole = enc_small 2 (unsigned (digits_of 256 n)) (omega arith) in
+    omega (arith, whole, content, digits)
+
+pub entry_short : (n : ℕ) (m : Moment) → n < 2 ^ 160 → length (number n ++ time m) ≤ 40
+entry_short n m h = omega (arith, length-append (number n) (time m), serial_short n h, time_short m)
+
+-- an entry
+entry_made : (e : Entry) → FitsEntry e → IsEntry e (entry e)
+entry_made e fits =
+    let short = entry_short e.serial e.date fits.0 in
+    record {
+      content = entry_content e;
+      content_is = record { serial = number e.serial; date = time e.date; serial_is = serial_made e.serial fits.0; date_is = moment_made e.date fits.1; is = refl };
+      enc = record { octet = omega arith; low_tag = omega arith; octets = ok_append (number e.serial) (time e.date) (ok_number e.serial) (ok_time e.date fits.1) (omega arith); short = omega arith; is = refl };
+    }
+
+-- a row of them
+pub row_made : (es : List Entry) → AllByRecursion FitsEntry es → AreEntries es (entries es)
+row_made [] all = refl
+row_made (e ∷ es) all = (entry e, entries es, entry_made e all.0, row_made es all.1, refl)
+
+pub row_is_read : (es : List Entry) → AllByRecursion FitsEntry es → row_of entry_at (entries es) ≡ some es
+row_is_read es all = row_again entry_at IsEntry entry_reads entry_shrinks es (entries es) (row_made es all)
+
+pub row_passes : (es : List Entry) → AllByRecursion FitsEntry es → entries_pass (entries es) ≡ Some tt
+unfolding entries_pass
+row_passes es all = passed entry_at (entries es) ∙ rw (row_is_read es all) refl
+
+pub row_has : (es : List Entry) → AllByRecursion FitsEntry es → entries_in (entries es) ≡ es
+row_has es all = ap or_none (row_is_read es all)
+
+-- one entry more
+pub entries_more : (es : List Entry) (e : Entry) → entries (es ++ e ∷ []) ≡ entries es ++ entry e
+entries_more [] e = append-nil (entry e)
+entries_more (d ∷ es) e = ap (λ (b : List ℕ). entry d ++ b) (entries_more es e) ∙ sym (append_assoc (entry d) (entries es) (entry e))
+
+pub all_more : (es : List Entry) (e : Entry) → AllByRecursion FitsEntry es → FitsEntry e → AllByRecursion FitsEntry (es ++ e ∷ [])
+all_more [] e all one = (one, tt)
+all_more (d ∷ es) e all one = (all.0, all_more es e all.1 one)

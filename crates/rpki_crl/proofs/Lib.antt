@@ -1,0 +1,13 @@
+pub mod EntryReads
+pub mod EntryRows
+pub mod ListReads
+pub mod EntryWritten
+pub mod Halvings
+pub mod ListExtensionsReads
+pub mod CertificateListsReads
+pub mod SerialCaches
+pub mod ListsWritten
+pub mod Loops
+pub mod SignedLists
+pub mod Refusals
+pub mod SpelledLists

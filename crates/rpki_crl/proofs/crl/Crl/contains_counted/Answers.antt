@@ -1,0 +1,18 @@
+use Rattle.std.proofs.Common.{ap, subst, length, arith}
+use Rattle.std.specs.Prelude.{IsTrue, ◌↔◌}
+use Rattle.rpki_crl.specs.Lists.{CrlState}
+use Rattle.rpki_crl.specs.RevokedEntries.{IsRevoked}
+use Rattle.rpki_crl.specs.SerialTables.{digits}
+use Rattle.rpki_crl.proofs.SerialCaches.{found_in_table, few_in_table}
+use Rattle.rpki_crl.proofs.crl.Crl.contains_counted.Goals as goal
+
+pub returns-in-Some-clause-revoked : goal.returns-in-Some-clause-revoked
+returns-in-Some-clause-revoked c =
+    subst (λ (s : CrlState). IsTrue c.contains-found.result.0 ↔ IsRevoked c.args.serial s.list.fields.revoked.entries) c.self.view_is
+    (found_in_table c.self.inside.list.revoked.entries c.self.inside.cache c.in-Some.table c.self.invariant c.in-Some.is c.args.serial c.contains-found.result.0 c.contains-found.ensures.found)
+
+pub returns-in-Some-clause-searched : goal.returns-in-Some-clause-searched
+returns-in-Some-clause-searched c = λ cached.
+    let few = few_in_table c.self.inside.list.revoked.entries c.self.inside.cache c.in-Some.table c.self.invariant c.in-Some.is c.contains-found.result.1 c.contains-found.ensures.few in
+    let same = ap (λ (s : CrlState). digits (length s.list.fields.revoked.entries)) c.self.view_is in
+    omega (arith, few, same, c.get.ensures)

@@ -1,0 +1,6 @@
+pub mod RevokedEntries
+pub mod SerialTables
+pub mod ListExtensions
+pub mod Lists
+pub mod Stores
+pub mod Making

@@ -1,0 +1,34 @@
+-- The extensions of a revocation list: two kinds, each exactly once, whatever their flags, and no other (RFC 6487 5).
+use Rattle.std.specs.Prelude.{◌≡◌, ℕ, ◌++◌, true, List, Some}
+use Rattle.std.specs.List.{AllByRecursion}
+use Rattle.rpki_der.specs.Extensions.{Extension, extension}
+use Rattle.rpki_ext.specs.Kinds.{ExtensionKind, Gives, is_of, flag_of, untested}
+use Rattle.rpki_ext.specs.KeyIdentifiers.{authority_key_identifier, authority_key_identifier_content}
+use Rattle.rpki_ext.specs.CrlNumbers.{crl_number}
+use Rattle.rpki_ext.specs.KindTables.{KindTable, no_kinds, kind, identifiers_of}
+use Rattle.rpki_der.specs.Primitives.{number}
+pub mod Reading
+pub mod Views
+
+pub record ListExtensions : Type 0 where
+  pub authority_key_identifier : List ℕ
+  pub crl_number : ℕ
+
+-- a kind, whatever flag its extensions have (own)
+abbrev pub with_any_flag : {V : Type 0} → ExtensionKind V → ExtensionKind V
+with_any_flag {V} k = record {
+  identifier = k.identifier;
+  flag = untested (flag_of k.flag);
+  spells = k.spells;
+  reads = k.reads;
+  fits = k.fits;
+  written = k.written;
+}
+
+abbrev pub list_kinds : KindTable
+list_kinds = kind (with_any_flag authority_key_identifier) (kind (with_any_flag crl_number) no_kinds)
+
+pub record GiveListExtensions (xs : List Extension) (f : ListExtensions) : Type 0 where
+  pub no_others : AllByRecursion (λ x. is_of (identifiers_of list_kinds) x ≡ true) xs
+  pub authority_key_identifier_is : Gives (with_any_flag authority_key_identifier) xs (Some f.authority_key_identifier)
+  pub crl_number_is : Gives (with_any_flag crl_number) xs (Some f.crl_number)

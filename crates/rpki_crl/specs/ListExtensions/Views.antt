@@ -1,0 +1,24 @@
+-- What contracts see of the extensions of a list that were seen so far.
+use Rattle.std.specs.Prelude.{◌≡◌, ℕ, List, Option, Some, None, bytes_eq, false}
+use Rattle.std.specs.List.{AllByRecursion}
+use Rattle.rpki_ext.specs.KindTables.{identifiers_of}
+use Rattle.rpki_ext.specs.KeyIdentifiers.{authority_key_identifier}
+use Rattle.rpki_ext.specs.CrlNumbers.{crl_number}
+use Rattle.rpki_crl.specs.declared.extensions.Kind.{Kind}
+use Rattle.rpki_crl.specs.declared.extensions.Kind.TheVariants.{AuthorityKeyIdentifier, CrlNumber}
+use Rattle.rpki_crl.specs.declared.extensions.Seen.{Seen}
+use Rattle.rpki_crl.specs.declared.extensions.Extensions.{Extensions}
+use Rattle.rpki_crl.specs.ListExtensions.{ListExtensions, list_kinds}
+use Rattle.rpki_crl.specs.ListExtensions.Reading.{State, listed}
+
+-- the kind that an identifier names, or none
+abbrev pub Names : List ℕ → Option Kind → Type 0
+Names id (Some AuthorityKeyIdentifier) = id ≡ authority_key_identifier.identifier
+Names id (Some CrlNumber) = id ≡ crl_number.identifier
+Names id None = AllByRecursion (λ a. bytes_eq id a ≡ false) (identifiers_of list_kinds)
+
+abbrev pub state_of : Seen → State
+state_of s = (tt, (s.authority_key_identifier, (s.crl_number, tt)))
+
+abbrev pub extensions_view : Extensions → ListExtensions
+extensions_view x = listed x.authority_key_identifier x.crl_number

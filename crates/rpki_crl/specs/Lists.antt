@@ -1,0 +1,116 @@
+-- Certificate revocation lists (RFC 5280 5.1, RFC 6487 5).
+use Rattle.std.specs.Prelude.{◌≡◌, ℕ, ◌^◌, ◌<◌, Bool, false, List, [], ◌∷◌, ◌++◌, length}
+use Rattle.std.specs.List.{concat}
+use Rattle.rpki_der.specs.Extensions.{Extension, IsExtension, extension}
+use Rattle.rpki_der.specs.Primitives.{number}
+use Rattle.rpki_der.specs.Rows.{IsRow}
+use Rattle.rpki_der.specs.Skipping.{levels}
+use Rattle.rpki_der.specs.Tags.{SEQUENCE}
+use Rattle.rpki_der.specs.Times.{Moment, IsTime, IsMoment, time}
+use Rattle.rpki_der.specs.Values.{enc, nested, IsNested, IsSequenceOf}
+use Rattle.rpki_parts.specs.Algorithms.{Algorithm, IsSignatureAlgorithm, algorithm}
+use Rattle.rpki_parts.specs.Names.{IsNameWithin, IsName}
+use Rattle.rpki_parts.specs.SignedDatas.{SignedFields, IsSignedDataContent}
+use Rattle.rpki_ext.specs.CrlNumbers.{crl_number}
+use Rattle.rpki_ext.specs.KeyIdentifiers.{authority_key_identifier, authority_key_identifier_content, IsIdentifier}
+use Rattle.rpki_crl.specs.ListExtensions.{ListExtensions, GiveListExtensions}
+use Rattle.rpki_crl.specs.RevokedEntries.{Revoked, AreEntries, IsRevokedCertificates, revoked}
+pub mod Reading
+pub mod Views
+
+-- what a contract sees of a TbsCertList, with its entries in the form of C
+pub record ListFields (C : Type 0) : Type 0 where
+  pub algorithm : Algorithm
+  pub issuer : List ℕ
+  pub this_update : Moment
+  pub next_update : Moment
+  pub revoked : C
+  pub extensions : ListExtensions
+
+-- the INTEGER 1
+abbrev pub version_2 : List ℕ
+version_2 = 0x02 ∷ 0x01 ∷ 0x01 ∷ []
+
+-- what stands inside the SEQUENCE of a TBSCertList with these fields
+pub record IsTbsCertListContentWithin (depth : ℕ) (f : ListFields Revoked) (content : List ℕ) : Type 0 where
+  pub algorithm : List ℕ
+  pub issuer : List ℕ
+  pub this_update : List ℕ
+  pub next_update : List ℕ
+  pub revoked : List ℕ
+  pub extensions : List ℕ
+  pub algorithm_is : IsSignatureAlgorithm f.algorithm algorithm
+  pub issuer_is : IsNameWithin depth f.issuer issuer
+  pub this_update_is : IsTime f.this_update this_update
+  pub next_update_is : IsTime f.next_update next_update
+  pub revoked_is : IsRevokedCertificates f.revoked revoked
+  pub row : List ℕ
+  pub triples : List Extension
+  pub row_is : IsRow IsExtension triples row
+  pub extensions_is : IsNested (0xA0 ∷ 0x30 ∷ []) row extensions
+  pub gives : GiveListExtensions triples f.extensions
+  pub is : content ≡ concat (version_2 ∷ algorithm ∷ issuer ∷ this_update ∷ next_update ∷ revoked ∷ extensions ∷ [])
+
+abbrev pub IsTbsCertListWithin : ℕ → ListFields Revoked → List ℕ → Type 0
+IsTbsCertListWithin depth = IsSequenceOf (IsTbsCertListContentWithin depth)
+
+-- the fields of a list, and the signed data as they were read or made
+pub record CrlFields : Type 0 where
+  pub fields : ListFields Revoked
+  pub signed_data : SignedFields
+
+-- what stands inside the SEQUENCE of a list; the inner and the outer algorithm are equal (RFC 5280 5.1.1.2)
+pub record IsCertificateListContentWithin (depth : ℕ) (r : CrlFields) (content : List ℕ) : Type 0 where
+  pub signed_is : IsSignedDataContent r.signed_data content
+  pub fields_are : IsTbsCertListWithin depth r.fields r.signed_data.message
+  pub same_algorithm : r.fields.algorithm ≡ r.signed_data.signature.algorithm
+
+abbrev pub IsCertificateListWithin : ℕ → CrlFields → List ℕ → Type 0
+IsCertificateListWithin depth = IsSequenceOf (IsCertificateListContentWithin depth)
+
+-- what a contract sees of a Crl: a list, and whether its serials stand in a table too
+pub record CrlState : Type 0 where
+  pub list : CrlFields
+  pub is_cached : Bool
+
+-- ---- under the bound of depth that readers keep
+
+abbrev pub IsTbsCertListContent : ListFields Revoked → List ℕ → Type 0
+IsTbsCertListContent = IsTbsCertListContentWithin levels
+
+abbrev pub IsTbsCertList : ListFields Revoked → List ℕ → Type 0
+IsTbsCertList = IsTbsCertListWithin levels
+
+abbrev pub IsCertificateListContent : CrlFields → List ℕ → Type 0
+IsCertificateListContent = IsCertificateListContentWithin levels
+
+abbrev pub IsCertificateList : CrlFields → List ℕ → Type 0
+IsCertificateList = IsCertificateListWithin levels
+
+-- ---- what is written (the order of the extensions is own)
+
+-- Authority Key Identifier, then CRL Number, both without flag
+abbrev pub list_row : ListExtensions → List ℕ
+list_row x =
+    extension authority_key_identifier.identifier false (authority_key_identifier_content x.authority_key_identifier)
+    ++ extension crl_number.identifier false (number x.crl_number)
+
+unfoldable pub tagged_list_extensions : ListExtensions → List ℕ
+tagged_list_extensions x = nested (0xA0 ∷ 0x30 ∷ []) (list_row x)
+
+-- what stands inside the SEQUENCE
+abbrev pub list_content : ListFields Revoked → List ℕ
+list_content f = concat (version_2 ∷ algorithm f.algorithm ∷ f.issuer ∷ time f.this_update ∷ time f.next_update ∷ revoked f.revoked.octets ∷ tagged_list_extensions f.extensions ∷ [])
+
+abbrev pub list_spelling : ListFields Revoked → List ℕ
+list_spelling f = enc SEQUENCE (list_content f)
+
+-- the fields have values that can be spelled, and what is spelled isn't too long
+pub record ListFits (f : ListFields Revoked) : Type 0 where
+  pub issuer_is : IsName f.issuer f.issuer
+  pub this_update_is : IsMoment f.this_update
+  pub next_update_is : IsMoment f.next_update
+  pub entries_are : AreEntries f.revoked.entries f.revoked.octets
+  pub identifier_is : IsIdentifier f.extensions.authority_key_identifier
+  pub number_is : f.extensions.crl_number < 2 ^ 160
+  pub short : length (list_content f) < 2 ^ 32

@@ -1,0 +1,245 @@
+//! Revocation lists, read and asked.
+ghost use Rattle.std.specs.Prelude.{◌≡◌, ◌↔◌, ◌^◌, ◌<◌, ◌≤◌, true, false, length, IsTrue, IfOk, IsOk, OnOk, OnErr, IsErrOf, IfSome};
+ghost use Rattle.std.specs.List.{concat};
+ghost use Rattle.rpki_der.specs.Place.{Place, left, Keeps, AnswersOrMemoryBy, AnswersOptionalOrMemoryBy, MeansOrMemoryBy};
+ghost use Rattle.rpki_der.specs.Place.Reading.{TookOrMemoryBy};
+ghost use Rattle.rpki_der.specs.Tags.{SEQUENCE};
+ghost use Rattle.rpki_der.specs.Values.{AreOctets};
+ghost use Rattle.rpki_der.specs.Writers.{value, Writes};
+ghost use Rattle.rpki_parts.specs.SignedDatas.{signed_data, signed_pieces};
+ghost use Rattle.rpki_ext.specs.Kinds.{Means};
+ghost use Rattle.rpki_crl.specs.Lists.{CrlFields, IsCertificateListContent, IsCertificateList};
+ghost use Rattle.rpki_crl.specs.Lists.Reading.{crl_content_at, crl_at};
+ghost use Rattle.rpki_crl.specs.RevokedEntries.{IsRevoked};
+ghost use Rattle.rpki_crl.specs.SerialTables.{digits, looks};
+
+use crate::revoked::RevokedCertificates;
+use crate::table::SerialTable;
+use crate::tbs::TbsCertList;
+use bytes::Bytes;
+use rpki_der::{Cursor, DecodeError, EncodeError, Serial};
+use rpki_parts::SignedData;
+use std::alloc::{AllocError, Global};
+use std::marker::Model;
+
+/// A revocation list: what is signed, as it was read or made, with its signature, and the fields that it has (RFC 5280 5.1, RFC 6487 5).
+/// Its serials may stand in a table too, which answers sooner.
+#[derive(Drop)]
+pub struct Crl {
+    list: TbsCertList<RevokedCertificates>,
+    signed_data: SignedData,
+    cache: Option<SerialTable>,
+}
+
+impl Model for Crl {
+    ghost use Rattle.std.specs.Prelude.{is_some};
+    ghost use Rattle.rpki_crl.specs.Lists.{CrlState};
+    ghost use Rattle.rpki_crl.specs.SerialTables.{IsCacheOf};
+
+    ghost Value = { CrlState };
+
+    ghost view = { λ c. record {
+      list = record { fields = c.list; signed_data = c.signed_data };
+      is_cached = is_some c.cache;
+    } };
+
+    ghost invariant = { λ c. IsCacheOf c.list.revoked.entries c.cache };
+}
+
+impl Crl {
+    /// The list with these fields and this signed data, without a table.
+    pub(crate) fn from_parts(list: TbsCertList<RevokedCertificates>, signed_data: SignedData) -> Crl
+        ensures { result ≡ record {
+          list = record { fields = list; signed_data = signed_data };
+          is_cached = false;
+        } }
+    {
+        Crl {
+            list,
+            signed_data,
+            cache: None,
+        }
+    }
+
+    // What stands in the SEQUENCE, by the reading function.
+    #[tactic(auto, unfolding(crate::specs::Lists::Reading::crl_content_at, crate::specs::Lists::Reading::kept_at))]
+    fn read_content(alloc: Global, content: &mut Cursor<'_>) -> Result<Crl, DecodeError>
+        ensures reads { TookOrMemoryBy (λ c. c.list) crl_content_at content.old result content.new }
+        ensures keeps { Keeps result content.old content.new }
+        ensures uncached { IfOk result (λ c. c.is_cached ≡ false) }
+        ensures octets { AreOctets (left content.old) }
+    {
+        let mut ahead = content.fork();
+        let signed_data = SignedData::from_constructed(alloc, &mut ahead)?;
+        let list = TbsCertList::read(alloc, &mut content.fork())?;
+        if list.signature() != *signed_data.signature().algorithm() {
+            return Err(DecodeError::AlgorithmMismatch);
+        }
+        *content = ahead;
+        Ok(Crl {
+            list,
+            signed_data,
+            cache: None,
+        })
+    }
+
+    // The SEQUENCE, by the reading function.
+    #[tactic(auto, unfolding(crate::specs::Lists::Reading::crl_at))]
+    fn read(alloc: Global, cursor: &mut Cursor<'_>) -> Result<Crl, DecodeError>
+        ensures reads { TookOrMemoryBy (λ c. c.list) crl_at cursor.old result cursor.new }
+        ensures keeps { Keeps result cursor.old cursor.new }
+        ensures uncached { IfOk result (λ c. c.is_cached ≡ false) }
+        ensures octets { AreOctets (left cursor.old) }
+    {
+        let mut ahead = cursor.fork();
+        let mut content = ahead.take_sequence()?;
+        let crl = Crl::read_content(alloc, &mut content)?;
+        if !content.is_empty() {
+            return Err(DecodeError::Trailing);
+        }
+        *cursor = ahead;
+        Ok(crl)
+    }
+
+    /// The list that a front of the octets is; what follows it is left unread. Errs with the name of a fault where no front is one.
+    pub fn decode(alloc: Global, octets: &[u8]) -> Result<Crl, DecodeError>
+        ensures means { let front = Means IsCertificateList in
+            MeansOrMemoryBy (λ c. c.list) front result octets.now }
+        ensures uncached { IfOk result (λ c. c.is_cached ≡ false) }
+    {
+        Crl::decode_shared(alloc, Bytes::copy_from_slice(alloc, octets)?)
+    }
+
+    /// The same of octets that the list then shares, so that none is copied.
+    pub fn decode_shared(alloc: Global, octets: Bytes) -> Result<Crl, DecodeError>
+        ensures means { let front = Means IsCertificateList in
+            MeansOrMemoryBy (λ c. c.list) front result octets }
+        ensures uncached { IfOk result (λ c. c.is_cached ≡ false) }
+    {
+        let mut cursor = Cursor::new(&octets);
+        Crl::take_from(alloc, &mut cursor)
+    }
+
+    /// The list that stands next, one SEQUENCE (RFC 5280 5.1, RFC 6487 5). Errs with the name of a fault where no front of what is left
+    /// is one.
+    pub fn take_from(alloc: Global, cursor: &mut Cursor<'_>) -> Result<Crl, DecodeError>
+        ensures answers { let spells = IsCertificateList in
+            AnswersOrMemoryBy (λ c. c.list) spells cursor.old result cursor.new }
+        ensures keeps { Keeps result cursor.old cursor.new }
+        ensures uncached { IfOk result (λ c. c.is_cached ≡ false) }
+    {
+        Crl::read(alloc, cursor)
+    }
+
+    /// The same where a SEQUENCE stands next, else `None`.
+    pub fn take_opt_from(alloc: Global, cursor: &mut Cursor<'_>) -> Result<Option<Crl>, DecodeError>
+        ensures answers { let spells = IsCertificateList in
+            AnswersOptionalOrMemoryBy (λ c. c.list) SEQUENCE spells cursor.old result cursor.new }
+        ensures keeps { Keeps result cursor.old cursor.new }
+        ensures uncached { IfOk result (λ o. IfSome o (λ c. c.is_cached ≡ false)) }
+    {
+        match cursor.rest() {
+            [0x30, ..] => Ok(Some(Crl::take_from(alloc, cursor)?)),
+            _ => Ok(None),
+        }
+    }
+
+    /// What stands inside the SEQUENCE of a list, without its identifier and length.
+    pub fn from_constructed(alloc: Global, content: &mut Cursor<'_>) -> Result<Crl, DecodeError>
+        ensures answers { let spells = IsCertificateListContent in
+            AnswersOrMemoryBy (λ c. c.list) spells content.old result content.new }
+        ensures keeps { Keeps result content.old content.new }
+        ensures uncached { IfOk result (λ c. c.is_cached ≡ false) }
+    {
+        Crl::read_content(alloc, content)
+    }
+
+    /// The fields of what is signed.
+    pub fn as_cert_list(&self) -> &TbsCertList<RevokedCertificates>
+        ensures { result.now ≡ self.now.list.fields }
+    {
+        &self.list
+    }
+
+    /// What is signed, as it was read or made, and its signature.
+    pub fn signed_data(&self) -> &SignedData
+        ensures { result.now ≡ self.now.list.signed_data }
+    {
+        &self.signed_data
+    }
+
+    /// Sorts the serials into a table, from which later questions are answered. After want of memory the list is as it was.
+    pub fn cache_serials(&mut self, alloc: Global) -> Result<(), AllocError>
+        ensures list { self.new.list ≡ self.old.list }
+        ensures cached { OnOk result (self.new.is_cached ≡ true) }
+        ensures err { OnErr result (self.new ≡ self.old) }
+    {
+        let table = SerialTable::of(alloc, self.list.revoked_certs())?;
+        self.cache = Some(table);
+        Ok(())
+    }
+
+    /// Whether the list revokes this serial number. Takes no memory.
+    pub fn contains(&self, serial: Serial) -> bool
+        ensures { IsTrue result ↔ IsRevoked serial self.now.list.fields.revoked.entries }
+    {
+        self.contains_counted(serial).0
+    }
+
+    /// The same, and how many serials were looked at to tell: without a table those of the entries up to the first that has the
+    /// serial, or of all; with one at most as many as the number of entries has binary digits. Takes no memory.
+    pub fn contains_counted(&self, serial: Serial) -> (bool, usize)
+        ensures revoked { IsTrue result.0 ↔ IsRevoked serial self.now.list.fields.revoked.entries }
+        ensures walked { self.now.is_cached ≡ false
+            → result.1 ≡ looks serial self.now.list.fields.revoked.entries }
+        ensures searched { self.now.is_cached ≡ true
+            → result.1 ≤ digits (length self.now.list.fields.revoked.entries) }
+    {
+        match &self.cache {
+            Some(table) => {
+                let (found, count) = table.contains(serial);
+                (found, count.get())
+            }
+            None => self.list.revoked_certs().contains_counted(serial),
+        }
+    }
+
+    /// Appends the list: the SEQUENCE of what is signed, as it was read or made, the algorithm and the signature. Of a list that was
+    /// read these are its own octets. Answers `TooLong` where the content would have 2^32 octets or more.
+    pub fn encode_ref(&self, alloc: Global, out: &mut Vec<u8>) -> Result<(), EncodeError>
+        ensures { let pieces = signed_pieces self.now.list.signed_data in
+            Writes (value SEQUENCE (concat pieces)) out.old.items result out.new.items }
+    {
+        self.signed_data.encode_ref(alloc, out)
+    }
+
+    /// The same octets, on their own.
+    pub fn to_captured(&self, alloc: Global) -> Result<Bytes, EncodeError>
+        ensures ok { IfOk result (λ octets. octets ≡ signed_data self.now.list.signed_data) }
+        ensures too_long { IsErrOf result EncodeError.TooLong
+            → 2 ^ 32 ≤ length (concat (signed_pieces self.now.list.signed_data)) }
+        ensures fits { IsOk result
+            → length (concat (signed_pieces self.now.list.signed_data)) < 2 ^ 32 }
+    {
+        let mut octets = Vec::new(alloc);
+        self.encode_ref(alloc, &mut octets)?;
+        Ok(Bytes::from_vec(octets).map_err(AllocError::from)?)
+    }
+
+    /// The same list once more, with a table where this one has one.
+    pub fn try_clone(&self, alloc: Global) -> Result<Crl, AllocError>
+        ensures { IfOk result (λ c. c ≡ self.now) }
+    {
+        let signed_data = self.signed_data.try_clone(alloc)?;
+        let list = self.list.try_clone(alloc)?;
+        let cache = match &self.cache {
+            Some(table) => Some(table.try_clone(alloc)?),
+            None => None,
+        };
+        Ok(Crl {
+            list,
+            signed_data,
+            cache,
+        })
+    }
+}

@@ -1,0 +1,108 @@
+//! An entry of a certificate revocation list.
+ghost use Rattle.std.specs.Prelude.{◌≡◌, ◌<◌, ◌^◌, ◌++◌, ℕ, OnOk, OnErr, IfErr, option_map};
+ghost use Rattle.rpki_der.specs.Place.{Place, left, Keeps, AnswersBy, AnswersOptionalBy};
+ghost use Rattle.rpki_der.specs.Place.Reading.{TookBy};
+ghost use Rattle.rpki_der.specs.Values.{AreOctets};
+ghost use Rattle.rpki_der.specs.Tags.{SEQUENCE};
+ghost use Rattle.rpki_der.specs.declared.error.EncodeError.TheVariants.{Memory};
+ghost use Rattle.rpki_crl.specs.RevokedEntries.{IsEntry, IsEntryContent, entry, FitsEntry};
+ghost use Rattle.rpki_crl.specs.RevokedEntries.Reading.{entry_at, entry_content_at};
+ghost use Rattle.rpki_crl.specs.RevokedEntries.Views.{entry_of};
+
+use rpki_der::{Cursor, DecodeError, EncodeError, Serial, Time, put_value};
+use std::alloc::Global;
+
+/// A revoked certificate: its serial number, and the moment of its revocation (RFC 5280 5.1.2.6).
+#[derive(Clone, Copy)]
+pub struct CrlEntry {
+    /// The serial number of the certificate.
+    pub user_certificate: Serial,
+    /// The moment from which it is revoked.
+    pub revocation_date: Time,
+}
+
+impl CrlEntry {
+    /// The entry with this serial number and moment.
+    pub fn new(user_certificate: Serial, revocation_date: Time) -> CrlEntry
+        ensures serial { result.user_certificate ≡ user_certificate }
+        ensures date { result.revocation_date ≡ revocation_date }
+    {
+        CrlEntry {
+            user_certificate,
+            revocation_date,
+        }
+    }
+
+    // What stands in the SEQUENCE, by the reading function.
+    #[tactic(auto, unfolding(crate::specs::RevokedEntries::Reading::entry_content_at))]
+    fn take_content(content: &mut Cursor<'_>) -> Result<CrlEntry, DecodeError>
+        ensures reads { TookBy entry_of entry_content_at content.old result content.new }
+        ensures keeps { Keeps result content.old content.new }
+        ensures octets { AreOctets (left content.old) }
+    {
+        let mut ahead = content.fork();
+        let user_certificate = Serial::take_from(&mut ahead)?;
+        let revocation_date = Time::take_from(&mut ahead)?;
+        *content = ahead;
+        Ok(CrlEntry {
+            user_certificate,
+            revocation_date,
+        })
+    }
+
+    // The entry that stands next, by the reading function.
+    #[tactic(auto, unfolding(crate::specs::RevokedEntries::Reading::entry_at))]
+    fn take_entry(cursor: &mut Cursor<'_>) -> Result<CrlEntry, DecodeError>
+        ensures reads { TookBy entry_of entry_at cursor.old result cursor.new }
+        ensures keeps { Keeps result cursor.old cursor.new }
+        ensures octets { AreOctets (left cursor.old) }
+    {
+        let mut ahead = cursor.fork();
+        let mut content = ahead.take_sequence()?;
+        let entry = CrlEntry::take_content(&mut content)?;
+        content.finish()?;
+        *cursor = ahead;
+        Ok(entry)
+    }
+
+    /// The SEQUENCE of a serial number and a time that must stand next (RFC 5280 5.1).
+    pub fn take_from(cursor: &mut Cursor<'_>) -> Result<CrlEntry, DecodeError>
+        ensures answers { AnswersBy entry_of IsEntry cursor.old result cursor.new }
+        ensures reads { TookBy entry_of entry_at cursor.old result cursor.new }
+        ensures keeps { Keeps result cursor.old cursor.new }
+    {
+        CrlEntry::take_entry(cursor)
+    }
+
+    /// The same where a SEQUENCE stands next, else `None`.
+    pub fn take_opt_from(cursor: &mut Cursor<'_>) -> Result<Option<CrlEntry>, DecodeError>
+        ensures answers { AnswersOptionalBy entry_of SEQUENCE IsEntry cursor.old result cursor.new }
+        ensures keeps { Keeps result cursor.old cursor.new }
+    {
+        match cursor.rest() {
+            [0x30, ..] => Ok(Some(CrlEntry::take_from(cursor)?)),
+            _ => Ok(None),
+        }
+    }
+
+    /// What stands inside the SEQUENCE of an entry, without its identifier and length.
+    pub fn from_constructed(content: &mut Cursor<'_>) -> Result<CrlEntry, DecodeError>
+        ensures answers { AnswersBy entry_of IsEntryContent content.old result content.new }
+        ensures keeps { Keeps result content.old content.new }
+    {
+        CrlEntry::take_content(content)
+    }
+
+    /// Appends the entry: the SEQUENCE of its serial number and its time (RFC 5280 5.1). The only error is `Memory`.
+    pub fn encode(self, alloc: Global, out: &mut Vec<u8>) -> Result<(), EncodeError>
+        ensures ok { OnOk result (out.new.items ≡ out.old.items ++ entry (entry_of self)) }
+        ensures err { OnErr result (out.new.items ≡ out.old.items) }
+        ensures memory { IfErr result (λ e. e ≡ Memory) }
+        ensures fits { FitsEntry (entry_of self) }
+    {
+        let mut content = Vec::new(alloc);
+        self.user_certificate.encode(alloc, &mut content)?;
+        self.revocation_date.encode_varied(alloc, &mut content)?;
+        put_value(out, 0x30, &content)
+    }
+}

@@ -1,0 +1,155 @@
+//! The extensions of a revocation list, in one pass, whatever order they stand in.
+ghost use Rattle.std.specs.Prelude.{◌≡◌, codes, string_bytes, IfOk, IfErr};
+ghost use Rattle.rpki_der.specs.Place.{Place, left, Refuses};
+ghost use Rattle.rpki_der.specs.Place.Reading.{Returns, ReturnsBy, ReturnsOrMemoryBy};
+ghost use Rattle.rpki_der.specs.Extensions.Reading.{extension_at};
+ghost use Rattle.rpki_der.specs.Folding.{over};
+ghost use Rattle.rpki_crl.specs.ListExtensions.Reading.{all_kinds, completed, list_extensions_of};
+ghost use Rattle.rpki_crl.specs.ListExtensions.Views.{Names, state_of, extensions_view};
+
+use crate::invalid_extension::InvalidExtension;
+use bytes::Bytes;
+use rpki_der::{Cursor, DecodeError, Field, Oid, Serial, oid};
+use rpki_ext::{take_authority_key_identifier, take_extension};
+use rpki_parts::KeyIdentifier;
+use std::alloc::Global;
+
+/// The kinds of extensions that revocation lists know (RFC 6487 5).
+#[derive(Clone, Copy)]
+enum Kind {
+    AuthorityKeyIdentifier,
+    CrlNumber,
+}
+
+// The kind that an identifier names; `None` where it isn't known.
+fn kind_of(identifier: &[u8]) -> Option<Kind>
+    ensures { Names identifier.now result }
+{
+    if identifier == oid::CE_AUTHORITY_KEY_IDENTIFIER {
+        Some(Kind::AuthorityKeyIdentifier)
+    } else if identifier == oid::CE_CRL_NUMBER {
+        Some(Kind::CrlNumber)
+    } else {
+        None
+    }
+}
+
+/// What the extensions of a revocation list give.
+#[derive(Clone, Copy)]
+pub(crate) struct Extensions {
+    pub(crate) authority_key_identifier: KeyIdentifier,
+    pub(crate) crl_number: Serial,
+}
+
+// An extension of no known kind is refused, critical or not.
+fn refuse(alloc: Global, identifier: &[u8]) -> DecodeError {
+    let octets = match Bytes::copy_from_slice(alloc, identifier) {
+        Ok(octets) => octets,
+        Err(error) => return DecodeError::from(error),
+    };
+    match Oid::new(octets) {
+        Ok(identifier) => DecodeError::from(InvalidExtension::new(identifier)),
+        Err(error) => error,
+    }
+}
+
+/// What the extensions that were seen so far gave.
+#[derive(Clone, Copy)]
+struct Seen {
+    authority_key_identifier: Option<KeyIdentifier>,
+    crl_number: Option<Serial>,
+}
+
+impl Seen {
+    fn nothing() -> Seen
+        ensures { state_of result ≡ all_kinds.start }
+    {
+        Seen {
+            authority_key_identifier: None,
+            crl_number: None,
+        }
+    }
+
+    // One extension more.
+    fn put(
+        &mut self,
+        alloc: Global,
+        identifier: &[u8],
+        critical: bool,
+        content: &mut Cursor<'_>,
+    ) -> Result<(), DecodeError>
+        ensures { ReturnsOrMemoryBy (λ _. state_of self.new) result
+            (all_kinds.step (state_of self.old) (record {
+              identifier = identifier.now;
+              critical = critical;
+              content = left content.old;
+            })) }
+    {
+        let Some(kind) = kind_of(identifier) else {
+            return Err(refuse(alloc, identifier));
+        };
+        match kind {
+            Kind::AuthorityKeyIdentifier => {
+                if self.authority_key_identifier.is_some() {
+                    return Err(DecodeError::Duplicate(Field::AuthorityKeyIdentifier));
+                }
+                self.authority_key_identifier = Some(take_authority_key_identifier(content)?);
+                Ok(())
+            }
+            Kind::CrlNumber => {
+                if self.crl_number.is_some() {
+                    return Err(DecodeError::Duplicate(Field::CrlNumber));
+                }
+                self.crl_number = Some(Serial::take_from(content)?);
+                Ok(())
+            }
+        }
+    }
+
+    // A row of extensions, one after the other.
+    fn from_row(alloc: Global, row: &Cursor<'_>) -> Result<Seen, DecodeError>
+        ensures { ReturnsOrMemoryBy state_of result
+            (over extension_at all_kinds.step all_kinds.start (left row.now)) }
+    {
+        let mut rest = row.fork();
+        let mut seen = Seen::nothing();
+        while !rest.is_empty() {
+            let (identifier, critical, mut content) = match take_extension(&mut rest) {
+                Ok(extension) => extension,
+                Err(error) => return Err(error),
+            };
+            match seen.put(alloc, identifier, critical, &mut content) {
+                Ok(()) => {}
+                Err(error) => return Err(error),
+            }
+        }
+        Ok(seen)
+    }
+}
+
+impl Extensions {
+    // What was seen, if both kinds were.
+    fn complete(seen: Seen) -> Result<Extensions, DecodeError>
+        ensures { ReturnsBy extensions_view result (completed (state_of seen)) }
+    {
+        let Some(authority_key_identifier) = seen.authority_key_identifier else {
+            return Err(DecodeError::Missing(Field::AuthorityKeyIdentifier));
+        };
+        let Some(crl_number) = seen.crl_number else {
+            return Err(DecodeError::Missing(Field::CrlNumber));
+        };
+        Ok(Extensions {
+            authority_key_identifier,
+            crl_number,
+        })
+    }
+
+    /// What a row of extensions gives (RFC 6487 5).
+    #[tactic(auto, unfolding(crate::specs::ListExtensions::Reading::list_extensions_of))]
+    pub(crate) fn from_row(alloc: Global, row: &Cursor<'_>) -> Result<Extensions, DecodeError>
+        ensures reads { ReturnsOrMemoryBy extensions_view result
+            (list_extensions_of (left row.now)) }
+    {
+        Extensions::complete(Seen::from_row(alloc, row)?)
+    }
+}

@@ -1,0 +1,71 @@
+//! An extension that a revocation list may not have.
+ghost use Rattle.std.specs.Prelude.{◌≡◌, IfOk, codes};
+
+use rpki_der::{DecodeError, Oid};
+use std::alloc::{AllocError, Global};
+use std::fmt;
+use std::fmt::{Display, Formatter, Write};
+use std::marker::Model;
+
+/// A revocation list has an extension that none may have (RFC 6487 5).
+#[derive(Drop)]
+pub struct InvalidExtension {
+    oid: Oid,
+}
+
+impl Model for InvalidExtension {
+    ghost use Rattle.std.specs.Prelude.{ℕ, List};
+
+    ghost Value = { List ℕ };
+
+    ghost view = { λ e. e.oid };
+}
+
+impl InvalidExtension {
+    /// An extension under this identifier.
+    pub fn new(oid: Oid) -> InvalidExtension
+        ensures { result ≡ oid }
+    {
+        InvalidExtension { oid }
+    }
+
+    /// The identifier of the extension.
+    pub fn oid(&self) -> &Oid
+        ensures { result.now ≡ self.now }
+    {
+        &self.oid
+    }
+
+    /// The type's name.
+    pub fn name(&self) -> &'static str
+        ensures { result.now ≡ codes "InvalidExtension" }
+    {
+        "InvalidExtension"
+    }
+
+    /// The same once more.
+    pub fn try_clone(&self, alloc: Global) -> Result<InvalidExtension, AllocError>
+        ensures { IfOk result (λ e. e ≡ self.now) }
+    {
+        let oid = self.oid.try_clone(alloc)?;
+        Ok(InvalidExtension { oid })
+    }
+}
+
+impl From<InvalidExtension> for DecodeError {
+    ghost use Rattle.std.specs.Prelude.{◌≡◌};
+    ghost use Rattle.rpki_der.specs.declared.error.DecodeError.TheVariants.{InvalidExtension as Refusal};
+
+    ghost from_gives = { λ x e. e ≡ Refusal x };
+
+    fn from(error: InvalidExtension) -> DecodeError {
+        DecodeError::InvalidExtension(error.oid)
+    }
+}
+
+impl Display for InvalidExtension {
+    fn fmt<W: Write>(&self, f: &mut Formatter<W>) -> fmt::Result {
+        let oid = &self.oid;
+        write!(f, "invalid extension {oid}")
+    }
+}

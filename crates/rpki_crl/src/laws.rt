@@ -1,0 +1,32 @@
+//! Laws about the definitions. Each is the contract of a function with no parameters and an empty body.
+ghost use Rattle.std.specs.Prelude.{◌≡◌, ℕ, List};
+ghost use Rattle.std.specs.List.{AllByRecursion};
+ghost use Rattle.rpki_der.specs.Values.{IsUnambiguous};
+ghost use Rattle.rpki_parts.specs.SignedDatas.{signed_data};
+ghost use Rattle.rpki_crl.specs.Lists.{CrlFields, ListFields, ListFits, IsTbsCertList, IsCertificateList, list_spelling};
+ghost use Rattle.rpki_crl.specs.RevokedEntries.{Entry, Revoked, AreEntries, FitsEntry, entries};
+
+/// A string begins with at most one revocation list, with its fields and entries, and no list's octets are a proper beginning of
+/// another's. The same holds of what is signed in it.
+pub fn unambiguous()
+    ensures list { IsUnambiguous IsCertificateList }
+    ensures data { IsUnambiguous IsTbsCertList }
+{}
+
+/// A row of octets is at most one list of entries.
+pub fn one_row()
+    ensures { (ds es : List Entry) (b : List ℕ) → AreEntries ds b → AreEntries es b → ds ≡ es }
+{}
+
+/// A list's octets are the SEQUENCE of what is signed, its algorithm and its signature as they are kept. So what is written of a list that
+/// was read are the octets that were read.
+pub fn octets_are_kept()
+    ensures { (r : CrlFields) (b : List ℕ) → IsCertificateList r b → b ≡ signed_data r.signed_data }
+{}
+
+/// What is written of fields is a TBSCertList of these fields, through every form of length, where the fields have a spelling. What is made
+/// of entries is read as these entries, where their serial numbers have at most 20 octets and their moments exist.
+pub fn written_is_read()
+    ensures list { (f : ListFields Revoked) → ListFits f → IsTbsCertList f (list_spelling f) }
+    ensures row { (es : List Entry) → AllByRecursion FitsEntry es → AreEntries es (entries es) }
+{}

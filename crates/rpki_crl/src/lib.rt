@@ -1,0 +1,23 @@
+//! Revocation lists (RFC 5280 5, RFC 6487 5).
+#![tactic(auto)]
+
+mod crl;
+mod entry;
+mod extensions;
+mod fields;
+mod invalid_extension;
+pub mod laws;
+mod making;
+mod revoked;
+mod store;
+mod table;
+mod tbs;
+mod verify;
+mod writing;
+
+pub use crl::Crl;
+pub use entry::CrlEntry;
+pub use invalid_extension::InvalidExtension;
+pub use revoked::{RevokedCertificates, RevokedCertificatesIter};
+pub use store::CrlStore;
+pub use tbs::TbsCertList;

@@ -1,0 +1,225 @@
+//! The list of entries of a certificate revocation list.
+ghost use Rattle.std.specs.Prelude.{◌≡◌, ◌↔◌, IsTrue, IfOk, IfErr, map};
+ghost use Rattle.rpki_der.specs.declared.error.EncodeError.TheVariants.{Memory};
+ghost use Rattle.rpki_der.specs.Place.{Place, left, Keeps, AnswersOrAbsentOrMemory};
+ghost use Rattle.rpki_der.specs.Place.Reading.{Returns, ReturnsOrMemory, TookOrMemory};
+ghost use Rattle.rpki_der.specs.Tags.{SEQUENCE};
+ghost use Rattle.rpki_der.specs.Values.{AreOctets};
+ghost use Rattle.rpki_der.specs.Writers.{Writes};
+ghost use Rattle.rpki_crl.specs.RevokedEntries.{AreEntries, IsRevoked, IsRevokedCertificates, entries, revoked_part};
+ghost use Rattle.rpki_crl.specs.RevokedEntries.Reading.{entries_pass, no_entries, revoked_of, revoked_at};
+ghost use Rattle.rpki_crl.specs.RevokedEntries.Views.{entry_of};
+ghost use Rattle.rpki_crl.specs.SerialTables.{looks};
+
+use crate::entry::CrlEntry;
+use bytes::Bytes;
+use rpki_der::{Cursor, DecodeError, EncodeError, Piece, Serial, put_value};
+use std::alloc::{AllocError, Global};
+use std::marker::Model;
+
+/// The revoked certificates of a list, kept as the octets that spell them: always a row of entries.
+#[derive(Drop)]
+pub struct RevokedCertificates {
+    octets: Piece,
+}
+
+impl Model for RevokedCertificates {
+    ghost use Rattle.std.specs.Prelude.{◌≡◌, Some};
+    ghost use Rattle.rpki_crl.specs.RevokedEntries.{Revoked};
+    ghost use Rattle.rpki_crl.specs.RevokedEntries.Reading.{entries_in, entries_pass};
+
+    ghost Value = { Revoked };
+
+    ghost view = { λ r. record { entries = entries_in r.octets; octets = r.octets } };
+
+    ghost invariant = { λ r. entries_pass r.octets ≡ Some tt };
+}
+
+/// The entries of a list, in their order.
+#[derive(Drop)]
+pub struct RevokedCertificatesIter<'a> {
+    rest: Cursor<'a>,
+}
+
+impl<'a> Model for RevokedCertificatesIter<'a> {
+    ghost use Rattle.std.specs.Prelude.{◌≡◌, List, Some};
+    ghost use Rattle.rpki_der.specs.Place.{left};
+    ghost use Rattle.rpki_crl.specs.RevokedEntries.{Entry};
+    ghost use Rattle.rpki_crl.specs.RevokedEntries.Reading.{entries_in, entries_pass};
+
+    ghost Value = { List Entry };
+
+    ghost view = { λ i. entries_in (left i.rest) };
+
+    ghost invariant = { λ i. entries_pass (left i.rest) ≡ Some tt };
+}
+
+impl<'a> Iterator for RevokedCertificatesIter<'a> {
+    ghost use Rattle.std.specs.Iterator.{YieldsFirstBy, item_count};
+    ghost use Rattle.rpki_crl.specs.RevokedEntries.Views.{entry_of};
+
+    type Item = CrlEntry;
+
+    ghost next_gives = { YieldsFirstBy entry_of (λ entries. entries) };
+
+    ghost remaining = { item_count (λ entries. entries) };
+
+    fn next(&mut self) -> Option<CrlEntry> {
+        if self.rest.is_empty() {
+            return None;
+        }
+        let Ok(entry) = CrlEntry::take_from(&mut self.rest) else {
+            unreachable!()
+        };
+        Some(entry)
+    }
+}
+
+// Whether what is left is a row of entries.
+fn check(cursor: &Cursor<'_>) -> Result<(), DecodeError>
+    ensures { Returns result (entries_pass (left cursor.now)) }
+{
+    let mut rest = cursor.fork();
+    while !rest.is_empty() {
+        let _entry = CrlEntry::take_from(&mut rest)?;
+    }
+    Ok(())
+}
+
+// The content of the SEQUENCE, if it is a row of entries.
+#[tactic(auto, unfolding(crate::specs::RevokedEntries::Reading::revoked_of))]
+fn kept(alloc: Global, content: &mut Cursor<'_>) -> Result<RevokedCertificates, DecodeError>
+    ensures { ReturnsOrMemory result (revoked_of (left content.old)) }
+{
+    check(content)?;
+    let octets = content.capture_rest(alloc)?;
+    Ok(RevokedCertificates { octets })
+}
+
+impl RevokedCertificates {
+    // No entries, in a vector without octets.
+    fn none() -> RevokedCertificates
+        ensures { result ≡ no_entries }
+    {
+        RevokedCertificates {
+            octets: Piece::from(Bytes::new()),
+        }
+    }
+
+    /// No entries.
+    pub fn empty(_alloc: Global) -> RevokedCertificates
+        ensures { result ≡ no_entries }
+    {
+        RevokedCertificates::none()
+    }
+
+    /// The entries of a slice, in their order. The only error is `Memory`.
+    pub(crate) fn from_entries(
+        alloc: Global,
+        row: &[CrlEntry],
+    ) -> Result<RevokedCertificates, EncodeError>
+        ensures entries { IfOk result (λ r. r.entries ≡ map entry_of row.now) }
+        ensures octets { IfOk result (λ r. r.octets ≡ entries (map entry_of row.now)) }
+        ensures memory { IfErr result (λ e. e ≡ Memory) }
+    {
+        let mut octets = Vec::new(alloc);
+        for entry in row {
+            entry.encode(alloc, &mut octets)?;
+        }
+        let octets = Bytes::from_vec(octets).map_err(AllocError::from)?;
+        Ok(RevokedCertificates {
+            octets: Piece::from(octets),
+        })
+    }
+
+    // The list that stands next, by the reading function.
+    #[tactic(auto, unfolding(crate::specs::RevokedEntries::Reading::revoked_at))]
+    pub(crate) fn read(
+        alloc: Global,
+        cursor: &mut Cursor<'_>,
+    ) -> Result<RevokedCertificates, DecodeError>
+        ensures reads { TookOrMemory revoked_at cursor.old result cursor.new }
+        ensures keeps { Keeps result cursor.old cursor.new }
+        ensures octets { AreOctets (left cursor.old) }
+    {
+        let mut ahead = cursor.fork();
+        let list = match ahead.take_opt_sequence()? {
+            Some(mut content) => kept(alloc, &mut content)?,
+            None => RevokedCertificates::none(),
+        };
+        *cursor = ahead;
+        Ok(list)
+    }
+
+    /// The SEQUENCE of entries that stands next (RFC 5280 5.1), or none where no SEQUENCE does.
+    pub fn take_from(
+        alloc: Global,
+        cursor: &mut Cursor<'_>,
+    ) -> Result<RevokedCertificates, DecodeError>
+        ensures answers { let spells = IsRevokedCertificates in
+            AnswersOrAbsentOrMemory SEQUENCE spells cursor.old result cursor.new }
+        ensures keeps { Keeps result cursor.old cursor.new }
+    {
+        RevokedCertificates::read(alloc, cursor)
+    }
+
+    /// The entries, in their order. Takes no memory.
+    pub fn iter(&self) -> RevokedCertificatesIter<'_>
+        ensures all { result ≡ self.now.entries }
+        ensures entries { AreEntries self.now.entries self.now.octets }
+    {
+        RevokedCertificatesIter {
+            rest: self.octets.cursor(),
+        }
+    }
+
+    /// Whether some entry has this serial number. Takes no memory.
+    pub fn contains(&self, serial: Serial) -> bool
+        ensures entries { AreEntries self.now.entries self.now.octets }
+        ensures revoked { IsTrue result ↔ IsRevoked serial self.now.entries }
+    {
+        self.contains_counted(serial).0
+    }
+
+    /// The same, and how many entries were looked at to tell.
+    pub(crate) fn contains_counted(&self, serial: Serial) -> (bool, usize)
+        ensures entries { AreEntries self.now.entries self.now.octets }
+        ensures revoked { IsTrue result.0 ↔ IsRevoked serial self.now.entries }
+        ensures looks { result.1 ≡ looks serial self.now.entries }
+    {
+        // For the proof only: there are fewer entries than octets.
+        let _len = self.octets.as_bytes().len();
+        let mut rest = self.octets.cursor();
+        let mut count = 0;
+        while !rest.is_empty() {
+            let Ok(entry) = CrlEntry::take_from(&mut rest) else {
+                unreachable!()
+            };
+            count += 1;
+            if entry.user_certificate == serial {
+                return (true, count);
+            }
+        }
+        (false, count)
+    }
+
+    /// Appends the SEQUENCE of the entries, as they were read or made; nothing where there are none (RFC 5280 5.1.2.6). Answers
+    /// `TooLong` where they have 2^32 octets or more.
+    pub fn encode_ref(&self, _alloc: Global, out: &mut Vec<u8>) -> Result<(), EncodeError>
+        ensures { Writes (revoked_part self.now.octets) out.old.items result out.new.items }
+    {
+        let octets = self.octets.as_bytes();
+        if octets.is_empty() {
+            return Ok(());
+        }
+        put_value(out, 0x30, octets)
+    }
+
+    /// The same entries once more.
+    pub fn try_clone(&self, alloc: Global) -> Result<RevokedCertificates, AllocError>
+        ensures { IfOk result (λ r. r ≡ self.now) }
+    {
+        let octets = self.octets.try_clone(alloc)?;
+        Ok(RevokedCertificates { octets })
+    }
+}

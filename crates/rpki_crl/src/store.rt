@@ -1,0 +1,104 @@
+//! Revocation lists under their URIs.
+ghost use Rattle.std.specs.Prelude.{◌≡◌, ◌++◌, [], ◌∷◌, true, false, IfOk, IfErr, OnOk, OnErr, option_map};
+ghost use Rattle.rpki_crl.specs.Stores.{StoreFields, IsEarliest, as_stored, stored};
+
+use crate::crl::Crl;
+use rpki_parts::Rsync;
+use std::alloc::{AllocError, Global};
+use std::marker::Model;
+
+/// Revocation lists, each under the URI where it was found.
+#[derive(Drop)]
+pub struct CrlStore {
+    alloc: Global,
+    pairs: Vec<(Rsync, Crl)>,
+    caches: bool,
+}
+
+impl Model for CrlStore {
+    ghost use Rattle.rpki_crl.specs.Stores.{StoreFields};
+
+    ghost Value = { StoreFields };
+
+    ghost view = { λ s. record { pairs = s.pairs.items; caches = s.caches } };
+}
+
+// The list, with a table of its serials where they are to be cached; or the list as it was.
+fn with_table(alloc: Global, caches: bool, mut crl: Crl) -> Result<Crl, Crl>
+    ensures stored { IfOk result (λ kept. kept ≡ as_stored caches crl) }
+    ensures same { IfErr result (λ same. same ≡ crl) }
+{
+    if caches && crl.cache_serials(alloc).is_err() {
+        return Err(crl);
+    }
+    Ok(crl)
+}
+
+impl CrlStore {
+    /// A store without lists, which grows by this allocator.
+    pub fn new(alloc: Global) -> CrlStore
+        ensures { result ≡ record { pairs = []; caches = false } }
+    {
+        CrlStore {
+            alloc,
+            pairs: Vec::new(alloc),
+            caches: false,
+        }
+    }
+
+    /// From now on the serials of each list that is pushed are sorted into a table.
+    pub fn enable_serial_caching(&mut self)
+        ensures { self.new ≡ record self.old { caches = true } }
+    {
+        self.caches = true;
+    }
+
+    /// Stores a list under its URI. After want of memory the very pair is handed back, and the store is as it was.
+    pub fn push(&mut self, uri: Rsync, crl: Crl) -> Result<(), (Rsync, Crl)>
+        ensures stored { let pair = stored self.old.caches uri crl in
+            OnOk result (self.new ≡ record self.old { pairs = self.old.pairs ++ pair ∷ [] }) }
+        ensures handed_back { IfErr result (λ pair. pair ≡ (uri, crl)) }
+        ensures err { OnErr result (self.new ≡ self.old) }
+    {
+        if self.pairs.try_reserve(1).is_err() {
+            return Err((uri, crl));
+        }
+        let crl = match with_table(self.alloc, self.caches, crl) {
+            Ok(crl) => crl,
+            Err(crl) => return Err((uri, crl)),
+        };
+        match self.pairs.push((uri, crl)) {
+            Ok(()) => Ok(()),
+            Err(_) => unreachable!(),
+        }
+    }
+
+    /// The list that was pushed first under an equal URI. Takes no memory.
+    pub fn get(&self, uri: &Rsync) -> Option<&Crl>
+        ensures { IsEarliest uri.now self.now.pairs (option_map (λ crl. crl.now) result) }
+    {
+        for (under, crl) in &self.pairs {
+            if *under == *uri {
+                return Some(crl);
+            }
+        }
+        None
+    }
+
+    /// The same store once more.
+    pub fn try_clone(&self, alloc: Global) -> Result<CrlStore, AllocError>
+        ensures { IfOk result (λ s. s ≡ self.now) }
+    {
+        let mut pairs = Vec::new(alloc);
+        for (uri, crl) in &self.pairs {
+            let uri = uri.try_clone(alloc)?;
+            let crl = crl.try_clone(alloc)?;
+            pairs.push((uri, crl))?;
+        }
+        Ok(CrlStore {
+            alloc,
+            pairs,
+            caches: self.caches,
+        })
+    }
+}

@@ -1,0 +1,276 @@
+//! The data of a revocation list: its fields, and how it is read.
+ghost use Rattle.std.specs.Prelude.{◌≡◌, IfOk};
+ghost use Rattle.rpki_der.specs.Place.{Place, left, Keeps, AnswersOrMemory};
+ghost use Rattle.rpki_der.specs.Place.Reading.{Took, TookBy, TookOrMemory, TookOrMemoryBy};
+ghost use Rattle.rpki_der.specs.Reading.{inside, both};
+ghost use Rattle.rpki_der.specs.Values.Reading.{value_at};
+ghost use Rattle.rpki_der.specs.Values.{AreOctets};
+ghost use Rattle.rpki_crl.specs.Lists.{IsTbsCertList};
+ghost use Rattle.rpki_crl.specs.Lists.Reading.{version_at, fields_in_order, fields_at, list_at};
+ghost use Rattle.rpki_crl.specs.Lists.Views.{fields_view};
+
+use crate::extensions::Extensions;
+use crate::revoked::RevokedCertificates;
+use rpki_der::{Cursor, DecodeError, Serial, Time};
+use rpki_parts::{KeyIdentifier, Name, RpkiSignatureAlgorithm};
+use std::alloc::{AllocError, Global};
+use std::marker::Model;
+
+/// The data of a revocation list: all but its signature, with the revoked certificates in the form of `C` (RFC 5280 5.1.2, RFC 6487 5).
+#[derive(Drop)]
+pub struct TbsCertList<C> {
+    pub(crate) signature: RpkiSignatureAlgorithm,
+    pub(crate) issuer: Name,
+    pub(crate) this_update: Time,
+    pub(crate) next_update: Time,
+    pub(crate) revoked_certs: C,
+    pub(crate) extensions: Extensions,
+}
+
+impl<C> Model for TbsCertList<C> {
+    ghost use Rattle.rpki_crl.specs.Lists.{ListFields};
+    ghost use Rattle.rpki_crl.specs.ListExtensions.Views.{extensions_view};
+
+    ghost Value = { ListFields C };
+
+    ghost view = { λ t. record {
+      algorithm = t.signature;
+      issuer = t.issuer;
+      this_update = t.this_update;
+      next_update = t.next_update;
+      revoked = t.revoked_certs;
+      extensions = extensions_view t.extensions;
+    } };
+}
+
+// The version, which is 2.
+#[tactic(auto, unfolding(crate::specs::Lists::Reading::version_at))]
+fn take_version(cursor: &mut Cursor<'_>) -> Result<(), DecodeError>
+    ensures reads { Took version_at cursor.old result cursor.new }
+    ensures keeps { Keeps result cursor.old cursor.new }
+{
+    let mut ahead = cursor.fork();
+    let number = ahead.take_value(0x02)?;
+    if number.rest() != [0x01].as_slice() {
+        return Err(DecodeError::BadValue);
+    }
+    *cursor = ahead;
+    Ok(())
+}
+
+// The fields before the extensions.
+#[derive(Drop)]
+struct Head {
+    signature: RpkiSignatureAlgorithm,
+    issuer: Name,
+    this_update: Time,
+    next_update: Time,
+    revoked_certs: RevokedCertificates,
+}
+
+// The row of extensions, as it stands inside its tags.
+fn take_row<'a>(cursor: &mut Cursor<'a>) -> Result<Cursor<'a>, DecodeError>
+    ensures reads { TookBy left (inside 0xA0 (value_at 0x30)) cursor.old result cursor.new }
+    ensures keeps { Keeps result cursor.old cursor.new }
+{
+    let mut ahead = cursor.fork();
+    let mut tagged = ahead.take_value(0xa0)?;
+    let row = tagged.take_sequence()?;
+    tagged.finish()?;
+    *cursor = ahead;
+    Ok(row)
+}
+
+// These fields, and the row of extensions as it stands.
+#[tactic(auto, unfolding(crate::specs::Lists::Reading::fields_in_order))]
+fn take_in_order<'a>(
+    alloc: Global,
+    cursor: &mut Cursor<'a>,
+) -> Result<(Head, Cursor<'a>), DecodeError>
+    ensures reads { TookOrMemoryBy fields_view fields_in_order cursor.old result cursor.new }
+    ensures keeps { Keeps result cursor.old cursor.new }
+{
+    let mut ahead = cursor.fork();
+    take_version(&mut ahead)?;
+    let signature = RpkiSignatureAlgorithm::x509_take_from(&mut ahead)?;
+    let issuer = Name::take_from(alloc, &mut ahead)?;
+    let this_update = Time::take_from(&mut ahead)?;
+    let next_update = Time::take_from(&mut ahead)?;
+    let revoked_certs = RevokedCertificates::read(alloc, &mut ahead)?;
+    let row = take_row(&mut ahead)?;
+    *cursor = ahead;
+    let head = Head {
+        signature,
+        issuer,
+        this_update,
+        next_update,
+        revoked_certs,
+    };
+    Ok((head, row))
+}
+
+// The same inside the SEQUENCE.
+#[tactic(auto, unfolding(crate::specs::Lists::Reading::fields_at))]
+fn take_fields<'a>(
+    alloc: Global,
+    cursor: &mut Cursor<'a>,
+) -> Result<(Head, Cursor<'a>), DecodeError>
+    ensures reads { TookOrMemoryBy fields_view fields_at cursor.old result cursor.new }
+    ensures keeps { Keeps result cursor.old cursor.new }
+{
+    let mut ahead = cursor.fork();
+    let mut content = ahead.take_sequence()?;
+    let fields = take_in_order(alloc, &mut content)?;
+    if !content.is_empty() {
+        return Err(DecodeError::Trailing);
+    }
+    *cursor = ahead;
+    Ok(fields)
+}
+
+impl TbsCertList<RevokedCertificates> {
+    /// The data, by the reading function.
+    #[tactic(auto, unfolding(crate::specs::Lists::Reading::list_at))]
+    pub(crate) fn read(
+        alloc: Global,
+        cursor: &mut Cursor<'_>,
+    ) -> Result<TbsCertList<RevokedCertificates>, DecodeError>
+        ensures reads { TookOrMemory list_at cursor.old result cursor.new }
+        ensures keeps { Keeps result cursor.old cursor.new }
+        ensures octets { AreOctets (left cursor.old) }
+    {
+        let mut ahead = cursor.fork();
+        let (head, row) = take_fields(alloc, &mut ahead)?;
+        let extensions = Extensions::from_row(alloc, &row)?;
+        *cursor = ahead;
+        let Head {
+            signature,
+            issuer,
+            this_update,
+            next_update,
+            revoked_certs,
+        } = head;
+        Ok(TbsCertList {
+            signature,
+            issuer,
+            this_update,
+            next_update,
+            revoked_certs,
+            extensions,
+        })
+    }
+
+    /// The TBSCertList that stands next, one SEQUENCE (RFC 5280 5.1.2, RFC 6487 5), whatever order its extensions stand in. Errs with the
+    /// name of a fault where no front of what is left is one.
+    pub fn take_from(
+        alloc: Global,
+        cursor: &mut Cursor<'_>,
+    ) -> Result<TbsCertList<RevokedCertificates>, DecodeError>
+        ensures answers { AnswersOrMemory IsTbsCertList cursor.old result cursor.new }
+        ensures keeps { Keeps result cursor.old cursor.new }
+    {
+        TbsCertList::read(alloc, cursor)
+    }
+
+    /// The same data once more.
+    pub fn try_clone(&self, alloc: Global) -> Result<TbsCertList<RevokedCertificates>, AllocError>
+        ensures { IfOk result (λ t. t ≡ self.now) }
+    {
+        let issuer = self.issuer.try_clone(alloc)?;
+        let revoked_certs = self.revoked_certs.try_clone(alloc)?;
+        Ok(TbsCertList {
+            signature: self.signature,
+            issuer,
+            this_update: self.this_update,
+            next_update: self.next_update,
+            revoked_certs,
+            extensions: self.extensions,
+        })
+    }
+}
+
+impl<C> TbsCertList<C> {
+    /// The data with these fields.
+    pub fn new(
+        signature: RpkiSignatureAlgorithm,
+        issuer: Name,
+        this_update: Time,
+        next_update: Time,
+        revoked_certs: C,
+        authority_key_identifier: KeyIdentifier,
+        crl_number: Serial,
+    ) -> TbsCertList<C>
+        ensures { result ≡ record {
+          algorithm = signature;
+          issuer = issuer;
+          this_update = this_update;
+          next_update = next_update;
+          revoked = revoked_certs;
+          extensions = record {
+            authority_key_identifier = authority_key_identifier;
+            crl_number = crl_number;
+          };
+        } }
+    {
+        TbsCertList {
+            signature,
+            issuer,
+            this_update,
+            next_update,
+            revoked_certs,
+            extensions: Extensions {
+                authority_key_identifier,
+                crl_number,
+            },
+        }
+    }
+
+    /// The algorithm that stands inside the signed data (RFC 5280 5.1.2.2).
+    pub fn signature(&self) -> RpkiSignatureAlgorithm
+        ensures { result ≡ self.now.algorithm }
+    {
+        self.signature
+    }
+
+    /// The name of the issuer (RFC 5280 5.1.2.3).
+    pub fn issuer(&self) -> &Name
+        ensures { result.now ≡ self.now.issuer }
+    {
+        &self.issuer
+    }
+
+    /// The moment at which the list was made (RFC 5280 5.1.2.4).
+    pub fn this_update(&self) -> Time
+        ensures { result ≡ self.now.this_update }
+    {
+        self.this_update
+    }
+
+    /// The moment by which the next list is to be made (RFC 5280 5.1.2.5).
+    pub fn next_update(&self) -> Time
+        ensures { result ≡ self.now.next_update }
+    {
+        self.next_update
+    }
+
+    /// The revoked certificates (RFC 5280 5.1.2.6).
+    pub fn revoked_certs(&self) -> &C
+        ensures { result.now ≡ self.now.revoked }
+    {
+        &self.revoked_certs
+    }
+
+    /// The identifier of the issuer's key (RFC 5280 5.2.1).
+    pub fn authority_key_identifier(&self) -> &KeyIdentifier
+        ensures { result.now ≡ self.now.extensions.authority_key_identifier }
+    {
+        &self.extensions.authority_key_identifier
+    }
+
+    /// The number of the list (RFC 5280 5.2.3).
+    pub fn crl_number(&self) -> Serial
+        ensures { result ≡ self.now.extensions.crl_number }
+    {
+        self.extensions.crl_number
+    }
+}

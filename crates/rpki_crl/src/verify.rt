@@ -1,0 +1,45 @@
+//! Revocation lists are verified.
+ghost use Rattle.std.specs.Prelude.{◌≡◌, ◌↔◌, IsOk, IfErr};
+ghost use Rattle.rpki_cert.specs.Verification.{IsSignedBy};
+ghost use Rattle.rpki_cert.specs.declared.verification_error.VerificationError.TheVariants.{WrongKeyId, BadSignature};
+
+use crate::crl::Crl;
+use rpki_cert::{ResourceCert, VerificationError};
+use rpki_parts::{PublicKey, Verifier};
+
+impl Crl {
+    /// Whether the list names the key of this issuer as the one that signs it (RFC 5280 5.2.1). Errs with `WrongKeyId` alone; wants no memory.
+    pub fn verify_issuer_claim(
+        &self,
+        issuer: &ResourceCert,
+        _strict: bool,
+    ) -> Result<(), VerificationError>
+        ensures ok { IsOk result ↔ self.now.list.fields.extensions.authority_key_identifier
+            ≡ issuer.now.cert.fields.extensions.subject_key_identifier }
+        ensures fault { IfErr result (λ e. e ≡ WrongKeyId) }
+    {
+        let named = self.as_cert_list().authority_key_identifier();
+        if *named == issuer.as_cert().as_tbs().subject_key_identifier() {
+            Ok(())
+        } else {
+            Err(VerificationError::WrongKeyId)
+        }
+    }
+
+    /// Whether the key signed the list, as the verifier answers of the octets that are kept (RFC 5280 6.3.3). Errs with `BadSignature` alone; wants no
+    /// memory.
+    pub fn verify_signature<V: Verifier>(
+        &self,
+        key: &PublicKey,
+        verifier: &V,
+    ) -> Result<(), VerificationError>
+        ensures ok { IsOk result
+            ↔ IsSignedBy (V.verifies verifier.now) key.now self.now.list.signed_data }
+        ensures fault { IfErr result (λ e. e ≡ BadSignature) }
+    {
+        match self.signed_data().verify_signature(key, verifier) {
+            Ok(()) => Ok(()),
+            Err(_) => Err(VerificationError::BadSignature),
+        }
+    }
+}

@@ -1,0 +1,74 @@
+//! How the data of a revocation list is written.
+ghost use Rattle.std.specs.Prelude.{◌≡◌, ◌^◌, ◌≤◌, ◌++◌, length, IfOk, OnOk, IsErrOf};
+ghost use Rattle.rpki_der.specs.Tags.{SEQUENCE};
+ghost use Rattle.rpki_der.specs.Writers.{value, Writes};
+ghost use Rattle.rpki_crl.specs.ListExtensions.Views.{extensions_view};
+ghost use Rattle.rpki_crl.specs.Lists.{list_content, list_row, tagged_list_extensions};
+
+use crate::extensions::Extensions;
+use crate::revoked::RevokedCertificates;
+use crate::tbs::TbsCertList;
+use rpki_der::{EncodeError, oid, put_extension, put_value};
+use rpki_ext::encode_authority_key_identifier;
+use std::alloc::Global;
+
+// The INTEGER 1, which is version 2.
+const VERSION_2: [u8; 3] = [0x02, 0x01, 0x01];
+
+impl Extensions {
+    // Appends both extensions, one after the other.
+    fn put_row(&self, alloc: Global, out: &mut Vec<u8>) -> Result<(), EncodeError>
+        ensures ok { OnOk result
+            (out.new.items ≡ out.old.items ++ list_row (extensions_view self.now)) }
+        ensures too_long { IsErrOf result EncodeError.TooLong
+            → 2 ^ 32 ≤ length (list_row (extensions_view self.now)) }
+    {
+        encode_authority_key_identifier(alloc, out, self.authority_key_identifier)?;
+        let mut number = Vec::new(alloc);
+        self.crl_number.encode(alloc, &mut number)?;
+        put_extension(out, oid::CE_CRL_NUMBER, false, &number)
+    }
+
+    // Appends them inside their two tags.
+    #[tactic(auto, unfolding(crate::specs::Lists::tagged_list_extensions))]
+    fn put_tagged(&self, alloc: Global, out: &mut Vec<u8>) -> Result<(), EncodeError>
+        ensures ok { OnOk result
+            (out.new.items ≡ out.old.items ++ tagged_list_extensions (extensions_view self.now)) }
+        ensures too_long { IsErrOf result EncodeError.TooLong
+            → 2 ^ 32 ≤ length (tagged_list_extensions (extensions_view self.now)) }
+    {
+        let mut row = Vec::new(alloc);
+        self.put_row(alloc, &mut row)?;
+        let mut sequence = Vec::new(alloc);
+        put_value(&mut sequence, 0x30, &row)?;
+        put_value(out, 0xA0, &sequence)
+    }
+}
+
+impl TbsCertList<RevokedCertificates> {
+    // What stands inside the SEQUENCE.
+    fn content(&self, alloc: Global) -> Result<Vec<u8>, EncodeError>
+        ensures ok { IfOk result (λ c. c.items ≡ list_content self.now) }
+        ensures too_long { IsErrOf result EncodeError.TooLong
+            → 2 ^ 32 ≤ length (list_content self.now) }
+    {
+        let mut content = Vec::from_slice(alloc, &VERSION_2)?;
+        self.signature.x509_encode(alloc, &mut content)?;
+        self.issuer.encode_ref(alloc, &mut content)?;
+        self.this_update.encode_varied(alloc, &mut content)?;
+        self.next_update.encode_varied(alloc, &mut content)?;
+        self.revoked_certs.encode_ref(alloc, &mut content)?;
+        self.extensions.put_tagged(alloc, &mut content)?;
+        Ok(content)
+    }
+
+    /// Appends the TBSCertList with these fields (RFC 5280 5.1.2, RFC 6487 5): the entries as they are kept, and both extensions in
+    /// one fixed order, without flags. Answers `TooLong` where its content would have 2^32 octets or more.
+    pub fn encode_ref(&self, alloc: Global, out: &mut Vec<u8>) -> Result<(), EncodeError>
+        ensures { Writes (value SEQUENCE (list_content self.now))
+            out.old.items result out.new.items }
+    {
+        let content = self.content(alloc)?;
+        put_value(out, 0x30, &content)
+    }
+}
