@@ -3,7 +3,11 @@ pub mod HexDigits
 pub mod Splits
 pub mod RevokedLines
 pub mod InputLines
-pub mod EntryReads
-pub mod EntryRows
-pub mod ListReads
+pub mod WholeLists
 pub mod Reports
+pub mod FoundSteps
+pub mod LongerPaths
+pub mod GoodPaths
+pub mod Refusals
+pub mod PathSteps
+pub mod MoreNumbers

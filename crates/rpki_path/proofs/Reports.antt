@@ -10,7 +10,7 @@ use Rattle.rpki_path.specs.declared.running.Status.{Status}
 use Rattle.rpki_path.specs.declared.running.Status.TheVariants as status
 use Rattle.rpki_path.specs.declared.report.Report.TheVariants as report
 use Rattle.rpki_path.specs.TextLines.{AreLines}
-use Rattle.rpki_path.specs.RevokedEntries.{IsRevoked, IsRevokedCertificates, Revoked}
+use Rattle.rpki_crl.specs.RevokedEntries.{IsRevoked, IsRevokedCertificates, Revoked}
 use Rattle.rpki_path.specs.Program.{decode_faults, Says, SaysOfList}
 use Rattle.rpki_path.specs.Questions.{Asks}
 use Rattle.rpki_path.specs.Reports.{line_of}

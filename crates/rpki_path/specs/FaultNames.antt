@@ -1,10 +1,31 @@
--- The names of the faults of a run.
+-- The names of faults, and the faults that conversions give.
 use Rattle.std.specs.Prelude.{ℕ, List, codes}
 use Rattle.rpki_path.specs.declared.running.RunFault.{RunFault}
 use Rattle.rpki_path.specs.declared.running.RunFault.TheVariants.{Read, Write, Memory, TooLong}
+use Rattle.rpki_der.specs.declared.error.DecodeError.{DecodeError}
+use Rattle.rpki_der.specs.declared.error.DecodeError.TheVariants as decoding
+use Rattle.rpki_cert.specs.declared.verification_error.VerificationError.{VerificationError}
+use Rattle.rpki_cert.specs.declared.verification_error.VerificationError.TheVariants as verification
+use Rattle.rpki_path.specs.declared.path_fault.PathFault.{PathFault}
+use Rattle.rpki_path.specs.declared.path_fault.PathFault.TheVariants as path
 
 abbrev pub run_fault_name : RunFault → List ℕ
 run_fault_name Read = codes "Read"
 run_fault_name Write = codes "Write"
 run_fault_name Memory = codes "Memory"
 run_fault_name TooLong = codes "TooLong"
+
+abbrev pub path_fault_name : PathFault → List ℕ
+path_fault_name (path.Decode e) = codes "Decode"
+path_fault_name (path.Inspect e) = codes "Inspect"
+path_fault_name (path.Verify e) = codes "Verify"
+path_fault_name path.Memory = codes "Memory"
+
+-- want of memory is one fault, wherever it comes
+abbrev pub of_decoding : DecodeError → PathFault
+of_decoding decoding.Memory = path.Memory
+of_decoding e = path.Decode e
+
+abbrev pub of_verification : VerificationError → PathFault
+of_verification verification.Memory = path.Memory
+of_verification e = path.Verify e

@@ -7,7 +7,7 @@ use Rattle.rpki_path.specs.declared.running.Status.{Status}
 use Rattle.rpki_path.specs.declared.running.Status.TheVariants.{Done, Refused, BadInput}
 use Rattle.rpki_path.specs.HexWords.{IsHexWord}
 use Rattle.rpki_path.specs.TextLines.{line_end, AreLines}
-use Rattle.rpki_path.specs.RevokedEntries.{Revoked, IsRevoked, IsRevokedCertificates}
+use Rattle.rpki_crl.specs.RevokedEntries.{Revoked, IsRevoked, IsRevokedCertificates}
 
 -- ---- the input
 

@@ -1,14 +1,19 @@
 //! Answers about the resource certificates of the RPKI, from octets read to octets written.
 #![tactic(auto)]
 
-mod entry;
+mod exiting;
+pub mod laws;
 mod lines;
-mod list;
+mod path_fault;
 mod report;
 mod running;
 #[cfg(test)]
 mod tests;
+mod validating;
 mod watched;
 
+pub use exiting::program;
+pub use path_fault::{PathError, PathFault};
 pub use running::{MAX_INPUT, RunFault, Status, run};
+pub use validating::{Leaf, validate_path};
 pub use watched::Watched;

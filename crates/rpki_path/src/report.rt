@@ -2,14 +2,14 @@
 ghost use Rattle.std.specs.Prelude.{◌≡◌, ℕ, List, [], ◌∷◌, IfOk, string_bytes, codes, decimal};
 ghost use Rattle.rpki_path.specs.Program.{printed, Says};
 ghost use Rattle.rpki_path.specs.Questions.{IsInput};
-ghost use Rattle.rpki_path.specs.RevokedEntries.{IsRevokedCertificates};
+ghost use Rattle.rpki_crl.specs.RevokedEntries.{IsRevokedCertificates};
 ghost use Rattle.rpki_der.specs.Place.{MeansOrMemory};
 ghost use Rattle.rpki_path.specs.Reports.{status_of, line_of};
 
 use crate::lines::Input;
-use crate::list::RevokedCertificates;
 use crate::running::Status;
 use bytes::Bytes;
+use rpki_crl::RevokedCertificates;
 use rpki_der::{Cursor, DecodeError};
 use std::alloc::{AllocError, Global};
 
@@ -25,18 +25,18 @@ pub(crate) enum Report {
 }
 
 // The list that the octets are, all of them.
-fn read_list(octets: &Bytes) -> Result<RevokedCertificates, DecodeError>
+fn read_list(alloc: Global, octets: &Bytes) -> Result<RevokedCertificates, DecodeError>
     ensures { MeansOrMemory IsRevokedCertificates result octets.now }
 {
     let mut cursor = Cursor::new(octets);
-    let list = RevokedCertificates::take_from(&mut cursor)?;
+    let list = RevokedCertificates::take_from(alloc, &mut cursor)?;
     cursor.finish()?;
     Ok(list)
 }
 
 impl Report {
     /// The answer to an input.
-    pub(crate) fn of(input: &Input) -> Result<Report, AllocError>
+    pub(crate) fn of(alloc: Global, input: &Input) -> Result<Report, AllocError>
         ensures { (text : List ℕ) → IsInput input.now text
             → IfOk result (λ report. Says text (line_of report) (status_of report)) }
     {
@@ -44,7 +44,7 @@ impl Report {
             Input::Asked(question) => question,
             Input::Bad(number) => return Ok(Report::Bad(*number)),
         };
-        match read_list(&question.list) {
+        match read_list(alloc, &question.list) {
             Ok(list) => Ok(Report::Revoked(list.contains(question.serial))),
             Err(error) => match error {
                 DecodeError::Memory => Err(AllocError),

@@ -103,7 +103,7 @@ pub fn run<R: Read, W: Write>(
 {
     let text = read_whole(alloc, reader)?;
     let input = from_text(alloc, &text)?;
-    let report = Report::of(&input)?;
+    let report = Report::of(alloc, &input)?;
     let line = report.line(alloc)?;
     write_whole(writer, line.as_bytes())?;
     Ok(report.status())

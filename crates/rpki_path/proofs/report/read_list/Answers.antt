@@ -1,7 +1,7 @@
 use Rattle.std.proofs.lemmas.Bool.{false≢true}
 use Rattle.std.proofs.lemmas.Result.{err_from_is_err_and}
 use Rattle.rpki_der.specs.Place.{left}
-use Rattle.rpki_path.proofs.ListReads.{list_left, list_refused}
+use Rattle.rpki_path.proofs.WholeLists.{list_left, list_refused}
 use Rattle.rpki_path.proofs.report.read_list.Goals as goal
 
 pub returns-in_err-list : goal.returns-in_err-list

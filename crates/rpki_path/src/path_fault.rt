@@ -1,0 +1,107 @@
+//! Why a path isn't accepted.
+ghost use Rattle.std.specs.Prelude.{◌≡◌};
+
+use rpki_cert::{InspectionError, VerificationError};
+use rpki_der::DecodeError;
+use std::alloc::AllocError;
+use thiserror::Error;
+
+/// What is wrong with one member of a path.
+#[derive(Debug, Drop, Error)]
+pub enum PathFault {
+    /// The string doesn't begin with a certificate.
+    #[error("{0}")]
+    Decode(DecodeError),
+    /// The certificate doesn't meet the profile of its kind.
+    #[error("{0}")]
+    Inspect(InspectionError),
+    /// The certificate isn't valid at the moment, or not issued by the one above it.
+    #[error("{0}")]
+    Verify(VerificationError),
+    /// Memory ran out.
+    #[error("out of memory")]
+    Memory,
+}
+
+impl PathFault {
+    ghost use Rattle.rpki_path.specs.FaultNames.{path_fault_name};
+
+    /// The variant's name.
+    pub fn name(&self) -> &'static str
+        ensures { result.now ≡ path_fault_name self.now }
+    {
+        match self {
+            PathFault::Decode(_) => "Decode",
+            PathFault::Inspect(_) => "Inspect",
+            PathFault::Verify(_) => "Verify",
+            PathFault::Memory => "Memory",
+        }
+    }
+}
+
+impl From<AllocError> for PathFault {
+    ghost use Rattle.rpki_path.specs.declared.path_fault.PathFault.TheVariants.{Memory};
+
+    ghost from_gives = { λ _ e. e ≡ Memory };
+
+    fn from(_error: AllocError) -> PathFault {
+        PathFault::Memory
+    }
+}
+
+impl From<DecodeError> for PathFault {
+    ghost use Rattle.rpki_path.specs.FaultNames.{of_decoding};
+
+    ghost from_gives = { λ d e. e ≡ of_decoding d };
+
+    fn from(error: DecodeError) -> PathFault {
+        match error {
+            DecodeError::Memory => PathFault::Memory,
+            other => PathFault::Decode(other),
+        }
+    }
+}
+
+impl From<InspectionError> for PathFault {
+    ghost use Rattle.rpki_path.specs.declared.path_fault.PathFault.TheVariants.{Inspect};
+
+    ghost from_gives = { λ d e. e ≡ Inspect d };
+
+    fn from(error: InspectionError) -> PathFault {
+        PathFault::Inspect(error)
+    }
+}
+
+impl From<VerificationError> for PathFault {
+    ghost use Rattle.rpki_path.specs.FaultNames.{of_verification};
+
+    ghost from_gives = { λ d e. e ≡ of_verification d };
+
+    fn from(error: VerificationError) -> PathFault {
+        match error {
+            VerificationError::Memory => PathFault::Memory,
+            other => PathFault::Verify(other),
+        }
+    }
+}
+
+/// Which member of a path is wrong, and why.
+#[derive(Debug, Drop, Error)]
+#[error("certificate {index}: {fault}")]
+pub struct PathError {
+    /// The member's place; the anchor is at place 0.
+    pub index: usize,
+    /// What is wrong with it.
+    pub fault: PathFault,
+}
+
+impl PathError {
+    ghost use Rattle.std.specs.Prelude.{codes};
+
+    /// The type's name.
+    pub fn name(&self) -> &'static str
+        ensures { result.now ≡ codes "PathError" }
+    {
+        "PathError"
+    }
+}
