@@ -1,8 +1,11 @@
-//! What the measurements of certificates call: functions on octets, for C. An export's clauses can't name types that code declares,
+//! What the measurements call: functions on octets, for C. An export's clauses can't name types that code declares,
 //! as those of a certificate's fields do, so they say little here: `Cert` and `TbsCert` have the contracts.
 #![tactic(auto)]
 
 ghost use Rattle.std.specs.Prelude.{◌≤◌};
+
+mod judging;
+mod lists;
 
 use rpki_cert::Cert;
 use rpki_der::DecodeError;
@@ -32,7 +35,7 @@ pub extern "C" fn rpki_write(alloc: Global, octets: &[u8], rounds: u32) -> u32
     let mut out = Vec::new(alloc);
     for round in 0..rounds {
         out.clear();
-        if cert.as_tbs().encode_ref(&mut out).is_err() {
+        if cert.as_tbs().encode_ref(alloc, &mut out).is_err() {
             return round;
         }
     }

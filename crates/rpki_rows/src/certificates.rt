@@ -98,7 +98,7 @@ impl Show for TbsCert {
     fn show(&self, out: &mut Answer) {
         fields(out, self);
         let mut octets: Vec<u8> = Vec::new(out.alloc());
-        let answer = self.encode_ref(&mut octets);
+        let answer = self.encode_ref(out.alloc(), &mut octets);
         out.again(answer, &octets);
     }
 }
@@ -122,7 +122,7 @@ fn or_same(out: &mut Answer, known: &[u8], octets: &[u8]) {
 fn data_written(out: &mut Answer, cert: &Cert) {
     out.field("data-written");
     let mut octets: Vec<u8> = Vec::new(out.alloc());
-    match cert.as_tbs().encode_ref(&mut octets) {
+    match cert.as_tbs().encode_ref(out.alloc(), &mut octets) {
         Ok(()) => or_same(out, cert.signed_data().data(), &octets),
         Err(error) => out.text(error.name()),
     }
@@ -166,7 +166,8 @@ fn signature(out: &mut Answer, signed: &SignedData, whole: &[u8]) {
     last_in(out, whole, signed.signature().value());
 }
 
-fn captured(out: &mut Answer, found: Result<Bytes, EncodeError>, octets: &[u8]) {
+/// What is captured; `same` where it is what was written.
+pub fn captured(out: &mut Answer, found: Result<Bytes, EncodeError>, octets: &[u8]) {
     out.field("captured");
     match found {
         Ok(captured) => or_same(out, octets, captured.as_slice()),
@@ -177,7 +178,7 @@ fn captured(out: &mut Answer, found: Result<Bytes, EncodeError>, octets: &[u8]) 
 /// The certificate as it is written, and its parts by their places in it.
 pub fn written(out: &mut Answer, cert: &Cert) {
     let mut octets: Vec<u8> = Vec::new(out.alloc());
-    let answer = cert.encode_ref(&mut octets);
+    let answer = cert.encode_ref(out.alloc(), &mut octets);
     out.again(answer, &octets);
     let found = cert.to_captured(out.alloc());
     captured(out, found, &octets);
@@ -208,7 +209,8 @@ impl Twin for Cert {
 fn taken(out: &mut Answer, first: &Answer, octets: &Bytes) {
     let mut other = out.beside();
     let mut cursor = Cursor::new(octets);
-    read(&mut other, Cert::take_from(out.alloc(), &mut cursor));
+    let found = Cert::take_from(out.alloc(), &mut cursor);
+    read(&mut other, found);
     out.field("take");
     out.compared(first, &other);
     out.left(&cursor);
@@ -217,7 +219,8 @@ fn taken(out: &mut Answer, first: &Answer, octets: &Bytes) {
 fn taken_optional(out: &mut Answer, first: &Answer, octets: &Bytes) {
     let mut other = out.beside();
     let mut cursor = Cursor::new(octets);
-    read_optional(&mut other, Cert::take_opt_from(out.alloc(), &mut cursor));
+    let found = Cert::take_opt_from(out.alloc(), &mut cursor);
+    read_optional(&mut other, found);
     out.field("take-optional");
     out.compared(first, &other);
     out.left(&cursor);

@@ -50,8 +50,8 @@ impl Show for Piece {
 }
 
 impl Twin for Piece {
-    fn twin(&self, _alloc: Global) -> Result<Piece, AllocError> {
-        self.try_clone()
+    fn twin(&self, alloc: Global) -> Result<Piece, AllocError> {
+        self.try_clone(alloc)
     }
 }
 
@@ -63,8 +63,8 @@ impl Show for Oid {
 }
 
 impl Twin for Oid {
-    fn twin(&self, _alloc: Global) -> Result<Oid, AllocError> {
-        self.try_clone()
+    fn twin(&self, alloc: Global) -> Result<Oid, AllocError> {
+        self.try_clone(alloc)
     }
 }
 
@@ -164,9 +164,11 @@ fn passed(words: &Words<'_>, cursor: &mut Cursor<'_>, out: &mut Answer) -> bool 
     } else if words.is(0, "skip-all") {
         nothing(out, cursor.skip_all());
     } else if words.is(0, "capture") {
-        read(out, cursor.capture_one());
+        let found = cursor.capture_one(out.alloc());
+        read(out, found);
     } else if words.is(0, "capture-rest") {
-        read(out, cursor.capture_rest());
+        let found = cursor.capture_rest(out.alloc());
+        read(out, found);
     } else if words.is(0, "finish") {
         nothing(out, cursor.fork().finish());
         out.field("empty");

@@ -50,7 +50,7 @@ fn basic_constraints(out: &mut Answer, found: Result<bool, DecodeError>) {
             out.field("basic-ca");
             out.yes(ca);
             let mut octets = started(out);
-            let answer = encode_basic_constraints(&mut octets, ca);
+            let answer = encode_basic_constraints(out.alloc(), &mut octets, ca);
             written(out, answer, &octets);
         }
         Err(error) => out.refused(&error),
@@ -64,7 +64,7 @@ fn subject_key_identifier(out: &mut Answer, found: Result<KeyIdentifier, DecodeE
             out.field("subject-key-identifier");
             key_identifier(out, Some(it));
             let mut octets = started(out);
-            let answer = encode_subject_key_identifier(&mut octets, it);
+            let answer = encode_subject_key_identifier(out.alloc(), &mut octets, it);
             written(out, answer, &octets);
         }
         Err(error) => out.refused(&error),
@@ -78,7 +78,7 @@ fn authority_key_identifier(out: &mut Answer, found: Result<KeyIdentifier, Decod
             out.field("authority-key-identifier");
             key_identifier(out, Some(it));
             let mut octets = started(out);
-            let answer = encode_authority_key_identifier(&mut octets, it);
+            let answer = encode_authority_key_identifier(out.alloc(), &mut octets, it);
             written(out, answer, &octets);
         }
         Err(error) => out.refused(&error),
@@ -96,7 +96,7 @@ pub fn usage(it: KeyUsage) -> &'static str {
 fn usage_bits(out: &mut Answer, it: KeyUsage) {
     out.field("written-bits");
     let mut octets = started(out);
-    let answer = it.encode(&mut octets);
+    let answer = it.encode(out.alloc(), &mut octets);
     behind(out, answer, &octets);
 }
 
@@ -107,7 +107,7 @@ fn key_usage(out: &mut Answer, found: Result<KeyUsage, DecodeError>) {
             out.field("key-usage");
             out.text(usage(it));
             let mut octets = started(out);
-            let answer = encode_key_usage(&mut octets, it);
+            let answer = encode_key_usage(out.alloc(), &mut octets, it);
             written(out, answer, &octets);
             usage_bits(out, it);
         }
@@ -120,7 +120,7 @@ pub fn purposes(out: &mut Answer, it: Option<&ExtendedKeyUsage>) {
     match it {
         Some(it) => {
             let mut octets = started(out);
-            let answer = it.encode_ref(&mut octets);
+            let answer = it.encode_ref(out.alloc(), &mut octets);
             behind(out, answer, &octets);
         }
         None => out.text("none"),
@@ -132,14 +132,14 @@ impl Show for ExtendedKeyUsage {
         out.field("extended-key-usage");
         purposes(out, Some(self));
         let mut octets = started(out);
-        let answer = encode_extended_key_usage(&mut octets, self);
+        let answer = encode_extended_key_usage(out.alloc(), &mut octets, self);
         written(out, answer, &octets);
     }
 }
 
 impl Twin for ExtendedKeyUsage {
-    fn twin(&self, _alloc: Global) -> Result<ExtendedKeyUsage, AllocError> {
-        self.try_clone()
+    fn twin(&self, alloc: Global) -> Result<ExtendedKeyUsage, AllocError> {
+        self.try_clone(alloc)
     }
 }
 
@@ -150,7 +150,7 @@ fn crl_distribution_points(out: &mut Answer, found: Result<Rsync, DecodeError>) 
             out.field("crl-uri");
             rsync(out, Some(&it));
             let mut octets = started(out);
-            let answer = encode_crl_distribution_points(&mut octets, &it);
+            let answer = encode_crl_distribution_points(out.alloc(), &mut octets, &it);
             written(out, answer, &octets);
         }
         Err(error) => out.refused(&error),
@@ -164,7 +164,7 @@ fn authority_information_access(out: &mut Answer, found: Result<Rsync, DecodeErr
             out.field("ca-issuer");
             rsync(out, Some(&it));
             let mut octets = started(out);
-            let answer = encode_authority_information_access(&mut octets, &it);
+            let answer = encode_authority_information_access(out.alloc(), &mut octets, &it);
             written(out, answer, &octets);
         }
         Err(error) => out.refused(&error),
@@ -185,6 +185,7 @@ fn sia_fields(out: &mut Answer, it: &Sia) {
 fn sia_written(out: &mut Answer, it: &Sia) {
     let mut octets = started(out);
     let answer = encode_subject_information_access(
+        out.alloc(),
         &mut octets,
         it.ca_repository(),
         it.rpki_manifest(),
@@ -212,7 +213,7 @@ fn certificate_policies(out: &mut Answer, found: Result<Overclaim, DecodeError>)
             out.field("overclaim");
             out.text(mode(it));
             let mut octets = started(out);
-            let answer = encode_certificate_policies(&mut octets, it);
+            let answer = encode_certificate_policies(out.alloc(), &mut octets, it);
             written(out, answer, &octets);
         }
         Err(error) => out.refused(&error),
@@ -222,12 +223,14 @@ fn certificate_policies(out: &mut Answer, found: Result<Overclaim, DecodeError>)
 // The same by the call of the type.
 fn usage_by_type(out: &mut Answer, cursor: &mut Cursor<'_>) {
     out.field("by-type");
-    out.yes(ExtendedKeyUsage::take_from(cursor).is_ok());
+    let found = ExtendedKeyUsage::take_from(out.alloc(), cursor);
+    out.yes(found.is_ok());
 }
 
 fn sia_by_type(out: &mut Answer, cursor: &mut Cursor<'_>) {
     out.field("by-type");
-    out.yes(Sia::take_from(cursor).is_ok());
+    let found = Sia::take_from(out.alloc(), cursor);
+    out.yes(found.is_ok());
 }
 
 // Each of the next three says whether the kind is one of its own.
@@ -240,7 +243,8 @@ fn of_the_key(words: &Words<'_>, cursor: &mut Cursor<'_>, out: &mut Answer) -> b
         key_usage(out, take_key_usage(cursor));
     } else if words.is(1, "extended-key-usage") {
         let mut again = cursor.fork();
-        read(out, take_extended_key_usage(cursor));
+        let found = take_extended_key_usage(out.alloc(), cursor);
+        read(out, found);
         usage_by_type(out, &mut again);
     } else {
         return false;
@@ -250,12 +254,15 @@ fn of_the_key(words: &Words<'_>, cursor: &mut Cursor<'_>, out: &mut Answer) -> b
 
 fn of_uris(words: &Words<'_>, cursor: &mut Cursor<'_>, out: &mut Answer) -> bool {
     if words.is(1, "crl-distribution-points") {
-        crl_distribution_points(out, take_crl_distribution_points(cursor));
+        let found = take_crl_distribution_points(out.alloc(), cursor);
+        crl_distribution_points(out, found);
     } else if words.is(1, "authority-information-access") {
-        authority_information_access(out, take_authority_information_access(cursor));
+        let found = take_authority_information_access(out.alloc(), cursor);
+        authority_information_access(out, found);
     } else if words.is(1, "subject-information-access") {
         let mut again = cursor.fork();
-        subject_information_access(out, take_subject_information_access(cursor));
+        let found = take_subject_information_access(out.alloc(), cursor);
+        subject_information_access(out, found);
         sia_by_type(out, &mut again);
     } else {
         return false;

@@ -12,6 +12,17 @@
 //!   and moments as `YYYYMMDDhhmmss`. `signer=` is a public key; `set-by=` (`setter`, `iterator`,
 //!   `builder`) says how resources are set; `again=yes` first sets each field to another value
 //!   and back.
+//! - `inspect HEX`, `inspect KIND HEX`: the first fault of a certificate, strictly and leniently,
+//!   as each of the kinds `ta`, `ca`, `ee`, `detached`, `router`, or as one of them.
+//! - `validate KIND MODE YYYYMMDDhhmmss HEX HEX ..`: a certificate, and those above it from the
+//!   anchor down, which are accepted; MODE is `strict` or `lenient`.
+//! - `path MODE YYYYMMDDhhmmss ta:HEX ca:HEX .. ee:HEX`: a whole path; the leaf may be absent, or
+//!   `detached:HEX`.
+//!
+//! Revocation lists:
+//! - `list HEX SERIALS`: a list, by each of the calls that read one, and of each serial number
+//!   whether it is revoked and how many entries are looked at; SERIALS is HEX,HEX,..
+//! - `cut HEX`: what each front of a list answers, and for which lengths.
 //!
 //! Extensions:
 //! - `extension HEX`: identifier, flag and content.
@@ -65,8 +76,11 @@ mod answer;
 mod certificates;
 mod cursors;
 mod extensions;
+mod judging;
+mod lists;
 mod making;
 mod parts;
+mod paths;
 mod runs;
 mod sets;
 mod show;
@@ -87,6 +101,10 @@ fn of_certificates(words: &Words<'_>, out: &mut Answer) -> bool {
         certificates::data(words, out);
     } else if words.is(0, "make") {
         making::make(words, out);
+    } else if words.is(0, "inspect") {
+        judging::inspect(words, out);
+    } else if words.is(0, "validate") {
+        judging::validate(words, out);
     } else if words.is(0, "extension") {
         extensions::extension(words, out);
     } else {
@@ -102,6 +120,12 @@ fn of_several(words: &Words<'_>, out: &mut Answer) -> bool {
         sets::sets(words, out);
     } else if words.is(0, "write") {
         writing::write(words, out);
+    } else if words.is(0, "list") {
+        lists::list(words, out);
+    } else if words.is(0, "cut") {
+        lists::cut(words, out);
+    } else if words.is(0, "path") {
+        paths::path(words, out);
     } else if words.is(0, "run") {
         runs::answer(words, out);
     } else {

@@ -41,13 +41,13 @@ fn key_identifier(words: &Words<'_>, out: &mut Answer) -> Option<KeyIdentifier> 
 fn key(words: &Words<'_>, out: &mut Answer, name: &str) -> Result<PublicKey, DecodeError> {
     let octets = bytes(out, words.named(name));
     let mut cursor = Cursor::new(&octets);
-    PublicKey::take_from(&mut cursor)
+    PublicKey::take_from(out.alloc(), &mut cursor)
 }
 
 fn name(words: &Words<'_>, out: &mut Answer, name: &str) -> Result<Name, DecodeError> {
     let octets = bytes(out, words.named(name));
     let mut cursor = Cursor::new(&octets);
-    Name::take_from(&mut cursor)
+    Name::take_from(out.alloc(), &mut cursor)
 }
 
 fn serial(words: &Words<'_>, out: &mut Answer) -> Result<Serial, DecodeError> {
@@ -113,26 +113,26 @@ fn done(out: &mut Answer, answer: Result<(), AllocError>) {
 }
 
 // Sets the key to another and back.
-fn key_again(data: &mut TbsCert, other: &PublicKey) -> Result<(), AllocError> {
-    let key = data.subject_public_key_info().try_clone()?;
-    data.set_subject_public_key(other.try_clone()?);
+fn key_again(alloc: Global, data: &mut TbsCert, other: &PublicKey) -> Result<(), AllocError> {
+    let key = data.subject_public_key_info().try_clone(alloc)?;
+    data.set_subject_public_key(other.try_clone(alloc)?);
     data.set_subject_public_key(key);
     Ok(())
 }
 
 // Sets the issuer to the subject and back.
-fn issuer_again(data: &mut TbsCert) -> Result<(), AllocError> {
-    let issuer = data.issuer().try_clone()?;
-    let subject = data.subject().try_clone()?;
+fn issuer_again(alloc: Global, data: &mut TbsCert) -> Result<(), AllocError> {
+    let issuer = data.issuer().try_clone(alloc)?;
+    let subject = data.subject().try_clone(alloc)?;
     data.set_issuer(subject);
     data.set_issuer(issuer);
     Ok(())
 }
 
 // Sets the subject to the issuer and back.
-fn subject_again(data: &mut TbsCert) -> Result<(), AllocError> {
-    let issuer = data.issuer().try_clone()?;
-    let subject = data.subject().try_clone()?;
+fn subject_again(alloc: Global, data: &mut TbsCert) -> Result<(), AllocError> {
+    let issuer = data.issuer().try_clone(alloc)?;
+    let subject = data.subject().try_clone(alloc)?;
     data.set_subject(issuer);
     data.set_subject(subject);
     Ok(())
@@ -161,9 +161,12 @@ fn inherit_all(data: &mut TbsCert) {
 }
 
 fn set_again(out: &mut Answer, data: &mut TbsCert, other: &PublicKey) {
-    done(out, key_again(data, other));
-    done(out, issuer_again(data));
-    done(out, subject_again(data));
+    let answer = key_again(out.alloc(), data, other);
+    done(out, answer);
+    let answer = issuer_again(out.alloc(), data);
+    done(out, answer);
+    let answer = subject_again(out.alloc(), data);
+    done(out, answer);
     plain_again(data);
     inherit_all(data);
 }
@@ -181,7 +184,7 @@ fn router(out: &mut Answer) -> Option<ExtendedKeyUsage> {
 fn purposes_of(words: &Words<'_>, out: &mut Answer) -> Option<ExtendedKeyUsage> {
     let octets = bytes(out, words.named("extended-key-usage"));
     let mut cursor = Cursor::new(&octets);
-    ExtendedKeyUsage::take_from(&mut cursor).ok()
+    ExtendedKeyUsage::take_from(out.alloc(), &mut cursor).ok()
 }
 
 fn set_purposes(words: &Words<'_>, out: &mut Answer, data: &mut TbsCert) {

@@ -13,7 +13,7 @@ use std::cmp::Ordering;
 /// The serial number as it is written.
 pub fn serial(out: &mut Answer, it: Serial) {
     let mut octets: Vec<u8> = Vec::new(out.alloc());
-    let answer = it.encode(&mut octets);
+    let answer = it.encode(out.alloc(), &mut octets);
     out.written(answer, &octets);
 }
 
@@ -28,7 +28,7 @@ fn characters(out: &mut Answer, octets: &[u8]) {
 /// The time as it is written.
 pub fn time(out: &mut Answer, it: Time) {
     let mut octets: Vec<u8> = Vec::new(out.alloc());
-    match it.encode_varied(&mut octets) {
+    match it.encode_varied(out.alloc(), &mut octets) {
         Ok(()) => characters(out, &octets),
         Err(error) => out.text(error.name()),
     }
@@ -37,7 +37,7 @@ pub fn time(out: &mut Answer, it: Time) {
 /// The algorithm as it is written.
 pub fn algorithm(out: &mut Answer, it: &RpkiSignatureAlgorithm) {
     let mut octets: Vec<u8> = Vec::new(out.alloc());
-    let answer = it.x509_encode(&mut octets);
+    let answer = it.x509_encode(out.alloc(), &mut octets);
     out.written(answer, &octets);
 }
 
@@ -81,7 +81,7 @@ impl Show for Validity {
         out.field("not-after");
         time(out, self.not_after());
         let mut octets: Vec<u8> = Vec::new(out.alloc());
-        let answer = self.encode(&mut octets);
+        let answer = self.encode(out.alloc(), &mut octets);
         out.again(answer, &octets);
     }
 }
@@ -91,11 +91,11 @@ impl Show for KeyIdentifier {
         out.field("identifier");
         key_identifier(out, Some(*self));
         let mut octets: Vec<u8> = Vec::new(out.alloc());
-        let answer = self.encode_ref(&mut octets);
+        let answer = self.encode_ref(out.alloc(), &mut octets);
         out.again(answer, &octets);
         out.field("written-80");
         let mut tagged: Vec<u8> = Vec::new(out.alloc());
-        let answer = self.encode_ref_as(&mut tagged, 0x80);
+        let answer = self.encode_ref_as(out.alloc(), &mut tagged, 0x80);
         out.written(answer, &tagged);
     }
 }
@@ -103,7 +103,7 @@ impl Show for KeyIdentifier {
 impl Show for RpkiSignatureAlgorithm {
     fn show(&self, out: &mut Answer) {
         let mut octets: Vec<u8> = Vec::new(out.alloc());
-        let answer = self.x509_encode(&mut octets);
+        let answer = self.x509_encode(out.alloc(), &mut octets);
         out.again(answer, &octets);
         out.field("is-default");
         out.yes(*self == RpkiSignatureAlgorithm::default());
@@ -117,14 +117,14 @@ impl Show for Name {
         out.field("name");
         out.octets(self.as_bytes());
         let mut octets: Vec<u8> = Vec::new(out.alloc());
-        let answer = self.encode_ref(&mut octets);
+        let answer = self.encode_ref(out.alloc(), &mut octets);
         out.again(answer, &octets);
     }
 }
 
 impl Twin for Name {
-    fn twin(&self, _alloc: Global) -> Result<Name, AllocError> {
-        self.try_clone()
+    fn twin(&self, alloc: Global) -> Result<Name, AllocError> {
+        self.try_clone(alloc)
     }
 }
 
@@ -145,14 +145,14 @@ impl Show for PublicKey {
         let found = self.to_subject_name(out.alloc());
         subject_name(out, found);
         let mut octets: Vec<u8> = Vec::new(out.alloc());
-        let answer = self.encode_ref(&mut octets);
+        let answer = self.encode_ref(out.alloc(), &mut octets);
         out.again(answer, &octets);
     }
 }
 
 impl Twin for PublicKey {
-    fn twin(&self, _alloc: Global) -> Result<PublicKey, AllocError> {
-        self.try_clone()
+    fn twin(&self, alloc: Global) -> Result<PublicKey, AllocError> {
+        self.try_clone(alloc)
     }
 }
 
@@ -165,14 +165,14 @@ impl Show for SignedData {
         out.field("signature");
         out.octets(self.signature().value());
         let mut octets: Vec<u8> = Vec::new(out.alloc());
-        let answer = self.encode_ref(&mut octets);
+        let answer = self.encode_ref(out.alloc(), &mut octets);
         out.again(answer, &octets);
     }
 }
 
 impl Twin for SignedData {
-    fn twin(&self, _alloc: Global) -> Result<SignedData, AllocError> {
-        self.try_clone()
+    fn twin(&self, alloc: Global) -> Result<SignedData, AllocError> {
+        self.try_clone(alloc)
     }
 }
 
@@ -189,7 +189,8 @@ fn signed(words: &Words<'_>, out: &mut Answer, it: &SignedData) {
     if !words.is(2, "-") {
         let octets = words.bytes(out, 2);
         let mut cursor = Cursor::new(&octets);
-        verified(out, it, PublicKey::take_from(&mut cursor));
+        let found = PublicKey::take_from(out.alloc(), &mut cursor);
+        verified(out, it, found);
     }
 }
 
@@ -220,11 +221,13 @@ fn keyed(words: &Words<'_>, cursor: &mut Cursor<'_>, out: &mut Answer) -> bool {
     if words.is(0, "key-identifier") {
         read_plain(out, KeyIdentifier::take_from(cursor));
     } else if words.is(0, "name") {
-        read(out, Name::take_from(cursor));
+        let found = Name::take_from(out.alloc(), cursor);
+        read(out, found);
     } else if words.is(0, "key") {
-        read(out, PublicKey::take_from(cursor));
+        let found = PublicKey::take_from(out.alloc(), cursor);
+        read(out, found);
     } else if words.is(0, "signed") {
-        let found = SignedData::from_constructed(cursor);
+        let found = SignedData::from_constructed(out.alloc(), cursor);
         signed_read(words, out, found);
     } else {
         return false;

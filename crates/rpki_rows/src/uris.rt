@@ -45,8 +45,8 @@ impl Show for Rsync {
 }
 
 impl Twin for Rsync {
-    fn twin(&self, _alloc: Global) -> Result<Rsync, AllocError> {
-        self.try_clone()
+    fn twin(&self, alloc: Global) -> Result<Rsync, AllocError> {
+        self.try_clone(alloc)
     }
 }
 
@@ -58,8 +58,8 @@ impl Show for Https {
 }
 
 impl Twin for Https {
-    fn twin(&self, _alloc: Global) -> Result<Https, AllocError> {
-        self.try_clone()
+    fn twin(&self, alloc: Global) -> Result<Https, AllocError> {
+        self.try_clone(alloc)
     }
 }
 

@@ -29,6 +29,11 @@ impl<'a> Words<'a> {
         }
     }
 
+    /// How many words there are.
+    pub fn count(&self) -> usize {
+        self.words.len()
+    }
+
     /// The word at a place, from 0; `-` where there is none.
     pub fn at(&self, place: usize) -> &'a str {
         match self.words.get(place) {

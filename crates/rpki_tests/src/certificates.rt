@@ -26,7 +26,7 @@ fn assert_octets(rt: &impl Abort, found: Result<Bytes, EncodeError>, octets: &[u
 // are those of its data.
 fn assert_same(rt: &impl Abort, alloc: Global, cert: &Cert, octets: &[u8]) {
     let mut out = Vec::from_slice(alloc, b"\x07").expect(rt, "memory");
-    cert.encode_ref(&mut out).expect(rt, "memory");
+    cert.encode_ref(alloc, &mut out).expect(rt, "memory");
     assert_eq!(rt; out.first(), Some(&7));
     assert!(rt; out.get(1..) == Some(octets));
     assert_octets(rt, cert.to_captured(alloc), octets);
@@ -53,6 +53,18 @@ fn a_front_is_decoded(rt: HostRuntime) {
     let octets = anchor(&rt, rt.alloc());
     let more = and_more(&rt, rt.alloc(), &octets);
     assert_found(&rt, rt.alloc(), Cert::decode(rt.alloc(), &more), &octets);
+}
+
+#[test]
+fn shared_octets_are_decoded(rt: HostRuntime) {
+    let octets = anchor(&rt, rt.alloc());
+    let more = and_more(&rt, rt.alloc(), &octets);
+    assert_found(
+        &rt,
+        rt.alloc(),
+        Cert::decode_shared(rt.alloc(), more),
+        &octets,
+    );
 }
 
 #[test]

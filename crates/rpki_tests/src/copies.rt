@@ -5,14 +5,14 @@ use bytes::Bytes;
 use rpki_blocks::{AsBlock, AsBlocks, AsResources, Asn};
 use rpki_cert::{ExtendedKeyUsage, TbsCert};
 use rpki_der::{Cursor, EncodeError, Oid, Piece};
-use rpki_parts::{Https, RpkiSignatureAlgorithm, Signature, SignedData};
+use rpki_parts::{Https, Name, PublicKey, RpkiSignatureAlgorithm, Rsync, Signature, SignedData};
 use std::alloc::Global;
 use std::process::Abort;
 
 #[test]
 fn of_octets(rt: HostRuntime) {
     let piece = Piece::from(Bytes::from_static(b"\x05\x00"));
-    let copy = piece.try_clone().expect(&rt, "memory");
+    let copy = piece.try_clone(rt.alloc()).expect(&rt, "memory");
     assert!(rt; copy == piece);
     assert_eq!(rt; copy.as_bytes(), b"\x05\x00".as_slice());
 }
@@ -21,7 +21,7 @@ fn of_octets(rt: HostRuntime) {
 fn of_identifiers(rt: HostRuntime) {
     let id = Oid::from_piece(Piece::from(Bytes::from_static(b"\x55\x1d\x63")));
     let id = id.expect(&rt, "an identifier");
-    let copy = id.try_clone().expect(&rt, "memory");
+    let copy = id.try_clone(rt.alloc()).expect(&rt, "memory");
     assert!(rt; copy == id);
     assert_eq!(rt; copy.as_bytes(), b"\x55\x1d\x63".as_slice());
     let other = Oid::new(Bytes::from_static(b"\x55\x1d\x13")).expect(&rt, "an identifier");
@@ -59,44 +59,73 @@ fn of_resources_without_a_set(rt: HostRuntime) {
     assert!(rt; !missing.expect(&rt, "memory").is_present());
 }
 
-#[test]
-fn of_keys_and_names(rt: HostRuntime) {
-    let key = rsa(b"abc").try_clone().expect(&rt, "memory");
+fn assert_key(rt: &impl Abort, key: &PublicKey) {
     assert_eq!(rt; key.bits(), b"abc".as_slice());
     assert!(rt; key.allow_rpki_cert() && !key.allow_router_cert());
-    let name = key.to_subject_name(rt.alloc()).expect(&rt, "memory");
-    let copy = name.try_clone().expect(&rt, "memory");
+}
+
+#[test]
+fn of_keys(rt: HostRuntime) {
+    let copy = rsa(b"abc").try_clone(rt.alloc());
+    assert_key(&rt, &copy.expect(&rt, "memory"));
+}
+
+fn assert_name(rt: &impl Abort, alloc: Global, name: &Name) {
+    let copy = name.try_clone(alloc).expect(rt, "memory");
     assert_eq!(rt; copy.as_bytes(), name.as_bytes());
+}
+
+#[test]
+fn of_names(rt: HostRuntime) {
+    let name = rsa(b"abc").to_subject_name(rt.alloc());
+    assert_name(&rt, rt.alloc(), &name.expect(&rt, "memory"));
+}
+
+fn assert_folder(rt: &impl Abort, alloc: Global, folder: &Rsync, text: &[u8]) {
+    let copy = folder.try_clone(alloc).expect(rt, "memory");
+    assert!(rt; copy == *folder);
+    assert_eq!(rt; copy.as_bytes(), text);
+}
+
+fn assert_site(rt: &impl Abort, alloc: Global, site: &Https, text: &[u8]) {
+    let copy = site.try_clone(alloc).expect(rt, "memory");
+    assert!(rt; copy == *site);
+    assert_eq!(rt; copy.as_bytes(), text);
 }
 
 #[test]
 fn of_uris(rt: HostRuntime) {
     let folder = uri(&rt, rt.alloc(), "rsync://example.com/m/p/");
-    let copy = folder.try_clone().expect(&rt, "memory");
-    assert!(rt; copy == folder);
-    assert_eq!(rt; copy.as_bytes(), b"rsync://example.com/m/p/".as_slice());
-    let site = Https::from_text(rt.alloc(), "https://example.com/n").expect(&rt, "a URI");
-    let copy = site.try_clone().expect(&rt, "memory");
-    assert!(rt; copy == site);
-    assert_eq!(rt; copy.as_bytes(), b"https://example.com/n".as_slice());
+    assert_folder(&rt, rt.alloc(), &folder, b"rsync://example.com/m/p/");
+    let site = Https::from_text(rt.alloc(), "https://example.com/n");
+    let site = site.expect(&rt, "a URI");
+    assert_site(&rt, rt.alloc(), &site, b"https://example.com/n");
+}
+
+fn assert_signature(rt: &impl Abort, signature: &Signature) {
+    assert_eq!(rt; signature.value(), b"abc".as_slice());
+    assert!(rt; *signature.algorithm() == RpkiSignatureAlgorithm::without_parameter());
+}
+
+fn assert_signed(rt: &impl Abort, alloc: Global, signed: &SignedData) {
+    let copy = signed.try_clone(alloc).expect(rt, "memory");
+    assert_eq!(rt; copy.data(), b"\x05\x00".as_slice());
+    assert_signature(rt, copy.signature());
 }
 
 #[test]
 fn of_signatures(rt: HostRuntime) {
     let algorithm = RpkiSignatureAlgorithm::without_parameter();
     let signature = Signature::new(algorithm, Bytes::from_static(b"abc"));
-    let copy = signature.try_clone().expect(&rt, "memory");
-    assert_eq!(rt; copy.value(), b"abc".as_slice());
-    assert!(rt; *copy.algorithm() == algorithm);
-    let signed = SignedData::new(Bytes::from_static(b"\x05\x00"), copy).try_clone();
-    let signed = signed.expect(&rt, "memory");
-    assert_eq!(rt; signed.data(), b"\x05\x00".as_slice());
-    assert_eq!(rt; signed.signature().value(), b"abc".as_slice());
+    let copy = signature.try_clone(rt.alloc()).expect(&rt, "memory");
+    assert_signature(&rt, &copy);
+    let signed = SignedData::new(Bytes::from_static(b"\x05\x00"), copy);
+    assert_signed(&rt, rt.alloc(), &signed);
 }
 
 fn assert_purposes(rt: &impl Abort, alloc: Global, purposes: &ExtendedKeyUsage, kept: &[u8]) {
     let mut out = Vec::new(alloc);
-    let answer: Result<(), EncodeError> = purposes.encode_ref(&mut out);
+    let answer: Result<(), EncodeError> = purposes.encode_ref(alloc, &mut out);
     answer.expect(rt, "memory");
     assert_eq!(rt; out.as_slice(), kept);
 }
@@ -107,10 +136,10 @@ fn of_purposes(rt: HostRuntime) {
     let content = "301406082b0601050507030106082b0601050507031e";
     let octets = samples::shared(&rt, rt.alloc(), content);
     let kept = samples::octets(&rt, rt.alloc(), "06082b0601050507030106082b0601050507031e");
-    let purposes = ExtendedKeyUsage::take_from(&mut Cursor::new(&octets));
+    let purposes = ExtendedKeyUsage::take_from(rt.alloc(), &mut Cursor::new(&octets));
     let purposes = purposes.expect(&rt, "purposes");
     assert_purposes(&rt, rt.alloc(), &purposes, &kept);
-    let copy = purposes.try_clone().expect(&rt, "memory");
+    let copy = purposes.try_clone(rt.alloc()).expect(&rt, "memory");
     assert_purposes(&rt, rt.alloc(), &copy, &kept);
 }
 

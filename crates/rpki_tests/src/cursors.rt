@@ -23,7 +23,7 @@ fn a_cursor_goes_on(rt: HostRuntime) {
     let mut cursor = Cursor::new(&source);
     assert_none(&rt, cursor.take_opt_value(0x02));
     assert_next(&rt, cursor.take_opt_sequence(), b"\x02\x01\x0c");
-    let kept = cursor.fork().capture_rest().expect(&rt, "memory");
+    let kept = cursor.fork().capture_rest(rt.alloc()).expect(&rt, "memory");
     assert_eq!(rt; kept.as_bytes(), b"\x04\x00\x05".as_slice());
     assert_next(&rt, cursor.take_opt_value(0x04), b"");
     assert_eq!(rt; cursor.span(), (7, 8));
@@ -47,8 +47,9 @@ fn a_content_ends(rt: HostRuntime) {
 fn two_forms_of_a_key_identifier(rt: HostRuntime) {
     let id = samples::rsa(b"abc").key_identifier();
     let mut out = Vec::new(rt.alloc());
-    id.encode_ref(&mut out).expect(&rt, "memory");
-    id.encode_ref_as(&mut out, 0x80).expect(&rt, "memory");
+    id.encode_ref(rt.alloc(), &mut out).expect(&rt, "memory");
+    id.encode_ref_as(rt.alloc(), &mut out, 0x80)
+        .expect(&rt, "memory");
     let octets = Bytes::from_vec(out).expect(&rt, "memory");
     let mut cursor = Cursor::new(&octets);
     assert!(rt; KeyIdentifier::take_from(&mut cursor).expect(&rt, "an identifier") == id);
@@ -59,14 +60,7 @@ fn two_forms_of_a_key_identifier(rt: HostRuntime) {
 }
 
 fn is_there(rt: &impl Abort, found: Result<Option<Cert>, DecodeError>) -> bool {
-    match found {
-        Ok(Some(_)) => true,
-        Ok(None) => false,
-        Err(_) => {
-            assert!(rt; false, "a certificate or none");
-            false
-        }
-    }
+    found.expect(rt, "a certificate or none").is_some()
 }
 
 #[test]

@@ -2,8 +2,13 @@
 
 use bytes::Bytes;
 use rpki_blocks::{Inherited, IssueError};
+use rpki_cert::{IssueCaError, ValidationError, VerificationError};
+use rpki_crl::InvalidExtension;
 use rpki_der::{DecodeError, EncodeError, Field, Oid};
-use rpki_parts::{BadUri, InvalidName, SignatureVerificationError, SigningError, UriError};
+use rpki_ext::InspectionError;
+use rpki_parts::{
+    BadUri, InvalidName, SignatureVerificationError, SigningError, UriError, ValidityError,
+};
 use rpki_path::RunFault;
 use std::alloc::{AllocError, Global};
 use std::process::Abort;
@@ -133,12 +138,177 @@ fn of_signatures_and_names(rt: HostRuntime) {
 
 #[test]
 fn of_uris(rt: HostRuntime) {
+    assert_eq!(rt; BadUri.name(), "BadUri");
     assert_shown(&rt, format!(in rt.alloc(); "{BadUri}"), "bad URI");
     let (bad, memory) = (UriError::from(BadUri), UriError::from(AllocError));
     assert_eq!(rt; bad.name(), "BadUri");
     assert_eq!(rt; memory.name(), "Memory");
     assert_shown(&rt, format!(in rt.alloc(); "{bad}"), "bad URI");
     assert_shown(&rt, format!(in rt.alloc(); "{memory}"), "out of memory");
+}
+
+#[test]
+fn of_periods(rt: HostRuntime) {
+    let (early, late) = (ValidityError::NotYetValid, ValidityError::Expired);
+    assert_eq!(rt; early.name(), "NotYetValid");
+    assert_eq!(rt; late.name(), "Expired");
+    assert_shown(&rt, format!(in rt.alloc(); "{early}"), "not yet valid");
+    assert_shown(&rt, format!(in rt.alloc(); "{late}"), "expired");
+}
+
+#[test]
+fn of_inspection(rt: HostRuntime) {
+    let (issuer, subject) = (InspectionError::Issuer, InspectionError::Subject);
+    assert_eq!(rt; issuer.name(), "Issuer");
+    assert_eq!(rt; subject.name(), "Subject");
+    assert_shown(&rt, format!(in rt.alloc(); "{issuer}"), "invalid issuer");
+    assert_shown(&rt, format!(in rt.alloc(); "{subject}"), "invalid subject");
+}
+
+fn assert_line(rt: &impl Abort, alloc: Global, error: &VerificationError, name: &str, text: &str) {
+    assert_eq!(rt; error.name(), name);
+    assert_shown(rt, format!(in alloc; "{error}"), text);
+}
+
+#[test]
+fn of_lines_of_time_and_claim(rt: HostRuntime) {
+    let alloc = rt.alloc();
+    let early = VerificationError::from(ValidityError::NotYetValid);
+    let late = VerificationError::from(ValidityError::Expired);
+    let missing = VerificationError::MissingKeyId;
+    let wrong = VerificationError::WrongKeyId;
+    let unnamed = VerificationError::MissingIssuerUri;
+    assert_line(
+        &rt,
+        alloc,
+        &early,
+        "NotYetValid",
+        "certificate not yet valid",
+    );
+    assert_line(&rt, alloc, &late, "Expired", "certificate expired");
+    let text = "missing authority key identifier";
+    assert_line(&rt, alloc, &missing, "MissingKeyId", text);
+    assert_line(
+        &rt,
+        alloc,
+        &wrong,
+        "WrongKeyId",
+        "wrong authority key identifier",
+    );
+    let text = "missing URI of the issuer's certificate";
+    assert_line(&rt, alloc, &unnamed, "MissingIssuerUri", text);
+}
+
+#[test]
+fn of_lines_of_resources(rt: HostRuntime) {
+    let alloc = rt.alloc();
+    let (v4, v6) = (
+        VerificationError::InheritedV4,
+        VerificationError::InheritedV6,
+    );
+    let numbers = VerificationError::InheritedAs;
+    assert_line(&rt, alloc, &v4, "InheritedV4", "inherited IPv4 resources");
+    assert_line(&rt, alloc, &v6, "InheritedV6", "inherited IPv6 resources");
+    assert_line(
+        &rt,
+        alloc,
+        &numbers,
+        "InheritedAs",
+        "inherited AS resources",
+    );
+    let (v4, v6) = (
+        VerificationError::OverclaimV4,
+        VerificationError::OverclaimV6,
+    );
+    let numbers = VerificationError::OverclaimAs;
+    assert_line(&rt, alloc, &v4, "OverclaimV4", "overclaimed IPv4 resources");
+    assert_line(&rt, alloc, &v6, "OverclaimV6", "overclaimed IPv6 resources");
+    assert_line(
+        &rt,
+        alloc,
+        &numbers,
+        "OverclaimAs",
+        "overclaimed AS resources",
+    );
+}
+
+#[test]
+fn of_lines_of_signature_and_memory(rt: HostRuntime) {
+    let alloc = rt.alloc();
+    let bad = VerificationError::from(SignatureVerificationError);
+    let memory = VerificationError::from(AllocError);
+    assert_line(&rt, alloc, &bad, "BadSignature", "bad signature");
+    assert_line(&rt, alloc, &memory, "Memory", "out of memory");
+}
+
+#[test]
+fn of_validation(rt: HostRuntime) {
+    let inspection = ValidationError::from(InspectionError::Issuer);
+    let verification = ValidationError::from(VerificationError::Expired);
+    assert_eq!(rt; inspection.name(), "Inspection");
+    assert_eq!(rt; verification.name(), "Verification");
+    assert_shown(
+        &rt,
+        format!(in rt.alloc(); "{inspection}"),
+        "invalid issuer",
+    );
+    let text = "certificate expired";
+    assert_shown(&rt, format!(in rt.alloc(); "{verification}"), text);
+}
+
+fn assert_unissued(
+    rt: &impl Abort,
+    alloc: Global,
+    error: &IssueCaError<u32>,
+    name: &str,
+    text: &str,
+) {
+    assert_eq!(rt; error.name(), name);
+    assert_shown(rt, format!(in alloc; "{error}"), text);
+}
+
+#[test]
+fn of_issuing(rt: HostRuntime) {
+    let alloc = rt.alloc();
+    let signing = IssueCaError::Signing(SigningError::Signer(7));
+    let capture = IssueCaError::Encode(EncodeError::Memory);
+    let reading = IssueCaError::Decode(DecodeError::Memory);
+    let validity = IssueCaError::Validation(ValidationError::from(InspectionError::Issuer));
+    assert_unissued(&rt, alloc, &signing, "Signing", "certificate not signed");
+    assert_unissued(&rt, alloc, &capture, "Encode", "certificate not captured");
+    assert_unissued(&rt, alloc, &reading, "Decode", "certificate not read again");
+    assert_unissued(
+        &rt,
+        alloc,
+        &validity,
+        "Validation",
+        "issued certificate not valid",
+    );
+}
+
+fn assert_invalid(rt: &impl Abort, alloc: Global, invalid: InvalidExtension) {
+    assert_eq!(rt; invalid.name(), "InvalidExtension");
+    assert_shown(
+        rt,
+        format!(in alloc; "{invalid}"),
+        "invalid extension 551d63",
+    );
+    let error = DecodeError::from(invalid);
+    assert_read(
+        rt,
+        alloc,
+        &error,
+        "InvalidExtension",
+        "invalid extension 551d63",
+    );
+}
+
+#[test]
+fn of_extensions_of_lists(rt: HostRuntime) {
+    let invalid = InvalidExtension::new(identifier(&rt));
+    assert_eq!(rt; invalid.oid().as_bytes(), b"\x55\x1d\x63".as_slice());
+    let copy = invalid.try_clone(rt.alloc()).expect(&rt, "memory");
+    assert_invalid(&rt, rt.alloc(), copy);
 }
 
 #[test]

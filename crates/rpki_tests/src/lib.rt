@@ -14,7 +14,13 @@ mod cursors;
 #[cfg(test)]
 mod errors;
 #[cfg(test)]
+mod issuing;
+#[cfg(test)]
+mod lists;
+#[cfg(test)]
 mod making;
+#[cfg(test)]
+mod paths;
 #[cfg(test)]
 mod refusals;
 #[cfg(test)]

@@ -4,26 +4,44 @@ use crate::samples::{self, day, rsa};
 use bytes::Bytes;
 use rpki_blocks::IpResources;
 use rpki_cert::{ExtendedKeyUsage, KeyUsage, TbsCert};
+use rpki_der::Serial;
 use rpki_ext::encode_extended_key_usage;
 use rpki_parts::{
     KeyIdentifier, PublicKey, PublicKeyFormat, RpkiSignatureAlgorithm, Signature, SignedData,
     TalInfo, Validity,
 };
 use std::alloc::Global;
+use std::collections::HashSet;
 use std::process::Abort;
 
 fn assert_written(rt: &impl Abort, alloc: Global, out: &[u8], digits: &str) {
     assert_eq!(rt; out, samples::octets(rt, alloc, digits).as_slice());
 }
 
+fn router() -> PublicKey {
+    PublicKey::new(PublicKeyFormat::EcdsaP256, Bytes::from_static(b"a"))
+}
+
+fn assert_router(rt: &impl Abort, router: &PublicKey, other: &PublicKey) {
+    assert!(rt; router.allow_router_cert() && !router.allow_rpki_cert());
+    assert!(rt; router.key_identifier() == other.key_identifier());
+}
+
+#[test]
+fn keys_of_routers(rt: HostRuntime) {
+    assert_router(&rt, &router(), &rsa(b"a"));
+}
+
+fn put_keys(rt: &impl Abort, alloc: Global, one: &PublicKey, other: &PublicKey) -> Vec<u8> {
+    let mut out = Vec::new(alloc);
+    one.encode_ref(alloc, &mut out).expect(rt, "memory");
+    other.encode_ref(alloc, &mut out).expect(rt, "memory");
+    out
+}
+
 #[test]
 fn keys(rt: HostRuntime) {
-    let router = PublicKey::new(PublicKeyFormat::EcdsaP256, Bytes::from_static(b"a"));
-    assert!(rt; router.allow_router_cert() && !router.allow_rpki_cert());
-    assert!(rt; router.key_identifier() == rsa(b"a").key_identifier());
-    let mut out = Vec::new(rt.alloc());
-    rsa(b"a").encode_ref(&mut out).expect(&rt, "memory");
-    router.encode_ref(&mut out).expect(&rt, "memory");
+    let out = put_keys(&rt, rt.alloc(), &rsa(b"a"), &router());
     let digits =
         "3013300d06092a864886f70d0101010500030200613019301306072a8648ce3d020106082a8648ce3d03010703020061";
     assert_written(&rt, rt.alloc(), &out, digits);
@@ -42,10 +60,19 @@ fn the_name_of_a_key(rt: HostRuntime) {
         .to_subject_name(rt.alloc())
         .expect(&rt, "memory");
     let mut out = Vec::new(rt.alloc());
-    name.encode_ref(&mut out).expect(&rt, "memory");
+    name.encode_ref(rt.alloc(), &mut out).expect(&rt, "memory");
     let digits =
         "30333131302f0603550403132841393939334533363437303638313641424133453235373137383530433236433943443044383944";
     assert_written(&rt, rt.alloc(), &out, digits);
+}
+
+#[test]
+fn serials_of_a_table(rt: HostRuntime) {
+    let mut table = HashSet::new(rt.alloc());
+    table.insert(Serial::from(5u64)).expect(&rt, "memory");
+    let same = Serial::from_slice(b"\x00\x05").expect(&rt, "a serial number");
+    assert!(rt; table.contains(&same));
+    assert!(rt; !table.contains(&Serial::from(1u128 << 64)));
 }
 
 #[test]
@@ -54,8 +81,10 @@ fn algorithms(rt: HostRuntime) {
     let without = RpkiSignatureAlgorithm::without_parameter();
     assert!(rt; with != without);
     let mut out = Vec::new(rt.alloc());
-    with.x509_encode(&mut out).expect(&rt, "memory");
-    without.x509_encode(&mut out).expect(&rt, "memory");
+    with.x509_encode(rt.alloc(), &mut out).expect(&rt, "memory");
+    without
+        .x509_encode(rt.alloc(), &mut out)
+        .expect(&rt, "memory");
     let digits = "300d06092a864886f70d01010b0500300b06092a864886f70d01010b";
     assert_written(&rt, rt.alloc(), &out, digits);
 }
@@ -66,7 +95,7 @@ fn times_of_validity(rt: HostRuntime) {
     assert!(rt; validity.not_before() == day(&rt, 2019));
     assert!(rt; validity.not_after() == day(&rt, 2029));
     let mut out = Vec::new(rt.alloc());
-    validity.encode(&mut out).expect(&rt, "memory");
+    validity.encode(rt.alloc(), &mut out).expect(&rt, "memory");
     let digits = "301e170d3139303530313030303030305a170d3239303530313030303030305a";
     assert_written(&rt, rt.alloc(), &out, digits);
 }
@@ -77,7 +106,9 @@ fn signed_data(rt: HostRuntime) {
     let signature = Signature::new(algorithm, Bytes::from_static(b"abc"));
     let signed = SignedData::new(Bytes::from_static(b"\x30\x02\xff\xff"), signature);
     let mut out = Vec::new(rt.alloc());
-    signed.encode_ref(&mut out).expect(&rt, "memory");
+    signed
+        .encode_ref(rt.alloc(), &mut out)
+        .expect(&rt, "memory");
     let digits = "30173002ffff300b06092a864886f70d01010b030400616263";
     assert_written(&rt, rt.alloc(), &out, digits);
 }
@@ -86,8 +117,10 @@ fn signed_data(rt: HostRuntime) {
 fn purposes_of_a_router(rt: HostRuntime) {
     let purposes = ExtendedKeyUsage::create_router(rt.alloc()).expect(&rt, "memory");
     let mut out = Vec::new(rt.alloc());
-    encode_extended_key_usage(&mut out, &purposes).expect(&rt, "memory");
-    purposes.encode_ref(&mut out).expect(&rt, "memory");
+    encode_extended_key_usage(rt.alloc(), &mut out, &purposes).expect(&rt, "memory");
+    purposes
+        .encode_ref(rt.alloc(), &mut out)
+        .expect(&rt, "memory");
     let digits = "30130603551d25040c300a06082b0601050507031e06082b0601050507031e";
     assert_written(&rt, rt.alloc(), &out, digits);
 }
@@ -101,7 +134,7 @@ fn the_name_of_a_locator(rt: HostRuntime) {
 
 // From the anchor's fields to the router's.
 fn set_fields(rt: &impl Abort, alloc: Global, tbs: &mut TbsCert) {
-    let key = PublicKey::new(PublicKeyFormat::EcdsaP256, Bytes::from_static(b"a"));
+    let key = router();
     let name = key.to_subject_name(alloc).expect(rt, "memory");
     tbs.set_serial_number(10u64);
     tbs.set_subject(name);

@@ -28,16 +28,16 @@ fn refuse_values(rt: &impl Abort, cursor: &mut Cursor<'_>) {
     assert_kept(rt, answer, cursor);
 }
 
-fn refuse_parts(rt: &impl Abort, cursor: &mut Cursor<'_>) {
+fn refuse_parts(rt: &impl Abort, alloc: Global, cursor: &mut Cursor<'_>) {
     let answer = KeyIdentifier::take_from(cursor);
     assert_kept(rt, answer, cursor);
-    let answer = Name::take_from(cursor);
+    let answer = Name::take_from(alloc, cursor);
     assert_kept(rt, answer, cursor);
-    let answer = PublicKey::take_from(cursor);
+    let answer = PublicKey::take_from(alloc, cursor);
     assert_kept(rt, answer, cursor);
     let answer = Validity::take_from(cursor).map(|_| ());
     assert_kept(rt, answer, cursor);
-    let answer = SignedData::from_constructed(cursor);
+    let answer = SignedData::from_constructed(alloc, cursor);
     assert_kept(rt, answer, cursor);
     let answer = take_extension(cursor).map(|_| ());
     assert_kept(rt, answer, cursor);
@@ -48,7 +48,7 @@ fn a_cursor_stays(rt: HostRuntime) {
     let source = Bytes::from_static(b"\x02\x01\x0c\x30\x83\x01\x00\x00");
     let mut cursor = Cursor::new(&source);
     refuse_values(&rt, &mut cursor);
-    refuse_parts(&rt, &mut cursor);
+    refuse_parts(&rt, rt.alloc(), &mut cursor);
     let answer = Cert::take_from(rt.alloc(), &mut cursor);
     assert_kept(&rt, answer, &cursor);
     assert_eq!(rt; cursor.take_u32().expect(&rt, "a number"), 12);
@@ -93,6 +93,6 @@ fn a_vector_stays(rt: HostRuntime) {
     let answer = put_value(&mut out, 0x04, b"\x07");
     assert_left(&rt, answer, &out, 0);
     let before = out.len();
-    let answer = samples::rsa(b"abc").encode_ref(&mut out);
+    let answer = samples::rsa(b"abc").encode_ref(rt.alloc(), &mut out);
     assert_left(&rt, answer, &out, before);
 }

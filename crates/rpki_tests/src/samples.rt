@@ -67,7 +67,8 @@ pub(crate) fn bare(
     .expect(rt, "certificate data")
 }
 
-fn set_places(rt: &impl Abort, alloc: Global, tbs: &mut TbsCert) {
+/// Sets where an authority publishes.
+pub(crate) fn set_places(rt: &impl Abort, alloc: Global, tbs: &mut TbsCert) {
     tbs.set_ca_repository(Some(uri(rt, alloc, "rsync://example.com/m/p")));
     tbs.set_rpki_manifest(Some(uri(rt, alloc, "rsync://example.com/m/p/mft.mft")));
 }
@@ -140,7 +141,7 @@ pub(crate) fn signed(rt: &impl Abort, alloc: Global, tbs: TbsCert) -> Bytes {
 /// The octets that are written of the data.
 pub(crate) fn written(rt: &impl Abort, alloc: Global, tbs: &TbsCert) -> Vec<u8> {
     let mut out = Vec::new(alloc);
-    tbs.encode_ref(&mut out).expect(rt, "octets");
+    tbs.encode_ref(alloc, &mut out).expect(rt, "octets");
     out
 }
 

@@ -47,11 +47,15 @@ fn identifiers_and_extensions(rt: HostRuntime) {
 #[test]
 fn numbers_and_times(rt: HostRuntime) {
     let mut out = Vec::new(rt.alloc());
-    Serial::from(255u64).encode(&mut out).expect(&rt, "memory");
+    Serial::from(255u64)
+        .encode(rt.alloc(), &mut out)
+        .expect(&rt, "memory");
     let last = Time::utc(2049, 12, 31, 23, 59, 59).expect(&rt, "a time");
-    last.encode_varied(&mut out).expect(&rt, "memory");
+    last.encode_varied(rt.alloc(), &mut out)
+        .expect(&rt, "memory");
     let next = Time::utc(2050, 1, 1, 0, 0, 0).expect(&rt, "a time");
-    next.encode_varied(&mut out).expect(&rt, "memory");
+    next.encode_varied(rt.alloc(), &mut out)
+        .expect(&rt, "memory");
     let digits = "020200ff170d3439313233313233353935395a180f32303530303130313030303030305a";
     assert_written(&rt, rt.alloc(), &out, digits);
 }
@@ -59,11 +63,13 @@ fn numbers_and_times(rt: HostRuntime) {
 #[test]
 fn flags_of_certificates(rt: HostRuntime) {
     let mut out = Vec::new(rt.alloc());
-    encode_basic_constraints(&mut out, true).expect(&rt, "memory");
-    encode_basic_constraints(&mut out, false).expect(&rt, "memory");
-    encode_key_usage(&mut out, KeyUsage::Ca).expect(&rt, "memory");
-    KeyUsage::Ee.encode(&mut out).expect(&rt, "memory");
-    encode_certificate_policies(&mut out, Overclaim::Trim).expect(&rt, "memory");
+    encode_basic_constraints(rt.alloc(), &mut out, true).expect(&rt, "memory");
+    encode_basic_constraints(rt.alloc(), &mut out, false).expect(&rt, "memory");
+    encode_key_usage(rt.alloc(), &mut out, KeyUsage::Ca).expect(&rt, "memory");
+    KeyUsage::Ee
+        .encode(rt.alloc(), &mut out)
+        .expect(&rt, "memory");
+    encode_certificate_policies(rt.alloc(), &mut out, Overclaim::Trim).expect(&rt, "memory");
     let digits =
         "300f0603551d130101ff040530030101ff300c0603551d130101ff04023000300e0603551d0f0101ff0404030201060302078030180603551d200101ff040e300c300a06082b06010505070e03";
     assert_written(&rt, rt.alloc(), &out, digits);
@@ -73,35 +79,52 @@ fn flags_of_certificates(rt: HostRuntime) {
 fn key_identifiers(rt: HostRuntime) {
     let id = rsa(b"abc").key_identifier();
     let mut out = Vec::new(rt.alloc());
-    encode_subject_key_identifier(&mut out, id).expect(&rt, "memory");
-    encode_authority_key_identifier(&mut out, id).expect(&rt, "memory");
+    encode_subject_key_identifier(rt.alloc(), &mut out, id).expect(&rt, "memory");
+    encode_authority_key_identifier(rt.alloc(), &mut out, id).expect(&rt, "memory");
     let digits =
         "301d0603551d0e04160414a9993e364706816aba3e25717850c26c9cd0d89d301f0603551d23041830168014a9993e364706816aba3e25717850c26c9cd0d89d";
     assert_written(&rt, rt.alloc(), &out, digits);
+}
+
+fn put_issuer(rt: &impl Abort, alloc: Global, list: &Rsync, issuer: &Rsync) -> Vec<u8> {
+    let mut out = Vec::new(alloc);
+    encode_crl_distribution_points(alloc, &mut out, list).expect(rt, "memory");
+    encode_authority_information_access(alloc, &mut out, issuer).expect(rt, "memory");
+    out
 }
 
 #[test]
 fn where_an_issuer_is(rt: HostRuntime) {
     let list = uri(&rt, rt.alloc(), "rsync://example.com/m/p/x.crl");
     let issuer = uri(&rt, rt.alloc(), "rsync://example.com/m/ta.cer");
-    let mut out = Vec::new(rt.alloc());
-    encode_crl_distribution_points(&mut out, &list).expect(&rt, "memory");
-    encode_authority_information_access(&mut out, &issuer).expect(&rt, "memory");
+    let out = put_issuer(&rt, rt.alloc(), &list, &issuer);
     let digits =
         "302e0603551d1f042730253023a021a01f861d7273796e633a2f2f6578616d706c652e636f6d2f6d2f702f782e63726c303806082b06010505070101042c302a302806082b06010505073002861c7273796e633a2f2f6578616d706c652e636f6d2f6d2f74612e636572";
     assert_written(&rt, rt.alloc(), &out, digits);
+}
+
+fn put_subject(
+    rt: &impl Abort,
+    alloc: Global,
+    folder: Option<&Rsync>,
+    site: Option<&Https>,
+) -> Vec<u8> {
+    let mut out = Vec::new(alloc);
+    let answer = encode_subject_information_access(alloc, &mut out, folder, None, None, site);
+    answer.expect(rt, "memory");
+    out
+}
+
+#[test]
+fn no_subject(rt: HostRuntime) {
+    assert!(rt; put_subject(&rt, rt.alloc(), None, None).is_empty());
 }
 
 #[test]
 fn where_a_subject_is(rt: HostRuntime) {
     let folder = uri(&rt, rt.alloc(), "rsync://a/m/");
     let site = Https::from_text(rt.alloc(), "https://a").expect(&rt, "a URI");
-    let mut out = Vec::new(rt.alloc());
-    encode_subject_information_access(&mut out, None, None, None, None).expect(&rt, "memory");
-    assert!(rt; out.is_empty());
-    encode_subject_information_access(&mut out, Some(&folder), None, None, Some(&site)).expect(
-        &rt, "memory",
-    );
+    let out = put_subject(&rt, rt.alloc(), Some(&folder), Some(&site));
     let digits =
         "303f06082b0601050507010b04333031301806082b06010505073005860c7273796e633a2f2f612f6d2f301506082b0601050507300d860968747470733a2f2f61";
     assert_written(&rt, rt.alloc(), &out, digits);

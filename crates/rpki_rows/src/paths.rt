@@ -1,0 +1,85 @@
+//! Whole paths, with the stand-in for signatures.
+use crate::answer::Answer;
+use crate::judging::{held, tal};
+use crate::words::{Words, bytes, moment};
+use bytes::Bytes;
+use rpki_cert::ResourceCert;
+use rpki_der::Time;
+use rpki_parts::StandIn;
+use rpki_path::{Leaf, PathError, PathFault, validate_path};
+
+// The octets behind `NAME:` of a word.
+fn named(out: &mut Answer, word: &str, name: &str) -> Option<Bytes> {
+    let (before, digits) = word.split_once(':')?;
+    if before == name {
+        Some(bytes(out, digits))
+    } else {
+        None
+    }
+}
+
+fn authorities(out: &mut Answer, words: &Words<'_>) -> Vec<Bytes> {
+    let mut found: Vec<Bytes> = Vec::new(out.alloc());
+    for place in 4..words.count() {
+        if let Some(octets) = named(out, words.at(place), "ca") {
+            if found.push(octets).is_err() {
+                out.fail();
+            }
+        }
+    }
+    found
+}
+
+fn leaf(out: &mut Answer, words: &Words<'_>) -> Option<Leaf> {
+    let last = words.at(words.count().wrapping_sub(1));
+    if let Some(octets) = named(out, last, "ee") {
+        return Some(Leaf::Ee(octets));
+    }
+    named(out, last, "detached").map(|octets| Leaf::DetachedEe(octets))
+}
+
+fn refused(out: &mut Answer, error: &PathError) {
+    out.text("refused ");
+    out.count(error.index);
+    match &error.fault {
+        PathFault::Decode(_) => out.text(" decode"),
+        PathFault::Inspect(fault) => {
+            out.text(" inspect ");
+            out.text(fault.name());
+        }
+        PathFault::Verify(fault) => {
+            out.text(" verify ");
+            out.text(fault.name());
+        }
+        PathFault::Memory => out.fail(),
+    }
+}
+
+fn validated(out: &mut Answer, answer: Result<ResourceCert, PathError>) {
+    match answer {
+        Ok(cert) => held(out, &cert),
+        Err(error) => refused(out, &error),
+    }
+}
+
+fn answered(out: &mut Answer, words: &Words<'_>, now: Time) -> Option<()> {
+    let anchor = named(out, words.at(3), "ta")?;
+    let cas = authorities(out, words);
+    let leaf = leaf(out, words);
+    let tal = tal(out.alloc()).ok()?;
+    let strict = words.is(1, "strict");
+    let answer = validate_path(out.alloc(), &anchor, &cas, leaf, tal, strict, now, &StandIn);
+    validated(out, answer);
+    Some(())
+}
+
+/// What the last member of a path holds, or which member is refused, and why.
+pub fn path(words: &Words<'_>, out: &mut Answer) {
+    let answer = match moment(words.at(2)) {
+        Some(now) => answered(out, words, now),
+        None => None,
+    };
+    if answer.is_none() {
+        out.text("unfit");
+    }
+}

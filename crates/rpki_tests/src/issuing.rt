@@ -1,0 +1,144 @@
+//! Authorities are issued under an anchor, and lists are verified under it.
+
+use crate::samples::{self, day, rsa};
+use rpki_blocks::{AsBlock, Asn};
+use rpki_cert::{
+    Cert, IssueCaError, KeyUsage, Overclaim, ResourceCert, TbsCert, ValidationError,
+    VerificationError, issue_ca,
+};
+use rpki_crl::Crl;
+use rpki_parts::{StandIn, TalInfo};
+use std::alloc::Global;
+use std::process::Abort;
+
+fn numbers(rt: &impl Abort, alloc: Global, tbs: &mut TbsCert, low: u32, high: u32) {
+    let block = AsBlock::from((Asn::from(low), Asn::from(high)));
+    tbs.as_resources_from_iter(alloc, [block])
+        .expect(rt, "memory");
+}
+
+// The octets of the anchor, which has AS1 to AS10.
+fn anchor_octets(rt: &impl Abort, alloc: Global) -> bytes::Bytes {
+    let mut tbs = samples::anchor(rt, alloc);
+    numbers(rt, alloc, &mut tbs, 1, 10);
+    samples::signed(rt, alloc, tbs)
+}
+
+fn anchor(rt: &impl Abort, alloc: Global) -> ResourceCert {
+    let cert = Cert::decode_shared(alloc, anchor_octets(rt, alloc)).expect(rt, "a certificate");
+    let tal = TalInfo::from_name(String::new(alloc)).into_rc(alloc);
+    let now = day(rt, 2024);
+    cert.validate_ta_at(alloc, tal.expect(rt, "memory"), true, now, &StandIn)
+        .expect(rt, "an anchor")
+}
+
+// The data of an authority that lists AS5 to AS20.
+fn authority(rt: &impl Abort, alloc: Global, mode: Overclaim) -> TbsCert {
+    let mut tbs = samples::bare(rt, alloc, 13, rsa(b"a"), KeyUsage::Ca);
+    tbs.set_basic_ca(Some(true));
+    tbs.set_overclaim(mode);
+    samples::set_issuer(rt, alloc, &mut tbs);
+    samples::set_places(rt, alloc, &mut tbs);
+    numbers(rt, alloc, &mut tbs, 5, 20);
+    tbs
+}
+
+type Issued = Result<ResourceCert, IssueCaError<()>>;
+
+fn issued(rt: &impl Abort, alloc: Global, issuer: &ResourceCert, mode: Overclaim) -> Issued {
+    let tbs = authority(rt, alloc, mode);
+    let now = day(rt, 2024);
+    issue_ca(
+        alloc,
+        tbs,
+        &StandIn,
+        &rsa(b"abc"),
+        issuer,
+        true,
+        now,
+        &StandIn,
+    )
+}
+
+fn assert_held(rt: &impl Abort, cert: &ResourceCert) {
+    assert!(rt; cert.as_cert().as_tbs().is_ca());
+    assert!(rt; cert.as_resources().contains(Asn::from(5)));
+    assert!(rt; cert.as_resources().contains(Asn::from(10)));
+    assert!(rt; !cert.as_resources().contains(Asn::from(11)));
+    assert!(rt; cert.v4_resources().is_empty());
+}
+
+#[test]
+fn an_authority_is_issued(rt: HostRuntime) {
+    let anchor = anchor(&rt, rt.alloc());
+    let cert = issued(&rt, rt.alloc(), &anchor, Overclaim::Trim);
+    assert_held(&rt, &cert.expect(&rt, "an authority"));
+}
+
+fn name(answer: &Issued) -> &'static str {
+    match answer {
+        Err(IssueCaError::Validation(ValidationError::Verification(error))) => error.name(),
+        Err(error) => error.name(),
+        Ok(_) => "Ok",
+    }
+}
+
+#[test]
+fn one_that_overclaims_is_not_issued(rt: HostRuntime) {
+    let anchor = anchor(&rt, rt.alloc());
+    let answer = issued(&rt, rt.alloc(), &anchor, Overclaim::Refuse);
+    assert_eq!(rt; name(&answer), "OverclaimAs");
+}
+
+#[test]
+fn another_key_does_not_issue(rt: HostRuntime) {
+    let anchor = anchor(&rt, rt.alloc());
+    let tbs = authority(&rt, rt.alloc(), Overclaim::Trim);
+    let now = day(&rt, 2024);
+    let key = rsa(b"a");
+    let answer = issue_ca(
+        rt.alloc(),
+        tbs,
+        &StandIn,
+        &key,
+        &anchor,
+        true,
+        now,
+        &StandIn,
+    );
+    assert_eq!(rt; name(&answer), "BadSignature");
+}
+
+fn fault(answer: Result<(), VerificationError>) -> &'static str {
+    match answer {
+        Ok(()) => "Ok",
+        Err(error) => error.name(),
+    }
+}
+
+fn assert_claim(rt: &impl Abort, anchor: &ResourceCert, list: &Crl, name: &str) {
+    assert_eq!(rt; fault(list.verify_issuer_claim(anchor, true)), name);
+    let key = anchor.as_cert().as_tbs().subject_public_key_info();
+    assert_eq!(rt; fault(list.verify_signature(key, &StandIn)), "Ok");
+    assert_eq!(rt;
+        fault(list.verify_signature(&rsa(b"a"), &StandIn)),
+        "BadSignature"
+    );
+}
+
+#[test]
+fn a_list_names_its_issuer(rt: HostRuntime) {
+    let anchor = anchor(&rt, rt.alloc());
+    let data = crate::lists::data(&rt, rt.alloc());
+    let list = data.into_crl(rt.alloc(), &StandIn, &rsa(b"abc"));
+    assert_claim(&rt, &anchor, &list.expect(&rt, "a list"), "Ok");
+}
+
+#[test]
+fn a_list_of_another_is_told(rt: HostRuntime) {
+    let anchor = anchor(&rt, rt.alloc());
+    let mut data = crate::lists::data(&rt, rt.alloc());
+    data.set_authority_key_identifier(rsa(b"a").key_identifier());
+    let list = data.into_crl(rt.alloc(), &StandIn, &rsa(b"abc"));
+    assert_claim(&rt, &anchor, &list.expect(&rt, "a list"), "WrongKeyId");
+}

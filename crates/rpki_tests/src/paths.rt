@@ -1,0 +1,116 @@
+//! Whole paths: long ones, and with a verifier of a caller's own.
+
+use crate::samples::{self, day, rsa};
+use bytes::Bytes;
+use rpki_blocks::Asn;
+use rpki_cert::{KeyUsage, ResourceCert, VerificationError};
+use rpki_parts::{PublicKey, RpkiSignatureAlgorithm, StandIn, TalInfo, Verifier};
+use rpki_path::{Leaf, PathError, PathFault, validate_path};
+use std::alloc::{AllocError, Global};
+use std::process::Abort;
+
+fn anchor(rt: &impl Abort, alloc: Global) -> Bytes {
+    samples::signed(rt, alloc, samples::anchor(rt, alloc))
+}
+
+// An authority with the anchor's key, which inherits all.
+fn authority(rt: &impl Abort, alloc: Global) -> Bytes {
+    let mut tbs = samples::bare(rt, alloc, 13, rsa(b"abc"), KeyUsage::Ca);
+    tbs.set_basic_ca(Some(true));
+    samples::set_issuer(rt, alloc, &mut tbs);
+    samples::set_places(rt, alloc, &mut tbs);
+    tbs.set_v4_resources_inherit();
+    tbs.set_v6_resources_inherit();
+    tbs.set_as_resources_inherit();
+    samples::signed(rt, alloc, tbs)
+}
+
+fn leaf(rt: &impl Abort, alloc: Global) -> Leaf {
+    Leaf::DetachedEe(samples::signed(rt, alloc, samples::end_entity(rt, alloc)))
+}
+
+// So many authorities one below the other.
+fn authorities(rt: &impl Abort, alloc: Global, count: usize) -> Vec<Bytes> {
+    let octets = authority(rt, alloc);
+    let mut all = Vec::new(alloc);
+    for _ in 0..count {
+        let copy: Result<Bytes, AllocError> = octets.clone();
+        all.push(copy.expect(rt, "memory")).expect(rt, "memory");
+    }
+    all
+}
+
+type Validated = Result<ResourceCert, PathError>;
+
+fn validated<V: Verifier>(rt: &impl Abort, alloc: Global, count: usize, verifier: &V) -> Validated {
+    let (anchor, cas) = (anchor(rt, alloc), authorities(rt, alloc, count));
+    let leaf = Some(leaf(rt, alloc));
+    let tal = TalInfo::from_name(String::new(alloc)).into_rc(alloc);
+    let tal = tal.expect(rt, "memory");
+    validate_path(
+        alloc,
+        &anchor,
+        &cas,
+        leaf,
+        tal,
+        true,
+        day(rt, 2024),
+        verifier,
+    )
+}
+
+fn assert_all(rt: &impl Abort, cert: &ResourceCert) {
+    assert!(rt; cert.as_resources().contains(Asn::MIN));
+    assert!(rt; cert.as_resources().contains(Asn::MAX));
+    assert!(rt; !cert.v4_resources().is_empty());
+}
+
+#[test]
+fn fifty_authorities_hand_on_what_the_anchor_lists(rt: HostRuntime) {
+    let answer = validated(&rt, rt.alloc(), 50, &StandIn);
+    assert_all(&rt, &answer.expect(&rt, "a path"));
+}
+
+// The stand-in, but for messages of this length.
+#[derive(Drop)]
+struct Without(usize);
+
+impl Verifier for Without {
+    ghost use Rattle.std.specs.Prelude.{◌≢◌, length};
+    ghost use Rattle.rpki_parts.specs.Signatures.{IsStandInSignature};
+
+    ghost verifies = { λ w key algorithm message signature.
+        IsStandInSignature key algorithm message signature × length message ≢ w.0 };
+
+    fn verify(
+        &self,
+        key: &PublicKey,
+        algorithm: RpkiSignatureAlgorithm,
+        message: &[u8],
+        signature: &[u8],
+    ) -> bool {
+        StandIn.verify(key, algorithm, message, signature) && message.len() != self.0
+    }
+}
+
+fn fault(answer: Validated) -> (usize, &'static str) {
+    match answer {
+        Ok(_) => (0, "Ok"),
+        Err(PathError { index, fault }) => match fault {
+            PathFault::Verify(VerificationError::BadSignature) => (index, "BadSignature"),
+            other => (index, other.name()),
+        },
+    }
+}
+
+fn data_length(rt: &impl Abort, alloc: Global) -> usize {
+    samples::written(rt, alloc, &samples::end_entity(rt, alloc)).len()
+}
+
+#[test]
+fn a_verifier_refuses_the_leaf(rt: HostRuntime) {
+    let refusing = Without(data_length(&rt, rt.alloc()));
+    let (index, name) = fault(validated(&rt, rt.alloc(), 2, &refusing));
+    assert_eq!(rt; index, 3);
+    assert_eq!(rt; name, "BadSignature");
+}
