@@ -142,81 +142,6 @@ fn anchor(
     Some(cert.validate_ta_at(out.alloc(), tal, terms.strict, terms.now, &StandIn))
 }
 
-fn below(
-    out: &Answer,
-    cert: Cert,
-    kind: Role,
-    issuer: &ResourceCert,
-    terms: Terms,
-) -> Result<ResourceCert, ValidationError> {
-    match kind {
-        Role::Ee => { cert.validate_ee_at(out.alloc(), issuer, terms.strict, terms.now, &StandIn) }
-        Role::Detached => {
-            cert.validate_detached_ee_at(out.alloc(), issuer, terms.strict, terms.now, &StandIn)
-        }
-        _ => cert.validate_ca_at(out.alloc(), issuer, terms.strict, terms.now, &StandIn),
-    }
-}
-
-// The certificate at a place, below an issuer.
-fn next(
-    out: &mut Answer,
-    words: &Words<'_>,
-    place: usize,
-    issuer: &ResourceCert,
-    terms: Terms,
-) -> Option<ResourceCert> {
-    let cert = decoded(out, words, place).ok()?;
-    below(out, cert, Role::Ca, issuer, terms).ok()
-}
-
-// The last of the certificates above, each of which is accepted.
-fn issuer(out: &mut Answer, words: &Words<'_>, terms: Terms) -> Option<ResourceCert> {
-    let mut last = anchor(out, words, 5, terms)?.ok()?;
-    for place in 6..words.count() {
-        last = next(out, words, place, &last, terms)?;
-    }
-    Some(last)
-}
-
-fn router(out: &mut Answer, cert: &Cert, issuer: &ResourceCert, terms: Terms) {
-    match cert.validate_router_at(issuer, terms.strict, terms.now, &StandIn) {
-        Ok(()) => out.text("ok"),
-        Err(error) => refused(out, &error),
-    }
-}
-
-fn judged(out: &mut Answer, cert: Cert, kind: Role, issuer: &ResourceCert, terms: Terms) {
-    if let Role::Router = kind {
-        router(out, &cert, issuer, terms);
-    } else {
-        let answer = below(out, cert, kind, issuer, terms);
-        verdict(out, answer);
-    }
-}
-
-fn judged_under(
-    out: &mut Answer,
-    words: &Words<'_>,
-    above: Option<ResourceCert>,
-    terms: Terms,
-) -> Option<()> {
-    let cert = decoded(out, words, 4).ok()?;
-    if let Some(issuer) = above {
-        judged(out, cert, role_of(words, 1), &issuer, terms);
-        Some(())
-    } else {
-        None
-    }
-}
-
-fn judged_below(out: &mut Answer, words: &Words<'_>) -> Option<()> {
-    let first = stated(words)?;
-    let above = issuer(out, words, first);
-    let again = stated(words)?;
-    judged_under(out, words, above, again)
-}
-
 fn judged_anchor(out: &mut Answer, words: &Words<'_>, terms: Terms) -> Option<()> {
     let answer = anchor(out, words, 4, terms)?;
     verdict(out, answer);
@@ -225,14 +150,10 @@ fn judged_anchor(out: &mut Answer, words: &Words<'_>, terms: Terms) -> Option<()
 
 fn judged_by(out: &mut Answer, words: &Words<'_>) -> Option<()> {
     let terms = stated(words)?;
-    if words.is(1, "ta") {
-        judged_anchor(out, words, terms)
-    } else {
-        judged_below(out, words)
-    }
+    judged_anchor(out, words, terms)
 }
 
-/// Whether a certificate is valid below others, and what it holds.
+/// Whether an anchor is valid, and what it holds.
 pub fn validate(words: &Words<'_>, out: &mut Answer) {
     if judged_by(out, words).is_none() {
         out.text("unfit");

@@ -14,8 +14,7 @@
 //!   and back.
 //! - `inspect HEX`, `inspect KIND HEX`: the first fault of a certificate, strictly and leniently,
 //!   as each of the kinds `ta`, `ca`, `ee`, `detached`, `router`, or as one of them.
-//! - `validate KIND MODE YYYYMMDDhhmmss HEX HEX ..`: a certificate, and those above it from the
-//!   anchor down, which are accepted; MODE is `strict` or `lenient`.
+//! - `validate ta MODE YYYYMMDDhhmmss HEX`: an anchor; what stands below one is asked by `path`.
 //! - `path MODE YYYYMMDDhhmmss ta:HEX ca:HEX .. ee:HEX`: a whole path; the leaf may be absent, or
 //!   `detached:HEX`.
 //!
