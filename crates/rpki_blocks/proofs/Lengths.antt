@@ -5,12 +5,11 @@ use Rattle.std.proofs.lemmas.List.{length-append}
 use Rattle.std.proofs.lemmas.List.Folds.{concat-append}
 use Rattle.rpki_der.specs.Values.{enc, length_octets, sequence, sequence_of_some}
 use Rattle.rpki_der.specs.Primitives.{null}
-use Rattle.rpki_blocks.specs.Lengths.{text_of}
 use Rattle.rpki_blocks.specs.Resources.{Resources, missing, inherit, blocks}
 use Rattle.rpki_blocks.specs.Addresses.{family, ip_addr_blocks}
 use Rattle.rpki_blocks.specs.AddressBits.{ip_block}
 use Rattle.rpki_blocks.specs.Systems.{as_block, written_as}
-use Rattle.rpki_blocks.specs.Unions.{written_choice}
+use Rattle.rpki_blocks.specs.Unions.{text_of, written_choice}
 use Rattle.rpki_der.specs.Extensions.{content_of_some}
 use Rattle.rpki_der.specs.Tags.{NULL, OBJECT_IDENTIFIER, OCTET_STRING, SEQUENCE, CONTEXT_CONSTRUCTED}
 use Rattle.rpki_der.proofs.ValueWritten.{enc_longer}

@@ -9,5 +9,4 @@ pub mod AddressBits
 pub mod Addresses
 pub mod Systems
 pub mod ResourceExtensions
-pub mod Lengths
 pub mod IssueErrorNames

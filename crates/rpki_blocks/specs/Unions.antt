@@ -1,5 +1,5 @@
 -- What an IPAddressChoice or an ASIdentifierChoice lists (RFC 3779 2.2.3.4, 3.2.3.2).
-use Rattle.std.specs.Prelude.{◌≡◌, ℕ, ◌⊎◌, List, map, Option, Some, None}
+use Rattle.std.specs.Prelude.{◌≡◌, ℕ, ◌⊎◌, List, [], map, Option, Some, None}
 use Rattle.rpki_der.specs.Primitives.{null}
 use Rattle.rpki_der.specs.Rows.{IsRow}
 use Rattle.rpki_der.specs.Values.{IsSequenceOf, sequence}
@@ -28,6 +28,11 @@ abbrev pub IsResourceChoice : (Block → List ℕ → Type 0) → Resources → 
 IsResourceChoice element r b = IsUnionOf element r b ⊎ IsInherit r b
 
 -- ---- what is written
+
+-- nothing where there is nothing to write
+abbrev pub text_of : Option (List ℕ) → List ℕ
+text_of None = []
+text_of (Some text) = text
 
 -- NULL, or a SEQUENCE of blocks; nothing of what is missing
 abbrev pub written_choice : (Block → List ℕ) → Resources → Option (List ℕ)

@@ -3,14 +3,13 @@ ghost use Rattle.std.specs.Prelude.{◌≡◌, ◌≢◌, ℕ, ◌+◌, ◌-◌,
 ghost use Rattle.std.specs.Prelude.{List, [], ◌∷◌, true, length, map, IfOk, OnOk, IsErrOf};
 ghost use Rattle.std.specs.List.{concat};
 ghost use Rattle.std.specs.Option.{option_map};
-ghost use Rattle.rpki_blocks.specs.Lengths.{SaysLong, text_of};
 ghost use Rattle.rpki_blocks.specs.Sets.{between};
 ghost use Rattle.rpki_blocks.specs.Addresses.{family, ip_addr_blocks};
 ghost use Rattle.rpki_blocks.specs.Systems.{as_range, as_block, written_as};
-ghost use Rattle.rpki_blocks.specs.Unions.{written_choice};
+ghost use Rattle.rpki_blocks.specs.Unions.{text_of, written_choice};
 ghost use Rattle.rpki_blocks.specs.ResourceExtensions.{critical, as_extension, ip_extension};
 ghost use Rattle.rpki_der.specs.Primitives.{IsOid, number};
-ghost use Rattle.rpki_der.specs.Writers.{Writes};
+ghost use Rattle.rpki_der.specs.Writers.{SaysLong, Writes};
 
 use crate::asn::Asn;
 use crate::bound::Bound;

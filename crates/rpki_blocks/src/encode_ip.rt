@@ -1,7 +1,7 @@
 //! How blocks of addresses are written.
 ghost use Rattle.std.specs.Prelude.{◌≡◌, ℕ, ◌+◌, ◌-◌, ◌*◌, ◌/◌, ◌^◌, ◌<◌, ◌≤◌, ◌++◌};
 ghost use Rattle.std.specs.Prelude.{List, length, IfSome, OnOk, IsErrOf};
-ghost use Rattle.rpki_blocks.specs.Lengths.{SaysLong};
+ghost use Rattle.rpki_der.specs.Writers.{SaysLong};
 ghost use Rattle.rpki_blocks.specs.Sets.{between};
 ghost use Rattle.rpki_blocks.specs.AddressBits.{ip_range, ip_block, IsPrefixAnswer, zero_bits, one_bits, without};
 

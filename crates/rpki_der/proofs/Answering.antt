@@ -1,11 +1,12 @@
 -- Both directions of a reader, from what it gives.
-use Rattle.std.proofs.Common.{◌≡◌, ◌≢◌, ℕ, List, Option, None, Result, Ok, Err, sym, ◌∙◌}
+use Rattle.std.proofs.Common.{◌≡◌, ◌≢◌, ℕ, List, [], Option, None, Result, Ok, Err, refl, sym, ◌∙◌}
+use Rattle.std.proofs.lemmas.List.{append-nil}
 use Rattle.rpki_der.specs.declared.error.DecodeError.{DecodeError}
 use Rattle.rpki_der.specs.declared.error.DecodeError.TheVariants.{Memory}
 use Rattle.rpki_der.specs.Values.{AreOctets}
-use Rattle.rpki_der.specs.Spelling.{Begins}
+use Rattle.rpki_der.specs.Spelling.{Begins, Means}
 use Rattle.rpki_der.specs.Reading.{Reads}
-use Rattle.rpki_der.specs.Place.{Place, left, Refuses, AnswersBy, AnswersOrMemoryBy}
+use Rattle.rpki_der.specs.Place.{Place, left, Refuses, AnswersBy, AnswersOrMemoryBy, MeansOrMemoryBy}
 use Rattle.rpki_der.specs.Place.Reading.{TookBy, TookOrMemoryBy, ReturnsBy, ReturnsOrMemoryBy}
 use Rattle.rpki_der.proofs.Octets.{some, nothing}
 
@@ -14,6 +15,11 @@ use Rattle.rpki_der.proofs.Octets.{some, nothing}
 pub refuses : {P Q : Type 0} (d : DecodeError) → (P → Q) → Refuses d P → Refuses d Q
 refuses Memory f h = h
 refuses _ f h = f h
+
+-- nothing else is left
+pub memory_alone : {P : Type 0} (d : DecodeError) → Refuses d P → (P → ⊥) → d ≡ Memory
+memory_alone Memory h none = refl
+memory_alone _ h none = absurd (none h)
 
 pub certainly : {P : Type 0} (d : DecodeError) → P → Refuses d P
 certainly Memory h = tt
@@ -52,3 +58,15 @@ pub answers_or_memory : {X Y : Type 0} (view : X → Y) (read : List ℕ → Opt
     → (old : Place) (r : Result X DecodeError) (new : Place) → AreOctets (left old) → TookOrMemoryBy view read old r new → AnswersOrMemoryBy view spells old r new
 answers_or_memory view read spells law old (Ok x) new fits e = law.takes (left old) (view x) (left new) fits e
 answers_or_memory view read spells law old (Err d) new fits e = refuses d (no_front read spells law (left old)) e
+
+-- ---- whole octets
+
+-- a reader at their beginning tells what they mean
+pub front_means : {X Y : Type 0} (view : X → Y) (spells : Y → List ℕ → Type 0) (old new : Place) (r : Result X DecodeError) (octets : List ℕ)
+    → left old ≡ octets → AnswersOrMemoryBy view spells old r new → MeansOrMemoryBy view (Means spells) r octets
+front_means view spells old new (Ok x) octets e a = (left new, record { text = a.text; spelled = a.spelled; parts = sym e ∙ a.parts })
+front_means view spells old new (Err d) octets e a = refuses d (λ none y m. none y m.0 (record { text = m.1.text; spelled = m.1.spelled; parts = e ∙ m.1.parts })) a
+
+-- what they spell they mean
+pub whole_means : {V : Type 0} (spells : V → List ℕ → Type 0) (v : V) (octets : List ℕ) → spells v octets → Means spells v octets
+whole_means spells v octets s = ([], record { text = octets; spelled = s; parts = sym (append-nil octets) })

@@ -1,10 +1,11 @@
 -- Readings made of readings, with what follows them where that has to be known.
-use Rattle.std.proofs.Common.{◌≡◌, ℕ, List, [], ◌∷◌, ◌++◌, length, Option, Some, refl, sym, ap, subst, ◌∙◌, append_assoc}
+use Rattle.std.proofs.Common.{◌≡◌, ℕ, List, [], ◌∷◌, ◌++◌, length, Option, Some, None, refl, sym, ap, subst, ◌∙◌, append_assoc}
 use Rattle.std.proofs.lemmas.List.{append-nil}
 use Rattle.rpki_der.specs.Choices.{followed, Followed, whole}
 use Rattle.rpki_der.specs.Reading.{ended, inside, both, mapped, content, ReadsBefore, Anything, Reads, ReadsWhole, Both, Inside}
 use Rattle.rpki_der.specs.Values.Reading.{value_at, ◌>>=◌}
 use Rattle.rpki_der.specs.Spelling.{Begins}
+use Rattle.rpki_der.specs.Place.{Place, left}
 use Rattle.rpki_der.specs.Values.{AreOctets, length_octets, enc, IsEnc}
 use Rattle.rpki_der.proofs.Octets.{AreOctets-after, AreOctets-front, bind_some, some, some_is, both_are, nothing}
 use Rattle.rpki_der.proofs.ValueReads.{value_takes, value_again}
@@ -26,6 +27,17 @@ AreOctets-content {rest} bytes t c v fits =
 pub ended_some : {X : Type 0} (rest : List ℕ) (x y : X) → ended rest x ≡ some y → (rest ≡ []) × (x ≡ y)
 ended_some [] x y e = (refl, some_is x y e)
 ended_some (b ∷ rest) x y e = nothing y e
+
+-- a content that isn't used up
+pub not_used_up : {X : Type 0} {c rest more : List ℕ} {x : X} {now ahead : Place} (t : ℕ) (f : List ℕ → Option (X × List ℕ))
+    → ahead ≡ now → value_at t (left ahead) ≡ Some (c, rest) → f c ≡ Some (x, more) → (more ≡ [] → ⊥) → inside t f (left now) ≡ None
+not_used_up {X} {c} {rest} {more} {x} {now} {ahead} t f same v e h =
+    let here : value_at t (left now) ≡ Some (c, rest) = subst (λ (p : Place). value_at t (left p) ≡ Some (c, rest)) same v in
+    rw (here, e) (unended more (x, rest) h)
+  where
+    unended : {X : Type 0} (more : List ℕ) (x : X) → (more ≡ [] → ⊥) → ended more x ≡ None
+    unended [] x h = absurd (h refl)
+    unended (b ∷ more) x h = refl
 
 -- ---- before such octets
 

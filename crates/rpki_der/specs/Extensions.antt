@@ -58,8 +58,5 @@ content_of_some identifier critical (Some content) = concat (extension_pieces id
 abbrev pub text : OptionalExtension → List ℕ
 text x = extension_of_some x.identifier x.critical x.content
 
-abbrev pub inside : OptionalExtension → List ℕ
-inside x = content_of_some x.identifier x.critical x.content
-
 abbrev pub part_of : OptionalExtension → Part
-part_of x = record { written = text x; inside = inside x }
+part_of x = record { written = text x; inside = content_of_some x.identifier x.critical x.content }

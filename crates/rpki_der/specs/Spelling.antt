@@ -7,6 +7,10 @@ pub record Begins {V : Type 0} (spells : V → List ℕ → Type 0) (octets : Li
   pub spelled : spells v text
   pub parts : octets ≡ text ++ rest
 
+-- some front of the octets spells the value
+abbrev pub Means : {V : Type 0} → (V → List ℕ → Type 0) → V → List ℕ → Type 0
+Means spells v octets = (rest : List ℕ) × Begins spells octets v rest
+
 -- the octets don't begin with this tag
 abbrev pub BeginsOther : ℕ → List ℕ → Type 0
 BeginsOther tag [] = Unit {0}

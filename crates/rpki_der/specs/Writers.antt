@@ -19,6 +19,10 @@ value tag content = record { written = enc tag content; inside = content }
 abbrev pub number_part : ℕ → Part
 number_part n = record { written = number n; inside = unsigned (digits_of 256 n) }
 
+-- TooLong means that these octets are 2^32 or more
+abbrev pub SaysLong : {T : Type 0} → Result T EncodeError → List ℕ → Type 0
+SaysLong r octets = IsErrOf r TooLong → 2 ^ 32 ≤ length octets
+
 -- What the writer of a part did: it appended the whole part, or left the octets as they were. It
 -- goes well only where what stands inside has fewer than 2^32 octets, and TooLong says that it has
 -- not.
@@ -26,7 +30,7 @@ pub record Writes {T : Type 0} (p : Part) (old : List ℕ) (r : Result T EncodeE
   pub ok : OnOk r (new ≡ old ++ p.written)
   pub err : OnErr r (new ≡ old)
   pub fits : OnOk r (length p.inside < 2 ^ 32)
-  pub too_long : IsErrOf r TooLong → 2 ^ 32 ≤ length p.inside
+  pub too_long : SaysLong r p.inside
 
 -- The same of a writer that answers TooLong wherever what stands inside is too long.
 pub record WritesOrTooLong {T : Type 0} (p : Part) (old : List ℕ) (r : Result T EncodeError) (new : List ℕ) : Type 0 where

@@ -68,8 +68,9 @@ pub enum DecodeError {
 }
 
 impl DecodeError {
-    ghost use Rattle.std.specs.Prelude.{◌≡◌};
+    ghost use Rattle.std.specs.Prelude.{◌≡◌, ◌↔◌, IsTrue};
     ghost use Rattle.rpki_der.specs.ErrorNames.{decode_error_name};
+    ghost use Rattle.rpki_der.specs.declared.error.DecodeError.TheVariants as error;
 
     /// The variant's name.
     pub fn name(&self) -> &'static str
@@ -91,6 +92,16 @@ impl DecodeError {
             DecodeError::WrongResources(_) => "WrongResources",
             DecodeError::AlgorithmMismatch => "AlgorithmMismatch",
             DecodeError::Memory => "Memory",
+        }
+    }
+
+    /// Whether memory was wanted.
+    pub fn is_memory(&self) -> bool
+        ensures { IsTrue result ↔ self.now ≡ error.Memory }
+    {
+        match self {
+            DecodeError::Memory => true,
+            _ => false,
         }
     }
 }

@@ -229,7 +229,10 @@ fn after_year(year: u32, text: &[u8]) -> Result<Time, DecodeError>
     if text != END {
         return Err(DecodeError::BadValue);
     }
-    Time::at(year, month, day, hour, minute, second).ok_or(DecodeError::BadValue)
+    match Time::at(year, month, day, hour, minute, second) {
+        Some(time) => Ok(time),
+        None => Err(DecodeError::BadValue),
+    }
 }
 
 // The time of a whole content YYMMDDhhmmssZ.

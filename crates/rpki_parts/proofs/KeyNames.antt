@@ -8,9 +8,9 @@ use Rattle.rpki_der.specs.Skipping.{IsSkippableWithin, IsSkippable}
 use Rattle.rpki_der.specs.Tags.{OBJECT_IDENTIFIER, PRINTABLE_STRING, SEQUENCE, SET}
 use Rattle.rpki_der.proofs.Octets.{AreOctets-append}
 use Rattle.rpki_der.proofs.ValueWritten.{Short, made, content_short, pieces_short, plain_oid}
-use Rattle.rpki_parts.specs.Names.{Attribute}
+use Rattle.rpki_parts.specs.Names.{common_name, Attribute}
 use Rattle.rpki_parts.specs.Names.Reading.{is_name}
-use Rattle.rpki_parts.specs.KeyNames.{common_name, digit, hexadecimal, name_of_digits}
+use Rattle.rpki_parts.specs.KeyNames.{digit, hexadecimal, name_of_digits}
 use Rattle.rpki_parts.proofs.NameReads.{IsAttribute, IsPart, AreParts, is_name_again}
 
 digit_small : (n : ℕ) → n < 16 → digit n < 256

@@ -14,4 +14,5 @@ pub mod UriTests
 pub mod UriParents
 pub mod UriEquivalences
 pub mod SignedDataReads
+pub mod SignedDataWritten
 pub mod KeyNames

@@ -13,9 +13,9 @@ use Rattle.rpki_der.proofs.Octets.{bind_some, some, some_is, both_are, nothing, 
 use Rattle.rpki_der.proofs.Rows.{row_again}
 use Rattle.rpki_der.proofs.ValueReads.{value_again, value_shorter}
 use Rattle.rpki_der.proofs.Walking.{goes_on, refused, over_end}
-use Rattle.rpki_parts.specs.Names.{Attribute, IsName}
+use Rattle.rpki_parts.specs.Names.{common_name, serial_number, Attribute, IsName}
 use Rattle.rpki_parts.specs.Names.Reading.{attribute_at}
-use Rattle.rpki_parts.specs.NameForms.{common_name, serial_number, of_type, IsTextTag, AreNameAttributes, IsRpkiName}
+use Rattle.rpki_parts.specs.NameForms.{of_type, IsTextTag, AreNameAttributes, IsRpkiName}
 use Rattle.rpki_parts.specs.NameForms.Reading.{is_text_tag, unseen, seen_with, seen_in}
 use Rattle.rpki_parts.specs.declared.name_forms.Seen.{Seen}
 use Rattle.rpki_parts.proofs.NameReads.{IsAttribute, IsPart, AreParts, attribute_reads, attribute_shrinks}

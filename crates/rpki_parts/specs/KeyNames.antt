@@ -4,9 +4,7 @@ use Rattle.std.specs.List.{flat_map}
 use Rattle.rpki_der.specs.Tags.{OBJECT_IDENTIFIER, PRINTABLE_STRING, SET}
 use Rattle.rpki_der.specs.Values.{enc, sequence}
 use Rattle.rpki_parts.specs.Keys.{KeyFields, key_identifier}
-
-abbrev pub common_name : List ℕ
-common_name = 0x55 ∷ 0x04 ∷ 0x03 ∷ []
+use Rattle.rpki_parts.specs.Names.{common_name}
 
 -- an upper-case hexadecimal digit
 abbrev pub digit : ℕ → ℕ

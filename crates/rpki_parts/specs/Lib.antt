@@ -5,6 +5,7 @@ pub mod NameForms
 pub mod KeyNames
 pub mod Signatures
 pub mod SignedDatas
+pub mod Signing
 pub mod SigningErrors
 pub mod Validities
 pub mod Conditions

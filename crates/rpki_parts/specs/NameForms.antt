@@ -2,23 +2,17 @@
 use Rattle.std.specs.Prelude.{◌≡◌, ◌≤◌, ◌⊎◌, ℕ, Bool, true, false, List, [], ◌∷◌, length, filter, flat_map, bytes_eq}
 use Rattle.std.specs.List.{AllByRecursion}
 use Rattle.rpki_der.specs.Skipping.{levels}
-use Rattle.rpki_parts.specs.Names.{Attribute, IsRdnSequenceWithin}
+use Rattle.rpki_der.specs.Tags.{PRINTABLE_STRING, UTF8_STRING}
+use Rattle.rpki_parts.specs.Names.{common_name, serial_number, Attribute, IsRdnSequenceWithin}
 pub mod Reading
-
--- id-at-commonName and id-at-serialNumber (RFC 5280 A.1)
-abbrev pub common_name : List ℕ
-common_name = 0x55 ∷ 0x04 ∷ 0x03 ∷ []
-
-abbrev pub serial_number : List ℕ
-serial_number = 0x55 ∷ 0x04 ∷ 0x05 ∷ []
 
 abbrev pub of_type : List ℕ → List Attribute → List Attribute
 of_type id attributes = filter (λ a. bytes_eq a.type_id id) attributes
 
 -- PrintableString; or, where inspection isn't strict, UTF8String too. Characters aren't tested (own)
 abbrev pub IsTextTag : Bool → ℕ → Type 0
-IsTextTag true tag = tag ≡ 0x13
-IsTextTag false tag = (tag ≡ 0x13) ⊎ (tag ≡ 0x0C)
+IsTextTag true tag = tag ≡ PRINTABLE_STRING
+IsTextTag false tag = (tag ≡ PRINTABLE_STRING) ⊎ (tag ≡ UTF8_STRING)
 
 -- one CommonName, at most one serialNumber, and nothing else
 pub record AreNameAttributes (strict : Bool) (attributes : List Attribute) : Type 0 where

@@ -8,6 +8,13 @@ use Rattle.rpki_der.specs.Tags.{SEQUENCE, SET}
 use Rattle.rpki_der.specs.Writers.{Part}
 pub mod Reading
 
+-- id-at-commonName and id-at-serialNumber, the types of the attributes that names of the RPKI have (RFC 5280 A.1)
+abbrev pub common_name : List ℕ
+common_name = 0x55 ∷ 0x04 ∷ 0x03 ∷ []
+
+abbrev pub serial_number : List ℕ
+serial_number = 0x55 ∷ 0x04 ∷ 0x05 ∷ []
+
 -- what of an AttributeTypeAndValue is told apart: the content of its type, and the identifier octet
 -- of its value
 pub record Attribute : Type 0 where

@@ -1,17 +1,19 @@
 //! Signed data: octets and their signature.
-ghost use Rattle.std.specs.Prelude.{◌≡◌, ◌↔◌, IfOk, IsOk};
-ghost use Rattle.rpki_der.specs.Writers.{Writes};
+ghost use Rattle.std.specs.Prelude.{◌≡◌, ◌↔◌, ◌^◌, ◌<◌, ◌++◌, Ok, IfOk, IfErr, IsOk, OnOk, length};
+ghost use Rattle.std.specs.List.{concat};
+ghost use Rattle.rpki_der.specs.Writers.{SaysLong, Writes};
 ghost use Rattle.rpki_der.specs.Place.{Place, left, Keeps, AnswersOrMemory};
 ghost use Rattle.rpki_der.specs.Place.Reading.{TookOrMemory};
 ghost use Rattle.rpki_der.specs.Values.{AreOctets};
-ghost use Rattle.rpki_parts.specs.SignedDatas.{IsSignedDataContent, signed_part};
+ghost use Rattle.rpki_parts.specs.SignedDatas.{IsSignedDataContent, signed_part, signed_pieces};
 ghost use Rattle.rpki_parts.specs.SignedDatas.Reading.{signed_content_at};
+ghost use Rattle.rpki_parts.specs.Signing.{IsRefusalOnceAsked};
 
 use crate::algorithm::RpkiSignatureAlgorithm;
 use crate::key::{PublicKey, take_whole_bits};
-use crate::signature::{Signature, SignatureVerificationError, Verifier};
+use crate::signature::{Signature, SignatureVerificationError, Signer, SigningError, Verifier};
 use bytes::Bytes;
-use rpki_der::{Cursor, DecodeError, EncodeError, Piece, put_bits, put_parts, tag};
+use rpki_der::{Cursor, DecodeError, EncodeError, MAX_LEN, Piece, put_bits, put_parts, tag};
 use std::alloc::{AllocError, Global};
 use std::marker::Model;
 
@@ -104,14 +106,58 @@ impl SignedData {
         }
     }
 
+    // What follows the octets inside the SEQUENCE: the algorithm and the signature.
+    fn tail(&self, alloc: Global) -> Result<Vec<u8>, EncodeError>
+        ensures ok { IfOk result
+            (λ tail. self.now.message ++ tail.items ≡ concat (signed_pieces self.now)) }
+        ensures too_long { SaysLong result (concat (signed_pieces self.now)) }
+    {
+        let mut tail = Vec::new(alloc);
+        self.signature.algorithm().x509_encode(alloc, &mut tail)?;
+        put_bits(&mut tail, 0, self.signature.value())?;
+        Ok(tail)
+    }
+
+    // Whether the whole fits.
+    fn check_length(&self, alloc: Global) -> Result<(), EncodeError>
+        ensures fits { OnOk result (length (concat (signed_pieces self.now)) < 2 ^ 32) }
+        ensures too_long { SaysLong result (concat (signed_pieces self.now)) }
+    {
+        let tail = self.tail(alloc)?;
+        if self.data().len() + tail.len() > MAX_LEN {
+            return Err(EncodeError::TooLong);
+        }
+        Ok(())
+    }
+
+    /// These octets, with the signature of them that the signer gives by the key that `key` names (own). What the signer refuses is
+    /// passed on as it stands; answers `TooLong` also where the whole would have a content of 2^32 octets or more.
+    pub fn sign<S: Signer>(
+        alloc: Global,
+        signer: &S,
+        key: &S::KeyId,
+        algorithm: RpkiSignatureAlgorithm,
+        octets: Bytes,
+    ) -> Result<SignedData, SigningError<S::Error>>
+        ensures message { IfOk result (λ s. s.message ≡ octets) }
+        ensures signed { IfOk result
+            (λ s. S.signs signer.now key.now algorithm octets (Ok s.signature)) }
+        ensures fits { IfOk result (λ s. length (concat (signed_pieces s)) < 2 ^ 32) }
+        ensures refused { IfErr result
+            (IsRefusalOnceAsked octets (S.signs signer.now key.now algorithm octets)) }
+    {
+        let signature = signer.sign(alloc, key, algorithm, &octets)?;
+        let signed_data = SignedData::new(octets, signature);
+        signed_data.check_length(alloc)?;
+        Ok(signed_data)
+    }
+
     /// Appends the SEQUENCE of the octets as they are kept, the algorithm and the signature.
     /// Answers `TooLong` where its content would have 2^32 octets or more.
     pub fn encode_ref(&self, alloc: Global, out: &mut Vec<u8>) -> Result<(), EncodeError>
         ensures { Writes (signed_part self.now) out.old.items result out.new.items }
     {
-        let mut tail = Vec::new(alloc);
-        self.signature.algorithm().x509_encode(alloc, &mut tail)?;
-        put_bits(&mut tail, 0, self.signature.value())?;
+        let tail = self.tail(alloc)?;
         put_parts(out, tag::SEQUENCE, self.data(), &tail)
     }
 

@@ -1,13 +1,13 @@
 -- The form of a name, tested attribute by attribute.
 use Rattle.std.specs.Prelude.{ℕ, Bool, true, not, ◌&&◌, ◌||◌, ◌==◌, List, Option, Some, None, if◌then◌else◌, bytes_eq}
 use Rattle.rpki_der.specs.Folding.{Step, over}
-use Rattle.rpki_parts.specs.Names.{Attribute}
+use Rattle.rpki_der.specs.Tags.{PRINTABLE_STRING, UTF8_STRING}
+use Rattle.rpki_parts.specs.Names.{common_name, serial_number, Attribute}
 use Rattle.rpki_parts.specs.Names.Reading.{attribute_at}
-use Rattle.rpki_parts.specs.NameForms.{common_name, serial_number}
 use Rattle.rpki_parts.specs.declared.name_forms.Seen.{Seen}
 
 abbrev pub is_text_tag : Bool → ℕ → Bool
-is_text_tag strict tag = (tag == 0x13) || (not strict && (tag == 0x0C))
+is_text_tag strict tag = (tag == PRINTABLE_STRING) || (not strict && (tag == UTF8_STRING))
 
 abbrev pub unseen : Bool → Seen → Option Seen
 unseen before after = if before then None else Some after

@@ -1,5 +1,6 @@
 -- The reading function of signed data.
-use Rattle.std.specs.Prelude.{ℕ, List, Option}
+use Rattle.std.specs.Prelude.{ℕ, List, Option, Some}
+use Rattle.rpki_der.specs.Values.Reading.{◌>>=◌}
 use Rattle.rpki_der.specs.Reading.{both, mapped}
 use Rattle.rpki_der.specs.Skipping.Reading.{captured_at}
 use Rattle.rpki_parts.specs.Algorithms.{Algorithm}
@@ -12,3 +13,10 @@ signed p = record { message = p.0; signature = record { algorithm = p.1.0; value
 
 unfoldable pub signed_content_at : List ℕ → Option (SignedFields × List ℕ)
 signed_content_at = mapped signed (both captured_at (both algorithm_at whole_bits_at))
+
+-- what is signed is kept, and read where it stands
+abbrev pub signed_at : {F : Type 0} → (List ℕ → Option (F × List ℕ)) → List ℕ → Option ((F × SignedFields) × List ℕ)
+signed_at read octets = do
+  s ← signed_content_at octets
+  f ← read octets
+  Some ((f.0, s.0), s.1)

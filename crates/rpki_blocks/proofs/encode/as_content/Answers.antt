@@ -2,9 +2,8 @@ use Rattle.std.proofs.Common.{◌≡◌, ◌≤◌, ℕ, List, ◌++◌, length,
 use Rattle.std.proofs.lemmas.List.{length-append}
 use Rattle.rpki_der.specs.Values.{enc}
 use Rattle.rpki_der.specs.Tags.{CONTEXT_CONSTRUCTED}
-use Rattle.rpki_blocks.specs.Lengths.{text_of}
 use Rattle.rpki_blocks.specs.Systems.{as_block, written_as}
-use Rattle.rpki_blocks.specs.Unions.{written_choice}
+use Rattle.rpki_blocks.specs.Unions.{text_of, written_choice}
 use Rattle.rpki_blocks.proofs.Lengths.{passed_long, choice_longer, numbers_longer}
 use Rattle.rpki_blocks.proofs.encode.as_content.Goals as goal
 

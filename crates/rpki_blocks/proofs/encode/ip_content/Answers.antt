@@ -1,7 +1,7 @@
 use Rattle.std.proofs.Common.{◌≤◌, length, ap, arith}
 use Rattle.std.specs.List.{concat}
 use Rattle.std.proofs.lemmas.List.{length-append}
-use Rattle.rpki_blocks.specs.Lengths.{text_of}
+use Rattle.rpki_blocks.specs.Unions.{text_of}
 use Rattle.rpki_blocks.specs.Addresses.{family, ip_addr_blocks}
 use Rattle.rpki_blocks.proofs.Lengths.{passed_long, families_longer}
 use Rattle.rpki_blocks.proofs.encode.ip_content.Goals as goal

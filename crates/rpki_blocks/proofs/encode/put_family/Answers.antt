@@ -1,8 +1,7 @@
 use Rattle.std.proofs.Common.{[], ◌∷◌, length, refl, ap, arith}
 use Rattle.std.proofs.lemmas.List.{length-append}
-use Rattle.rpki_blocks.specs.Lengths.{text_of}
 use Rattle.rpki_blocks.specs.AddressBits.{ip_block}
-use Rattle.rpki_blocks.specs.Unions.{written_choice}
+use Rattle.rpki_blocks.specs.Unions.{text_of, written_choice}
 use Rattle.rpki_blocks.proofs.Lengths.{passed_long, family_longer}
 use Rattle.rpki_blocks.proofs.encode.put_family.Goals as goal
 
