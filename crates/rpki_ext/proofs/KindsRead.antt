@@ -23,10 +23,10 @@ module _ {V : Type 0} (read : List ℕ → Option (V × List ℕ)) (spells : V �
   front_takes c v low e =
       let a = bind_some (read c) (λ x. some x.0) v e in
       let b = law.takes c a.0.0 a.0.1 low a.1 in
-      subst (λ (w : V). Means spells w c) (some_is a.0.0 v a.2) (b.text, record { rest = a.0.1; is = b.parts }, b.spelled)
+      subst (λ (w : V). Means spells w c) (some_is a.0.0 v a.2) (a.0.1, b)
 
   pub front_again : (c : List ℕ) (v : V) → Means spells v c → front read c ≡ Some v
-  front_again c v m = rw (m.1.is, law.again v m.0 m.1.rest m.2) refl
+  front_again c v m = rw (m.1.parts, law.again v m.1.text m.0 m.1.spelled) refl
 
 module _ {V : Type 0} (kind : ExtensionKind V) (law : Reads kind.reads kind.spells) where
   flag_takes : (flag : Flag) (x : Extension) (v : V) → HasOctets x → if_flagged flag x.critical (front kind.reads x.content) ≡ Some v → IsFlagFor flag x.critical × Means kind.spells v x.content

@@ -8,7 +8,7 @@ use Rattle.rpki_ext.specs.Kinds.{HasOneMeaning}
 
 pub one_meaning : {V : Type 0} (read : List ℕ → Option (V × List ℕ)) (spells : V → List ℕ → Type 0) → Reads read spells → HasOneMeaning spells
 one_meaning read spells law content v w p q =
-    (one_reading read spells law content v w p.1.rest q.1.rest (record { text = p.0; spelled = p.2; parts = p.1.is }) (record { text = q.0; spelled = q.2; parts = q.1.is })).0
+    (one_reading read spells law content v w p.0 q.0 p.1 q.1).0
 
 pub unambiguous : {V : Type 0} (read : List ℕ → Option (V × List ℕ)) (spells : V → List ℕ → Type 0) → Reads read spells → IsUnambiguous spells
 unambiguous read spells law v w a b x y p q e =

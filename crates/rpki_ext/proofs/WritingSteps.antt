@@ -1,12 +1,11 @@
 -- How the extensions are written one by one, and what is too long of them.
-use Rattle.std.proofs.Common.{ℕ, zero, suc, ◌≤◌, ◌++◌, Bool, false, List, [], ◌∷◌, length, map, get_or, take, Option, Some, None, Result, Ok, Err, ◌^◌, ◌≡◌, refl, sym, ap, ◌∙◌, append_assoc, arith}
+use Rattle.std.proofs.Common.{ℕ, zero, suc, ◌≤◌, ◌++◌, Bool, false, List, [], ◌∷◌, length, map, get_or, take, Option, Some, None, Result, Ok, Err, ◌≡◌, refl, sym, ap, ◌∙◌, append_assoc, arith}
 use Rattle.std.specs.Prelude.{OnOk}
 use Rattle.std.specs.List.{concat}
 use Rattle.std.proofs.lemmas.List.{append-nil, length-append}
-use Rattle.rpki_der.specs.Extensions.{extension_pieces, extension_of_some, content_of_some, OptionalExtension, text, inside}
+use Rattle.rpki_der.specs.Extensions.{extension_pieces, extension_of_some, content_of_some, OptionalExtension, text, part_of}
 use Rattle.rpki_der.proofs.ValueWritten.{enc_longer}
-use Rattle.rpki_der.specs.declared.error.EncodeError.{EncodeError}
-use Rattle.rpki_blocks.specs.Lengths.{SaysLong}
+pub use Rattle.rpki_der.proofs.TooLong.{still_long}
 use Rattle.rpki_ext.specs.CertificateExtensions.{ExtensionFields, parts, extensions}
 
 abbrev pub nothing : OptionalExtension
@@ -16,18 +15,14 @@ some_longer : (id : List ℕ) (critical : Bool) (c : Option (List ℕ)) → leng
 some_longer id critical None = omega arith
 some_longer id critical (Some c) = enc_longer 0x30 (concat (extension_pieces id critical c))
 
-longer_at : (ps : List OptionalExtension) (k : ℕ) → length (inside (get_or ps k nothing)) ≤ length (concat (map text ps))
+longer_at : (ps : List OptionalExtension) (k : ℕ) → length (part_of (get_or ps k nothing)).inside ≤ length (concat (map text ps))
 longer_at [] k = omega arith
 longer_at (p ∷ ps) zero = omega (arith, some_longer p.identifier p.critical p.content, length-append (text p) (concat (map text ps)))
 longer_at (p ∷ ps) (suc k) = omega (arith, longer_at ps k, length-append (text p) (concat (map text ps)))
 
-pub row_longer : (x : ExtensionFields) (k : ℕ) → length (inside (get_or (parts x) k nothing)) ≤ length (extensions x)
+pub row_longer : (x : ExtensionFields) (k : ℕ) → length (part_of (get_or (parts x) k nothing)).inside ≤ length (extensions x)
 unfolding extensions
 row_longer x k = longer_at (parts x) k
-
--- what is too long stands in something else that is
-pub still_long : {T : Type 0} (r : Result T EncodeError) (part whole : List ℕ) → SaysLong r part → length part ≤ length whole → SaysLong r whole
-still_long r part whole says le = λ long. let much : 2 ^ 32 ≤ length part = says long in omega arith
 
 -- ---- a row that grows
 

@@ -1,5 +1,6 @@
 -- Authority Information Access (RFC 5280 4.2.2.1, RFC 6487 4.8.7).
 use Rattle.std.specs.Prelude.{ℕ, List, [], ◌∷◌, ◌++◌, bytes_eq, if◌then◌else◌, Option, None, false, Some}
+use Rattle.rpki_der.specs.Tags.{SEQUENCE, OBJECT_IDENTIFIER}
 use Rattle.rpki_der.specs.Identifiers.{pkix}
 use Rattle.rpki_der.specs.Values.{enc, IsNested, sequence}
 use Rattle.rpki_der.specs.Reading.{inside}
@@ -15,14 +16,14 @@ ca_issuers = pkix 0x30 0x02
 
 -- Authority Information Access (RFC 6487 4.8.7): one AccessDescription, of id-ad-caIssuers
 abbrev pub IsAuthorityInformationAccess : List ℕ → List ℕ → Type 0
-IsAuthorityInformationAccess v b = (names : List ℕ) × IsGeneralNames v names × IsNested (0x30 ∷ 0x30 ∷ []) (enc 6 ca_issuers ++ names) b
+IsAuthorityInformationAccess v b = (names : List ℕ) × IsGeneralNames v names × IsNested (SEQUENCE ∷ SEQUENCE ∷ []) (enc OBJECT_IDENTIFIER ca_issuers ++ names) b
 
 -- an AccessDescription
 abbrev pub description : List ℕ → List ℕ → List ℕ
-description method uri = sequence (enc 6 method ∷ uri_name uri ∷ [])
+description method uri = sequence (enc OBJECT_IDENTIFIER method ∷ uri_name uri ∷ [])
 
 abbrev pub authority_information_access_content : List ℕ → List ℕ
-authority_information_access_content uri = enc 0x30 (description ca_issuers uri)
+authority_information_access_content uri = enc SEQUENCE (description ca_issuers uri)
 
 -- ---- how it is read
 
@@ -31,7 +32,7 @@ issuers_of c = oid_at c >>= λ method. if bytes_eq method.0 ca_issuers then name
 
 -- the only description
 unfoldable pub only_description_at : List ℕ → Option (List ℕ × List ℕ)
-only_description_at = inside 0x30 (value_at 0x30)
+only_description_at = inside SEQUENCE (value_at SEQUENCE)
 
 unfoldable pub authority_information_access_at : List ℕ → Option (List ℕ × List ℕ)
 authority_information_access_at = turned issuers_of only_description_at

@@ -1,5 +1,6 @@
 -- Basic Constraints (RFC 5280 4.2.1.9, RFC 6487 4.8.1).
 use Rattle.std.specs.Prelude.{ℕ, Bool, List, Option, true, Some}
+use Rattle.rpki_der.specs.Tags.{SEQUENCE}
 use Rattle.rpki_der.specs.Values.{IsEnc, enc}
 use Rattle.rpki_der.specs.Primitives.{IsBoolOrFalse, bool_or_false}
 use Rattle.rpki_der.specs.Primitives.Reading.{bool_or_false_at}
@@ -9,16 +10,16 @@ use Rattle.rpki_ext.specs.Kinds.{ExtensionKind, Any, required}
 
 -- Basic Constraints (RFC 6487 4.8.1): SEQUENCE of an optional BOOLEAN; a path length is refused
 abbrev pub IsBasicConstraints : Bool → List ℕ → Type 0
-IsBasicConstraints ca b = (flag : List ℕ) × IsBoolOrFalse ca flag × IsEnc 0x30 flag b
+IsBasicConstraints ca b = (flag : List ℕ) × IsBoolOrFalse ca flag × IsEnc SEQUENCE flag b
 
 -- Basic Constraints: the default false isn't written
 abbrev pub basic_constraints_content : Bool → List ℕ
-basic_constraints_content ca = enc 0x30 (bool_or_false ca)
+basic_constraints_content ca = enc SEQUENCE (bool_or_false ca)
 
 -- ---- how it is read
 
 unfoldable pub basic_constraints_at : List ℕ → Option (Bool × List ℕ)
-basic_constraints_at = inside 0x30 bool_or_false_at
+basic_constraints_at = inside SEQUENCE bool_or_false_at
 
 -- ---- the kind
 

@@ -7,10 +7,11 @@ use Rattle.rpki_der.specs.Skipping.{levels}
 use Rattle.rpki_blocks.specs.declared.overclaim.Overclaim.{Overclaim}
 use Rattle.rpki_blocks.specs.Resources.{Resources, missing, IsResources}
 use Rattle.rpki_blocks.specs.Addresses.{Ip, addresses}
-use Rattle.rpki_ext.specs.ExtensionKinds.{subject_key_identifier, authority_key_identifier, key_usage, extended_key_usage, as_resources, subject_information_access_within, basic_constraints, crl_distribution_points, authority_information_access, certificate_policies_within, ip_resources, known, subject_information_access, certificate_policies}
+use Rattle.rpki_ext.specs.ExtensionKinds.{certificate_kinds, subject_key_identifier, authority_key_identifier, key_usage, extended_key_usage, as_resources, subject_information_access_within, basic_constraints, crl_distribution_points, authority_information_access, certificate_policies_within, ip_resources, known, subject_information_access}
 use Rattle.rpki_ext.specs.SubjectAccess.{Access}
 use Rattle.rpki_ext.specs.declared.key_usage.KeyUsage.{KeyUsage}
-use Rattle.rpki_ext.specs.Kinds.{is_of, Gives, GivesUnder, extension_for}
+use Rattle.rpki_ext.specs.Kinds.{is_of, Gives, GivesUnder}
+use Rattle.rpki_ext.specs.KindTables.{Values, parts_of}
 pub mod Reading
 pub mod Views
 
@@ -85,21 +86,13 @@ AreExtensions f row = (xs : List Extension) × IsRow IsExtension xs row × GiveF
 
 -- ---- what is written
 
--- in the order in which they are written
+-- what is written of each kind
+abbrev pub values_of : ExtensionFields → Values certificate_kinds
+values_of x = (x.basic_ca, (Some x.subject_key_identifier, (x.authority_key_identifier, (Some x.key_usage, (x.extended_key_usage, (x.crl_uri, (x.ca_issuer, (Some x.access, (Some x.overclaim, ((x.overclaim, Some (record { v4 = x.v4_resources; v6 = x.v6_resources })), ((x.overclaim, Some x.as_resources), tt)))))))))))
+
+-- in the order of the table
 abbrev pub parts : ExtensionFields → List OptionalExtension
-parts x =
-    extension_for basic_constraints x.basic_ca
-    ∷ extension_for subject_key_identifier (Some x.subject_key_identifier)
-    ∷ extension_for authority_key_identifier x.authority_key_identifier
-    ∷ extension_for key_usage (Some x.key_usage)
-    ∷ extension_for extended_key_usage x.extended_key_usage
-    ∷ extension_for crl_distribution_points x.crl_uri
-    ∷ extension_for authority_information_access x.ca_issuer
-    ∷ extension_for subject_information_access (Some x.access)
-    ∷ extension_for certificate_policies (Some x.overclaim)
-    ∷ extension_for (ip_resources x.overclaim) (Some (record { v4 = x.v4_resources; v6 = x.v6_resources }))
-    ∷ extension_for (as_resources x.overclaim) (Some x.as_resources)
-    ∷ []
+parts x = parts_of certificate_kinds (values_of x)
 
 unfoldable pub extensions : ExtensionFields → List ℕ
 extensions x = concat (map text (parts x))

@@ -1,6 +1,7 @@
 -- Certificate Policies (RFC 5280 4.2.1.4, RFC 6487 4.8.9, RFC 8360 4.2.1).
 use Rattle.std.specs.Prelude.{ℕ, List, [], ◌∷◌, Option, Some, true}
 use Rattle.std.specs.List.{AllByRecursion, concat}
+use Rattle.rpki_der.specs.Tags.{SEQUENCE, OBJECT_IDENTIFIER}
 use Rattle.rpki_der.specs.Values.{enc, IsNested, nested}
 use Rattle.rpki_der.specs.Skipping.{IsSkippableWithin, levels}
 use Rattle.rpki_der.specs.Skipping.Reading.{skip_all_of}
@@ -17,14 +18,14 @@ use Rattle.rpki_ext.specs.Kinds.{ExtensionKind, Any, required}
 pub record IsCertificatePoliciesWithin (depth : ℕ) (overclaim : Overclaim) (b : List ℕ) : Type 0 where
   pub qualifiers : List (List ℕ)
   pub skipped : AllByRecursion (IsSkippableWithin depth) qualifiers
-  pub nested : IsNested (0x30 ∷ 0x30 ∷ []) (concat (enc 6 (policy_identifier overclaim) ∷ qualifiers)) b
+  pub nested : IsNested (SEQUENCE ∷ SEQUENCE ∷ []) (concat (enc OBJECT_IDENTIFIER (policy_identifier overclaim) ∷ qualifiers)) b
 
 abbrev pub IsCertificatePolicies : Overclaim → List ℕ → Type 0
 IsCertificatePolicies = IsCertificatePoliciesWithin levels
 
 -- Certificate Policies: the identifier alone
 abbrev pub certificate_policies_content : Overclaim → List ℕ
-certificate_policies_content overclaim = nested (0x30 ∷ 0x30 ∷ []) (enc 6 (policy_identifier overclaim))
+certificate_policies_content overclaim = nested (SEQUENCE ∷ SEQUENCE ∷ []) (enc OBJECT_IDENTIFIER (policy_identifier overclaim))
 
 -- ---- how it is read
 
@@ -33,7 +34,7 @@ abbrev pub policy_of : List ℕ → Option Overclaim
 policy_of c = oid_at c >>= λ id. named policy_identifier id.0 >>= λ overclaim. skip_all_of id.1 >>= λ u. Some overclaim
 
 unfoldable pub certificate_policies_at : List ℕ → Option (Overclaim × List ℕ)
-certificate_policies_at = inside 0x30 (content 0x30 policy_of)
+certificate_policies_at = inside SEQUENCE (content SEQUENCE policy_of)
 
 -- ---- the kind
 

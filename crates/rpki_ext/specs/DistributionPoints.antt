@@ -1,5 +1,6 @@
 -- CRL Distribution Points (RFC 5280 4.2.1.13, RFC 6487 4.8.6).
 use Rattle.std.specs.Prelude.{ℕ, List, [], ◌∷◌, Option, false, Some}
+use Rattle.rpki_der.specs.Tags.{SEQUENCE, CONTEXT_CONSTRUCTED}
 use Rattle.rpki_der.specs.Values.{IsNested, nested}
 use Rattle.rpki_der.specs.Reading.{inside}
 use Rattle.rpki_der.specs.Values.Reading.{value_at}
@@ -11,16 +12,16 @@ use Rattle.rpki_ext.specs.Kinds.{ExtensionKind, required}
 
 -- CRL Distribution Points (RFC 6487 4.8.6): one DistributionPoint with a fullName
 abbrev pub IsCrlDistributionPoints : List ℕ → List ℕ → Type 0
-IsCrlDistributionPoints v b = (names : List ℕ) × IsGeneralNames v names × IsNested (0x30 ∷ 0x30 ∷ 0xA0 ∷ 0xA0 ∷ []) names b
+IsCrlDistributionPoints v b = (names : List ℕ) × IsGeneralNames v names × IsNested (SEQUENCE ∷ SEQUENCE ∷ CONTEXT_CONSTRUCTED 0 ∷ CONTEXT_CONSTRUCTED 0 ∷ []) names b
 
 abbrev pub crl_distribution_points_content : List ℕ → List ℕ
-crl_distribution_points_content uri = nested (0x30 ∷ 0x30 ∷ 0xA0 ∷ 0xA0 ∷ []) (uri_name uri)
+crl_distribution_points_content uri = nested (SEQUENCE ∷ SEQUENCE ∷ CONTEXT_CONSTRUCTED 0 ∷ CONTEXT_CONSTRUCTED 0 ∷ []) (uri_name uri)
 
 -- ---- how it is read
 
 -- the names of the only point
 unfoldable pub full_name_at : List ℕ → Option (List ℕ × List ℕ)
-full_name_at = inside 0x30 (inside 0x30 (inside 0xA0 (value_at 0xA0)))
+full_name_at = inside SEQUENCE (inside SEQUENCE (inside (CONTEXT_CONSTRUCTED 0) (value_at (CONTEXT_CONSTRUCTED 0))))
 
 unfoldable pub crl_distribution_points_at : List ℕ → Option (List ℕ × List ℕ)
 crl_distribution_points_at = turned names_of full_name_at

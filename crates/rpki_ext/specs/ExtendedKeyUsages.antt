@@ -1,6 +1,7 @@
 -- Extended Key Usage (RFC 5280 4.2.1.12, RFC 6487 4.8.5).
 use Rattle.std.specs.Prelude.{ℕ, List, ◌≡◌, ◌∷◌, true, [], Option, Some, None, false}
 use Rattle.std.specs.List.{AllZip, concat}
+use Rattle.rpki_der.specs.Tags.{SEQUENCE}
 use Rattle.rpki_der.specs.Values.{IsEnc, enc}
 use Rattle.rpki_der.specs.Primitives.{IsObjectIdentifier}
 use Rattle.rpki_der.specs.Reading.{content}
@@ -21,11 +22,11 @@ pub record ArePurposes (octets : List ℕ) : Type 0 where
 -- kept as the content of the SEQUENCE
 pub record IsExtendedKeyUsage (kept b : List ℕ) : Type 0 where
   pub purposes : ArePurposes kept
-  pub sequence : IsEnc 0x30 kept b
+  pub sequence : IsEnc SEQUENCE kept b
 
 -- of the identifiers as they stand inside the SEQUENCE
 abbrev pub extended_key_usage_content : List ℕ → List ℕ
-extended_key_usage_content identifiers = enc 0x30 identifiers
+extended_key_usage_content identifiers = enc SEQUENCE identifiers
 
 -- ---- how it is read
 
@@ -35,7 +36,7 @@ purposes_of [] = None
 purposes_of (b ∷ c) = over oid_at (each (λ id. true)) tt (b ∷ c) >>= λ s. Some (b ∷ c)
 
 unfoldable pub extended_key_usage_at : List ℕ → Option (List ℕ × List ℕ)
-extended_key_usage_at = content 0x30 purposes_of
+extended_key_usage_at = content SEQUENCE purposes_of
 
 -- ---- the kind
 

@@ -2,6 +2,7 @@
 use Rattle.std.specs.Prelude.{ℕ, ◌<◌, List, ◌≡◌, if◌then◌else◌, Option, Some, None}
 use Rattle.std.specs.List.{AllByRecursion, AllZip, concat, list_all}
 use Rattle.std.specs.Char.{is_ascii}
+use Rattle.rpki_der.specs.Tags.{CONTEXT}
 use Rattle.rpki_der.specs.Values.{IsEnc, enc}
 use Rattle.rpki_der.specs.Reading.{content}
 use Rattle.rpki_der.specs.Values.Reading.{◌>>=◌}
@@ -12,7 +13,7 @@ use Rattle.rpki_ext.specs.Choosing.{IsOnlyWith}
 
 -- uniformResourceIdentifier of GeneralName (RFC 5280 4.2.1.6): octets below 80
 abbrev pub IsUniformResourceIdentifier : List ℕ → List ℕ → Type 0
-IsUniformResourceIdentifier text b = IsEnc 0x86 text b × AllByRecursion (λ octet. octet < 128) text
+IsUniformResourceIdentifier text b = IsEnc (CONTEXT 6) text b × AllByRecursion (λ octet. octet < 128) text
 
 -- GeneralNames of which exactly one is an rsync URI, v (RFC 6487 4.8.6, 4.8.7)
 pub record IsGeneralNames (v b : List ℕ) : Type 0 where
@@ -24,7 +25,7 @@ pub record IsGeneralNames (v b : List ℕ) : Type 0 where
 
 -- uniformResourceIdentifier of GeneralName
 abbrev pub uri_name : List ℕ → List ℕ
-uri_name uri = enc 0x86 uri
+uri_name uri = enc (CONTEXT 6) uri
 
 -- ---- how they are read
 
@@ -32,7 +33,7 @@ abbrev pub ascii_of : List ℕ → Option (List ℕ)
 ascii_of text = if list_all is_ascii text then Some text else None
 
 unfoldable pub uri_name_at : List ℕ → Option (List ℕ × List ℕ)
-uri_name_at = content 0x86 ascii_of
+uri_name_at = content (CONTEXT 6) ascii_of
 
 abbrev pub rsync_of : List ℕ → Option (List ℕ)
 rsync_of text = if is_rsync text then Some text else None

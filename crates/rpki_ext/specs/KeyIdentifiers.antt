@@ -1,5 +1,6 @@
 -- Subject Key Identifier and Authority Key Identifier (RFC 5280 4.2.1.1, 4.2.1.2; RFC 6487 4.8.2, 4.8.3).
 use Rattle.std.specs.Prelude.{ℕ, List, length, ◌≡◌, [], ◌∷◌, Option, false, Some}
+use Rattle.rpki_der.specs.Tags.{SEQUENCE, OCTET_STRING, CONTEXT}
 use Rattle.rpki_der.specs.Values.{IsNested, enc, AreOctets, nested}
 use Rattle.rpki_der.specs.Reading.{content, inside}
 use Rattle.rpki_der.specs.Identifiers.{id_ce}
@@ -13,18 +14,18 @@ IsSubjectKeyIdentifier = IsKeyIdentifier
 
 -- Authority Key Identifier (RFC 6487 4.8.3): a SEQUENCE of the key identifier alone
 abbrev pub IsAuthorityKeyIdentifier : List ℕ → List ℕ → Type 0
-IsAuthorityKeyIdentifier id b = IsNested (0x30 ∷ 0x80 ∷ []) id b × (length id ≡ 20)
+IsAuthorityKeyIdentifier id b = IsNested (SEQUENCE ∷ CONTEXT 0 ∷ []) id b × (length id ≡ 20)
 
 abbrev pub subject_key_identifier_content : List ℕ → List ℕ
-subject_key_identifier_content id = enc 4 id
+subject_key_identifier_content id = enc OCTET_STRING id
 
 abbrev pub authority_key_identifier_content : List ℕ → List ℕ
-authority_key_identifier_content id = nested (0x30 ∷ 0x80 ∷ []) id
+authority_key_identifier_content id = nested (SEQUENCE ∷ CONTEXT 0 ∷ []) id
 
 -- ---- how it is read
 
 unfoldable pub authority_key_identifier_at : List ℕ → Option (List ℕ × List ℕ)
-authority_key_identifier_at = inside 0x30 (content 0x80 twenty)
+authority_key_identifier_at = inside SEQUENCE (content (CONTEXT 0) twenty)
 
 -- ---- the kinds
 

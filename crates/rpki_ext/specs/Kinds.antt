@@ -2,12 +2,12 @@
 use Rattle.std.specs.Prelude.{◌<◌, ◌^◌, length, Bool, Option, Some, None, ◌≡◌, ℕ, List, bytes_eq, filter, [], ◌∷◌}
 use Rattle.std.specs.List.{list_any}
 use Rattle.rpki_der.specs.Extensions.{Extension, OptionalExtension, part_of}
-use Rattle.rpki_der.specs.Values.{BeginsWith}
 use Rattle.rpki_der.specs.Rows.{IsAtMostOne}
 use Rattle.rpki_der.specs.Values.Reading.{◌>>=◌}
 use Rattle.rpki_der.specs.Writers.{Part}
 use Rattle.rpki_blocks.specs.declared.overclaim.Overclaim.{Overclaim}
 use Rattle.rpki_blocks.specs.declared.overclaim.Overclaim.TheVariants.{Refuse, Trim}
+pub use Rattle.rpki_der.specs.Spelling.{Means}
 pub mod Reading
 
 -- ---- kinds
@@ -56,11 +56,7 @@ identifiers kind = kind.identifier ∷ []
 
 -- ---- what extensions mean
 
--- a front of the content spells v; what follows it in the OCTET STRING is ignored (own)
-abbrev pub Means : {V : Type 0} → (V → List ℕ → Type 0) → V → List ℕ → Type 0
-Means spells v content = (front : List ℕ) × BeginsWith front content × spells v front
-
--- the extension has the flag of the kind, and its content means v
+-- the extension has the flag of the kind, and its content means v: what follows a front that spells v in the OCTET STRING is ignored (own)
 abbrev pub Tells : {V : Type 0} → ExtensionKind V → Extension → V → Type 0
 Tells kind x v = IsFlagFor kind.flag x.critical × Means kind.spells v x.content
 

@@ -3,6 +3,7 @@ use Rattle.std.specs.Prelude.{ℕ, List, ◌≢◌, ◌∷◌, [], Option, Some,
 use Rattle.std.specs.List.{AllByRecursion, AllZip}
 use Rattle.std.specs.Borrow.{Bor}
 use Rattle.std.specs.Option.{option_copied}
+use Rattle.rpki_der.specs.Tags.{SEQUENCE, OBJECT_IDENTIFIER}
 use Rattle.rpki_der.specs.Identifiers.{pkix}
 use Rattle.rpki_der.specs.Values.{IsSequence, enc, sequence_of_some}
 use Rattle.rpki_der.specs.Primitives.{IsObjectIdentifier}
@@ -40,7 +41,7 @@ pub record IsUnknownAccessWithin (depth : ℕ) (b : List ℕ) : Type 0 where
 
 -- AccessDescription: a known method and one uniformResourceIdentifier, or another method, of which nothing is kept
 abbrev pub IsAccessDescriptionWithin : ℕ → Option (AccessMethod × List ℕ) → List ℕ → Type 0
-IsAccessDescriptionWithin depth (Some (method, uri)) b = (name : List ℕ) × IsUniformResourceIdentifier uri name × IsSequence (enc 6 (method_identifier method) ∷ name ∷ []) b
+IsAccessDescriptionWithin depth (Some (method, uri)) b = (name : List ℕ) × IsUniformResourceIdentifier uri name × IsSequence (enc OBJECT_IDENTIFIER (method_identifier method) ∷ name ∷ []) b
 IsAccessDescriptionWithin depth None b = IsUnknownAccessWithin depth b
 
 -- the description has this method, and its name reads as the URI
@@ -110,7 +111,7 @@ abbrev pub description_of : List ℕ → Option (Option (AccessMethod × List �
 description_of c = oid_at c >>= λ method. location_of (method_of method.0) method.1
 
 unfoldable pub description_at : List ℕ → Option (Option (AccessMethod × List ℕ) × List ℕ)
-description_at = content 0x30 description_of
+description_at = content SEQUENCE description_of
 
 -- the URI of a description, if it has this method and reads as one
 abbrev pub uri_under : AccessMethod → (List ℕ → Option (List ℕ)) → Option (AccessMethod × List ℕ) → Option (List ℕ)
@@ -139,7 +140,7 @@ access_of [] = None
 access_of (b ∷ c) = over description_at access_fold.step access_fold.start (b ∷ c) >>= λ uris. Some (access_made uris)
 
 unfoldable pub subject_information_access_at : List ℕ → Option (Access × List ℕ)
-subject_information_access_at = content 0x30 access_of
+subject_information_access_at = content SEQUENCE access_of
 
 -- ---- the kind
 

@@ -1,5 +1,5 @@
 //! Authority Information Access (RFC 6487 4.8.7).
-ghost use Rattle.std.specs.Prelude.{Some};
+ghost use Rattle.std.specs.Prelude.{Some, option_map};
 ghost use Rattle.rpki_der.specs.Place.{Place, left, Keeps, AnswersOrMemory};
 ghost use Rattle.rpki_der.specs.Place.Reading.{TookBy, ReturnsOrMemory, TookOrMemory};
 ghost use Rattle.rpki_der.specs.Values.{AreOctets};
@@ -9,7 +9,7 @@ ghost use Rattle.rpki_ext.specs.AuthorityAccess.{issuers_of, only_description_at
 
 use crate::encode::{put_description, put_nested_extension};
 use crate::names::only_rsync;
-use rpki_der::{Cursor, DecodeError, EncodeError, oid};
+use rpki_der::{Cursor, DecodeError, EncodeError, oid, tag};
 use rpki_parts::Rsync;
 use std::alloc::Global;
 
@@ -78,5 +78,26 @@ pub fn encode_authority_information_access(
 {
     let mut row = Vec::new(alloc);
     put_description(&mut row, oid::AD_CA_ISSUERS, uri.as_bytes())?;
-    put_nested_extension(out, oid::PE_AUTHORITY_INFO_ACCESS, false, &[0x30], &row)
+    put_nested_extension(
+        out,
+        oid::PE_AUTHORITY_INFO_ACCESS,
+        false,
+        &[tag::SEQUENCE],
+        &row,
+    )
+}
+
+// The same, where there is a URI.
+pub(crate) fn put_authority_information_access(
+    alloc: Global,
+    out: &mut Vec<u8>,
+    uri: Option<&Rsync>,
+) -> Result<(), EncodeError>
+    ensures { Writes (part authority_information_access (option_map (λ u. u.now) uri.entry))
+        out.old.items result out.new.items }
+{
+    match uri {
+        Some(uri) => encode_authority_information_access(alloc, out, uri),
+        None => Ok(()),
+    }
 }

@@ -7,7 +7,8 @@ ghost use Rattle.rpki_der.specs.Extensions.{extension_part};
 ghost use Rattle.rpki_der.specs.Writers.{Writes};
 ghost use Rattle.rpki_ext.specs.AuthorityAccess.{description};
 
-use rpki_der::{EncodeError, put_extension, put_oid, put_value};
+use crate::names::URI;
+use rpki_der::{EncodeError, put_extension, put_oid, put_value, tag};
 
 // Appends the octets as the content of a value with the last identifier octet, and that value as the content of one with the octet
 // before it, and so on.
@@ -60,6 +61,6 @@ pub(crate) fn put_description(
 {
     let mut parts = Vec::new(*out.allocator());
     put_oid(&mut parts, method)?;
-    put_value(&mut parts, 0x86, uri)?;
-    put_value(out, 0x30, &parts)
+    put_value(&mut parts, URI, uri)?;
+    put_value(out, tag::SEQUENCE, &parts)
 }

@@ -1,13 +1,21 @@
-//! What the extensions of a certificate give.
-ghost use Rattle.std.specs.Prelude.{◌≡◌, IfOk, IfSome};
+//! What the extensions of a certificate give, and how they are written.
+ghost use Rattle.std.specs.Prelude.{◌≡◌, ◌^◌, ◌≤◌, ◌++◌, length, OnOk, IsErrOf, IfOk, IfSome};
+ghost use Rattle.std.specs.Fn.{FnOnceReturnsAt};
 ghost use Rattle.rpki_parts.specs.Uris.{IsRsync, IsHttps};
 ghost use Rattle.rpki_ext.specs.KeyIdentifiers.{IsIdentifier};
 ghost use Rattle.rpki_ext.specs.ExtendedKeyUsages.{ArePurposes};
-ghost use Rattle.rpki_ext.specs.CertificateExtensions.{bare, ExtensionsFit};
+ghost use Rattle.rpki_ext.specs.CertificateExtensions.{bare, ExtensionsFit, extensions};
 
-use crate::extended_key_usage::ExtendedKeyUsage;
-use crate::key_usage::KeyUsage;
+use crate::authority_access::put_authority_information_access;
+use crate::basic_constraints::put_basic_constraints;
+use crate::distribution_points::put_crl_distribution_points;
+use crate::extended_key_usage::{ExtendedKeyUsage, put_extended_key_usage};
+use crate::key_identifiers::{encode_subject_key_identifier, put_authority_key_identifier};
+use crate::key_usage::{KeyUsage, encode_key_usage};
+use crate::policies::encode_certificate_policies;
+use crate::subject_access::encode_subject_information_access;
 use rpki_blocks::{AsResources, IpResources, Overclaim};
+use rpki_der::EncodeError;
 use rpki_parts::{Https, KeyIdentifier, Rsync};
 use std::alloc::{AllocError, Global};
 use std::marker::Model;
@@ -73,32 +81,17 @@ impl Model for Extensions {
     } };
 }
 
-fn rsync_copy(alloc: Global, uri: &Option<Rsync>) -> Result<Option<Rsync>, AllocError>
-    ensures { IfOk result (λ copy. copy ≡ uri.now) }
+// A copy of what is there.
+fn copied<T: Drop, F: FnOnce(&T) -> Result<T, AllocError>>(
+    value: &Option<T>,
+    copy: F,
+) -> Result<Option<T>, AllocError>
+    requires callable { F.IsAlwaysCallable copy }
+    requires same { (x : _) (r : _) → FnOnceReturnsAt F.FnOnce copy x r → IfOk r (λ y. y ≡ x) }
+    ensures { IfOk result (λ copy. copy ≡ value.now) }
 {
-    match uri {
-        Some(uri) => Ok(Some(uri.try_clone(alloc)?)),
-        None => Ok(None),
-    }
-}
-
-fn https_copy(alloc: Global, uri: &Option<Https>) -> Result<Option<Https>, AllocError>
-    ensures { IfOk result (λ copy. copy ≡ uri.now) }
-{
-    match uri {
-        Some(uri) => Ok(Some(uri.try_clone(alloc)?)),
-        None => Ok(None),
-    }
-}
-
-fn usage_copy(
-    alloc: Global,
-    usage: &Option<ExtendedKeyUsage>,
-) -> Result<Option<ExtendedKeyUsage>, AllocError>
-    ensures { IfOk result (λ copy. copy ≡ usage.now) }
-{
-    match usage {
-        Some(usage) => Ok(Some(usage.try_clone(alloc)?)),
+    match value {
+        Some(value) => Ok(Some(copy(value)?)),
         None => Ok(None),
     }
 }
@@ -188,13 +181,13 @@ impl Extensions {
     pub fn try_clone(&self, alloc: Global) -> Result<Extensions, AllocError>
         ensures { IfOk result (λ copy. copy ≡ self.now) }
     {
-        let extended_key_usage = usage_copy(alloc, &self.extended_key_usage)?;
-        let crl_uri = rsync_copy(alloc, &self.crl_uri)?;
-        let ca_issuer = rsync_copy(alloc, &self.ca_issuer)?;
-        let ca_repository = rsync_copy(alloc, &self.ca_repository)?;
-        let rpki_manifest = rsync_copy(alloc, &self.rpki_manifest)?;
-        let signed_object = rsync_copy(alloc, &self.signed_object)?;
-        let rpki_notify = https_copy(alloc, &self.rpki_notify)?;
+        let extended_key_usage = copied(&self.extended_key_usage, |usage| usage.try_clone(alloc))?;
+        let crl_uri = copied(&self.crl_uri, |uri| uri.try_clone(alloc))?;
+        let ca_issuer = copied(&self.ca_issuer, |uri| uri.try_clone(alloc))?;
+        let ca_repository = copied(&self.ca_repository, |uri| uri.try_clone(alloc))?;
+        let rpki_manifest = copied(&self.rpki_manifest, |uri| uri.try_clone(alloc))?;
+        let signed_object = copied(&self.signed_object, |uri| uri.try_clone(alloc))?;
+        let rpki_notify = copied(&self.rpki_notify, |uri| uri.try_clone(alloc))?;
         let v4_resources = self.v4_resources.try_clone(alloc)?;
         let v6_resources = self.v6_resources.try_clone(alloc)?;
         let as_resources = self.as_resources.try_clone(alloc)?;
@@ -215,5 +208,32 @@ impl Extensions {
             v6_resources,
             as_resources,
         })
+    }
+
+    /// Appends the extensions, one after the other, in one fixed order and each with the flag that it must have (RFC 6487 4.8).
+    pub fn encode_row(&self, alloc: Global, out: &mut Vec<u8>) -> Result<(), EncodeError>
+        ensures ok { OnOk result (out.new.items ≡ out.old.items ++ extensions self.now) }
+        ensures too_long { IsErrOf result EncodeError.TooLong
+            → 2 ^ 32 ≤ length (extensions self.now) }
+    {
+        let mode = self.overclaim;
+        put_basic_constraints(alloc, out, self.basic_ca)?;
+        encode_subject_key_identifier(alloc, out, self.subject_key_identifier)?;
+        put_authority_key_identifier(alloc, out, self.authority_key_identifier)?;
+        encode_key_usage(alloc, out, self.key_usage)?;
+        put_extended_key_usage(alloc, out, self.extended_key_usage.as_ref())?;
+        put_crl_distribution_points(alloc, out, self.crl_uri.as_ref())?;
+        put_authority_information_access(alloc, out, self.ca_issuer.as_ref())?;
+        encode_subject_information_access(
+            alloc,
+            out,
+            self.ca_repository.as_ref(),
+            self.rpki_manifest.as_ref(),
+            self.signed_object.as_ref(),
+            self.rpki_notify.as_ref(),
+        )?;
+        encode_certificate_policies(alloc, out, mode)?;
+        IpResources::encode_extension(alloc, out, mode, &self.v4_resources, &self.v6_resources)?;
+        self.as_resources.encode_extension(alloc, out, mode)
     }
 }

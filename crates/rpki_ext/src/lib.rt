@@ -1,6 +1,7 @@
 //! Single extensions of certificates and revocation lists.
 #![tactic(auto)]
 
+mod agreement;
 mod authority_access;
 mod basic_constraints;
 pub mod comparing;
@@ -12,13 +13,11 @@ mod inspection;
 mod key_identifiers;
 mod key_usage;
 pub mod laws;
-mod named;
 mod names;
 mod policies;
 mod reading;
 mod router_purpose;
 mod subject_access;
-mod writing;
 
 pub use authority_access::{
     encode_authority_information_access, take_authority_information_access,

@@ -1,16 +1,16 @@
 //! The extensions of a certificate, in one pass, whatever order they stand in.
-ghost use Rattle.std.specs.Prelude.{◌≡◌, ◌⊎◌, true, false, OnOk, OnErr, IfErr, option_map, unwrap_or};
+ghost use Rattle.std.specs.Prelude.{◌≡◌, ◌⊎◌, true, false, OnOk, OnErr, IfErr, Some, unwrap_or};
 ghost use Rattle.rpki_der.specs.Place.{Place, left, MeansOrMemory, Refuses};
 ghost use Rattle.rpki_der.specs.Place.Reading.{Returns, ReturnsOrMemory, ReturnsOrMemoryBy};
 ghost use Rattle.rpki_der.specs.Extensions.{Extension};
 ghost use Rattle.rpki_der.specs.Extensions.Reading.{extension_at};
+ghost use Rattle.rpki_der.specs.Extensions.Views.{extension_view};
 ghost use Rattle.rpki_der.specs.Folding.{over};
-ghost use Rattle.rpki_blocks.specs.Addresses.{or_missing};
-ghost use Rattle.rpki_blocks.specs.Resources.{missing};
-ghost use Rattle.rpki_ext.specs.CertificateExtensions.{AreExtensions, no_access, no_addresses};
-ghost use Rattle.rpki_ext.specs.CertificateExtensions.Reading.{all_kinds, under, agreed, disagreement, completed, extensions_of};
-ghost use Rattle.rpki_ext.specs.CertificateExtensions.Views.{wanted, HasFlag, state_of, is_seen, ip_of, ip_in, access_with};
+ghost use Rattle.rpki_ext.specs.CertificateExtensions.{AreExtensions, no_access};
+ghost use Rattle.rpki_ext.specs.CertificateExtensions.Reading.{Names, wanted, HasFlag, field_of, all_kinds, state_of, is_seen, completed, extensions_of};
+ghost use Rattle.rpki_ext.specs.CertificateExtensions.Views.{access_with};
 
+use crate::agreement::agreed;
 use crate::authority_access::take_authority_information_access;
 use crate::basic_constraints::take_basic_constraints;
 use crate::distribution_points::take_crl_distribution_points;
@@ -18,15 +18,101 @@ use crate::extended_key_usage::{ExtendedKeyUsage, take_extended_key_usage};
 use crate::extensions::Extensions;
 use crate::key_identifiers::{take_authority_key_identifier, take_subject_key_identifier};
 use crate::key_usage::{KeyUsage, take_key_usage};
-use crate::named::Named;
 use crate::policies::take_certificate_policies;
 use crate::subject_access::{Sia, take_subject_information_access};
 use bytes::Bytes;
-use rpki_blocks::{AsResources, Bound, IpResources, Overclaim, Resources};
-use rpki_der::{Cursor, DecodeError, Field, Oid, take_extension};
+use rpki_blocks::{AsResources, IpResources, Overclaim};
+use rpki_der::{Cursor, DecodeError, Field, Oid, oid, take_extension};
 use rpki_parts::{Https, KeyIdentifier, Rsync};
 use std::alloc::Global;
-use std::marker::Model;
+
+/// The kinds of extensions that certificates know (RFC 6487 4.8). Resources have an identifier for each mode (RFC 8360 4.2).
+#[derive(Clone, Copy)]
+pub(crate) enum Named {
+    BasicConstraints,
+    SubjectKeyIdentifier,
+    AuthorityKeyIdentifier,
+    KeyUsage,
+    ExtendedKeyUsage,
+    CrlDistributionPoints,
+    AuthorityInformationAccess,
+    SubjectInformationAccess,
+    CertificatePolicies,
+    IpResources(Overclaim),
+    AsResources(Overclaim),
+}
+
+impl Named {
+    /// The kind that an identifier names; `None` where it isn't known.
+    pub(crate) fn of(identifier: &[u8]) -> Option<Named>
+        ensures { Names identifier.now result }
+    {
+        if identifier == oid::CE_BASIC_CONSTRAINTS {
+            Some(Named::BasicConstraints)
+        } else if identifier == oid::CE_SUBJECT_KEY_IDENTIFIER {
+            Some(Named::SubjectKeyIdentifier)
+        } else if identifier == oid::CE_AUTHORITY_KEY_IDENTIFIER {
+            Some(Named::AuthorityKeyIdentifier)
+        } else if identifier == oid::CE_KEY_USAGE {
+            Some(Named::KeyUsage)
+        } else if identifier == oid::CE_EXTENDED_KEY_USAGE {
+            Some(Named::ExtendedKeyUsage)
+        } else if identifier == oid::CE_CRL_DISTRIBUTION_POINTS {
+            Some(Named::CrlDistributionPoints)
+        } else if identifier == oid::PE_AUTHORITY_INFO_ACCESS {
+            Some(Named::AuthorityInformationAccess)
+        } else if identifier == oid::PE_SUBJECT_INFO_ACCESS {
+            Some(Named::SubjectInformationAccess)
+        } else if identifier == oid::CE_CERTIFICATE_POLICIES {
+            Some(Named::CertificatePolicies)
+        } else if identifier == oid::PE_IP_ADDR_BLOCK {
+            Some(Named::IpResources(Overclaim::Refuse))
+        } else if identifier == oid::PE_IP_ADDR_BLOCK_V2 {
+            Some(Named::IpResources(Overclaim::Trim))
+        } else if identifier == oid::PE_AUTONOMOUS_SYS_IDS {
+            Some(Named::AsResources(Overclaim::Refuse))
+        } else if identifier == oid::PE_AUTONOMOUS_SYS_IDS_V2 {
+            Some(Named::AsResources(Overclaim::Trim))
+        } else {
+            None
+        }
+    }
+
+    /// Whether it must be critical or must not be; `None` where the flag isn't tested (RFC 6487 4.8).
+    pub(crate) fn must_be_critical(self) -> Option<bool>
+        ensures { result ≡ wanted self }
+    {
+        match self {
+            Named::BasicConstraints | Named::KeyUsage | Named::CertificatePolicies => Some(true),
+            Named::SubjectKeyIdentifier
+            | Named::AuthorityKeyIdentifier
+            | Named::ExtendedKeyUsage
+            | Named::CrlDistributionPoints
+            | Named::AuthorityInformationAccess
+            | Named::SubjectInformationAccess => Some(false),
+            Named::IpResources(_) | Named::AsResources(_) => None,
+        }
+    }
+
+    /// What errors call it.
+    pub(crate) fn field(self) -> Field
+        ensures { result ≡ field_of self }
+    {
+        match self {
+            Named::BasicConstraints => Field::BasicConstraints,
+            Named::SubjectKeyIdentifier => Field::SubjectKeyIdentifier,
+            Named::AuthorityKeyIdentifier => Field::AuthorityKeyIdentifier,
+            Named::KeyUsage => Field::KeyUsage,
+            Named::ExtendedKeyUsage => Field::ExtendedKeyUsage,
+            Named::CrlDistributionPoints => Field::CrlDistributionPoints,
+            Named::AuthorityInformationAccess => Field::AuthorityInformationAccess,
+            Named::SubjectInformationAccess => Field::SubjectInformationAccess,
+            Named::CertificatePolicies => Field::CertificatePolicies,
+            Named::IpResources(_) => Field::IpResources,
+            Named::AsResources(_) => Field::AsResources,
+        }
+    }
+}
 
 // An extension of no known kind: unread where it isn't critical, else refused (RFC 5280 4.2).
 fn pass_over(alloc: Global, identifier: &[u8], critical: bool) -> Result<(), DecodeError>
@@ -110,27 +196,17 @@ impl Seen {
         }
     }
 
-    // One extension more.
-    fn put(
+    // Reads the content of an extension of this kind, where it is the first and has the kind's flag.
+    fn take(
         &mut self,
         alloc: Global,
-        identifier: &[u8],
-        critical: bool,
+        kind: Named,
         content: &mut Cursor<'_>,
     ) -> Result<(), DecodeError>
-        ensures { ReturnsOrMemoryBy (λ _. state_of self.new) result
-            (all_kinds.step (state_of self.old) (record {
-              identifier = identifier.now;
-              critical = critical;
-              content = left content.old;
-            })) }
+        ensures { (x : Extension) → Names x.identifier (Some kind) → HasFlag (wanted kind) x.critical
+            → is_seen self.old kind ≡ false → x.content ≡ left content.old
+            → ReturnsOrMemoryBy (λ _. state_of self.new) result (all_kinds.step (state_of self.old) x) }
     {
-        let Some(kind) = Named::of(identifier) else {
-            return pass_over(alloc, identifier, critical);
-        };
-        if let Err(error) = self.check(kind, critical) {
-            return Err(error);
-        }
         match kind {
             Named::BasicConstraints => self.basic_ca = Some(take_basic_constraints(content)?),
             Named::SubjectKeyIdentifier => {
@@ -167,6 +243,25 @@ impl Seen {
         Ok(())
     }
 
+    // One extension more.
+    fn put(
+        &mut self,
+        alloc: Global,
+        extension: (&[u8], bool, Cursor<'_>),
+    ) -> Result<(), DecodeError>
+        ensures { ReturnsOrMemoryBy (λ _. state_of self.new) result
+            (all_kinds.step (state_of self.old) (extension_view extension.entry)) }
+    {
+        let (identifier, critical, mut content) = extension;
+        let Some(kind) = Named::of(identifier) else {
+            return pass_over(alloc, identifier, critical);
+        };
+        if let Err(error) = self.check(kind, critical) {
+            return Err(error);
+        }
+        self.take(alloc, kind, &mut content)
+    }
+
     // A row of extensions, one after the other.
     fn from_row(alloc: Global, row: &Cursor<'_>) -> Result<Seen, DecodeError>
         ensures { ReturnsOrMemoryBy state_of result
@@ -175,113 +270,17 @@ impl Seen {
         let mut rest = row.fork();
         let mut seen = Seen::nothing();
         while !rest.is_empty() {
-            let (identifier, critical, mut content) = match take_extension(&mut rest) {
+            let extension = match take_extension(&mut rest) {
                 Ok(extension) => extension,
                 Err(error) => return Err(error),
             };
-            match seen.put(alloc, identifier, critical, &mut content) {
+            match seen.put(alloc, extension) {
                 Ok(()) => {}
                 Err(error) => return Err(error),
             }
         }
         Ok(seen)
     }
-}
-
-/// The resources that a certificate lists, and whether it may overclaim.
-#[derive(Drop)]
-struct Listed {
-    overclaim: Overclaim,
-    v4_resources: IpResources,
-    v6_resources: IpResources,
-    as_resources: AsResources,
-}
-
-impl Model for Listed {
-    ghost use Rattle.rpki_ext.specs.CertificateExtensions.Reading.{ListedFields};
-
-    ghost Value = { ListedFields };
-
-    ghost view = { λ l. record {
-      overclaim = l.overclaim;
-      v4_resources = l.v4_resources;
-      v6_resources = l.v6_resources;
-      as_resources = l.as_resources;
-    } };
-}
-
-// What stands under the policy's mode; `None` where another mode is shown.
-fn under<T: Drop>(mode: Overclaim, resources: Option<(Overclaim, T)>) -> Option<Option<T>>
-    ensures { result ≡ under mode resources }
-{
-    match resources {
-        None => Some(None),
-        Some((shown, listed)) => {
-            if shown == mode {
-                Some(Some(listed))
-            } else {
-                None
-            }
-        }
-    }
-}
-
-fn or_missing<B: Bound>(resources: Option<Resources<B>>) -> Resources<B>
-    ensures addresses { result ≡ or_missing resources }
-    ensures numbers { result ≡ unwrap_or resources missing }
-{
-    match resources {
-        Some(listed) => listed,
-        None => Resources::missing(),
-    }
-}
-
-// The families, each missing where it isn't there.
-fn both_families(
-    families: Option<(Option<IpResources>, Option<IpResources>)>,
-) -> (IpResources, IpResources)
-    ensures v4 { result.0 ≡ (unwrap_or (ip_in families) no_addresses).v4 }
-    ensures v6 { result.1 ≡ (unwrap_or (ip_in families) no_addresses).v6 }
-{
-    match families {
-        None => (IpResources::missing(), IpResources::missing()),
-        Some((v4, v6)) => (or_missing(v4), or_missing(v6)),
-    }
-}
-
-// Some resources must be there, and their identifiers be those of the policy; of several that are not, the addresses are named.
-fn agreed(
-    overclaim: Option<Overclaim>,
-    ip: Option<(Overclaim, (Option<IpResources>, Option<IpResources>))>,
-    numbers: Option<(Overclaim, AsResources)>,
-) -> Result<Listed, DecodeError>
-    ensures reads { Returns result (agreed overclaim (ip_of ip) numbers) }
-    ensures names { IfErr result (λ e. e ≡ disagreement overclaim (ip_of ip) numbers) }
-{
-    if ip.is_none() && numbers.is_none() {
-        return Err(DecodeError::Missing(Field::Resources));
-    }
-    let Some(overclaim) = overclaim else {
-        let field = if ip.is_some() {
-            Field::IpResources
-        } else {
-            Field::AsResources
-        };
-        return Err(DecodeError::WrongResources(field));
-    };
-    let Some(families) = under(overclaim, ip) else {
-        return Err(DecodeError::WrongResources(Field::IpResources));
-    };
-    let Some(numbers) = under(overclaim, numbers) else {
-        return Err(DecodeError::WrongResources(Field::AsResources));
-    };
-    let (v4_resources, v6_resources) = both_families(families);
-    Ok(Listed {
-        overclaim,
-        v4_resources,
-        v6_resources,
-        as_resources: or_missing(numbers),
-    })
 }
 
 // The URIs of Subject Information Access; none where it isn't there.
@@ -352,7 +351,7 @@ impl Extensions {
     }
 
     /// What a whole row of extensions gives (RFC 6487 4.8). Errs with the name of a fault where it gives no fields.
-    #[tactic(auto, using(crate::proofs::CertificateExtensionsReads::row_means))]
+    #[tactic(auto, using(crate::proofs::CertificateExtensions::row_means))]
     pub fn from_row(alloc: Global, row: &Cursor<'_>) -> Result<Extensions, DecodeError>
         ensures means { MeansOrMemory AreExtensions result (left row.now) }
         ensures reads { ReturnsOrMemory result (extensions_of (left row.now)) }

@@ -5,8 +5,7 @@ use Rattle.rpki_der.proofs.Answering.{refuses, certainly}
 use Rattle.rpki_der.specs.Extensions.Reading.{extension_at}
 use Rattle.rpki_der.proofs.Walking.{goes_on, shorter, refused, ends, over_end, some_left}
 use Rattle.rpki_der.proofs.ExtensionReads.{extension_shrinks}
-use Rattle.rpki_ext.specs.CertificateExtensions.Reading.{State, all_kinds}
-use Rattle.rpki_ext.specs.CertificateExtensions.Views.{state_of}
+use Rattle.rpki_ext.specs.CertificateExtensions.Reading.{State, all_kinds, state_of}
 use Rattle.rpki_ext.proofs.reading.Seen.from_row.Goals as goal
 
 pub loop-rest-init : goal.loop-rest-init

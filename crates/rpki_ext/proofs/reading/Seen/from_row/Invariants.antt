@@ -2,8 +2,7 @@ use Rattle.std.proofs.Common.{◌≡◌, length}
 use Rattle.rpki_der.specs.Place.{left}
 use Rattle.rpki_der.specs.Folding.{over}
 use Rattle.rpki_der.specs.Extensions.Reading.{extension_at}
-use Rattle.rpki_ext.specs.CertificateExtensions.Reading.{all_kinds}
-use Rattle.rpki_ext.specs.CertificateExtensions.Views.{state_of}
+use Rattle.rpki_ext.specs.CertificateExtensions.Reading.{all_kinds, state_of}
 use Rattle.rpki_ext.proofs.reading.Seen.from_row.Given as goal
 
 abbrev pub invariant-loop-rest : goal.invariant-loop-rest

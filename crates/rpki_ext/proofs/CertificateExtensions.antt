@@ -1,0 +1,278 @@
+-- The extensions of a certificate: what a row of them gives, both ways, and what is written of their fields.
+use Rattle.std.specs.List.{AllByRecursion, list_all}
+use Rattle.std.specs.Prelude.{unwrap_or, filter, IfSome, is_some}
+use Rattle.std.proofs.Common.{ℕ, Bool, List, Option, [], ◌∷◌, Some, None, ◌≡◌, true, false, cond, ap, refl, map, sym, subst, inl, inr, Result, Ok, Err, ◌⊎◌, ◌||◌, not, ◌∙◌}
+use Rattle.std.proofs.lemmas.Bool.{false_from_ne_true, true_from_ne_false}
+use Rattle.rpki_der.specs.Extensions.{OptionalExtension, Extension, IsExtension}
+use Rattle.rpki_der.specs.Extensions.Reading.{extension_at}
+use Rattle.rpki_der.specs.Folding.{IsLawful, IsFolded, over}
+use Rattle.rpki_der.specs.Place.{MeansOrMemory}
+use Rattle.rpki_der.specs.Place.Reading.{ReturnsOrMemory}
+use Rattle.rpki_der.specs.Reading.{ReadsWhole}
+use Rattle.rpki_der.specs.Values.{AreOctets}
+use Rattle.rpki_der.specs.Values.Reading.{◌>>=◌}
+use Rattle.rpki_der.specs.declared.error.DecodeError.{DecodeError}
+use Rattle.rpki_der.proofs.Answering.{refuses}
+use Rattle.rpki_der.proofs.ExtensionReads.{HasOctets, extension_reads, extension_shrinks, extension_octets}
+use Rattle.rpki_der.proofs.Folding.{beside_law, each_law, over_reads}
+use Rattle.rpki_der.proofs.Lists.{weaken}
+use Rattle.rpki_der.proofs.Octets.{some, some_is, nothing, bind_some, chosen}
+use Rattle.rpki_der.proofs.ValueWritten.{Short}
+use Rattle.rpki_der.proofs.WrittenOctets.{IfShort}
+use Rattle.rpki_blocks.specs.Addresses.{Ip}
+use Rattle.rpki_blocks.specs.Addresses.Reading.{families_at}
+use Rattle.rpki_blocks.specs.Prefixes.{AreV4}
+use Rattle.rpki_blocks.specs.Resources.{missing, inherit, Resources}
+use Rattle.rpki_blocks.specs.Systems.Reading.{as_identifiers_at}
+use Rattle.rpki_blocks.specs.declared.overclaim.Overclaim.{Overclaim}
+use Rattle.rpki_blocks.specs.declared.overclaim.Overclaim.TheVariants.{Refuse, Trim}
+use Rattle.rpki_blocks.proofs.ResourcesWritten.{no_ip, no_as_resources}
+use Rattle.rpki_ext.specs.CertificateExtensions.{bare, ExtensionFields, parts, no_access, no_addresses, GiveFields, ExtensionsFit, HasResources, AreExtensions, values_of}
+use Rattle.rpki_ext.specs.CertificateExtensions.Views.{ip_of}
+use Rattle.rpki_ext.specs.CertificateExtensions.Reading.{under, may_stand, all_kinds, State, ListedFields, listed_under, agreed, completed, extensions_of, state_of, Names, is_seen, wanted, HasFlag}
+use Rattle.rpki_ext.specs.ExtensionKinds.{known, basic_constraints, subject_key_identifier, authority_key_identifier, key_usage, extended_key_usage, crl_distribution_points, authority_information_access, subject_information_access, certificate_policies, ip_resources, as_resources, certificate_kinds}
+use Rattle.rpki_ext.specs.KeyIdentifiers.{IsIdentifier}
+use Rattle.rpki_ext.specs.Kinds.{Gives, is_of, Any}
+use Rattle.rpki_ext.specs.SubjectAccess.{Access}
+use Rattle.rpki_ext.specs.declared.key_usage.KeyUsage.{KeyUsage as Usage}
+use Rattle.rpki_ext.specs.declared.reading.Named.{Named}
+use Rattle.rpki_ext.specs.declared.reading.Named.TheVariants.{BasicConstraints, SubjectKeyIdentifier, AuthorityKeyIdentifier, KeyUsage, ExtendedKeyUsage, CrlDistributionPoints, AuthorityInformationAccess, SubjectInformationAccess, CertificatePolicies, IpResources, AsResources}
+use Rattle.rpki_ext.specs.declared.reading.Seen.{Seen}
+use Rattle.rpki_ext.proofs.AuthorityAccess.{authority_information_access_is}
+use Rattle.rpki_ext.proofs.BasicConstraints.{basic_constraints_is}
+use Rattle.rpki_ext.proofs.CertificatePolicies.{certificate_policies_is}
+use Rattle.rpki_ext.proofs.DistributionPoints.{crl_distribution_points_is}
+use Rattle.rpki_ext.proofs.ExtendedKeyUsages.{extended_key_usage_is}
+use Rattle.rpki_ext.proofs.KeyIdentifiers.{subject_key_identifier_is, authority_key_identifier_is}
+use Rattle.rpki_ext.proofs.KeyUsages.{key_usage_is}
+use Rattle.rpki_ext.proofs.KindTables.{table_law, AreKinds}
+use Rattle.rpki_ext.proofs.KindsWritten.{as_it_was, IsKnown, is_known, all_known, is_in, only_ones, none_unknown, kept_all, kept_some, else_kept, written}
+use Rattle.rpki_ext.proofs.ResourceKinds.{ip_resources_is, ip_shows, as_resources_is, as_shows}
+use Rattle.rpki_ext.proofs.ShownModes.{under_mode, mode_under, stays, was}
+use Rattle.rpki_ext.proofs.TablesWritten.{identifiers_by_kind, Fit, table_given, table_octets}
+use Rattle.rpki_ext.proofs.SubjectAccess.{subject_information_access_is, no_uris}
+
+-- ---- the kinds
+
+pub kinds_are : AreKinds certificate_kinds
+kinds_are = (basic_constraints_is, (subject_key_identifier_is, (authority_key_identifier_is, (key_usage_is, (extended_key_usage_is, (crl_distribution_points_is, (authority_information_access_is, (subject_information_access_is, (certificate_policies_is, ((ip_shows, ip_resources_is), ((as_shows, as_resources_is), tt)))))))))))
+
+-- ---- a second extension of a kind, and one with another flag than its kind's, is refused
+
+abbrev IsRefused : Seen → List ℕ → Bool → List ℕ → Type 0
+IsRefused s id critical content = all_kinds.step (state_of s) (record { identifier = id; critical = critical; content = content }) ≡ None
+
+second : (s : Seen) (kind : Named) (id : List ℕ) (critical : Bool) (content : List ℕ) → Names id (Some kind) → is_seen s kind ≡ true → IsRefused s id critical content
+second s BasicConstraints id critical content n h = rw (n, h) refl
+second s SubjectKeyIdentifier id critical content n h = rw (n, h) refl
+second s AuthorityKeyIdentifier id critical content n h = rw (n, h) refl
+second s KeyUsage id critical content n h = rw (n, h) refl
+second s ExtendedKeyUsage id critical content n h = rw (n, h) refl
+second s CrlDistributionPoints id critical content n h = rw (n, h) refl
+second s AuthorityInformationAccess id critical content n h = rw (n, h) refl
+second s SubjectInformationAccess id critical content n h = rw (n, h) refl
+second s CertificatePolicies id critical content n h = rw (n, h) refl
+second s (IpResources Refuse) id critical content n h = rw (n, h) refl
+second s (IpResources Trim) id critical content n h = rw (n, h) refl
+second s (AsResources Refuse) id critical content n h = rw (n, h) refl
+second s (AsResources Trim) id critical content n h = rw (n, h) refl
+
+-- nothing is kept, whether one was seen or not
+neither : {V : Type 0} (seen : Bool) → cond {A = Option V} seen None None ≡ None
+neither true = refl
+neither false = refl
+
+unflagged : (s : Seen) (kind : Named) (id : List ℕ) (critical : Bool) (content : List ℕ) → Names id (Some kind) → (HasFlag (wanted kind) critical → ⊥) → IsRefused s id critical content
+unflagged s BasicConstraints id critical content n h = rw (n, false_from_ne_true critical h, neither (is_some s.basic_ca)) refl
+unflagged s SubjectKeyIdentifier id critical content n h = rw (n, true_from_ne_false critical h, neither (is_some s.subject_key_identifier)) refl
+unflagged s AuthorityKeyIdentifier id critical content n h = rw (n, true_from_ne_false critical h, neither (is_some s.authority_key_identifier)) refl
+unflagged s KeyUsage id critical content n h = rw (n, false_from_ne_true critical h, neither (is_some s.key_usage)) refl
+unflagged s ExtendedKeyUsage id critical content n h = rw (n, true_from_ne_false critical h, neither (is_some s.extended_key_usage)) refl
+unflagged s CrlDistributionPoints id critical content n h = rw (n, true_from_ne_false critical h, neither (is_some s.crl_uri)) refl
+unflagged s AuthorityInformationAccess id critical content n h = rw (n, true_from_ne_false critical h, neither (is_some s.ca_issuer)) refl
+unflagged s SubjectInformationAccess id critical content n h = rw (n, true_from_ne_false critical h, neither (is_some s.access)) refl
+unflagged s CertificatePolicies id critical content n h = rw (n, false_from_ne_true critical h, neither (is_some s.overclaim)) refl
+unflagged s (IpResources mode) id critical content n h = absurd (h tt)
+unflagged s (AsResources mode) id critical content n h = absurd (h tt)
+
+pub refused : (s : Seen) (kind : Named) (id : List ℕ) (critical : Bool) (content : List ℕ) → Names id (Some kind) → (is_seen s kind ≡ true) ⊎ (HasFlag (wanted kind) critical → ⊥) → IsRefused s id critical content
+refused s kind id critical content n h = elim h [ inl seen ↦ second s kind id critical content n seen | inr flag ↦ unflagged s kind id critical content n flag ]
+
+-- resources that are not read, whatever the mode of their identifier
+pub unread_ip : (s : Seen) (mode : Overclaim) (x : Extension) → x.identifier ≡ (ip_resources mode).identifier → is_some (ip_of s.ip_resources) ≡ false → families_at x.content ≡ None → all_kinds.step (state_of s) x ≡ None
+unread_ip s Refuse x named first none = rw (named, first, none) refl
+unread_ip s Trim x named first none = rw (named, first, none) refl
+
+pub unread_as : (s : Seen) (mode : Overclaim) (x : Extension) → x.identifier ≡ (as_resources mode).identifier → is_some s.as_resources ≡ false → as_identifiers_at x.content ≡ None → all_kinds.step (state_of s) x ≡ None
+unread_as s Refuse x named first none = rw (named, first, none) refl
+unread_as s Trim x named first none = rw (named, first, none) refl
+
+-- ---- what a row gives
+
+all_kinds_law : IsLawful HasOctets all_kinds
+all_kinds_law = beside_law _ _ (each_law may_stand) (table_law certificate_kinds kinds_are)
+
+either : (a b : Bool) → (a || b) ≡ true → (a ≡ true) ⊎ (b ≡ true)
+either true b e = inl refl
+either false b e = inr e
+
+-- an extension stands: of a known kind, or not critical
+stands : (known critical : Bool) → (known || not critical) ≡ true → known ≡ false → critical ≡ false
+stands true critical e f = absurd cc
+stands false true e f = absurd cc
+stands false false e f = refl
+
+stand : (known critical : Bool) → (known ≡ false → critical ≡ false) → (known || not critical) ≡ true
+stand true critical h = refl
+stand false critical h = rw (h refl) refl
+
+give : (xs : List Extension) (s : State) (f : ExtensionFields) → completed s ≡ Some f → all_kinds.means xs s → GiveFields xs f
+give xs (u, (basic_ca, (subject, (authority, (usage, (purposes, (crl_uri, (ca_issuer, (access, (policy, (ip, (numbers, _)))))))))))) f e h =
+    let (others, (basic_is, (subject_is, (authority_is, (usage_is, (purposes_is, (crl_is, (issuer_is, (access_is, (policy_is, (ip_is, (numbers_is, _)))))))))))) = h in
+    let made : ListedFields → List ℕ → Usage → ExtensionFields = λ l key used. record { basic_ca = basic_ca; subject_key_identifier = key; authority_key_identifier = authority; key_usage = used; extended_key_usage = purposes; crl_uri = crl_uri; ca_issuer = ca_issuer; access = unwrap_or access no_access; overclaim = l.overclaim; v4_resources = l.v4_resources; v6_resources = l.v6_resources; as_resources = l.as_resources } in
+    let l = bind_some (agreed policy ip numbers) (λ l. subject >>= λ key. usage >>= λ used. some (made l key used)) f e in
+    let key = bind_some subject (λ key. usage >>= λ used. some (made l.0 key used)) f l.2 in
+    let used = bind_some usage (λ used. some (made l.0 key.0 used)) f key.2 in
+    let t = chosen (is_some ip || is_some numbers) (policy >>= λ mode. under mode ip >>= λ i. under mode numbers >>= λ n. some (listed_under mode i n)) l.0 l.1 in
+    let mode = bind_some policy (λ mode. under mode ip >>= λ i. under mode numbers >>= λ n. some (listed_under mode i n)) l.0 t.1 in
+    let i = bind_some (under mode.0 ip) (λ i. under mode.0 numbers >>= λ n. some (listed_under mode.0 i n)) l.0 mode.2 in
+    let n = bind_some (under mode.0 numbers) (λ n. some (listed_under mode.0 i.0 n)) l.0 i.2 in
+    let same : listed_under mode.0 i.0 n.0 ≡ l.0 = some_is (listed_under mode.0 i.0 n.0) l.0 n.2 in
+    subst (λ (g : ExtensionFields). GiveFields xs g) {x = made (listed_under mode.0 i.0 n.0) key.0 used.0} (ap (λ (k : ListedFields). made k key.0 used.0) {x = listed_under mode.0 i.0 n.0} same ∙ some_is (made l.0 key.0 used.0) f used.2) (record {
+      passed_over = weaken (λ x. may_stand x ≡ true) (λ x. is_of known x ≡ false → x.critical ≡ false) (λ x p. stands (is_of known x) x.critical p) xs others;
+      basic_constraints_is = basic_is;
+      subject_key_identifier_is = subst (λ (v : Option (List ℕ)). Gives subject_key_identifier xs v) key.1 subject_is;
+      authority_key_identifier_is = authority_is;
+      key_usage_is = subst (λ (v : Option Usage). Gives key_usage xs v) used.1 usage_is;
+      extended_key_usage_is = purposes_is;
+      crl_distribution_points_is = crl_is;
+      authority_information_access_is = issuer_is;
+      access = access;
+      subject_information_access_is = access_is;
+      access_is = refl {a = unwrap_or access no_access};
+      certificate_policies_is = subst (λ (v : Option Overclaim). Gives certificate_policies xs v) mode.1 policy_is;
+      ip = i.0;
+      ip_resources_is = under_mode ip_resources mode.0 _ ip i.0 i.1 ip_is;
+      v4_is = refl {a = (unwrap_or i.0 no_addresses).v4};
+      v6_is = refl {a = (unwrap_or i.0 no_addresses).v6};
+      numbers = n.0;
+      as_resources_is = under_mode as_resources mode.0 _ numbers n.0 n.1 numbers_is;
+      as_is = refl {a = unwrap_or n.0 missing};
+      some_resources = elim (either (is_some ip) (is_some numbers) t.0) [ inl y ↦ inl (stays mode.0 ip i.0 i.1 y) | inr y ↦ inr (stays mode.0 numbers n.0 n.1 y) ];
+    })
+
+some_some : {X Y : Type 0} (i : Option X) (n : Option Y) → (is_some i ≡ true) ⊎ (is_some n ≡ true) → (is_some i || is_some n) ≡ true
+some_some (Some i) n h = refl
+some_some None n h = elim h [ inl e ↦ absurd cc | inr e ↦ e ]
+
+same_fields : (f : ExtensionFields) (access : Access) (v4 v6 numbers : Resources) → f.access ≡ access → f.v4_resources ≡ v4 → f.v6_resources ≡ v6 → f.as_resources ≡ numbers
+    → record f { access = access; v4_resources = v4; v6_resources = v6; as_resources = numbers } ≡ f
+same_fields f access v4 v6 numbers a b c d = λ i. record f { access = (sym a) i; v4_resources = (sym b) i; v6_resources = (sym c) i; as_resources = (sym d) i }
+
+seen_of : (xs : List Extension) (f : ExtensionFields) → GiveFields xs f → (s : State) × all_kinds.means xs s × (completed s ≡ Some f)
+seen_of xs f g =
+    let i = mode_under ip_resources f.overclaim _ g.ip g.ip_resources_is in
+    let n = mode_under as_resources f.overclaim _ g.numbers g.as_resources_is in
+    let there : (is_some i.0 || is_some n.0) ≡ true = some_some i.0 n.0 (elim g.some_resources [ inl y ↦ inl (was f.overclaim i.0 g.ip i.1 y) | inr y ↦ inr (was f.overclaim n.0 g.numbers n.1 y) ]) in
+    let stand_all = weaken (λ x. is_of known x ≡ false → x.critical ≡ false) (λ x. may_stand x ≡ true) (λ x p. stand (is_of known x) x.critical p) xs g.passed_over in (
+      (tt, (f.basic_ca, (Some f.subject_key_identifier, (f.authority_key_identifier, (Some f.key_usage, (f.extended_key_usage, (f.crl_uri, (f.ca_issuer, (g.access, (Some f.overclaim, (i.0, (n.0, tt)))))))))))),
+      (stand_all, (g.basic_constraints_is, (g.subject_key_identifier_is, (g.authority_key_identifier_is, (g.key_usage_is, (g.extended_key_usage_is, (g.crl_distribution_points_is, (g.authority_information_access_is, (g.subject_information_access_is, (g.certificate_policies_is, (i.2, (n.2, tt)))))))))))),
+      rw (there, i.1, n.1) (ap some (same_fields f (unwrap_or g.access no_access) _ _ _ g.access_is g.v4_is g.v6_is g.as_is)),
+    )
+
+pub extensions_read : ReadsWhole extensions_of AreExtensions
+unfolding extensions_of
+extensions_read = record {
+  takes = λ c f low e.
+      let a = bind_some (over extension_at all_kinds.step all_kinds.start c) completed f e in
+      let folded : IsFolded IsExtension all_kinds a.0 c = going.takes c a.0 low a.1 in
+      (folded.0, folded.1, give folded.0 a.0 f a.2 folded.2);
+  again = λ f c s.
+      let g = seen_of s.0 f s.2 in
+      rw (going.again g.0 c (s.0, s.1, g.1), g.2) refl;
+}
+  where
+    going : ReadsWhole (over extension_at all_kinds.step all_kinds.start) (IsFolded IsExtension all_kinds)
+    going = over_reads extension_at IsExtension HasOctets all_kinds extension_reads extension_shrinks extension_octets all_kinds_law
+
+pub row_means : (r : Result ExtensionFields DecodeError) (octets : List ℕ) → AreOctets octets → ReturnsOrMemory r (extensions_of octets) → MeansOrMemory AreExtensions r octets
+row_means (Ok f) octets low e = extensions_read.takes octets f low e
+row_means (Err d) octets low e = refuses d (λ none f a. nothing f (sym none ∙ extensions_read.again f octets a)) e
+
+-- ---- what is written
+
+abbrev parts_under : Overclaim → ExtensionFields → List OptionalExtension
+parts_under m x = parts (record x { overclaim = m })
+
+-- each is the only one of its kind, by computation
+one_each : (m : Overclaim) (x : ExtensionFields) → map (λ kind. filter (is_in kind) (parts_under m x)) (identifiers_by_kind certificate_kinds) ≡ map (λ p. p ∷ []) (parts_under m x)
+one_each Refuse x = refl
+one_each Trim x = refl
+
+are_known : (m : Overclaim) (x : ExtensionFields) → list_all is_known (parts_under m x) ≡ true
+are_known Refuse x = refl
+are_known Trim x = refl
+
+pub known_parts : (x : ExtensionFields) → AllByRecursion IsKnown (parts x)
+known_parts x = all_known (parts x) (are_known x.overclaim x)
+
+always : {V : Type 0} (v : Option V) → IfSome v Any
+always None = tt
+always (Some w) = tt
+
+module _ (x : ExtensionFields) (fits : ExtensionsFit x) (only_v4 : AreV4 x.v4_resources) where
+  all_fit : Fit certificate_kinds (values_of x)
+  all_fit = (always x.basic_ca, (fits.subject_key_identifier_is, (fits.authority_key_identifier_is, (tt, (fits.extended_key_usage_is, (fits.crl_uri_is, (fits.ca_issuer_is, (fits.access_is, (tt, ((fits.v4_is, only_v4, fits.v6_is), (fits.as_is, tt)))))))))))
+
+  pub ok_contents : AllByRecursion (λ p. IfSome p.content IfShort) (parts x)
+  ok_contents = table_octets certificate_kinds kinds_are (values_of x) all_fit
+
+  abbrev i : Ip
+  i = record { v4 = x.v4_resources; v6 = x.v6_resources }
+
+  pub fields_given : HasResources x → AllByRecursion (λ p. IfSome p.content Short) (parts x) → GiveFields (written (parts x)) x
+  fields_given some s =
+      let (basic, (key, (authority, (usage, (purposes, (lists, (issuer, (uris, (policies, (ips, (asns, _))))))))))) = table_given certificate_kinds kinds_are (parts x) (values_of x) all_fit (only_ones (parts x) (identifiers_by_kind certificate_kinds) (parts x) (one_each x.overclaim x) s) in
+      let addresses_are : i ≡ _ = else_kept no_addresses i ((ip_resources x.overclaim).written i) (no_ip i) in
+      record {
+        passed_over = none_unknown (parts x) (known_parts x);
+        basic_constraints_is = as_it_was (written (parts x)) basic_constraints x.basic_ca (kept_all _ x.basic_ca) basic;
+        subject_key_identifier_is = key;
+        authority_key_identifier_is = as_it_was (written (parts x)) authority_key_identifier x.authority_key_identifier (kept_all _ x.authority_key_identifier) authority;
+        key_usage_is = usage;
+        extended_key_usage_is = as_it_was (written (parts x)) extended_key_usage x.extended_key_usage (kept_all _ x.extended_key_usage) purposes;
+        crl_distribution_points_is = as_it_was (written (parts x)) crl_distribution_points x.crl_uri (kept_all _ x.crl_uri) lists;
+        authority_information_access_is = as_it_was (written (parts x)) authority_information_access x.ca_issuer (kept_all _ x.ca_issuer) issuer;
+        access = _;
+        subject_information_access_is = uris;
+        access_is = else_kept no_access x.access (subject_information_access.written x.access) (no_uris x.access);
+        certificate_policies_is = policies;
+        ip = _;
+        ip_resources_is = ips;
+        v4_is = ap (λ (j : Ip). j.v4) addresses_are;
+        v6_is = ap (λ (j : Ip). j.v6) addresses_are;
+        numbers = _;
+        as_resources_is = asns;
+        as_is = else_kept missing x.as_resources ((as_resources x.overclaim).written x.as_resources) (no_as_resources x.as_resources);
+        some_resources = elim some [
+          | inl four ↦ inl (kept_some i _ (λ e. four (ap (λ (j : Ip). j.v4) (no_ip i e))))
+          | inr more ↦ elim more [
+            | inl six ↦ inl (kept_some i _ (λ e. six (ap (λ (j : Ip). j.v6) (no_ip i e))))
+            | inr numbered ↦ inr (kept_some x.as_resources _ (λ e. numbered (no_as_resources x.as_resources e)))
+          ]
+        ];
+      }
+
+-- nothing that may be left out, and the issuer's IPv4 addresses
+pub inheriting_fits : (id : List ℕ) (usage : Usage) (mode : Overclaim) → IsIdentifier id → ExtensionsFit (record (bare id usage mode) { v4_resources = inherit })
+inheriting_fits id usage mode is = record {
+  subject_key_identifier_is = is;
+  authority_key_identifier_is = tt;
+  extended_key_usage_is = tt;
+  crl_uri_is = tt;
+  ca_issuer_is = tt;
+  access_is = record { ca_repository_is = tt; rpki_manifest_is = tt; signed_object_is = tt; rpki_notify_is = tt };
+  v4_is = tt;
+  v6_is = tt;
+  as_is = tt;
+}
