@@ -1,42 +1,36 @@
 -- Certificates, both ways.
 use Rattle.std.specs.Prelude.{bytes_eq}
-use Rattle.std.proofs.Common.{◌≡◌, ℕ, List, [], ◌∷◌, Some, inl, inr, refl, ◌∙◌, arith, ◌++◌, sym, ap, subst, append_assoc, Result, Ok, Err, None, Option}
+use Rattle.std.proofs.Common.{◌≡◌, ℕ, List, [], ◌∷◌, Some, inl, inr, refl, ◌∙◌, arith, ◌++◌, sym, ap, subst, Option}
 use Rattle.std.proofs.lemmas.Bool.{cases_Bool}
 use Rattle.std.proofs.lemmas.Slice.Eq.{bytes_eq-Decides}
 use Rattle.std.proofs.lemmas.List.{append-nil}
 use Rattle.rpki_der.specs.Values.{enc, length_octets, IsEnc}
-use Rattle.rpki_der.specs.Spelling.{Begins}
-use Rattle.rpki_der.specs.Reading.{inside, content, ended, Inside, Reads, Both}
+use Rattle.rpki_der.specs.Tags.{CONTEXT_CONSTRUCTED, INTEGER, SEQUENCE}
+use Rattle.rpki_der.specs.Reading.{inside, content, mapped, Inside, Reads, Both}
 use Rattle.rpki_der.specs.Values.Reading.{value_at, ◌>>=◌}
 use Rattle.rpki_der.specs.Serials.{IsSerial}
 use Rattle.rpki_der.specs.Choices.{Turned, turned}
-use Rattle.rpki_der.specs.declared.error.DecodeError.{DecodeError}
-use Rattle.rpki_der.specs.Place.{Place, left, AnswersOrMemoryBy, MeansOrMemoryBy}
 use Rattle.rpki_der.proofs.Octets.{nothing, bind_some, some, some_is}
-use Rattle.rpki_der.proofs.Readings.{inside_reads, content_reads, same_reads, both_reads}
+use Rattle.rpki_der.proofs.Readings.{inside_reads, content_reads, mapped_reads, same_reads, both_reads}
 use Rattle.rpki_der.proofs.ValueReads.{value_reads}
 use Rattle.rpki_der.proofs.SerialReads.{serial_reads}
 use Rattle.rpki_der.proofs.Choices.{turned_reads}
 use Rattle.rpki_der.proofs.Formats.{of_enc}
-use Rattle.rpki_der.proofs.Values.{one_value}
-use Rattle.rpki_der.proofs.Answering.{refuses}
 use Rattle.rpki_parts.specs.Validities.{IsValidity}
 use Rattle.rpki_parts.specs.Keys.{IsPublicKey}
 use Rattle.rpki_parts.specs.Algorithms.{IsSignatureAlgorithm}
 use Rattle.rpki_parts.specs.Names.{IsName}
-use Rattle.rpki_parts.specs.SignedDatas.{SignedFields, IsSignedDataContent}
-use Rattle.rpki_parts.specs.SignedDatas.Reading.{signed_content_at}
+use Rattle.rpki_parts.specs.SignedDatas.Reading.{signed_at}
 use Rattle.rpki_parts.proofs.ValidityReads.{validity_reads}
 use Rattle.rpki_parts.proofs.KeyReads.{public_key_reads}
 use Rattle.rpki_parts.proofs.AlgorithmReads.{algorithm_reads}
 use Rattle.rpki_parts.proofs.NameReads.{name_reads}
-use Rattle.rpki_parts.proofs.SignedDataReads.{signed_content_reads}
-use Rattle.rpki_ext.specs.Kinds.{Means}
+use Rattle.rpki_parts.proofs.SignedDataReads.{AreSigned, signed_reads}
 use Rattle.rpki_cert.specs.Certificates.{version_3, TbsFields, IsTbsCertificateContent, IsTbsCertificate, CertFields, IsCertificateContent, IsCertificate}
-use Rattle.rpki_cert.specs.Certificates.Reading.{is_two, version_at, Fields, fields_in_order, fields_at, with_extensions, tbs_at, cert_content_at, cert_at}
+use Rattle.rpki_cert.specs.Certificates.Reading.{is_two, version_at, Fields, fields_in_order, fields_at, with_extensions, tbs_at, certificate, cert_content_at, cert_at}
 use Rattle.rpki_ext.specs.CertificateExtensions.{AreExtensions, ExtensionFields}
 use Rattle.rpki_ext.specs.CertificateExtensions.Reading.{extensions_of}
-use Rattle.rpki_ext.proofs.CertificateExtensionsReads.{extensions_read}
+use Rattle.rpki_ext.proofs.CertificateExtensions.{extensions_read}
 
 -- ---- the version
 
@@ -53,11 +47,11 @@ two_takes c u e =
       | inr n ↦ nothing u (rw n at e)
     ]
 
-version_to : (u : Unit {0}) (text : List ℕ) → Inside 0xA0 (Inside 0x02 IsTwo) u text → IsVersion u text
+version_to : (u : Unit {0}) (text : List ℕ) → Inside (CONTEXT_CONSTRUCTED 0) (Inside INTEGER IsTwo) u text → IsVersion u text
 unfolding enc length_octets
 version_to u text s = s.2.is ∙ rw (s.1.2.is, s.1.1) refl
 
-version_back : (u : Unit {0}) (text : List ℕ) → IsVersion u text → Inside 0xA0 (Inside 0x02 IsTwo) u text
+version_back : (u : Unit {0}) (text : List ℕ) → IsVersion u text → Inside (CONTEXT_CONSTRUCTED 0) (Inside INTEGER IsTwo) u text
 unfolding enc length_octets
 version_back u text s = (
   2 ∷ 1 ∷ 2 ∷ [],
@@ -68,23 +62,23 @@ version_back u text s = (
 version_reads : Reads version_at IsVersion
 unfolding version_at
 version_reads =
-    same_reads (inside 0xA0 (content 0x02 is_two)) (Inside 0xA0 (Inside 0x02 IsTwo)) IsVersion
-    (inside_reads 0xA0 (content 0x02 is_two) (Inside 0x02 IsTwo)
-    (content_reads 0x02 is_two IsTwo (record { takes = λ c u low e. two_takes c u e; again = λ u c s. rw s refl })))
+    same_reads (inside (CONTEXT_CONSTRUCTED 0) (content INTEGER is_two)) (Inside (CONTEXT_CONSTRUCTED 0) (Inside INTEGER IsTwo)) IsVersion
+    (inside_reads (CONTEXT_CONSTRUCTED 0) (content INTEGER is_two) (Inside INTEGER IsTwo)
+    (content_reads INTEGER is_two IsTwo (record { takes = λ c u low e. two_takes c u e; again = λ u c s. rw s refl })))
     version_to version_back
 
 -- ---- the fields
 
 abbrev IsTagged : List ℕ → List ℕ → Type 0
-IsTagged = Inside 0xA3 (IsEnc 0x30)
+IsTagged = Inside (CONTEXT_CONSTRUCTED 3) (IsEnc SEQUENCE)
 
 abbrev AreInOrder : Fields → List ℕ → Type 0
 AreInOrder = Both IsVersion (Both IsSerial (Both IsSignatureAlgorithm (Both IsName (Both IsValidity (Both IsName (Both IsPublicKey IsTagged))))))
 
-fields_reads : Reads fields_at (Inside 0x30 AreInOrder)
+fields_reads : Reads fields_at (Inside SEQUENCE AreInOrder)
 unfolding fields_at fields_in_order
 fields_reads =
-    inside_reads 0x30 _ AreInOrder
+    inside_reads SEQUENCE _ AreInOrder
     (both_reads _ _ _ _ version_reads
     (both_reads _ _ _ _ serial_reads
     (both_reads _ _ _ _ algorithm_reads
@@ -92,7 +86,7 @@ fields_reads =
     (both_reads _ _ _ _ validity_reads
     (both_reads _ _ _ _ name_reads
     (both_reads _ _ _ _ public_key_reads
-    (inside_reads 0xA3 (value_at 0x30) (IsEnc 0x30) (value_reads 0x30)))))))))
+    (inside_reads (CONTEXT_CONSTRUCTED 3) (value_at SEQUENCE) (IsEnc SEQUENCE) (value_reads SEQUENCE)))))))))
 
 abbrev fields_made : Fields → ExtensionFields → TbsFields
 fields_made p x = record { serial = p.1.0; algorithm = p.1.1.0; issuer = p.1.1.1.0; validity = p.1.1.1.1.0; subject = p.1.1.1.1.1.0; key = p.1.1.1.1.1.1.0; extensions = x }
@@ -187,13 +181,13 @@ row_again f text s = extensions_read.again f.extensions s.extensions_is.2.0 (sub
 some_made : (f : TbsFields) (row : List ℕ) → extensions_of row ≡ Some f.extensions → with_extensions (fields_of f row) ≡ Some f
 some_made f row e = rw e refl
 
-is_tbs : (f : TbsFields) (text : List ℕ) → Turned with_extensions (Inside 0x30 AreInOrder) f text → IsTbsCertificate f text
+is_tbs : (f : TbsFields) (text : List ℕ) → Turned with_extensions (Inside SEQUENCE AreInOrder) f text → IsTbsCertificate f text
 is_tbs f text (p, s, e) =
     let a = bind_some (extensions_of p.1.1.1.1.1.1.1) (λ x. some (fields_made p x)) f e in
     let content : IsTbsCertificateContent (fields_made p a.0) s.0 = is_content p a.0 s.0 s.1 a.1 in
     record { content = s.0; content_is = subst (λ (g : TbsFields). IsTbsCertificateContent g s.0) (some_is (fields_made p a.0) f a.2) content; enc = s.2 }
 
-tbs_is : (f : TbsFields) (text : List ℕ) → IsTbsCertificate f text → Turned with_extensions (Inside 0x30 AreInOrder) f text
+tbs_is : (f : TbsFields) (text : List ℕ) → IsTbsCertificate f text → Turned with_extensions (Inside SEQUENCE AreInOrder) f text
 tbs_is f text s =
     let row = s.content_is.extensions_is.2.0 in
     (fields_of f row, (s.content, content_is f s.content s.content_is, s.enc), some_made f row (row_again f s.content s.content_is))
@@ -201,60 +195,25 @@ tbs_is f text s =
 pub tbs_reads : Reads tbs_at IsTbsCertificate
 unfolding tbs_at
 tbs_reads =
-    same_reads (turned with_extensions fields_at) (Turned with_extensions (Inside 0x30 AreInOrder)) IsTbsCertificate
-    (turned_reads with_extensions fields_at (Inside 0x30 AreInOrder) fields_reads)
+    same_reads (turned with_extensions fields_at) (Turned with_extensions (Inside SEQUENCE AreInOrder)) IsTbsCertificate
+    (turned_reads with_extensions fields_at (Inside SEQUENCE AreInOrder) fields_reads)
     is_tbs tbs_is
 
 -- ---- certificates
 
-abbrev made : TbsFields → SignedFields → CertFields
-made fields signed = record { fields = fields; signed_data = signed }
-
--- what stands behind the value that is signed
-abbrev behind : (s : SignedFields) (text : List ℕ) → IsSignedDataContent s text → List ℕ → List ℕ
-behind s text h rest = (h.algorithm ++ (h.signature ++ [])) ++ rest
-
-at_front : (s : SignedFields) (text rest : List ℕ) (h : IsSignedDataContent s text) → text ++ rest ≡ s.message ++ behind s text h rest
-at_front s text rest h = ap (λ (t : List ℕ). t ++ rest) h.is ∙ append_assoc s.message (h.algorithm ++ (h.signature ++ [])) rest
-
 pub cert_content_reads : Reads cert_content_at IsCertificateContent
 unfolding cert_content_at
-cert_content_reads = record {
-  takes = λ octets c rest low e.
-      let a = bind_some (signed_content_at octets) (λ s. tbs_at octets >>= λ t. some {A = CertFields × List ℕ} (made t.0 s.0, s.1)) (c, rest) e in
-      let b = bind_some (tbs_at octets) (λ t. some {A = CertFields × List ℕ} (made t.0 a.0.0, a.0.1)) (c, rest) a.2 in
-      let one = signed_content_reads.takes octets a.0.0 a.0.1 low a.1 in
-      let two = tbs_reads.takes octets b.0.0 b.0.1 low b.1 in
-      let whole : two.text ++ b.0.1 ≡ a.0.0.message ++ behind a.0.0 one.text one.spelled a.0.1 = sym two.parts ∙ one.parts ∙ at_front a.0.0 one.text a.0.1 one.spelled in
-      let kept = (one_value two.text a.0.0.message b.0.1 _ (of_enc two.spelled.enc) one.spelled.message_is whole).0 in
-      let spelled : IsCertificateContent (made b.0.0 a.0.0) one.text = record { signed_is = one.spelled; fields_are = subst (λ (t : List ℕ). IsTbsCertificate b.0.0 t) kept two.spelled } in
-      let all : CertFields × List ℕ = (made b.0.0 a.0.0, a.0.1) in
-      subst (λ (q : CertFields × List ℕ). Begins IsCertificateContent octets q.0 q.1) (some_is all (c, rest) b.2) (record { text = one.text; spelled = spelled; parts = one.parts });
-  again = λ c text rest s.
-      let front : tbs_at (text ++ rest) ≡ some {A = TbsFields × List ℕ} (c.fields, behind c.signed_data text s.signed_is rest) = ap tbs_at (at_front c.signed_data text rest s.signed_is) ∙ tbs_reads.again c.fields c.signed_data.message (behind c.signed_data text s.signed_is rest) s.fields_are in
-      rw (signed_content_reads.again c.signed_data text rest s.signed_is, front) refl;
-}
+cert_content_reads =
+    same_reads (mapped certificate (signed_at tbs_at)) (λ c. AreSigned IsTbsCertificate (c.fields, c.signed_data)) IsCertificateContent
+    (mapped_reads (signed_at tbs_at) (AreSigned IsTbsCertificate) certificate (λ c. (c.fields, c.signed_data)) (λ p. refl) (λ c. refl)
+    (signed_reads tbs_at IsTbsCertificate tbs_reads (λ f text s. of_enc s.enc)))
+    (λ c text s. record { signed_is = s.0; fields_are = s.1 })
+    (λ c text s. (s.signed_is, s.fields_are))
 
 pub cert_reads : Reads cert_at IsCertificate
 unfolding cert_at
 cert_reads =
-    same_reads (inside 0x30 cert_content_at) (Inside 0x30 IsCertificateContent) IsCertificate
-    (inside_reads 0x30 cert_content_at IsCertificateContent cert_content_reads)
+    same_reads (inside SEQUENCE cert_content_at) (Inside SEQUENCE IsCertificateContent) IsCertificate
+    (inside_reads SEQUENCE cert_content_at IsCertificateContent cert_content_reads)
     (λ c text s. record { content = s.0; content_is = s.1; enc = s.2 })
     (λ c text s. (s.content, s.content_is, s.enc))
-
--- ---- octets that stand alone, and octets that are left
-
--- a front of all octets
-pub front_means : {X Y : Type 0} (view : X → Y) (spells : Y → List ℕ → Type 0) (old new : Place) (r : Result X DecodeError) (octets : List ℕ)
-    → left old ≡ octets → AnswersOrMemoryBy view spells old r new → MeansOrMemoryBy view (Means spells) r octets
-front_means view spells old new (Ok x) octets e a = (a.text, record { rest = left new; is = sym e ∙ a.parts }, a.spelled)
-front_means view spells old new (Err d) octets e a = refuses d (λ none y m. none y m.1.rest (record { text = m.0; spelled = m.2; parts = e ∙ m.1.is })) a
-
-ended_none : {X : Type 0} (more : List ℕ) (x : X) → (more ≡ [] → ⊥) → ended more x ≡ None
-ended_none [] x h = absurd (h refl)
-ended_none (b ∷ more) x h = refl
-
-pub not_used_up : {X : Type 0} (tag : ℕ) (f : List ℕ → Option (X × List ℕ)) (bytes c rest : List ℕ) (x : X) (more : List ℕ)
-    → value_at tag bytes ≡ Some (c, rest) → f c ≡ Some (x, more) → (more ≡ [] → ⊥) → inside tag f bytes ≡ None
-not_used_up tag f bytes c rest x more v e h = rw (v, e) (ended_none more (x, rest) h)

@@ -2,22 +2,26 @@
 -- written as it was read.
 use Rattle.std.specs.List.{concat}
 use Rattle.std.proofs.Common.{ℕ, List, [], ◌∷◌, ◌≡◌, map, refl, arith, ◌<◌, ◌^◌, length, ap, ◌∙◌}
+use Rattle.rpki_der.specs.Tags.{CONTEXT_CONSTRUCTED, SEQUENCE}
 use Rattle.rpki_der.specs.Values.{AreOctets, IsEnc, enc, nested}
+use Rattle.rpki_der.proofs.Formats.{of_enc}
 use Rattle.rpki_der.specs.Extensions.{text}
 use Rattle.rpki_der.specs.Primitives.{number}
-use Rattle.rpki_der.proofs.ValueWritten.{Short, pieces_short, nested_made, nested_short, number_made, made}
-use Rattle.rpki_der.proofs.WrittenOctets.{literal, value_octets, ok_concat, ok_nested, ok_number, ok_enc}
+use Rattle.rpki_der.proofs.ValueWritten.{Short, pieces_short, nested_made, nested_short, number_made}
+use Rattle.rpki_der.proofs.WrittenOctets.{literal, value_octets, ok_concat, ok_nested, ok_number}
 use Rattle.rpki_blocks.specs.Prefixes.{AreV4}
 use Rattle.rpki_parts.specs.Validities.{validity}
 use Rattle.rpki_parts.specs.Keys.{key}
-use Rattle.rpki_parts.specs.Algorithms.{Algorithm, parameters, IsSignatureAlgorithm, algorithm}
-use Rattle.rpki_parts.specs.SignedDatas.{SignedFields, IsSignedDataContent, signed_data, signed_pieces}
+use Rattle.rpki_parts.specs.Algorithms.{algorithm}
+use Rattle.rpki_parts.specs.SignedDatas.{signed_data, signed_pieces}
+use Rattle.rpki_parts.proofs.SignedDataWritten.{signed_made, signed_enc, content_is}
 use Rattle.rpki_parts.proofs.ValidityWritten.{validity_made, ok_validity}
 use Rattle.rpki_parts.proofs.KeyWritten.{key_made, ok_key}
 use Rattle.rpki_parts.proofs.AlgorithmWritten.{algorithm_made, ok_algorithm}
 use Rattle.rpki_cert.specs.Certificates.{TbsFields, version_3, IsTbsCertificate, tagged_extensions, tbs_content, spelling, Fits, CertFields, IsCertificate}
 use Rattle.rpki_ext.specs.CertificateExtensions.{extensions, parts, HasResources}
-use Rattle.rpki_ext.proofs.CertificateExtensionsWritten.{written, row_made, contents_short, ok_row, known_parts, ok_contents, fields_given}
+use Rattle.rpki_ext.proofs.CertificateExtensions.{known_parts, ok_contents, fields_given}
+use Rattle.rpki_ext.proofs.KindsWritten.{written, row_made, contents_short, ok_row}
 
 abbrev pieces : TbsFields → List (List ℕ)
 pieces f = version_3 ∷ number f.serial ∷ algorithm f.algorithm ∷ f.issuer ∷ validity f.validity ∷ f.subject ∷ key f.key ∷ tagged_extensions f.extensions ∷ []
@@ -40,7 +44,7 @@ module _ (f : TbsFields) (fits : Fits f) (only_v4 : AreV4 f.extensions.v4_resour
                   (λ l. value_octets fits.subject_is.parts_are.sequence),
                   (
                     ok_key f.key fits.key_is,
-                    (ok_nested (0xA3 ∷ 0x30 ∷ []) (extensions f.extensions) (literal (0xA3 ∷ 0x30 ∷ []) refl) (ok_row (parts f.extensions) (known_parts f.extensions) (ok_contents f.extensions fits.extensions_are only_v4)), tt),
+                    (ok_nested (CONTEXT_CONSTRUCTED 3 ∷ SEQUENCE ∷ []) (extensions f.extensions) (literal (CONTEXT_CONSTRUCTED 3 ∷ SEQUENCE ∷ []) refl) (ok_row (parts f.extensions) (known_parts f.extensions) (ok_contents f.extensions fits.extensions_are only_v4)), tt),
                   ),
                 ),
               ),
@@ -50,15 +54,15 @@ module _ (f : TbsFields) (fits : Fits f) (only_v4 : AreV4 f.extensions.v4_resour
       )
       fits.short
 
-  enc_made : (b : List ℕ) → b ≡ spelling f → IsEnc 0x30 (tbs_content f) b
+  enc_made : (b : List ℕ) → b ≡ spelling f → IsEnc SEQUENCE (tbs_content f) b
   enc_made b is = record { octet = omega arith; low_tag = omega arith; octets = content_octets; short = fits.short; is = is }
 
   pub tbs_made : (b : List ℕ) → b ≡ spelling f → HasResources f.extensions → IsTbsCertificate f b
   unfolding extensions
   tbs_made b is some =
       let s = pieces_short (pieces f) (fits.short, content_octets) in
-      let last : Short (nested (0xA3 ∷ 0x30 ∷ []) (extensions f.extensions)) = s.1.1.1.1.1.1.1.0 in
-      let row = pieces_short (map text (parts f.extensions)) (nested_short (0xA3 ∷ 0x30 ∷ []) (extensions f.extensions) last) in
+      let last : Short (nested (CONTEXT_CONSTRUCTED 3 ∷ SEQUENCE ∷ []) (extensions f.extensions)) = s.1.1.1.1.1.1.1.0 in
+      let row = pieces_short (map text (parts f.extensions)) (nested_short (CONTEXT_CONSTRUCTED 3 ∷ SEQUENCE ∷ []) (extensions f.extensions) last) in
       record {
         content = tbs_content f;
         content_is = record {
@@ -68,7 +72,7 @@ module _ (f : TbsFields) (fits : Fits f) (only_v4 : AreV4 f.extensions.v4_resour
           validity = validity f.validity;
           subject = f.subject;
           key = key f.key;
-          extensions = nested (0xA3 ∷ 0x30 ∷ []) (extensions f.extensions);
+          extensions = nested (CONTEXT_CONSTRUCTED 3 ∷ SEQUENCE ∷ []) (extensions f.extensions);
           serial_is = record { number = number_made f.serial s.1.0; small = fits.serial_is };
           algorithm_is = algorithm_made f.algorithm s.1.1.0;
           issuer_is = fits.issuer_is;
@@ -78,7 +82,7 @@ module _ (f : TbsFields) (fits : Fits f) (only_v4 : AreV4 f.extensions.v4_resour
           row = extensions f.extensions;
           triples = written (parts f.extensions);
           row_is = row_made (parts f.extensions) (known_parts f.extensions) row;
-          extensions_is = nested_made (0xA3 ∷ 0x30 ∷ []) (extensions f.extensions) (omega arith, (omega arith, tt)) last;
+          extensions_is = nested_made (CONTEXT_CONSTRUCTED 3 ∷ SEQUENCE ∷ []) (extensions f.extensions) (omega arith, (omega arith, tt)) last;
           gives = fields_given f.extensions fits.extensions_are only_v4 some (contents_short (parts f.extensions) row);
           is = refl;
         };
@@ -88,35 +92,13 @@ module _ (f : TbsFields) (fits : Fits f) (only_v4 : AreV4 f.extensions.v4_resour
 pub certificate_made : (c : CertFields) → Fits c.fields → c.signed_data.message ≡ spelling c.fields → AreOctets c.signed_data.signature.value → length (concat (signed_pieces c.signed_data)) < 2 ^ 32 → HasResources c.fields.extensions → AreV4 c.fields.extensions.v4_resources → IsCertificate c (signed_data c.signed_data)
 certificate_made c fits is octets short some only_v4 =
     let s = c.signed_data in
-    let message = enc_made c.fields fits only_v4 s.message is in
-    let all = ok_concat (signed_pieces s) ((λ l. value_octets message), (ok_algorithm s.signature.algorithm, (ok_enc 3 (0 ∷ s.signature.value) (omega arith) (λ l. (omega arith, octets)), tt))) short in
-    let shorts = pieces_short (signed_pieces s) (short, all) in
+    let message = of_enc (enc_made c.fields fits only_v4 s.message is) in
     record {
       content = concat (signed_pieces s);
-      content_is = record {
-        signed_is = record {
-          algorithm = algorithm s.signature.algorithm;
-          signature = enc 3 (0 ∷ s.signature.value);
-          message_is = record { tag = 0x30; content = tbs_content c.fields; enc = message };
-          algorithm_is = algorithm_made s.signature.algorithm shorts.1.0;
-          signature_is = made 3 (0 ∷ s.signature.value) (omega arith) shorts.1.1.0;
-          is = refl;
-        };
-        fields_are = tbs_made c.fields fits only_v4 s.message is some;
-      };
-      enc = record { octet = omega arith; low_tag = omega arith; octets = all; short = short; is = refl };
+      content_is = record { signed_is = signed_made s message octets short; fields_are = tbs_made c.fields fits only_v4 s.message is some };
+      enc = signed_enc s message octets short;
     }
 
--- ---- what was read
-
-algorithm_is : (a : Algorithm) (b : List ℕ) → IsSignatureAlgorithm a b → b ≡ algorithm a
-algorithm_is a b h = h.sequence.is ∙ ap (λ (id : List ℕ). enc 0x30 (concat (id ∷ parameters a.has_null ∷ []))) h.identifier_is.enc.is
-
-content_is : (s : SignedFields) (content : List ℕ) → IsSignedDataContent s content → content ≡ concat (signed_pieces s)
-content_is s content h =
-    h.is
-    ∙ ap (λ (a : List ℕ). concat (s.message ∷ a ∷ h.signature ∷ [])) (algorithm_is s.signature.algorithm h.algorithm h.algorithm_is)
-    ∙ ap (λ (b : List ℕ). concat (s.message ∷ algorithm s.signature.algorithm ∷ b ∷ [])) h.signature_is.is
-
+-- what was read
 pub certificate_is : (c : CertFields) (b : List ℕ) → IsCertificate c b → b ≡ signed_data c.signed_data
-certificate_is c b h = h.enc.is ∙ ap (enc 0x30) (content_is c.signed_data h.content h.content_is.signed_is)
+certificate_is c b h = h.enc.is ∙ ap (enc SEQUENCE) (content_is c.signed_data h.content h.content_is.signed_is)

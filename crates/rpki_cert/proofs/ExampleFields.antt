@@ -10,7 +10,7 @@ use Rattle.rpki_parts.specs.Algorithms.{with_null}
 use Rattle.rpki_parts.specs.declared.key.PublicKeyFormat.TheVariants.{Rsa}
 use Rattle.rpki_parts.specs.Names.{IsName}
 use Rattle.rpki_ext.specs.declared.key_usage.KeyUsage.TheVariants.{Ee}
-use Rattle.rpki_ext.proofs.CertificateExtensionsWritten.{inheriting_fits}
+use Rattle.rpki_ext.proofs.CertificateExtensions.{inheriting_fits}
 use Rattle.rpki_cert.specs.Certificates.{TbsFields, tbs_content, Fits}
 use Rattle.rpki_ext.specs.CertificateExtensions.{bare, extensions, HasResources}
 

@@ -1,7 +1,6 @@
 pub mod CertificatesReads
 pub mod CertificatesWritten
 pub mod ExampleFields
-pub mod RoundTrips
 pub mod WritingSteps
 pub mod Exclusive
 pub mod Testing

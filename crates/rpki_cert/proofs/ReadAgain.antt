@@ -18,7 +18,9 @@ use Rattle.rpki_der.proofs.ValueReads.{value_reads}
 use Rattle.rpki_der.proofs.ValueWritten.{Short, pieces_short, content_short}
 use Rattle.rpki_der.proofs.Values.{one_value}
 use Rattle.rpki_parts.specs.SignedDatas.{SignedFields, signed_data, signed_pieces}
-use Rattle.rpki_ext.specs.Kinds.{Means}
+use Rattle.rpki_der.specs.Spelling.{Means}
+use Rattle.rpki_der.specs.Tags.{SEQUENCE}
+use Rattle.rpki_der.proofs.Answering.{whole_means}
 use Rattle.rpki_ext.proofs.OneMeaning.{one_meaning}
 use Rattle.rpki_cert.specs.Certificates.{TbsFields, CertFields, IsCertificate, IsMade, spelling, tbs_content}
 use Rattle.rpki_cert.specs.Certificates.Reading.{cert_at}
@@ -31,23 +33,24 @@ use Rattle.rpki_cert.proofs.CertificatesWritten.{certificate_made}
 abbrev content_of : SignedFields → List ℕ
 content_of s = concat (signed_pieces s)
 
-content_octets : (c : List ℕ) → AreOctets (enc 0x30 c) → AreOctets c
+content_octets : (c : List ℕ) → AreOctets (enc SEQUENCE c) → AreOctets c
 unfolding enc
 content_octets c h = (AreOctets-parts (length_octets (length c)) c h.1).1
 
 -- whatever is read of what was made has its message
 pub message_again : (s : SignedFields) (f : TbsFields) (c : CertFields) → s.message ≡ spelling f → AreOctets (signed_data s) → length (content_of s) < 2 ^ 32
     → Means IsCertificate c (signed_data s) → c.signed_data.message ≡ spelling f
-message_again s f c is octets short (front, begins, cert) =
+message_again s f c is octets short (rest, begins) =
+    let cert = begins.spelled in
     let low = content_octets (content_of s) octets in
-    let whole : IsEnc 0x30 (content_of s) (signed_data s) = record { octet = omega arith; low_tag = omega arith; octets = low; short = short; is = refl } in
-    let one = one_reading (value_at 0x30) (IsEnc 0x30) (value_reads 0x30) (signed_data s) (content_of s) cert.content [] begins.rest
+    let whole : IsEnc SEQUENCE (content_of s) (signed_data s) = record { octet = omega arith; low_tag = omega arith; octets = low; short = short; is = refl } in
+    let one = one_reading (value_at SEQUENCE) (IsEnc SEQUENCE) (value_reads SEQUENCE) (signed_data s) (content_of s) cert.content [] rest
     (record { text = signed_data s; spelled = whole; parts = sym (append-nil (signed_data s)) })
-    (record { text = front; spelled = cert.enc; parts = begins.is }) in
+    (record { text = begins.text; spelled = cert.enc; parts = begins.parts }) in
     let signed = cert.content_is.signed_is in
     let shorts = pieces_short (signed_pieces s) (short, low) in
-    let inner : Short (tbs_content f) = content_short 0x30 (tbs_content f) (subst Short is shorts.0) in
-    let mine : IsValue s.message = record { tag = 0x30; content = tbs_content f; enc = record { octet = omega arith; low_tag = omega arith; octets = inner.1; short = inner.0; is = is } } in
+    let inner : Short (tbs_content f) = content_short SEQUENCE (tbs_content f) (subst Short is shorts.0) in
+    let mine : IsValue s.message = record { tag = SEQUENCE; content = tbs_content f; enc = record { octet = omega arith; low_tag = omega arith; octets = inner.1; short = inner.0; is = is } } in
     sym (one_value s.message c.signed_data.message _ _ mine signed.message_is (one.0 ∙ signed.is)).0 ∙ is
 
 -- what was made of fields that can be written is read as it was made
@@ -55,7 +58,7 @@ pub certificate_again : (c d : CertFields) → IsMade c → Means IsCertificate 
 certificate_again c d made h =
     let can = made.fields_are in
     let own = certificate_made c can.fits made.message_is made.signature_is made.short can.resources can.only_v4 in
-    one_meaning cert_at IsCertificate cert_reads (signed_data c.signed_data) d c h (signed_data c.signed_data, record { rest = []; is = sym (append-nil (signed_data c.signed_data)) }, own)
+    one_meaning cert_at IsCertificate cert_reads (signed_data c.signed_data) d c h (whole_means IsCertificate c (signed_data c.signed_data) own)
 
 -- ---- why it isn't
 
@@ -73,7 +76,7 @@ pub readable : (c : CertFields) → IsMade c → IsUnreadable c.signed_data → 
 readable c made no_c =
     let can = made.fields_are in
     let own = certificate_made c can.fits made.message_is made.signature_is made.short can.resources can.only_v4 in
-    no_c c (signed_data c.signed_data, record { rest = []; is = sym (append-nil (signed_data c.signed_data)) }, own)
+    no_c c (whole_means IsCertificate c (signed_data c.signed_data) own)
 
 -- of what was made of the fields
 pub not_made : {E : Type 0} (f : TbsFields) (Answers : Result SignatureFields (SigningError E) → Type 0) (s : SignedFields) (e : IssueCaError E) → IsMadeOf f Answers s → IsNotReadAgain s e → IsNotMade f Answers e

@@ -6,10 +6,10 @@ use Rattle.rpki_der.specs.declared.error.DecodeError.TheVariants as reading
 use Rattle.rpki_der.specs.declared.error.EncodeError.TheVariants as writing
 use Rattle.rpki_parts.specs.Signatures.{SignatureFields}
 use Rattle.rpki_parts.specs.SignedDatas.{SignedFields, signed_data, signed_pieces}
+use Rattle.rpki_parts.specs.Signing.{IsRefusal}
 use Rattle.rpki_parts.specs.declared.signature.SigningError.{SigningError}
 use Rattle.rpki_ext.specs.Kinds.{Means}
-use Rattle.rpki_cert.specs.Certificates.{TbsFields, CertFields, CanBeWritten, IsCertificate, spelling}
-use Rattle.rpki_cert.specs.Making.{IsRefusal}
+use Rattle.rpki_cert.specs.Certificates.{TbsFields, CertFields, CanBeWritten, IsCertificate, tbs_content, spelling}
 use Rattle.rpki_cert.specs.declared.issue.IssueCaError.{IssueCaError}
 use Rattle.rpki_cert.specs.declared.issue.IssueCaError.TheVariants.{Signing, Encode, Decode, Validation}
 use Rattle.rpki_cert.specs.declared.validation_error.ValidationError.{ValidationError}
@@ -27,7 +27,7 @@ IsUnreadable s = (c : CertFields) → Means IsCertificate c (signed_data s) → 
 -- Why nothing is read again of what is made of the fields, with a signer that may give these answers: nothing is made; memory was wanted;
 -- or something is made whose octets no certificate begins.
 abbrev pub IsNotMade : {E : Type 0} → TbsFields → (Result SignatureFields (SigningError E) → Type 0) → IssueCaError E → Type 0
-IsNotMade f Answers (Signing e) = IsRefusal f Answers e
+IsNotMade f Answers (Signing e) = IsRefusal (tbs_content f) Answers e
 IsNotMade f Answers (Encode writing.TooLong) = ⊥
 IsNotMade f Answers (Encode writing.Memory) = Unit {0}
 IsNotMade f Answers (Decode e) = Refuses e ((s : SignedFields) × IsMadeOf f Answers s × IsUnreadable s)

@@ -77,11 +77,29 @@ Lacks kind strict c fault.InheritedAsResources = c.fields.extensions.as_resource
 -- ---- the kinds: their faults, in the order in which they are tested
 
 abbrev pub faults : Kind → List InspectionError
-faults Anchor = fault.AlgorithmMismatch ∷ fault.Issuer ∷ fault.Subject ∷ fault.KeyAlgorithm ∷ fault.SubjectKeyIdentifier ∷ fault.ExtendedKeyUsagePresent ∷ fault.CaFlagFalse ∷ fault.MissingBasicConstraints ∷ fault.KeyUsage ∷ fault.MissingCaRepository ∷ fault.MissingManifest ∷ fault.ManifestNotChild ∷ fault.SignedObjectPresent ∷ fault.AuthorityKeyIdentifier ∷ fault.CrlUriPresent ∷ fault.CaIssuerPresent ∷ []
-faults Authority = fault.AlgorithmMismatch ∷ fault.Issuer ∷ fault.Subject ∷ fault.KeyAlgorithm ∷ fault.SubjectKeyIdentifier ∷ fault.ExtendedKeyUsagePresent ∷ fault.CaFlagFalse ∷ fault.MissingBasicConstraints ∷ fault.KeyUsage ∷ fault.MissingCaRepository ∷ fault.MissingManifest ∷ fault.ManifestNotChild ∷ fault.SignedObjectPresent ∷ fault.MissingCrlUri ∷ []
-faults EndEntity = fault.AlgorithmMismatch ∷ fault.Issuer ∷ fault.Subject ∷ fault.KeyAlgorithm ∷ fault.SubjectKeyIdentifier ∷ fault.ExtendedKeyUsagePresent ∷ fault.MissingCrlUri ∷ fault.BasicConstraintsPresent ∷ fault.KeyUsage ∷ fault.CaRepositoryPresent ∷ fault.ManifestPresent ∷ fault.MissingSignedObject ∷ []
-faults Detached = fault.AlgorithmMismatch ∷ fault.Issuer ∷ fault.Subject ∷ fault.KeyAlgorithm ∷ fault.SubjectKeyIdentifier ∷ fault.ExtendedKeyUsagePresent ∷ fault.MissingCrlUri ∷ fault.BasicConstraintsPresent ∷ fault.KeyUsage ∷ fault.CaRepositoryPresent ∷ fault.ManifestPresent ∷ []
-faults Router = fault.AlgorithmMismatch ∷ fault.Issuer ∷ fault.Subject ∷ fault.KeyAlgorithm ∷ fault.BasicConstraintsPresent ∷ fault.SubjectKeyIdentifier ∷ fault.KeyUsage ∷ fault.MissingExtendedKeyUsage ∷ fault.MissingRouterPurpose ∷ fault.MissingCrlUri ∷ fault.SubjectInformationPresent ∷ fault.IpResourcesPresent ∷ fault.MissingAsResources ∷ fault.InheritedAsResources ∷ []
+faults Anchor =
+    fault.AlgorithmMismatch ∷ fault.Issuer ∷ fault.Subject ∷ fault.KeyAlgorithm ∷ fault.SubjectKeyIdentifier
+    ∷ fault.ExtendedKeyUsagePresent ∷ fault.CaFlagFalse ∷ fault.MissingBasicConstraints ∷ fault.KeyUsage
+    ∷ fault.MissingCaRepository ∷ fault.MissingManifest ∷ fault.ManifestNotChild ∷ fault.SignedObjectPresent
+    ∷ fault.AuthorityKeyIdentifier ∷ fault.CrlUriPresent ∷ fault.CaIssuerPresent ∷ []
+faults Authority =
+    fault.AlgorithmMismatch ∷ fault.Issuer ∷ fault.Subject ∷ fault.KeyAlgorithm ∷ fault.SubjectKeyIdentifier
+    ∷ fault.ExtendedKeyUsagePresent ∷ fault.CaFlagFalse ∷ fault.MissingBasicConstraints ∷ fault.KeyUsage
+    ∷ fault.MissingCaRepository ∷ fault.MissingManifest ∷ fault.ManifestNotChild ∷ fault.SignedObjectPresent ∷ fault.MissingCrlUri
+    ∷ []
+faults EndEntity =
+    fault.AlgorithmMismatch ∷ fault.Issuer ∷ fault.Subject ∷ fault.KeyAlgorithm ∷ fault.SubjectKeyIdentifier
+    ∷ fault.ExtendedKeyUsagePresent ∷ fault.MissingCrlUri ∷ fault.BasicConstraintsPresent ∷ fault.KeyUsage
+    ∷ fault.CaRepositoryPresent ∷ fault.ManifestPresent ∷ fault.MissingSignedObject ∷ []
+faults Detached =
+    fault.AlgorithmMismatch ∷ fault.Issuer ∷ fault.Subject ∷ fault.KeyAlgorithm ∷ fault.SubjectKeyIdentifier
+    ∷ fault.ExtendedKeyUsagePresent ∷ fault.MissingCrlUri ∷ fault.BasicConstraintsPresent ∷ fault.KeyUsage
+    ∷ fault.CaRepositoryPresent ∷ fault.ManifestPresent ∷ []
+faults Router =
+    fault.AlgorithmMismatch ∷ fault.Issuer ∷ fault.Subject ∷ fault.KeyAlgorithm ∷ fault.BasicConstraintsPresent
+    ∷ fault.SubjectKeyIdentifier ∷ fault.KeyUsage ∷ fault.MissingExtendedKeyUsage ∷ fault.MissingRouterPurpose
+    ∷ fault.MissingCrlUri ∷ fault.SubjectInformationPresent ∷ fault.IpResourcesPresent ∷ fault.MissingAsResources
+    ∷ fault.InheritedAsResources ∷ []
 
 -- the certificate has none of the faults of its kind
 abbrev pub MeetsProfile : Kind → Bool → CertFields → Type 0

@@ -15,7 +15,9 @@ use Rattle.rpki_parts.specs.ValidAt.{IsInTime}
 use Rattle.rpki_parts.specs.declared.valid_at.ValidityError.TheVariants as time
 use Rattle.rpki_cert.specs.Certificates.{TbsFields, CertFields}
 use Rattle.rpki_cert.specs.declared.verification_error.VerificationError.{VerificationError}
-use Rattle.rpki_cert.specs.declared.verification_error.VerificationError.TheVariants.{NotYetValid, Expired, InheritedV4, InheritedV6, InheritedAs, MissingKeyId, WrongKeyId, MissingIssuerUri, BadSignature, OverclaimV4, OverclaimV6, OverclaimAs, Memory}
+use Rattle.rpki_cert.specs.declared.verification_error.VerificationError.TheVariants.{NotYetValid, Expired, InheritedV4, InheritedV6, InheritedAs}
+use Rattle.rpki_cert.specs.declared.verification_error.VerificationError.TheVariants.{MissingKeyId, WrongKeyId, MissingIssuerUri, BadSignature}
+use Rattle.rpki_cert.specs.declared.verification_error.VerificationError.TheVariants.{OverclaimV4, OverclaimV6, OverclaimAs, Memory}
 
 -- sets of numbers: which IPv4 addresses, IPv6 addresses and AS numbers are held
 pub record Held : Type 1 where

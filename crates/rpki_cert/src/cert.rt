@@ -4,16 +4,17 @@ ghost use Rattle.std.specs.List.{concat};
 ghost use Rattle.rpki_der.specs.Place.{Place, left, Keeps, AnswersOrMemory, AnswersOptionalOrMemory, MeansOrMemory};
 ghost use Rattle.rpki_der.specs.Place.Reading.{TookOrMemory};
 ghost use Rattle.rpki_der.specs.Reading.{optional};
+ghost use Rattle.rpki_der.specs.Tags.{SEQUENCE};
 ghost use Rattle.rpki_der.specs.Values.{AreOctets};
-ghost use Rattle.rpki_der.specs.Writers.{value, Writes};
-ghost use Rattle.rpki_parts.specs.SignedDatas.{signed_data, signed_pieces};
-ghost use Rattle.rpki_ext.specs.Kinds.{Means};
+ghost use Rattle.rpki_der.specs.Writers.{SaysLong, Writes};
+ghost use Rattle.rpki_parts.specs.SignedDatas.{signed_data, signed_part, signed_pieces};
+ghost use Rattle.rpki_der.specs.Spelling.{Means};
 ghost use Rattle.rpki_cert.specs.Certificates.{IsCertificateContent, IsCertificate};
 ghost use Rattle.rpki_cert.specs.Certificates.Reading.{cert_content_at, cert_at};
 
 use crate::tbs::TbsCert;
 use bytes::Bytes;
-use rpki_der::{Cursor, DecodeError, EncodeError};
+use rpki_der::{Cursor, DecodeError, EncodeError, tag};
 use rpki_parts::SignedData;
 use std::alloc::{AllocError, Global};
 use std::marker::Model;
@@ -94,11 +95,11 @@ impl Cert {
         alloc: Global,
         cursor: &mut Cursor<'_>,
     ) -> Result<Option<Cert>, DecodeError>
-        ensures answers { AnswersOptionalOrMemory 0x30 IsCertificate cursor.old result cursor.new }
+        ensures answers { AnswersOptionalOrMemory SEQUENCE IsCertificate cursor.old result cursor.new }
         ensures keeps { Keeps result cursor.old cursor.new }
     {
         match cursor.rest() {
-            [0x30, ..] => Ok(Some(Cert::take_from(alloc, cursor)?)),
+            [tag::SEQUENCE, ..] => Ok(Some(Cert::take_from(alloc, cursor)?)),
             _ => Ok(None),
         }
     }
@@ -128,8 +129,7 @@ impl Cert {
     /// Appends the certificate: the SEQUENCE of what is signed, as it was read or made, the algorithm and the signature. Of a
     /// certificate that was read these are its own octets. Answers `TooLong` where the content would have 2^32 octets or more.
     pub fn encode_ref(&self, alloc: Global, out: &mut Vec<u8>) -> Result<(), EncodeError>
-        ensures { Writes (value 0x30 (concat (signed_pieces self.now.signed_data)))
-            out.old.items result out.new.items }
+        ensures { Writes (signed_part self.now.signed_data) out.old.items result out.new.items }
     {
         self.signed_data.encode_ref(alloc, out)
     }
@@ -137,8 +137,7 @@ impl Cert {
     /// The same octets, on their own.
     pub fn to_captured(&self, alloc: Global) -> Result<Bytes, EncodeError>
         ensures ok { IfOk result (λ octets. octets ≡ signed_data self.now.signed_data) }
-        ensures too_long { IsErrOf result EncodeError.TooLong
-            → 2 ^ 32 ≤ length (concat (signed_pieces self.now.signed_data)) }
+        ensures too_long { SaysLong result (concat (signed_pieces self.now.signed_data)) }
         ensures fits { IsOk result → length (concat (signed_pieces self.now.signed_data)) < 2 ^ 32 }
     {
         let mut octets = Vec::new(alloc);

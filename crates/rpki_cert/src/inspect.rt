@@ -252,7 +252,7 @@ impl Cert {
     }
 
     // The faults of the kind are looked for one after the other.
-    fn inspect(&self, kind: Kind, strict: bool) -> Result<(), InspectionError>
+    pub(crate) fn inspect(&self, kind: Kind, strict: bool) -> Result<(), InspectionError>
         ensures { Tests (Lacks kind strict self.now) (faults kind) result }
     {
         for fault in kind.faults() {

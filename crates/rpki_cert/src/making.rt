@@ -1,17 +1,18 @@
 //! Certificates are made: fields go in, octets come out.
-ghost use Rattle.std.specs.Prelude.{◌≡◌, unwrap_or, ◌^◌, ◌<◌, ◌≤◌, length, Ok, IfOk, IfErr, OnOk, IsErrOf};
+ghost use Rattle.std.specs.Prelude.{◌≡◌, unwrap_or, ◌^◌, ◌<◌, length, Ok, IfOk, IfErr, OnOk};
 ghost use Rattle.std.specs.List.{concat};
 ghost use Rattle.rpki_der.specs.declared.error.EncodeError.TheVariants.{Memory};
 ghost use Rattle.rpki_parts.specs.KeyNames.{subject_name};
 ghost use Rattle.rpki_parts.specs.SignedDatas.{signed_pieces};
-ghost use Rattle.rpki_cert.specs.Making.{new_fields, IsRefusalOnceAsked, IsRefusal};
-ghost use Rattle.rpki_cert.specs.Certificates.{Fits, spelling};
+ghost use Rattle.rpki_parts.specs.Signing.{IsRefusal};
+ghost use Rattle.rpki_cert.specs.Making.{new_fields};
+ghost use Rattle.rpki_cert.specs.Certificates.{Fits, tbs_content, spelling};
 
 use crate::cert::Cert;
 use crate::tbs::TbsCert;
 use bytes::Bytes;
 use rpki_blocks::Overclaim;
-use rpki_der::{EncodeError, MAX_LEN, Serial, put_bits};
+use rpki_der::{EncodeError, Serial};
 use rpki_ext::{Extensions, KeyUsage};
 use rpki_parts::{
     Name, PublicKey, RpkiSignatureAlgorithm, SignedData, Signer, SigningError, Validity,
@@ -31,22 +32,6 @@ fn subject_or_own(
         Some(subject) => Ok(subject),
         None => key.to_subject_name(alloc),
     }
-}
-
-// Whether the whole certificate fits, which is the SEQUENCE of the signed data.
-fn check_length(alloc: Global, signed_data: &SignedData) -> Result<(), EncodeError>
-    ensures fits { OnOk result (length (concat (signed_pieces signed_data.now)) < 2 ^ 32) }
-    ensures too_long { IsErrOf result EncodeError.TooLong
-        → 2 ^ 32 ≤ length (concat (signed_pieces signed_data.now)) }
-{
-    let signature = signed_data.signature();
-    let mut tail = Vec::new(alloc);
-    signature.algorithm().x509_encode(alloc, &mut tail)?;
-    put_bits(&mut tail, 0, signature.value())?;
-    if signed_data.data().len() + tail.len() > MAX_LEN {
-        return Err(EncodeError::TooLong);
-    }
-    Ok(())
 }
 
 impl TbsCert {
@@ -80,27 +65,6 @@ impl TbsCert {
         })
     }
 
-    // These octets, with the signer's signature. What the signer refuses is passed on as it stands, whatever it is.
-    fn ask<S: Signer>(
-        &self,
-        alloc: Global,
-        signer: &S,
-        key: &S::KeyId,
-        octets: Bytes,
-    ) -> Result<SignedData, SigningError<S::Error>>
-        ensures message { IfOk result (λ s. s.message ≡ octets) }
-        ensures signed { IfOk result
-            (λ s. S.signs signer.now key.now self.now.algorithm octets (Ok s.signature)) }
-        ensures fits { IfOk result (λ s. length (concat (signed_pieces s)) < 2 ^ 32) }
-        ensures refused { IfErr result (IsRefusalOnceAsked octets
-            (S.signs signer.now key.now self.now.algorithm octets)) }
-    {
-        let signature = signer.sign(alloc, key, self.signature(), &octets)?;
-        let signed_data = SignedData::new(octets, signature);
-        check_length(alloc, &signed_data)?;
-        Ok(signed_data)
-    }
-
     // The octets that `encode_ref` writes, with the signer's signature.
     fn sign<S: Signer>(
         &self,
@@ -114,13 +78,13 @@ impl TbsCert {
             (λ s. S.signs signer.now key.now self.now.algorithm (spelling self.now)
             (Ok s.signature)) }
         ensures fits { IfOk result (λ s. length (concat (signed_pieces s)) < 2 ^ 32) }
-        ensures refused { IfErr result (IsRefusal self.now
+        ensures refused { IfErr result (IsRefusal (tbs_content self.now)
             (S.signs signer.now key.now self.now.algorithm (spelling self.now))) }
     {
         let mut octets = Vec::new(alloc);
         self.encode_ref(alloc, &mut octets)?;
         let octets = Bytes::from_vec(octets).map_err(AllocError::from)?;
-        self.ask(alloc, signer, key, octets)
+        SignedData::sign(alloc, signer, key, self.signature(), octets)
     }
 
     /// The certificate with these fields: the signer signs exactly the octets that `encode_ref` writes, with the key that `key` names.
@@ -139,8 +103,8 @@ impl TbsCert {
             (λ c. S.signs signer.now key.now self.algorithm (spelling self)
             (Ok c.signed_data.signature)) }
         ensures fits { IfOk result (λ c. length (concat (signed_pieces c.signed_data)) < 2 ^ 32) }
-        ensures refused { IfErr result
-            (IsRefusal self (S.signs signer.now key.now self.algorithm (spelling self))) }
+        ensures refused { IfErr result (IsRefusal (tbs_content self)
+            (S.signs signer.now key.now self.algorithm (spelling self))) }
     {
         match self.sign(alloc, signer, key) {
             Ok(signed_data) => Ok(Cert {

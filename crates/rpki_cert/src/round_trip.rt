@@ -1,7 +1,6 @@
 //! What the public clauses give together: a certificate that was made is read again from its own octets.
-ghost use Rattle.std.specs.Prelude.{◌≡◌, ◌↔◌, IsTrue, ◌^◌, ◌<◌, length, IfOk, IfErr};
+ghost use Rattle.std.specs.Prelude.{◌≡◌, ◌^◌, ◌<◌, length, IfOk, IfErr};
 ghost use Rattle.std.specs.List.{concat};
-ghost use Rattle.rpki_der.specs.declared.error.DecodeError.TheVariants as decoding;
 ghost use Rattle.rpki_der.specs.declared.error.EncodeError.TheVariants.{Memory};
 ghost use Rattle.rpki_parts.specs.SignedDatas.{signed_pieces};
 ghost use Rattle.rpki_blocks.specs.Prefixes.{AreV4};
@@ -10,17 +9,8 @@ ghost use Rattle.rpki_cert.specs.Certificates.{Fits, spelling};
 
 use crate::cert::Cert;
 use crate::laws;
-use rpki_der::{DecodeError, EncodeError};
+use rpki_der::EncodeError;
 use std::alloc::Global;
-
-fn is_memory(error: &DecodeError) -> bool
-    ensures { IsTrue result ↔ (error.now ≡ decoding.Memory) }
-{
-    match error {
-        DecodeError::Memory => true,
-        _ => false,
-    }
-}
 
 /// Writes a certificate that `into_cert` made, and reads it again: it is the same, its fields too, where at least one kind of resources
 /// is there and what stands as IPv4 are whole IPv4 addresses. The only error is `Memory`.
@@ -41,7 +31,7 @@ pub fn read_again(alloc: Global, made: &Cert) -> Result<Cert, EncodeError>
     match Cert::decode_shared(alloc, octets) {
         Ok(read) => Ok(read),
         Err(error) => {
-            if !is_memory(&error) {
+            if !error.is_memory() {
                 unreachable!();
             }
             Err(EncodeError::Memory)

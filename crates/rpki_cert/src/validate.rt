@@ -1,22 +1,56 @@
 //! Certificates are validated: inspected, then verified (RFC 6487 7.2).
-ghost use Rattle.std.specs.Prelude.{OnOk, IfOk, IfErr};
+ghost use Rattle.std.specs.Prelude.{◌≡◌, OnOk, IfOk, IfErr};
 ghost use Rattle.std.proofs.Common.{rc_value};
 ghost use Rattle.rpki_parts.specs.Conditions.{IsFirstFalse};
-ghost use Rattle.rpki_cert.specs.Profiles.{MeetsProfile};
+ghost use Rattle.rpki_cert.specs.Profiles.{MeetsProfile, IsFirstFault};
 ghost use Rattle.rpki_cert.specs.Verification.{LineUnder, AnchorLine, IsVerified, IsFirstFalseOrMemory, HasListed, HasIssued, issued_lines, anchor_lines, router_lines};
 ghost use Rattle.rpki_cert.specs.Validation.{IsInvalid};
 ghost use Rattle.rpki_cert.specs.declared.inspect.Kind.TheVariants.{Anchor, Authority, EndEntity, Detached, Router};
 
 use crate::cert::Cert;
+use crate::inspect::Kind;
 use crate::resource_cert::ResourceCert;
 use crate::validation_error::ValidationError;
 use crate::verify_owned::beside;
 use rpki_der::Time;
+use rpki_ext::InspectionError;
 use rpki_parts::{TalInfo, Verifier};
 use std::alloc::Global;
 use std::rc::Rc;
 
 impl Cert {
+    // The certificate, inspected as one of the kind.
+    fn inspected(self, kind: Kind, strict: bool) -> Result<Cert, InspectionError>
+        ensures same { IfOk result (λ c. c ≡ self) }
+        ensures profile { OnOk result (MeetsProfile kind strict self) }
+        ensures fault { IfErr result (IsFirstFault kind strict self) }
+    {
+        let tested = self.inspect(kind, strict);
+        let (cert, _done) = beside(self, tested)?;
+        Ok(cert)
+    }
+
+    // The same of one that another one issued, and then verified.
+    fn validate_issued_at<V: Verifier>(
+        self,
+        alloc: Global,
+        issuer: &ResourceCert,
+        kind: Kind,
+        strict: bool,
+        now: Time,
+        verifier: &V,
+    ) -> Result<ResourceCert, ValidationError>
+        ensures profile { OnOk result (MeetsProfile kind strict self) }
+        ensures lines { OnOk result (IsVerified
+            (LineUnder (V.verifies verifier.now) now issuer.now self) issued_lines) }
+        ensures gives { IfOk result (HasIssued self issuer.now) }
+        ensures fault { IfErr result (IsInvalid kind strict self (IsFirstFalseOrMemory
+            (LineUnder (V.verifies verifier.now) now issuer.now self) issued_lines)) }
+    {
+        let cert = self.inspected(kind, strict)?;
+        Ok(cert.verify_issued_at(alloc, issuer, strict, now, verifier)?)
+    }
+
     /// The trust anchor that the certificate is of: it is inspected as one, then verified as
     /// [`Cert::verify_ta_at`] says.
     pub fn validate_ta_at<V: Verifier>(
@@ -34,8 +68,7 @@ impl Cert {
         ensures fault { IfErr result (IsInvalid Anchor strict self (IsFirstFalseOrMemory
             (AnchorLine (V.verifies verifier.now) now self) anchor_lines)) }
     {
-        let tested = self.inspect_ta(strict);
-        let (cert, _done) = beside(self, tested)?;
+        let cert = self.inspected(Kind::Anchor, strict)?;
         Ok(cert.verify_ta_at(alloc, tal, strict, now, verifier)?)
     }
 
@@ -56,9 +89,7 @@ impl Cert {
         ensures fault { IfErr result (IsInvalid Authority strict self (IsFirstFalseOrMemory
             (LineUnder (V.verifies verifier.now) now issuer.now self) issued_lines)) }
     {
-        let tested = self.inspect_ca(strict);
-        let (cert, _done) = beside(self, tested)?;
-        Ok(cert.verify_ca_at(alloc, issuer, strict, now, verifier)?)
+        self.validate_issued_at(alloc, issuer, Kind::Authority, strict, now, verifier)
     }
 
     /// The end entity whose object is named that the certificate is of, below this issuer: it is
@@ -78,9 +109,7 @@ impl Cert {
         ensures fault { IfErr result (IsInvalid EndEntity strict self (IsFirstFalseOrMemory
             (LineUnder (V.verifies verifier.now) now issuer.now self) issued_lines)) }
     {
-        let tested = self.inspect_ee(strict);
-        let (cert, _done) = beside(self, tested)?;
-        Ok(cert.verify_ee_at(alloc, issuer, strict, now, verifier)?)
+        self.validate_issued_at(alloc, issuer, Kind::EndEntity, strict, now, verifier)
     }
 
     /// The end entity, of which no object needs to be named, that the certificate is of, below this issuer: it is
@@ -100,9 +129,7 @@ impl Cert {
         ensures fault { IfErr result (IsInvalid Detached strict self (IsFirstFalseOrMemory
             (LineUnder (V.verifies verifier.now) now issuer.now self) issued_lines)) }
     {
-        let tested = self.inspect_detached_ee(strict);
-        let (cert, _done) = beside(self, tested)?;
-        Ok(cert.verify_ee_at(alloc, issuer, strict, now, verifier)?)
+        self.validate_issued_at(alloc, issuer, Kind::Detached, strict, now, verifier)
     }
 
     /// Whether the certificate is valid as one of a router below this issuer: it is inspected as

@@ -3,7 +3,9 @@ ghost use Rattle.std.specs.Prelude.{◌≡◌, ◌↔◌, ◌⊎◌, IsTrue, IsO
 ghost use Rattle.rpki_blocks.specs.Sets.{Has};
 ghost use Rattle.rpki_parts.specs.Conditions.{IsFirstFalse, Tests};
 ghost use Rattle.rpki_blocks.specs.IssuedSets.{IsIssued};
-ghost use Rattle.rpki_cert.specs.Verification.{IsSignedBy, ListsOnlyHeld, ListsNumbers, TimeLine, ClaimLine, OwnLine, HeldLine, LineUnder, AnchorLine, held_by, validity_lines, claim_lines, own_lines, held_lines, basis_lines, anchor_lines, router_lines, IsVerified, IsFirstFalseOrMemory};
+ghost use Rattle.rpki_cert.specs.Verification.{IsSignedBy, ListsOnlyHeld, ListsNumbers, held_by, IsVerified, IsFirstFalseOrMemory};
+ghost use Rattle.rpki_cert.specs.Verification.{TimeLine, ClaimLine, OwnLine, HeldLine, LineUnder, AnchorLine};
+ghost use Rattle.rpki_cert.specs.Verification.{validity_lines, claim_lines, own_lines, held_lines, basis_lines, anchor_lines, router_lines};
 ghost use Rattle.rpki_cert.specs.declared.verification_error.VerificationError.TheVariants.{Memory};
 
 use crate::cert::Cert;

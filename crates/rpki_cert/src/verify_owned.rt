@@ -79,7 +79,7 @@ impl Cert {
     }
 
     // A certificate that another one issued, with its sets.
-    fn verify_issued_at<V: Verifier>(
+    pub(crate) fn verify_issued_at<V: Verifier>(
         self,
         alloc: Global,
         issuer: &ResourceCert,

@@ -1,6 +1,7 @@
 -- Reading functions of certificates.
 use Rattle.std.specs.Prelude.{ℕ, bytes_eq, if◌then◌else◌, List, [], ◌∷◌, Option, Some, None}
-use Rattle.rpki_der.specs.Reading.{inside, content, both}
+use Rattle.rpki_der.specs.Tags.{CONTEXT_CONSTRUCTED, INTEGER, SEQUENCE}
+use Rattle.rpki_der.specs.Reading.{inside, content, both, mapped}
 use Rattle.rpki_der.specs.Values.Reading.{◌>>=◌, value_at}
 use Rattle.rpki_der.specs.Serials.Reading.{serial_at}
 use Rattle.rpki_der.specs.Choices.{turned}
@@ -11,7 +12,8 @@ use Rattle.rpki_parts.specs.Keys.{KeyFields}
 use Rattle.rpki_parts.specs.Keys.Reading.{public_key_at}
 use Rattle.rpki_parts.specs.Algorithms.Reading.{algorithm_at}
 use Rattle.rpki_parts.specs.Names.Reading.{name_at}
-use Rattle.rpki_parts.specs.SignedDatas.Reading.{signed_content_at}
+use Rattle.rpki_parts.specs.SignedDatas.{SignedFields}
+use Rattle.rpki_parts.specs.SignedDatas.Reading.{signed_at}
 use Rattle.rpki_cert.specs.Certificates.{TbsFields, CertFields}
 use Rattle.rpki_ext.specs.CertificateExtensions.Reading.{extensions_of}
 
@@ -21,7 +23,7 @@ abbrev pub is_two : List ℕ → Option (Unit {0})
 is_two c = if bytes_eq c (2 ∷ []) then Some tt else None
 
 unfoldable pub version_at : List ℕ → Option (Unit {0} × List ℕ)
-version_at = inside 0xA0 (content 0x02 is_two)
+version_at = inside (CONTEXT_CONSTRUCTED 0) (content INTEGER is_two)
 
 -- the fields in their order, and the row of extensions as it stands
 abbrev pub Fields : Type 0
@@ -32,23 +34,26 @@ with_extensions (_, (serial, (algorithm, (issuer, (validity, (subject, (key, row
   x ← extensions_of row
   Some (record { serial = serial; algorithm = algorithm; issuer = issuer; validity = validity; subject = subject; key = key; extensions = x })
 
+-- the row of extensions, as it stands inside its two tags
+abbrev pub tagged_row_at : List ℕ → Option (List ℕ × List ℕ)
+tagged_row_at = inside (CONTEXT_CONSTRUCTED 3) (value_at SEQUENCE)
+
 unfoldable pub fields_in_order : List ℕ → Option (Fields × List ℕ)
-fields_in_order = both version_at (both serial_at (both algorithm_at (both name_at (both validity_at (both name_at (both public_key_at (inside 0xA3 (value_at 0x30))))))))
+fields_in_order = both version_at (both serial_at (both algorithm_at (both name_at (both validity_at (both name_at (both public_key_at tagged_row_at))))))
 
 unfoldable pub fields_at : List ℕ → Option (Fields × List ℕ)
-fields_at = inside 0x30 fields_in_order
+fields_at = inside SEQUENCE fields_in_order
 
 unfoldable pub tbs_at : List ℕ → Option (TbsFields × List ℕ)
 tbs_at = turned with_extensions fields_at
 
 -- ---- certificates
 
--- the signed value is kept, and read as a TBSCertificate where it stands
+abbrev pub certificate : TbsFields × SignedFields → CertFields
+certificate x = record { fields = x.0; signed_data = x.1 }
+
 unfoldable pub cert_content_at : List ℕ → Option (CertFields × List ℕ)
-cert_content_at octets = do
-  s ← signed_content_at octets
-  t ← tbs_at octets
-  Some (record { fields = t.0; signed_data = s.0 }, s.1)
+cert_content_at = mapped certificate (signed_at tbs_at)
 
 unfoldable pub cert_at : List ℕ → Option (CertFields × List ℕ)
-cert_at = inside 0x30 cert_content_at
+cert_at = inside SEQUENCE cert_content_at

@@ -1,5 +1,5 @@
 use Rattle.rpki_cert.specs.Certificates.{CertFields, IsCertificate}
-use Rattle.rpki_cert.proofs.CertificatesReads.{front_means}
+use Rattle.rpki_der.proofs.Answering.{front_means}
 use Rattle.rpki_cert.proofs.cert.Cert.decode_shared.Goals as goal
 
 pub returns : goal.returns

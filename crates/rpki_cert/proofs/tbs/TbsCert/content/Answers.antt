@@ -1,6 +1,6 @@
 use Rattle.std.specs.List.{concat}
 use Rattle.rpki_parts.specs.Keys.{key_pieces}
-use Rattle.rpki_blocks.proofs.Lengths.{passed_long}
+use Rattle.rpki_der.proofs.TooLong.{passed_long}
 use Rattle.rpki_cert.specs.Certificates.{tbs_content}
 use Rattle.rpki_cert.proofs.WritingSteps.{key_longer}
 use Rattle.rpki_cert.proofs.tbs.TbsCert.content.Goals as goal

@@ -1,6 +1,6 @@
 use Rattle.std.proofs.Common.{◌≡◌, ◌<◌, ◌^◌, List, ℕ, length, subst, ◌∙◌}
 use Rattle.rpki_cert.specs.Certificates.{Fits, tbs_content}
-use Rattle.rpki_cert.proofs.WritingSteps.{written_fits}
+use Rattle.rpki_der.proofs.TooLong.{written_fits}
 use Rattle.rpki_cert.proofs.tbs.TbsCert.encode_ref.Goals as goal
 
 pub returns-clause-fits : goal.returns-clause-fits
