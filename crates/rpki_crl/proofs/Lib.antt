@@ -9,5 +9,6 @@ pub mod SerialCaches
 pub mod ListsWritten
 pub mod Loops
 pub mod SignedLists
-pub mod Refusals
+pub mod ExampleLists
+pub mod GivenEntries
 pub mod SpelledLists

@@ -17,23 +17,23 @@ use Rattle.rpki_ext.proofs.LawfulKinds.{IsKind}
 use Rattle.rpki_ext.proofs.KindTables.{AreKinds, table_law}
 use Rattle.rpki_ext.proofs.KeyIdentifiers.{authority_key_identifier_is}
 use Rattle.rpki_ext.proofs.CrlNumbers.{crl_number_is}
-use Rattle.rpki_crl.specs.ListExtensions.{ListExtensions, with_any_flag, list_kinds, GiveListExtensions}
-use Rattle.rpki_crl.specs.ListExtensions.Reading.{all_kinds, listed, completed, list_extensions_of}
+use Rattle.rpki_crl.specs.ListExtensions.{ListExtensions, with_any_flag, list_kinds_with_any_flag, GiveListExtensions}
+use Rattle.rpki_crl.specs.ListExtensions.Reading.{list_fold, list_extensions, both_seen, list_extensions_of}
 
 any_flag_is : {V : Type 0} (k : ExtensionKind V) → IsKind k → IsKind (with_any_flag k)
 any_flag_is k is = record { law = is.law; made = is.made; octets = is.octets }
 
-pub list_kinds_are : AreKinds list_kinds
-list_kinds_are = (any_flag_is authority_key_identifier authority_key_identifier_is, (any_flag_is crl_number crl_number_is, tt))
+kinds_are : AreKinds list_kinds_with_any_flag
+kinds_are = (any_flag_is authority_key_identifier authority_key_identifier_is, (any_flag_is crl_number crl_number_is, tt))
 
-all_kinds_law : IsLawful HasOctets all_kinds
-all_kinds_law = beside_law _ _ (each_law (is_of (identifiers_of list_kinds))) (table_law list_kinds list_kinds_are)
+list_fold_law : IsLawful HasOctets list_fold
+list_fold_law = beside_law _ _ (each_law (is_of (identifiers_of list_kinds_with_any_flag))) (table_law list_kinds_with_any_flag kinds_are)
 
-give : (xs : List Extension) (identifier : Option (List ℕ)) (number : Option ℕ) (f : ListExtensions) → completed (tt, (identifier, (number, tt))) ≡ Some f → all_kinds.means xs (tt, (identifier, (number, tt))) → GiveListExtensions xs f
+give : (xs : List Extension) (identifier : Option (List ℕ)) (number : Option ℕ) (f : ListExtensions) → both_seen (tt, (identifier, (number, tt))) ≡ Some f → list_fold.means xs (tt, (identifier, (number, tt))) → GiveListExtensions xs f
 give xs identifier number f e h =
-    let i = bind_some identifier (λ i. number >>= λ n. some (listed i n)) f e in
-    let n = bind_some number (λ n. some (listed i.0 n)) f i.2 in
-    subst (λ (g : ListExtensions). GiveListExtensions xs g) (some_is (listed i.0 n.0) f n.2) (record {
+    let i = bind_some identifier (λ i. number >>= λ n. some (list_extensions i n)) f e in
+    let n = bind_some number (λ n. some (list_extensions i.0 n)) f i.2 in
+    subst (λ (g : ListExtensions). GiveListExtensions xs g) (some_is (list_extensions i.0 n.0) f n.2) (record {
       no_others = h.0;
       authority_key_identifier_is = subst (λ (v : Option (List ℕ)). Gives (with_any_flag authority_key_identifier) xs v) i.1 h.1.0;
       crl_number_is = subst (λ (v : Option ℕ). Gives (with_any_flag crl_number) xs v) n.1 h.1.1.0;
@@ -47,11 +47,11 @@ pub list_extensions_read : ReadsWhole list_extensions_of AreExtensions
 unfolding list_extensions_of
 list_extensions_read = record {
   takes = λ c f low e.
-      let a = bind_some (over extension_at all_kinds.step all_kinds.start c) completed f e in
-      let folded : IsFolded IsExtension all_kinds a.0 c = going.takes c a.0 low a.1 in
+      let a = bind_some (over extension_at list_fold.step list_fold.start c) both_seen f e in
+      let folded : IsFolded IsExtension list_fold a.0 c = going.takes c a.0 low a.1 in
       (folded.0, folded.1, give folded.0 a.0.1.0 a.0.1.1.0 f a.2 folded.2);
   again = λ f c s. rw (going.again (tt, (Some f.authority_key_identifier, (Some f.crl_number, tt))) c (s.0, s.1, (s.2.no_others, (s.2.authority_key_identifier_is, (s.2.crl_number_is, tt))))) refl;
 }
   where
-    going : ReadsWhole (over extension_at all_kinds.step all_kinds.start) (IsFolded IsExtension all_kinds)
-    going = over_reads extension_at IsExtension HasOctets all_kinds extension_reads extension_shrinks extension_octets all_kinds_law
+    going : ReadsWhole (over extension_at list_fold.step list_fold.start) (IsFolded IsExtension list_fold)
+    going = over_reads extension_at IsExtension HasOctets list_fold extension_reads extension_shrinks extension_octets list_fold_law

@@ -1,19 +1,26 @@
--- A list is written as it was read.
+-- A list is written as it was read, and signed data round the spelling of fields is a list.
 use Rattle.std.specs.List.{concat}
-use Rattle.std.proofs.Common.{ℕ, List, [], ◌∷◌, ◌≡◌, ap, ◌∙◌}
-use Rattle.rpki_der.specs.Values.{enc}
-use Rattle.rpki_parts.specs.Algorithms.{Algorithm, parameters, IsSignatureAlgorithm, algorithm}
-use Rattle.rpki_parts.specs.SignedDatas.{SignedFields, IsSignedDataContent, signed_data, signed_pieces}
-use Rattle.rpki_crl.specs.Lists.{CrlFields, IsCertificateList}
-
-algorithm_is : (a : Algorithm) (b : List ℕ) → IsSignatureAlgorithm a b → b ≡ algorithm a
-algorithm_is a b h = h.sequence.is ∙ ap (λ (id : List ℕ). enc 0x30 (concat (id ∷ parameters a.has_null ∷ []))) h.identifier_is.enc.is
-
-content_is : (s : SignedFields) (content : List ℕ) → IsSignedDataContent s content → content ≡ concat (signed_pieces s)
-content_is s content h =
-    h.is
-    ∙ ap (λ (a : List ℕ). concat (s.message ∷ a ∷ h.signature ∷ [])) (algorithm_is s.signature.algorithm h.algorithm h.algorithm_is)
-    ∙ ap (λ (b : List ℕ). concat (s.message ∷ algorithm s.signature.algorithm ∷ b ∷ [])) h.signature_is.is
+use Rattle.std.proofs.Common.{ℕ, List, ◌≡◌, sym, ap, subst, ◌∙◌}
+use Rattle.rpki_der.specs.Tags.{SEQUENCE}
+use Rattle.rpki_der.specs.Values.{IsValue, enc}
+use Rattle.rpki_parts.specs.SignedDatas.{signed_data, signed_pieces}
+use Rattle.rpki_parts.proofs.SignedDataWritten.{content_is, signed_made, signed_enc}
+use Rattle.rpki_crl.specs.Lists.{CrlFields, IsCertificateList, IsMadeList, IsTbsCertList, list_content}
+use Rattle.rpki_crl.proofs.SpelledLists.{data_made, list_made}
 
 pub list_is : (r : CrlFields) (b : List ℕ) → IsCertificateList r b → b ≡ signed_data r.signed_data
-list_is r b h = h.enc.is ∙ ap (enc 0x30) (content_is r.signed_data h.content h.content_is.signed_is)
+list_is r b h = h.enc.is ∙ ap (enc SEQUENCE) (content_is r.signed_data h.content h.content_is.signed_is)
+
+pub signed_list : (r : CrlFields) → IsMadeList r → IsCertificateList r (signed_data r.signed_data)
+signed_list r is =
+    let s = r.signed_data in
+    let message : IsValue s.message = record { tag = SEQUENCE; content = list_content r.fields; enc = data_made r.fields is.fields_are s.message is.message_is } in
+    record {
+      content = concat (signed_pieces s);
+      content_is = record {
+        signed_is = signed_made s message is.signature_is is.short;
+        fields_are = subst (λ (b : List ℕ). IsTbsCertList r.fields b) (sym is.message_is) (list_made r.fields is.fields_are);
+        same_algorithm = is.same_algorithm;
+      };
+      enc = signed_enc s message is.signature_is is.short;
+    }

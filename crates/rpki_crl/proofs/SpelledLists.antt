@@ -5,6 +5,7 @@ use Rattle.rpki_der.specs.Extensions.{Extension, extension}
 use Rattle.rpki_der.specs.Primitives.{number}
 use Rattle.rpki_der.specs.Times.{time}
 use Rattle.rpki_der.specs.Values.{AreOctets, IsEnc}
+use Rattle.rpki_der.proofs.Answering.{whole_means}
 use Rattle.rpki_der.proofs.ExtensionWritten.{extension_content_short, extension_made, ok_extension}
 use Rattle.rpki_der.proofs.Octets.{AreOctets-append}
 use Rattle.rpki_der.proofs.RoundTrips.{moment_made}
@@ -82,6 +83,9 @@ module _ (f : ListFields Revoked) (fits : ListFits f) where
       )
       fits.short
 
+  pub data_made : (b : List ℕ) → b ≡ list_spelling f → IsEnc 0x30 (list_content f) b
+  data_made b is = record { octet = omega arith; low_tag = omega arith; octets = content_octets; short = fits.short; is = is }
+
   module _ (row : Short (list_row f.extensions)) where
     parts_short : Short (first f.extensions) × (Short (second f.extensions) × Unit {0})
     parts_short = pieces_short (first f.extensions ∷ second f.extensions ∷ []) (subst Short (ap (λ (t : List ℕ). first f.extensions ++ t) (sym (append-nil (second f.extensions)))) row)
@@ -92,8 +96,8 @@ module _ (f : ListFields Revoked) (fits : ListFits f) where
         let two = extension_content_short crl_number.identifier false (number f.extensions.crl_number) parts_short.1.0 in
         record {
           no_others = (refl, (refl, tt));
-          authority_key_identifier_is = (f.extensions.authority_key_identifier, (tt, (authority_key_identifier_content f.extensions.authority_key_identifier, record { rest = []; is = sym (append-nil _) }, authority_key_identifier_is.made f.extensions.authority_key_identifier _ fits.identifier_is refl one)), refl);
-          crl_number_is = (f.extensions.crl_number, (tt, (number f.extensions.crl_number, record { rest = []; is = sym (append-nil _) }, crl_number_is.made f.extensions.crl_number _ fits.number_is refl two)), refl);
+          authority_key_identifier_is = (f.extensions.authority_key_identifier, (tt, whole_means authority_key_identifier.spells f.extensions.authority_key_identifier (authority_key_identifier_content f.extensions.authority_key_identifier) (authority_key_identifier_is.made f.extensions.authority_key_identifier _ fits.identifier_is refl one)), refl);
+          crl_number_is = (f.extensions.crl_number, (tt, whole_means crl_number.spells f.extensions.crl_number (number f.extensions.crl_number) (crl_number_is.made f.extensions.crl_number _ fits.number_is refl two)), refl);
         }
 
   pub list_made : IsTbsCertList f (list_spelling f)
@@ -130,5 +134,5 @@ module _ (f : ListFields Revoked) (fits : ListFits f) where
           gives = given row;
           is = refl;
         };
-        enc = record { octet = omega arith; low_tag = omega arith; octets = content_octets; short = fits.short; is = refl };
+        enc = data_made (list_spelling f) refl;
       }

@@ -3,4 +3,4 @@ pub mod SerialTables
 pub mod ListExtensions
 pub mod Lists
 pub mod Stores
-pub mod Making
+pub mod ListMaking

@@ -1,12 +1,12 @@
 -- The extensions of a revocation list: two kinds, each exactly once, whatever their flags, and no other (RFC 6487 5).
-use Rattle.std.specs.Prelude.{◌≡◌, ℕ, ◌++◌, true, List, Some}
+use Rattle.std.specs.Prelude.{◌≡◌, ℕ, true, List, Some}
 use Rattle.std.specs.List.{AllByRecursion}
-use Rattle.rpki_der.specs.Extensions.{Extension, extension}
+use Rattle.rpki_der.specs.Extensions.{Extension}
 use Rattle.rpki_ext.specs.Kinds.{ExtensionKind, Gives, is_of, flag_of, untested}
-use Rattle.rpki_ext.specs.KeyIdentifiers.{authority_key_identifier, authority_key_identifier_content}
+use Rattle.rpki_ext.specs.KeyIdentifiers.{authority_key_identifier}
 use Rattle.rpki_ext.specs.CrlNumbers.{crl_number}
-use Rattle.rpki_ext.specs.KindTables.{KindTable, no_kinds, kind, identifiers_of}
-use Rattle.rpki_der.specs.Primitives.{number}
+use Rattle.rpki_ext.specs.KindTables.{KindTable, no_kinds, kind, modes, identifiers_of}
+use Rattle.rpki_ext.specs.ListKinds.{list_kinds}
 pub mod Reading
 pub mod Views
 
@@ -25,8 +25,13 @@ with_any_flag {V} k = record {
   written = k.written;
 }
 
-abbrev pub list_kinds : KindTable
-list_kinds = kind (with_any_flag authority_key_identifier) (kind (with_any_flag crl_number) no_kinds)
+abbrev pub with_any_flags : KindTable → KindTable
+with_any_flags no_kinds = no_kinds
+with_any_flags (kind k t) = kind (with_any_flag k) (with_any_flags t)
+with_any_flags (modes ks t) = modes (λ mode. with_any_flag (ks mode)) (with_any_flags t)
+
+abbrev pub list_kinds_with_any_flag : KindTable
+list_kinds_with_any_flag = with_any_flags list_kinds
 
 pub record GiveListExtensions (xs : List Extension) (f : ListExtensions) : Type 0 where
   pub no_others : AllByRecursion (λ x. is_of (identifiers_of list_kinds) x ≡ true) xs

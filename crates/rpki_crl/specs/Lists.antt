@@ -5,18 +5,19 @@ use Rattle.rpki_der.specs.Extensions.{Extension, IsExtension, extension}
 use Rattle.rpki_der.specs.Primitives.{number}
 use Rattle.rpki_der.specs.Rows.{IsRow}
 use Rattle.rpki_der.specs.Skipping.{levels}
-use Rattle.rpki_der.specs.Tags.{SEQUENCE}
+use Rattle.rpki_der.specs.Tags.{CONTEXT_CONSTRUCTED, INTEGER, SEQUENCE}
 use Rattle.rpki_der.specs.Times.{Moment, IsTime, IsMoment, time}
-use Rattle.rpki_der.specs.Values.{enc, nested, IsNested, IsSequenceOf}
+use Rattle.rpki_der.specs.Values.{AreOctets, enc, nested, IsNested, IsSequenceOf}
 use Rattle.rpki_parts.specs.Algorithms.{Algorithm, IsSignatureAlgorithm, algorithm}
 use Rattle.rpki_parts.specs.Names.{IsNameWithin, IsName}
-use Rattle.rpki_parts.specs.SignedDatas.{SignedFields, IsSignedDataContent}
+use Rattle.rpki_parts.specs.SignedDatas.{SignedFields, IsSignedDataContent, signed_pieces}
 use Rattle.rpki_ext.specs.CrlNumbers.{crl_number}
 use Rattle.rpki_ext.specs.KeyIdentifiers.{authority_key_identifier, authority_key_identifier_content, IsIdentifier}
 use Rattle.rpki_crl.specs.ListExtensions.{ListExtensions, GiveListExtensions}
 use Rattle.rpki_crl.specs.RevokedEntries.{Revoked, AreEntries, IsRevokedCertificates, revoked}
 pub mod Reading
 pub mod Views
+pub mod Lending
 
 -- what a contract sees of a TbsCertList, with its entries in the form of C
 pub record ListFields (C : Type 0) : Type 0 where
@@ -29,7 +30,7 @@ pub record ListFields (C : Type 0) : Type 0 where
 
 -- the INTEGER 1
 abbrev pub version_2 : List ℕ
-version_2 = 0x02 ∷ 0x01 ∷ 0x01 ∷ []
+version_2 = INTEGER ∷ 1 ∷ 1 ∷ []
 
 -- what stands inside the SEQUENCE of a TBSCertList with these fields
 pub record IsTbsCertListContentWithin (depth : ℕ) (f : ListFields Revoked) (content : List ℕ) : Type 0 where
@@ -47,7 +48,7 @@ pub record IsTbsCertListContentWithin (depth : ℕ) (f : ListFields Revoked) (co
   pub row : List ℕ
   pub triples : List Extension
   pub row_is : IsRow IsExtension triples row
-  pub extensions_is : IsNested (0xA0 ∷ 0x30 ∷ []) row extensions
+  pub extensions_is : IsNested (CONTEXT_CONSTRUCTED 0 ∷ SEQUENCE ∷ []) row extensions
   pub gives : GiveListExtensions triples f.extensions
   pub is : content ≡ concat (version_2 ∷ algorithm ∷ issuer ∷ this_update ∷ next_update ∷ revoked ∷ extensions ∷ [])
 
@@ -96,7 +97,7 @@ list_row x =
     ++ extension crl_number.identifier false (number x.crl_number)
 
 unfoldable pub tagged_list_extensions : ListExtensions → List ℕ
-tagged_list_extensions x = nested (0xA0 ∷ 0x30 ∷ []) (list_row x)
+tagged_list_extensions x = nested (CONTEXT_CONSTRUCTED 0 ∷ SEQUENCE ∷ []) (list_row x)
 
 -- what stands inside the SEQUENCE
 abbrev pub list_content : ListFields Revoked → List ℕ
@@ -114,3 +115,11 @@ pub record ListFits (f : ListFields Revoked) : Type 0 where
   pub identifier_is : IsIdentifier f.extensions.authority_key_identifier
   pub number_is : f.extensions.crl_number < 2 ^ 160
   pub short : length (list_content f) < 2 ^ 32
+
+-- a list whose signed octets are the spelling of its fields, which was signed under the algorithm that it names, and which isn't too long
+pub record IsMadeList (r : CrlFields) : Type 0 where
+  pub message_is : r.signed_data.message ≡ list_spelling r.fields
+  pub fields_are : ListFits r.fields
+  pub same_algorithm : r.fields.algorithm ≡ r.signed_data.signature.algorithm
+  pub signature_is : AreOctets r.signed_data.signature.value
+  pub short : length (concat (signed_pieces r.signed_data)) < 2 ^ 32

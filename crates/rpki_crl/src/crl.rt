@@ -17,7 +17,7 @@ use crate::revoked::RevokedCertificates;
 use crate::table::SerialTable;
 use crate::tbs::TbsCertList;
 use bytes::Bytes;
-use rpki_der::{Cursor, DecodeError, EncodeError, Serial};
+use rpki_der::{Cursor, DecodeError, EncodeError, Serial, tag};
 use rpki_parts::SignedData;
 use std::alloc::{AllocError, Global};
 use std::marker::Model;
@@ -139,7 +139,7 @@ impl Crl {
         ensures uncached { IfOk result (λ o. IfSome o (λ c. c.is_cached ≡ false)) }
     {
         match cursor.rest() {
-            [0x30, ..] => Ok(Some(Crl::take_from(alloc, cursor)?)),
+            [tag::SEQUENCE, ..] => Ok(Some(Crl::take_from(alloc, cursor)?)),
             _ => Ok(None),
         }
     }

@@ -9,7 +9,7 @@ ghost use Rattle.rpki_crl.specs.RevokedEntries.{IsEntry, IsEntryContent, entry, 
 ghost use Rattle.rpki_crl.specs.RevokedEntries.Reading.{entry_at, entry_content_at};
 ghost use Rattle.rpki_crl.specs.RevokedEntries.Views.{entry_of};
 
-use rpki_der::{Cursor, DecodeError, EncodeError, Serial, Time, put_value};
+use rpki_der::{Cursor, DecodeError, EncodeError, Serial, Time, put_value, tag};
 use std::alloc::Global;
 
 /// A revoked certificate: its serial number, and the moment of its revocation (RFC 5280 5.1.2.6).
@@ -80,7 +80,7 @@ impl CrlEntry {
         ensures keeps { Keeps result cursor.old cursor.new }
     {
         match cursor.rest() {
-            [0x30, ..] => Ok(Some(CrlEntry::take_from(cursor)?)),
+            [tag::SEQUENCE, ..] => Ok(Some(CrlEntry::take_from(cursor)?)),
             _ => Ok(None),
         }
     }
@@ -103,6 +103,6 @@ impl CrlEntry {
         let mut content = Vec::new(alloc);
         self.user_certificate.encode(alloc, &mut content)?;
         self.revocation_date.encode_varied(alloc, &mut content)?;
-        put_value(out, 0x30, &content)
+        put_value(out, tag::SEQUENCE, &content)
     }
 }

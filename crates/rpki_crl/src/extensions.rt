@@ -4,8 +4,8 @@ ghost use Rattle.rpki_der.specs.Place.{Place, left, Refuses};
 ghost use Rattle.rpki_der.specs.Place.Reading.{Returns, ReturnsBy, ReturnsOrMemoryBy};
 ghost use Rattle.rpki_der.specs.Extensions.Reading.{extension_at};
 ghost use Rattle.rpki_der.specs.Folding.{over};
-ghost use Rattle.rpki_crl.specs.ListExtensions.Reading.{all_kinds, completed, list_extensions_of};
-ghost use Rattle.rpki_crl.specs.ListExtensions.Views.{Names, state_of, extensions_view};
+ghost use Rattle.rpki_crl.specs.ListExtensions.Reading.{list_fold, both_seen, list_extensions_of};
+ghost use Rattle.rpki_crl.specs.ListExtensions.Views.{NamesListKind, sights_of, extensions_view};
 
 use crate::invalid_extension::InvalidExtension;
 use bytes::Bytes;
@@ -23,7 +23,7 @@ enum Kind {
 
 // The kind that an identifier names; `None` where it isn't known.
 fn kind_of(identifier: &[u8]) -> Option<Kind>
-    ensures { Names identifier.now result }
+    ensures { NamesListKind identifier.now result }
 {
     if identifier == oid::CE_AUTHORITY_KEY_IDENTIFIER {
         Some(Kind::AuthorityKeyIdentifier)
@@ -62,7 +62,7 @@ struct Seen {
 
 impl Seen {
     fn nothing() -> Seen
-        ensures { state_of result ≡ all_kinds.start }
+        ensures { sights_of result ≡ list_fold.start }
     {
         Seen {
             authority_key_identifier: None,
@@ -78,8 +78,8 @@ impl Seen {
         critical: bool,
         content: &mut Cursor<'_>,
     ) -> Result<(), DecodeError>
-        ensures { ReturnsOrMemoryBy (λ _. state_of self.new) result
-            (all_kinds.step (state_of self.old) (record {
+        ensures { ReturnsOrMemoryBy (λ _. sights_of self.new) result
+            (list_fold.step (sights_of self.old) (record {
               identifier = identifier.now;
               critical = critical;
               content = left content.old;
@@ -108,8 +108,8 @@ impl Seen {
 
     // A row of extensions, one after the other.
     fn from_row(alloc: Global, row: &Cursor<'_>) -> Result<Seen, DecodeError>
-        ensures { ReturnsOrMemoryBy state_of result
-            (over extension_at all_kinds.step all_kinds.start (left row.now)) }
+        ensures { ReturnsOrMemoryBy sights_of result
+            (over extension_at list_fold.step list_fold.start (left row.now)) }
     {
         let mut rest = row.fork();
         let mut seen = Seen::nothing();
@@ -130,7 +130,7 @@ impl Seen {
 impl Extensions {
     // What was seen, if both kinds were.
     fn complete(seen: Seen) -> Result<Extensions, DecodeError>
-        ensures { ReturnsBy extensions_view result (completed (state_of seen)) }
+        ensures { ReturnsBy extensions_view result (both_seen (sights_of seen)) }
     {
         let Some(authority_key_identifier) = seen.authority_key_identifier else {
             return Err(DecodeError::Missing(Field::AuthorityKeyIdentifier));

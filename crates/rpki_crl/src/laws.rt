@@ -3,7 +3,7 @@ ghost use Rattle.std.specs.Prelude.{◌≡◌, ℕ, List};
 ghost use Rattle.std.specs.List.{AllByRecursion};
 ghost use Rattle.rpki_der.specs.Values.{IsUnambiguous};
 ghost use Rattle.rpki_parts.specs.SignedDatas.{signed_data};
-ghost use Rattle.rpki_crl.specs.Lists.{CrlFields, ListFields, ListFits, IsTbsCertList, IsCertificateList, list_spelling};
+ghost use Rattle.rpki_crl.specs.Lists.{CrlFields, ListFields, ListFits, IsTbsCertList, IsCertificateList, IsMadeList, list_spelling};
 ghost use Rattle.rpki_crl.specs.RevokedEntries.{Entry, Revoked, AreEntries, FitsEntry, entries};
 
 /// A string begins with at most one revocation list, with its fields and entries, and no list's octets are a proper beginning of
@@ -24,9 +24,14 @@ pub fn octets_are_kept()
     ensures { (r : CrlFields) (b : List ℕ) → IsCertificateList r b → b ≡ signed_data r.signed_data }
 {}
 
-/// What is written of fields is a TBSCertList of these fields, through every form of length, where the fields have a spelling. What is made
-/// of entries is read as these entries, where their serial numbers have at most 20 octets and their moments exist.
+/// What is written of fields is a TBSCertList of these fields, through every form of length, where the fields have a spelling. A list whose
+/// signed octets are that spelling is read from its own octets, where its signature names the algorithm that was asked for, and they fit.
+/// What is made of entries is read as these entries, where their serial numbers have at most 20 octets and their moments exist. There are
+/// such fields.
 pub fn written_is_read()
-    ensures list { (f : ListFields Revoked) → ListFits f → IsTbsCertList f (list_spelling f) }
+    ensures data { (f : ListFields Revoked) → ListFits f → IsTbsCertList f (list_spelling f) }
+    ensures list { (r : CrlFields) → IsMadeList r
+        → IsCertificateList r (signed_data r.signed_data) }
     ensures row { (es : List Entry) → AllByRecursion FitsEntry es → AreEntries es (entries es) }
+    ensures premises { (f : ListFields Revoked) × ListFits f }
 {}

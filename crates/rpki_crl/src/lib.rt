@@ -9,6 +9,7 @@ mod invalid_extension;
 pub mod laws;
 mod making;
 mod revoked;
+pub mod round_trip;
 mod store;
 mod table;
 mod tbs;

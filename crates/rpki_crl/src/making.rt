@@ -1,38 +1,21 @@
 //! Revocation lists are made: fields go in, octets come out.
-ghost use Rattle.std.specs.Prelude.{◌≡◌, ◌^◌, ◌<◌, ◌≤◌, ◌⊎◌, List, length, map, Ok, IfOk, IfErr, OnOk, IsErrOf, false};
+ghost use Rattle.std.specs.Prelude.{◌≡◌, ◌^◌, ◌<◌, length, Ok, IfOk, IfErr, OnOk, false};
 ghost use Rattle.std.specs.List.{concat};
-ghost use Rattle.std.specs.Iterator.{IsFinite, Drains};
+ghost use Rattle.std.specs.Iterator.{IsFinite};
 ghost use Rattle.rpki_der.specs.declared.error.EncodeError.TheVariants.{Memory};
-ghost use Rattle.rpki_crl.specs.declared.entry.CrlEntry.{CrlEntry as Made};
 ghost use Rattle.rpki_parts.specs.SignedDatas.{signed_pieces};
-ghost use Rattle.rpki_crl.specs.Lists.{list_spelling};
-ghost use Rattle.rpki_crl.specs.Making.{with_revoked, IsRefusal, IsRefusalOfSome};
-ghost use Rattle.rpki_crl.specs.RevokedEntries.Views.{entry_of};
+ghost use Rattle.rpki_parts.specs.Signing.{IsRefusal};
+ghost use Rattle.rpki_crl.specs.Lists.{ListFits, list_content, list_spelling};
+ghost use Rattle.rpki_crl.specs.ListMaking.{AreGiven, with_entries, IsListRefusal};
 
 use crate::crl::Crl;
 use crate::entry::CrlEntry;
 use crate::revoked::RevokedCertificates;
 use crate::tbs::TbsCertList;
 use bytes::Bytes;
-use rpki_der::{EncodeError, MAX_LEN, put_bits};
+use rpki_der::EncodeError;
 use rpki_parts::{SignedData, Signer, SigningError};
 use std::alloc::{AllocError, Global};
-
-// Whether the whole list fits, which is the SEQUENCE of the signed data.
-fn check_length(alloc: Global, signed_data: &SignedData) -> Result<(), EncodeError>
-    ensures fits { OnOk result (length (concat (signed_pieces signed_data.now)) < 2 ^ 32) }
-    ensures too_long { IsErrOf result EncodeError.TooLong
-        → 2 ^ 32 ≤ length (concat (signed_pieces signed_data.now)) }
-{
-    let signature = signed_data.signature();
-    let mut tail = Vec::new(alloc);
-    signature.algorithm().x509_encode(alloc, &mut tail)?;
-    put_bits(&mut tail, 0, signature.value())?;
-    if signed_data.data().len() + tail.len() > MAX_LEN {
-        return Err(EncodeError::TooLong);
-    }
-    Ok(())
-}
 
 impl TbsCertList<RevokedCertificates> {
     // The octets that `encode_ref` writes, with the signer's signature.
@@ -42,21 +25,19 @@ impl TbsCertList<RevokedCertificates> {
         signer: &S,
         key: &S::KeyId,
     ) -> Result<SignedData, SigningError<S::Error>>
+        ensures fields { OnOk result (ListFits self.now) }
         ensures message { IfOk result (λ s. s.message ≡ list_spelling self.now) }
         ensures signed { IfOk result
             (λ s. S.signs signer.now key.now self.now.algorithm (list_spelling self.now)
             (Ok s.signature)) }
         ensures fits { IfOk result (λ s. length (concat (signed_pieces s)) < 2 ^ 32) }
-        ensures refused { IfErr result (IsRefusal self.now
+        ensures refused { IfErr result (IsRefusal (list_content self.now)
             (S.signs signer.now key.now self.now.algorithm (list_spelling self.now))) }
     {
         let mut octets = Vec::new(alloc);
         self.encode_ref(alloc, &mut octets)?;
         let octets = Bytes::from_vec(octets).map_err(AllocError::from)?;
-        let signature = signer.sign(alloc, key, self.signature(), &octets)?;
-        let signed_data = SignedData::new(octets, signature);
-        check_length(alloc, &signed_data)?;
-        Ok(signed_data)
+        SignedData::sign(alloc, signer, key, self.signature(), octets)
     }
 
     // The list with these fields and this signature.
@@ -67,6 +48,7 @@ impl TbsCertList<RevokedCertificates> {
         key: &S::KeyId,
     ) -> Result<Crl, SigningError<S::Error>>
         ensures fields { IfOk result (λ c. c.list.fields ≡ self) }
+        ensures written { OnOk result (ListFits self) }
         ensures uncached { IfOk result (λ c. c.is_cached ≡ false) }
         ensures message { IfOk result (λ c. c.list.signed_data.message ≡ list_spelling self) }
         ensures signed { IfOk result
@@ -74,8 +56,8 @@ impl TbsCertList<RevokedCertificates> {
             (Ok c.list.signed_data.signature)) }
         ensures fits { IfOk result
             (λ c. length (concat (signed_pieces c.list.signed_data)) < 2 ^ 32) }
-        ensures refused { IfErr result
-            (IsRefusal self (S.signs signer.now key.now self.algorithm (list_spelling self))) }
+        ensures refused { IfErr result (IsRefusal (list_content self)
+            (S.signs signer.now key.now self.algorithm (list_spelling self))) }
     {
         match self.sign(alloc, signer, key) {
             Ok(signed_data) => Ok(Crl::from_parts(self, signed_data)),
@@ -90,9 +72,8 @@ impl<C: IntoIterator<Item = CrlEntry>> TbsCertList<C> {
         requires { (it : C.IntoIter) → C.into_iter_gives self.revoked it →
             C.IntoIter.can_next it × IsFinite (C.IntoIter.remaining it) }
         ensures entries { IfOk result (λ t.
-            (it : C.IntoIter) × (es : List Made) × C.into_iter_gives self.revoked it
-            × Drains C.IntoIter.next_gives it es × (t.revoked.entries ≡ map entry_of es)) }
-        ensures others { IfOk result (λ t. t ≡ with_revoked self t.revoked) }
+            AreGiven C.into_iter_gives C.IntoIter.next_gives self.revoked t.revoked.entries) }
+        ensures fields { IfOk result (λ t. t ≡ with_entries self t.revoked.entries) }
         ensures memory { IfErr result (λ e. e ≡ Memory) }
     {
         let TbsCertList {
@@ -126,12 +107,11 @@ impl<C: IntoIterator<Item = CrlEntry>> TbsCertList<C> {
     ) -> Result<Crl, SigningError<S::Error>>
         requires { (it : C.IntoIter) → C.into_iter_gives self.revoked it →
             C.IntoIter.can_next it × IsFinite (C.IntoIter.remaining it) }
-        ensures entries { IfOk result (λ c.
-            (it : C.IntoIter) × (es : List Made) × C.into_iter_gives self.revoked it
-            × Drains C.IntoIter.next_gives it es
-            × (c.list.fields.revoked.entries ≡ map entry_of es)) }
+        ensures entries { IfOk result (λ c. AreGiven C.into_iter_gives C.IntoIter.next_gives
+            self.revoked c.list.fields.revoked.entries) }
         ensures fields { IfOk result
-            (λ c. c.list.fields ≡ with_revoked self c.list.fields.revoked) }
+            (λ c. c.list.fields ≡ with_entries self c.list.fields.revoked.entries) }
+        ensures written { IfOk result (λ c. ListFits c.list.fields) }
         ensures uncached { IfOk result (λ c. c.is_cached ≡ false) }
         ensures message { IfOk result
             (λ c. c.list.signed_data.message ≡ list_spelling c.list.fields) }
@@ -140,8 +120,9 @@ impl<C: IntoIterator<Item = CrlEntry>> TbsCertList<C> {
             (Ok c.list.signed_data.signature)) }
         ensures fits { IfOk result
             (λ c. length (concat (signed_pieces c.list.signed_data)) < 2 ^ 32) }
-        ensures refused { IfErr result (IsRefusalOfSome self
-            (λ f. S.signs signer.now key.now self.algorithm (list_spelling f))) }
+        ensures refused { IfErr result (IsListRefusal self
+            (AreGiven C.into_iter_gives C.IntoIter.next_gives self.revoked)
+            (S.signs signer.now key.now self.algorithm)) }
     {
         match self.to_revoked(alloc) {
             Ok(list) => list.signed_by(alloc, signer, key),

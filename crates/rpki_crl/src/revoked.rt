@@ -13,7 +13,7 @@ ghost use Rattle.rpki_crl.specs.SerialTables.{looks};
 
 use crate::entry::CrlEntry;
 use bytes::Bytes;
-use rpki_der::{Cursor, DecodeError, EncodeError, Piece, Serial, put_value};
+use rpki_der::{Cursor, DecodeError, EncodeError, Piece, Serial, put_value, tag};
 use std::alloc::{AllocError, Global};
 use std::marker::Model;
 
@@ -212,7 +212,7 @@ impl RevokedCertificates {
         if octets.is_empty() {
             return Ok(());
         }
-        put_value(out, 0x30, octets)
+        put_value(out, tag::SEQUENCE, octets)
     }
 
     /// The same entries once more.

@@ -1,17 +1,20 @@
 //! The data of a revocation list: its fields, and how it is read.
 ghost use Rattle.std.specs.Prelude.{◌≡◌, IfOk};
+ghost use Rattle.std.specs.Borrow.{sem};
 ghost use Rattle.rpki_der.specs.Place.{Place, left, Keeps, AnswersOrMemory};
 ghost use Rattle.rpki_der.specs.Place.Reading.{Took, TookBy, TookOrMemory, TookOrMemoryBy};
 ghost use Rattle.rpki_der.specs.Reading.{inside, both};
 ghost use Rattle.rpki_der.specs.Values.Reading.{value_at};
+ghost use Rattle.rpki_der.specs.Tags.{CONTEXT_CONSTRUCTED, SEQUENCE};
 ghost use Rattle.rpki_der.specs.Values.{AreOctets};
 ghost use Rattle.rpki_crl.specs.Lists.{IsTbsCertList};
-ghost use Rattle.rpki_crl.specs.Lists.Reading.{version_at, fields_in_order, fields_at, list_at};
-ghost use Rattle.rpki_crl.specs.Lists.Views.{fields_view};
+ghost use Rattle.rpki_crl.specs.Lists.Reading.{list_version_at, list_parts_in_order, list_parts_at, list_at};
+ghost use Rattle.rpki_crl.specs.Lists.Views.{parts_view};
+ghost use Rattle.rpki_crl.specs.Lists.Lending.{LendsRevoked};
 
 use crate::extensions::Extensions;
 use crate::revoked::RevokedCertificates;
-use rpki_der::{Cursor, DecodeError, Serial, Time};
+use rpki_der::{Cursor, DecodeError, Serial, Time, tag};
 use rpki_parts::{KeyIdentifier, Name, RpkiSignatureAlgorithm};
 use std::alloc::{AllocError, Global};
 use std::marker::Model;
@@ -44,13 +47,13 @@ impl<C> Model for TbsCertList<C> {
 }
 
 // The version, which is 2.
-#[tactic(auto, unfolding(crate::specs::Lists::Reading::version_at))]
+#[tactic(auto, unfolding(crate::specs::Lists::Reading::list_version_at))]
 fn take_version(cursor: &mut Cursor<'_>) -> Result<(), DecodeError>
-    ensures reads { Took version_at cursor.old result cursor.new }
+    ensures reads { Took list_version_at cursor.old result cursor.new }
     ensures keeps { Keeps result cursor.old cursor.new }
 {
     let mut ahead = cursor.fork();
-    let number = ahead.take_value(0x02)?;
+    let number = ahead.take_value(tag::INTEGER)?;
     if number.rest() != [0x01].as_slice() {
         return Err(DecodeError::BadValue);
     }
@@ -70,11 +73,12 @@ struct Head {
 
 // The row of extensions, as it stands inside its tags.
 fn take_row<'a>(cursor: &mut Cursor<'a>) -> Result<Cursor<'a>, DecodeError>
-    ensures reads { TookBy left (inside 0xA0 (value_at 0x30)) cursor.old result cursor.new }
+    ensures reads { TookBy left (inside (CONTEXT_CONSTRUCTED 0) (value_at SEQUENCE))
+        cursor.old result cursor.new }
     ensures keeps { Keeps result cursor.old cursor.new }
 {
     let mut ahead = cursor.fork();
-    let mut tagged = ahead.take_value(0xa0)?;
+    let mut tagged = ahead.take_value(tag::CONTEXT_CONSTRUCTED)?;
     let row = tagged.take_sequence()?;
     tagged.finish()?;
     *cursor = ahead;
@@ -82,12 +86,12 @@ fn take_row<'a>(cursor: &mut Cursor<'a>) -> Result<Cursor<'a>, DecodeError>
 }
 
 // These fields, and the row of extensions as it stands.
-#[tactic(auto, unfolding(crate::specs::Lists::Reading::fields_in_order))]
+#[tactic(auto, unfolding(crate::specs::Lists::Reading::list_parts_in_order))]
 fn take_in_order<'a>(
     alloc: Global,
     cursor: &mut Cursor<'a>,
 ) -> Result<(Head, Cursor<'a>), DecodeError>
-    ensures reads { TookOrMemoryBy fields_view fields_in_order cursor.old result cursor.new }
+    ensures reads { TookOrMemoryBy parts_view list_parts_in_order cursor.old result cursor.new }
     ensures keeps { Keeps result cursor.old cursor.new }
 {
     let mut ahead = cursor.fork();
@@ -110,12 +114,12 @@ fn take_in_order<'a>(
 }
 
 // The same inside the SEQUENCE.
-#[tactic(auto, unfolding(crate::specs::Lists::Reading::fields_at))]
+#[tactic(auto, unfolding(crate::specs::Lists::Reading::list_parts_at))]
 fn take_fields<'a>(
     alloc: Global,
     cursor: &mut Cursor<'a>,
 ) -> Result<(Head, Cursor<'a>), DecodeError>
-    ensures reads { TookOrMemoryBy fields_view fields_at cursor.old result cursor.new }
+    ensures reads { TookOrMemoryBy parts_view list_parts_at cursor.old result cursor.new }
     ensures keeps { Keeps result cursor.old cursor.new }
 {
     let mut ahead = cursor.fork();
@@ -258,6 +262,14 @@ impl<C> TbsCertList<C> {
         ensures { result.now ≡ self.now.revoked }
     {
         &self.revoked_certs
+    }
+
+    /// The same to be changed in place. When the borrow ends, the list has the revoked certificates that were left there.
+    pub fn revoked_certs_mut(&mut self) -> &mut C
+        ensures* lends { sem 𝓛 (LendsRevoked C.row self.entry result) }
+        ensures value { result.now ≡ self.old.revoked }
+    {
+        &mut self.revoked_certs
     }
 
     /// The identifier of the issuer's key (RFC 5280 5.2.1).

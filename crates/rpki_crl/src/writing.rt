@@ -1,25 +1,30 @@
 //! How the data of a revocation list is written.
-ghost use Rattle.std.specs.Prelude.{◌≡◌, ◌^◌, ◌≤◌, ◌++◌, length, IfOk, OnOk, IsErrOf};
+ghost use Rattle.std.specs.Prelude.{◌≡◌, ◌^◌, ◌≤◌, ◌++◌, ◌<◌, length, IfOk, OnOk, IsErrOf};
 ghost use Rattle.rpki_der.specs.Tags.{SEQUENCE};
 ghost use Rattle.rpki_der.specs.Writers.{value, Writes};
+ghost use Rattle.rpki_der.specs.Times.{IsMoment};
+ghost use Rattle.rpki_parts.specs.Names.{IsName};
+ghost use Rattle.rpki_ext.specs.KeyIdentifiers.{IsIdentifier};
+ghost use Rattle.rpki_crl.specs.RevokedEntries.{AreEntries};
 ghost use Rattle.rpki_crl.specs.ListExtensions.Views.{extensions_view};
-ghost use Rattle.rpki_crl.specs.Lists.{list_content, list_row, tagged_list_extensions};
+ghost use Rattle.rpki_crl.specs.Lists.{ListFits, list_content, list_row, tagged_list_extensions};
 
 use crate::extensions::Extensions;
 use crate::revoked::RevokedCertificates;
 use crate::tbs::TbsCertList;
-use rpki_der::{EncodeError, oid, put_extension, put_value};
+use rpki_der::{EncodeError, oid, put_extension, put_value, tag};
 use rpki_ext::encode_authority_key_identifier;
 use std::alloc::Global;
 
 // The INTEGER 1, which is version 2.
-const VERSION_2: [u8; 3] = [0x02, 0x01, 0x01];
+const VERSION_2: [u8; 3] = [tag::INTEGER, 0x01, 0x01];
 
 impl Extensions {
     // Appends both extensions, one after the other.
     fn put_row(&self, alloc: Global, out: &mut Vec<u8>) -> Result<(), EncodeError>
         ensures ok { OnOk result
             (out.new.items ≡ out.old.items ++ list_row (extensions_view self.now)) }
+        ensures number { OnOk result (self.now.crl_number < 2 ^ 160) }
         ensures too_long { IsErrOf result EncodeError.TooLong
             → 2 ^ 32 ≤ length (list_row (extensions_view self.now)) }
     {
@@ -34,21 +39,38 @@ impl Extensions {
     fn put_tagged(&self, alloc: Global, out: &mut Vec<u8>) -> Result<(), EncodeError>
         ensures ok { OnOk result
             (out.new.items ≡ out.old.items ++ tagged_list_extensions (extensions_view self.now)) }
+        ensures number { OnOk result (self.now.crl_number < 2 ^ 160) }
         ensures too_long { IsErrOf result EncodeError.TooLong
             → 2 ^ 32 ≤ length (tagged_list_extensions (extensions_view self.now)) }
     {
         let mut row = Vec::new(alloc);
         self.put_row(alloc, &mut row)?;
         let mut sequence = Vec::new(alloc);
-        put_value(&mut sequence, 0x30, &row)?;
-        put_value(out, 0xA0, &sequence)
+        put_value(&mut sequence, tag::SEQUENCE, &row)?;
+        put_value(out, tag::CONTEXT_CONSTRUCTED, &sequence)
     }
 }
 
 impl TbsCertList<RevokedCertificates> {
+    // What is kept can be written. Called for what it ensures alone.
+    fn known(&self)
+        ensures issuer { IsName self.now.issuer self.now.issuer }
+        ensures this_update { IsMoment self.now.this_update }
+        ensures next_update { IsMoment self.now.next_update }
+        ensures entries { AreEntries self.now.revoked.entries self.now.revoked.octets }
+        ensures identifier { IsIdentifier self.now.extensions.authority_key_identifier }
+    {
+        let _issuer = self.issuer.as_bytes();
+        self.this_update.known();
+        self.next_update.known();
+        let _entries = self.revoked_certs.iter();
+        let _identifier = self.extensions.authority_key_identifier.as_octets();
+    }
+
     // What stands inside the SEQUENCE.
     fn content(&self, alloc: Global) -> Result<Vec<u8>, EncodeError>
         ensures ok { IfOk result (λ c. c.items ≡ list_content self.now) }
+        ensures number { OnOk result (self.now.extensions.crl_number < 2 ^ 160) }
         ensures too_long { IsErrOf result EncodeError.TooLong
             → 2 ^ 32 ≤ length (list_content self.now) }
     {
@@ -65,10 +87,12 @@ impl TbsCertList<RevokedCertificates> {
     /// Appends the TBSCertList with these fields (RFC 5280 5.1.2, RFC 6487 5): the entries as they are kept, and both extensions in
     /// one fixed order, without flags. Answers `TooLong` where its content would have 2^32 octets or more.
     pub fn encode_ref(&self, alloc: Global, out: &mut Vec<u8>) -> Result<(), EncodeError>
-        ensures { Writes (value SEQUENCE (list_content self.now))
+        ensures writes { Writes (value SEQUENCE (list_content self.now))
             out.old.items result out.new.items }
+        ensures fits { OnOk result (ListFits self.now) }
     {
+        self.known();
         let content = self.content(alloc)?;
-        put_value(out, 0x30, &content)
+        put_value(out, tag::SEQUENCE, &content)
     }
 }

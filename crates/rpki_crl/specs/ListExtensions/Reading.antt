@@ -6,25 +6,25 @@ use Rattle.rpki_der.specs.Folding.{Fold, beside, each_fold, over}
 use Rattle.rpki_der.specs.Values.Reading.{◌>>=◌}
 use Rattle.rpki_ext.specs.Kinds.{is_of}
 use Rattle.rpki_ext.specs.KindTables.{Sights, identifiers_of, table_fold}
-use Rattle.rpki_crl.specs.ListExtensions.{ListExtensions, list_kinds}
+use Rattle.rpki_crl.specs.ListExtensions.{ListExtensions, list_kinds_with_any_flag}
 
 -- what was seen so far of each kind
-abbrev pub State : Type 0
-State = Unit {0} × Sights list_kinds
+abbrev pub ListSights : Type 0
+ListSights = Unit {0} × Sights list_kinds_with_any_flag
 
 -- one step a kind, side by side
-abbrev pub all_kinds : Fold Extension State
-all_kinds = beside (each_fold (is_of (identifiers_of list_kinds))) (table_fold list_kinds)
+abbrev pub list_fold : Fold Extension ListSights
+list_fold = beside (each_fold (is_of (identifiers_of list_kinds_with_any_flag))) (table_fold list_kinds_with_any_flag)
 
-abbrev pub listed : List ℕ → ℕ → ListExtensions
-listed identifier number = record { authority_key_identifier = identifier; crl_number = number }
+abbrev pub list_extensions : List ℕ → ℕ → ListExtensions
+list_extensions identifier number = record { authority_key_identifier = identifier; crl_number = number }
 
 -- both are there
-abbrev pub completed : State → Option ListExtensions
-completed (_, (identifier, (number, _))) = do
+abbrev pub both_seen : ListSights → Option ListExtensions
+both_seen (_, (identifier, (number, _))) = do
   i ← identifier
   n ← number
-  Some (listed i n)
+  Some (list_extensions i n)
 
 unfoldable pub list_extensions_of : List ℕ → Option ListExtensions
-list_extensions_of octets = over extension_at all_kinds.step all_kinds.start octets >>= completed
+list_extensions_of octets = over extension_at list_fold.step list_fold.start octets >>= both_seen

@@ -8,17 +8,18 @@ use Rattle.rpki_crl.specs.declared.extensions.Kind.{Kind}
 use Rattle.rpki_crl.specs.declared.extensions.Kind.TheVariants.{AuthorityKeyIdentifier, CrlNumber}
 use Rattle.rpki_crl.specs.declared.extensions.Seen.{Seen}
 use Rattle.rpki_crl.specs.declared.extensions.Extensions.{Extensions}
-use Rattle.rpki_crl.specs.ListExtensions.{ListExtensions, list_kinds}
-use Rattle.rpki_crl.specs.ListExtensions.Reading.{State, listed}
+use Rattle.rpki_ext.specs.ListKinds.{list_kinds}
+use Rattle.rpki_crl.specs.ListExtensions.{ListExtensions}
+use Rattle.rpki_crl.specs.ListExtensions.Reading.{ListSights, list_extensions}
 
 -- the kind that an identifier names, or none
-abbrev pub Names : List ℕ → Option Kind → Type 0
-Names id (Some AuthorityKeyIdentifier) = id ≡ authority_key_identifier.identifier
-Names id (Some CrlNumber) = id ≡ crl_number.identifier
-Names id None = AllByRecursion (λ a. bytes_eq id a ≡ false) (identifiers_of list_kinds)
+abbrev pub NamesListKind : List ℕ → Option Kind → Type 0
+NamesListKind id (Some AuthorityKeyIdentifier) = id ≡ authority_key_identifier.identifier
+NamesListKind id (Some CrlNumber) = id ≡ crl_number.identifier
+NamesListKind id None = AllByRecursion (λ a. bytes_eq id a ≡ false) (identifiers_of list_kinds)
 
-abbrev pub state_of : Seen → State
-state_of s = (tt, (s.authority_key_identifier, (s.crl_number, tt)))
+abbrev pub sights_of : Seen → ListSights
+sights_of s = (tt, (s.authority_key_identifier, (s.crl_number, tt)))
 
 abbrev pub extensions_view : Extensions → ListExtensions
-extensions_view x = listed x.authority_key_identifier x.crl_number
+extensions_view x = list_extensions x.authority_key_identifier x.crl_number

@@ -2,14 +2,16 @@
 use Rattle.std.specs.Bool.{beq}
 use Rattle.std.specs.Prelude.{ℕ, Bool, bytes_eq, if◌then◌else◌, List, [], ◌∷◌, Option, Some, None}
 use Rattle.rpki_der.specs.Choices.{turned}
-use Rattle.rpki_der.specs.Reading.{inside, content, both}
+use Rattle.rpki_der.specs.Reading.{inside, content, both, mapped}
+use Rattle.rpki_der.specs.Tags.{CONTEXT_CONSTRUCTED, INTEGER, SEQUENCE}
 use Rattle.rpki_der.specs.Times.{Moment}
 use Rattle.rpki_der.specs.Times.Reading.{time_at}
 use Rattle.rpki_der.specs.Values.Reading.{◌>>=◌, value_at}
 use Rattle.rpki_parts.specs.Algorithms.{Algorithm}
 use Rattle.rpki_parts.specs.Algorithms.Reading.{algorithm_at}
 use Rattle.rpki_parts.specs.Names.Reading.{name_at}
-use Rattle.rpki_parts.specs.SignedDatas.Reading.{signed_content_at}
+use Rattle.rpki_parts.specs.SignedDatas.{SignedFields}
+use Rattle.rpki_parts.specs.SignedDatas.Reading.{signed_at}
 use Rattle.rpki_crl.specs.ListExtensions.Reading.{list_extensions_of}
 use Rattle.rpki_crl.specs.Lists.{ListFields, CrlFields}
 use Rattle.rpki_crl.specs.RevokedEntries.{Revoked}
@@ -20,45 +22,45 @@ use Rattle.rpki_crl.specs.RevokedEntries.Reading.{revoked_at}
 abbrev pub is_one : List ℕ → Option (Unit {0})
 is_one c = if bytes_eq c (1 ∷ []) then Some tt else None
 
-unfoldable pub version_at : List ℕ → Option (Unit {0} × List ℕ)
-version_at = content 0x02 is_one
+unfoldable pub list_version_at : List ℕ → Option (Unit {0} × List ℕ)
+list_version_at = content INTEGER is_one
 
 -- the fields in their order, and the row of extensions as it stands
-abbrev pub Fields : Type 0
-Fields = Unit {0} × (Algorithm × (List ℕ × (Moment × (Moment × (Revoked × List ℕ)))))
+abbrev pub ListParts : Type 0
+ListParts = Unit {0} × (Algorithm × (List ℕ × (Moment × (Moment × (Revoked × List ℕ)))))
 
-abbrev pub with_extensions : Fields → Option (ListFields Revoked)
-with_extensions (_, (algorithm, (issuer, (this_update, (next_update, (revoked, row)))))) = do
+abbrev pub fields_from : ListParts → Option (ListFields Revoked)
+fields_from (_, (algorithm, (issuer, (this_update, (next_update, (revoked, row)))))) = do
   x ← list_extensions_of row
   Some (record { algorithm = algorithm; issuer = issuer; this_update = this_update; next_update = next_update; revoked = revoked; extensions = x })
 
-unfoldable pub fields_in_order : List ℕ → Option (Fields × List ℕ)
-fields_in_order = both version_at (both algorithm_at (both name_at (both time_at (both time_at (both revoked_at (inside 0xA0 (value_at 0x30)))))))
+unfoldable pub list_parts_in_order : List ℕ → Option (ListParts × List ℕ)
+list_parts_in_order = both list_version_at (both algorithm_at (both name_at (both time_at (both time_at (both revoked_at (inside (CONTEXT_CONSTRUCTED 0) (value_at SEQUENCE)))))))
 
-unfoldable pub fields_at : List ℕ → Option (Fields × List ℕ)
-fields_at = inside 0x30 fields_in_order
+unfoldable pub list_parts_at : List ℕ → Option (ListParts × List ℕ)
+list_parts_at = inside SEQUENCE list_parts_in_order
 
 unfoldable pub list_at : List ℕ → Option (ListFields Revoked × List ℕ)
-list_at = turned with_extensions fields_at
+list_at = turned fields_from list_parts_at
 
 -- ---- lists
 
+abbrev pub crl_from : ListFields Revoked × SignedFields → CrlFields
+crl_from p = record { fields = p.0; signed_data = p.1 }
+
 -- the signed value is kept, and read as a TBSCertList where it stands
 unfoldable pub kept_at : List ℕ → Option (CrlFields × List ℕ)
-kept_at octets = do
-  s ← signed_content_at octets
-  t ← list_at octets
-  Some (record { fields = t.0; signed_data = s.0 }, s.1)
+kept_at = mapped crl_from (signed_at list_at)
 
 abbrev pub same_algorithm : Algorithm → Algorithm → Bool
 same_algorithm a b = beq a.has_null b.has_null
 
 -- the inner and the outer algorithm are equal
-abbrev pub agreed : CrlFields → Option CrlFields
-agreed r = if same_algorithm r.fields.algorithm r.signed_data.signature.algorithm then Some r else None
+abbrev pub with_same_algorithm : CrlFields → Option CrlFields
+with_same_algorithm r = if same_algorithm r.fields.algorithm r.signed_data.signature.algorithm then Some r else None
 
 unfoldable pub crl_content_at : List ℕ → Option (CrlFields × List ℕ)
-crl_content_at = turned agreed kept_at
+crl_content_at = turned with_same_algorithm kept_at
 
 unfoldable pub crl_at : List ℕ → Option (CrlFields × List ℕ)
-crl_at = inside 0x30 crl_content_at
+crl_at = inside SEQUENCE crl_content_at

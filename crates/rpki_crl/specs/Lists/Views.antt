@@ -1,7 +1,7 @@
 -- What contracts see of the fields before the extensions of a list, and of the row of extensions.
 use Rattle.rpki_der.specs.Place.{Place, left}
-use Rattle.rpki_crl.specs.Lists.Reading.{Fields}
+use Rattle.rpki_crl.specs.Lists.Reading.{ListParts}
 use Rattle.rpki_crl.specs.declared.tbs.Head.{Head}
 
-abbrev pub fields_view : Head × Place → Fields
-fields_view (h, row) = (tt, (h.signature, (h.issuer, (h.this_update, (h.next_update, (h.revoked_certs, left row))))))
+abbrev pub parts_view : Head × Place → ListParts
+parts_view (h, row) = (tt, (h.signature, (h.issuer, (h.this_update, (h.next_update, (h.revoked_certs, left row))))))

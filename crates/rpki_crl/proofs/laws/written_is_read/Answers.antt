@@ -1,9 +1,17 @@
 use Rattle.rpki_crl.proofs.EntryWritten.{row_made}
+use Rattle.rpki_crl.proofs.ExampleLists.{some_list, some_list_fits}
+use Rattle.rpki_crl.proofs.SignedLists.{signed_list}
 use Rattle.rpki_crl.proofs.SpelledLists.{list_made}
 use Rattle.rpki_crl.proofs.laws.written_is_read.Goals as goal
 
+pub returns-clause-data : goal.returns-clause-data
+returns-clause-data c = list_made
+
 pub returns-clause-list : goal.returns-clause-list
-returns-clause-list c = list_made
+returns-clause-list c = signed_list
 
 pub returns-clause-row : goal.returns-clause-row
 returns-clause-row c = row_made
+
+pub returns-clause-premises : goal.returns-clause-premises
+returns-clause-premises c = (some_list, some_list_fits)

@@ -1,16 +1,9 @@
-use Rattle.std.proofs.Common.{◌≡◌, List, ℕ, Some, subst}
 use Rattle.std.proofs.lemmas.Bool.{false≢true}
-use Rattle.rpki_der.specs.Place.{Place, left}
-use Rattle.rpki_der.specs.Values.Reading.{value_at}
-use Rattle.rpki_crl.specs.Lists.Views.{fields_view}
-use Rattle.rpki_crl.specs.Lists.Reading.{fields_in_order, fields_at}
-use Rattle.rpki_crl.proofs.CertificateListsReads.{not_used_up}
+use Rattle.rpki_der.specs.Tags.{SEQUENCE}
+use Rattle.rpki_der.proofs.Readings.{not_used_up}
+use Rattle.rpki_crl.specs.Lists.Reading.{list_parts_in_order, list_parts_at}
 use Rattle.rpki_crl.proofs.tbs.take_fields.Goals as goal
 
 pub returns-then-not-is_empty-clause-reads : goal.returns-then-not-is_empty-clause-reads
-unfolding fields_at
-returns-then-not-is_empty-clause-reads c =
-    let content : List ℕ = left c.in_ok-content.content in
-    let after : List ℕ = left c.take_sequence.new.self in
-    let read : value_at 0x30 (left c.args.cursor.now) ≡ Some (content, after) = subst (λ (p : Place). value_at 0x30 (left p) ≡ Some (content, after)) c.fork-ahead.ensures.same c.in_ok-content.ensures.reads in
-    not_used_up 0x30 fields_in_order (left c.args.cursor.now) content after (fields_view c.in_ok-fields.fields) (left c.take_in_order.new.cursor) read c.in_ok-fields.ensures.reads (λ nil. false≢true (c.if-not-is_empty.ensures.1 nil))
+unfolding list_parts_at
+returns-then-not-is_empty-clause-reads c = not_used_up SEQUENCE list_parts_in_order c.fork-ahead.ensures.same c.in_ok-content.ensures.reads c.in_ok-fields.ensures.reads (λ nil. false≢true (c.if-not-is_empty.ensures.1 nil))

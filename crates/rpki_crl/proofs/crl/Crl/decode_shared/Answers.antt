@@ -1,5 +1,5 @@
 use Rattle.rpki_crl.specs.Lists.{CrlState, IsCertificateList}
-use Rattle.rpki_crl.proofs.CertificateListsReads.{front_means}
+use Rattle.rpki_der.proofs.Answering.{front_means}
 use Rattle.rpki_crl.proofs.crl.Crl.decode_shared.Goals as goal
 
 pub returns-clause-means : goal.returns-clause-means

@@ -1,8 +1,7 @@
 use Rattle.std.proofs.Common.{◌≡◌, [], ◌∷◌, arith, rules}
 use Rattle.rpki_der.specs.Primitives.{number}
 use Rattle.rpki_der.proofs.ValueWritten.{plain_oid}
-use Rattle.rpki_blocks.proofs.Lengths.{passed_long}
-use Rattle.rpki_ext.proofs.WritingSteps.{still_long}
+use Rattle.rpki_der.proofs.TooLong.{passed_long, still_long}
 use Rattle.rpki_crl.specs.ListExtensions.Views.{extensions_view}
 use Rattle.rpki_crl.proofs.ListsWritten.{identifier_longer, number_longer}
 use Rattle.rpki_crl.proofs.extensions.Extensions.put_row.Goals as goal

@@ -1,7 +1,6 @@
 use Rattle.std.proofs.Common.{◌≡◌, ℕ, List, ◌++◌, length, ap, ◌∙◌, arith}
 use Rattle.rpki_der.specs.Values.{enc}
-use Rattle.rpki_blocks.proofs.Lengths.{passed_long}
-use Rattle.rpki_ext.proofs.WritingSteps.{still_long}
+use Rattle.rpki_der.proofs.TooLong.{passed_long, still_long}
 use Rattle.rpki_crl.specs.ListExtensions.Views.{extensions_view}
 use Rattle.rpki_crl.specs.Lists.{list_row}
 use Rattle.rpki_crl.proofs.ListsWritten.{row_longer, sequence_longer}

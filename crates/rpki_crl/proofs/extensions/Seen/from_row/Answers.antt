@@ -5,24 +5,24 @@ use Rattle.rpki_der.proofs.Answering.{refuses, certainly}
 use Rattle.rpki_der.specs.Extensions.Reading.{extension_at}
 use Rattle.rpki_der.proofs.Walking.{goes_on, shorter, refused, ends, over_end, some_left}
 use Rattle.rpki_der.proofs.ExtensionReads.{extension_shrinks}
-use Rattle.rpki_crl.specs.ListExtensions.Reading.{State, all_kinds}
-use Rattle.rpki_crl.specs.ListExtensions.Views.{state_of}
+use Rattle.rpki_crl.specs.ListExtensions.Reading.{ListSights, list_fold}
+use Rattle.rpki_crl.specs.ListExtensions.Views.{sights_of}
 use Rattle.rpki_crl.proofs.extensions.Seen.from_row.Goals as goal
 
 pub loop-rest-init : goal.loop-rest-init
-loop-rest-init c = ap (λ (s : State). over extension_at all_kinds.step s (left c.fork-rest.result)) c.nothing-seen.ensures ∙ ap (λ (p : Place). over extension_at all_kinds.step all_kinds.start (left p)) c.fork-rest.ensures.same
+loop-rest-init c = ap (λ (s : ListSights). over extension_at list_fold.step s (left c.fork-rest.result)) c.nothing-seen.ensures ∙ ap (λ (p : Place). over extension_at list_fold.step list_fold.start (left p)) c.fork-rest.ensures.same
 
 pub returns-in-Err : goal.returns-in-Err
-returns-in-Err c = certainly c.in-Err.error (sym c.loop-rest.invariant ∙ ends extension_at all_kinds.step extension_shrinks _ _ (some_left _ c.loop-rest-test.ensures.1) c.in-Err.ensures.reads.1)
+returns-in-Err c = certainly c.in-Err.error (sym c.loop-rest.invariant ∙ ends extension_at list_fold.step extension_shrinks _ _ (some_left _ c.loop-rest-test.ensures.1) c.in-Err.ensures.reads.1)
 
 pub returns-in-Err-put : goal.returns-in-Err-put
-returns-in-Err-put c = refuses c.in-Err-put.error (λ none. sym c.loop-rest.invariant ∙ refused extension_at all_kinds.step extension_shrinks _ _ _ _ c.in-Ok.ensures.reads none) c.in-Err-put.ensures
+returns-in-Err-put c = refuses c.in-Err-put.error (λ none. sym c.loop-rest.invariant ∙ refused extension_at list_fold.step extension_shrinks _ _ _ _ c.in-Ok.ensures.reads none) c.in-Err-put.ensures
 
 pub loop-rest-smaller : goal.loop-rest-smaller
-loop-rest-smaller c = shorter extension_at all_kinds.step extension_shrinks (state_of c.loop-rest.seen) _ _ _ c.in-Ok.ensures.reads
+loop-rest-smaller c = shorter extension_at list_fold.step extension_shrinks (sights_of c.loop-rest.seen) _ _ _ c.in-Ok.ensures.reads
 
 pub loop-rest-preserved : goal.loop-rest-preserved
-loop-rest-preserved c = sym (goes_on extension_at all_kinds.step extension_shrinks _ _ _ _ c.in-Ok.ensures.reads _ c.in-Ok-put.ensures) ∙ c.loop-rest.invariant
+loop-rest-preserved c = sym (goes_on extension_at list_fold.step extension_shrinks _ _ _ _ c.in-Ok.ensures.reads _ c.in-Ok-put.ensures) ∙ c.loop-rest.invariant
 
 pub returns : goal.returns
-returns c = let nil = c.loop-rest-test.ensures.0 refl in sym c.loop-rest.invariant ∙ rw nil (over_end extension_at all_kinds.step _)
+returns c = let nil = c.loop-rest-test.ensures.0 refl in sym c.loop-rest.invariant ∙ rw nil (over_end extension_at list_fold.step _)

@@ -1,5 +1,5 @@
 use Rattle.std.proofs.Common.{length, ap, arith}
-use Rattle.rpki_blocks.proofs.Lengths.{passed_long}
+use Rattle.rpki_der.proofs.TooLong.{passed_long}
 use Rattle.rpki_crl.specs.Lists.{ListFields, list_content}
 use Rattle.rpki_crl.specs.RevokedEntries.{Revoked}
 use Rattle.rpki_crl.proofs.ListsWritten.{revoked_longer}

@@ -1,0 +1,54 @@
+-- Fields of a list that have a spelling.
+use Rattle.std.proofs.Common.{ℕ, List, [], ◌∷◌, refl, arith, ◌<◌, ◌^◌, length}
+use Rattle.rpki_der.specs.Primitives.{number}
+use Rattle.rpki_der.specs.Times.{Moment, IsMoment, time}
+use Rattle.rpki_der.specs.Values.{enc, length_octets}
+use Rattle.rpki_der.proofs.WrittenOctets.{literal}
+use Rattle.rpki_parts.specs.Algorithms.{with_null}
+use Rattle.rpki_parts.specs.Names.{IsName}
+use Rattle.rpki_crl.specs.Lists.{ListFields, ListFits, list_content, tagged_list_extensions}
+use Rattle.rpki_crl.specs.RevokedEntries.{Revoked}
+use Rattle.rpki_crl.specs.RevokedEntries.Reading.{no_entries}
+
+abbrev year_2000 : Moment
+year_2000 = record { year = 2000; month = 1; day = 1; hour = 0; minute = 0; second = 0 }
+
+-- a name without parts
+abbrev no_name : List ℕ
+no_name = 0x30 ∷ 0 ∷ []
+
+-- an identifier of a key
+abbrev no_key : List ℕ
+no_key = 0 ∷ 0 ∷ 0 ∷ 0 ∷ 0 ∷ 0 ∷ 0 ∷ 0 ∷ 0 ∷ 0 ∷ 0 ∷ 0 ∷ 0 ∷ 0 ∷ 0 ∷ 0 ∷ 0 ∷ 0 ∷ 0 ∷ 0 ∷ []
+
+abbrev pub some_list : ListFields Revoked
+some_list = record {
+  algorithm = with_null;
+  issuer = no_name;
+  this_update = year_2000;
+  next_update = year_2000;
+  revoked = no_entries;
+  extensions = record { authority_key_identifier = no_key; crl_number = 0 };
+}
+
+is_name : IsName no_name no_name
+unfolding enc length_octets
+is_name = record { parts = []; parts_are = record { content = []; row = refl; sequence = record { octet = omega arith; low_tag = omega arith; octets = tt; short = omega arith; is = refl } }; kept = refl }
+
+is_moment : IsMoment year_2000
+is_moment = record { year = omega arith; month = (omega arith, omega arith); day = (omega arith, omega arith); hour = omega arith; minute = omega arith; second = omega arith }
+
+short : length (list_content some_list) < 2 ^ 32
+unfolding tagged_list_extensions enc length_octets number time
+short = omega arith
+
+pub some_list_fits : ListFits some_list
+some_list_fits = record {
+  issuer_is = is_name;
+  this_update_is = is_moment;
+  next_update_is = is_moment;
+  entries_are = refl;
+  identifier_is = (literal no_key refl, refl);
+  number_is = omega arith;
+  short = short;
+}

@@ -1,0 +1,39 @@
+//! What the public clauses give together: a list that was made is read again from its own octets.
+ghost use Rattle.std.specs.Prelude.{◌≡◌, ◌^◌, ◌<◌, length, false, IfOk, IfErr};
+ghost use Rattle.std.specs.List.{concat};
+ghost use Rattle.rpki_der.specs.declared.error.EncodeError.TheVariants.{Memory};
+ghost use Rattle.rpki_parts.specs.SignedDatas.{signed_pieces};
+ghost use Rattle.rpki_crl.specs.Lists.{ListFits, list_spelling};
+
+use crate::crl::Crl;
+use crate::laws;
+use rpki_der::EncodeError;
+use std::alloc::Global;
+
+/// Writes a list that `into_crl` made, and reads it again: it is the same, its entries too, where its signature names the algorithm that
+/// was asked for. Its serials are in no table. The only error is `Memory`.
+pub fn read_again(alloc: Global, made: &Crl) -> Result<Crl, EncodeError>
+    requires written { ListFits made.now.list.fields }
+    requires message { made.now.list.signed_data.message ≡ list_spelling made.now.list.fields }
+    requires algorithm { let list = made.now.list in
+        list.fields.algorithm ≡ list.signed_data.signature.algorithm }
+    requires fits { length (concat (signed_pieces made.now.list.signed_data)) < 2 ^ 32 }
+    ensures same { IfOk result (λ c. c.list ≡ made.now.list) }
+    ensures uncached { IfOk result (λ c. c.is_cached ≡ false) }
+    ensures memory { IfErr result (λ e. e ≡ Memory) }
+{
+    let octets = made.to_captured(alloc)?;
+    // Called for what they ensure alone.
+    let _value = made.signed_data().signature().value();
+    laws::written_is_read();
+    laws::unambiguous();
+    match Crl::decode_shared(alloc, octets) {
+        Ok(read) => Ok(read),
+        Err(error) => {
+            if !error.is_memory() {
+                unreachable!();
+            }
+            Err(EncodeError::Memory)
+        }
+    }
+}
