@@ -1,8 +1,18 @@
 -- Which line of an input doesn't fit.
-use Rattle.std.proofs.Common.{◌≡◌, ◌≢◌, ◌==◌, ℕ, ◌⊎◌, inl, inr, Bool, true, false, List, [], ◌∷◌, ◌++◌, length, refl, sym, ap, subst, ◌∙◌, arith, codes, lit<}
+use Rattle.std.specs.List.{AllZip}
+use Rattle.std.specs.Prelude.{Bool, IfOk, get_or}
+use Rattle.std.proofs.Common.{◌≡◌, ◌≢◌, ◌==◌, ℕ, ◌+◌, ◌⊎◌, inl, inr, true, false, List, [], ◌∷◌, ◌++◌, length, None, Result, Ok, Err, refl, sym, ap, subst, ◌∙◌, arith, codes, lit<}
 use Rattle.std.proofs.lemmas.Bool.{eqb-true, eq-eqb, false≢true}
-use Rattle.rpki_path.specs.TextLines.{IsWithout, AreLines, line_end}
-use Rattle.rpki_path.specs.Program.{IsRevokedLine, AreInput, BeginInput, IsBadLine}
+use Rattle.std.proofs.lemmas.List.{append-nil, append_assoc}
+use Rattle.rpki_der.specs.Times.{Moment}
+use Rattle.rpki_path.specs.declared.validating.Leaf.{Leaf}
+use Rattle.rpki_path.specs.declared.validating.Leaf.TheVariants.{Ee, DetachedEe}
+use Rattle.rpki_path.specs.declared.input.Input.{Input}
+use Rattle.rpki_path.specs.declared.input.Input.TheVariants.{Bad}
+use Rattle.rpki_path.specs.TextLines.{AreLines, line_end}
+use Rattle.rpki_path.specs.InputLines.{at_moment, strictness, anchor, authority, last, IsLine, IsRevokedLine, IsMomentLine, IsOctetsLine}
+use Rattle.rpki_path.specs.Program.{PathQuestion, Question, is_revoked, is_good_path, Ask, AreInput, BeginInput}
+use Rattle.rpki_path.specs.Questions.{IsFirstLine, AreReadAs, IsReadBehind}
 
 -- every text has lines
 first_octet : (x : ℕ) (text : List ℕ) (ends : Bool) → (x == line_end) ≡ ends → (lines : List (List ℕ)) → AreLines lines text → (more : List (List ℕ)) × AreLines more (x ∷ text)
@@ -16,7 +26,7 @@ first_octet x text false e (line ∷ lines) are =
       (
         (other, are.0),
         elim are.1 [
-          | inl last ↦ inl (last.0, (λ h. cc), ap (λ (l : List ℕ). x ∷ l) last.2)
+          | inl only ↦ inl (only.0, (λ h. cc), ap (λ (l : List ℕ). x ∷ l) only.2)
           | inr more ↦ inr (more.0, ap (λ (l : List ℕ). x ∷ l) more.1, more.2)
         ],
       ),
@@ -26,97 +36,217 @@ pub some_lines : (text : List ℕ) → (lines : List (List ℕ)) × AreLines lin
 some_lines [] = ([], refl)
 some_lines (x ∷ text) = let more = some_lines text in first_octet x text (x == line_end) refl more.0 more.1
 
--- ---- inputs
+-- ---- the first line of a text, and those behind it
 
-some_input : AreInput (codes "revoked - -" ∷ [])
-some_input = (
-  [],
-  [],
-  codes "revoked - -",
-  record {
-    list_word = codes "-";
-    serial_word = codes "-";
-    list_is = refl;
-    serial_is = refl;
-    small = lit< tt;
-    is = refl;
-  },
-  refl,
+some_there : (line rest : List ℕ) → [] ≡ line ++ line_end ∷ rest → ⊥
+some_there [] rest e = absurd cc
+some_there (x ∷ line) rest e = absurd cc
+
+no_lines : (lines : List (List ℕ)) → AreLines lines [] → lines ≡ []
+no_lines [] are = refl
+no_lines (line ∷ lines) are =
+    absurd (elim are.1 [ inl only ↦ only.1 (sym only.2) | inr more ↦ some_there line more.0 more.1 ])
+
+pub one_more : (line rest text : List ℕ) (lines : List (List ℕ)) → IsFirstLine line rest text → AreLines lines rest → AreLines (line ∷ lines) text
+one_more line rest text lines first are = (
+  first.0,
+  elim first.1 [
+    | inl whole ↦ inl (no_lines lines (subst (λ (r : List ℕ). AreLines lines r) whole.0 are), whole.1, whole.2)
+    | inr e ↦ inr (rest, e, are)
+  ],
 )
 
-nothing_begins : BeginInput []
-nothing_begins = (codes "revoked - -" ∷ [], some_input)
+-- what is read behind the first line is read behind those before it
+pub behind_line : (before : List (List ℕ)) (line rest text : List ℕ) (input : Input) → IsFirstLine line rest text → IsReadBehind (before ++ line ∷ []) rest input → IsReadBehind before text input
+behind_line before line rest text input first read = (
+  line ∷ read.0,
+  one_more line rest text read.0 first read.1,
+  subst (λ (lines : List (List ℕ)). AreReadAs input lines) (append_assoc before (line ∷ []) read.0) read.2,
+)
 
-one_line : (line : List ℕ) (lines more : List (List ℕ)) → AreInput (line ∷ lines ++ more) → (list : List ℕ) × (serial : List ℕ) × IsRevokedLine list serial line × (lines ≡ [])
-one_line line [] more h = let same : line ≡ h.2 = cc (h.4) in (h.0, h.1, subst (λ (l : List ℕ). IsRevokedLine h.0 h.1 l) (sym same) h.3, refl)
-one_line line (next ∷ lines) more h = absurd (cc (h.4))
+module _ (before : List (List ℕ)) (fit : BeginInput before) (number : ℕ) (e : number ≡ length before + 1) (text : List ℕ) where
+  -- the first line of the text doesn't fit
+  pub bad_line : (line rest : List ℕ) → IsFirstLine line rest text → (BeginInput (before ++ line ∷ []) → ⊥) → IsReadBehind before text (Bad number)
+  bad_line line rest first unfit =
+      let more = some_lines rest in
+      (line ∷ more.0, one_more line rest text more.0 first more.1, record { before = before; others = line ∷ more.0; lines_are = refl; number_is = e; before_fit = fit; next_unfit = unfit })
 
--- ---- the first line, and what follows its end
+  -- no further line fits, and there is one
+  bad_of_lines : (lines : List (List ℕ)) → AreLines lines text → (text ≡ [] → ⊥) → ((line : List ℕ) → BeginInput (before ++ line ∷ []) → ⊥) → IsReadBehind before text (Bad number)
+  bad_of_lines [] are some unfit = absurd (some are)
+  bad_of_lines (line ∷ more) are some unfit = (line ∷ more, are, record { before = before; others = line ∷ more; lines_are = refl; number_is = e; before_fit = fit; next_unfit = unfit line })
 
-abbrev pub Parts : List ℕ → List ℕ → List ℕ → Type 0
-Parts text line others = ((text ≡ line) × (others ≡ [])) ⊎ (text ≡ line ++ line_end ∷ others)
+  pub bad_after : (text ≡ [] → ⊥) → ((line : List ℕ) → BeginInput (before ++ line ∷ []) → ⊥) → IsReadBehind before text (Bad number)
+  bad_after = bad_of_lines (some_lines text).0 (some_lines text).1
 
-abbrev pub Unfit : List ℕ → Type 0
-Unfit line = (list serial : List ℕ) → IsRevokedLine list serial line → ⊥
+  -- there is none
+  pub line_missing : text ≡ [] → (AreInput before → ⊥) → IsReadBehind before text (Bad number)
+  line_missing none unfit = ([], none, record { before = before; others = []; lines_are = refl; number_is = e; before_fit = fit; next_unfit = unfit })
 
-bad_one : (line : List ℕ) (more : List (List ℕ)) → Unfit line → IsBadLine 1 (line ∷ more)
-bad_one line more none = record {
-  before = [];
-  others = line ∷ more;
-  lines_are = refl;
-  number_is = refl;
-  before_fit = nothing_begins;
-  next_unfit = λ h. let one = one_line line [] h.0 h.1 in none one.0 one.1 one.2;
-}
+-- ---- inputs
 
-no_line : IsBadLine 1 []
-no_line = record {
-  before = [];
-  others = [];
-  lines_are = refl;
-  number_is = refl;
-  before_fit = nothing_begins;
-  next_unfit = λ h. absurd (cc (h.4));
-}
+head : List ℕ → ℕ
+head text = get_or text 0 0
 
-abbrev IsBadText : ℕ → List ℕ → Type 0
-IsBadText number text = (lines : List (List ℕ)) × AreLines lines text × IsBadLine number lines
+-- a line of a moment is none of a list
+not_both : (now : Moment) (list : List ℕ) (serial : ℕ) (line : List ℕ) → IsMomentLine now line → IsRevokedLine list serial line → ⊥
+unfolding head
+not_both now list serial line m r = let same : 97 ≡ 114 = ap head (sym m.is ∙ r.is) in absurd (omega (arith, same))
 
-only_line : (text line : List ℕ) → IsWithout line_end line → text ≡ line → Unfit line → IsBadText 1 text
-only_line text [] without e none = ([], e, no_line)
-only_line text (x ∷ line) without e none = ((x ∷ line) ∷ [], (without, inl (refl, (λ h. cc), e)), bad_one (x ∷ line) [] none)
+-- a line of an authority is none of a leaf
+pub other_name : (leaf : Leaf) (octets line : List ℕ) → IsLine (last leaf) line → IsLine (authority octets) line → ⊥
+unfolding head
+other_name (Ee o) octets line l a = let same : 101 ≡ 99 = ap head (sym l.is ∙ a.is) in absurd (omega (arith, same))
+other_name (DetachedEe o) octets line l a = let same : 100 ≡ 99 = ap head (sym l.is ∙ a.is) in absurd (omega (arith, same))
 
-pub bad_first : (text line others : List ℕ) → IsWithout line_end line → Parts text line others → Unfit line → IsBadText 1 text
-bad_first text line others without (inl whole) none = only_line text line without whole.0 none
-bad_first text line others without (inr e) none =
-    let rest = some_lines others in
-    (line ∷ rest.0, (without, inr (others, e, rest.1)), bad_one line rest.0 none)
+no_octets : (name : List ℕ) → IsOctetsLine name [] (name ++ codes "-")
+no_octets name = record { word = codes "-"; word_is = refl; is = refl }
 
-bad_two : (list serial line next : List ℕ) (more : List (List ℕ)) → IsRevokedLine list serial line → IsBadLine 2 (line ∷ next ∷ more)
-bad_two list serial line next more h = record {
-  before = line ∷ [];
-  others = next ∷ more;
-  lines_are = refl;
-  number_is = refl;
-  before_fit = ([], (list, serial, line, h, refl));
-  next_unfit = λ b. let one = one_line line (next ∷ []) b.0 b.1 in absurd (cc (one.3));
-}
+pub nothing_begins : BeginInput []
+nothing_begins = (
+  codes "revoked - -" ∷ [],
+  (
+    is_revoked [] 0,
+    (
+      record {
+        list_word = codes "-";
+        serial_word = codes "-";
+        serial_octets = [];
+        list_is = refl;
+        octets_are = refl;
+        serial_is = refl;
+        small = lit< tt;
+        is = refl;
+      },
+      tt,
+    ),
+  ),
+)
 
-further : (text line others list serial : List ℕ) → IsWithout line_end line → text ≡ line ++ line_end ∷ others → (others ≡ [] → ⊥) → IsRevokedLine list serial line → (lines : List (List ℕ)) → AreLines lines others → IsBadText 2 text
-further text line others list serial without e some h [] are = absurd (some are)
-further text line others list serial without e some h (next ∷ more) are =
-    (line ∷ next ∷ more, (without, inr (others, e, are)), bad_two list serial line next more h)
+pub no_empty_input : AreInput [] → ⊥
+no_empty_input a = elim a.0 as (λ (q : Question). Ask q [] → ⊥) [ is_revoked list serial ↦ λ h. h | is_good_path q ↦ λ h. h ] a.1
 
-pub bad_second : (text line others list serial : List ℕ) → IsWithout line_end line → Parts text line others → (others ≡ [] → ⊥) → IsRevokedLine list serial line → IsBadText 2 text
-bad_second text line others list serial without (inl whole) some h = absurd (some whole.1)
-bad_second text line others list serial without (inr e) some h =
-    let rest = some_lines others in
-    further text line others list serial without e some h rest.0 rest.1
+pub whole_begins : (lines : List (List ℕ)) → AreInput lines → BeginInput lines
+whole_begins lines a = ([], subst (λ (l : List (List ℕ)). AreInput l) (sym (append-nil lines)) a)
 
--- a whole input
-pub whole_line : (text line others list serial : List ℕ) → IsWithout line_end line → Parts text line others → others ≡ [] → IsRevokedLine list serial line → AreLines (line ∷ []) text
-whole_line text line others list serial without (inl whole) none h = (without, inl (refl, (λ empty. let e = h.is in cc), whole.0))
-whole_line text line others list serial without (inr e) none h = (without, inr ([], rw (← none) e, refl))
+-- ---- the first line
+
+pub first_tells : (q : Question) (line : List ℕ) (more : List (List ℕ)) → Ask q (line ∷ more)
+    → ((list : List ℕ) × (serial : ℕ) × IsRevokedLine list serial line) ⊎ ((now : Moment) × IsMomentLine now line)
+first_tells (is_revoked list serial) line more h = inl (list, serial, h.0)
+first_tells (is_good_path q) line more h = inr (q.now, h.0)
+
+pub first_unfit : (line : List ℕ) → ((list : List ℕ) (serial : ℕ) → IsRevokedLine list serial line → ⊥) → ((now : Moment) → IsMomentLine now line → ⊥) → BeginInput (line ∷ []) → ⊥
+first_unfit line no_list no_moment b =
+    elim (first_tells b.1.0 line b.0 b.1.1) [ inl l ↦ no_list l.0 l.1 l.2 | inr m ↦ no_moment m.0 m.1 ]
+
+-- a list has one line
+list_alone : (list : List ℕ) (serial : ℕ) (q : Question) (line next : List ℕ) (more : List (List ℕ)) → IsRevokedLine list serial line → Ask q (line ∷ next ∷ more) → ⊥
+list_alone list serial (is_revoked list' serial') line next more is h = h.1
+list_alone list serial (is_good_path q) line next more is h = not_both q.now list serial line h.0 is
+
+module _ (list : List ℕ) (serial : ℕ) (line : List ℕ) (is : IsRevokedLine list serial line) where
+  pub list_begins : BeginInput (line ∷ [])
+  list_begins = whole_begins (line ∷ []) (is_revoked list serial, (is, tt))
+
+  pub second_of_list : (next : List ℕ) → BeginInput ((line ∷ []) ++ next ∷ []) → ⊥
+  second_of_list next b = list_alone list serial b.1.0 line next b.0 is b.1.1
+
+-- ---- the second line
+
+-- a question of a moment, before its other lines are known
+abbrev short_path : Moment → Bool → List ℕ → PathQuestion
+short_path now strict octets = record { now = now; strict = strict; anchor_octets = octets; authorities = []; leaf = None }
+
+second_tells : (q : Question) (m line : List ℕ) (more : List (List ℕ)) → Ask q (m ∷ line ∷ more) → (strict : Bool) × IsLine (strictness strict) line
+second_tells (is_revoked list serial) m line more h = absurd h.1
+second_tells (is_good_path q) m line more h = (q.strict, h.1.0)
+
+moment_not_alone : (now : Moment) (q : Question) (m : List ℕ) → IsMomentLine now m → Ask q (m ∷ []) → ⊥
+moment_not_alone now (is_revoked list serial) m is h = not_both now list serial m is h.0
+moment_not_alone now (is_good_path q) m is h = h.1
+
+abbrev Moments : Moment → List (List ℕ) → Type 0
+Moments now before = AllZip IsLine (at_moment now ∷ []) before
+
+module _ (now : Moment) where
+  moment_begins : (before : List (List ℕ)) → Moments now before → BeginInput before
+  moment_begins [] is = elim is [ ]
+  moment_begins (m ∷ []) is = (codes "strict" ∷ codes "ta -" ∷ [], (is_good_path (short_path now true []), (is.0, (refl, (no_octets (codes "ta "), tt)))))
+  moment_begins (m ∷ s ∷ more) is = elim is.1 [ ]
+
+  one_so_far : (before : List (List ℕ)) → Moments now before → 2 ≡ length before + 1
+  one_so_far [] is = elim is [ ]
+  one_so_far (m ∷ []) is = refl
+  one_so_far (m ∷ s ∷ more) is = elim is.1 [ ]
+
+  second_unfit : (before : List (List ℕ)) → Moments now before → (line : List ℕ) → ((strict : Bool) → IsLine (strictness strict) line → ⊥) → BeginInput (before ++ line ∷ []) → ⊥
+  second_unfit [] is line none b = elim is [ ]
+  second_unfit (m ∷ []) is line none b = let told = second_tells b.1.0 m line b.0 b.1.1 in none told.0 told.1
+  second_unfit (m ∷ s ∷ more) is line none b = elim is.1 [ ]
+
+  second_needed : (before : List (List ℕ)) → Moments now before → AreInput before → ⊥
+  second_needed [] is a = elim is [ ]
+  second_needed (m ∷ []) is a = moment_not_alone now a.0 m is.0 a.1
+  second_needed (m ∷ s ∷ more) is a = elim is.1 [ ]
+
+  module _ (before : List (List ℕ)) (is : Moments now before) (text : List ℕ) where
+    pub no_second : text ≡ [] → IsReadBehind before text (Bad 2)
+    no_second none = line_missing before (moment_begins before is) 2 (one_so_far before is) text none (second_needed before is)
+
+    pub bad_second : (line rest : List ℕ) → IsFirstLine line rest text → ((strict : Bool) → IsLine (strictness strict) line → ⊥) → IsReadBehind before text (Bad 2)
+    bad_second line rest first none = bad_line before (moment_begins before is) 2 (one_so_far before is) text line rest first (second_unfit before is line none)
+
+-- ---- the third line
+
+third_tells : (q : Question) (m s line : List ℕ) (more : List (List ℕ)) → Ask q (m ∷ s ∷ line ∷ more) → (octets : List ℕ) × IsLine (anchor octets) line
+third_tells (is_revoked list serial) m s line more h = absurd h.1
+third_tells (is_good_path q) m s line more h = (q.anchor_octets, h.1.1.0)
+
+two_are_few : (q : Question) (m s : List ℕ) → Ask q (m ∷ s ∷ []) → ⊥
+two_are_few (is_revoked list serial) m s h = h.1
+two_are_few (is_good_path q) m s h = h.1.1
+
+abbrev Pairs : Moment → Bool → List (List ℕ) → Type 0
+Pairs now strict before = AllZip IsLine (at_moment now ∷ strictness strict ∷ []) before
+
+module _ (now : Moment) (strict : Bool) where
+  pair_begins : (before : List (List ℕ)) → Pairs now strict before → BeginInput before
+  pair_begins [] is = elim is [ ]
+  pair_begins (m ∷ []) is = elim is.1 [ ]
+  pair_begins (m ∷ s ∷ []) is = (codes "ta -" ∷ [], (is_good_path (short_path now strict []), (is.0, (is.1.0, (no_octets (codes "ta "), tt)))))
+  pair_begins (m ∷ s ∷ t ∷ more) is = elim is.1.1 [ ]
+
+  two_so_far : (before : List (List ℕ)) → Pairs now strict before → 3 ≡ length before + 1
+  two_so_far [] is = elim is [ ]
+  two_so_far (m ∷ []) is = elim is.1 [ ]
+  two_so_far (m ∷ s ∷ []) is = refl
+  two_so_far (m ∷ s ∷ t ∷ more) is = elim is.1.1 [ ]
+
+  third_unfit : (before : List (List ℕ)) → Pairs now strict before → (line : List ℕ) → ((octets : List ℕ) → IsLine (anchor octets) line → ⊥) → BeginInput (before ++ line ∷ []) → ⊥
+  third_unfit [] is line none b = elim is [ ]
+  third_unfit (m ∷ []) is line none b = elim is.1 [ ]
+  third_unfit (m ∷ s ∷ []) is line none b = let told = third_tells b.1.0 m s line b.0 b.1.1 in none told.0 told.1
+  third_unfit (m ∷ s ∷ t ∷ more) is line none b = elim is.1.1 [ ]
+
+  third_needed : (before : List (List ℕ)) → Pairs now strict before → AreInput before → ⊥
+  third_needed [] is a = elim is [ ]
+  third_needed (m ∷ []) is a = elim is.1 [ ]
+  third_needed (m ∷ s ∷ []) is a = two_are_few a.0 m s a.1
+  third_needed (m ∷ s ∷ t ∷ more) is a = elim is.1.1 [ ]
+
+  module _ (before : List (List ℕ)) (is : Pairs now strict before) (text : List ℕ) where
+    pub no_third : text ≡ [] → IsReadBehind before text (Bad 3)
+    no_third none = line_missing before (pair_begins before is) 3 (two_so_far before is) text none (third_needed before is)
+
+    pub bad_third : (line rest : List ℕ) → IsFirstLine line rest text → ((octets : List ℕ) → IsLine (anchor octets) line → ⊥) → IsReadBehind before text (Bad 3)
+    bad_third line rest first none = bad_line before (pair_begins before is) 3 (two_so_far before is) text line rest first (third_unfit before is line none)
+
+-- ---- what holds of an answer
+
+pub if_ok : {X E : Type 0} {P Q : X → Type 0} (r : Result X E) → ((x : X) → P x → Q x) → IfOk r P → IfOk r Q
+if_ok (Ok x) f h = f x h
+if_ok (Err e) f h = h
 
 pub some_left : (xs : List ℕ) → false ≡ (length xs == 0) → xs ≡ [] → ⊥
 some_left xs e none = false≢true (e ∙ rw none refl)

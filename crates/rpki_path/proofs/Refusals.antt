@@ -14,6 +14,7 @@ use Rattle.rpki_cert.specs.Verification.{LineUnder, AnchorLine, anchor_lines, is
 use Rattle.rpki_cert.specs.declared.inspect.Kind.{Kind}
 use Rattle.rpki_cert.specs.declared.inspect.Kind.TheVariants.{Anchor}
 use Rattle.rpki_cert.specs.declared.verification_error.VerificationError.{VerificationError}
+use Rattle.rpki_der.proofs.Formats.{one_meant}
 use Rattle.rpki_path.specs.declared.path_fault.PathFault.{PathFault}
 use Rattle.rpki_path.specs.declared.path_fault.PathFault.TheVariants.{Decode, Inspect, Verify, Memory}
 use Rattle.rpki_path.specs.declared.path_fault.PathError.{PathError}
@@ -25,7 +26,7 @@ use Rattle.rpki_path.proofs.GoodPaths.{all_map, first_map, first_not_all, line_l
 
 module _ (law : IsUnambiguous IsCertificate) where
   one_certificate : (c d : CertFields) (octets : List ℕ) → Means IsCertificate c octets → Means IsCertificate d octets → c ≡ d
-  one_certificate c d octets m n = (law c d m.0 n.0 m.1.rest n.1.rest m.2 n.2 (sym m.1.is ∙ n.1.is)).0
+  one_certificate c d octets m n = one_meant IsCertificate law c d octets m n
 
   one_member : (m n : Member) (s : Asked) → IsMember m s → IsMember n s → m ≡ n
   one_member m n s p q =

@@ -1,37 +1,31 @@
 -- What a report says of what was asked.
-use Rattle.std.proofs.Common.{◌≡◌, ℕ, Bool, true, false, inl, inr, List, [], ◌∷◌, refl, sym, subst, arith}
-use Rattle.std.specs.Prelude.{IsTrue, ◌↔◌, Contains}
+use Rattle.std.proofs.Common.{◌≡◌, ℕ, Bool, true, false, inl, inr, List, [], ◌∷◌, Result, Ok, Err, refl, sym, subst, arith}
+use Rattle.std.specs.Prelude.{IsTrue, ◌↔◌, Contains, IfOk, OnOk, cond, codes, string_bytes}
 use Rattle.std.proofs.lemmas.Bool.{false≢true}
 use Rattle.rpki_der.specs.declared.error.DecodeError.{DecodeError}
 use Rattle.rpki_der.specs.declared.error.DecodeError.TheVariants.{Truncated, BadLength, BadTag, BadValue, Trailing, TooDeep, Missing, Duplicate, Critical, NotCritical, UnexpectedCritical, InvalidExtension, WrongResources, AlgorithmMismatch, Memory}
 use Rattle.rpki_der.specs.ErrorNames.{decode_error_name}
 use Rattle.rpki_der.specs.Place.{Refuses}
+use Rattle.rpki_parts.specs.Signatures.{IsStandInSignature}
+use Rattle.rpki_cert.specs.Verification.{ResourceFields}
+use Rattle.rpki_crl.specs.RevokedEntries.{IsRevoked, IsRevokedCertificates, Revoked}
 use Rattle.rpki_path.specs.declared.running.Status.{Status}
 use Rattle.rpki_path.specs.declared.running.Status.TheVariants as status
-use Rattle.rpki_path.specs.declared.report.Report.TheVariants as report
-use Rattle.rpki_path.specs.TextLines.{AreLines}
-use Rattle.rpki_crl.specs.RevokedEntries.{IsRevoked, IsRevokedCertificates, Revoked}
-use Rattle.rpki_path.specs.Program.{decode_faults, Says, SaysOfList}
-use Rattle.rpki_path.specs.Questions.{Asks}
-use Rattle.rpki_path.specs.Reports.{line_of}
-
-says_of : (text line list : List ℕ) (number : ℕ) (output : List ℕ) (s : Status) → AreLines (line ∷ []) text → (asks : Asks line list number) → SaysOfList list asks.0 output s → Says text output s
-says_of text line list number output s are asks says = (line ∷ [], are, inl (list, asks.0, line, asks.1, refl, says))
-
-pub says_found : (text line list : List ℕ) (number : ℕ) (r : Revoked) (found : Bool) → AreLines (line ∷ []) text → Asks line list number
-    → IsRevokedCertificates r list → IsTrue found ↔ IsRevoked number r.entries → Says text (line_of (report.Revoked found)) status.Done
-says_found text line list number r true are asks is same =
-    says_of text line list number (line_of (report.Revoked true)) status.Done are asks
-    (r, is, inl (subst (λ (n : ℕ). IsRevoked n r.entries) asks.2 (same.0 refl), refl))
-says_found text line list number r false are asks is same =
-    says_of text line list number (line_of (report.Revoked false)) status.Done are asks
-    (r, is, inr ((λ found. false≢true (same.1 (subst (λ (n : ℕ). IsRevoked n r.entries) (sym asks.2) found))), refl))
+use Rattle.rpki_path.specs.declared.report.Report.{Report}
+use Rattle.rpki_path.specs.declared.path_fault.PathError.{PathError}
+use Rattle.rpki_path.specs.declared.path_fault.PathFault.{PathFault}
+use Rattle.rpki_path.specs.declared.path_fault.PathFault.TheVariants as fault
+use Rattle.rpki_path.specs.Paths.{IsAccepted, IsFault, IsNoGoodPath}
+use Rattle.rpki_path.specs.Paths as paths
+use Rattle.rpki_path.specs.PrintedSets.{v4_end, v6_end, ranges, worded}
+use Rattle.rpki_path.specs.Program.{PathQuestion, asked_below, decode_faults, printed, IsToldBy, PrintsFault, SaysOfList, SaysOfPath}
+use Rattle.rpki_path.specs.Reports.{accepted_text, HasSortedSets}
 
 other_fault : {P : Type 0} (e : DecodeError) → (e ≡ Memory → ⊥) → Refuses e P → P
 other_fault Memory other h = absurd (other refl)
 other_fault _ other h = h
 
-fault_name : (e : DecodeError) → (e ≡ Memory → ⊥) → Contains decode_faults (decode_error_name e)
+pub fault_name : (e : DecodeError) → (e ≡ Memory → ⊥) → Contains decode_faults (decode_error_name e)
 fault_name Truncated other = (0, omega arith, refl)
 fault_name BadLength other = (1, omega arith, refl)
 fault_name BadTag other = (2, omega arith, refl)
@@ -48,8 +42,63 @@ fault_name (WrongResources field) other = (12, omega arith, refl)
 fault_name AlgorithmMismatch other = (13, omega arith, refl)
 fault_name Memory other = absurd (other refl)
 
-pub says_refused : (text line list : List ℕ) (number : ℕ) (e : DecodeError) → AreLines (line ∷ []) text → Asks line list number
-    → (e ≡ Memory → ⊥) → Refuses e ((r : Revoked) → IsRevokedCertificates r list → ⊥) → Says text (line_of (report.Refused e)) status.Refused
-says_refused text line list number e are asks other none =
-    says_of text line list number (line_of (report.Refused e)) status.Refused are asks
-    (other_fault e other none, decode_error_name e, fault_name e other, refl)
+-- ---- a report of this text and status
+
+pub says_with : (P : List ℕ → Status → Type 0) (report : Report) (s : Status) (t : List ℕ) → report.status ≡ s → string_bytes report.text ≡ t → P t s → P (string_bytes report.text) report.status
+says_with P report s t e f h = subst (λ (x : Status). P (string_bytes report.text) x) (sym e) (subst (λ (y : List ℕ). P y s) (sym f) h)
+
+pub answered : {E : Type 0} (P : List ℕ → Status → Type 0) (r : Result Report E) (s : Status) (t : List ℕ) → IfOk r (λ report. report.status ≡ s) → IfOk r (λ report. string_bytes report.text ≡ t) → P t s → IfOk r (λ report. P (string_bytes report.text) report.status)
+answered P (Ok report) s t e f h = says_with P report s t e f h
+answered P (Err x) s t e f h = tt
+
+-- ---- lists
+
+pub found_says : (list : List ℕ) (serial : ℕ) (r : Revoked) (found : Bool) → IsRevokedCertificates r list → IsTrue found ↔ IsRevoked serial r.entries
+    → SaysOfList list serial (printed (cond found (codes "yes") (codes "no") ∷ [])) status.Done
+found_says list serial r true is same = (r, is, inl (same.0 refl, refl))
+found_says list serial r false is same = (r, is, inr ((λ found. false≢true (same.1 found)), refl))
+
+abbrev NamesFault : List ℕ → Type 0
+NamesFault text = (name : List ℕ) × Contains decode_faults name × (text ≡ printed (codes "refused decode " ∷ name ∷ []))
+
+pub refused_says : {E : Type 0} (list : List ℕ) (serial : ℕ) (e : DecodeError) (r : Result Report E) → Refuses e ((r : Revoked) → IsRevokedCertificates r list → ⊥) → OnOk r (e ≡ Memory → ⊥)
+    → IfOk r (λ report. report.status ≡ status.Refused) → IfOk r (λ report. NamesFault (string_bytes report.text)) → IfOk r (λ report. SaysOfList list serial (string_bytes report.text) report.status)
+refused_says list serial e (Ok report) none other s named =
+    subst (λ (x : Status). SaysOfList list serial (string_bytes report.text) x) (sym s) (other_fault e other none, named.0, named.1, named.2)
+refused_says list serial e (Err x) none other s named = tt
+
+-- ---- paths
+
+accepted_says : (q : PathQuestion) (tal : List ℕ) (r : ResourceFields) → IsAccepted IsStandInSignature q.now q.strict q.anchor_octets (asked_below q) tal r → HasSortedSets r → SaysOfPath q (accepted_text r) status.Done
+accepted_says q tal r a sorted = (
+  a.path,
+  a.path_of,
+  a.good,
+  record {
+    v4_line = worded (codes "v4") (ranges v4_end r.v4);
+    v6_line = worded (codes "v6") (ranges v6_end r.v6);
+    as_line = worded (codes "as") (ranges Rattle.std.specs.Prelude.decimal r.as_numbers);
+    v4_is = record { blocks = r.v4; sorted = sorted.v4_sorted; numbers = a.held.v4_is; is = refl };
+    v6_is = record { blocks = r.v6; sorted = sorted.v6_sorted; numbers = a.held.v6_is; is = refl };
+    as_is = record { blocks = r.as_numbers; sorted = sorted.as_sorted; numbers = a.held.as_is; is = refl };
+    is = refl;
+  },
+)
+
+pub path_accepted : {E : Type 0} (q : PathQuestion) (tal : List ℕ) (cert : ResourceFields) (r : Result Report E) → IsAccepted IsStandInSignature q.now q.strict q.anchor_octets (asked_below q) tal cert
+    → IfOk r (λ report. report.status ≡ status.Done) → IfOk r (λ report. string_bytes report.text ≡ accepted_text cert) → OnOk r (HasSortedSets cert) → IfOk r (λ report. SaysOfPath q (string_bytes report.text) report.status)
+path_accepted q tal cert (Ok report) a s t sorted = says_with (SaysOfPath q) report status.Done (accepted_text cert) s t (accepted_says q tal cert a sorted)
+path_accepted q tal cert (Err x) a s t sorted = tt
+
+-- what is told of a fault is not want of memory
+not_memory : {P : Type 0} (f : PathFault) (stage name : List ℕ) → IsToldBy f stage name → paths.Refuses f P → P
+not_memory (fault.Decode e) stage name t h = h
+not_memory (fault.Inspect e) stage name t h = h
+not_memory (fault.Verify e) stage name t h = h
+not_memory fault.Memory stage name t h = absurd t
+
+pub path_wrong : {E : Type 0} (q : PathQuestion) (e : PathError) (r : Result Report E) → paths.Refuses e.fault (IsNoGoodPath IsStandInSignature q.now q.strict q.anchor_octets (asked_below q)) → IsFault IsStandInSignature q.now q.strict q.anchor_octets (asked_below q) e
+    → IfOk r (λ report. report.status ≡ status.Refused) → IfOk r (λ report. PrintsFault e (string_bytes report.text)) → IfOk r (λ report. SaysOfPath q (string_bytes report.text) report.status)
+path_wrong q e (Ok report) none is s prints =
+    subst (λ (x : Status). SaysOfPath q (string_bytes report.text) x) (sym s) (not_memory e.fault prints.stage prints.name prints.told none, e, is, prints)
+path_wrong q e (Err x) none is s prints = tt

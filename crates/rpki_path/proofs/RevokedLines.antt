@@ -3,7 +3,7 @@ use Rattle.std.proofs.Common.{◌≡◌, ℕ, inl, inr, List, [], ◌∷◌, ◌
 use Rattle.std.proofs.lemmas.List.{append-nil}
 use Rattle.rpki_path.specs.HexWords.{IsHexDigit, AreHexDigits, IsHexWord}
 use Rattle.rpki_path.specs.TextLines.{IsWithout}
-use Rattle.rpki_path.specs.Program.{revoked_line, IsRevokedLine}
+use Rattle.rpki_path.specs.InputLines.{revoked_line, IsRevokedLine}
 use Rattle.rpki_path.proofs.HexDigits.{digits_read}
 use Rattle.rpki_path.proofs.Splits.{one_split}
 
@@ -36,20 +36,20 @@ one_value (o ∷ a) (r ∷ b) word p q =
     let second = digits_read word (r ∷ b) q in
     cc
 
-pub record SameWords (list serial lw sw : List ℕ) : Type 0 where
+pub record SameWords (list octets lw sw : List ℕ) : Type 0 where
   pub list_is : IsHexWord list lw
-  pub serial_is : IsHexWord serial sw
+  pub octets_are : IsHexWord octets sw
 
 -- the words of a line, where it is cut at its spaces
-pub same_words : (line lw sw list serial : List ℕ) → line ≡ revoked_line lw sw → IsWithout 32 lw → (h : IsRevokedLine list serial line) → SameWords list serial lw sw
+pub same_words : (line lw sw list : List ℕ) (serial : ℕ) → line ≡ revoked_line lw sw → IsWithout 32 lw → (h : IsRevokedLine list serial line) → SameWords list h.serial_octets lw sw
 same_words line lw sw list serial e without h =
     let tails : h.list_word ++ 32 ∷ (h.serial_word ++ []) ≡ lw ++ 32 ∷ (sw ++ []) = ap (λ (l : List ℕ). drop 8 l) (sym h.is ∙ e) in
     let parts = one_split 32 h.list_word lw (h.serial_word ++ []) (sw ++ []) (word_no_space list h.list_word h.list_is) without tails in
     let second : h.serial_word ≡ sw = sym (append-nil h.serial_word) ∙ (parts.1 ∙ append-nil sw) in
     record {
       list_is = subst (λ (w : List ℕ). IsHexWord list w) parts.0 h.list_is;
-      serial_is = subst (λ (w : List ℕ). IsHexWord serial w) second h.serial_is;
+      octets_are = subst (λ (w : List ℕ). IsHexWord h.serial_octets w) second h.octets_are;
     }
 
-pub no_words : (line : List ℕ) → ((lw sw : List ℕ) → IsWithout 32 lw → line ≡ revoked_line lw sw → ⊥) → (list serial : List ℕ) → IsRevokedLine list serial line → ⊥
+pub no_words : (line : List ℕ) → ((lw sw : List ℕ) → IsWithout 32 lw → line ≡ revoked_line lw sw → ⊥) → (list : List ℕ) (serial : ℕ) → IsRevokedLine list serial line → ⊥
 no_words line none list serial h = none h.list_word h.serial_word (word_no_space list h.list_word h.list_is) h.is

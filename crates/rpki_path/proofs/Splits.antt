@@ -1,15 +1,17 @@
 -- Where a separator stands first.
-use Rattle.std.proofs.Common.{◌≡◌, ◌==◌, ℕ, zero, suc, ◌+◌, ◌-◌, ◌<◌, ◌≤◌, Bool, true, false, not, List, [], ◌∷◌, ◌++◌, length, get_or, take, drop, Option, Some, None, refl, sym, ap, ◌∙◌, arith, add-one, drop-cons, take-append-drop}
-use Rattle.std.specs.Prelude.{nat_lt, nat_eq, cond, IfNone, codes, ◌≢◌}
+use Rattle.std.proofs.Common.{◌≡◌, ◌==◌, ℕ, zero, suc, ◌+◌, ◌-◌, ◌<◌, ◌≤◌, Bool, true, false, not, List, [], ◌∷◌, ◌++◌, length, get_or, take, drop, Option, Some, None, refl, sym, ap, subst, ◌∙◌, arith, add-one, drop-cons, take-append-drop}
+use Rattle.std.specs.Prelude.{nat_lt, nat_eq, cond, bytes_eq, MatchOption, IfSome, IfNone, codes, ◌≢◌}
 use Rattle.std.specs.Cmp.Lexicographic.{pointwise}
 use Rattle.std.specs.List.{position, position_or_len}
 use Rattle.std.proofs.lemmas.Bool.{eq-eqb, eqb-true, ltb-false, false≢true}
-use Rattle.std.proofs.lemmas.List.{take_rest}
+use Rattle.std.proofs.lemmas.List.{take_rest, append_cancel_left}
+use Rattle.std.proofs.lemmas.Slice.Eq.{bytes_eq-Decides}
 use Rattle.std.proofs.Math.Seq.{take-length}
 use Rattle.std.proofs.lemmas.List.Quantifiers.{position-Some}
 use Rattle.std.proofs.lemmas.List.Sums.{prefix_len_passes}
 use Rattle.rpki_path.specs.TextLines.{IsWithout}
-use Rattle.rpki_path.specs.Program.{revoked_line}
+use Rattle.rpki_path.specs.InputLines.{revoked_line, IsOctetsLine}
+use Rattle.rpki_path.specs.HexWords.{IsHexWord}
 
 abbrev pub is : ℕ → ℕ → Bool
 is octet = λ other. other == octet
@@ -81,3 +83,33 @@ words_of line form words list serial without is e =
 
 pub other_form : (form : List ℕ) → true ≡ not (pointwise nat_eq form (codes "revoked")) → form ≡ codes "revoked" → ⊥
 other_form form differs same = false≢true (sym (differs ∙ rw same refl))
+
+-- ---- what stands behind a beginning
+
+module _ {X : Type 0} (now : X → List ℕ) (beginning line : List ℕ) where
+  abbrev Strips : Option X → Type 0
+  Strips o =
+      MatchOption o (bytes_eq (take (length beginning) line) beginning ≡ false)
+      (λ x. (bytes_eq (take (length beginning) line) beginning ≡ true) × (now x ≡ drop (length beginning) line) × (length (now x) + length beginning ≡ length line))
+
+  pub stripped : (o : Option X) → Strips o → IfSome o (λ x. line ≡ beginning ++ now x)
+  stripped None h = tt
+  stripped (Some x) h =
+      let front : take (length beginning) line ≡ beginning = (bytes_eq-Decides (take (length beginning) line) beginning).0 h.0 in
+      sym (take-append-drop (length beginning) line) ∙ ap (λ (l : List ℕ). l ++ drop (length beginning) line) front ∙ ap (λ (l : List ℕ). beginning ++ l) (sym h.1)
+
+  front_of : (a b : List ℕ) → take (length a) (a ++ b) ≡ a
+  front_of [] b = refl
+  front_of (x ∷ a) b = ap (λ (l : List ℕ). x ∷ l) (front_of a b)
+
+  pub not_stripped : (o : Option X) → Strips o → IfNone o ((rest : List ℕ) → line ≡ beginning ++ rest → ⊥)
+  not_stripped (Some x) h = tt
+  not_stripped None h = λ rest e.
+      let front : take (length beginning) line ≡ beginning = ap (λ (l : List ℕ). take (length beginning) l) e ∙ front_of beginning rest in
+      false≢true (sym h ∙ (bytes_eq-Decides (take (length beginning) line) beginning).1 front)
+
+-- a word is all that stands behind a name
+pub no_word : (name word line : List ℕ) → line ≡ name ++ word → ((octets : List ℕ) → IsHexWord octets word → ⊥) → (octets : List ℕ) → IsOctetsLine name octets line → ⊥
+no_word name word line e none octets h =
+    let same : h.word ≡ word = append_cancel_left name h.word word (sym h.is ∙ e) in
+    none octets (subst (λ (w : List ℕ). IsHexWord octets w) same h.word_is)

@@ -1,6 +1,8 @@
 pub mod Watching
 pub mod HexWords
 pub mod TextLines
+pub mod InputLines
+pub mod PrintedSets
 pub mod Program
 pub mod Questions
 pub mod Reports

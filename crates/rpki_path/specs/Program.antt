@@ -1,31 +1,56 @@
 -- What the program says to its input (own).
-use Rattle.std.specs.Prelude.{◌≡◌, ℕ, ◌+◌, ◌^◌, ◌<◌, ◌≤◌, ◌⊎◌, Option, List, [], ◌∷◌, ◌++◌, length, Contains, codes, decimal}
-use Rattle.std.specs.List.{concat}
-use Rattle.std.specs.Int.Digits.{number_from_digits}
+use Rattle.std.specs.Prelude.{◌≡◌, ℕ, ◌+◌, ◌^◌, ◌≤◌, ◌⊎◌, Bool, Option, Some, None, List, [], ◌∷◌, ◌++◌, length, map, Contains, codes, decimal}
+use Rattle.std.specs.List.{concat, AllZip}
 use Rattle.std.specs.Io.KnownBytes.{Appends, Consumes, IsAtEnd}
+use Rattle.rpki_der.specs.Times.{Moment}
+use Rattle.rpki_parts.specs.Signatures.{IsStandInSignature}
+use Rattle.rpki_ext.specs.Inspection.{inspection_error_name}
+use Rattle.rpki_cert.specs.Verification.{verification_error_name}
+use Rattle.rpki_crl.specs.RevokedEntries.{Revoked, IsRevoked, IsRevokedCertificates}
+use Rattle.rpki_path.specs.declared.path_fault.PathError.{PathError}
+use Rattle.rpki_path.specs.declared.path_fault.PathFault.{PathFault}
+use Rattle.rpki_path.specs.declared.path_fault.PathFault.TheVariants.{Decode, Inspect, Verify, Memory}
 use Rattle.rpki_path.specs.declared.running.Status.{Status}
 use Rattle.rpki_path.specs.declared.running.Status.TheVariants.{Done, Refused, BadInput}
-use Rattle.rpki_path.specs.HexWords.{IsHexWord}
+use Rattle.rpki_path.specs.declared.validating.Leaf.{Leaf}
+use Rattle.rpki_path.specs.InputLines.{Line, seeks, at_moment, strictness, anchor, authority, last, IsLine}
+use Rattle.rpki_path.specs.Paths.{Path, Holds, v4_addresses, v6_addresses, system_numbers, asked, Asked, IsPathOf, IsGoodPath, IsNoGoodPath, IsFault}
+use Rattle.rpki_path.specs.Paths as paths
+use Rattle.rpki_path.specs.PrintedSets.{v4_end, v6_end, IsSetLine}
 use Rattle.rpki_path.specs.TextLines.{line_end, AreLines}
-use Rattle.rpki_crl.specs.RevokedEntries.{Revoked, IsRevoked, IsRevokedCertificates}
 
 -- ---- the input
 
-abbrev pub revoked_line : List ℕ → List ℕ → List ℕ
-revoked_line list serial = concat (codes "revoked " ∷ list ∷ codes " " ∷ serial ∷ [])
+-- whether the strings of an anchor, of authorities below it and of a leaf are a good path
+pub record PathQuestion : Type 0 where
+  pub now : Moment
+  pub strict : Bool
+  pub anchor_octets : List ℕ
+  pub authorities : List (List ℕ)
+  pub leaf : Option Leaf
 
--- the line `revoked LIST SERIAL`; the serial is a number of at most 20 octets (RFC 5280 4.1.2.2)
-pub record IsRevokedLine (list serial line : List ℕ) : Type 0 where
-  pub list_word : List ℕ
-  pub serial_word : List ℕ
-  pub list_is : IsHexWord list list_word
-  pub serial_is : IsHexWord serial serial_word
-  pub small : number_from_digits 256 serial < 2 ^ 160
-  pub is : line ≡ revoked_line list_word serial_word
+-- the two forms: whether a list of revoked certificates has a serial number, and whether strings are a good path
+pub data Question : Type 0 where
+  is_revoked : List ℕ → ℕ → Question
+  is_good_path : PathQuestion → Question
+
+abbrev pub leaf_lines : Option Leaf → List Line
+leaf_lines None = []
+leaf_lines (Some leaf) = last leaf ∷ []
+
+-- what the lines of an input tell
+abbrev pub lines_of : Question → List Line
+lines_of (is_revoked list serial) = seeks list serial ∷ []
+lines_of (is_good_path q) =
+    at_moment q.now ∷ strictness q.strict ∷ anchor q.anchor_octets ∷ map authority q.authorities ++ leaf_lines q.leaf
+
+-- the lines ask this
+abbrev pub Ask : Question → List (List ℕ) → Type 0
+Ask q lines = AllZip IsLine (lines_of q) lines
 
 -- the lines of an input that fits
 abbrev pub AreInput : List (List ℕ) → Type 0
-AreInput lines = (list : List ℕ) × (serial : List ℕ) × (line : List ℕ) × IsRevokedLine list serial line × (lines ≡ line ∷ [])
+AreInput lines = (q : Question) × Ask q lines
 
 -- the first lines of such an input
 abbrev pub BeginInput : List (List ℕ) → Type 0
@@ -58,15 +83,61 @@ abbrev pub printed : List (List ℕ) → List ℕ
 printed texts = concat texts ++ line_end ∷ []
 
 -- whether the list has an entry with the serial, or that the octets are no list, by a fault's name
-abbrev pub SaysOfList : List ℕ → List ℕ → List ℕ → Status → Type 0
+abbrev pub SaysOfList : List ℕ → ℕ → List ℕ → Status → Type 0
 SaysOfList list serial output Done =
     (r : Revoked) × IsRevokedCertificates r list
-    × ((IsRevoked (number_from_digits 256 serial) r.entries × (output ≡ printed (codes "yes" ∷ [])))
-    ⊎ ((IsRevoked (number_from_digits 256 serial) r.entries → ⊥) × (output ≡ printed (codes "no" ∷ []))))
+    × ((IsRevoked serial r.entries × (output ≡ printed (codes "yes" ∷ [])))
+    ⊎ ((IsRevoked serial r.entries → ⊥) × (output ≡ printed (codes "no" ∷ []))))
 SaysOfList list serial output Refused =
     ((r : Revoked) → IsRevokedCertificates r list → ⊥)
     × (name : List ℕ) × Contains decode_faults name × (output ≡ printed (codes "refused decode " ∷ name ∷ []))
 SaysOfList list serial output BadInput = ⊥
+
+-- what signatures are taken for, which is printed first
+abbrev pub stand_in : List ℕ
+stand_in = printed (codes "stand-in signatures" ∷ [])
+
+-- the numbers that the last member holds, a line for each kind
+pub record PrintsHeld (p : Path) (output : List ℕ) : Type 0 where
+  pub v4_line : List ℕ
+  pub v6_line : List ℕ
+  pub as_line : List ℕ
+  pub v4_is : IsSetLine (codes "v4") v4_end (Holds p (paths.last p) v4_addresses) v4_line
+  pub v6_is : IsSetLine (codes "v6") v6_end (Holds p (paths.last p) v6_addresses) v6_line
+  pub as_is : IsSetLine (codes "as") decimal (Holds p (paths.last p) system_numbers) as_line
+  pub is : output ≡ stand_in ++ concat (printed (codes "accepted" ∷ []) ∷ printed (v4_line ∷ []) ∷ printed (v6_line ∷ []) ∷ printed (as_line ∷ []) ∷ [])
+
+-- where a fault was met, and its name; which of its faults a reader names is free
+abbrev pub IsToldBy : PathFault → List ℕ → List ℕ → Type 0
+IsToldBy (Decode e) stage name = (stage ≡ codes "decode") × Contains decode_faults name
+IsToldBy (Inspect e) stage name = (stage ≡ codes "inspect") × (name ≡ inspection_error_name e)
+IsToldBy (Verify e) stage name = (stage ≡ codes "verify") × (name ≡ verification_error_name e)
+IsToldBy Memory stage name = ⊥
+
+-- at which place a path is wrong, the anchor at 0, and how
+pub record PrintsFault (e : PathError) (output : List ℕ) : Type 0 where
+  pub stage : List ℕ
+  pub name : List ℕ
+  pub told : IsToldBy e.fault stage name
+  pub is : output ≡ stand_in ++ printed (codes "refused " ∷ decimal e.index ∷ codes " " ∷ stage ∷ codes " " ∷ name ∷ [])
+
+-- the strings of a question that stand below the anchor
+abbrev pub asked_below : PathQuestion → List Asked
+asked_below q = asked q.authorities q.leaf
+
+-- that the strings are a good path, and what its last member holds; or that they are none, and the first fault
+abbrev pub SaysOfPath : PathQuestion → List ℕ → Status → Type 0
+SaysOfPath q output Done =
+    (p : Path) × IsPathOf q.anchor_octets (asked_below q) p × IsGoodPath IsStandInSignature q.now q.strict p × PrintsHeld p output
+SaysOfPath q output Refused =
+    IsNoGoodPath IsStandInSignature q.now q.strict q.anchor_octets (asked_below q)
+    × (e : PathError) × IsFault IsStandInSignature q.now q.strict q.anchor_octets (asked_below q) e × PrintsFault e output
+SaysOfPath q output BadInput = ⊥
+
+-- the answer to a question
+abbrev pub SaysOf : Question → List ℕ → Status → Type 0
+SaysOf (is_revoked list serial) output status = SaysOfList list serial output status
+SaysOf (is_good_path q) output status = SaysOfPath q output status
 
 -- that the input doesn't fit, and where
 abbrev pub SaysBadInput : List (List ℕ) → List ℕ → Status → Type 0
@@ -77,9 +148,7 @@ SaysBadInput lines output status =
 abbrev pub Says : List ℕ → List ℕ → Status → Type 0
 Says input output status =
     (lines : List (List ℕ)) × AreLines lines input
-    × (((list : List ℕ) × (serial : List ℕ) × (line : List ℕ)
-    × IsRevokedLine list serial line × (lines ≡ line ∷ []) × SaysOfList list serial output status)
-    ⊎ SaysBadInput lines output status)
+    × (((q : Question) × Ask q lines × SaysOf q output status) ⊎ SaysBadInput lines output status)
 
 -- ---- a run
 

@@ -1,17 +1,59 @@
--- What the program's input asks.
-use Rattle.std.specs.Prelude.{◌≡◌, ℕ, List, [], ◌∷◌}
-use Rattle.std.specs.Int.Digits.{number_from_digits}
-use Rattle.rpki_path.specs.declared.lines.Input.{Input}
-use Rattle.rpki_path.specs.declared.lines.Input.TheVariants.{Asked, Bad}
-use Rattle.rpki_path.specs.TextLines.{AreLines}
-use Rattle.rpki_path.specs.Program.{IsRevokedLine, IsBadLine}
+-- What the program's input is read as, whole and in parts.
+use Rattle.std.specs.Prelude.{◌≡◌, ◌≢◌, ◌⊎◌, ◌&&◌, ◌+◌, ◌*◌, ℕ, List, [], ◌∷◌, ◌++◌, Option, Some, None, if◌then◌else◌, bytes_eq}
+use Rattle.rpki_der.specs.Times.{Moment, moment}
+use Rattle.rpki_der.specs.Times.Reading.{two_at, is_moment}
+use Rattle.rpki_der.specs.Values.Reading.{◌>>=◌}
+use Rattle.rpki_path.specs.declared.lines.RevokedQuestion.{RevokedQuestion}
+use Rattle.rpki_path.specs.declared.path_lines.PathQuestion.{PathQuestion}
+use Rattle.rpki_path.specs.declared.path_lines.Member.{Member}
+use Rattle.rpki_path.specs.declared.path_lines.Member.TheVariants.{Authority, Last}
+use Rattle.rpki_path.specs.declared.input.Input.{Input}
+use Rattle.rpki_path.specs.declared.input.Input.TheVariants.{Revoked, Path, Bad}
+use Rattle.rpki_path.specs.InputLines.{Line, authority, last}
+use Rattle.rpki_path.specs.TextLines.{line_end, IsWithout, AreLines}
+use Rattle.rpki_path.specs.Program.{Question, is_revoked, is_good_path, Ask, IsBadLine}
+use Rattle.rpki_path.specs.Program as program
 
--- the line asks for the serial number in this list
-abbrev pub Asks : List ℕ → List ℕ → ℕ → Type 0
-Asks line list number = (serial : List ℕ) × IsRevokedLine list serial line × (number ≡ number_from_digits 256 serial)
+-- the first line of a text, and what follows its end
+abbrev pub IsFirstLine : List ℕ → List ℕ → List ℕ → Type 0
+IsFirstLine line rest text =
+    IsWithout line_end line
+    × (((rest ≡ []) × (line ≢ []) × (text ≡ line)) ⊎ (text ≡ line ++ line_end ∷ rest))
 
--- what the text is read as
+-- the moment that a text of fourteen digits is
+unfoldable pub moment_at : List ℕ → Option Moment
+moment_at text = do
+  century ← two_at text
+  year ← two_at century.1
+  month ← two_at year.1
+  day ← two_at month.1
+  hour ← two_at day.1
+  minute ← two_at hour.1
+  second ← two_at minute.1
+  if bytes_eq second.1 [] && is_moment (moment (century.0 * 100 + year.0) month.0 day.0 hour.0 minute.0 second.0)
+      then Some (moment (century.0 * 100 + year.0) month.0 day.0 hour.0 minute.0 second.0) else None
+
+-- what the line of a member below the anchor tells
+abbrev pub member_line : Member → Line
+member_line (Authority octets) = authority octets
+member_line (Last leaf) = last leaf
+
+abbrev pub revoked_question : RevokedQuestion → Question
+revoked_question q = is_revoked q.list q.serial
+
+abbrev pub path_question : PathQuestion → program.PathQuestion
+path_question q = record { now = q.now; strict = q.strict; anchor_octets = q.anchor; authorities = q.cas.items; leaf = q.leaf }
+
+-- what lines are read as
+abbrev pub AreReadAs : Input → List (List ℕ) → Type 0
+AreReadAs (Revoked q) lines = Ask (revoked_question q) lines
+AreReadAs (Path q) lines = Ask (is_good_path (path_question q)) lines
+AreReadAs (Bad number) lines = IsBadLine number lines
+
+-- what a text is read as, where these lines stand before its own
+abbrev pub IsReadBehind : List (List ℕ) → List ℕ → Input → Type 0
+IsReadBehind before text input = (lines : List (List ℕ)) × AreLines lines text × AreReadAs input (before ++ lines)
+
+-- what a whole text is read as
 abbrev pub IsInput : Input → List ℕ → Type 0
-IsInput (Asked question) text =
-    (line : List ℕ) × AreLines (line ∷ []) text × Asks line question.list question.serial
-IsInput (Bad number) text = (lines : List (List ℕ)) × AreLines lines text × IsBadLine number lines
+IsInput input text = IsReadBehind [] text input

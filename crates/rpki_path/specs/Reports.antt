@@ -1,19 +1,18 @@
--- What is printed of an answer, and the status.
-use Rattle.std.specs.Prelude.{List, ℕ, [], ◌∷◌, true, false, codes, decimal}
-use Rattle.rpki_der.specs.ErrorNames.{decode_error_name}
-use Rattle.rpki_path.specs.declared.running.Status.{Status}
-use Rattle.rpki_path.specs.declared.running.Status.TheVariants as status
-use Rattle.rpki_path.specs.declared.report.Report.{Report}
-use Rattle.rpki_path.specs.declared.report.Report.TheVariants.{Revoked, Refused, Bad}
-use Rattle.rpki_path.specs.Program.{printed}
+-- What is printed of a path that was accepted.
+use Rattle.std.specs.Prelude.{ℕ, List, [], ◌∷◌, ◌++◌, codes, decimal}
+use Rattle.std.specs.List.{concat}
+use Rattle.rpki_blocks.specs.Sets.{IsChain}
+use Rattle.rpki_cert.specs.Verification.{ResourceFields}
+use Rattle.rpki_path.specs.PrintedSets.{v4_end, v6_end, ranges, worded}
+use Rattle.rpki_path.specs.Program.{printed, stand_in}
 
-abbrev pub status_of : Report → Status
-status_of (Revoked found) = status.Done
-status_of (Refused error) = status.Refused
-status_of (Bad number) = status.BadInput
+abbrev pub accepted_text : ResourceFields → List ℕ
+accepted_text r =
+    stand_in ++ concat (printed (codes "accepted" ∷ []) ∷ printed (worded (codes "v4") (ranges v4_end r.v4) ∷ [])
+    ∷ printed (worded (codes "v6") (ranges v6_end r.v6) ∷ []) ∷ printed (worded (codes "as") (ranges decimal r.as_numbers) ∷ []) ∷ [])
 
-abbrev pub line_of : Report → List ℕ
-line_of (Revoked true) = printed (codes "yes" ∷ [])
-line_of (Revoked false) = printed (codes "no" ∷ [])
-line_of (Refused error) = printed (codes "refused decode " ∷ decode_error_name error ∷ [])
-line_of (Bad number) = printed (codes "bad input " ∷ decimal number ∷ [])
+-- each set is in its one form
+pub record HasSortedSets (r : ResourceFields) : Type 0 where
+  pub v4_sorted : IsChain r.v4
+  pub v6_sorted : IsChain r.v6
+  pub as_sorted : IsChain r.as_numbers

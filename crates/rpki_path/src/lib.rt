@@ -2,13 +2,14 @@
 #![tactic(auto)]
 
 mod exiting;
+mod input;
 pub mod laws;
 mod lines;
 mod path_fault;
+mod path_lines;
+mod printing;
 mod report;
 mod running;
-#[cfg(test)]
-mod tests;
 mod validating;
 mod watched;
 

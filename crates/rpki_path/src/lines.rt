@@ -1,10 +1,10 @@
-//! The lines of the program's input.
-ghost use Rattle.std.specs.Prelude.{◌≡◌, ◌==◌, ℕ, List, [], ◌∷◌, ◌++◌, ◌⊎◌, IfOk, IfSome, IfNone};
+//! Lines of the program's input, and their words.
+ghost use Rattle.std.specs.Prelude.{◌≡◌, ◌==◌, ◌<◌, ℕ, List, [], ◌∷◌, ◌++◌, length, IfOk, IfSome, IfNone};
 ghost use Rattle.std.specs.List.{position};
 ghost use Rattle.rpki_path.specs.HexWords.{AreHexDigits, IsHexWord};
-ghost use Rattle.rpki_path.specs.TextLines.{IsWithout, line_end, space};
-ghost use Rattle.rpki_path.specs.Program.{revoked_line, IsRevokedLine};
-ghost use Rattle.rpki_path.specs.Questions.{Asks, IsInput};
+ghost use Rattle.rpki_path.specs.TextLines.{IsWithout, space};
+ghost use Rattle.rpki_path.specs.InputLines.{revoked_line, IsRevokedLine, IsOctetsLine};
+ghost use Rattle.rpki_path.specs.Questions.{IsFirstLine};
 
 use bytes::Bytes;
 use hex::FromHexError;
@@ -32,16 +32,27 @@ fn split_once(separator: u8, text: &[u8]) -> Option<(&[u8], &[u8])>
     Some((&text[..at], &text[at + 1..]))
 }
 
-// The first line, and what follows its end.
-fn split_line(text: &[u8]) -> (&[u8], &[u8])
-    ensures line { IsWithout line_end result.0.now }
-    ensures parts { ((text.now ≡ result.0.now) × (result.1.now ≡ []))
-        ⊎ (text.now ≡ result.0.now ++ line_end ∷ result.1.now) }
+/// The first line of a text, and what follows its end.
+pub(crate) fn split_line(text: &[u8]) -> Option<(&[u8], &[u8])>
+    ensures line { IfSome result (λ parts. IsFirstLine parts.0.now parts.1.now text.now) }
+    ensures shorter { IfSome result (λ parts. length parts.1.now < length text.now) }
+    ensures none { IfNone result (text.now ≡ []) }
 {
-    match split_once(b'\n', text) {
-        Some(parts) => parts,
-        None => (text, &[]),
+    if text.is_empty() {
+        return None;
     }
+    match split_once(b'\n', text) {
+        Some(parts) => Some(parts),
+        None => Some((text, &[])),
+    }
+}
+
+/// What stands behind this beginning of a line.
+pub(crate) fn behind<'a>(beginning: &[u8], line: &'a [u8]) -> Option<&'a [u8]>
+    ensures some { IfSome result (λ rest. line.now ≡ beginning.now ++ rest.now) }
+    ensures none { IfNone result ((rest : List ℕ) → line.now ≡ beginning.now ++ rest → ⊥) }
+{
+    line.strip_prefix(beginning)
 }
 
 // The words LIST and SERIAL of a line `revoked LIST SERIAL`.
@@ -90,19 +101,42 @@ fn from_word(alloc: Global, word: &[u8]) -> Result<Option<Vec<u8>>, AllocError>
     from_digits(alloc, word)
 }
 
+/// The octets of a line that has this name, with its space, and then a word.
+pub(crate) fn octets_behind(
+    alloc: Global,
+    name: &[u8],
+    line: &[u8],
+) -> Result<Option<Bytes>, AllocError>
+    ensures spelled { IfOk result (λ found.
+        IfSome found (λ octets. IsOctetsLine name.now octets line.now)) }
+    ensures none { IfOk result (λ found.
+        IfNone found ((octets : List ℕ) → IsOctetsLine name.now octets line.now → ⊥)) }
+{
+    let Some(word) = behind(name, line) else {
+        return Ok(None);
+    };
+    let Some(octets) = from_word(alloc, word)? else {
+        return Ok(None);
+    };
+    Ok(Some(Bytes::from_vec(octets)?))
+}
+
 /// A list of revoked certificates, and the serial number that is sought there.
 #[derive(Drop)]
-pub(crate) struct Question {
+pub(crate) struct RevokedQuestion {
     pub(crate) list: Bytes,
     pub(crate) serial: Serial,
 }
 
-// The question of a line `revoked LIST SERIAL`.
-fn from_line(alloc: Global, line: &[u8]) -> Result<Option<Question>, AllocError>
+/// The question of a line `revoked LIST SERIAL`.
+pub(crate) fn revoked_from(
+    alloc: Global,
+    line: &[u8],
+) -> Result<Option<RevokedQuestion>, AllocError>
     ensures asked { IfOk result (λ found.
-        IfSome found (λ question. Asks line.now question.list question.serial)) }
-    ensures none { IfOk result (λ found.
-        IfNone found ((list serial : List ℕ) → IsRevokedLine list serial line.now → ⊥)) }
+        IfSome found (λ question. IsRevokedLine question.list question.serial line.now)) }
+    ensures none { IfOk result (λ found. IfNone found
+        ((list : List ℕ) (serial : ℕ) → IsRevokedLine list serial line.now → ⊥)) }
 {
     let Some((list, serial)) = split_words(line) else {
         return Ok(None);
@@ -117,27 +151,5 @@ fn from_line(alloc: Global, line: &[u8]) -> Result<Option<Question>, AllocError>
         return Ok(None);
     };
     let list = Bytes::from_vec(octets)?;
-    Ok(Some(Question { list, serial }))
-}
-
-/// What the program's input is read as.
-#[derive(Drop)]
-pub(crate) enum Input {
-    Asked(Question),
-    /// The number, from 1, of the first line that doesn't fit, or that is missing.
-    Bad(usize),
-}
-
-/// Reads the whole input.
-pub(crate) fn from_text(alloc: Global, text: &[u8]) -> Result<Input, AllocError>
-    ensures { IfOk result (λ input. IsInput input text.now) }
-{
-    let (line, others) = split_line(text);
-    let Some(question) = from_line(alloc, line)? else {
-        return Ok(Input::Bad(1));
-    };
-    if !others.is_empty() {
-        return Ok(Input::Bad(2));
-    }
-    Ok(Input::Asked(question))
+    Ok(Some(RevokedQuestion { list, serial }))
 }

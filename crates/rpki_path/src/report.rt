@@ -1,27 +1,30 @@
 //! What the program prints.
-ghost use Rattle.std.specs.Prelude.{◌≡◌, ℕ, List, [], ◌∷◌, IfOk, string_bytes, codes, decimal};
-ghost use Rattle.rpki_path.specs.Program.{printed, Says};
-ghost use Rattle.rpki_path.specs.Questions.{IsInput};
+ghost use Rattle.std.specs.Prelude.{◌≡◌, ◌≢◌, ℕ, List, [], ◌∷◌, IfOk, OnOk, Contains, cond, string_bytes, codes, decimal};
+ghost use Rattle.rpki_path.specs.Program.{decode_faults, printed, IsToldBy, PrintsFault, Says, SaysOfList, SaysOfPath};
+ghost use Rattle.rpki_path.specs.Reports.{accepted_text, HasSortedSets};
+ghost use Rattle.rpki_path.specs.Questions.{IsInput, path_question};
 ghost use Rattle.rpki_crl.specs.RevokedEntries.{IsRevokedCertificates};
 ghost use Rattle.rpki_der.specs.Place.{MeansOrMemory};
-ghost use Rattle.rpki_path.specs.Reports.{status_of, line_of};
 
-use crate::lines::Input;
+use crate::input::Input;
+use crate::lines::RevokedQuestion;
+use crate::path_fault::{PathError, PathFault};
+use crate::path_lines::PathQuestion;
+use crate::printing::{As, V4, V6, set_line};
 use crate::running::Status;
+use crate::validating::validate_path;
 use bytes::Bytes;
+use rpki_cert::ResourceCert;
 use rpki_crl::RevokedCertificates;
 use rpki_der::{Cursor, DecodeError};
+use rpki_parts::{StandIn, TalInfo};
 use std::alloc::{AllocError, Global};
 
-/// The answer to an input.
+/// What is printed, and how the run ends.
 #[derive(Drop)]
-pub(crate) enum Report {
-    /// Whether the list has an entry with the serial.
-    Revoked(bool),
-    /// The octets are no list.
-    Refused(DecodeError),
-    /// The number, from 1, of the first line that doesn't fit, or that is missing.
-    Bad(usize),
+pub(crate) struct Report {
+    pub(crate) status: Status,
+    pub(crate) text: String,
 }
 
 // The list that the octets are, all of them.
@@ -34,54 +37,142 @@ fn read_list(alloc: Global, octets: &Bytes) -> Result<RevokedCertificates, Decod
     Ok(list)
 }
 
-impl Report {
-    /// The answer to an input.
-    pub(crate) fn of(alloc: Global, input: &Input) -> Result<Report, AllocError>
-        ensures { (text : List ℕ) → IsInput input.now text
-            → IfOk result (λ report. Says text (line_of report) (status_of report)) }
-    {
-        let question = match input {
-            Input::Asked(question) => question,
-            Input::Bad(number) => return Ok(Report::Bad(*number)),
-        };
-        match read_list(alloc, &question.list) {
-            Ok(list) => Ok(Report::Revoked(list.contains(question.serial))),
-            Err(error) => match error {
-                DecodeError::Memory => Err(AllocError),
-                _ => Ok(Report::Refused(error)),
-            },
-        }
+// The name of a reader's fault; want of memory is none.
+fn decode_fault(error: &DecodeError) -> Result<&'static str, AllocError>
+    ensures named { IfOk result (λ name. Contains decode_faults name.now) }
+    ensures other { OnOk result (error.now ≢ DecodeError.Memory) }
+{
+    if matches!(error, DecodeError::Memory) {
+        return Err(AllocError);
     }
+    Ok(error.name())
+}
 
-    pub(crate) fn status(&self) -> Status
-        ensures { result ≡ status_of self.now }
-    {
-        match self {
-            Report::Revoked(_) => Status::Done,
-            Report::Refused(_) => Status::Refused,
-            Report::Bad(_) => Status::BadInput,
-        }
-    }
+// That the octets are no list.
+fn no_list(alloc: Global, error: &DecodeError) -> Result<Report, AllocError>
+    ensures status { IfOk result (λ report. report.status ≡ Status.Refused) }
+    ensures text { IfOk result (λ report. (name : List ℕ) × Contains decode_faults name
+        × (string_bytes report.text ≡ printed (codes "refused decode " ∷ name ∷ []))) }
+    ensures other { OnOk result (error.now ≢ DecodeError.Memory) }
+{
+    let name = decode_fault(error)?;
+    let text = format!(in alloc; "refused decode {name}\n")?;
+    Ok(Report {
+        status: Status::Refused,
+        text,
+    })
+}
 
-    /// The line that is printed, with its end.
-    pub(crate) fn line(&self, alloc: Global) -> Result<String, AllocError>
-        ensures { IfOk result (λ text. string_bytes text ≡ line_of self.now) }
-    {
-        match self {
-            Report::Revoked(true) => String::from_str(alloc, "yes\n"),
-            Report::Revoked(false) => String::from_str(alloc, "no\n"),
-            Report::Refused(error) => {
-                let name = error.name();
-                format!(in alloc; "refused decode {name}\n")
-            }
-            Report::Bad(number) => bad_line(alloc, *number),
-        }
+// Whether a serial number was found.
+fn found(alloc: Global, is_found: bool) -> Result<Report, AllocError>
+    ensures status { IfOk result (λ report. report.status ≡ Status.Done) }
+    ensures text { IfOk result (λ report. string_bytes report.text
+        ≡ printed (cond is_found (codes "yes") (codes "no") ∷ [])) }
+{
+    let text = match is_found {
+        true => String::from_str(alloc, "yes\n")?,
+        false => String::from_str(alloc, "no\n")?,
+    };
+    Ok(Report {
+        status: Status::Done,
+        text,
+    })
+}
+
+// Whether the list has the serial number.
+fn of_list(alloc: Global, question: &RevokedQuestion) -> Result<Report, AllocError>
+    ensures { IfOk result (λ report. SaysOfList
+        question.now.list question.now.serial (string_bytes report.text) report.status) }
+{
+    match read_list(alloc, &question.list) {
+        Ok(list) => found(alloc, list.contains(question.serial)),
+        Err(error) => no_list(alloc, &error),
     }
 }
 
-fn bad_line(alloc: Global, number: usize) -> Result<String, AllocError>
-    ensures { IfOk result (λ text.
-        string_bytes text ≡ printed (codes "bad input " ∷ decimal number ∷ [])) }
+// The numbers that the last member of a good path holds.
+fn accepted(alloc: Global, cert: &ResourceCert) -> Result<Report, AllocError>
+    ensures status { IfOk result (λ report. report.status ≡ Status.Done) }
+    ensures text { IfOk result (λ report. string_bytes report.text ≡ accepted_text cert.now) }
+    ensures sorted { OnOk result (HasSortedSets cert.now) }
 {
-    format!(in alloc; "bad input {number}\n")
+    let v4 = set_line::<V4>(alloc, "v4", cert.v4_resources())?;
+    let v6 = set_line::<V6>(alloc, "v6", cert.v6_resources())?;
+    let asns = set_line::<As>(alloc, "as", cert.as_resources())?;
+    let text = format!(in alloc; "stand-in signatures\naccepted\n{v4}{v6}{asns}")?;
+    Ok(Report {
+        status: Status::Done,
+        text,
+    })
+}
+
+// At which stage a fault was met, and its name; want of memory is none.
+fn told(fault: &PathFault) -> Result<(&'static str, &'static str), AllocError>
+    ensures { IfOk result (λ words. IsToldBy fault.now words.0.now words.1.now) }
+{
+    match fault {
+        PathFault::Decode(error) => Ok(("decode", decode_fault(error)?)),
+        PathFault::Inspect(error) => Ok(("inspect", error.name())),
+        PathFault::Verify(error) => Ok(("verify", error.name())),
+        PathFault::Memory => Err(AllocError),
+    }
+}
+
+// Where a path is wrong, and how.
+fn wrong(alloc: Global, error: &PathError) -> Result<Report, AllocError>
+    ensures status { IfOk result (λ report. report.status ≡ Status.Refused) }
+    ensures text { IfOk result (λ report. PrintsFault error.now (string_bytes report.text)) }
+{
+    let index = error.index;
+    let (stage, name) = told(&error.fault)?;
+    let text = format!(in alloc; "stand-in signatures\nrefused {index} {stage} {name}\n")?;
+    Ok(Report {
+        status: Status::Refused,
+        text,
+    })
+}
+
+// Whether the strings are a good path, where signatures are those of the stand-in.
+fn of_path(alloc: Global, question: PathQuestion) -> Result<Report, AllocError>
+    ensures { IfOk result (λ report.
+        SaysOfPath (path_question question) (string_bytes report.text) report.status) }
+{
+    let PathQuestion {
+        now,
+        strict,
+        anchor,
+        cas,
+        leaf,
+    } = question;
+    let tal = TalInfo::from_name(String::new(alloc)).into_rc(alloc)?;
+    match validate_path(alloc, &anchor, &cas, leaf, tal, strict, now, &StandIn) {
+        Ok(cert) => accepted(alloc, &cert),
+        Err(error) => wrong(alloc, &error),
+    }
+}
+
+fn bad_input(alloc: Global, number: usize) -> Result<Report, AllocError>
+    ensures status { IfOk result (λ report. report.status ≡ Status.BadInput) }
+    ensures text { IfOk result (λ report. string_bytes report.text
+        ≡ printed (codes "bad input " ∷ decimal number ∷ [])) }
+{
+    let text = format!(in alloc; "bad input {number}\n")?;
+    Ok(Report {
+        status: Status::BadInput,
+        text,
+    })
+}
+
+impl Report {
+    /// The answer to an input.
+    pub(crate) fn of(alloc: Global, input: Input) -> Result<Report, AllocError>
+        ensures { (text : List ℕ) → IsInput input text
+            → IfOk result (λ report. Says text (string_bytes report.text) report.status) }
+    {
+        match input {
+            Input::Revoked(question) => of_list(alloc, &question),
+            Input::Path(question) => of_path(alloc, question),
+            Input::Bad(number) => bad_input(alloc, number),
+        }
+    }
 }

@@ -4,7 +4,7 @@ ghost use Rattle.std.specs.Io.KnownBytes.{Appends, Consumes, IsAtEnd};
 ghost use Rattle.rpki_path.specs.Watching.{device, HasFailed, TakesAtMost};
 ghost use Rattle.rpki_path.specs.Program.{HasAnswered};
 
-use crate::lines::from_text;
+use crate::input::from_text;
 use crate::report::Report;
 use crate::watched::Watched;
 use std::alloc::{AllocError, Global};
@@ -70,12 +70,17 @@ impl From<AllocError> for RunFault {
     }
 }
 
-/// Reads the whole input, and then writes the line that answers it.
+/// Reads the whole input, and then writes what answers it. The last line's end may be absent. Octets are in hexadecimal digits, or `-` for none.
 ///
-/// The input is one line `revoked LIST SERIAL`, and the line's end may be absent. LIST and SERIAL are octets in
-/// hexadecimal digits, or `-` for none. LIST is a list of revoked certificates (RFC 5280 5.1), SERIAL a number
-/// below 2^160. What is printed is `yes` or `no`, whether the list has the serial; `refused decode` and a name,
-/// where the octets are no list; or `bad input` and the number of the first line that doesn't fit.
+/// A line `revoked LIST SERIAL` asks whether a list of revoked certificates (RFC 5280 5.1) has a serial number, which is below 2^160. The answer
+/// is `yes` or `no`, or `refused decode` and a fault's name, where the octets are no list.
+///
+/// The lines `at YYYYMMDDhhmmss`, `strict` or `lenient`, `ta HEX`, any number of `ca HEX`, and at most one `ee HEX` or `detached HEX` ask whether
+/// these strings are a good path at that moment, where signatures are those of the stand-in. The answer is `stand-in signatures`, and then
+/// `accepted` and the lines `v4`, `v6` and `as` with the ranges that the last member holds, or `none`; or `refused`, the place of the first
+/// wrong member (the anchor's is 0), `decode`, `inspect` or `verify`, and the fault's name.
+///
+/// To any other input it writes `bad input` and the number of the first line that doesn't fit, or that is missing.
 pub fn run<R: Read, W: Write>(
     alloc: Global,
     reader: &mut Watched<R>,
@@ -103,10 +108,9 @@ pub fn run<R: Read, W: Write>(
 {
     let text = read_whole(alloc, reader)?;
     let input = from_text(alloc, &text)?;
-    let report = Report::of(alloc, &input)?;
-    let line = report.line(alloc)?;
-    write_whole(writer, line.as_bytes())?;
-    Ok(report.status())
+    let report = Report::of(alloc, input)?;
+    write_whole(writer, report.text.as_bytes())?;
+    Ok(report.status)
 }
 
 // The whole input.

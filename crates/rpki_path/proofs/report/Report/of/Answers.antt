@@ -1,14 +1,24 @@
-use Rattle.rpki_path.proofs.Reports.{says_found, says_refused}
+use Rattle.std.specs.Prelude.{[], ◌∷◌, codes, decimal}
+use Rattle.std.proofs.Common.{inl, inr, refl}
+use Rattle.rpki_path.specs.declared.running.Status.TheVariants.{BadInput}
+use Rattle.rpki_path.specs.Program.{is_good_path, printed, Says}
+use Rattle.rpki_path.specs.Questions.{path_question, revoked_question}
+use Rattle.rpki_path.proofs.InputLines.{if_ok}
+use Rattle.rpki_path.proofs.Reports.{answered}
 use Rattle.rpki_path.proofs.report.Report.of.Goals as goal
 
-pub returns-in-Ok : goal.returns-in-Ok
-returns-in-Ok c = λ text means.
-    let asked = rw c.in-Asked.is at means in
-    let question = c.in-Asked.question in
-    says_found text asked.0 question.list question.serial c.in-Ok.list c.contains.result asked.1 asked.2 c.in-Ok.ensures c.contains.ensures.revoked
+pub returns-in-Revoked : goal.returns-in-Revoked
+returns-in-Revoked c = λ text read.
+    let asked = rw c.in-Revoked.is at read in
+    if_ok c.of_list.result (λ report says. (asked.0, asked.1, inl (revoked_question c.in-Revoked.question, asked.2, says))) c.of_list.ensures
 
-pub returns-in_default : goal.returns-in_default
-returns-in_default c = λ text means.
-    let asked = rw c.in-Asked.is at means in
-    let question = c.in-Asked.question in
-    says_refused text asked.0 question.list question.serial c.in-Err.error asked.1 asked.2 c.in_default.not-Memory c.in-Err.ensures
+pub returns-in-Path : goal.returns-in-Path
+returns-in-Path c = λ text read.
+    let asked = rw c.in-Path.is at read in
+    if_ok c.of_path.result (λ report says. (asked.0, asked.1, inl (is_good_path (path_question c.in-Path.question), asked.2, says))) c.of_path.ensures
+
+pub returns-in-Bad : goal.returns-in-Bad
+returns-in-Bad c = λ text read.
+    let asked = rw c.in-Bad.is at read in
+    answered (Says text) c.bad_input.result BadInput (printed (codes "bad input " ∷ decimal c.in-Bad.number ∷ [])) c.bad_input.ensures.status c.bad_input.ensures.text
+    (asked.0, asked.1, inr (c.in-Bad.number, asked.2, refl, refl))

@@ -1,0 +1,15 @@
+use Rattle.std.proofs.Common.{rc_value}
+use Rattle.rpki_path.specs.Questions.{path_question}
+use Rattle.rpki_path.proofs.Reports.{path_accepted, path_wrong}
+use Rattle.rpki_path.proofs.report.of_path.Goals as goal
+
+pub returns-in-Ok : goal.returns-in-Ok
+returns-in-Ok c =
+    let validates = rw c.deref.ensures.value at c.in-Ok.ensures.validates in
+    path_accepted (path_question c.args.question) (rc_value c.in_ok-tal.tal) c.in-Ok.cert c.accepted.result validates c.accepted.ensures.status c.accepted.ensures.text c.accepted.ensures.sorted
+
+pub returns : goal.returns
+returns c =
+    let validates = rw c.deref.ensures.value at c.in-Err.ensures.validates in
+    let named = rw c.deref.ensures.value at c.in-Err.ensures.named in
+    path_wrong (path_question c.args.question) c.in-Err.error c.wrong.result validates named c.wrong.ensures.status c.wrong.ensures.text

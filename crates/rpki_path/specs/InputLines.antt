@@ -1,0 +1,65 @@
+-- The lines of the program's input, each alone (own).
+use Rattle.std.specs.Prelude.{◌≡◌, ℕ, ◌/◌, ◌%◌, ◌^◌, ◌<◌, Bool, true, false, List, [], ◌∷◌, ◌++◌, codes}
+use Rattle.std.specs.List.{concat}
+use Rattle.std.specs.Int.Digits.{number_from_digits}
+use Rattle.rpki_der.specs.Times.{Moment, IsMoment, two}
+use Rattle.rpki_path.specs.HexWords.{IsHexWord}
+use Rattle.rpki_path.specs.declared.validating.Leaf.{Leaf}
+use Rattle.rpki_path.specs.declared.validating.Leaf.TheVariants.{Ee, DetachedEe}
+
+-- ---- `revoked LIST SERIAL`
+
+abbrev pub revoked_line : List ℕ → List ℕ → List ℕ
+revoked_line list serial = concat (codes "revoked " ∷ list ∷ codes " " ∷ serial ∷ [])
+
+-- the serial is a number of at most 20 octets (RFC 5280 4.1.2.2)
+pub record IsRevokedLine (list : List ℕ) (serial : ℕ) (line : List ℕ) : Type 0 where
+  pub list_word : List ℕ
+  pub serial_word : List ℕ
+  pub serial_octets : List ℕ
+  pub list_is : IsHexWord list list_word
+  pub octets_are : IsHexWord serial_octets serial_word
+  pub serial_is : serial ≡ number_from_digits 256 serial_octets
+  pub small : serial < 2 ^ 160
+  pub is : line ≡ revoked_line list_word serial_word
+
+-- ---- `at YYYYMMDDhhmmss`
+
+-- a moment in decimal digits: YYYYMMDDhhmmss
+abbrev pub fourteen_digits : Moment → List ℕ
+fourteen_digits m =
+    concat (two (m.year / 100) ∷ two (m.year % 100) ∷ two m.month ∷ two m.day ∷ two m.hour ∷ two m.minute ∷ two m.second ∷ [])
+
+-- the moment exists, in the years 0 to 9999
+pub record IsMomentLine (now : Moment) (line : List ℕ) : Type 0 where
+  pub exists : IsMoment now
+  pub is : line ≡ codes "at " ++ fourteen_digits now
+
+-- ---- `ta HEX` and its like
+
+-- a name, and octets as a word behind it
+pub record IsOctetsLine (name octets line : List ℕ) : Type 0 where
+  pub word : List ℕ
+  pub word_is : IsHexWord octets word
+  pub is : line ≡ name ++ word
+
+-- ---- lines of all kinds
+
+-- what a line tells
+pub data Line : Type 0 where
+  seeks : List ℕ → ℕ → Line
+  at_moment : Moment → Line
+  strictness : Bool → Line
+  anchor authority : List ℕ → Line
+  last : Leaf → Line
+
+-- the line tells it
+abbrev pub IsLine : Line → List ℕ → Type 0
+IsLine (seeks list serial) line = IsRevokedLine list serial line
+IsLine (at_moment now) line = IsMomentLine now line
+IsLine (strictness true) line = line ≡ codes "strict"
+IsLine (strictness false) line = line ≡ codes "lenient"
+IsLine (anchor octets) line = IsOctetsLine (codes "ta ") octets line
+IsLine (authority octets) line = IsOctetsLine (codes "ca ") octets line
+IsLine (last (Ee octets)) line = IsOctetsLine (codes "ee ") octets line
+IsLine (last (DetachedEe octets)) line = IsOctetsLine (codes "detached ") octets line
