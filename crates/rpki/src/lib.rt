@@ -1,0 +1,13 @@
+//! The public names of all layers, under the paths that the Rust crate has them under. A caller names this crate alone.
+#![tactic(auto)]
+
+pub mod comparing;
+pub mod crypto;
+pub mod der;
+pub mod laws;
+pub mod program;
+pub mod repository;
+pub mod round_trips;
+pub mod uri;
+
+pub use rpki_der::oid;

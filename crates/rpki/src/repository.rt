@@ -1,0 +1,12 @@
+//! What a repository of the RPKI holds: certificates, revocation lists, and what they are made of.
+pub mod cert;
+pub mod crl;
+pub mod error;
+pub mod extension;
+pub mod path;
+pub mod resources;
+pub mod tal;
+pub mod x509;
+
+pub use rpki_cert::{Cert, ResourceCert};
+pub use rpki_crl::Crl;

@@ -1,0 +1,5 @@
+//! Sets of IP addresses and of AS numbers, and what certificates list of them (RFC 3779).
+pub use rpki_blocks::{
+    Addr, AsBlock, AsBlocks, AsBlocksBuilder, AsResources, Asn, Block, BlocksBuilder, Bound, Chain,
+    Inherited, IpBlock, IpBlocks, IpBlocksBuilder, IpResources, IssueError, Prefix, Resources,
+};

@@ -1,0 +1,2 @@
+//! The locator of a trust anchor.
+pub use rpki_parts::TalInfo;

@@ -1,0 +1,2 @@
+//! URIs: `rsync` and `https`.
+pub use rpki_parts::{BadUri, Https, Rsync, UriError};
