@@ -270,3 +270,13 @@ pub fn data(words: &Words<'_>, out: &mut Answer) {
     read(out, found);
     out.left(&cursor);
 }
+
+/// Whether octets that are shared are answered as octets that are copied.
+pub fn shared(words: &Words<'_>, out: &mut Answer) {
+    let octets = words.asked(out, 2);
+    let mut first = out.beside();
+    read(&mut first, Cert::decode(out.alloc(), octets.as_slice()));
+    let mut other = out.beside();
+    read(&mut other, Cert::decode_shared(out.alloc(), octets));
+    out.compared(&first, &other);
+}

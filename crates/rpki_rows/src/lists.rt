@@ -228,3 +228,13 @@ pub fn cut(words: &Words<'_>, out: &mut Answer) {
     out.text(":");
     out.range(from, octets.len().wrapping_sub(1));
 }
+
+/// Whether octets that are shared are answered as octets that are copied.
+pub fn shared(words: &Words<'_>, out: &mut Answer) {
+    let octets = words.asked(out, 2);
+    let mut first = out.beside();
+    read(&mut first, Crl::decode(out.alloc(), octets.as_slice()));
+    let mut other = out.beside();
+    read(&mut other, Crl::decode_shared(out.alloc(), octets));
+    out.compared(&first, &other);
+}

@@ -8,13 +8,17 @@
 //! Certificates:
 //! - `certificate HEX`: a certificate, by each of the four calls that read one.
 //! - `data HEX`: what is signed of a certificate.
+//! - `shared certificate HEX`, `shared list HEX`: whether `decode_shared` answers as `decode`.
 //! - `make NAME=VALUE ..`: a certificate of fields, which have the names that answers give them,
 //!   and moments as `YYYYMMDDhhmmss`. `signer=` is a public key; `set-by=` (`setter`, `iterator`,
 //!   `builder`) says how resources are set; `again=yes` first sets each field to another value
 //!   and back.
 //! - `inspect HEX`, `inspect KIND HEX`: the first fault of a certificate, strictly and leniently,
 //!   as each of the kinds `ta`, `ca`, `ee`, `detached`, `router`, or as one of them.
-//! - `validate ta MODE YYYYMMDDhhmmss HEX`: an anchor; what stands below one is asked by `path`.
+//! - `verify ta MODE YYYYMMDDhhmmss HEX`, `verify validity MODE YYYYMMDDhhmmss HEX`: a certificate
+//!   as an anchor, or its validity, without inspection.
+//! - `validate KIND MODE YYYYMMDDhhmmss HEX HEX ..`: a certificate, and those above it from the
+//!   anchor down, which are accepted; MODE is `strict` or `lenient`.
 //! - `path MODE YYYYMMDDhhmmss ta:HEX ca:HEX .. ee:HEX`: a whole path; the leaf may be absent, or
 //!   `detached:HEX`.
 //!
@@ -60,6 +64,7 @@
 //! The program:
 //! - `run TEXT`: an input, which is all behind the first space, with `|` for LF; what is printed
 //!   has `|` for LF too.
+//! - `run-unnamed TEXT`: the same, with `*` for the name of a decoder's fault.
 //!
 //! An answer begins with `ok`, `none` or `refused FAULT`, or is `unfit` where the caller's
 //! condition of the call isn't met. Then come fields, `NAME=VALUE`, most under the names of the
@@ -84,6 +89,7 @@ mod runs;
 mod sets;
 mod show;
 mod uris;
+mod validating;
 mod words;
 mod writing;
 
@@ -102,14 +108,24 @@ fn of_certificates(words: &Words<'_>, out: &mut Answer) -> bool {
         making::make(words, out);
     } else if words.is(0, "inspect") {
         judging::inspect(words, out);
+    } else if words.is(0, "verify") {
+        validating::verify(words, out);
     } else if words.is(0, "validate") {
-        judging::validate(words, out);
+        validating::validate(words, out);
     } else if words.is(0, "extension") {
         extensions::extension(words, out);
     } else {
         return false;
     }
     true
+}
+
+fn shared(words: &Words<'_>, out: &mut Answer) {
+    if words.is(1, "list") {
+        lists::shared(words, out);
+    } else {
+        certificates::shared(words, out);
+    }
 }
 
 fn of_several(words: &Words<'_>, out: &mut Answer) -> bool {
@@ -121,12 +137,16 @@ fn of_several(words: &Words<'_>, out: &mut Answer) -> bool {
         writing::write(words, out);
     } else if words.is(0, "list") {
         lists::list(words, out);
+    } else if words.is(0, "shared") {
+        shared(words, out);
     } else if words.is(0, "cut") {
         lists::cut(words, out);
     } else if words.is(0, "path") {
         paths::path(words, out);
     } else if words.is(0, "run") {
         runs::answer(words, out);
+    } else if words.is(0, "run-unnamed") {
+        runs::answer_unnamed(words, out);
     } else {
         return false;
     }

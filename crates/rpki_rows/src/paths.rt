@@ -1,6 +1,6 @@
 //! Whole paths, with the stand-in for signatures.
 use crate::answer::Answer;
-use crate::judging::{held, tal};
+use crate::validating::{held, tal};
 use crate::words::{Words, bytes, moment};
 use bytes::Bytes;
 use rpki_cert::ResourceCert;

@@ -20,14 +20,33 @@ fn name(status: Status) -> &'static str {
     }
 }
 
-fn show(out: &mut Answer, ended: Result<Status, RunFault>, printed: &[u8]) {
+// What is printed, with a star for the name of a decoder's fault.
+fn unnamed(out: &mut Answer, text: &str) {
+    match text.split_once("decode ") {
+        Some((before, _)) => {
+            out.text(before);
+            out.text("decode *|");
+        }
+        None => out.text(text),
+    }
+}
+
+fn show_printed(out: &mut Answer, printed: &[u8], is_named: bool) {
+    match str::from_utf8(printed) {
+        Ok(text) if is_named => out.text(text),
+        Ok(text) => unnamed(out, text),
+        Err(_) => out.octets(printed),
+    }
+}
+
+fn show(out: &mut Answer, ended: Result<Status, RunFault>, printed: &[u8], is_named: bool) {
     match ended {
         Ok(status) => {
             out.text("ok");
             out.field("status");
             out.text(name(status));
             out.field("printed");
-            out.characters(printed);
+            show_printed(out, printed, is_named);
         }
         Err(fault) => {
             out.text("refused ");
@@ -36,8 +55,7 @@ fn show(out: &mut Answer, ended: Result<Status, RunFault>, printed: &[u8]) {
     }
 }
 
-/// The input is the rest of the line, with a bar for each end of a line, and so is what is printed.
-pub fn answer(words: &Words<'_>, out: &mut Answer) {
+fn answered(words: &Words<'_>, out: &mut Answer, is_named: bool) {
     let mut input = characters(out, words.rest());
     exchange(&mut input, b'|', b'\n');
     let mut printed = Vec::new(out.alloc());
@@ -45,5 +63,15 @@ pub fn answer(words: &Words<'_>, out: &mut Answer) {
     let mut writer = Watched::new(&mut printed);
     let ended = run(out.alloc(), &mut reader, &mut writer);
     exchange(&mut printed, b'\n', b'|');
-    show(out, ended, &printed);
+    show(out, ended, &printed, is_named);
+}
+
+/// The input is the rest of the line, with a bar for each end of a line, and so is what is printed.
+pub fn answer(words: &Words<'_>, out: &mut Answer) {
+    answered(words, out, true);
+}
+
+/// The same, with a star for the name of a decoder's fault.
+pub fn answer_unnamed(words: &Words<'_>, out: &mut Answer) {
+    answered(words, out, false);
 }

@@ -1,5 +1,5 @@
 //! Tests that cross the layers, and that no line of questions and answers can ask: calls with a
-//! caller's signer, verifier, closure or iterator, setters, copies, what stands after a refusal,
+//! caller's signer, verifier, closure, iterator, reader or writer, setters, copies, what stands after a refusal,
 //! the texts of errors, and calls that may want memory, with enough of it.
 #![tactic(auto)]
 
@@ -12,7 +12,11 @@ mod copies;
 #[cfg(test)]
 mod cursors;
 #[cfg(test)]
+mod devices;
+#[cfg(test)]
 mod errors;
+#[cfg(test)]
+mod example;
 #[cfg(test)]
 mod issuing;
 #[cfg(test)]
@@ -27,6 +31,8 @@ mod refusals;
 mod samples;
 #[cfg(test)]
 mod sets;
+#[cfg(test)]
+mod shared;
 #[cfg(test)]
 mod signing;
 #[cfg(test)]

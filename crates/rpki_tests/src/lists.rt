@@ -10,8 +10,8 @@ use std::process::Abort;
 /// The SHA-1 hash of the list that is made below.
 const MADE: &str = "ea1b43c9cdd588d0e74a5589d7758fc089321735";
 
-// Lists of two issuers: the first revokes the numbers 128 and 127, the second the number 5.
-const TWO: &str =
+/// Lists of two issuers: the first revokes the numbers 128 and 127, the second the number 5.
+pub(crate) const TWO: &str =
     "308201623081a3020101300d06092a864886f70d01010b05003010310e300c060355040313054430374145180f31393439303632363030343333375a170d3239313230353131333634365a3029301302020080170d3530303431323039323730345a301202017f170d3530303930333030313030325aa032303030220603551d230101ff0418301680141e71d71a4379d173921c491cbff665c959b760be300a0603551d140403020101300d06092a864886f70d01010b05000381aa00da365e3081a3020101300d06092a864886f70d01010b05003010310e300c060355040313054430374145180f31393439303632363030343333375a170d3239313230353131333634365a3029301302020080170d3530303431323039323730345a301202017f170d3530303930333030313030325aa032303030220603551d230101ff0418301680141e71d71a4379d173921c491cbff665c959b760be300a0603551d140403020101";
 
 const ONE: &str =
@@ -26,12 +26,16 @@ fn assert_kept(rt: &impl Abort, alloc: Global, list: &Crl, digits: &str) {
     assert!(rt; kept.as_slice() == samples::octets(rt, alloc, digits).as_slice());
 }
 
-#[test]
-fn shared_octets_are_a_list(rt: HostRuntime) {
-    let list = list(&rt, rt.alloc(), TWO);
-    assert_kept(&rt, rt.alloc(), &list, TWO);
+/// That this is the first of the two lists.
+pub(crate) fn assert_two(rt: &impl Abort, alloc: Global, list: &Crl) {
+    assert_kept(rt, alloc, list, TWO);
     assert!(rt; list.contains(Serial::from(127u64)));
     assert!(rt; !list.contains(Serial::from(126u64)));
+}
+
+#[test]
+fn shared_octets_are_a_list(rt: HostRuntime) {
+    assert_two(&rt, rt.alloc(), &list(&rt, rt.alloc(), TWO));
 }
 
 // That the data is written as it was signed.
@@ -103,12 +107,4 @@ fn assert_made(rt: &impl Abort, alloc: Global, list: &Crl) {
 fn a_list_is_made(rt: HostRuntime) {
     let made = data(&rt, rt.alloc()).into_crl(rt.alloc(), &StandIn, &samples::rsa(b"abc"));
     assert_made(&rt, rt.alloc(), &made.expect(&rt, "a list"));
-}
-
-#[test]
-fn entries_become_octets(rt: HostRuntime) {
-    let kept = data(&rt, rt.alloc()).to_revoked(rt.alloc());
-    let kept = kept.expect(&rt, "memory");
-    assert!(rt; kept.revoked_certs().contains(Serial::from(42u64)));
-    assert!(rt; !kept.is_stale(samples::day(&rt, 2029)));
 }

@@ -1,0 +1,268 @@
+//! Readers and writers that are slow, fail, never end, or count their calls.
+ghost use Rattle.std.specs.Prelude.{◌≡◌, IfOk};
+
+use rpki_path::{MAX_INPUT, RunFault, Status, Watched, run};
+use std::alloc::Global;
+use std::io;
+use std::io::{Error, ErrorKind, Read, Write};
+use std::process::Abort;
+use std::test::Fail;
+
+// An entry of serial 12, revoked on 2019-05-01.
+const YES: &[u8] = b"revoked 3014301202010C170D3139303530313030303030305A 0C\n";
+
+// Gives octets, one a read, and then fails, ends or goes on.
+#[derive(Drop)]
+struct OneByOne<'a> {
+    octets: &'a [u8],
+    after: After,
+}
+
+#[derive(Clone, Copy)]
+enum After {
+    End,
+    Fail,
+    Zeros,
+}
+
+impl Read for OneByOne<'_> {
+    fn read(&mut self, buf: &mut [u8]) -> io::Result<usize> {
+        if buf.is_empty() {
+            return Ok(0);
+        }
+        match (self.octets.split_first(), self.after) {
+            (Some((octet, others)), _) => {
+                buf[0] = *octet;
+                self.octets = others;
+                Ok(1)
+            }
+            (None, After::End) => Ok(0),
+            (None, After::Fail) => Err(Error::from(ErrorKind::TimedOut)),
+            (None, After::Zeros) => {
+                buf.fill(0);
+                Ok(buf.len())
+            }
+        }
+    }
+}
+
+// Takes some octets, one a write, and then fails or takes none.
+#[derive(Drop)]
+struct Narrow {
+    octets: Vec<u8>,
+    room: usize,
+    fails: bool,
+}
+
+impl Write for Narrow {
+    fn write(&mut self, buf: &[u8]) -> io::Result<usize> {
+        if buf.is_empty() {
+            return Ok(0);
+        }
+        if self.octets.len() < self.room {
+            self.octets.push(buf[0])?;
+            return Ok(1);
+        }
+        if self.fails {
+            return Err(Error::from(ErrorKind::StorageFull));
+        }
+        Ok(0)
+    }
+
+    fn flush(&mut self) -> io::Result<()> {
+        Ok(())
+    }
+}
+
+#[test]
+fn devices_may_be_slow(rt: HostRuntime) -> Result<(), Fail> {
+    let mut reader = Watched::new(OneByOne {
+        octets: YES,
+        after: After::End,
+    });
+    let mut output = Narrow {
+        octets: Vec::new(rt.alloc()),
+        room: 9,
+        fails: true,
+    };
+    let mut writer = Watched::new(&mut output);
+    assert_eq!(rt; run(rt.alloc(), &mut reader, &mut writer)?, Status::Done);
+    assert!(rt; !reader.failed());
+    assert!(rt; !writer.failed());
+    assert_eq!(rt; output.octets.as_slice(), b"yes\n".as_slice());
+    Ok(())
+}
+
+#[test]
+fn a_reader_that_fails_is_told(rt: HostRuntime) -> Result<(), Fail> {
+    let mut reader = Watched::new(OneByOne {
+        octets: YES,
+        after: After::Fail,
+    });
+    let mut output = Vec::new(rt.alloc());
+    let mut writer = Watched::new(&mut output);
+    let result = run(rt.alloc(), &mut reader, &mut writer);
+    assert!(rt; matches!(&result, Err(RunFault::Read)));
+    assert!(rt; reader.failed());
+    assert!(rt; !writer.failed());
+    assert!(rt; output.is_empty());
+    Ok(())
+}
+
+#[test]
+fn a_reader_without_end_is_left(rt: HostRuntime) -> Result<(), Fail> {
+    let mut reader = Watched::new(OneByOne {
+        octets: YES,
+        after: After::Zeros,
+    });
+    let mut output = Vec::new(rt.alloc());
+    let mut writer = Watched::new(&mut output);
+    let result = run(rt.alloc(), &mut reader, &mut writer);
+    assert!(rt; matches!(&result, Err(RunFault::TooLong)));
+    assert!(rt; !reader.failed());
+    assert!(rt; output.is_empty());
+    Ok(())
+}
+
+// What is answered to an input.
+fn answer(alloc: Global, input: &[u8]) -> Result<(Status, Vec<u8>), RunFault> {
+    let mut output = Vec::new(alloc);
+    let mut reader = Watched::new(input);
+    let mut writer = Watched::new(&mut output);
+    let status = run(alloc, &mut reader, &mut writer)?;
+    Ok((status, output))
+}
+
+#[test]
+fn the_longest_input_is_read(rt: HostRuntime) -> Result<(), Fail> {
+    // One octet of 00 after another, as serial: a list, `revoked - `, and the digits.
+    let mut input = Vec::new(rt.alloc());
+    input.extend_from_slice(b"revoked - ")?;
+    input.resize(MAX_INPUT, b'0')?;
+    let (status, output) = answer(rt.alloc(), &input)?;
+    assert_eq!(rt; status, Status::Done);
+    assert_eq!(rt; output.as_slice(), b"no\n".as_slice());
+    input.push(b'\n')?;
+    assert!(rt; matches!(&answer(rt.alloc(), &input), Err(RunFault::TooLong)));
+    Ok(())
+}
+
+#[test]
+fn a_writer_that_fails_is_told(rt: HostRuntime) -> Result<(), Fail> {
+    for fails in [true, false] {
+        let mut reader = Watched::new(YES);
+        let mut output = Narrow {
+            octets: Vec::new(rt.alloc()),
+            room: 2,
+            fails,
+        };
+        let mut writer = Watched::new(&mut output);
+        let result = run(rt.alloc(), &mut reader, &mut writer);
+        assert!(rt; matches!(&result, Err(RunFault::Write)));
+        assert!(rt; writer.failed());
+        assert!(rt; !reader.failed());
+    }
+    Ok(())
+}
+
+#[test]
+fn nothing_is_written_of_nothing(rt: HostRuntime) -> Result<(), Fail> {
+    let mut output = Vec::new(rt.alloc());
+    let mut writer = Watched::new(&mut output);
+    assert_eq!(rt; writer.write(b"")?, 0);
+    assert!(rt; !writer.failed());
+    Ok(())
+}
+
+// Fails at its first call, and then works. It counts its calls, and keeps the length of the last slice.
+#[derive(Drop)]
+struct FailsOnce {
+    kind: ErrorKind,
+    calls: usize,
+    len: usize,
+}
+
+impl FailsOnce {
+    fn new(kind: ErrorKind) -> FailsOnce {
+        FailsOnce {
+            kind,
+            calls: 0,
+            len: 0,
+        }
+    }
+
+    fn answer(&mut self, len: usize) -> io::Result<usize>
+        ensures { IfOk result (λ n. n ≡ len) }
+    {
+        self.calls = self.calls.wrapping_add(1);
+        self.len = len;
+        if self.calls == 1 {
+            return Err(Error::from(self.kind));
+        }
+        Ok(len)
+    }
+}
+
+impl Read for FailsOnce {
+    fn read(&mut self, buf: &mut [u8]) -> io::Result<usize> {
+        self.answer(buf.len())
+    }
+}
+
+impl Write for FailsOnce {
+    fn write(&mut self, buf: &[u8]) -> io::Result<usize> {
+        self.answer(buf.len())
+    }
+
+    fn flush(&mut self) -> io::Result<()> {
+        Ok(())
+    }
+}
+
+// The kind of the error that an answer is.
+fn kind_of(answer: io::Result<usize>) -> Option<ErrorKind> {
+    match answer {
+        Ok(_) => None,
+        Err(error) => Some(error.kind()),
+    }
+}
+
+const KINDS: [ErrorKind; 3] = [
+    ErrorKind::Interrupted,
+    ErrorKind::UnexpectedEof,
+    ErrorKind::Other,
+];
+
+#[test]
+fn a_reader_is_asked_once_a_call(rt: HostRuntime) -> Result<(), Fail> {
+    let mut buf = Vec::new(rt.alloc());
+    buf.resize(0x10000, 0)?;
+    for kind in KINDS {
+        let mut device = FailsOnce::new(kind);
+        let mut reader = Watched::new(&mut device);
+        assert!(rt; kind_of(reader.read(&mut buf)) == Some(kind));
+        assert!(rt; reader.failed());
+        assert_eq!(rt; reader.read(&mut buf)?, 0x10000);
+        assert!(rt; reader.failed());
+        assert_eq!(rt; device.calls, 2);
+        assert_eq!(rt; device.len, 0x10000);
+    }
+    Ok(())
+}
+
+#[test]
+fn a_writer_is_asked_once_a_call(rt: HostRuntime) -> Result<(), Fail> {
+    let mut octets = Vec::new(rt.alloc());
+    octets.resize(0x10000, 7)?;
+    for kind in KINDS {
+        let mut device = FailsOnce::new(kind);
+        let mut writer = Watched::new(&mut device);
+        assert!(rt; kind_of(writer.write(&octets)) == Some(kind));
+        assert!(rt; writer.failed());
+        assert_eq!(rt; writer.write(&octets)?, 0x10000);
+        assert!(rt; writer.failed());
+        assert_eq!(rt; device.calls, 2);
+        assert_eq!(rt; device.len, 0x10000);
+    }
+    Ok(())
+}

@@ -1,0 +1,83 @@
+//! Octets that are shared: what is read of them keeps what it needs of their buffer.
+
+use crate::samples;
+use bytes::Bytes;
+use rpki_cert::Cert;
+use rpki_crl::Crl;
+use rpki_der::{Cursor, DecodeError};
+use std::alloc::{AllocError, Global};
+use std::process::Abort;
+
+fn anchor(rt: &impl Abort, alloc: Global) -> Bytes {
+    samples::signed(rt, alloc, samples::anchor(rt, alloc))
+}
+
+// Three octets of zeros, then the anchor, then one more.
+fn between_zeros(rt: &impl Abort, alloc: Global) -> Bytes {
+    let mut octets = Vec::from_slice(alloc, b"\x00\x00\x00").expect(rt, "memory");
+    let anchor = anchor(rt, alloc);
+    octets.extend_from_slice(&anchor).expect(rt, "memory");
+    octets.push(0).expect(rt, "memory");
+    Bytes::from_vec(octets).expect(rt, "memory")
+}
+
+fn assert_anchor(rt: &impl Abort, alloc: Global, cert: &Cert) {
+    let captured = cert.to_captured(alloc).expect(rt, "memory");
+    samples::assert_hash(rt, alloc, &captured, samples::ANCHOR);
+    let written = samples::written(rt, alloc, cert.as_tbs());
+    samples::assert_hash(rt, alloc, &written, samples::ANCHOR_DATA);
+}
+
+#[test]
+fn a_cut_is_decoded(rt: HostRuntime) {
+    let octets = between_zeros(&rt, rt.alloc());
+    assert_eq!(rt; octets.len(), 951);
+    let cut = octets.slice(3..950).expect(&rt, "memory");
+    let cert = Cert::decode_shared(rt.alloc(), cut);
+    assert_anchor(&rt, rt.alloc(), &cert.expect(&rt, "a certificate"));
+}
+
+#[test]
+fn a_cursor_stands_behind_the_certificate(rt: HostRuntime) {
+    let octets = between_zeros(&rt, rt.alloc());
+    assert_eq!(rt; octets.len(), 951);
+    let cut = octets.slice(3..951).expect(&rt, "memory");
+    let mut cursor = Cursor::new(&cut);
+    let cert = Cert::take_from(rt.alloc(), &mut cursor);
+    assert_anchor(&rt, rt.alloc(), &cert.expect(&rt, "a certificate"));
+    assert_eq!(rt; cursor.rest(), b"\x00".as_slice());
+    assert_eq!(rt; cursor.span(), (947, 948));
+}
+
+// A second handle on the octets.
+fn second(rt: &impl Abort, octets: &Bytes) -> Bytes {
+    let copy: Result<Bytes, AllocError> = octets.clone();
+    copy.expect(rt, "memory")
+}
+
+// The certificate, when the first handle on its octets was dropped.
+fn outliving(rt: &impl Abort, alloc: Global, octets: Bytes) -> Result<Cert, DecodeError> {
+    let cert = Cert::decode_shared(alloc, second(rt, &octets));
+    drop(octets);
+    cert
+}
+
+#[test]
+fn a_certificate_outlives_its_octets(rt: HostRuntime) {
+    let cert = outliving(&rt, rt.alloc(), anchor(&rt, rt.alloc()));
+    assert_anchor(&rt, rt.alloc(), &cert.expect(&rt, "a certificate"));
+}
+
+// The same of a list.
+fn outliving_list(rt: &impl Abort, alloc: Global, octets: Bytes) -> Result<Crl, DecodeError> {
+    let list = Crl::decode_shared(alloc, second(rt, &octets));
+    drop(octets);
+    list
+}
+
+#[test]
+fn a_list_outlives_its_octets(rt: HostRuntime) {
+    let octets = samples::shared(&rt, rt.alloc(), crate::lists::TWO);
+    let list = outliving_list(&rt, rt.alloc(), octets);
+    crate::lists::assert_two(&rt, rt.alloc(), &list.expect(&rt, "a list"));
+}
