@@ -1,23 +1,16 @@
 // Nanoseconds a call of reading, of validating and of writing a certificate, by this project and by OpenSSL.
-// usage: certificates FILE ROUNDS ANCHOR
-#define _POSIX_C_SOURCE 200809L
+// usage: certificates ANCHOR FILE
+#include "measure.h"
 #include <openssl/x509.h>
 #include <openssl/x509v3.h>
-#include <stdint.h>
-#include <stdio.h>
-#include <stdlib.h>
-#include <time.h>
 
 // crates/rpki_bench
 uint32_t rpki_decode(const unsigned char *octets, size_t len);
 uint32_t rpki_validate(const unsigned char *anchor, size_t anchor_len, const unsigned char *octets, size_t len, uint32_t validates, uint32_t rounds);
+uint32_t rpki_hash(const unsigned char *octets, size_t len, uint32_t rounds);
 uint32_t rpki_write(const unsigned char *octets, size_t len, uint32_t rounds);
 
-static double now(void) {
-    struct timespec t;
-    clock_gettime(CLOCK_MONOTONIC, &t);
-    return t.tv_sec * 1e9 + t.tv_nsec;
-}
+enum { HASHES = 5000 };
 
 // the certificate with each of its extensions
 static int openssl_decode(const unsigned char *octets, long len) {
@@ -36,28 +29,10 @@ static int openssl_decode(const unsigned char *octets, long len) {
     return ok;
 }
 
-static size_t contents(const char *name, unsigned char *octets, size_t room) {
-    FILE *file = fopen(name, "rb");
-    size_t len = file == NULL ? 0 : fread(octets, 1, room, file);
-    if (file != NULL) fclose(file);
-    return len;
-}
-
-// the least of five runs, for each round
-#define LEAST(time, call)                       \
-    double time = 1e18;                         \
-    for (int run = 0; run < 5; run++) {         \
-        double start = now();                   \
-        call;                                   \
-        double took = (now() - start) / rounds; \
-        if (took < time) time = took;           \
-    }
-
 int main(int argc, char **argv) {
-    if (argc != 4) return 2;
-    static unsigned char octets[1 << 20], anchor[1 << 12];
-    size_t len = contents(argv[1], octets, sizeof octets), anchor_len = contents(argv[3], anchor, sizeof anchor);
-    uint32_t rounds = strtoul(argv[2], NULL, 10);
+    if (argc != 3 || watch_openssl() != 1) return 2;
+    static unsigned char octets[1 << 20], anchor[1 << 20];
+    size_t anchor_len = contents(argv[1], anchor, sizeof anchor), len = contents(argv[2], octets, sizeof octets);
     if (rpki_decode(octets, len) != 1 || openssl_decode(octets, len) != 1) {
         puts("not read");
         return 1;
@@ -67,13 +42,30 @@ int main(int argc, char **argv) {
         return 1;
     }
 
-    LEAST(ours, for (uint32_t i = 0; i < rounds; i++) rpki_decode(octets, len));
-    LEAST(theirs, for (uint32_t i = 0; i < rounds; i++) openssl_decode(octets, len));
-    LEAST(writing, rpki_write(octets, len, rounds));
-    LEAST(shared, rpki_validate(anchor, anchor_len, octets, len, 0, rounds));
-    LEAST(valid, rpki_validate(anchor, anchor_len, octets, len, 1, rounds));
-    printf("%zu octets: Cert::decode %.0f ns, OpenSSL %.0f ns (%.1f times), TbsCert::encode_ref %.0f ns\n",
-           len, ours, theirs, theirs / ours, writing);
-    printf("  Cert::decode_shared %.0f ns, validate_ca_at %.0f ns (%.2f of it)\n", shared, valid - shared, (valid - shared) / shared);
+    size_t our_most, their_most;
+    MOST(our_most, rpki_decode(octets, len));
+    MOST(their_most, openssl_decode(octets, len));
+    double ours = 0, theirs = 0, writing = 0, anchors = 0, shared = 0, valid = 0, read = 0, hash = 0;
+    LEAST(ours, 1, rpki_decode(octets, len));
+    LEAST(theirs, 1, openssl_decode(octets, len));
+    uint32_t rounds = rounds_for(ours), their_rounds = rounds_for(theirs);
+    for (int run = 0; run < 40; run++) {
+        LEAST(ours, rounds, for (uint32_t i = 0; i < rounds; i++) rpki_decode(octets, len));
+        LEAST(theirs, their_rounds, for (uint32_t i = 0; i < their_rounds; i++) openssl_decode(octets, len));
+        LEAST(read, 1, rpki_hash(octets, len, 0));
+        LEAST(hash, 1, rpki_hash(octets, len, HASHES));
+        LEAST(writing, 1, rpki_write(octets, len, rounds));
+        LEAST(anchors, 1, rpki_validate(anchor, anchor_len, octets, len, 0, 0));
+        LEAST(shared, 1, rpki_validate(anchor, anchor_len, octets, len, 0, rounds));
+        LEAST(valid, 1, rpki_validate(anchor, anchor_len, octets, len, 1, rounds));
+    }
+    hash = (hash - read) / HASHES;
+    writing = (writing - read) / rounds;
+    valid = (valid - shared) / rounds;
+    shared = (shared - anchors) / rounds;
+    printf("%zu octets: Cert::decode %.0f ns, OpenSSL %.0f ns (%.1f times); memory %zu, OpenSSL %zu\n",
+           len, ours, theirs, theirs / ours, our_most, their_most);
+    printf("  TbsCert::encode_ref %.0f ns; Cert::decode_shared %.0f ns, validate_ca_at %.0f ns (%.2f of it), of which SHA-1 %.0f ns (%.2f without it)\n",
+           writing, shared, valid, valid / shared, hash, (valid - hash) / shared);
     return 0;
 }

@@ -1,33 +1,45 @@
 // Nanoseconds of reading revocation lists and of looking serial numbers up in them, by this project and by OpenSSL, which makes the lists:
-// serial numbers of nine octets in a shuffled order.
-// usage: lists ENTRIES ROUNDS
-#define _POSIX_C_SOURCE 200809L
+// serial numbers of eight octets in a shuffled order.
+// usage: lists ENTRIES
+#include "measure.h"
 #include <openssl/evp.h>
 #include <openssl/rsa.h>
 #include <openssl/x509.h>
 #include <openssl/x509v3.h>
-#include <stdint.h>
-#include <stdio.h>
-#include <stdlib.h>
-#include <time.h>
 
 // crates/rpki_bench
 uint32_t rpki_list(const unsigned char *octets, size_t len, uint32_t rounds);
-uint32_t rpki_look_up(const unsigned char *octets, size_t len, uint32_t caches, uint64_t from, uint64_t step, uint32_t count);
+uint32_t rpki_look_up(const unsigned char *octets, size_t len, uint32_t caches, const uint64_t *serials, size_t count);
 
-// the serial numbers are FROM + i * STEP
-static const uint64_t FROM = 0x1B2C3D4E5F607182, STEP = 0x10001;
+// The numbers that are asked, of which half are on the list: in a shuffled order, which isn't that of the list, and in ascending order.
+enum { MANY = 100000, FEW = 10 };
+static struct asked {
+    uint64_t ours[MANY];
+    ASN1_INTEGER *theirs[MANY];
+} mixed, ascending;
+static const uint64_t ABSENT[FEW];
 
-static double now(void) {
-    struct timespec t;
-    clock_gettime(CLOCK_MONOTONIC, &t);
-    return t.tv_sec * 1e9 + t.tv_nsec;
+// the number in this place; the odd ones are on no list
+static uint64_t serial(uint32_t place) {
+    return 0x1B2C3D4E5F607182 + place * (uint64_t)0x8001;
 }
 
-static ASN1_INTEGER *serial(uint64_t n) {
+static ASN1_INTEGER *integer(uint64_t n) {
     ASN1_INTEGER *it = ASN1_INTEGER_new();
     ASN1_INTEGER_set_uint64(it, n);
     return it;
+}
+
+// the places from 0 on in a shuffled order
+static uint32_t *shuffled(uint32_t count) {
+    uint32_t *order = malloc((count + 1) * sizeof *order);
+    for (uint32_t i = 0; i < count; i++) order[i] = i;
+    for (uint32_t i = count; i > 1; i--) {
+        uint32_t j = (((uint32_t)rand() << 15) ^ rand()) % i, it = order[i - 1];
+        order[i - 1] = order[j];
+        order[j] = it;
+    }
+    return order;
 }
 
 static int make(uint32_t entries, unsigned char **octets) {
@@ -40,85 +52,90 @@ static int make(uint32_t entries, unsigned char **octets) {
     ASN1_TIME *since = ASN1_TIME_set(NULL, 1556668800), *until = ASN1_TIME_set(NULL, 1872201600);
     X509_CRL_set1_lastUpdate(crl, since);
     X509_CRL_set1_nextUpdate(crl, until);
-
-    // every number once, in a shuffled order
-    uint32_t *order = malloc((entries + 1) * sizeof *order);
-    for (uint32_t i = 0; i < entries; i++) order[i] = i;
-    srand(1);
-    for (uint32_t i = entries; i > 1; i--) {
-        uint32_t j = (((uint32_t)rand() << 15) ^ rand()) % i, it = order[i - 1];
-        order[i - 1] = order[j];
-        order[j] = it;
-    }
+    uint32_t *order = shuffled(entries);
     for (uint32_t i = 0; i < entries; i++) {
         X509_REVOKED *revoked = X509_REVOKED_new();
-        ASN1_INTEGER *it = serial(FROM + order[i] * STEP);
-        X509_REVOKED_set_serialNumber(revoked, it);
+        X509_REVOKED_set_serialNumber(revoked, integer(serial(2 * order[i])));
         X509_REVOKED_set_revocationDate(revoked, since);
         X509_CRL_add0_revoked(crl, revoked);
-        ASN1_INTEGER_free(it);
     }
-
     AUTHORITY_KEYID *id = AUTHORITY_KEYID_new();
     id->keyid = ASN1_OCTET_STRING_new();
     ASN1_OCTET_STRING_set(id->keyid, (const unsigned char *)"01234567890123456789", 20);
     X509_CRL_add1_ext_i2d(crl, NID_authority_key_identifier, id, 0, X509V3_ADD_APPEND);
-    X509_CRL_add1_ext_i2d(crl, NID_crl_number, serial(12), 0, X509V3_ADD_APPEND);
+    X509_CRL_add1_ext_i2d(crl, NID_crl_number, integer(12), 0, X509V3_ADD_APPEND);
     X509_CRL_sign(crl, key, EVP_sha256());
     return i2d_X509_CRL(crl, octets);
 }
 
-// how many of the numbers are on the list; with none, only reads it
-static uint32_t openssl_look_up(const unsigned char *octets, long len, uint64_t from, uint64_t step, uint32_t count) {
+static void choose(struct asked *asked, uint32_t place, uint32_t at) {
+    asked->ours[at] = serial(place);
+    asked->theirs[at] = integer(serial(place));
+}
+
+static void choose_all(uint32_t entries) {
+    uint32_t places = entries > 0 ? 2 * entries : 1, *order = shuffled(places);
+    for (uint32_t i = 0; i < MANY; i++) {
+        choose(&mixed, order[i % places], i);
+        choose(&ascending, i % places, i);
+    }
+}
+
+// how many of so many numbers are on the list; with none, only reads it
+static uint32_t openssl_look_up(const unsigned char *octets, long len, const struct asked *asked, uint32_t count) {
     X509_CRL *crl = d2i_X509_CRL(NULL, &octets, len);
     uint32_t found = 0;
     for (uint32_t i = 0; i < count; i++) {
-        ASN1_INTEGER *it = serial(from + i * step);
         X509_REVOKED *revoked;
-        found += X509_CRL_get0_by_serial(crl, &revoked, it) == 1;
-        ASN1_INTEGER_free(it);
+        found += X509_CRL_get0_by_serial(crl, &revoked, asked->theirs[i]) == 1;
     }
     X509_CRL_free(crl);
     return found;
 }
 
-// the least of five runs
-#define LEAST(time, call)                       \
-    double time = 1e18;                         \
-    for (int run = 0; run < 5; run++) {         \
-        double start = now();                   \
-        call;                                   \
-        double took = now() - start;            \
-        if (took < time) time = took;           \
-    }
-
 int main(int argc, char **argv) {
-    if (argc != 3) return 2;
-    uint32_t entries = strtoul(argv[1], NULL, 10), rounds = strtoul(argv[2], NULL, 10), many = 100000;
+    if (argc != 2 || watch_openssl() != 1) return 2;
+    uint32_t entries = strtoul(argv[1], NULL, 10);
     unsigned char *octets = NULL;
     int len = make(entries, &octets);
+    choose_all(entries);
     if (rpki_list(octets, len, 1) != 1) {
         puts("not read");
         return 1;
     }
-    uint32_t all = entries < many ? entries : many;
-    if (rpki_look_up(octets, len, 1, FROM, STEP, all) != all || openssl_look_up(octets, len, FROM, STEP, all) != all) {
+    if (rpki_look_up(octets, len, 1, mixed.ours, MANY) != openssl_look_up(octets, len, &mixed, MANY)
+        || rpki_look_up(octets, len, 0, mixed.ours, FEW) != openssl_look_up(octets, len, &mixed, FEW)) {
         puts("not found");
         return 1;
     }
 
-    LEAST(ours, rpki_list(octets, len, rounds));
-    LEAST(theirs, for (uint32_t i = 0; i < rounds; i++) openssl_look_up(octets, len, FROM, STEP, 0));
-    LEAST(walk, rpki_look_up(octets, len, 0, FROM + 1, STEP, 10));
-    LEAST(first, rpki_look_up(octets, len, 1, FROM + 1, STEP, 1));
-    LEAST(warm, rpki_look_up(octets, len, 1, FROM + 1, STEP, many));
-    LEAST(their_first, openssl_look_up(octets, len, FROM + 1, STEP, 1));
-    LEAST(their_warm, openssl_look_up(octets, len, FROM + 1, STEP, many));
-    ours /= rounds;
-    theirs /= rounds;
-    printf("%u entries, %d octets: Crl::decode %.0f ns, OpenSSL %.0f ns (%.1f times)", entries, len, ours, theirs, theirs / ours);
-    if (entries > 0) printf("; an entry %.1f ns, OpenSSL %.1f ns", ours / entries, theirs / entries);
-    printf("\n  uncached look-up %.0f ns; the first cached one %.0f ns, OpenSSL %.0f ns; each further one %.0f ns, OpenSSL %.0f ns\n",
-           (walk - ours) / 10, first - ours, their_first - theirs, (warm - first) / (many - 1), (their_warm - their_first) / (many - 1));
+    size_t our_most, cached_most, their_most;
+    MOST(our_most, rpki_list(octets, len, 1));
+    MOST(cached_most, rpki_look_up(octets, len, 1, mixed.ours, 1));
+    MOST(their_most, openssl_look_up(octets, len, &mixed, 1));
+
+    double ours = 0, theirs = 0, walk = 0, first = 0, their_first = 0, warm = 0, their_warm = 0, warm_up = 0, their_warm_up = 0;
+    LEAST(ours, 1, rpki_list(octets, len, 1));
+    LEAST(theirs, 1, openssl_look_up(octets, len, &mixed, 0));
+    uint32_t rounds = rounds_for(ours), their_rounds = rounds_for(theirs);
+    for (int run = 0; run < 40; run++) {
+        LEAST(ours, rounds, rpki_list(octets, len, rounds));
+        LEAST(theirs, their_rounds, for (uint32_t i = 0; i < their_rounds; i++) openssl_look_up(octets, len, &mixed, 0));
+        LEAST(walk, rounds, for (uint32_t i = 0; i < rounds; i++) rpki_look_up(octets, len, 0, ABSENT, FEW));
+        LEAST(first, rounds, for (uint32_t i = 0; i < rounds; i++) rpki_look_up(octets, len, 1, mixed.ours, 1));
+        LEAST(their_first, their_rounds, for (uint32_t i = 0; i < their_rounds; i++) openssl_look_up(octets, len, &mixed, 1));
+        LEAST(warm, 1, rpki_look_up(octets, len, 1, mixed.ours, MANY));
+        LEAST(their_warm, 1, openssl_look_up(octets, len, &mixed, MANY));
+        LEAST(warm_up, 1, rpki_look_up(octets, len, 1, ascending.ours, MANY));
+        LEAST(their_warm_up, 1, openssl_look_up(octets, len, &ascending, MANY));
+    }
+    double each = entries > 0 ? entries : 1;
+    printf("%u entries, %d octets: Crl::decode %.0f ns, OpenSSL %.0f ns; an entry %.1f, OpenSSL %.1f (%.1f times)\n",
+           entries, len, ours, theirs, ours / each, theirs / each, theirs / ours);
+    printf("  uncached look-up %.0f ns, an entry %.1f; first cached one %.0f ns, OpenSSL %.0f (%.2f of it)\n",
+           (walk - ours) / FEW, (walk - ours) / FEW / each, first - ours, their_first - theirs, (first - ours) / (their_first - theirs));
+    printf("  each further one, of numbers in a shuffled order %.0f ns, OpenSSL %.0f, in ascending order %.0f ns, OpenSSL %.0f\n",
+           (warm - first) / MANY, (their_warm - their_first) / MANY, (warm_up - first) / MANY, (their_warm_up - their_first) / MANY);
+    printf("  memory %zu, with the cache %zu, OpenSSL %zu\n", our_most, cached_most, their_most);
     return 0;
 }

@@ -8,7 +8,7 @@ here=$(mktemp -d)
 trap 'rm -rf "$here"' EXIT
 
 echo 'revoked - -' | "$root/rpki" > /dev/null
-program=$root/crates/rpki/out/rpki
+program=$root/crates/rpki_program/out/rpki_program
 
 # Entries of 20 octets: a serial from 1 to 127, and a time. The serial 0 is sought.
 awk 'BEGIN {

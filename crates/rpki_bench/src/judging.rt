@@ -7,8 +7,8 @@ use rpki_der::Time;
 use rpki_parts::{PublicKey, RpkiSignatureAlgorithm, TalInfo, Verifier};
 use std::alloc::{AllocError, Global};
 
-// Says yes to every signature, so that only what is done here is measured.
-struct Yes;
+/// Says yes to every signature, so that only what is done here is measured.
+pub(crate) struct Yes;
 
 impl Verifier for Yes {
     ghost use Rattle.std.specs.Prelude.{⊤};
@@ -32,14 +32,29 @@ fn anchor(alloc: Global, octets: &[u8], now: Time) -> Option<ResourceCert> {
     cert.validate_ta_at(alloc, tal, true, now, &Yes).ok()
 }
 
+/// Whether a call went well. What it gave is let go.
+pub(crate) fn went_well<T: Drop, E: Drop>(answer: Result<T, E>) -> bool {
+    answer.is_ok()
+}
+
+// An answer, once the value is let go.
+fn without<T: Drop>(_value: T, answer: u32) -> u32 {
+    answer
+}
+
 // Reads the certificate, and where it is asked validates it too.
-fn step(alloc: Global, octets: &Bytes, issuer: Option<&ResourceCert>, now: Time) -> Option<()> {
+fn step(alloc: Global, octets: &Bytes, issuer: Option<&ResourceCert>, now: Time) -> bool {
     let shared: Result<Bytes, AllocError> = octets.clone();
-    let cert = Cert::decode_shared(alloc, shared.ok()?).ok()?;
-    if let Some(issuer) = issuer {
-        cert.validate_ca_at(alloc, issuer, true, now, &Yes).ok()?;
+    let Ok(shared) = shared else {
+        return false;
+    };
+    let cert = Cert::decode_shared(alloc, shared);
+    match (cert, issuer) {
+        (Ok(cert), Some(issuer)) => {
+            went_well(cert.validate_ca_at(alloc, issuer, true, now, &Yes))
+        }
+        (cert, _) => went_well(cert),
     }
-    Some(())
 }
 
 fn rounds_of(
@@ -52,11 +67,27 @@ fn rounds_of(
     ensures { result ≤ rounds }
 {
     for round in 0..rounds {
-        if step(alloc, octets, issuer, now).is_none() {
+        if !step(alloc, octets, issuer, now) {
             return round;
         }
     }
     rounds
+}
+
+// The same under an issuer, where `validates` says so.
+fn rounds_under(
+    alloc: Global,
+    octets: &Bytes,
+    issuer: &ResourceCert,
+    validates: bool,
+    now: Time,
+    rounds: u32,
+) -> u32 {
+    if validates {
+        rounds_of(alloc, octets, Some(issuer), now, rounds)
+    } else {
+        rounds_of(alloc, octets, None, now, rounds)
+    }
 }
 
 fn judged(
@@ -67,10 +98,14 @@ fn judged(
     rounds: u32,
 ) -> Option<u32> {
     let now = Time::utc(2030, 1, 1, 0, 0, 0)?;
-    let issuer = anchor(alloc, anchor_octets, now)?;
     let octets = Bytes::copy_from_slice(alloc, octets).ok()?;
-    let issuer = if validates { Some(&issuer) } else { None };
-    Some(rounds_of(alloc, &octets, issuer, now, rounds))
+    match anchor(alloc, anchor_octets, now) {
+        Some(issuer) => {
+            let went = rounds_under(alloc, &octets, &issuer, validates, now, rounds);
+            Some(without(issuer, went))
+        }
+        None => None,
+    }
 }
 
 /// Reads the certificate so many times, and where `validates` isn't 0 validates it each time under the anchor, at the beginning of 2030,

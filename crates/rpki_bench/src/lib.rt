@@ -6,6 +6,7 @@ ghost use Rattle.std.specs.Prelude.{◌≤◌};
 
 mod judging;
 mod lists;
+mod paths;
 
 use rpki_cert::Cert;
 use rpki_der::DecodeError;
@@ -40,4 +41,20 @@ pub extern "C" fn rpki_write(alloc: Global, octets: &[u8], rounds: u32) -> u32
         }
     }
     rounds
+}
+
+/// Reads the certificate, and compares so many times the hash of its key with its subject key identifier. Answers how often they agree.
+#[unsafe(no_mangle)]
+pub extern "C" fn rpki_hash(alloc: Global, octets: &[u8], rounds: u32) -> u32 {
+    let Ok(cert) = Cert::decode(alloc, octets) else {
+        return 0;
+    };
+    let tbs = cert.as_tbs();
+    let mut equal = 0u32;
+    for _ in 0..rounds {
+        if tbs.subject_public_key_info().key_identifier() == tbs.subject_key_identifier() {
+            equal = equal.wrapping_add(1);
+        }
+    }
+    equal
 }

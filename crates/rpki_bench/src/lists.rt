@@ -14,35 +14,25 @@ pub extern "C" fn rpki_list(alloc: Global, octets: &[u8], rounds: u32) -> u32 {
     rounds
 }
 
-// How many of the numbers from one on, in steps, are on the list.
-fn found(list: &Crl, from: u64, step: u64, count: u32) -> u32 {
+// How many of the serial numbers are on the list.
+fn found(list: &Crl, serials: &[u64]) -> u32 {
     let mut found = 0u32;
-    let mut number = from;
-    for _ in 0..count {
-        if list.contains(Serial::from(number)) {
+    for serial in serials {
+        if list.contains(Serial::from(*serial)) {
             found = found.wrapping_add(1);
         }
-        number = number.wrapping_add(step);
     }
     found
 }
 
-/// Reads the list, caches its serials where `caches` isn't 0, and asks for so many numbers, from `from` on in steps of `step`. Answers how
-/// many are on it.
+/// Reads the list, caches its serials where `caches` isn't 0, and asks for these serial numbers. Answers how many are on it.
 #[unsafe(no_mangle)]
-pub extern "C" fn rpki_look_up(
-    alloc: Global,
-    octets: &[u8],
-    caches: u32,
-    from: u64,
-    step: u64,
-    count: u32,
-) -> u32 {
+pub extern "C" fn rpki_look_up(alloc: Global, octets: &[u8], caches: u32, serials: &[u64]) -> u32 {
     let Ok(mut list) = Crl::decode(alloc, octets) else {
         return 0;
     };
     if caches != 0 && list.cache_serials(alloc).is_err() {
         return 0;
     }
-    found(&list, from, step, count)
+    found(&list, serials)
 }
