@@ -1,6 +1,6 @@
 -- Certificates, both ways.
 use Rattle.std.specs.Prelude.{bytes_eq}
-use Rattle.std.proofs.Common.{◌≡◌, ℕ, List, [], ◌∷◌, Some, inl, inr, refl, ◌∙◌, arith, ◌++◌, sym, ap, subst, Option}
+use Rattle.std.proofs.Common.{◌≡◌, ℕ, List, [], ◌∷◌, Some, inl, inr, refl, ◌∙◌, arith, ◌++◌, sym, ap, subst}
 use Rattle.std.proofs.lemmas.Bool.{cases_Bool}
 use Rattle.std.proofs.lemmas.Slice.Eq.{bytes_eq-Decides}
 use Rattle.std.proofs.lemmas.List.{append-nil}
@@ -26,7 +26,7 @@ use Rattle.rpki_parts.proofs.KeyReads.{public_key_reads}
 use Rattle.rpki_parts.proofs.AlgorithmReads.{algorithm_reads}
 use Rattle.rpki_parts.proofs.NameReads.{name_reads}
 use Rattle.rpki_parts.proofs.SignedDataReads.{AreSigned, signed_reads}
-use Rattle.rpki_cert.specs.Certificates.{version_3, TbsFields, IsTbsCertificateContent, IsTbsCertificate, CertFields, IsCertificateContent, IsCertificate}
+use Rattle.rpki_cert.specs.Certificates.{version_3, TbsFields, IsTbsCertificateContent, IsTbsCertificate, IsCertificateContent, IsCertificate}
 use Rattle.rpki_cert.specs.Certificates.Reading.{is_two, version_at, Fields, fields_in_order, fields_at, with_extensions, tbs_at, certificate, cert_content_at, cert_at}
 use Rattle.rpki_ext.specs.CertificateExtensions.{AreExtensions, ExtensionFields}
 use Rattle.rpki_ext.specs.CertificateExtensions.Reading.{extensions_of}

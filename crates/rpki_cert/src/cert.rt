@@ -95,7 +95,8 @@ impl Cert {
         alloc: Global,
         cursor: &mut Cursor<'_>,
     ) -> Result<Option<Cert>, DecodeError>
-        ensures answers { AnswersOptionalOrMemory SEQUENCE IsCertificate cursor.old result cursor.new }
+        ensures answers { AnswersOptionalOrMemory SEQUENCE IsCertificate
+            cursor.old result cursor.new }
         ensures keeps { Keeps result cursor.old cursor.new }
     {
         match cursor.rest() {

@@ -3,19 +3,38 @@ ghost use Rattle.std.specs.Prelude.{◌≡◌, IfOk};
 ghost use Rattle.std.proofs.Common.{rc_value};
 
 use crate::cert::Cert;
+use crate::verify_owned::{Kept, beside, joined};
 use rpki_blocks::{AsBlocks, IpBlocks};
 use rpki_parts::TalInfo;
 use std::alloc::{AllocError, Global};
 use std::marker::Model;
 use std::rc::Rc;
 
+// The sets of a certificate that was verified.
+#[derive(Drop)]
+pub(crate) struct Sets {
+    pub(crate) v4: IpBlocks,
+    pub(crate) v6: IpBlocks,
+    pub(crate) as_numbers: AsBlocks,
+}
+
+impl Sets {
+    // The same once more.
+    fn try_clone(&self, alloc: Global) -> Result<Sets, AllocError>
+        ensures { IfOk result (λ s. s ≡ self.now) }
+    {
+        let v4 = self.v4.try_clone(alloc)?;
+        let v6 = self.v6.try_clone(alloc)?;
+        let as_numbers = self.as_numbers.try_clone(alloc)?;
+        Ok(Sets { v4, v6, as_numbers })
+    }
+}
+
 /// A certificate that was verified, with the numbers that it has once what it inherits is resolved (RFC 6487 7.2).
 #[derive(Drop)]
 pub struct ResourceCert {
     pub(crate) cert: Cert,
-    pub(crate) v4_resources: IpBlocks,
-    pub(crate) v6_resources: IpBlocks,
-    pub(crate) as_resources: AsBlocks,
+    pub(crate) sets: Sets,
     pub(crate) tal: Rc<TalInfo>,
 }
 
@@ -27,9 +46,9 @@ impl Model for ResourceCert {
 
     ghost view = { λ r. record {
       cert = r.cert;
-      v4 = r.v4_resources;
-      v6 = r.v6_resources;
-      as_numbers = r.as_resources;
+      v4 = r.sets.v4;
+      v6 = r.sets.v6;
+      as_numbers = r.sets.as_numbers;
       tal = rc_value r.tal;
     } };
 }
@@ -46,21 +65,21 @@ impl ResourceCert {
     pub fn v4_resources(&self) -> &IpBlocks
         ensures { result.now ≡ self.now.v4 }
     {
-        &self.v4_resources
+        &self.sets.v4
     }
 
     /// The IPv6 addresses.
     pub fn v6_resources(&self) -> &IpBlocks
         ensures { result.now ≡ self.now.v6 }
     {
-        &self.v6_resources
+        &self.sets.v6
     }
 
     /// The AS numbers.
     pub fn as_resources(&self) -> &AsBlocks
         ensures { result.now ≡ self.now.as_numbers }
     {
-        &self.as_resources
+        &self.sets.as_numbers
     }
 
     /// The trust anchor locator by which the path begins.
@@ -74,7 +93,22 @@ impl ResourceCert {
     pub fn into_tal(self) -> Rc<TalInfo>
         ensures { rc_value result ≡ self.tal }
     {
-        self.tal
+        let ResourceCert { cert, sets, tal } = self;
+        drop(cert);
+        drop(sets);
+        tal
+    }
+
+    // What is kept beside the certificate, once more.
+    fn try_clone_kept(&self, alloc: Global) -> Result<Kept, AllocError>
+        ensures v4 { IfOk result (λ k. k.sets.v4 ≡ self.now.v4) }
+        ensures v6 { IfOk result (λ k. k.sets.v6 ≡ self.now.v6) }
+        ensures as_numbers { IfOk result (λ k. k.sets.as_numbers ≡ self.now.as_numbers) }
+        ensures tal { IfOk result (λ k. rc_value k.tal ≡ self.now.tal) }
+    {
+        let sets = self.sets.try_clone(alloc)?;
+        let tal = self.tal.clone()?;
+        Ok(Kept { sets, tal })
     }
 
     /// The same once more; the locator is shared.
@@ -82,16 +116,7 @@ impl ResourceCert {
         ensures { IfOk result (λ r. r ≡ self.now) }
     {
         let cert = self.cert.try_clone(alloc)?;
-        let v4_resources = self.v4_resources.try_clone(alloc)?;
-        let v6_resources = self.v6_resources.try_clone(alloc)?;
-        let as_resources = self.as_resources.try_clone(alloc)?;
-        let tal = self.tal.clone()?;
-        Ok(ResourceCert {
-            cert,
-            v4_resources,
-            v6_resources,
-            as_resources,
-            tal,
-        })
+        let (cert, kept) = beside(cert, self.try_clone_kept(alloc))?;
+        Ok(joined(cert, kept))
     }
 }

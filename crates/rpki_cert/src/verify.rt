@@ -9,7 +9,7 @@ ghost use Rattle.rpki_cert.specs.Verification.{validity_lines, claim_lines, own_
 ghost use Rattle.rpki_cert.specs.declared.verification_error.VerificationError.TheVariants.{Memory};
 
 use crate::cert::Cert;
-use crate::resource_cert::ResourceCert;
+use crate::resource_cert::{ResourceCert, Sets};
 use crate::verification_error::VerificationError;
 use rpki_blocks::{AsBlocks, Bound, Chain, IpBlocks, IssueError, Overclaim, Resources};
 use rpki_der::Time;
@@ -57,14 +57,6 @@ fn listed<B: Bound>(alloc: Global, resources: &Resources<B>) -> Result<Chain<B>,
         Some(blocks) => blocks.try_clone(alloc),
         None => Ok(Chain::empty(alloc)),
     }
-}
-
-// The sets of a certificate that is verified.
-#[derive(Drop)]
-pub(crate) struct Sets {
-    pub(crate) v4: IpBlocks,
-    pub(crate) v6: IpBlocks,
-    pub(crate) as_numbers: AsBlocks,
 }
 
 impl Cert {

@@ -5,9 +5,8 @@ ghost use Rattle.rpki_blocks.specs.IssuedSets.{IsIssued};
 ghost use Rattle.rpki_cert.specs.Verification.{LineUnder, AnchorLine, IsVerified, IsFirstFalseOrMemory, ListsNumbers, HasListed, HasIssued, issued_lines, anchor_lines};
 
 use crate::cert::Cert;
-use crate::resource_cert::ResourceCert;
+use crate::resource_cert::{ResourceCert, Sets};
 use crate::verification_error::VerificationError;
-use crate::verify::Sets;
 use rpki_der::Time;
 use rpki_parts::{TalInfo, Verifier};
 use std::alloc::Global;
@@ -15,9 +14,9 @@ use std::rc::Rc;
 
 // What is kept beside a certificate that is verified.
 #[derive(Drop)]
-struct Kept {
-    sets: Sets,
-    tal: Rc<TalInfo>,
+pub(crate) struct Kept {
+    pub(crate) sets: Sets,
+    pub(crate) tal: Rc<TalInfo>,
 }
 
 // A value beside what a test of it gave; without it where the test failed.
@@ -32,7 +31,7 @@ pub(crate) fn beside<T: Drop, S, E>(value: T, tested: Result<S, E>) -> Result<(T
 }
 
 // The two in one.
-fn joined(cert: Cert, kept: Kept) -> ResourceCert
+pub(crate) fn joined(cert: Cert, kept: Kept) -> ResourceCert
     ensures cert { result.cert ≡ cert }
     ensures v4 { result.v4 ≡ kept.sets.v4 }
     ensures v6 { result.v6 ≡ kept.sets.v6 }
@@ -40,14 +39,7 @@ fn joined(cert: Cert, kept: Kept) -> ResourceCert
     ensures tal { result.tal ≡ rc_value kept.tal }
 {
     let Kept { sets, tal } = kept;
-    let Sets { v4, v6, as_numbers } = sets;
-    ResourceCert {
-        cert,
-        v4_resources: v4,
-        v6_resources: v6,
-        as_resources: as_numbers,
-        tal,
-    }
+    ResourceCert { cert, sets, tal }
 }
 
 impl Cert {

@@ -203,9 +203,11 @@ impl Seen {
         kind: Named,
         content: &mut Cursor<'_>,
     ) -> Result<(), DecodeError>
-        ensures { (x : Extension) → Names x.identifier (Some kind) → HasFlag (wanted kind) x.critical
+        ensures { (x : Extension) → Names x.identifier (Some kind)
+            → HasFlag (wanted kind) x.critical
             → is_seen self.old kind ≡ false → x.content ≡ left content.old
-            → ReturnsOrMemoryBy (λ _. state_of self.new) result (all_kinds.step (state_of self.old) x) }
+            → ReturnsOrMemoryBy (λ _. state_of self.new) result
+            (all_kinds.step (state_of self.old) x) }
     {
         match kind {
             Named::BasicConstraints => self.basic_ca = Some(take_basic_constraints(content)?),

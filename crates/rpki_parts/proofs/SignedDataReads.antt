@@ -1,5 +1,5 @@
 -- Signed data, both ways.
-use Rattle.std.proofs.Common.{◌≡◌, ℕ, List, [], ◌++◌, Option, Some, refl, sym, ap, subst, ◌∙◌, append_assoc}
+use Rattle.std.proofs.Common.{◌≡◌, ℕ, List, [], ◌++◌, Option, refl, sym, ap, subst, ◌∙◌, append_assoc}
 use Rattle.std.proofs.lemmas.List.{append-nil}
 use Rattle.rpki_der.specs.Skipping.{IsCaptured}
 use Rattle.rpki_der.specs.Skipping.Reading.{captured_at}
