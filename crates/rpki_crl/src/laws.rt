@@ -1,16 +1,21 @@
 //! Laws about the definitions. Each is the contract of a function with no parameters and an empty body.
 ghost use Rattle.std.specs.Prelude.{◌≡◌, ℕ, List};
 ghost use Rattle.std.specs.List.{AllByRecursion};
+ghost use Rattle.rpki_der.specs.Spelling.{BeginsOrAbsent};
+ghost use Rattle.rpki_der.specs.Tags.{SEQUENCE};
 ghost use Rattle.rpki_der.specs.Values.{IsUnambiguous};
 ghost use Rattle.rpki_parts.specs.SignedDatas.{signed_data};
 ghost use Rattle.rpki_crl.specs.Lists.{CrlFields, ListFields, ListFits, IsTbsCertList, IsCertificateList, IsMadeList, list_spelling};
-ghost use Rattle.rpki_crl.specs.RevokedEntries.{Entry, Revoked, AreEntries, FitsEntry, entries};
+ghost use Rattle.rpki_crl.specs.RevokedEntries.{Entry, Revoked, AreEntries, IsRevokedCertificates, FitsEntry, entries};
 
 /// A string begins with at most one revocation list, with its fields and entries, and no list's octets are a proper beginning of
-/// another's. The same holds of what is signed in it.
+/// another's. The same holds of what is signed in it, and of the list of entries, present or absent.
 pub fn unambiguous()
     ensures list { IsUnambiguous IsCertificateList }
     ensures data { IsUnambiguous IsTbsCertList }
+    ensures revoked { (r s : Revoked) (b rest tail : List ℕ)
+        → BeginsOrAbsent SEQUENCE IsRevokedCertificates b r rest
+        → BeginsOrAbsent SEQUENCE IsRevokedCertificates b s tail → (r ≡ s) × (rest ≡ tail) }
 {}
 
 /// A row of octets is at most one list of entries.
