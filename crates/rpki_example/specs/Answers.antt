@@ -2,7 +2,7 @@
 use Rattle.std.specs.Prelude.{◌↔◌, ℕ, Bool, List, Result, Ok, Err, None, IsTrue, true}
 use Rattle.rpki.specs.Times.{Moment}
 use Rattle.rpki.specs.Signatures.{Verifies}
-use Rattle.rpki.specs.Paths.{Path, last, asked, IsPathOf, IsGoodPath, IsNoGoodPath, Holds, system_numbers, Refuses}
+use Rattle.rpki.specs.Paths.{Path, last, asked, IsPathOf, IsGoodPath, IsNoGoodPath, Holds, system_numbers, UnlessMemory}
 use Rattle.rpki.specs.PathError.{PathError}
 
 -- the strings are a good path, and the answer tells whether its last member holds the AS number
@@ -15,4 +15,4 @@ pub record IsHeld (V : Verifies) (now : Moment) (anchor : List ℕ) (cas : List 
 -- an error, that the strings are no good path; want of memory aside
 abbrev pub TellsHeld : Verifies → Moment → List ℕ → List (List ℕ) → ℕ → Result Bool PathError → Type 0
 TellsHeld V now anchor cas asn (Ok answer) = IsHeld V now anchor cas asn answer
-TellsHeld V now anchor cas asn (Err e) = Refuses e.fault (IsNoGoodPath V now true anchor (asked cas None))
+TellsHeld V now anchor cas asn (Err e) = UnlessMemory e.fault (IsNoGoodPath V now true anchor (asked cas None))

@@ -17,7 +17,7 @@ use Rattle.rpki_path.specs.Paths.Steps.{IsReadAs, IsUnread}
 
 pub not_decoded : (kind : Kind) (strict : Bool) (octets : List ℕ) (e : DecodeError) → Refuses e ((c : CertFields) → Means IsCertificate c octets → ⊥) → IsUnread kind strict octets (of_decoding e)
 not_decoded kind strict octets decoding.Memory h = tt
-not_decoded kind strict octets _ h = h
+not_decoded kind strict octets e h = ((λ same. absurd (cc same)), h)
 
 module _ (kind : Kind) (strict : Bool) (line : CertFields → VerificationError → Type 0) (lines : List VerificationError) (octets : List ℕ) (c : CertFields) (read : IsReadAs kind strict octets c) where
   first_false : (e : VerificationError) → IsFirstFalse (line c) lines e → Finds kind strict line lines octets (of_verification e)

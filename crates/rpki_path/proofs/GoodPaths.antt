@@ -14,7 +14,7 @@ use Rattle.rpki_cert.specs.Verification.{Held, Line, LineUnder, issued_lines, Is
 use Rattle.rpki_cert.specs.declared.inspect.Kind.{Kind}
 use Rattle.rpki_cert.specs.declared.verification_error.VerificationError.{VerificationError}
 use Rattle.rpki_cert.specs.declared.verification_error.VerificationError.TheVariants.{NotYetValid, Expired, InheritedV4, InheritedV6, InheritedAs, MissingKeyId, WrongKeyId, MissingIssuerUri, BadSignature, OverclaimV4, OverclaimV6, OverclaimAs, Memory}
-use Rattle.rpki_path.specs.Paths.{Member, Path, last, cert_at, NumberKind, v4_addresses, v6_addresses, system_numbers, resources_of, Holds, HeldAt, LineBelow, IsGoodPath, Asked, ask, IsMember, IsPathOf, HasHeld, IsAccepted, IsNoGoodPath, Refuses, Finds}
+use Rattle.rpki_path.specs.Paths.{Member, Path, last, certificate_at, NumberKind, v4_addresses, v6_addresses, system_numbers, kind_resources, Holds, HeldAt, LineBelow, IsGoodPath, Asked, ask, IsMember, HasHeld, IsAccepted}
 use Rattle.rpki_path.specs.Paths.Steps.{IsAnchor, IsIssuedBy}
 use Rattle.rpki_path.proofs.LongerPaths.{extended, above, there, last_extended, holds_above, holds_there, gets_passed, zip_more, all_more}
 
@@ -74,13 +74,13 @@ module _ (V : Verifies) (now : Moment) where
   -- the lines under the last member, as it was validated, are those of the path
   pub line_last : (p : Path) (tal : List ℕ) (issuer : ResourceFields) → HasHeld p tal issuer → (c : CertFields) (e : VerificationError) → LineUnder V now issuer c e ↔ LineBelow V now p (last p) c e
   line_last p tal issuer held c e =
-      line_same issuer.cert.fields (cert_at p (last p)).fields (ap (λ (x : CertFields). x.fields) held.cert_is) (held_by issuer) (HeldAt p (last p))
+      line_same issuer.cert.fields (certificate_at p (last p)).fields (ap (λ (x : CertFields). x.fields) held.cert_is) (held_by issuer) (HeldAt p (last p))
       (record { v4_same = held.v4_is; v6_same = held.v6_is; as_same = held.as_is }) c e
 
   -- they stay so with further members
   pub line_above : (p : Path) (m : Member) (more : List Member) (i : ℕ) → i ≤ last p → (c : CertFields) (e : VerificationError) → LineBelow V now p i c e ↔ LineBelow V now (extended p m more) i c e
   line_above p m more i h c e =
-      line_same (cert_at p i).fields (cert_at (extended p m more) i).fields (ap (λ (x : CertFields). x.fields) (sym (above p m more i h))) (HeldAt p i) (HeldAt (extended p m more) i)
+      line_same (certificate_at p i).fields (certificate_at (extended p m more) i).fields (ap (λ (x : CertFields). x.fields) (sym (above p m more i h))) (HeldAt p i) (HeldAt (extended p m more) i)
       (record {
         v4_same = λ n. holds_above p m more v4_addresses n i h;
         v6_same = λ n. holds_above p m more v6_addresses n i h;
@@ -116,27 +116,27 @@ module _ (V : Verifies) (now : Moment) where
       longer = extended p member []
 
       -- what is issued is what the path holds
-      held_then : (n_kind : NumberKind) (has : List Block) (set : List Block) → ((n : ℕ) → Has has n ↔ Holds p (last p) n_kind n) → IsIssued has (resources_of n_kind r.cert) set → (n : ℕ) → Has set n ↔ Holds longer (last longer) n_kind n
+      held_then : (n_kind : NumberKind) (has : List Block) (set : List Block) → ((n : ℕ) → Has has n ↔ Holds p (last p) n_kind n) → IsIssued has (kind_resources n_kind r.cert) set → (n : ℕ) → Has set n ↔ Holds longer (last longer) n_kind n
       held_then n_kind has set is issued n =
           let at : last longer ≡ last p + 1 = last_extended p member in
-          let gets = gets_passed (Has has) (resources_of n_kind r.cert) n in
+          let gets = gets_passed (Has has) (kind_resources n_kind r.cert) n in
           let holds = holds_there p member [] n_kind n in (
             (λ h. let got = gets.0 ((issued n).0 h) in subst (λ (i : ℕ). Holds longer i n_kind n) (sym at) (holds.1 ((is n).0 got.0, got.1))),
             (λ h. let both = holds.0 (subst (λ (i : ℕ). Holds longer i n_kind n) at h) in (issued n).1 (gets.1 ((is n).1 both.0, both.1))),
           )
 
       module _ (good : IsGoodPath V now strict p) (lines : IsVerified (LineUnder V now issuer r.cert) issued_lines) where
-        verified : (i : ℕ) → (i ≡ last p) ⊎ (i < last p) → IsVerified (LineBelow V now longer i (cert_at longer (i + 1))) issued_lines
+        verified : (i : ℕ) → (i ≡ last p) ⊎ (i < last p) → IsVerified (LineBelow V now longer i (certificate_at longer (i + 1))) issued_lines
         verified i (inl e) =
             let h : last p ≤ last p = omega arith in
             let under = all_map (LineUnder V now issuer r.cert) (LineBelow V now p (last p) r.cert) issued_lines (λ x. (line_last p tal issuer held r.cert x).0) lines in
             let below = all_map (LineBelow V now p (last p) r.cert) (LineBelow V now longer (last p) r.cert) issued_lines (λ x. (line_above p member [] (last p) h r.cert x).0) under in
-            subst (λ (j : ℕ). IsVerified (LineBelow V now longer j (cert_at longer (j + 1))) issued_lines) (sym e)
+            subst (λ (j : ℕ). IsVerified (LineBelow V now longer j (certificate_at longer (j + 1))) issued_lines) (sym e)
             (subst (λ (c : CertFields). IsVerified (LineBelow V now longer (last p) c) issued_lines) (sym (there p member [])) below)
         verified i (inr h) =
             let low : i ≤ last p = omega arith in
             let next : i + 1 ≤ last p = omega arith in
-            let c = cert_at p (i + 1) in
+            let c = certificate_at p (i + 1) in
             subst (λ (c : CertFields). IsVerified (LineBelow V now longer i c) issued_lines) (sym (above p member [] (i + 1) next))
             (all_map (LineBelow V now p i c) (LineBelow V now longer i c) issued_lines (λ x. (line_above p member [] i low c x).0) (good.members_verified i h))
 
@@ -161,7 +161,7 @@ module _ (V : Verifies) (now : Moment) where
           };
           good = good_then p tal issuer a.held k r a.good is.lines is.read.meets;
           held = record {
-            cert_is = sym (there p m []) ∙ ap (λ (i : ℕ). cert_at (extended p m []) i) (sym (last_extended p m));
+            cert_is = sym (there p m []) ∙ ap (λ (i : ℕ). certificate_at (extended p m []) i) (sym (last_extended p m));
             v4_is = held_then p tal issuer a.held k r v4_addresses issuer.v4 r.v4 a.held.v4_is is.issued.v4_is;
             v6_is = held_then p tal issuer a.held k r v6_addresses issuer.v6 r.v6 a.held.v6_is is.issued.v6_is;
             as_is = held_then p tal issuer a.held k r system_numbers issuer.as_numbers r.as_numbers a.held.as_is is.issued.as_is;

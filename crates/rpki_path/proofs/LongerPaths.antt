@@ -8,7 +8,7 @@ use Rattle.std.proofs.Math.Seq.{get_or-append_seam}
 use Rattle.rpki_blocks.specs.Resources.{Resources, missing, inherit, blocks}
 use Rattle.rpki_blocks.specs.IssuedSets.{IsListed, Gets}
 use Rattle.rpki_cert.specs.Certificates.{CertFields}
-use Rattle.rpki_path.specs.Paths.{Member, Path, last, cert_at, NumberKind, Lists, Inherits, Holds}
+use Rattle.rpki_path.specs.Paths.{Member, Path, last, certificate_at, NumberKind, Lists, Inherits, Holds}
 
 -- ---- places
 
@@ -26,14 +26,14 @@ module _ (p : Path) (m : Member) (more : List Member) where
   long = omega (arith, length-map p.below (λ (x : Member). x.cert))
 
   -- the places of the shorter path
-  pub above : (i : ℕ) → i ≤ last p → cert_at (extended p m more) i ≡ cert_at p i
+  pub above : (i : ℕ) → i ≤ last p → certificate_at (extended p m more) i ≡ certificate_at p i
   above i h =
       let low : i < length (certs p) = omega (arith, long) in
       ap (λ (cs : List CertFields). get_or cs i p.anchor) certs_extended
       ∙ get_or-append (certs p) (m.cert ∷ map (λ (x : Member). x.cert) more) p.anchor i low
 
   -- the place below them
-  pub there : cert_at (extended p m more) (last p + 1) ≡ m.cert
+  pub there : certificate_at (extended p m more) (last p + 1) ≡ m.cert
   there =
       ap (λ (cs : List CertFields). get_or cs (last p + 1) p.anchor) certs_extended
       ∙ ap (λ (i : ℕ). get_or (certs p ++ m.cert ∷ map (λ (x : Member). x.cert) more) i p.anchor) (sym long)
@@ -60,8 +60,8 @@ module _ (p : Path) (m : Member) (more : List Member) (k : NumberKind) (n : ℕ)
     }),
   )
 
-  holds_then : Holds p (last p) k n → Passes m.cert k n → (j : ℕ) → 1 ≤ j → (j ≡ last p + 1) ⊎ (j < last p + 1) → Passes (cert_at (extended p m more) j) k n
-  holds_then held passes j low (inl e) = subst (λ (i : ℕ). Passes (cert_at (extended p m more) i) k n) (sym e) (subst (λ (c : CertFields). Passes c k n) (sym (there p m more)) passes)
+  holds_then : Holds p (last p) k n → Passes m.cert k n → (j : ℕ) → 1 ≤ j → (j ≡ last p + 1) ⊎ (j < last p + 1) → Passes (certificate_at (extended p m more) j) k n
+  holds_then held passes j low (inl e) = subst (λ (i : ℕ). Passes (certificate_at (extended p m more) i) k n) (sym e) (subst (λ (c : CertFields). Passes c k n) (sym (there p m more)) passes)
   holds_then held passes j low (inr h) =
       let short : j ≤ last p = omega arith in
       subst (λ (c : CertFields). Passes c k n) (sym (above p m more j short)) (held.passed_on j low short)

@@ -4,10 +4,10 @@ use Rattle.rpki_cert.specs.Certificates.{CertFields}
 use Rattle.rpki_cert.specs.Verification.{HeldLine}
 use Rattle.rpki_cert.specs.declared.verification_error.VerificationError.{VerificationError}
 use Rattle.rpki_cert.specs.declared.verification_error.VerificationError.TheVariants.{NotYetValid, Expired, InheritedV4, InheritedV6, InheritedAs, MissingKeyId, WrongKeyId, MissingIssuerUri, BadSignature, OverclaimV4, OverclaimV6, OverclaimAs, Memory}
-use Rattle.rpki_path.specs.Paths.{Path, last, NumberKind, v4_addresses, v6_addresses, system_numbers, greatest, Holds, HeldAt, PassesMore}
+use Rattle.rpki_path.specs.Paths.{Path, last, NumberKind, v4_addresses, v6_addresses, system_numbers, greatest_number, Holds, HeldAt, PassesMore}
 
 module _ (p q : Path) (more : PassesMore p q) (i : ℕ) (short : i ≤ last p) where
-  pub holds_more : (k : NumberKind) (n : ℕ) → n ≤ greatest k → Holds p i k n → Holds q i k n
+  pub holds_more : (k : NumberKind) (n : ℕ) → n ≤ greatest_number k → Holds p i k n → Holds q i k n
   holds_more k n small held = record {
     listed = more.anchor_lists k n small held.listed;
     passed_on = λ j low high. let within : j ≤ last p = omega arith in more.later_pass j low within k n small (held.passed_on j low high);

@@ -18,7 +18,7 @@ use Rattle.rpki_der.proofs.Formats.{one_meant}
 use Rattle.rpki_path.specs.declared.path_fault.PathFault.{PathFault}
 use Rattle.rpki_path.specs.declared.path_fault.PathFault.TheVariants.{Decode, Inspect, Verify, Memory}
 use Rattle.rpki_path.specs.declared.path_fault.PathError.{PathError}
-use Rattle.rpki_path.specs.Paths.{Member, Path, last, LineBelow, IsGoodPath, Asked, ask, IsMember, IsPathOf, IsAccepted, IsNoGoodPath, Refuses, Finds, IsFaultOfAnchor, IsFaultBelow, IsFault}
+use Rattle.rpki_path.specs.Paths.{Member, Path, last, LineBelow, IsGoodPath, Asked, ask, IsMember, IsPathOf, IsAccepted, IsNoGoodPath, UnlessMemory, Finds, IsFaultOfAnchor, IsFaultBelow, IsFault}
 use Rattle.rpki_path.proofs.LongerPaths.{extended, there, Parted, parted, zip_one, all_at}
 use Rattle.rpki_path.proofs.GoodPaths.{all_map, first_map, first_not_all, line_last, line_above}
 
@@ -88,8 +88,8 @@ module _ (V : Verifies) (now : Moment) (strict : Bool) where
 
   module _ (law : IsUnambiguous IsCertificate) where
     -- what is found of a string doesn't fit a certificate that it begins with
-    found_against : (kind : Kind) (line : CertFields → VerificationError → Type 0) (lines : List VerificationError) (octets : List ℕ) (e : PathFault) → Finds kind strict line lines octets e → (c : CertFields) → Means IsCertificate c octets → MeetsProfile kind strict c → IsVerified (line c) lines → Refuses e ⊥
-    found_against kind line lines octets (Decode e) h c m meets all = h c m
+    found_against : (kind : Kind) (line : CertFields → VerificationError → Type 0) (lines : List VerificationError) (octets : List ℕ) (e : PathFault) → Finds kind strict line lines octets e → (c : CertFields) → Means IsCertificate c octets → MeetsProfile kind strict c → IsVerified (line c) lines → UnlessMemory e ⊥
+    found_against kind line lines octets (Decode e) h c m meets all = h.1 c m
     found_against kind line lines octets (Inspect e) h c m meets all =
         let same = one_certificate law h.0 c octets h.1 m in
         first_not_all (Lacks kind strict c) (faults kind) e (subst (λ (d : CertFields). IsFirstFalse (Lacks kind strict d) (faults kind) e) same h.2) meets
@@ -99,13 +99,13 @@ module _ (V : Verifies) (now : Moment) (strict : Bool) where
     found_against kind line lines octets Memory h c m meets all = tt
 
     -- a refusal that holds of each path
-    for_each : (e : PathFault) (anchor : List ℕ) (below : List Asked) → ((p : Path) → IsPathOf anchor below p → IsGoodPath V now strict p → Refuses e ⊥) → Refuses e (IsNoGoodPath V now strict anchor below)
+    for_each : (e : PathFault) (anchor : List ℕ) (below : List Asked) → ((p : Path) → IsPathOf anchor below p → IsGoodPath V now strict p → UnlessMemory e ⊥) → UnlessMemory e (IsNoGoodPath V now strict anchor below)
     for_each (Decode e) anchor below h = h
     for_each (Inspect e) anchor below h = h
     for_each (Verify e) anchor below h = h
     for_each Memory anchor below h = tt
 
-    no_anchor : (anchor : List ℕ) (below : List Asked) (e : PathError) → IsFaultOfAnchor V now strict anchor e → (p : Path) → IsPathOf anchor below p → IsGoodPath V now strict p → Refuses e.fault ⊥
+    no_anchor : (anchor : List ℕ) (below : List Asked) (e : PathError) → IsFaultOfAnchor V now strict anchor e → (p : Path) → IsPathOf anchor below p → IsGoodPath V now strict p → UnlessMemory e.fault ⊥
     no_anchor anchor below e h p of good = found_against Anchor (AnchorLine V now) anchor_lines anchor e.fault h.fault_is p.anchor of.anchor_begins good.anchor_meets good.anchor_verified
 
     module _ (anchor : List ℕ) (below : List Asked) (e : PathError) (h : IsFaultBelow V now strict anchor below e) (p : Path) (of : IsPathOf anchor below p) where
@@ -121,7 +121,7 @@ module _ (V : Verifies) (now : Moment) (strict : Bool) where
           let first : p ≡ record { anchor = h.path.anchor; below = p.below } = ap (λ (c : CertFields). let x : Path = record { anchor = c; below = p.below } in x) anchors in
           first ∙ ap (λ (l : List Member). let x : Path = record { anchor = h.path.anchor; below = l } in x) belows
 
-      no_member : IsGoodPath V now strict p → Refuses e.fault ⊥
+      no_member : IsGoodPath V now strict p → UnlessMemory e.fault ⊥
       no_member good =
           let q = h.path in
           let m = split.item in
@@ -134,6 +134,6 @@ module _ (V : Verifies) (now : Moment) (strict : Bool) where
           let kind_is : m.kind ≡ h.there.kind = split.items.kind_is in
           found_against h.there.kind (LineBelow V now q (last q)) issued_lines h.there.octets e.fault h.fault_is m.cert split.items.begins (subst (λ (k : Kind). MeetsProfile k strict m.cert) kind_is meets) all
 
-    pub no_good_path : (anchor : List ℕ) (below : List Asked) (e : PathError) → IsFault V now strict anchor below e → Refuses e.fault (IsNoGoodPath V now strict anchor below)
+    pub no_good_path : (anchor : List ℕ) (below : List Asked) (e : PathError) → IsFault V now strict anchor below e → UnlessMemory e.fault (IsNoGoodPath V now strict anchor below)
     no_good_path anchor below e (inl h) = for_each e.fault anchor below (no_anchor anchor below e h)
     no_good_path anchor below e (inr h) = for_each e.fault anchor below (no_member anchor below e h)

@@ -91,13 +91,13 @@ path_accepted q tal cert (Ok report) a s t sorted = says_with (SaysOfPath q) rep
 path_accepted q tal cert (Err x) a s t sorted = tt
 
 -- what is told of a fault is not want of memory
-not_memory : {P : Type 0} (f : PathFault) (stage name : List ℕ) → IsToldBy f stage name → paths.Refuses f P → P
+not_memory : {P : Type 0} (f : PathFault) (stage name : List ℕ) → IsToldBy f stage name → paths.UnlessMemory f P → P
 not_memory (fault.Decode e) stage name t h = h
 not_memory (fault.Inspect e) stage name t h = h
 not_memory (fault.Verify e) stage name t h = h
 not_memory fault.Memory stage name t h = absurd t
 
-pub path_wrong : {E : Type 0} (q : PathQuestion) (e : PathError) (r : Result Report E) → paths.Refuses e.fault (IsNoGoodPath IsStandInSignature q.now q.strict q.anchor_octets (asked_below q)) → IsFault IsStandInSignature q.now q.strict q.anchor_octets (asked_below q) e
+pub path_wrong : {E : Type 0} (q : PathQuestion) (e : PathError) (r : Result Report E) → paths.UnlessMemory e.fault (IsNoGoodPath IsStandInSignature q.now q.strict q.anchor_octets (asked_below q)) → IsFault IsStandInSignature q.now q.strict q.anchor_octets (asked_below q) e
     → IfOk r (λ report. report.status ≡ status.Refused) → IfOk r (λ report. PrintsFault e (string_bytes report.text)) → IfOk r (λ report. SaysOfPath q (string_bytes report.text) report.status)
 path_wrong q e (Ok report) none is s prints =
     subst (λ (x : Status). SaysOfPath q (string_bytes report.text) x) (sym s) (not_memory e.fault prints.stage prints.name prints.told none, e, is, prints)

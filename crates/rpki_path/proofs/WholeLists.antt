@@ -1,14 +1,12 @@
 -- A list of entries that is all of the octets is read, and one that is read is all of them.
 use Rattle.std.specs.Prelude.{IsErr}
-use Rattle.std.proofs.Common.{◌≡◌, List, [], Result, Ok, Err, sym, ◌∙◌, ℕ}
+use Rattle.std.proofs.Common.{◌≡◌, List, [], Result, Ok, Err, sym, ℕ}
 use Rattle.std.proofs.lemmas.List.{append-nil}
 use Rattle.rpki_der.specs.declared.error.DecodeError.{DecodeError}
 use Rattle.rpki_der.specs.Place.{Refuses, MeansOrMemory}
 use Rattle.rpki_der.specs.Spelling.{BeginsOrAbsent}
 use Rattle.rpki_der.proofs.Answering.{refuses, certainly}
-use Rattle.rpki_der.proofs.Octets.{both_are}
 use Rattle.rpki_crl.specs.RevokedEntries.{IsRevokedCertificates, Revoked}
-use Rattle.rpki_crl.proofs.ListReads.{list_reads}
 
 abbrev Begins : List ℕ → Revoked → List ℕ → Type 0
 Begins = BeginsOrAbsent 0x30 IsRevokedCertificates
@@ -23,11 +21,12 @@ list_refused octets (Err f) d e none =
     let same : f ≡ d = cc in
     rw same (refuses d (λ h r is. h r [] (whole_begins octets r is)) none)
 
-pub list_left : (octets : List ℕ) (result : Result Revoked DecodeError) (r : Revoked) (rest : List ℕ) → IsErr result
+-- no more than one list, with what follows it, begins these octets
+abbrev pub IsOneList : Type 0
+IsOneList = (r s : Revoked) (b rest tail : List ℕ) → Begins b r rest → Begins b s tail → (r ≡ s) × (rest ≡ tail)
+
+pub list_left : (octets : List ℕ) (result : Result Revoked DecodeError) (r : Revoked) (rest : List ℕ) → IsOneList → IsErr result
     → Begins octets r rest → (rest ≡ [] → ⊥) → MeansOrMemory IsRevokedCertificates result octets
-list_left octets (Ok x) r rest err begins some = absurd cc
-list_left octets (Err f) r rest err begins some =
-    certainly f (λ s is.
-    let first = list_reads.again octets r rest begins in
-    let second = list_reads.again octets s [] (whole_begins octets s is) in
-    some (both_are (r, rest) (s, []) (sym first ∙ second)).1)
+list_left octets (Ok x) r rest one err begins some = absurd cc
+list_left octets (Err f) r rest one err begins some =
+    certainly f (λ s is. some (one r s octets rest [] begins (whole_begins octets s is)).1)

@@ -1,7 +1,8 @@
 -- Good paths: what they are, and which numbers their members hold (RFC 6487 7.2, RFC 8360 4.2.4.4).
-use Rattle.std.specs.Prelude.{◌≡◌, ◌↔◌, ◌⊎◌, ◌+◌, ◌-◌, ◌^◌, ◌<◌, ◌≤◌, ℕ, Bool, List, [], ◌∷◌, ◌++◌, length, map, slice_index_or, Option, Some, None, Result, Ok, Err}
+use Rattle.std.specs.Prelude.{◌≡◌, ◌≢◌, ◌↔◌, ◌⊎◌, ◌+◌, ◌-◌, ◌^◌, ◌<◌, ◌≤◌, ℕ, Bool, List, [], ◌∷◌, ◌++◌, length, map, slice_index_or, Option, Some, None, Result, Ok, Err}
 use Rattle.std.specs.List.{AllByRecursion, AllZip}
 use Rattle.rpki_der.specs.Times.{Moment}
+use Rattle.rpki_der.specs.declared.error.DecodeError.TheVariants as decoding
 use Rattle.rpki_blocks.specs.Sets.{Has}
 use Rattle.rpki_blocks.specs.Resources.{Resources, inherit}
 use Rattle.rpki_blocks.specs.IssuedSets.{IsListed}
@@ -38,29 +39,29 @@ abbrev pub last : Path → ℕ
 last p = length p.below
 
 -- the certificate at place i
-abbrev pub cert_at : Path → ℕ → CertFields
-cert_at p i = slice_index_or (p.anchor ∷ map (λ m. m.cert) p.below) i p.anchor
+abbrev pub certificate_at : Path → ℕ → CertFields
+certificate_at p i = slice_index_or (p.anchor ∷ map (λ m. m.cert) p.below) i p.anchor
 
 -- ---- what they hold
 
 pub data NumberKind : Type 0 where
   v4_addresses v6_addresses system_numbers : NumberKind
 
-abbrev pub resources_of : NumberKind → CertFields → Resources
-resources_of v4_addresses c = c.fields.extensions.v4_resources
-resources_of v6_addresses c = c.fields.extensions.v6_resources
-resources_of system_numbers c = c.fields.extensions.as_resources
+abbrev pub kind_resources : NumberKind → CertFields → Resources
+kind_resources v4_addresses c = c.fields.extensions.v4_resources
+kind_resources v6_addresses c = c.fields.extensions.v6_resources
+kind_resources system_numbers c = c.fields.extensions.as_resources
 
 abbrev pub Lists : CertFields → NumberKind → ℕ → Type 0
-Lists c k n = IsListed n (resources_of k c)
+Lists c k n = IsListed n (kind_resources k c)
 
 abbrev pub Inherits : CertFields → NumberKind → Type 0
-Inherits c k = resources_of k c ≡ inherit
+Inherits c k = kind_resources k c ≡ inherit
 
 -- the anchor lists n, and every later member down to place i lists n or inherits
 pub record Holds (p : Path) (i : ℕ) (k : NumberKind) (n : ℕ) : Type 0 where
   pub listed : Lists p.anchor k n
-  pub passed_on : (j : ℕ) → 1 ≤ j → j ≤ i → Lists (cert_at p j) k n ⊎ Inherits (cert_at p j) k
+  pub passed_on : (j : ℕ) → 1 ≤ j → j ≤ i → Lists (certificate_at p j) k n ⊎ Inherits (certificate_at p j) k
 
 -- the numbers that the member at place i holds
 abbrev pub HeldAt : Path → ℕ → Held
@@ -70,14 +71,14 @@ HeldAt p i = record { v4 = Holds p i v4_addresses; v6 = Holds p i v6_addresses; 
 
 -- the lines of a certificate that the member at place i issued
 abbrev pub LineBelow : Verifies → Moment → Path → ℕ → CertFields → VerificationError → Type 0
-LineBelow V now p i c = Line V now (cert_at p i).fields (HeldAt p i) c
+LineBelow V now p i c = Line V now (certificate_at p i).fields (HeldAt p i) c
 
 -- every member meets the profile of its kind, the anchor's lines are true of itself, and those of each later member under the one above it
 pub record IsGoodPath (V : Verifies) (now : Moment) (strict : Bool) (p : Path) : Type 0 where
   pub anchor_meets : MeetsProfile Anchor strict p.anchor
   pub members_meet : AllByRecursion (λ m. MeetsProfile m.kind strict m.cert) p.below
   pub anchor_verified : IsVerified (AnchorLine V now p.anchor) anchor_lines
-  pub members_verified : (i : ℕ) → i < last p → IsVerified (LineBelow V now p i (cert_at p (i + 1))) issued_lines
+  pub members_verified : (i : ℕ) → i < last p → IsVerified (LineBelow V now p i (certificate_at p (i + 1))) issued_lines
 
 -- ---- strings
 
@@ -112,7 +113,7 @@ pub record IsPathOf (anchor : List ℕ) (below : List Asked) (p : Path) : Type 0
 
 -- the last member, what it holds, and the locator that the path begins with
 pub record HasHeld (p : Path) (tal : List ℕ) (r : ResourceFields) : Type 0 where
-  pub cert_is : r.cert ≡ cert_at p (last p)
+  pub cert_is : r.cert ≡ certificate_at p (last p)
   pub v4_is : (n : ℕ) → Has r.v4 n ↔ Holds p (last p) v4_addresses n
   pub v6_is : (n : ℕ) → Has r.v6 n ↔ Holds p (last p) v6_addresses n
   pub as_is : (n : ℕ) → Has r.as_numbers n ↔ Holds p (last p) system_numbers n
@@ -130,18 +131,18 @@ abbrev pub IsNoGoodPath : Verifies → Moment → Bool → List ℕ → List Ask
 IsNoGoodPath V now strict anchor below = (p : Path) → IsPathOf anchor below p → IsGoodPath V now strict p → ⊥
 
 -- what want of memory may stand in place of
-abbrev pub Refuses : PathFault → Type 0 → Type 0
-Refuses Memory P = Unit {0}
-Refuses _ P = P
+abbrev pub UnlessMemory : PathFault → Type 0 → Type 0
+UnlessMemory Memory P = Unit {0}
+UnlessMemory _ P = P
 
 -- Ok exactly where the strings are a good path, with what its last member holds; want of memory aside
 abbrev pub Validates : Verifies → Moment → Bool → List ℕ → List Asked → List ℕ → Result ResourceFields PathError → Type 0
 Validates V now strict anchor below tal (Ok r) = IsAccepted V now strict anchor below tal r
-Validates V now strict anchor below tal (Err e) = Refuses e.fault (IsNoGoodPath V now strict anchor below)
+Validates V now strict anchor below tal (Err e) = UnlessMemory e.fault (IsNoGoodPath V now strict anchor below)
 
 -- what a fault says of a string where a certificate of this kind, with these lines, is asked for
 abbrev pub Finds : Kind → Bool → (CertFields → VerificationError → Type 0) → List VerificationError → List ℕ → PathFault → Type 0
-Finds kind strict line lines octets (Decode e) = (c : CertFields) → Means IsCertificate c octets → ⊥
+Finds kind strict line lines octets (Decode e) = (e ≢ decoding.Memory) × ((c : CertFields) → Means IsCertificate c octets → ⊥)
 Finds kind strict line lines octets (Inspect e) = (c : CertFields) × Means IsCertificate c octets × IsFirstFault kind strict c e
 Finds kind strict line lines octets (Verify e) = (c : CertFields) × Means IsCertificate c octets × MeetsProfile kind strict c × IsFirstFalse (line c) lines e
 Finds kind strict line lines octets Memory = Unit {0}
@@ -168,14 +169,14 @@ IsFault V now strict anchor below e = IsFaultOfAnchor V now strict anchor e ⊎ 
 
 -- ---- more numbers
 
-abbrev pub greatest : NumberKind → ℕ
-greatest v4_addresses = 2 ^ 128 - 1
-greatest v6_addresses = 2 ^ 128 - 1
-greatest system_numbers = 2 ^ 32 - 1
+abbrev pub greatest_number : NumberKind → ℕ
+greatest_number v4_addresses = 2 ^ 128 - 1
+greatest_number v6_addresses = 2 ^ 128 - 1
+greatest_number system_numbers = 2 ^ 32 - 1
 
 -- of two paths of one length the anchor of the second lists what that of the first lists, and each later member of the second lists or
 -- inherits what the one of the first at its place lists or inherits
 pub record PassesMore (p q : Path) : Type 0 where
   pub same_length : last p ≡ last q
-  pub anchor_lists : (k : NumberKind) (n : ℕ) → n ≤ greatest k → Lists p.anchor k n → Lists q.anchor k n
-  pub later_pass : (j : ℕ) → 1 ≤ j → j ≤ last p → (k : NumberKind) (n : ℕ) → n ≤ greatest k → Lists (cert_at p j) k n ⊎ Inherits (cert_at p j) k → Lists (cert_at q j) k n ⊎ Inherits (cert_at q j) k
+  pub anchor_lists : (k : NumberKind) (n : ℕ) → n ≤ greatest_number k → Lists p.anchor k n → Lists q.anchor k n
+  pub later_pass : (j : ℕ) → 1 ≤ j → j ≤ last p → (k : NumberKind) (n : ℕ) → n ≤ greatest_number k → Lists (certificate_at p j) k n ⊎ Inherits (certificate_at p j) k → Lists (certificate_at q j) k n ⊎ Inherits (certificate_at q j) k

@@ -15,7 +15,7 @@ use crate::running::Status;
 use crate::validating::validate_path;
 use bytes::Bytes;
 use rpki_cert::ResourceCert;
-use rpki_crl::RevokedCertificates;
+use rpki_crl::{RevokedCertificates, laws};
 use rpki_der::{Cursor, DecodeError};
 use rpki_parts::{StandIn, TalInfo};
 use std::alloc::{AllocError, Global};
@@ -31,6 +31,7 @@ pub(crate) struct Report {
 fn read_list(alloc: Global, octets: &Bytes) -> Result<RevokedCertificates, DecodeError>
     ensures { MeansOrMemory IsRevokedCertificates result octets.now }
 {
+    laws::unambiguous();
     let mut cursor = Cursor::new(octets);
     let list = RevokedCertificates::take_from(alloc, &mut cursor)?;
     cursor.finish()?;

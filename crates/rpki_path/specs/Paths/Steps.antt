@@ -1,6 +1,7 @@
 -- What one step down a path gives.
-use Rattle.std.specs.Prelude.{ℕ, Bool, List}
+use Rattle.std.specs.Prelude.{ℕ, Bool, List, ◌≢◌}
 use Rattle.rpki_der.specs.Times.{Moment}
+use Rattle.rpki_der.specs.declared.error.DecodeError.TheVariants as decoding
 use Rattle.rpki_parts.specs.Signatures.{Verifies}
 use Rattle.rpki_ext.specs.Kinds.{Means}
 use Rattle.rpki_cert.specs.Certificates.{CertFields, IsCertificate}
@@ -18,7 +19,7 @@ pub record IsReadAs (k : Kind) (strict : Bool) (octets : List ℕ) (c : CertFiel
 
 -- why there is none
 abbrev pub IsUnread : Kind → Bool → List ℕ → PathFault → Type 0
-IsUnread k strict octets (Decode e) = (c : CertFields) → Means IsCertificate c octets → ⊥
+IsUnread k strict octets (Decode e) = (e ≢ decoding.Memory) × ((c : CertFields) → Means IsCertificate c octets → ⊥)
 IsUnread k strict octets (Inspect e) = (c : CertFields) × Means IsCertificate c octets × IsFirstFault k strict c e
 IsUnread k strict octets (Verify e) = ⊥
 IsUnread k strict octets Memory = Unit {0}
