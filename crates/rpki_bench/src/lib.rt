@@ -18,21 +18,18 @@ pub extern "C" fn rpki_decode(alloc: Global, octets: &[u8]) -> u32
     ensures { result ≤ 2 }
 {
     match Cert::decode(alloc, octets) {
-        Ok(_) => 1,
+        Ok(cert) => {
+            drop(cert);
+            1
+        }
         Err(DecodeError::Memory) => 2,
         Err(_) => 0,
     }
 }
 
-/// Reads the certificate that the octets begin with, and writes the data of one with its fields so many times. Answers how often that
-/// went well.
-#[unsafe(no_mangle)]
-pub extern "C" fn rpki_write(alloc: Global, octets: &[u8], rounds: u32) -> u32
+fn written(alloc: Global, cert: &Cert, rounds: u32) -> u32
     ensures { result ≤ rounds }
 {
-    let Ok(cert) = Cert::decode(alloc, octets) else {
-        return 0;
-    };
     let mut out = Vec::new(alloc);
     for round in 0..rounds {
         out.clear();
@@ -43,12 +40,23 @@ pub extern "C" fn rpki_write(alloc: Global, octets: &[u8], rounds: u32) -> u32
     rounds
 }
 
-/// Reads the certificate, and compares so many times the hash of its key with its subject key identifier. Answers how often they agree.
+/// Reads the certificate that the octets begin with, and writes the data of one with its fields so many times. Answers how often that
+/// went well.
 #[unsafe(no_mangle)]
-pub extern "C" fn rpki_hash(alloc: Global, octets: &[u8], rounds: u32) -> u32 {
-    let Ok(cert) = Cert::decode(alloc, octets) else {
-        return 0;
-    };
+pub extern "C" fn rpki_write(alloc: Global, octets: &[u8], rounds: u32) -> u32
+    ensures { result ≤ rounds }
+{
+    match Cert::decode(alloc, octets) {
+        Ok(cert) => {
+            let went = written(alloc, &cert, rounds);
+            drop(cert);
+            went
+        }
+        Err(_) => 0,
+    }
+}
+
+fn agreements(cert: &Cert, rounds: u32) -> u32 {
     let tbs = cert.as_tbs();
     let mut equal = 0u32;
     for _ in 0..rounds {
@@ -57,4 +65,17 @@ pub extern "C" fn rpki_hash(alloc: Global, octets: &[u8], rounds: u32) -> u32 {
         }
     }
     equal
+}
+
+/// Reads the certificate, and compares so many times the hash of its key with its subject key identifier. Answers how often they agree.
+#[unsafe(no_mangle)]
+pub extern "C" fn rpki_hash(alloc: Global, octets: &[u8], rounds: u32) -> u32 {
+    match Cert::decode(alloc, octets) {
+        Ok(cert) => {
+            let equal = agreements(&cert, rounds);
+            drop(cert);
+            equal
+        }
+        Err(_) => 0,
+    }
 }

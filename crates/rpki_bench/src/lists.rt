@@ -1,4 +1,5 @@
 //! Revocation lists that are read and asked.
+use crate::judging::went_well;
 use rpki_crl::Crl;
 use rpki_der::Serial;
 use std::alloc::Global;
@@ -7,7 +8,7 @@ use std::alloc::Global;
 #[unsafe(no_mangle)]
 pub extern "C" fn rpki_list(alloc: Global, octets: &[u8], rounds: u32) -> u32 {
     for round in 0..rounds {
-        if Crl::decode(alloc, octets).is_err() {
+        if !went_well(Crl::decode(alloc, octets)) {
             return round;
         }
     }
@@ -28,11 +29,13 @@ fn found(list: &Crl, serials: &[u64]) -> u32 {
 /// Reads the list, caches its serials where `caches` isn't 0, and asks for these serial numbers. Answers how many are on it.
 #[unsafe(no_mangle)]
 pub extern "C" fn rpki_look_up(alloc: Global, octets: &[u8], caches: u32, serials: &[u64]) -> u32 {
-    let Ok(mut list) = Crl::decode(alloc, octets) else {
-        return 0;
-    };
-    if caches != 0 && list.cache_serials(alloc).is_err() {
-        return 0;
+    match Crl::decode(alloc, octets) {
+        Ok(mut list) => {
+            let is_ready = caches == 0 || list.cache_serials(alloc).is_ok();
+            let found = if is_ready { found(&list, serials) } else { 0 };
+            drop(list);
+            found
+        }
+        Err(_) => 0,
     }
-    found(&list, serials)
 }

@@ -78,8 +78,14 @@ pub fn decoded(out: &mut Answer, words: &Words<'_>, place: usize) -> Result<Cert
 pub fn inspect(words: &Words<'_>, out: &mut Answer) {
     let is_of_all = words.at(2) == "-";
     match decoded(out, words, if is_of_all { 1 } else { 2 }) {
-        Ok(cert) if is_of_all => inspected_as_all(out, &cert),
-        Ok(cert) => inspected_as(out, &cert, role_of(words, 1)),
+        Ok(cert) => {
+            if is_of_all {
+                inspected_as_all(out, &cert);
+            } else {
+                inspected_as(out, &cert, role_of(words, 1));
+            }
+            drop(cert);
+        }
         Err(error) => out.refused(&error),
     }
 }

@@ -126,6 +126,7 @@ fn cached(out: &mut Answer, plain: &Crl, copy: Crl, words: &Words<'_>) {
     out.field("cached");
     let is_same = all_same(out, plain, &copy, words);
     out.text(if is_same { "same" } else { "another" });
+    drop(copy);
 }
 
 fn questions(out: &mut Answer, crl: &Crl, words: &Words<'_>) {
@@ -183,9 +184,10 @@ fn refused(out: &mut Answer, error: &DecodeError, octets: &Bytes) {
     out.text("refused ");
     out.text(error.name());
     let mut cursor = Cursor::new(octets);
-    let again = Crl::take_from(out.alloc(), &mut cursor).is_err();
+    let again = Crl::take_from(out.alloc(), &mut cursor);
     out.field("take");
-    out.text(if again { "refused" } else { "ok" });
+    out.text(if again.is_err() { "refused" } else { "ok" });
+    drop(again);
     out.left(&cursor);
 }
 
@@ -193,14 +195,20 @@ fn refused(out: &mut Answer, error: &DecodeError, octets: &Bytes) {
 pub fn list(words: &Words<'_>, out: &mut Answer) {
     let octets = words.asked(out, 1);
     match Crl::decode(out.alloc(), octets.as_slice()) {
-        Ok(crl) => found(out, &crl, words, &octets),
+        Ok(crl) => {
+            found(out, &crl, words, &octets);
+            drop(crl);
+        }
         Err(error) => refused(out, &error, &octets),
     }
 }
 
 fn fault(front: &[u8], out: &Answer) -> &'static str {
     match Crl::decode(out.alloc(), front) {
-        Ok(_) => "ok",
+        Ok(list) => {
+            drop(list);
+            "ok"
+        }
         Err(error) => error.name(),
     }
 }

@@ -57,7 +57,10 @@ fn refused(out: &mut Answer, error: &PathError) {
 
 fn validated(out: &mut Answer, answer: Result<ResourceCert, PathError>) {
     match answer {
-        Ok(cert) => held(out, &cert),
+        Ok(cert) => {
+            held(out, &cert);
+            drop(cert);
+        }
         Err(error) => refused(out, &error),
     }
 }

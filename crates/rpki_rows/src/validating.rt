@@ -51,7 +51,10 @@ pub fn held(out: &mut Answer, cert: &ResourceCert) {
 
 fn verdict(out: &mut Answer, answer: Result<ResourceCert, ValidationError>) {
     match answer {
-        Ok(cert) => held(out, &cert),
+        Ok(cert) => {
+            held(out, &cert);
+            drop(cert);
+        }
         Err(error) => refused(out, &error),
     }
 }
@@ -90,7 +93,9 @@ impl Member for Cert {
         let (alloc, strict, now) = (out.alloc(), terms.strict, terms.now);
         match kind {
             Role::Router => {
-                verdict_of_router(out, self.validate_router_at(issuer, strict, now, &StandIn));
+                let answer = self.validate_router_at(issuer, strict, now, &StandIn);
+                verdict_of_router(out, answer);
+                drop(self);
             }
             Role::Ee => verdict(
                 out,

@@ -36,4 +36,5 @@ fn blocks_are_given(rt: HostRuntime) {
     build_all(&rt, rt.alloc(), &mut tbs);
     let octets = samples::written(&rt, rt.alloc(), &tbs);
     samples::assert_hash(&rt, rt.alloc(), &octets, samples::ANCHOR_DATA);
+    drop(tbs);
 }

@@ -19,7 +19,9 @@ fn and_more(rt: &impl Abort, alloc: Global, octets: &[u8]) -> Bytes {
 }
 
 fn assert_octets(rt: &impl Abort, found: Result<Bytes, EncodeError>, octets: &[u8]) {
-    assert!(rt; found.expect(rt, "memory").as_slice() == octets);
+    let found = found.expect(rt, "memory");
+    assert!(rt; found.as_slice() == octets);
+    drop(found);
 }
 
 // That these octets are written of the certificate, alone and behind an octet, and that its fields
@@ -35,7 +37,9 @@ fn assert_same(rt: &impl Abort, alloc: Global, cert: &Cert, octets: &[u8]) {
 }
 
 fn assert_copy(rt: &impl Abort, alloc: Global, copy: Result<Cert, AllocError>, octets: &[u8]) {
-    assert_same(rt, alloc, &copy.expect(rt, "memory"), octets);
+    let copy = copy.expect(rt, "memory");
+    assert_same(rt, alloc, &copy, octets);
+    drop(copy);
 }
 
 // The same of the certificate and of its copy.
@@ -45,7 +49,9 @@ fn assert_both(rt: &impl Abort, alloc: Global, cert: &Cert, octets: &[u8]) {
 }
 
 fn assert_found(rt: &impl Abort, alloc: Global, found: Result<Cert, DecodeError>, octets: &[u8]) {
-    assert_both(rt, alloc, &found.expect(rt, "a certificate"), octets);
+    let found = found.expect(rt, "a certificate");
+    assert_both(rt, alloc, &found, octets);
+    drop(found);
 }
 
 #[test]

@@ -146,11 +146,15 @@ fn of_purposes(rt: HostRuntime) {
 // What is written of the copy.
 fn written_copy(rt: &impl Abort, alloc: Global, tbs: &TbsCert) -> Vec<u8> {
     let copy = tbs.try_clone(alloc).expect(rt, "memory");
-    samples::written(rt, alloc, &copy)
+    let octets = samples::written(rt, alloc, &copy);
+    drop(copy);
+    octets
 }
 
 #[test]
 fn of_certificate_data(rt: HostRuntime) {
-    let octets = written_copy(&rt, rt.alloc(), &samples::router(&rt, rt.alloc()));
+    let tbs = samples::router(&rt, rt.alloc());
+    let octets = written_copy(&rt, rt.alloc(), &tbs);
     samples::assert_hash(&rt, rt.alloc(), &octets, samples::ROUTER_DATA);
+    drop(tbs);
 }

@@ -60,7 +60,10 @@ fn two_forms_of_a_key_identifier(rt: HostRuntime) {
 }
 
 fn is_there(rt: &impl Abort, found: Result<Option<Cert>, DecodeError>) -> bool {
-    found.expect(rt, "a certificate or none").is_some()
+    let found = found.expect(rt, "a certificate or none");
+    let is_there = found.is_some();
+    drop(found);
+    is_there
 }
 
 #[test]

@@ -6,8 +6,8 @@ use rpki_cert::{
     Cert, IssueCaError, KeyUsage, Overclaim, ResourceCert, TbsCert, ValidationError,
     VerificationError, issue_ca,
 };
-use rpki_crl::Crl;
-use rpki_parts::{StandIn, TalInfo};
+use rpki_crl::{Crl, CrlEntry, TbsCertList};
+use rpki_parts::{RpkiSignatureAlgorithm, Signature, Signer, SigningError, StandIn, TalInfo};
 use std::alloc::Global;
 use std::process::Abort;
 
@@ -72,7 +72,10 @@ fn assert_held(rt: &impl Abort, cert: &ResourceCert) {
 fn an_authority_is_issued(rt: HostRuntime) {
     let anchor = anchor(&rt, rt.alloc());
     let cert = issued(&rt, rt.alloc(), &anchor, Overclaim::Trim);
-    assert_held(&rt, &cert.expect(&rt, "an authority"));
+    let cert = cert.expect(&rt, "an authority");
+    assert_held(&rt, &cert);
+    drop(cert);
+    drop(anchor);
 }
 
 fn name(answer: &Issued) -> &'static str {
@@ -88,6 +91,8 @@ fn one_that_overclaims_is_not_issued(rt: HostRuntime) {
     let anchor = anchor(&rt, rt.alloc());
     let answer = issued(&rt, rt.alloc(), &anchor, Overclaim::Refuse);
     assert_eq!(rt; name(&answer), "OverclaimAs");
+    drop(answer);
+    drop(anchor);
 }
 
 #[test]
@@ -107,6 +112,57 @@ fn another_key_does_not_issue(rt: HostRuntime) {
         &StandIn,
     );
     assert_eq!(rt; name(&answer), "BadSignature");
+    drop(answer);
+    drop(key);
+    drop(anchor);
+}
+
+// Refuses each time, with the key.
+#[derive(Drop)]
+struct Refusing;
+
+impl Signer for Refusing {
+    ghost use Rattle.std.specs.Prelude.{⊤};
+
+    type KeyId = u32;
+
+    type Error = u32;
+
+    ghost signs = { λ _ _ _ _ _. ⊤ };
+
+    fn sign(
+        &self,
+        _alloc: Global,
+        key: &u32,
+        _algorithm: RpkiSignatureAlgorithm,
+        _message: &[u8],
+    ) -> Result<Signature, SigningError<u32>> {
+        Err(SigningError::Signer(*key))
+    }
+}
+
+// What a refusing signer refused with; 0 for anything else.
+fn refused_with(answer: &Result<ResourceCert, IssueCaError<u32>>) -> u32 {
+    match answer {
+        Err(IssueCaError::Signing(SigningError::Signer(key))) => *key,
+        _ => 0,
+    }
+}
+
+fn refused(rt: &impl Abort, alloc: Global, issuer: &ResourceCert) -> u32 {
+    let tbs = authority(rt, alloc, Overclaim::Trim);
+    let now = day(rt, 2024);
+    let answer = issue_ca(alloc, tbs, &Refusing, &7, issuer, true, now, &StandIn);
+    let key = refused_with(&answer);
+    drop(answer);
+    key
+}
+
+#[test]
+fn a_refusing_signer_does_not_issue(rt: HostRuntime) {
+    let anchor = anchor(&rt, rt.alloc());
+    assert_eq!(rt; refused(&rt, rt.alloc(), &anchor), 7);
+    drop(anchor);
 }
 
 fn fault(answer: Result<(), VerificationError>) -> &'static str {
@@ -126,12 +182,19 @@ fn assert_claim(rt: &impl Abort, anchor: &ResourceCert, list: &Crl, name: &str) 
     );
 }
 
+fn made(rt: &impl Abort, alloc: Global, data: TbsCertList<Vec<CrlEntry>>) -> Crl {
+    let list = data.into_crl(alloc, &StandIn, &rsa(b"abc"));
+    list.expect(rt, "a list")
+}
+
 #[test]
 fn a_list_names_its_issuer(rt: HostRuntime) {
     let anchor = anchor(&rt, rt.alloc());
     let data = crate::lists::data(&rt, rt.alloc());
-    let list = data.into_crl(rt.alloc(), &StandIn, &rsa(b"abc"));
-    assert_claim(&rt, &anchor, &list.expect(&rt, "a list"), "Ok");
+    let list = made(&rt, rt.alloc(), data);
+    assert_claim(&rt, &anchor, &list, "Ok");
+    drop(list);
+    drop(anchor);
 }
 
 #[test]
@@ -139,6 +202,8 @@ fn a_list_of_another_is_told(rt: HostRuntime) {
     let anchor = anchor(&rt, rt.alloc());
     let mut data = crate::lists::data(&rt, rt.alloc());
     data.set_authority_key_identifier(rsa(b"a").key_identifier());
-    let list = data.into_crl(rt.alloc(), &StandIn, &rsa(b"abc"));
-    assert_claim(&rt, &anchor, &list.expect(&rt, "a list"), "WrongKeyId");
+    let list = made(&rt, rt.alloc(), data);
+    assert_claim(&rt, &anchor, &list, "WrongKeyId");
+    drop(list);
+    drop(anchor);
 }

@@ -1,7 +1,7 @@
 //! Revocation lists: from shared octets, fields that are set, and lists under their URIs.
 
 use crate::samples::{self, uri};
-use rpki_crl::{Crl, CrlEntry, CrlStore, TbsCertList};
+use rpki_crl::{Crl, CrlEntry, CrlStore, TbsCertList, round_trip};
 use rpki_der::Serial;
 use rpki_parts::{RpkiSignatureAlgorithm, StandIn};
 use std::alloc::Global;
@@ -35,7 +35,9 @@ pub(crate) fn assert_two(rt: &impl Abort, alloc: Global, list: &Crl) {
 
 #[test]
 fn shared_octets_are_a_list(rt: HostRuntime) {
-    assert_two(&rt, rt.alloc(), &list(&rt, rt.alloc(), TWO));
+    let list = list(&rt, rt.alloc(), TWO);
+    assert_two(&rt, rt.alloc(), &list);
+    drop(list);
 }
 
 // That the data is written as it was signed.
@@ -53,6 +55,7 @@ fn assert_data(rt: &impl Abort, alloc: Global, list: &Crl, number: Serial) {
 fn the_number_of_a_list_is_set(rt: HostRuntime) {
     let list = list(&rt, rt.alloc(), ONE);
     assert_data(&rt, rt.alloc(), &list, Serial::from(7u64));
+    drop(list);
 }
 
 fn push(rt: &impl Abort, alloc: Global, store: &mut CrlStore, under: &str, digits: &str) {
@@ -106,5 +109,38 @@ fn assert_made(rt: &impl Abort, alloc: Global, list: &Crl) {
 #[test]
 fn a_list_is_made(rt: HostRuntime) {
     let made = data(&rt, rt.alloc()).into_crl(rt.alloc(), &StandIn, &samples::rsa(b"abc"));
-    assert_made(&rt, rt.alloc(), &made.expect(&rt, "a list"));
+    let made = made.expect(&rt, "a list");
+    assert_made(&rt, rt.alloc(), &made);
+    drop(made);
+}
+
+// The list of this data, and the same read from its own octets.
+fn read_again(rt: &impl Abort, alloc: Global, data: TbsCertList<Vec<CrlEntry>>) -> Crl {
+    let made = data
+        .into_crl(alloc, &StandIn, &samples::rsa(b"abc"))
+        .expect(rt, "a list");
+    let again = round_trip::read_again(alloc, &made).expect(rt, "memory");
+    drop(made);
+    again
+}
+
+#[test]
+fn a_made_list_is_read_again(rt: HostRuntime) {
+    let list = read_again(&rt, rt.alloc(), data(&rt, rt.alloc()));
+    assert_made(&rt, rt.alloc(), &list);
+    drop(list);
+}
+
+// Revokes one number more.
+fn revoke(rt: &impl Abort, entries: &mut Vec<CrlEntry>, number: u64) {
+    let entry = CrlEntry::new(Serial::from(number), samples::day(rt, 2020));
+    entries.push(entry).expect(rt, "memory");
+}
+
+#[test]
+fn entries_are_added_in_place(rt: HostRuntime) {
+    let mut data = data(&rt, rt.alloc());
+    revoke(&rt, data.revoked_certs_mut(), 43);
+    assert_eq!(rt; data.revoked_certs().len(), 3);
+    drop(data);
 }

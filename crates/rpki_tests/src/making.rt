@@ -155,4 +155,5 @@ fn fields_are_set(rt: HostRuntime) {
     samples::set_router(&rt, rt.alloc(), &mut tbs);
     let octets = samples::written(&rt, rt.alloc(), &tbs);
     samples::assert_hash(&rt, rt.alloc(), &octets, samples::ROUTER_DATA);
+    drop(tbs);
 }

@@ -68,7 +68,9 @@ fn assert_all(rt: &impl Abort, cert: &ResourceCert) {
 #[test]
 fn fifty_authorities_hand_on_what_the_anchor_lists(rt: HostRuntime) {
     let answer = validated(&rt, rt.alloc(), 50, &StandIn);
-    assert_all(&rt, &answer.expect(&rt, "a path"));
+    let cert = answer.expect(&rt, "a path");
+    assert_all(&rt, &cert);
+    drop(cert);
 }
 
 // The stand-in, but for messages of this length.
@@ -95,7 +97,10 @@ impl Verifier for Without {
 
 fn fault(answer: Validated) -> (usize, &'static str) {
     match answer {
-        Ok(_) => (0, "Ok"),
+        Ok(cert) => {
+            drop(cert);
+            (0, "Ok")
+        }
         Err(PathError { index, fault }) => match fault {
             PathFault::Verify(VerificationError::BadSignature) => (index, "BadSignature"),
             other => (index, other.name()),
@@ -104,7 +109,10 @@ fn fault(answer: Validated) -> (usize, &'static str) {
 }
 
 fn data_length(rt: &impl Abort, alloc: Global) -> usize {
-    samples::written(rt, alloc, &samples::end_entity(rt, alloc)).len()
+    let tbs = samples::end_entity(rt, alloc);
+    let length = samples::written(rt, alloc, &tbs).len();
+    drop(tbs);
+    length
 }
 
 #[test]

@@ -76,6 +76,7 @@ fn a_closure_that_fails_changes_nothing(rt: HostRuntime) {
     refuse_blocks(&rt, rt.alloc(), &mut tbs);
     let octets = samples::written(&rt, rt.alloc(), &tbs);
     samples::assert_hash(&rt, rt.alloc(), &octets, samples::ANCHOR_DATA);
+    drop(tbs);
 }
 
 // After a refusal the vector has what it had; that is met where an allocation is made to fail.

@@ -135,7 +135,10 @@ fn captured(rt: &impl Abort, alloc: Global, cert: &Cert) -> Bytes {
 /// The octets of the certificate that the anchor's key signs.
 pub(crate) fn signed(rt: &impl Abort, alloc: Global, tbs: TbsCert) -> Bytes {
     let made = tbs.into_cert(alloc, &StandIn, &rsa(b"abc"));
-    captured(rt, alloc, &made.expect(rt, "a certificate"))
+    let made = made.expect(rt, "a certificate");
+    let octets = captured(rt, alloc, &made);
+    drop(made);
+    octets
 }
 
 /// The octets that are written of the data.

@@ -28,13 +28,18 @@ fn assert_anchor(rt: &impl Abort, alloc: Global, cert: &Cert) {
     samples::assert_hash(rt, alloc, &written, samples::ANCHOR_DATA);
 }
 
+fn assert_anchor_found(rt: &impl Abort, alloc: Global, found: Result<Cert, DecodeError>) {
+    let cert = found.expect(rt, "a certificate");
+    assert_anchor(rt, alloc, &cert);
+    drop(cert);
+}
+
 #[test]
 fn a_cut_is_decoded(rt: HostRuntime) {
     let octets = between_zeros(&rt, rt.alloc());
     assert_eq!(rt; octets.len(), 951);
     let cut = octets.slice(3..950).expect(&rt, "memory");
-    let cert = Cert::decode_shared(rt.alloc(), cut);
-    assert_anchor(&rt, rt.alloc(), &cert.expect(&rt, "a certificate"));
+    assert_anchor_found(&rt, rt.alloc(), Cert::decode_shared(rt.alloc(), cut));
 }
 
 #[test]
@@ -43,8 +48,7 @@ fn a_cursor_stands_behind_the_certificate(rt: HostRuntime) {
     assert_eq!(rt; octets.len(), 951);
     let cut = octets.slice(3..951).expect(&rt, "memory");
     let mut cursor = Cursor::new(&cut);
-    let cert = Cert::take_from(rt.alloc(), &mut cursor);
-    assert_anchor(&rt, rt.alloc(), &cert.expect(&rt, "a certificate"));
+    assert_anchor_found(&rt, rt.alloc(), Cert::take_from(rt.alloc(), &mut cursor));
     assert_eq!(rt; cursor.rest(), b"\x00".as_slice());
     assert_eq!(rt; cursor.span(), (947, 948));
 }
@@ -64,8 +68,8 @@ fn outliving(rt: &impl Abort, alloc: Global, octets: Bytes) -> Result<Cert, Deco
 
 #[test]
 fn a_certificate_outlives_its_octets(rt: HostRuntime) {
-    let cert = outliving(&rt, rt.alloc(), anchor(&rt, rt.alloc()));
-    assert_anchor(&rt, rt.alloc(), &cert.expect(&rt, "a certificate"));
+    let found = outliving(&rt, rt.alloc(), anchor(&rt, rt.alloc()));
+    assert_anchor_found(&rt, rt.alloc(), found);
 }
 
 // The same of a list.
@@ -79,5 +83,7 @@ fn outliving_list(rt: &impl Abort, alloc: Global, octets: Bytes) -> Result<Crl, 
 fn a_list_outlives_its_octets(rt: HostRuntime) {
     let octets = samples::shared(&rt, rt.alloc(), crate::lists::TWO);
     let list = outliving_list(&rt, rt.alloc(), octets);
-    crate::lists::assert_two(&rt, rt.alloc(), &list.expect(&rt, "a list"));
+    let list = list.expect(&rt, "a list");
+    crate::lists::assert_two(&rt, rt.alloc(), &list);
+    drop(list);
 }

@@ -2,8 +2,8 @@
 
 use crate::samples;
 use bytes::Bytes;
-use rpki_cert::{Cert, TbsCert};
-use rpki_parts::{RpkiSignatureAlgorithm, Signature, Signer, SigningError};
+use rpki_cert::{Cert, TbsCert, round_trip};
+use rpki_parts::{RpkiSignatureAlgorithm, Signature, Signer, SigningError, StandIn};
 use std::alloc::Global;
 use std::cell::{Cell, RefCell};
 use std::process::Abort;
@@ -70,7 +70,10 @@ impl Signer for Refusing {
 // What the refused call answered; 0 for a certificate.
 fn answered(made: Result<Cert, SigningError<u32>>) -> (u32, &'static str) {
     match made {
-        Ok(_) => (0, "Ok"),
+        Ok(cert) => {
+            drop(cert);
+            (0, "Ok")
+        }
         Err(SigningError::Signer(key)) => (key, "Signer"),
         Err(refusal) => (0, refusal.name()),
     }
@@ -139,7 +142,9 @@ fn assert_kept(rt: &impl Abort, alloc: Global, signer: &Keeping, cert: &Cert) {
 
 fn assert_signed(rt: &impl Abort, alloc: Global, signer: &Keeping, tbs: TbsCert) {
     let made = tbs.into_cert(alloc, signer, &());
-    assert_kept(rt, alloc, signer, &made.expect(rt, "a certificate"));
+    let made = made.expect(rt, "a certificate");
+    assert_kept(rt, alloc, signer, &made);
+    drop(made);
 }
 
 #[test]
@@ -149,4 +154,23 @@ fn what_is_kept_is_signed_once(rt: HostRuntime) {
         asked: RefCell::new(Vec::new(rt.alloc())),
     };
     assert_signed(&rt, rt.alloc(), &signer, samples::anchor(&rt, rt.alloc()));
+}
+
+// The certificate of this data, with the issuer's IPv4 addresses, read again from its own octets.
+fn read_again(rt: &impl Abort, alloc: Global, mut tbs: TbsCert) -> Cert {
+    tbs.set_v4_resources_inherit();
+    let made = tbs
+        .into_cert(alloc, &StandIn, &samples::rsa(b"abc"))
+        .expect(rt, "a certificate");
+    let again = round_trip::read_again(alloc, &made).expect(rt, "memory");
+    drop(made);
+    again
+}
+
+#[test]
+fn a_made_certificate_is_read_again(rt: HostRuntime) {
+    let cert = read_again(&rt, rt.alloc(), samples::end_entity(&rt, rt.alloc()));
+    let octets = cert.to_captured(rt.alloc()).expect(&rt, "memory");
+    samples::assert_hash(&rt, rt.alloc(), &octets, samples::END_ENTITY);
+    drop(cert);
 }

@@ -188,15 +188,19 @@ fn assert_read_again(rt: &impl Abort, alloc: Global, octets: Vec<u8>, part: &str
     assert!(rt; samples::contains(&octets, &samples::octets(rt, alloc, part)));
     let octets = Bytes::from_vec(octets).expect(rt, "memory");
     let again = TbsCert::from_constructed(alloc, &mut Cursor::new(&octets));
-    let again = samples::written(rt, alloc, &again.expect(rt, "certificate data"));
-    assert!(rt; again.as_slice() == octets.as_slice());
+    let again = again.expect(rt, "certificate data");
+    let written = samples::written(rt, alloc, &again);
+    drop(again);
+    assert!(rt; written.as_slice() == octets.as_slice());
 }
 
 fn assert_part(rt: &impl Abort, alloc: Global, letters: usize, part: &str) {
     let mut tbs = samples::anchor(rt, alloc);
     tbs.set_ca_repository(Some(long_uri(rt, alloc, letters)));
     tbs.set_rpki_manifest(None);
-    assert_read_again(rt, alloc, samples::written(rt, alloc, &tbs), part);
+    let octets = samples::written(rt, alloc, &tbs);
+    drop(tbs);
+    assert_read_again(rt, alloc, octets, part);
 }
 
 #[test]
