@@ -12,7 +12,7 @@ use Rattle.rpki_path.specs.declared.input.Input.TheVariants.{Bad}
 use Rattle.rpki_path.specs.declared.input.Input.TheVariants as input
 use Rattle.rpki_path.specs.declared.path_lines.PathQuestion as declared
 use Rattle.rpki_path.specs.TextLines.{AreLines}
-use Rattle.rpki_path.specs.InputLines.{Line, at_moment, strictness, anchor, authority, last, IsLine, IsOctetsLine}
+use Rattle.rpki_path.specs.InputLines.{InputLine, at_moment, strictness, anchor, authority, last, IsLine, IsOctetsLine}
 use Rattle.rpki_path.specs.Program.{PathQuestion, Question, is_revoked, is_good_path, leaf_lines, Ask, BeginInput, IsBadLine}
 use Rattle.rpki_path.specs.Questions.{IsFirstLine, member_line, path_question, IsReadBehind}
 use Rattle.rpki_path.proofs.InputLines.{other_name, whole_begins, one_more, bad_line, bad_after}
@@ -159,5 +159,5 @@ authority_more lines text rest so_far line others first more are = subst (λ (l 
 
 pub authority_spelled : (cas lines : List (List ℕ)) → AllZip IsLine (map authority cas) lines → (octets line : List ℕ) → IsLine (authority octets) line → AllZip IsLine (map authority (cas ++ octets ∷ [])) (lines ++ line ∷ [])
 authority_spelled cas lines spelled octets line is =
-    subst (λ (l : List Line). AllZip IsLine l (lines ++ line ∷ [])) (sym (map_push authority cas octets))
+    subst (λ (l : List InputLine). AllZip IsLine l (lines ++ line ∷ [])) (sym (map_push authority cas octets))
     (zip_more IsLine (map authority cas) lines (authority octets) line spelled is)

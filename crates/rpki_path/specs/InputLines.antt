@@ -46,15 +46,15 @@ pub record IsOctetsLine (name octets line : List ℕ) : Type 0 where
 -- ---- lines of all kinds
 
 -- what a line tells
-pub data Line : Type 0 where
-  seeks : List ℕ → ℕ → Line
-  at_moment : Moment → Line
-  strictness : Bool → Line
-  anchor authority : List ℕ → Line
-  last : Leaf → Line
+pub data InputLine : Type 0 where
+  seeks : List ℕ → ℕ → InputLine
+  at_moment : Moment → InputLine
+  strictness : Bool → InputLine
+  anchor authority : List ℕ → InputLine
+  last : Leaf → InputLine
 
 -- the line tells it
-abbrev pub IsLine : Line → List ℕ → Type 0
+abbrev pub IsLine : InputLine → List ℕ → Type 0
 IsLine (seeks list serial) line = IsRevokedLine list serial line
 IsLine (at_moment now) line = IsMomentLine now line
 IsLine (strictness true) line = line ≡ codes "strict"

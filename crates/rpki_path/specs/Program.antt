@@ -13,7 +13,7 @@ use Rattle.rpki_path.specs.declared.path_fault.PathFault.TheVariants.{Decode, In
 use Rattle.rpki_path.specs.declared.running.Status.{Status}
 use Rattle.rpki_path.specs.declared.running.Status.TheVariants.{Done, Refused, BadInput}
 use Rattle.rpki_path.specs.declared.validating.Leaf.{Leaf}
-use Rattle.rpki_path.specs.InputLines.{Line, seeks, at_moment, strictness, anchor, authority, last, IsLine}
+use Rattle.rpki_path.specs.InputLines.{InputLine, seeks, at_moment, strictness, anchor, authority, last, IsLine}
 use Rattle.rpki_path.specs.Paths.{Path, Holds, v4_addresses, v6_addresses, system_numbers, asked, Asked, IsPathOf, IsGoodPath, IsNoGoodPath, IsFault}
 use Rattle.rpki_path.specs.Paths as paths
 use Rattle.rpki_path.specs.PrintedSets.{v4_end, v6_end, IsSetLine}
@@ -34,12 +34,12 @@ pub data Question : Type 0 where
   is_revoked : List ℕ → ℕ → Question
   is_good_path : PathQuestion → Question
 
-abbrev pub leaf_lines : Option Leaf → List Line
+abbrev pub leaf_lines : Option Leaf → List InputLine
 leaf_lines None = []
 leaf_lines (Some leaf) = last leaf ∷ []
 
 -- what the lines of an input tell
-abbrev pub lines_of : Question → List Line
+abbrev pub lines_of : Question → List InputLine
 lines_of (is_revoked list serial) = seeks list serial ∷ []
 lines_of (is_good_path q) =
     at_moment q.now ∷ strictness q.strict ∷ anchor q.anchor_octets ∷ map authority q.authorities ++ leaf_lines q.leaf

@@ -9,7 +9,7 @@ use Rattle.rpki_path.specs.declared.path_lines.Member.{Member}
 use Rattle.rpki_path.specs.declared.path_lines.Member.TheVariants.{Authority, Last}
 use Rattle.rpki_path.specs.declared.input.Input.{Input}
 use Rattle.rpki_path.specs.declared.input.Input.TheVariants.{Revoked, Path, Bad}
-use Rattle.rpki_path.specs.InputLines.{Line, authority, last}
+use Rattle.rpki_path.specs.InputLines.{InputLine, authority, last}
 use Rattle.rpki_path.specs.TextLines.{line_end, IsWithout, AreLines}
 use Rattle.rpki_path.specs.Program.{Question, is_revoked, is_good_path, Ask, IsBadLine}
 use Rattle.rpki_path.specs.Program as program
@@ -34,7 +34,7 @@ moment_at text = do
       then Some (moment (century.0 * 100 + year.0) month.0 day.0 hour.0 minute.0 second.0) else None
 
 -- what the line of a member below the anchor tells
-abbrev pub member_line : Member → Line
+abbrev pub member_line : Member → InputLine
 member_line (Authority octets) = authority octets
 member_line (Last leaf) = last leaf
 
