@@ -1,15 +1,17 @@
 -- Readings that choose by what stands next, and readings that turn what they read.
+use Rattle.std.specs.Prelude.{bytes_eq}
 use Rattle.std.proofs.Common.{◌≡◌, ℕ, eqb, List, [], ◌∷◌, ◌++◌, length, Option, Some, None, refl, sym, ap, subst, ◌∙◌, inl, inr, arith}
 use Rattle.std.proofs.lemmas.Bool.{cases_Bool, eq-eqb, ne_eqb}
-use Rattle.rpki_der.specs.Choices.{choice, Either, turned, Turned, picked, content_or, maybe, optional_of}
+use Rattle.std.proofs.lemmas.Slice.Eq.{bytes_eq-Decides}
+use Rattle.rpki_der.specs.Choices.{exactly, choice, Either, turned, Turned, picked, content_or, maybe, optional_of}
 use Rattle.rpki_der.specs.Reading.{optional, content, Reads, ReadsWhole, Inside, BeginWith}
 use Rattle.rpki_der.specs.Values.Reading.{value_at, ◌>>=◌}
 use Rattle.rpki_der.specs.Rows.{IsRow}
 use Rattle.rpki_der.specs.Rows.Reading.{row_of, Shrinks}
 use Rattle.rpki_der.specs.Spelling.{Begins, BeginsOther}
 use Rattle.rpki_der.specs.Values.{AreOctets, length_octets, enc, IsEnc}
-use Rattle.rpki_der.proofs.Octets.{bind_some, some, some_is, both_are}
-use Rattle.rpki_der.proofs.Readings.{content_reads}
+use Rattle.rpki_der.proofs.Octets.{nothing, bind_some, some, some_is, both_are}
+use Rattle.rpki_der.proofs.Readings.{begins_same, content_reads}
 use Rattle.rpki_der.proofs.ValueReads.{value_shorter}
 use Rattle.rpki_der.proofs.Rows.{row_is, row_again}
 
@@ -50,7 +52,7 @@ turned_reads {X} {Y} f read S F = record {
       let b = bind_some (f a.0.0) (λ z. Some (z, a.0.1)) (y, rest) a.2 in
       let one = F.takes bytes a.0.0 a.0.1 fits a.1 in
       let made : Y × List ℕ = (b.0, a.0.1) in
-      subst (λ (q : Y × List ℕ). Begins (Turned f S) bytes q.0 q.1) (some_is made (y, rest) b.2) (record {
+      begins_same (Turned f S) bytes made (y, rest) (some_is made (y, rest) b.2) (record {
         text = one.text;
         spelled = (a.0.0, one.spelled, b.1);
         parts = one.parts;
@@ -72,6 +74,17 @@ turned_whole {X} {Y} f read S F = record {
 -- a row is a whole
 pub row_reads : {X : Type 0} (read : List ℕ → Option (X × List ℕ)) (S : X → List ℕ → Type 0) → Reads read S → Shrinks read → ReadsWhole (row_of read) (IsRow S)
 row_reads read S F less = record { takes = λ octets xs fits e. row_is read S F octets xs fits e; again = λ xs octets s. row_again read S F less xs octets s }
+
+-- these octets, and no others
+pub exactly_reads : (wanted : List ℕ) → ReadsWhole (exactly wanted) (λ u octets. octets ≡ wanted)
+exactly_reads wanted = record {
+  takes = λ octets u fits e.
+      elim (cases_Bool (bytes_eq octets wanted)) [
+        | inl y ↦ (bytes_eq-Decides octets wanted).0 y
+        | inr n ↦ nothing u (rw n at e)
+      ];
+  again = λ u octets s. rw (s, (bytes_eq-Decides wanted wanted).1 refl) refl;
+}
 
 -- the same relation in other words
 pub same_whole : {X : Type 0} (f : List ℕ → Option X) (S T : X → List ℕ → Type 0) → ReadsWhole f S → ((x : X) (text : List ℕ) → S x text → T x text) → ((x : X) (text : List ℕ) → T x text → S x text) → ReadsWhole f T

@@ -9,19 +9,21 @@ use Rattle.rpki_der.proofs.WrittenOctets.{IfShort, ok_concat, ok_enc, ok_flag}
 
 pub extension_made : (x : Extension) → IsOid x.identifier → Short (extension x.identifier x.critical x.content) → IsExtension x (extension x.identifier x.critical x.content)
 extension_made x oid h =
-    let shorts = pieces_short (extension_pieces x.identifier x.critical x.content) (content_short SEQUENCE _ h) in
+    let (identifier_short, (flag_short, (octets_short, _))) = pieces_short (extension_pieces x.identifier x.critical x.content) (content_short SEQUENCE _ h) in
     record {
       identifier = enc OBJECT_IDENTIFIER x.identifier;
       flag = bool_or_false x.critical;
       content = enc OCTET_STRING x.content;
-      identifier_is = identifier_made x.identifier oid shorts.0;
+      identifier_is = identifier_made x.identifier oid identifier_short;
       flag_is = flag_made x.critical;
-      content_is = made OCTET_STRING x.content (omega arith) shorts.1.1.0;
+      content_is = made OCTET_STRING x.content (omega arith) octets_short;
       sequence = made SEQUENCE _ (omega arith) h;
     }
 
 pub extension_content_short : (id : List ℕ) (critical : Bool) (content : List ℕ) → Short (extension id critical content) → Short content
-extension_content_short id critical content h = content_short OCTET_STRING content (pieces_short (extension_pieces id critical content) (content_short SEQUENCE _ h)).1.1.0
+extension_content_short id critical content h =
+    let (_, (_, (octets_short, _))) = pieces_short (extension_pieces id critical content) (content_short SEQUENCE _ h) in
+    content_short OCTET_STRING content octets_short
 
 pub ok_extension : (id : List ℕ) (critical : Bool) (content : List ℕ) → AreOctets id → IfShort content → IfShort (extension id critical content)
 ok_extension id critical content o h =

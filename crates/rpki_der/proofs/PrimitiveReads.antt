@@ -53,7 +53,7 @@ abbrev IsFlag : Bool → List ℕ → Type 0
 IsFlag b c = c ≡ cond b 0xFF 0x00 ∷ []
 
 abbrev IsBoolean : Bool → List ℕ → Type 0
-IsBoolean b text = text ≡ 1 ∷ 1 ∷ cond b 0xFF 0x00 ∷ []
+IsBoolean b text = text ≡ BOOLEAN ∷ 1 ∷ cond b 0xFF 0x00 ∷ []
 
 flag_takes : (c : List ℕ) (b : Bool) → bool_of c ≡ Some b → IsFlag b c
 flag_takes [] b e = absurd cc
@@ -104,7 +104,7 @@ to_option false text s = elim s [ inl e ↦ (None, refl, e) | inr e ↦ (Some fa
 
 pub bool_or_false : ReadsOrAbsent BOOLEAN bool_or_false_at IsBoolOrFalse
 unfolding bool_or_false_at
-bool_or_false = mapped_or_absent 1 or_false (optional BOOLEAN bool_at) (Optional IsBoolean) IsBoolOrFalse (optional_or_absent BOOLEAN bool_at IsBoolean bool_reads bool_begins) from_option to_option
+bool_or_false = mapped_or_absent BOOLEAN or_false (optional BOOLEAN bool_at) (Optional IsBoolean) IsBoolOrFalse (optional_or_absent BOOLEAN bool_at IsBoolean bool_reads bool_begins) from_option to_option
 
 -- what follows decides whether it is absent: `before_then` and `inside_before` lead on
 pub bool_or_false_reads : ReadsBefore (BeginsOther BOOLEAN) bool_or_false_at IsBoolOrFalse

@@ -28,6 +28,30 @@ pub ended_some : {X : Type 0} (rest : List ℕ) (x y : X) → ended rest x ≡ s
 ended_some [] x y e = (refl, some_is x y e)
 ended_some (b ∷ rest) x y e = nothing y e
 
+-- ---- what begins some octets
+
+-- the same answer
+pub begins_same : {X : Type 0} (S : X → List ℕ → Type 0) (octets : List ℕ) (a b : X × List ℕ) → a ≡ b → Begins S octets a.0 a.1 → Begins S octets b.0 b.1
+begins_same {X} S octets a b e h = subst (λ (q : X × List ℕ). Begins S octets q.0 q.1) e h
+
+-- where nothing is left, the octets are spelled
+spelled_all : {X : Type 0} (S : X → List ℕ → Type 0) (octets : List ℕ) (x y : X) (rest : List ℕ) → rest ≡ [] → x ≡ y → Begins S octets x rest → S y octets
+spelled_all {X} S octets x y rest none same b =
+    let used : b.text ≡ octets = sym (append-nil b.text) ∙ ap (λ (r : List ℕ). b.text ++ r) (sym none) ∙ sym b.parts in
+    subst (λ (c : List ℕ). S y c) used (subst (λ (z : X). S z b.text) same b.spelled)
+
+-- one text after the other
+one_after : (octets a next b rest : List ℕ) → octets ≡ a ++ next → next ≡ b ++ rest → octets ≡ (a ++ b) ++ rest
+one_after octets a next b rest first second = first ∙ ap (λ (t : List ℕ). a ++ t) second ∙ sym (append_assoc a b rest)
+
+-- one value after the other
+both_begin : {X Y : Type 0} (S : X → List ℕ → Type 0) (T : Y → List ℕ → Type 0) (octets : List ℕ) (x : X) (next : List ℕ) (y : Y) (rest : List ℕ) → Begins S octets x next → Begins T next y rest → Begins (Both S T) octets (x, y) rest
+both_begin S T octets x next y rest one two = record {
+  text = one.text ++ two.text;
+  spelled = (one.text, two.text, one.spelled, two.spelled, refl);
+  parts = one_after octets one.text next two.text rest one.parts two.parts;
+}
+
 -- a content that isn't used up
 pub not_used_up : {X : Type 0} {c rest more : List ℕ} {x : X} {now ahead : Place} (t : ℕ) (f : List ℕ → Option (X × List ℕ))
     → ahead ≡ now → value_at t (left ahead) ≡ Some (c, rest) → f c ≡ Some (x, more) → (more ≡ [] → ⊥) → inside t f (left now) ≡ None
@@ -60,7 +84,7 @@ module _ (P : List ℕ → Type 0) where
         let a = bind_some (f bytes) (λ x. Some (to x.0, x.1)) (y, rest) e in
         let one = F.takes bytes a.0.0 a.0.1 fits a.1 in
         let made : Y × List ℕ = (to a.0.0, a.0.1) in
-        subst (λ (q : Y × List ℕ). Begins T bytes q.0 q.1) (some_is made (y, rest) a.2) (record { text = one.text; spelled = there a.0.0 one.text one.spelled; parts = one.parts });
+        begins_same T bytes made (y, rest) (some_is made (y, rest) a.2) (record { text = one.text; spelled = there a.0.0 one.text one.spelled; parts = one.parts });
     again = λ y text rest t p. let x = back y text t in rw (F.again x.0 text rest x.2 p, x.1) refl;
   }
 
@@ -74,7 +98,7 @@ module _ (P : List ℕ → Type 0) where
         record {
           text = one.text ++ two.text;
           spelled = (a.0.0, one.text, two.text, one.spelled, two.spelled, refl);
-          parts = one.parts ∙ ap (λ (t : List ℕ). one.text ++ t) two.parts ∙ sym (append_assoc one.text two.text rest);
+          parts = one_after bytes one.text a.0.1 two.text rest one.parts two.parts;
         };
     again = λ y text rest s p.
         let all : text ++ rest ≡ s.1 ++ (s.2 ++ rest) = rw s.5 (append_assoc s.1 s.2 rest) in
@@ -87,9 +111,7 @@ module _ (P : List ℕ → Type 0) where
     takes = λ octets x fits e.
         let a = bind_some (f octets) (λ r. ended r.1 r.0) x e in
         let g = ended_some a.0.1 a.0.0 x a.2 in
-        let one = F.takes octets a.0.0 a.0.1 fits a.1 in
-        let used : one.text ≡ octets = sym (append-nil one.text) ∙ sym (ap (λ (r : List ℕ). one.text ++ r) g.0) ∙ sym one.parts in
-        subst (λ (c : List ℕ). S x c) used (subst (λ (y : X). S y one.text) g.1 one.spelled);
+        spelled_all S octets a.0.0 x a.0.1 g.0 g.1 (F.takes octets a.0.0 a.0.1 fits a.1);
     again = λ x octets s.
         let all : f octets ≡ some {A = X × List ℕ} (x, []) = ap f (sym (append-nil octets)) ∙ F.again x octets [] s end in
         rw all refl;
@@ -105,11 +127,10 @@ module _ (P : List ℕ → Type 0) where
         let g = ended_some b.0.1 made (p, rest) b.2 in
         let one = value_takes t bytes a.0.0 a.0.1 fits a.1 in
         let low = AreOctets-content bytes t a.0.0 one fits in
-        let two = F.takes a.0.0 b.0.0 b.0.1 low b.1 in
-        let used : two.text ≡ a.0.0 = sym (append-nil two.text) ∙ sym (ap (λ (r : List ℕ). two.text ++ r) g.0) ∙ sym two.parts in
-        subst (λ (q : X × List ℕ). Begins (Inside t S) bytes q.0 q.1) g.1 (record {
+        let all = spelled_all S a.0.0 b.0.0 b.0.0 b.0.1 g.0 refl (F.takes a.0.0 b.0.0 b.0.1 low b.1) in
+        begins_same (Inside t S) bytes made (p, rest) g.1 (record {
           text = one.text;
-          spelled = (a.0.0, subst (λ (c : List ℕ). S b.0.0 c) used two.spelled, one.spelled);
+          spelled = (a.0.0, all, one.spelled);
           parts = one.parts;
         });
     again = λ p text rest s.
@@ -127,11 +148,7 @@ module _ (P : List ℕ → Type 0) where
         let one = F.takes bytes a.0.0 a.0.1 fits a.1 in
         let two = G.takes a.0.1 b.0.0 b.0.1 (AreOctets-after bytes one.text a.0.1 one.parts fits) b.1 in
         let made : (X × Y) × List ℕ = ((a.0.0, b.0.0), b.0.1) in
-        subst (λ (q : (X × Y) × List ℕ). Begins (Both S T) bytes q.0 q.1) (some_is made (p, rest) b.2) (record {
-          text = one.text ++ two.text;
-          spelled = (one.text, two.text, one.spelled, two.spelled, refl);
-          parts = one.parts ∙ ap (λ (t : List ℕ). one.text ++ t) two.parts ∙ sym (append_assoc one.text two.text b.0.1);
-        });
+        begins_same (Both S T) bytes made (p, rest) (some_is made (p, rest) b.2) (both_begin S T bytes a.0.0 a.0.1 b.0.0 b.0.1 one two);
     again = λ p text rest s follows.
         let all : text ++ rest ≡ s.0 ++ (s.1 ++ rest) = rw s.4 (append_assoc s.0 s.1 rest) in
         rw (all, F.again p.0 s.0 (s.1 ++ rest) s.2 (other p.1 s.1 rest s.3 follows), G.again p.1 s.1 rest s.3 follows) refl;
@@ -179,7 +196,7 @@ content_reads {X} t f S F = record {
       let made : X × List ℕ = (b.0, a.0.1) in
       let one = value_takes t bytes a.0.0 a.0.1 fits a.1 in
       let low = AreOctets-content bytes t a.0.0 one fits in
-      subst (λ (q : X × List ℕ). Begins (Inside t S) bytes q.0 q.1) (some_is made (p, rest) b.2) (record {
+      begins_same (Inside t S) bytes made (p, rest) (some_is made (p, rest) b.2) (record {
         text = one.text;
         spelled = (a.0.0, F.takes a.0.0 b.0 low b.1, one.spelled);
         parts = one.parts;

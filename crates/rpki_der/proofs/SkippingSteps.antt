@@ -29,14 +29,14 @@ same_rest false None rest after u e = nothing (u, after) e
 within_shorter : (d : ℕ) (octets : List ℕ) (u : Unit {0}) (rest : List ℕ) → skip_within d octets ≡ Some (u, rest) → length rest < length octets
 unfolding skip_within
 within_shorter zero octets u rest e =
-    let a = bind_some (any_at octets) (λ v. cond (is_primitive v.0.0) (some {A = Unit {0} × List ℕ} (tt, v.1)) None) (u, rest) e in
+    let (((tag, content), after), found, last) = bind_some (any_at octets) (λ v. cond (is_primitive v.0.0) (some {A = Unit {0} × List ℕ} (tt, v.1)) None) (u, rest) e in
     let none : Option ℕ = None in
-    let same : a.0.1 ≡ rest = same_rest (is_primitive a.0.0.0) none a.0.1 rest u a.2 in
-    omega (arith, ap length same, any_shrinks octets a.0.0 a.0.1 a.1)
+    let same : after ≡ rest = same_rest (is_primitive tag) none after rest u last in
+    omega (arith, ap length same, any_shrinks octets (tag, content) after found)
 within_shorter (suc d) octets u rest e =
-    let a = bind_some (any_at octets) (λ v. cond (is_primitive v.0.0) (some {A = Unit {0} × List ℕ} (tt, v.1)) (row_of (skip_within d) v.0.1 >>= λ row. some {A = Unit {0} × List ℕ} (tt, v.1))) (u, rest) e in
-    let same : a.0.1 ≡ rest = same_rest (is_primitive a.0.0.0) (row_of (skip_within d) a.0.0.1) a.0.1 rest u a.2 in
-    omega (arith, ap length same, any_shrinks octets a.0.0 a.0.1 a.1)
+    let (((tag, content), after), found, last) = bind_some (any_at octets) (λ v. cond (is_primitive v.0.0) (some {A = Unit {0} × List ℕ} (tt, v.1)) (row_of (skip_within d) v.0.1 >>= λ row. some {A = Unit {0} × List ℕ} (tt, v.1))) (u, rest) e in
+    let same : after ≡ rest = same_rest (is_primitive tag) (row_of (skip_within d) content) after rest u last in
+    omega (arith, ap length same, any_shrinks octets (tag, content) after found)
 
 pub within_shrinks : (d : ℕ) → Shrinks (skip_within d)
 within_shrinks d = within_shorter d

@@ -49,6 +49,20 @@ two_again n rest h =
     let number : (48 + n / 10 - 48) * 10 + (48 + n % 10 - 48) ≡ n = omega arith in
     rw (tens, ones, number) refl
 
+-- what they are, where their number and what follows them are known
+two_before : (text : List ℕ) (n k : ℕ) (rest tail : List ℕ) → IsTwo text n rest → k ≡ n → rest ≡ tail → text ≡ two k ++ tail
+two_before text n k rest tail h same e = h.0 ∙ ap (λ (x : List ℕ). two n ++ x) e ∙ ap (λ (i : ℕ). two i ++ tail) (sym same)
+
+next_two : (text : List ℕ) (n : ℕ) (rest tail : List ℕ) → two_at text ≡ Some (n, rest) → rest ≡ tail → text ≡ two n ++ tail
+next_two text n rest tail e h = two_before text n n rest tail (two_takes text n rest e) refl h
+
+-- five times two digits, and what ends the text
+five_before : (month day hour minute second : ℕ) (t0 t1 t2 t3 t4 t5 tail : List ℕ)
+    → two_at t0 ≡ Some (month, t1) → two_at t1 ≡ Some (day, t2) → two_at t2 ≡ Some (hour, t3) → two_at t3 ≡ Some (minute, t4) → two_at t4 ≡ Some (second, t5) → t5 ≡ tail
+    → t0 ≡ two month ++ (two day ++ (two hour ++ (two minute ++ (two second ++ tail))))
+five_before month day hour minute second t0 t1 t2 t3 t4 t5 tail e1 e2 e3 e4 e5 end =
+    next_two t0 month t1 _ e1 (next_two t1 day t2 _ e2 (next_two t2 hour t3 _ e3 (next_two t3 minute t4 _ e4 (next_two t4 second t5 tail e5 end))))
+
 -- the steps after the year
 abbrev from_second : ℕ → ℕ → ℕ → ℕ → ℕ → List ℕ → Option Moment
 from_second year month day hour minute text = two_at text >>= λ s. existing s.1 (record { year = year; month = month; day = day; hour = hour; minute = minute; second = s.0 })
@@ -80,12 +94,8 @@ after_takes year text m e =
     let end = if_some (bytes_eq second.0.1 (90 ∷ []) && is_moment (found second.0.0)) (found second.0.0) m second.2 in
     let tests = and_parts (bytes_eq second.0.1 (90 ∷ [])) (is_moment (found second.0.0)) end.0 in
     let z : second.0.1 ≡ 90 ∷ [] = (bytes_eq-Decides second.0.1 (90 ∷ [])).0 tests.0 in
-    let t5 : minute.0.1 ≡ two second.0.0 ++ 90 ∷ [] = (two_takes minute.0.1 second.0.0 second.0.1 second.1).0 ∙ ap (λ (x : List ℕ). two second.0.0 ++ x) z in
-    let t4 = (two_takes hour.0.1 minute.0.0 minute.0.1 minute.1).0 ∙ ap (λ (x : List ℕ). two minute.0.0 ++ x) t5 in
-    let t3 = (two_takes day.0.1 hour.0.0 hour.0.1 hour.1).0 ∙ ap (λ (x : List ℕ). two hour.0.0 ++ x) t4 in
-    let t2 = (two_takes month.0.1 day.0.0 day.0.1 day.1).0 ∙ ap (λ (x : List ℕ). two day.0.0 ++ x) t3 in
-    let t1 = (two_takes text month.0.0 month.0.1 month.1).0 ∙ ap (λ (x : List ℕ). two month.0.0 ++ x) t2 in
-    subst (λ (n : Moment). IsAfterYear year text n) end.1 (record { exists = moment_exists (found second.0.0) tests.1; year_is = refl; text_is = t1 })
+    let all = five_before month.0.0 day.0.0 hour.0.0 minute.0.0 second.0.0 text month.0.1 day.0.1 hour.0.1 minute.0.1 second.0.1 (90 ∷ []) month.1 day.1 hour.1 minute.1 second.1 z in
+    subst (λ (n : Moment). IsAfterYear year text n) {x = found second.0.0} end.1 (record { exists = moment_exists (found second.0.0) tests.1; year_is = refl; text_is = all })
 
 after_again : (m : Moment) → IsMoment m → after_year_of m.year (after_year m) ≡ Some m
 unfolding after_year_of
@@ -132,31 +142,35 @@ utc_whole = record {
         exists = rest.exists;
         from = omega (arith, near.0, rest.year_is);
         below = omega (arith, near.1, rest.year_is);
-        text_is = front.0 ∙ ap (λ (x : List ℕ). two year.0.0 ++ x) rest.text_is ∙ ap (λ (n : ℕ). two n ++ after_year m) (sym last);
+        text_is = two_before text year.0.0 (m.year % 100) year.0.1 (after_year m) front last rest.text_is;
       };
   again = λ m text s. rw (s.text_is, two_again (m.year % 100) (after_year m) (omega arith), century_again m.year s.from s.below) (after_again m s.exists);
 }
 
-abbrev IsGeneralizedText : Moment → List ℕ → Type 0
+abbrev pub IsGeneralizedText : Moment → List ℕ → Type 0
 IsGeneralizedText m text = IsMoment m × (text ≡ two (m.year / 100) ++ (two (m.year % 100) ++ after_year m))
 
-generalized_whole : ReadsWhole generalized_of IsGeneralizedText
+pub generalized_takes : (text : List ℕ) (m : Moment) → generalized_of text ≡ Some m → IsGeneralizedText m text
 unfolding generalized_of
-generalized_whole = record {
-  takes = λ text m fits e.
-      let century = bind_some (two_at text) (λ c. two_at c.1 >>= λ s. after_year_of (c.0 * 100 + s.0) s.1) m e in
-      let year = bind_some (two_at century.0.1) (λ s. after_year_of (century.0.0 * 100 + s.0) s.1) m century.2 in
-      let front = two_takes text century.0.0 century.0.1 century.1 in
-      let next = two_takes century.0.1 year.0.0 year.0.1 year.1 in
-      let rest = after_takes (century.0.0 * 100 + year.0.0) year.0.1 m year.2 in
-      let first : m.year / 100 ≡ century.0.0 = omega (arith, next.1, rest.year_is) in
-      let last : m.year % 100 ≡ year.0.0 = omega (arith, next.1, rest.year_is) in
-      let after : century.0.1 ≡ two (m.year % 100) ++ after_year m = next.0 ∙ ap (λ (x : List ℕ). two year.0.0 ++ x) rest.text_is ∙ ap (λ (n : ℕ). two n ++ after_year m) (sym last) in
-      (rest.exists, front.0 ∙ ap (λ (x : List ℕ). two century.0.0 ++ x) after ∙ ap (λ (n : ℕ). two n ++ (two (m.year % 100) ++ after_year m)) (sym first));
-  again = λ m text s.
-      let whole : m.year / 100 * 100 + m.year % 100 ≡ m.year = omega arith in
-      rw (s.1, two_again (m.year / 100) (two (m.year % 100) ++ after_year m) (omega (arith, s.0.year)), two_again (m.year % 100) (after_year m) (omega arith), whole) (after_again m s.0);
-}
+generalized_takes text m e =
+    let century = bind_some (two_at text) (λ c. two_at c.1 >>= λ s. after_year_of (c.0 * 100 + s.0) s.1) m e in
+    let year = bind_some (two_at century.0.1) (λ s. after_year_of (century.0.0 * 100 + s.0) s.1) m century.2 in
+    let front = two_takes text century.0.0 century.0.1 century.1 in
+    let next = two_takes century.0.1 year.0.0 year.0.1 year.1 in
+    let rest = after_takes (century.0.0 * 100 + year.0.0) year.0.1 m year.2 in
+    let first : m.year / 100 ≡ century.0.0 = omega (arith, next.1, rest.year_is) in
+    let last : m.year % 100 ≡ year.0.0 = omega (arith, next.1, rest.year_is) in
+    let after = two_before century.0.1 year.0.0 (m.year % 100) year.0.1 (after_year m) next last rest.text_is in
+    (rest.exists, two_before text century.0.0 (m.year / 100) century.0.1 (two (m.year % 100) ++ after_year m) front first after)
+
+pub generalized_again : (m : Moment) (text : List ℕ) → IsGeneralizedText m text → generalized_of text ≡ Some m
+unfolding generalized_of
+generalized_again m text s =
+    let whole : m.year / 100 * 100 + m.year % 100 ≡ m.year = omega arith in
+    rw (s.1, two_again (m.year / 100) (two (m.year % 100) ++ after_year m) (omega (arith, s.0.year)), two_again (m.year % 100) (after_year m) (omega arith), whole) (after_again m s.0)
+
+generalized_whole : ReadsWhole generalized_of IsGeneralizedText
+generalized_whole = record { takes = λ text m fits e. generalized_takes text m e; again = generalized_again }
 
 -- ---- the two forms
 

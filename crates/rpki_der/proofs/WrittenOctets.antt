@@ -9,7 +9,7 @@ use Rattle.std.proofs.lemmas.Int.Digits.{length-digits_of-le, all_below_base_dig
 use Rattle.rpki_der.specs.Values.{AreOctets, length_octets, enc, IsEnc, nested}
 use Rattle.rpki_der.specs.Times.{Moment, leap_day, days_in_month, IsMoment, two, after_year, time}
 use Rattle.rpki_der.specs.Primitives.{unsigned, number, bool_or_false}
-use Rattle.rpki_der.specs.Tags.{GENERALIZED_TIME, INTEGER, UTC_TIME}
+use Rattle.rpki_der.specs.Tags.{BOOLEAN, GENERALIZED_TIME, INTEGER, UTC_TIME}
 use Rattle.rpki_der.proofs.Octets.{AreOctets-append}
 use Rattle.rpki_der.proofs.ValueWritten.{bool_cases, enc_longer}
 
@@ -68,7 +68,7 @@ unfolding number
 ok_number n = ok_enc INTEGER _ (omega arith) (λ l. ok_unsigned (digits_of 256 n) (below _ (all_below_base_digits_of 256 n (omega arith))))
 
 pub ok_flag : (v : Bool) → AreOctets (bool_or_false v)
-ok_flag true = literal (1 ∷ 1 ∷ 255 ∷ []) refl
+ok_flag true = literal (BOOLEAN ∷ 1 ∷ 255 ∷ []) refl
 ok_flag false = tt
 
 -- ---- times

@@ -1,6 +1,6 @@
 -- Readings that choose by what stands next or by a test, that depend on what stood before, and that
 -- turn what they read.
-use Rattle.std.specs.Prelude.{◌≡◌, ℕ, nat_eq, Bool, if◌then◌else◌, List, [], ◌∷◌, ◌++◌, Option, Some, None, ◌⊎◌}
+use Rattle.std.specs.Prelude.{◌≡◌, ℕ, bytes_eq, nat_eq, Bool, if◌then◌else◌, List, [], ◌∷◌, ◌++◌, Option, Some, None, ◌⊎◌}
 use Rattle.rpki_der.specs.Reading.{ended, optional}
 use Rattle.rpki_der.specs.Values.Reading.{value_at, ◌>>=◌}
 
@@ -44,6 +44,10 @@ given test read bytes = if test then read bytes else None
 -- by one where the test was passed, else by the other
 abbrev pub choose : {X : Type 0} → Bool → (List ℕ → Option (X × List ℕ)) → (List ℕ → Option (X × List ℕ)) → List ℕ → Option (X × List ℕ)
 choose test first second bytes = if test then first bytes else second bytes
+
+-- these octets, and no others
+abbrev pub exactly : List ℕ → List ℕ → Option (Unit {0})
+exactly wanted octets = if bytes_eq octets wanted then Some tt else None
 
 -- a value that no octet is read for
 abbrev pub always : {X : Type 0} → X → List ℕ → Option (X × List ℕ)

@@ -57,7 +57,8 @@ Answers spells = AnswersBy (λ x. x) spells
 abbrev pub AnswersOptionalBy : {X Y : Type 0} → (X → Y) → ℕ → (Y → List ℕ → Type 0) → Place → Result (Option X) DecodeError → Place → Type 0
 AnswersOptionalBy view tag spells old (Ok None) new = BeginsOther tag (left old) × (new ≡ old)
 AnswersOptionalBy view tag spells old (Ok (Some x)) new = Begins spells (left old) (view x) (left new)
-AnswersOptionalBy {X} {Y} view tag spells old (Err e) new = (e ≢ Memory) × (BeginsOther tag (left old) → ⊥) × ((y : Y) (rest : List ℕ) → Begins spells (left old) y rest → ⊥)
+AnswersOptionalBy {X} {Y} view tag spells old (Err e) new =
+    (e ≢ Memory) × (BeginsOther tag (left old) → ⊥) × ((y : Y) (rest : List ℕ) → Begins spells (left old) y rest → ⊥)
 
 -- the same of a reader that may want memory
 abbrev pub AnswersOrMemoryBy : {X Y : Type 0} → (X → Y) → (Y → List ℕ → Type 0) → Place → Result X DecodeError → Place → Type 0
@@ -71,7 +72,8 @@ AnswersOrMemory spells = AnswersOrMemoryBy (λ x. x) spells
 abbrev pub AnswersOptionalOrMemoryBy : {X Y : Type 0} → (X → Y) → ℕ → (Y → List ℕ → Type 0) → Place → Result (Option X) DecodeError → Place → Type 0
 AnswersOptionalOrMemoryBy view tag spells old (Ok None) new = BeginsOther tag (left old) × (new ≡ old)
 AnswersOptionalOrMemoryBy view tag spells old (Ok (Some x)) new = Begins spells (left old) (view x) (left new)
-AnswersOptionalOrMemoryBy {X} {Y} view tag spells old (Err e) new = (BeginsOther tag (left old) → ⊥) × Refuses e ((y : Y) (rest : List ℕ) → Begins spells (left old) y rest → ⊥)
+AnswersOptionalOrMemoryBy {X} {Y} view tag spells old (Err e) new =
+    (BeginsOther tag (left old) → ⊥) × Refuses e ((y : Y) (rest : List ℕ) → Begins spells (left old) y rest → ⊥)
 
 abbrev pub AnswersOptionalOrMemory : {X : Type 0} → ℕ → (X → List ℕ → Type 0) → Place → Result (Option X) DecodeError → Place → Type 0
 AnswersOptionalOrMemory tag spells = AnswersOptionalOrMemoryBy (λ x. x) tag spells

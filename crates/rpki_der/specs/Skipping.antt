@@ -15,7 +15,9 @@ IsPrimitive tag = (tag / 32) % 2 ≡ 0
 -- primitive, or its content is a row of values with one level less
 unfoldable pub IsSkippableWithin : ℕ → List ℕ → Type 0
 IsSkippableWithin zero b = (v : IsValue b) × IsPrimitive v.tag
-IsSkippableWithin (suc depth) b = (v : IsValue b) × (IsPrimitive v.tag ⊎ ((row : List (List ℕ)) × (v.content ≡ concat row) × AllByRecursion (IsSkippableWithin depth) row))
+IsSkippableWithin (suc depth) b =
+    (v : IsValue b)
+    × (IsPrimitive v.tag ⊎ ((row : List (List ℕ)) × (v.content ≡ concat row) × AllByRecursion (IsSkippableWithin depth) row))
 
 abbrev pub IsSkippable : List ℕ → Type 0
 IsSkippable b = IsSkippableWithin levels b

@@ -16,8 +16,8 @@ abbrev pub BeginsOther : ℕ → List ℕ → Type 0
 BeginsOther tag [] = Unit {0}
 BeginsOther tag (b ∷ bytes) = b ≡ tag → ⊥
 
--- A value that is spelled by no octets only where none with this tag stands next, at the end or
--- before another one: a front of the octets spells it, and the rest follows.
+-- A front of the octets spells the value, and the rest follows. The front may be empty only at the end, or before another identifier
+-- than this tag.
 pub record BeginsOrAbsent {V : Type 0} (tag : ℕ) (spells : V → List ℕ → Type 0) (octets : List ℕ) (v : V) (rest : List ℕ) : Type 0 where
   pub text : List ℕ
   pub spelled : spells v text

@@ -105,7 +105,7 @@ pub fn put_extension(
     Ok(())
 }
 
-// The same, by the reading function.
+// The extension that stands next, by the reading function.
 #[tactic(auto, unfolding(crate::specs::Extensions::Reading::extension_at))]
 fn read<'a>(cursor: &mut Cursor<'a>) -> Result<(&'a [u8], bool, Cursor<'a>), DecodeError>
     ensures reads { TookBy extension_view extension_at cursor.old result cursor.new }

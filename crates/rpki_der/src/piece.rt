@@ -10,7 +10,7 @@ use bytes::Bytes;
 use std::alloc::{AllocError, Global};
 use std::marker::Model;
 
-/// Octets that are kept.
+/// Octets that are kept. They share the buffer that they were cut out of, and keep all of it alive; a copy copies no octets.
 #[derive(Drop)]
 pub struct Piece {
     octets: Bytes,

@@ -22,10 +22,10 @@ use std::alloc::Global;
 use std::cmp::Ordering;
 use std::marker::Model;
 
-// 2^120
-const TOP: u128 = 0x100_0000_0000_0000_0000_0000_0000_0000;
+// What the highest octet of the low half counts: 2^120.
+const HIGH_OCTET: u128 = 0x100_0000_0000_0000_0000_0000_0000_0000;
 
-/// A serial number: a whole number below 2^160 (RFC 5280 4.1.2.2).
+/// A serial number: a whole number below 2^160 (RFC 5280 4.1.2.2; own: 0 is one too, and so are the numbers from 2^159 on, whose INTEGER has 21 octets).
 #[derive(Clone, Copy, Hash)]
 pub struct Serial {
     high: u32,
@@ -78,14 +78,14 @@ impl Serial {
             if high >= 0x100_0000 {
                 return None;
             }
-            high = high * 0x100 + (low / TOP) as u32;
-            low = low % TOP * 0x100 + *octet as u128;
+            high = high * 0x100 + (low / HIGH_OCTET) as u32;
+            low = low % HIGH_OCTET * 0x100 + *octet as u128;
         }
         Some(Serial { high, low })
     }
 
-    // The number in 20 octets, the greatest first.
-    fn octets(&self) -> [u8; 20]
+    /// The number in 20 octets, the greatest first.
+    pub fn octets(&self) -> [u8; 20]
         ensures number { number_from_digits 256 result ≡ self.now }
         ensures below { self.now < 2 ^ 160 }
     {

@@ -133,11 +133,47 @@ impl Time {
         let _parts = self.inner.to_plain();
     }
 
-    fn year(&self) -> u16
+    /// The year, from 0 to 9999.
+    pub fn year(&self) -> u16
         ensures year { result ≡ self.now.year }
         ensures small { result < 10000 }
     {
         self.inner.year() as u16
+    }
+
+    /// The month, from 1 to 12.
+    pub fn month(&self) -> u8
+        ensures { result ≡ self.now.month }
+    {
+        self.inner.to_plain().date.month
+    }
+
+    /// The day of the month, from 1.
+    pub fn day(&self) -> u8
+        ensures { result ≡ self.now.day }
+    {
+        self.inner.to_plain().date.day
+    }
+
+    /// The hour, from 0 to 23.
+    pub fn hour(&self) -> u8
+        ensures { result ≡ self.now.hour }
+    {
+        self.inner.to_plain().time.hour
+    }
+
+    /// The minute, from 0 to 59.
+    pub fn minute(&self) -> u8
+        ensures { result ≡ self.now.minute }
+    {
+        self.inner.to_plain().time.minute
+    }
+
+    /// The second, from 0 to 59.
+    pub fn second(&self) -> u8
+        ensures { result ≡ self.now.second }
+    {
+        self.inner.to_plain().time.second
     }
 
     // The parts in decimal digits, the year in four, and Z.
