@@ -56,10 +56,9 @@ abbrev IpRange : ℕ → Block → List ℕ → Type 0
 IpRange bits = Turned spanned (Both (IsIPAddress bits) (IsIPAddress bits))
 
 range_is : (bits : ℕ) (r : Block) (b : List ℕ) → Inside SEQUENCE (IpRange bits) r b → IsIPAddressOrRange bits r b
-range_is bits r b s =
-    let p = s.1.1 in
-    let o = ordered_is s.1.0.0.min s.1.0.1.max r s.1.2 in
-    inl (record { low = s.1.0.0; high = s.1.0.1; from = p.0; to = p.1; low_is = p.2; high_is = p.3; sequence = two_pieces p.0 p.1 s.0 b p.4 s.2; ordered = o.0; is = o.1 })
+range_is bits r b (content, ((low, high), (from, to, low_is, high_is, parts), span), sequence) =
+    let o = ordered_is low.min high.max r span in
+    inl (record { low = low; high = high; from = from; to = to; low_is = low_is; high_is = high_is; sequence = two_pieces from to content b parts sequence; ordered = o.0; is = o.1 })
 
 is_element : (bits : ℕ) (r : Block) (b : List ℕ) → IsIPAddressOrRange bits r b → Either (Inside SEQUENCE (IpRange bits)) (IsIPAddress bits) r b
 is_element bits r b h =
@@ -78,7 +77,7 @@ ip_element_reads family =
     (whole_reads (turned spanned (both (address_at family) (address_at family))) R
     (turned_reads spanned (both (address_at family) (address_at family)) (Both A A) (both_reads (address_at family) (address_at family) A A (address_reads family) (address_reads family))))
     (address_reads family)
-    (λ r text rest s. let b = enc_begins BIT_STRING _ text s.spelled.enc in other_tag SEQUENCE 3 text rest b.0 b.1 (λ e. absurd (omega arith))))
+    (λ r text rest s. let b = enc_begins BIT_STRING _ text s.spelled.enc in other_tag SEQUENCE BIT_STRING text rest b.0 b.1 (λ e. absurd (omega arith))))
     (λ r text h. elim h [ inl s ↦ range_is (family_bits family) r text s | inr s ↦ inr s ])
     (λ r text h. is_element (family_bits family) r text h)
 
@@ -131,7 +130,7 @@ named_again : (family : Family) → family_of (0 ∷ number family ∷ []) ≡ S
 named_again V4 = refl
 named_again V6 = refl
 
-number_octets : (family : Family) → IsEnc OCTET_STRING (0 ∷ number family ∷ []) (4 ∷ 2 ∷ 0 ∷ number family ∷ [])
+number_octets : (family : Family) → IsEnc OCTET_STRING (0 ∷ number family ∷ []) (OCTET_STRING ∷ 2 ∷ 0 ∷ number family ∷ [])
 unfolding enc length_octets
 number_octets V4 = record { octet = omega arith; low_tag = omega arith; octets = (omega arith, (omega arith, tt)); short = omega arith; is = refl }
 number_octets V6 = record { octet = omega arith; low_tag = omega arith; octets = (omega arith, (omega arith, tt)); short = omega arith; is = refl }
@@ -140,18 +139,18 @@ family_is : (x : Family × Resources) (b : List ℕ) → Inside SEQUENCE FamilyC
 family_is x b s =
     let t = s.1 in
     let made : Family × Resources = (t.0, t.4.0) in
-    let octets : t.1 ≡ 4 ∷ 2 ∷ 0 ∷ number t.0 ∷ [] = t.3.1.is ∙ ap (enc OCTET_STRING) (named t.3.0 t.0 t.3.2) ∙ sym (number_octets t.0).is in
+    let octets : t.1 ≡ OCTET_STRING ∷ 2 ∷ 0 ∷ number t.0 ∷ [] = t.3.1.is ∙ ap (enc OCTET_STRING) (named t.3.0 t.0 t.3.2) ∙ sym (number_octets t.0).is in
     subst (λ (y : Family × Resources). IsFamily y b) (some_is made x t.4.2) (record {
       choice = t.2;
       choice_is = t.4.1;
-      sequence = two_pieces (4 ∷ 2 ∷ 0 ∷ number t.0 ∷ []) t.2 s.0 b (t.5 ∙ ap (λ (y : List ℕ). y ++ t.2) octets) s.2;
+      sequence = two_pieces (OCTET_STRING ∷ 2 ∷ 0 ∷ number t.0 ∷ []) t.2 s.0 b (t.5 ∙ ap (λ (y : List ℕ). y ++ t.2) octets) s.2;
     })
 
 is_family : (x : Family × Resources) (b : List ℕ) → IsFamily x b → Inside SEQUENCE FamilyContent x b
 is_family x b s = (
-  (4 ∷ 2 ∷ 0 ∷ number x.0 ∷ []) ++ s.choice,
-  (x.0, 4 ∷ 2 ∷ 0 ∷ number x.0 ∷ [], s.choice, (0 ∷ number x.0 ∷ [], number_octets x.0, named_again x.0), (x.1, s.choice_is, refl), refl),
-  pieces_two (4 ∷ 2 ∷ 0 ∷ number x.0 ∷ []) s.choice b s.sequence,
+  (OCTET_STRING ∷ 2 ∷ 0 ∷ number x.0 ∷ []) ++ s.choice,
+  (x.0, OCTET_STRING ∷ 2 ∷ 0 ∷ number x.0 ∷ [], s.choice, (0 ∷ number x.0 ∷ [], number_octets x.0, named_again x.0), (x.1, s.choice_is, refl), refl),
+  pieces_two (OCTET_STRING ∷ 2 ∷ 0 ∷ number x.0 ∷ []) s.choice b s.sequence,
 )
 
 family_in_reads : ReadsWhole family_in FamilyContent

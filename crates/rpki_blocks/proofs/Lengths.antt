@@ -11,14 +11,14 @@ use Rattle.rpki_blocks.specs.AddressBits.{ip_block}
 use Rattle.rpki_blocks.specs.Systems.{as_block, written_as}
 use Rattle.rpki_blocks.specs.Unions.{text_of, written_choice}
 use Rattle.rpki_der.specs.Extensions.{content_of_some}
-use Rattle.rpki_der.specs.Tags.{NULL, OBJECT_IDENTIFIER, OCTET_STRING, SEQUENCE, CONTEXT_CONSTRUCTED}
+use Rattle.rpki_der.specs.Tags.{NULL, OBJECT_IDENTIFIER, OCTET_STRING, SEQUENCE, CONTEXT_CONSTRUCTED, BOOLEAN}
 use Rattle.rpki_der.proofs.ValueWritten.{enc_longer}
 pub use Rattle.rpki_der.proofs.TooLong.{passed_long}
 
 -- an extension is longer than its content
 pub content_longer : (id : List ℕ) (o : Option (List ℕ)) → length (text_of o) ≤ length (content_of_some id true o)
 content_longer id None = omega arith
-content_longer id (Some c) = omega (arith, enc_longer OCTET_STRING c, length-append (enc OCTET_STRING c) [], length-append (1 ∷ 1 ∷ 255 ∷ []) (enc OCTET_STRING c ++ []), length-append (enc OBJECT_IDENTIFIER id) ((1 ∷ 1 ∷ 255 ∷ []) ++ (enc OCTET_STRING c ++ [])))
+content_longer id (Some c) = omega (arith, enc_longer OCTET_STRING c, length-append (enc OCTET_STRING c) [], length-append (BOOLEAN ∷ 1 ∷ 255 ∷ []) (enc OCTET_STRING c ++ []), length-append (enc OBJECT_IDENTIFIER id) ((BOOLEAN ∷ 1 ∷ 255 ∷ []) ++ (enc OCTET_STRING c ++ [])))
 
 -- ---- contents are longer than their parts
 
@@ -36,7 +36,7 @@ numbers_longer missing some = absurd (some refl)
 numbers_longer inherit some = enc_longer SEQUENCE (enc (CONTEXT_CONSTRUCTED 0) null)
 numbers_longer (blocks bs) some = enc_longer SEQUENCE (enc (CONTEXT_CONSTRUCTED 0) (sequence (map as_block bs)))
 
-family_is : (n : ℕ) (r : Resources) → r ≢ missing → concat (family n r) ≡ enc SEQUENCE ((4 ∷ 2 ∷ 0 ∷ n ∷ []) ++ (text_of (written_choice ip_block r) ++ [])) ++ []
+family_is : (n : ℕ) (r : Resources) → r ≢ missing → concat (family n r) ≡ enc SEQUENCE ((OCTET_STRING ∷ 2 ∷ 0 ∷ n ∷ []) ++ (text_of (written_choice ip_block r) ++ [])) ++ []
 family_is n missing some = absurd (some refl)
 family_is n inherit some = refl
 family_is n (blocks bs) some = refl
@@ -45,7 +45,7 @@ family_is n (blocks bs) some = refl
 pub family_longer : (n : ℕ) (r : Resources) → r ≢ missing → 4 + length (text_of (written_choice ip_block r)) ≤ length (concat (family n r))
 family_longer n r some =
     let c = text_of (written_choice ip_block r) in
-    omega (arith, ap length (family_is n r some), enc_longer SEQUENCE ((4 ∷ 2 ∷ 0 ∷ n ∷ []) ++ (text_of (written_choice ip_block r) ++ [])), length-append (4 ∷ 2 ∷ 0 ∷ n ∷ []) (text_of (written_choice ip_block r) ++ []), length-append (text_of (written_choice ip_block r)) [], length-append (enc SEQUENCE ((4 ∷ 2 ∷ 0 ∷ n ∷ []) ++ (text_of (written_choice ip_block r) ++ []))) [])
+    omega (arith, ap length (family_is n r some), enc_longer SEQUENCE ((OCTET_STRING ∷ 2 ∷ 0 ∷ n ∷ []) ++ (text_of (written_choice ip_block r) ++ [])), length-append (OCTET_STRING ∷ 2 ∷ 0 ∷ n ∷ []) (text_of (written_choice ip_block r) ++ []), length-append (text_of (written_choice ip_block r)) [], length-append (enc SEQUENCE ((OCTET_STRING ∷ 2 ∷ 0 ∷ n ∷ []) ++ (text_of (written_choice ip_block r) ++ []))) [])
 
 pub some_longer : (ps : List (List ℕ)) → length (concat ps) ≤ length (text_of (sequence_of_some ps))
 some_longer [] = omega arith

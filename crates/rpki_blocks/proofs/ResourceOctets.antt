@@ -4,7 +4,7 @@ use Rattle.std.specs.List.{AllByRecursion}
 use Rattle.std.proofs.Common.{ℕ, ◌+◌, ◌-◌, ◌*◌, ◌/◌, ◌%◌, ◌^◌, ◌<◌, zero, suc, List, [], ◌∷◌, ◌++◌, length, map, Option, Some, None, ◌≡◌, subst, sym, refl, arith, inl, inr}
 use Rattle.rpki_der.specs.Values.{AreOctets, sequence, sequence_of_some}
 use Rattle.rpki_der.specs.Primitives.{number}
-use Rattle.rpki_der.specs.Tags.{BIT_STRING, SEQUENCE}
+use Rattle.rpki_der.specs.Tags.{BIT_STRING, SEQUENCE, NULL, OCTET_STRING, CONTEXT_CONSTRUCTED}
 use Rattle.rpki_blocks.specs.Sets.{Block}
 use Rattle.rpki_blocks.specs.Resources.{Resources, missing, inherit, blocks}
 use Rattle.rpki_blocks.specs.Addresses.{Ip, family_pieces, family, ip}
@@ -43,7 +43,7 @@ ok_map write h (b ∷ bs) = (h b, ok_map write h bs)
 
 ok_choice : (write : Block → List ℕ) → ((b : Block) → IfShort (write b)) → (r : Resources) → IfSome (written_choice write r) IfShort
 ok_choice write h missing = tt
-ok_choice write h inherit = λ l. literal (5 ∷ 0 ∷ []) refl
+ok_choice write h inherit = λ l. literal (NULL ∷ 0 ∷ []) refl
 ok_choice write h (blocks bs) = ok_enc SEQUENCE _ (omega arith) (ok_concat (map write bs) (ok_map write h bs))
 
 pub ok_pieces : (ps : List (List ℕ)) → AllByRecursion IfShort ps → IfSome (sequence_of_some ps) IfShort
@@ -52,7 +52,7 @@ ok_pieces (p ∷ ps) h = ok_enc SEQUENCE _ (omega arith) (ok_concat (p ∷ ps) h
 
 ok_family_of : (n : ℕ) → n < 256 → (o : Option (List ℕ)) → IfSome o IfShort → (ps : List (List ℕ)) → AllByRecursion IfShort ps → AllByRecursion IfShort (family_pieces n o ++ ps)
 ok_family_of n small None h ps rest = rest
-ok_family_of n small (Some c) h ps rest = (ok_enc SEQUENCE _ (omega arith) (ok_concat ((4 ∷ 2 ∷ 0 ∷ n ∷ []) ∷ c ∷ []) ((λ l. (omega arith, (omega arith, (omega arith, (small, tt))))), (h, tt))), rest)
+ok_family_of n small (Some c) h ps rest = (ok_enc SEQUENCE _ (omega arith) (ok_concat ((OCTET_STRING ∷ 2 ∷ 0 ∷ n ∷ []) ∷ c ∷ []) ((λ l. (omega arith, (omega arith, (omega arith, (small, tt))))), (h, tt))), rest)
 
 pub ok_ip : (i : Ip) → IfSome (ip i) IfShort
 ok_ip i = ok_pieces (family 1 i.v4 ++ family 2 i.v6) (ok_family_of 1 (omega arith) (written_choice ip_block i.v4) (ok_choice ip_block ok_ip_block i.v4) (family 2 i.v6) (six (written_choice ip_block i.v6) (ok_choice ip_block ok_ip_block i.v6)))
@@ -63,8 +63,8 @@ ok_ip i = ok_pieces (family 1 i.v4 ++ family 2 i.v6) (ok_family_of 1 (omega arit
 
 pub ok_as_resources : (r : Resources) → IfSome (written_as r) IfShort
 ok_as_resources missing = tt
-ok_as_resources inherit = ok_nested (0x30 ∷ 0xA0 ∷ []) _ (literal (0x30 ∷ 0xA0 ∷ []) refl) (ok_choice as_block ok_as_block inherit)
-ok_as_resources (blocks bs) = ok_nested (0x30 ∷ 0xA0 ∷ []) _ (literal (0x30 ∷ 0xA0 ∷ []) refl) (ok_choice as_block ok_as_block (blocks bs))
+ok_as_resources inherit = ok_nested (SEQUENCE ∷ CONTEXT_CONSTRUCTED 0 ∷ []) _ (literal (SEQUENCE ∷ CONTEXT_CONSTRUCTED 0 ∷ []) refl) (ok_choice as_block ok_as_block inherit)
+ok_as_resources (blocks bs) = ok_nested (SEQUENCE ∷ CONTEXT_CONSTRUCTED 0 ∷ []) _ (literal (SEQUENCE ∷ CONTEXT_CONSTRUCTED 0 ∷ []) refl) (ok_choice as_block ok_as_block (blocks bs))
 
 some_short : (o : Option (List ℕ)) (c : List ℕ) → o ≡ Some c → IfSome o IfShort → length c < 2 ^ 32 → AreOctets c
 some_short (Some x) c e h short = let same : x ≡ c = cc in subst AreOctets same (h (subst (λ (b : List ℕ). length b < 2 ^ 32) (sym same) short))

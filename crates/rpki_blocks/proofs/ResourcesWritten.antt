@@ -9,7 +9,7 @@ use Rattle.std.proofs.lemmas.Option.{same_Some}
 use Rattle.rpki_der.specs.Rows.{IsRow}
 use Rattle.rpki_der.specs.Primitives.{number}
 use Rattle.rpki_der.specs.Values.{sequence, nested, sequence_of_some}
-use Rattle.rpki_der.specs.Tags.{SEQUENCE}
+use Rattle.rpki_der.specs.Tags.{SEQUENCE, OCTET_STRING, CONTEXT_CONSTRUCTED}
 use Rattle.rpki_der.proofs.ValueWritten.{Short, bool_cases, made, content_short, pieces_short, number_made, nested_made, nested_short}
 use Rattle.rpki_blocks.specs.Sets.{Block, IsChain}
 use Rattle.rpki_blocks.specs.Prefixes.{is_v4_block, AreV4}
@@ -124,21 +124,21 @@ v4_writes b p short = v4_block_made b p.1 p.0.0 (omega (arith, p.0.1)) short
 pub as_resources_made : (r : Resources) (c : List ℕ) → written_as r ≡ Some c → IsResources (2 ^ 32 - 1) r → Short c → IsASIdentifiers r c
 as_resources_made r c e f s = go (written_choice as_block r) refl e
   where
-    go : (o : Option (List ℕ)) → written_choice as_block r ≡ o → option_map (nested (0x30 ∷ 0xA0 ∷ [])) o ≡ Some c → IsASIdentifiers r c
+    go : (o : Option (List ℕ)) → written_choice as_block r ≡ o → option_map (nested (SEQUENCE ∷ CONTEXT_CONSTRUCTED 0 ∷ [])) o ≡ Some c → IsASIdentifiers r c
     go None k e = absurd cc
     go (Some x) k e =
-        let is : nested (0x30 ∷ 0xA0 ∷ []) x ≡ c = same_Some _ _ e in
-        let short : Short (nested (0x30 ∷ 0xA0 ∷ []) x) = subst Short (sym is) s in
+        let is : nested (SEQUENCE ∷ CONTEXT_CONSTRUCTED 0 ∷ []) x ≡ c = same_Some _ _ e in
+        let short : Short (nested (SEQUENCE ∷ CONTEXT_CONSTRUCTED 0 ∷ []) x) = subst Short (sym is) s in
         subst (λ (y : List ℕ). IsASIdentifiers r y) is (record {
           choice = x;
-          choice_is = choice_made IsAsBlock as_block IsASIdOrRange as_writes r x k (fits_as r f) (nested_short (0x30 ∷ 0xA0 ∷ []) x short);
-          nested = nested_made (0x30 ∷ 0xA0 ∷ []) x (omega arith, (omega arith, tt)) short;
+          choice_is = choice_made IsAsBlock as_block IsASIdOrRange as_writes r x k (fits_as r f) (nested_short (SEQUENCE ∷ CONTEXT_CONSTRUCTED 0 ∷ []) x short);
+          nested = nested_made (SEQUENCE ∷ CONTEXT_CONSTRUCTED 0 ∷ []) x (omega arith, (omega arith, tt)) short;
         })
 
-one_family : (n width : ℕ) (P : Block → Type 0) → Writes P ip_block (IsIPAddressOrRange width) → (r : Resources) (c : List ℕ) → written_choice ip_block r ≡ Some c → FitsWith P r → Short (sequence ((4 ∷ 2 ∷ 0 ∷ n ∷ []) ∷ c ∷ [])) → IsIPAddressFamily n width r (sequence ((4 ∷ 2 ∷ 0 ∷ n ∷ []) ∷ c ∷ []))
+one_family : (n width : ℕ) (P : Block → Type 0) → Writes P ip_block (IsIPAddressOrRange width) → (r : Resources) (c : List ℕ) → written_choice ip_block r ≡ Some c → FitsWith P r → Short (sequence ((OCTET_STRING ∷ 2 ∷ 0 ∷ n ∷ []) ∷ c ∷ [])) → IsIPAddressFamily n width r (sequence ((OCTET_STRING ∷ 2 ∷ 0 ∷ n ∷ []) ∷ c ∷ []))
 one_family n width P w r c k f short = record {
   choice = c;
-  choice_is = choice_made P ip_block (IsIPAddressOrRange width) w r c k f (pieces_short ((4 ∷ 2 ∷ 0 ∷ n ∷ []) ∷ c ∷ []) (content_short SEQUENCE _ short)).1.0;
+  choice_is = choice_made P ip_block (IsIPAddressOrRange width) w r c k f (pieces_short ((OCTET_STRING ∷ 2 ∷ 0 ∷ n ∷ []) ∷ c ∷ []) (content_short SEQUENCE _ short)).1.0;
   sequence = made SEQUENCE _ (omega arith) short;
 }
 

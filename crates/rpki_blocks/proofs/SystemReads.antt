@@ -26,17 +26,16 @@ abbrev AsRange : Block → List ℕ → Type 0
 AsRange = Turned between (Both IsU32 IsU32)
 
 range_is : (r : Block) (b : List ℕ) → Inside SEQUENCE AsRange r b → IsASIdOrRange r b
-range_is r b s =
-    let p = s.1.1 in
-    let o = ordered_is s.1.0.0 s.1.0.1 r s.1.2 in
-    let min : r.min ≡ s.1.0.0 = ap (λ (x : Block). x.min) o.1 in
-    let max : r.max ≡ s.1.0.1 = ap (λ (x : Block). x.max) o.1 in
+range_is r b (content, ((low, high), (from, to, from_is, to_is, parts), span), sequence) =
+    let o = ordered_is low high r span in
+    let min : r.min ≡ low = ap (λ (x : Block). x.min) o.1 in
+    let max : r.max ≡ high = ap (λ (x : Block). x.max) o.1 in
     inl (record {
-      from = p.0;
-      to = p.1;
-      from_is = subst (λ (n : ℕ). IsU32 n p.0) (sym min) p.2;
-      to_is = subst (λ (n : ℕ). IsU32 n p.1) (sym max) p.3;
-      sequence = two_pieces p.0 p.1 s.0 b p.4 s.2;
+      from = from;
+      to = to;
+      from_is = subst (λ (n : ℕ). IsU32 n from) (sym min) from_is;
+      to_is = subst (λ (n : ℕ). IsU32 n to) (sym max) to_is;
+      sequence = two_pieces from to content b parts sequence;
       ordered = omega arith;
     })
 
@@ -62,7 +61,7 @@ as_element_reads =
     (whole_reads (turned between (both u32_at u32_at)) AsRange
     (turned_reads between (both u32_at u32_at) (Both IsU32 IsU32) (both_reads u32_at u32_at IsU32 IsU32 u32_reads u32_reads)))
     (turned_reads single u32_at IsU32 u32_reads)
-    (λ r text rest s. let b = enc_begins INTEGER _ text s.1.number.enc in other_tag SEQUENCE 2 text rest b.0 b.1 (λ e. absurd (omega arith))))
+    (λ r text rest s. let b = enc_begins INTEGER _ text s.1.number.enc in other_tag SEQUENCE INTEGER text rest b.0 b.1 (λ e. absurd (omega arith))))
     (λ r text h. elim h [ inl s ↦ range_is r text s | inr s ↦ id_is r text s ])
     is_element
 

@@ -10,7 +10,7 @@ use Rattle.rpki_der.specs.Rows.Reading.{row_of, Shrinks}
 use Rattle.rpki_der.specs.Reading.{Reads, Inside}
 use Rattle.rpki_der.specs.Choices.{Either}
 use Rattle.rpki_der.specs.Choices.{Turned, content_or}
-use Rattle.rpki_der.specs.Tags.{SEQUENCE}
+use Rattle.rpki_der.specs.Tags.{SEQUENCE, NULL}
 use Rattle.rpki_der.proofs.Octets.{some, some_is, unless_some}
 use Rattle.rpki_der.proofs.Readings.{same_reads}
 use Rattle.rpki_der.proofs.PrimitiveReads.{null_reads}
@@ -55,7 +55,7 @@ module _ (element : List ℕ → Option (Block × List ℕ)) (S : Block → List
       (content_or_reads SEQUENCE (union_of element) inherit_at (Turned listed_of (IsRow S)) (Turned inherited IsNull)
       (turned_whole listed_of (row_of element) (IsRow S) (row_reads element S law less))
       (turned_reads inherited null_at IsNull null_reads)
-      (λ r text rest s. other_tag SEQUENCE 5 text rest (0 ∷ []) s.1 (λ e. absurd (omega arith))))
+      (λ r text rest s. other_tag SEQUENCE NULL text rest (0 ∷ []) s.1 (λ e. absurd (omega arith))))
       choice_is is_choice
 
 -- ---- ends in order

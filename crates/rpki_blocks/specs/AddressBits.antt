@@ -5,7 +5,7 @@ use Rattle.rpki_der.specs.Tags.{BIT_STRING}
 use Rattle.rpki_der.specs.Values.{enc, sequence}
 use Rattle.rpki_blocks.specs.Sets.{Block}
 
--- the greatest number up to n that passes
+-- the greatest number up to n that passes, 0 where none passes
 unfoldable pub greatest : (ℕ → Bool) → ℕ → ℕ
 greatest test zero = 0
 greatest test (suc n) = cond (test (suc n)) (suc n) (greatest test n)

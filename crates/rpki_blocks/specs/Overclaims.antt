@@ -1,5 +1,5 @@
 -- Whether a certificate may overclaim, and the identifiers that say so (RFC 6484 1.2, RFC 8360
--- 4.2.1 to 4.2.3, RFC 3779 2.2.1, 3.2.1): contents of OBJECT IDENTIFIERs.
+-- 4.2.1, 4.2.2.1, 4.2.2.3, RFC 3779 2.2.1, 3.2.1): contents of OBJECT IDENTIFIERs.
 use Rattle.std.specs.Prelude.{◌≡◌, ◌≢◌, ℕ, List, Option, Some, None}
 use Rattle.rpki_der.specs.Identifiers.{pkix}
 use Rattle.rpki_blocks.specs.declared.overclaim.Overclaim.{Overclaim}

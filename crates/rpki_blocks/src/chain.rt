@@ -75,6 +75,7 @@ impl<B: Bound> Chain<B> {
         // Called for what it ensures alone.
         last.known();
         let mut kept = 0;
+        // Proofs name the loop by its label.
         'merge: for i in 1..blocks.len() {
             let next = blocks[i];
             if last.reaches(next) {
@@ -132,6 +133,7 @@ impl<B: Bound> Chain<B> {
     {
         let mut i = 0;
         let mut j = 0;
+        // Proofs name the loop by its label.
         'walk: while i < self.blocks.len() {
             if j == other.blocks.len() {
                 return false;
@@ -157,6 +159,7 @@ impl<B: Bound> Chain<B> {
         let mut both = Vec::new(alloc);
         let mut i = 0;
         let mut j = 0;
+        // Proofs name the loop by its label.
         'walk: while i < self.blocks.len() && j < other.blocks.len() {
             let a = self.blocks[i];
             let b = other.blocks[j];

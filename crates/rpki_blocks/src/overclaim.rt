@@ -29,7 +29,7 @@ impl Overclaim {
     }
 
     /// The content of the OBJECT IDENTIFIER of the extension with IP resources (RFC 3779 2.2.1, RFC
-    /// 8360 4.2.2).
+    /// 8360 4.2.2.1).
     pub fn ip_res_id(self) -> &'static [u8]
         ensures identifier { result.now ≡ ip_identifier self }
         ensures valid { IsOid result.now }
@@ -41,7 +41,7 @@ impl Overclaim {
     }
 
     /// The content of the OBJECT IDENTIFIER of the extension with AS resources (RFC 3779 3.2.1, RFC
-    /// 8360 4.2.3).
+    /// 8360 4.2.2.3).
     pub fn as_res_id(self) -> &'static [u8]
         ensures identifier { result.now ≡ as_identifier self }
         ensures valid { IsOid result.now }

@@ -29,7 +29,8 @@ impl Model for Prefix {
 }
 
 impl Prefix {
-    /// The prefix of `len` bits, at most 128. The bits of `addr` past them count as zero.
+    /// The prefix of `len` bits, at most 128. The bits of `addr` past them count as zero. An IPv4
+    /// address stands in the upper 32 bits: 10.0.0.0/8 is `Prefix::new(0x0A00_0000 << 96, 8)`.
     pub fn new(addr: u128, len: u8) -> Prefix
         requires { len ≤ 128 }
         ensures address { result.addr ≡ addr }
