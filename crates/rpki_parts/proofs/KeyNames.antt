@@ -32,22 +32,32 @@ enc_short : (t : ℕ) (c : List ℕ) (n : ℕ) → length c ≡ n → n < 128 �
 unfolding enc length_octets
 enc_short t c n e h = rw (e, lt-ltb n 128 h) refl
 
+-- the attribute whose value the digits are, and the set of it alone
+abbrev attribute_content : List ℕ → List ℕ
+attribute_content digits = OBJECT_IDENTIFIER ∷ 3 ∷ 0x55 ∷ 4 ∷ 3 ∷ PRINTABLE_STRING ∷ 40 ∷ digits
+
+abbrev attribute_octets : List ℕ → List ℕ
+attribute_octets digits = SEQUENCE ∷ 47 ∷ attribute_content digits
+
+abbrev set_octets : List ℕ → List ℕ
+set_octets digits = SET ∷ 49 ∷ attribute_octets digits
+
 -- what stands before the digits
 abbrev pub before_digits : List ℕ
-before_digits = 0x30 ∷ 0x33 ∷ 0x31 ∷ 0x31 ∷ 0x30 ∷ 0x2F ∷ 0x06 ∷ 0x03 ∷ 0x55 ∷ 0x04 ∷ 0x03 ∷ 0x13 ∷ 0x28 ∷ []
+before_digits = SEQUENCE ∷ 51 ∷ set_octets []
 
 pub name-digits : (digits : List ℕ) → length digits ≡ 40 → name_of_digits digits ≡ before_digits ++ digits
 name-digits digits e =
-    let id : enc OBJECT_IDENTIFIER common_name ≡ 6 ∷ 3 ∷ common_name = enc_short OBJECT_IDENTIFIER common_name 3 refl (omega arith) in
-    let one : enc PRINTABLE_STRING digits ≡ 0x13 ∷ 0x28 ∷ digits = enc_short PRINTABLE_STRING digits 40 e (omega arith) in
-    let two : enc SEQUENCE (6 ∷ 3 ∷ 0x55 ∷ 4 ∷ 3 ∷ 0x13 ∷ 0x28 ∷ digits) ≡ 0x30 ∷ 47 ∷ 6 ∷ 3 ∷ 0x55 ∷ 4 ∷ 3 ∷ 0x13 ∷ 0x28 ∷ digits = enc_short SEQUENCE (6 ∷ 3 ∷ 0x55 ∷ 4 ∷ 3 ∷ 0x13 ∷ 0x28 ∷ digits) 47 (omega arith) (omega arith) in
-    let three : enc SET (0x30 ∷ 47 ∷ 6 ∷ 3 ∷ 0x55 ∷ 4 ∷ 3 ∷ 0x13 ∷ 0x28 ∷ digits) ≡ 0x31 ∷ 49 ∷ 0x30 ∷ 47 ∷ 6 ∷ 3 ∷ 0x55 ∷ 4 ∷ 3 ∷ 0x13 ∷ 0x28 ∷ digits = enc_short SET (0x30 ∷ 47 ∷ 6 ∷ 3 ∷ 0x55 ∷ 4 ∷ 3 ∷ 0x13 ∷ 0x28 ∷ digits) 49 (omega arith) (omega arith) in
-    let four : enc SEQUENCE (0x31 ∷ 49 ∷ 0x30 ∷ 47 ∷ 6 ∷ 3 ∷ 0x55 ∷ 4 ∷ 3 ∷ 0x13 ∷ 0x28 ∷ digits) ≡ before_digits ++ digits = enc_short SEQUENCE (0x31 ∷ 49 ∷ 0x30 ∷ 47 ∷ 6 ∷ 3 ∷ 0x55 ∷ 4 ∷ 3 ∷ 0x13 ∷ 0x28 ∷ digits) 51 (omega arith) (omega arith) in
+    let id : enc OBJECT_IDENTIFIER common_name ≡ OBJECT_IDENTIFIER ∷ 3 ∷ common_name = enc_short OBJECT_IDENTIFIER common_name 3 refl (omega arith) in
+    let one : enc PRINTABLE_STRING digits ≡ PRINTABLE_STRING ∷ 40 ∷ digits = enc_short PRINTABLE_STRING digits 40 e (omega arith) in
+    let two : enc SEQUENCE (attribute_content digits) ≡ attribute_octets digits = enc_short SEQUENCE (attribute_content digits) 47 (omega arith) (omega arith) in
+    let three : enc SET (attribute_octets digits) ≡ set_octets digits = enc_short SET (attribute_octets digits) 49 (omega arith) (omega arith) in
+    let four : enc SEQUENCE (set_octets digits) ≡ before_digits ++ digits = enc_short SEQUENCE (set_octets digits) 51 (omega arith) (omega arith) in
     rw (id, one, append-nil digits, two, three, append-nil digits) four
 
 primitive : (content b : List ℕ) → IsEnc PRINTABLE_STRING content b → IsSkippable b
 unfolding IsSkippableWithin
-primitive content b e = (record { tag = 0x13; content = content; enc = e }, inl refl)
+primitive content b e = (record { tag = PRINTABLE_STRING; content = content; enc = e }, inl refl)
 
 pub is_name_of_digits : (digits : List ℕ) → length digits ≡ 40 → AreOctets digits → is_name (name_of_digits digits) ≡ true
 is_name_of_digits digits e octets =

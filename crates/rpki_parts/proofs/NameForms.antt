@@ -7,6 +7,7 @@ use Rattle.std.proofs.lemmas.List.{append-nil}
 use Rattle.rpki_der.specs.Folding.{Step, steps, over}
 use Rattle.rpki_der.specs.Rows.{IsRow}
 use Rattle.rpki_der.specs.Rows.Reading.{Shrinks}
+use Rattle.rpki_der.specs.Tags.{SEQUENCE, SET}
 use Rattle.rpki_der.specs.Values.Reading.{◌>>=◌, value_at}
 use Rattle.std.proofs.lemmas.Slice.Eq.{bytes_eq-Decides}
 use Rattle.rpki_der.proofs.Octets.{bind_some, some, some_is, both_are, nothing, chosen, unless_some}
@@ -20,8 +21,8 @@ use Rattle.rpki_parts.specs.NameForms.Reading.{is_text_tag, unseen, seen_with, s
 use Rattle.rpki_parts.specs.declared.name_forms.Seen.{Seen}
 use Rattle.rpki_parts.proofs.NameReads.{IsAttribute, IsPart, AreParts, attribute_reads, attribute_shrinks}
 
-pub set_shrinks : Shrinks (value_at 0x31)
-set_shrinks octets c rest e = let h = value_shorter 0x31 octets c rest e in omega arith
+pub set_shrinks : Shrinks (value_at SET)
+set_shrinks octets c rest e = let h = value_shorter SET octets c rest e in omega arith
 
 -- ---- the walk over the parts is the walk over all attributes
 
@@ -39,21 +40,21 @@ all_of parts = flat_map (λ part. part) parts
 
 module _ (strict : Bool) where
   next : (s : Seen) (text c rest : List ℕ) (part : List Attribute) (parts : List (List Attribute))
-      → value_at 0x31 text ≡ some {A = List ℕ × List ℕ} (c, rest) → seen_in strict s c ≡ steps (seen_with strict) s part
-      → ((t : Seen) → over (value_at 0x31) (seen_in strict) t rest ≡ steps (seen_with strict) t (all_of parts))
+      → value_at SET text ≡ some {A = List ℕ × List ℕ} (c, rest) → seen_in strict s c ≡ steps (seen_with strict) s part
+      → ((t : Seen) → over (value_at SET) (seen_in strict) t rest ≡ steps (seen_with strict) t (all_of parts))
       → (r : Option Seen) → steps (seen_with strict) s part ≡ r
-      → over (value_at 0x31) (seen_in strict) s text ≡ (r >>= λ t. steps (seen_with strict) t (all_of parts))
-  next s text c rest part parts was is more None e = refused (value_at 0x31) (seen_in strict) set_shrinks s text c rest was (is ∙ e)
-  next s text c rest part parts was is more (Some t) e = goes_on (value_at 0x31) (seen_in strict) set_shrinks s text c rest was t (is ∙ e) ∙ more t
+      → over (value_at SET) (seen_in strict) s text ≡ (r >>= λ t. steps (seen_with strict) t (all_of parts))
+  next s text c rest part parts was is more None e = refused (value_at SET) (seen_in strict) set_shrinks s text c rest was (is ∙ e)
+  next s text c rest part parts was is more (Some t) e = goes_on (value_at SET) (seen_in strict) set_shrinks s text c rest was t (is ∙ e) ∙ more t
 
   pub in_part : (s : Seen) (part : List Attribute) (c : List ℕ) → IsRow IsAttribute part c → seen_in strict s c ≡ steps (seen_with strict) s part
   unfolding over
   in_part s part c r = rw (row_again attribute_at IsAttribute attribute_reads attribute_shrinks part c r) refl
 
-  pub seen_in_parts : (parts : List (List Attribute)) (text : List ℕ) (s : Seen) → IsRow IsPart parts text → over (value_at 0x31) (seen_in strict) s text ≡ steps (seen_with strict) s (all_of parts)
-  seen_in_parts [] text s r = rw r (over_end (value_at 0x31) (seen_in strict) s)
+  pub seen_in_parts : (parts : List (List Attribute)) (text : List ℕ) (s : Seen) → IsRow IsPart parts text → over (value_at SET) (seen_in strict) s text ≡ steps (seen_with strict) s (all_of parts)
+  seen_in_parts [] text s r = rw r (over_end (value_at SET) (seen_in strict) s)
   seen_in_parts (part ∷ parts) text s (a, b, p, more, e) =
-      let was : value_at 0x31 text ≡ some {A = List ℕ × List ℕ} (p.content, b) = ap (value_at 0x31) e ∙ value_again 0x31 p.content a b p.set in
+      let was : value_at SET text ≡ some {A = List ℕ × List ℕ} (p.content, b) = ap (value_at SET) e ∙ value_again SET p.content a b p.set in
       next s text p.content b part parts was (in_part s part p.content p.row) (λ t. seen_in_parts parts b t more) (steps (seen_with strict) s part) refl ∙ sym (steps_append (seen_with strict) s part (all_of parts))
 
 -- ---- one attribute more
@@ -183,20 +184,20 @@ module _ (strict : Bool) where
       let names : length (of_type common_name xs) + 0 ≡ once m.0.name = g.names in
       (m.0, m.1, once_is m.0.name (omega arith))
 
-  module _ (name c rest : List ℕ) (was : value_at 0x30 name ≡ some {A = List ℕ × List ℕ} (c, rest)) where
-    row : (parts : List (List Attribute)) → AreParts parts name → over (value_at 0x31) (seen_in strict) nothing_seen c ≡ steps (seen_with strict) nothing_seen (all_of parts)
+  module _ (name c rest : List ℕ) (was : value_at SEQUENCE name ≡ some {A = List ℕ × List ℕ} (c, rest)) where
+    row : (parts : List (List Attribute)) → AreParts parts name → over (value_at SET) (seen_in strict) nothing_seen c ≡ steps (seen_with strict) nothing_seen (all_of parts)
     row parts s =
-        let whole : value_at 0x30 name ≡ some {A = List ℕ × List ℕ} (s.content, []) = ap (value_at 0x30) (sym (append-nil name)) ∙ value_again 0x30 s.content name [] s.sequence in
+        let whole : value_at SEQUENCE name ≡ some {A = List ℕ × List ℕ} (s.content, []) = ap (value_at SEQUENCE) (sym (append-nil name)) ∙ value_again SEQUENCE s.content name [] s.sequence in
         let same : s.content ≡ c = (both_are {A = List ℕ} {B = List ℕ} (s.content, []) (c, rest) (sym whole ∙ was)).0 in
         seen_in_parts strict parts c nothing_seen (subst (λ (b : List ℕ). IsRow IsPart parts b) same s.row)
 
-    pub form_is : (t : Seen) → IsName name name → over (value_at 0x31) (seen_in strict) nothing_seen c ≡ Some t → t.name ≡ true → IsRpkiName strict name
+    pub form_is : (t : Seen) → IsName name name → over (value_at SET) (seen_in strict) nothing_seen c ≡ Some t → t.name ≡ true → IsRpkiName strict name
     form_is t n e named = record { parts = n.parts; parts_are = n.parts_are; attributes_are = attributes_are (all_of n.parts) t (sym (row n.parts n.parts_are) ∙ e) named }
 
-    pub is_form : IsRpkiName strict name → (t : Seen) × (over (value_at 0x31) (seen_in strict) nothing_seen c ≡ Some t) × (t.name ≡ true)
+    pub is_form : IsRpkiName strict name → (t : Seen) × (over (value_at SET) (seen_in strict) nothing_seen c ≡ Some t) × (t.name ≡ true)
     is_form h = let m = are_attributes (all_of h.parts) h.attributes_are in (m.0, row h.parts h.parts_are ∙ m.1, m.2)
 
-  pub is_sequence : (name : List ℕ) → IsName name name → value_at 0x30 name ≡ None → ⊥
+  pub is_sequence : (name : List ℕ) → IsName name name → value_at SEQUENCE name ≡ None → ⊥
   is_sequence name n e =
-      let whole : value_at 0x30 name ≡ some {A = List ℕ × List ℕ} (n.parts_are.content, []) = ap (value_at 0x30) (sym (append-nil name)) ∙ value_again 0x30 n.parts_are.content name [] n.parts_are.sequence in
+      let whole : value_at SEQUENCE name ≡ some {A = List ℕ × List ℕ} (n.parts_are.content, []) = ap (value_at SEQUENCE) (sym (append-nil name)) ∙ value_again SEQUENCE n.parts_are.content name [] n.parts_are.sequence in
       nothing {B = ⊥} (n.parts_are.content, []) (sym e ∙ whole)

@@ -205,7 +205,7 @@ name_reads = record {
         parts = one.parts;
       });
   again = λ name text rest s.
-      let v : IsValue text = record { tag = 0x30; content = s.parts_are.content; enc = s.parts_are.sequence } in
+      let v : IsValue text = record { tag = SEQUENCE; content = s.parts_are.content; enc = s.parts_are.sequence } in
       let t : is_name name ≡ true = is_name_again s.parts name (subst (λ (x : List ℕ). AreParts s.parts x) (sym s.kept) s.parts_are) in
       rw (captured_reads.again name text rest (v, s.kept), t) refl;
 }

@@ -15,13 +15,13 @@ module _ (s : SignedFields) (message : IsValue s.message) (octets : AreOctets s.
 
   pub signed_made : IsSignedDataContent s (concat (signed_pieces s))
   signed_made =
-      let shorts = pieces_short (signed_pieces s) (short, all) in
+      let (_, (algorithm_short, (signature_short, _))) = pieces_short (signed_pieces s) (short, all) in
       record {
         algorithm = algorithm s.signature.algorithm;
         signature = enc BIT_STRING (0 ∷ s.signature.value);
         message_is = message;
-        algorithm_is = algorithm_made s.signature.algorithm shorts.1.0;
-        signature_is = made BIT_STRING (0 ∷ s.signature.value) (omega arith) shorts.1.1.0;
+        algorithm_is = algorithm_made s.signature.algorithm algorithm_short;
+        signature_is = made BIT_STRING (0 ∷ s.signature.value) (omega arith) signature_short;
         is = refl;
       }
 

@@ -25,7 +25,8 @@ abbrev pub parameters : Bool → List ℕ
 parameters true = null
 parameters false = []
 
--- AlgorithmIdentifier of the signature: its parameters are NULL, and may be left out (own)
+-- AlgorithmIdentifier of the signature: its parameters are NULL, and may be left out (RFC
+-- 4055 5)
 pub record IsSignatureAlgorithm (a : Algorithm) (b : List ℕ) : Type 0 where
   pub identifier : List ℕ
   pub identifier_is : IsObjectIdentifier sha256_with_rsa identifier

@@ -22,15 +22,20 @@ prime256v1 = 0x2A ∷ 0x86 ∷ 0x48 ∷ 0xCE ∷ 0x3D ∷ 0x03 ∷ 0x01 ∷ 0x07
 
 -- AlgorithmIdentifier of a key: NULL may be left out behind rsaEncryption (own), the curve is P-256
 abbrev pub IsKeyAlgorithm : PublicKeyFormat → List ℕ → Type 0
-IsKeyAlgorithm Rsa b = (id : List ℕ) × IsObjectIdentifier rsa_encryption id × (IsSequence (id ∷ null ∷ []) b ⊎ IsSequence (id ∷ []) b)
-IsKeyAlgorithm EcdsaP256 b = (id : List ℕ) × (curve : List ℕ) × IsObjectIdentifier id_ec_public_key id × IsObjectIdentifier prime256v1 curve × IsSequence (id ∷ curve ∷ []) b
+IsKeyAlgorithm Rsa b =
+    (id : List ℕ) × IsObjectIdentifier rsa_encryption id
+    × (IsSequence (id ∷ null ∷ []) b ⊎ IsSequence (id ∷ []) b)
+IsKeyAlgorithm EcdsaP256 b =
+    (id : List ℕ) × (curve : List ℕ) × IsObjectIdentifier id_ec_public_key id
+    × IsObjectIdentifier prime256v1 curve × IsSequence (id ∷ curve ∷ []) b
 
 -- what a contract sees of a PublicKey
 pub record KeyFields : Type 0 where
   pub format : PublicKeyFormat
   pub bits : List ℕ
 
--- SubjectPublicKeyInfo; its BIT STRING has no unused bits (own)
+-- SubjectPublicKeyInfo; its BIT STRING has no unused bits, and what its octets say isn't tested: an RSA
+-- key may be of any length and exponent (own)
 pub record IsPublicKey (k : KeyFields) (b : List ℕ) : Type 0 where
   pub algorithm : List ℕ
   pub bits : List ℕ

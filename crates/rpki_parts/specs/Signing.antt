@@ -21,7 +21,7 @@ IsRefusalWith message s Memory = Unit {0}
 -- Why there is none once the signer, which may give these answers, was asked to sign the message: it refused so, whatever its refusal
 -- is; or it gave a signature, and the whole would be too long, or memory was wanted.
 abbrev pub IsRefusalOnceAsked : {E : Type 0} → List ℕ → (Result SignatureFields (SigningError E) → Type 0) → SigningError E → Type 0
-IsRefusalOnceAsked message Answers e = Answers (Err e) ⊎ ((s : SignatureFields) × Answers (Ok s) × IsRefusalWith message s e)
+IsRefusalOnceAsked message MayAnswer e = MayAnswer (Err e) ⊎ ((s : SignatureFields) × MayAnswer (Ok s) × IsRefusalWith message s e)
 
 -- why it isn't asked to sign the SEQUENCE of this content: it would be too long, or memory was wanted
 abbrev pub IsRefusalUnasked : {E : Type 0} → List ℕ → SigningError E → Type 0
@@ -31,4 +31,4 @@ IsRefusalUnasked content Memory = Unit {0}
 
 -- why there is no signed data of the SEQUENCE of this content, with a signer that may give these answers
 abbrev pub IsRefusal : {E : Type 0} → List ℕ → (Result SignatureFields (SigningError E) → Type 0) → SigningError E → Type 0
-IsRefusal content Answers e = IsRefusalUnasked content e ⊎ IsRefusalOnceAsked (enc SEQUENCE content) Answers e
+IsRefusal content MayAnswer e = IsRefusalUnasked content e ⊎ IsRefusalOnceAsked (enc SEQUENCE content) MayAnswer e

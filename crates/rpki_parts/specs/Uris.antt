@@ -1,6 +1,6 @@
 -- Rsync and https URIs as octets (RFC 3986 3, RFC 5781 2, RFC 9110 4.2.2). Own is that an authority
--- isn't empty and ends at a slash alone, that any octet from 21 to 7E may stand, and how URIs are
--- compared.
+-- isn't empty and ends at a slash alone, that any octet from 21 to 7E may stand, that a path with dot
+-- segments is refused (RFC 3986 5.2.4 removes them), and how URIs are compared.
 use Rattle.std.specs.Prelude.{ℕ, ◌≤◌, List, [], ◌∷◌, ◌++◌, codes, ◌≡◌, ◌≢◌, ◌==◌, ◌⊎◌}
 use Rattle.std.specs.List.{AllByRecursion, concat, slice_split}
 use Rattle.std.specs.Str.{str_to_ascii_lowercase}
@@ -40,7 +40,7 @@ pub record IsHttps (uri : List ℕ) : Type 0 where
   pub is : IsUri (codes "https://") authority rest uri
   pub printable : ArePrintable uri
 
--- none of the segments between the slashes of a path is . or .. (RFC 3986 3.3)
+-- none of the segments between the slashes of a path is . or .. (own)
 abbrev pub HasNoDots : List ℕ → Type 0
 HasNoDots path = AllByRecursion (λ segment. (segment ≢ codes ".") × (segment ≢ codes "..")) (slice_split (λ octet. octet == slash) path)
 

@@ -8,7 +8,7 @@ use Rattle.rpki_parts.specs.declared.valid_at.ValidityError.TheVariants.{NotYetV
 abbrev pub IsNotAfter : Moment → Moment → Type 0
 IsNotAfter m n = second_number m ≤ second_number n
 
--- the moment isn't at fault so: both ends belong to the period
+-- the moment has not this fault: both ends belong to the period
 abbrev pub IsInTime : ValidityFields → Moment → ValidityError → Type 0
 IsInTime v now NotYetValid = IsNotAfter v.not_before now
 IsInTime v now Expired = IsNotAfter now v.not_after

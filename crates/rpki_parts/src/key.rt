@@ -264,6 +264,13 @@ impl PublicKey {
         put_parts(out, tag::SEQUENCE, self.format.algorithm(), &bits)
     }
 
+    /// Which kind of key it is.
+    pub fn algorithm(&self) -> PublicKeyFormat
+        ensures { result ≡ self.now.format }
+    {
+        self.format
+    }
+
     /// The key's bits, as octets.
     pub fn bits(&self) -> &[u8]
         ensures same { result.now ≡ self.now.bits }

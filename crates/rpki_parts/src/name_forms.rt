@@ -23,10 +23,10 @@ struct Seen {
 }
 
 // Whether a value with this identifier octet may stand: PrintableString, or UTF8String where inspection isn't strict.
-fn is_text_tag(strict: bool, tag: u8) -> bool
-    ensures { result ≡ is_text_tag strict tag }
+fn is_text_tag(strict: bool, octet: u8) -> bool
+    ensures { result ≡ is_text_tag strict octet }
 {
-    tag == 0x13 || (!strict && tag == 0x0C)
+    octet == tag::PRINTABLE_STRING || (!strict && octet == tag::UTF8_STRING)
 }
 
 impl Seen {

@@ -72,7 +72,11 @@ impl Signature {
     }
 }
 
-/// Tells whether a signature belongs to a message and a key.
+/// Tells whether a signature belongs to a message and a key. The message is the whole value that is
+/// signed, its identifier and length included. The bits of the key are the content of the BIT STRING,
+/// without the count of unused bits ([`PublicKey::bits`]). The algorithm is the one that the signature
+/// names. The relation `verifies` is stated by who implements this; where the answer comes from
+/// foreign code, that statement is what is trusted of it.
 pub trait Verifier {
     ghost use Rattle.rpki_parts.specs.Signatures.{Verifies};
 
@@ -107,6 +111,11 @@ pub trait Signer {
     ghost signs: { Self → Self.KeyId → Algorithm → List ℕ
         → Result SignatureFields (Refusal Self.Error) → Type 0 };
 
+    /// A signature of the message by the key that is named. The message is the whole value that is to
+    /// be signed, its identifier and length included. [`Signature::algorithm`] should be the algorithm
+    /// that is asked for: a certificate or list that names another one beside its signature is refused
+    /// (RFC 5280 4.1.1.2, 5.1.1.2). Errs with [`SigningError::Memory`] for want of memory, and with
+    /// [`SigningError::Signer`] for what else keeps the signer from signing.
     fn sign(
         &self,
         alloc: Global,
