@@ -5,6 +5,7 @@ use Rattle.std.proofs.Common.{◌≡◌, ℕ, List, ◌++◌, cond, Some, None, 
 use Rattle.std.proofs.lemmas.Bool.{cases_Bool}
 use Rattle.std.proofs.lemmas.Slice.Eq.{bytes_eq-Decides}
 use Rattle.std.proofs.lemmas.List.{append-nil}
+use Rattle.rpki_der.specs.Tags.{SEQUENCE, OBJECT_IDENTIFIER}
 use Rattle.rpki_der.specs.Primitives.{IsObjectIdentifier}
 use Rattle.rpki_der.specs.Values.{AreOctets, IsEnc, enc, IsNested}
 use Rattle.rpki_der.specs.Primitives.Reading.{oid_at}
@@ -43,40 +44,37 @@ issuers_again : (v c : List ℕ) → AreIssuers v c → issuers_of c ≡ Some v
 issuers_again v c s = rw (s.4, oid_reads.again ca_issuers s.0 s.1 s.2) (names_read.again v s.1 s.3)
 
 abbrev IsOnlyDescription : List ℕ → List ℕ → Type 0
-IsOnlyDescription = Inside 0x30 (IsEnc 0x30)
+IsOnlyDescription = Inside SEQUENCE (IsEnc SEQUENCE)
 
 only_description_reads : Reads only_description_at IsOnlyDescription
 unfolding only_description_at
-only_description_reads = inside_reads 0x30 (value_at 0x30) (IsEnc 0x30) (value_reads 0x30)
+only_description_reads = inside_reads SEQUENCE (value_at SEQUENCE) (IsEnc SEQUENCE) (value_reads SEQUENCE)
 
 pub authority_information_access_reads : Reads authority_information_access_at IsAuthorityInformationAccess
 unfolding authority_information_access_at
 authority_information_access_reads =
     same_reads (turned issuers_of only_description_at) (Turned issuers_of IsOnlyDescription) IsAuthorityInformationAccess (turned_reads issuers_of only_description_at IsOnlyDescription only_description_reads)
-    (λ v text s.
-    let n = s.1 in
-    let i = issuers_takes s.0 v n.1.octets s.2 in
-    (i.1, i.3, (n.0, n.2, (s.0, n.1, i.4 ∙ ap (λ (m : List ℕ). m ++ i.1) i.2.enc.is))))
-    (λ v text s.
-    let n = s.2 in
-    (n.2.0, (n.0, n.2.1, n.1), issuers_again v n.2.0 (enc 6 ca_issuers, s.0, spelled_oid ca_issuers refl refl (omega arith), s.1, n.2.2)))
+    (λ v text (inside, (row, one, sequence), read).
+    let (_, names, spelled, given, is) = issuers_takes inside v one.octets read in
+    (names, given, (row, sequence, (inside, one, is ∙ ap (λ (m : List ℕ). m ++ names) spelled.enc.is))))
+    (λ v text (names, given, (row, sequence, (inside, one, is))). (inside, (row, one, sequence), issuers_again v inside (enc OBJECT_IDENTIFIER ca_issuers, names, spelled_oid ca_issuers refl refl (omega arith), given, is)))
 
 -- ---- what is written
 
-pub description_pieces_short : (method uri : List ℕ) → Short (description method uri) → Short (enc 6 method) × Short (uri_name uri)
-description_pieces_short method uri h = let shorts = pieces_short (enc 6 method ∷ uri_name uri ∷ []) (content_short 0x30 _ h) in (shorts.0, shorts.1.0)
+pub description_pieces_short : (method uri : List ℕ) → Short (description method uri) → Short (enc OBJECT_IDENTIFIER method) × Short (uri_name uri)
+description_pieces_short method uri h = let shorts = pieces_short (enc OBJECT_IDENTIFIER method ∷ uri_name uri ∷ []) (content_short SEQUENCE _ h) in (shorts.0, shorts.1.0)
 
 pub authority_information_access_made : (uri : List ℕ) → IsRsync uri → Short (authority_information_access_content uri) → IsAuthorityInformationAccess uri (authority_information_access_content uri)
 authority_information_access_made uri r h =
-    let inside : Short (description ca_issuers uri) = content_short 0x30 _ h in
-    let whole = nested_made (0x30 ∷ 0x30 ∷ []) (concat (enc 6 ca_issuers ∷ uri_name uri ∷ [])) (omega arith, (omega arith, tt)) h in
-    (uri_name uri, names_made uri r (description_pieces_short ca_issuers uri inside).1, subst (λ (names : List ℕ). IsNested (0x30 ∷ 0x30 ∷ []) (enc 6 ca_issuers ++ names) (authority_information_access_content uri)) (append-nil (uri_name uri)) whole)
+    let inside : Short (description ca_issuers uri) = content_short SEQUENCE _ h in
+    let whole = nested_made (SEQUENCE ∷ SEQUENCE ∷ []) (concat (enc OBJECT_IDENTIFIER ca_issuers ∷ uri_name uri ∷ [])) (omega arith, (omega arith, tt)) h in
+    (uri_name uri, names_made uri r (description_pieces_short ca_issuers uri inside).1, subst (λ (names : List ℕ). IsNested (SEQUENCE ∷ SEQUENCE ∷ []) (enc OBJECT_IDENTIFIER ca_issuers ++ names) (authority_information_access_content uri)) (append-nil (uri_name uri)) whole)
 
 pub ok_description : (method uri : List ℕ) → AreOctets method → ArePrintable uri → IfShort (description method uri)
-ok_description method uri m p = ok_enc 0x30 _ (omega arith) (ok_concat (enc 6 method ∷ uri_name uri ∷ []) (ok_enc 6 method (omega arith) (λ l. m), (ok_uri_name uri p, tt)))
+ok_description method uri m p = ok_enc SEQUENCE _ (omega arith) (ok_concat (enc OBJECT_IDENTIFIER method ∷ uri_name uri ∷ []) (ok_enc OBJECT_IDENTIFIER method (omega arith) (λ l. m), (ok_uri_name uri p, tt)))
 
 pub ok_authority_information_access : (uri : List ℕ) → IsRsync uri → IfShort (authority_information_access_content uri)
-ok_authority_information_access uri r = ok_enc 0x30 _ (omega arith) (ok_description ca_issuers uri (literal ca_issuers refl) r.printable)
+ok_authority_information_access uri r = ok_enc SEQUENCE _ (omega arith) (ok_description ca_issuers uri (literal ca_issuers refl) r.printable)
 
 pub authority_information_access_is : IsKind authority_information_access
 authority_information_access_is = record {

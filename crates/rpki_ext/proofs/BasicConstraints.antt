@@ -1,5 +1,6 @@
 -- Basic Constraints, both ways, and what is written of them.
 use Rattle.std.proofs.Common.{Bool, arith}
+use Rattle.rpki_der.specs.Tags.{SEQUENCE, BOOLEAN}
 use Rattle.rpki_der.specs.Spelling.{BeginsOther}
 use Rattle.rpki_der.specs.Reading.{Reads}
 use Rattle.rpki_der.specs.Primitives.{IsBoolOrFalse, bool_or_false}
@@ -13,13 +14,13 @@ use Rattle.rpki_ext.proofs.LawfulKinds.{IsKind, always, Answering, answering}
 
 pub basic_constraints_reads : Reads basic_constraints_at IsBasicConstraints
 unfolding basic_constraints_at
-basic_constraints_reads = inside_before (BeginsOther 1) 0x30 bool_or_false_at IsBoolOrFalse tt bool_or_false_reads
+basic_constraints_reads = inside_before (BeginsOther BOOLEAN) SEQUENCE bool_or_false_at IsBoolOrFalse tt bool_or_false_reads
 
 pub basic_constraints_made : (ca : Bool) → Short (basic_constraints_content ca) → IsBasicConstraints ca (basic_constraints_content ca)
-basic_constraints_made ca h = (bool_or_false ca, flag_made ca, made 0x30 (bool_or_false ca) (omega arith) h)
+basic_constraints_made ca h = (bool_or_false ca, flag_made ca, made SEQUENCE (bool_or_false ca) (omega arith) h)
 
 pub ok_basic_constraints : (ca : Bool) → IfShort (basic_constraints_content ca)
-ok_basic_constraints ca = ok_enc 0x30 _ (omega arith) (λ l. ok_flag ca)
+ok_basic_constraints ca = ok_enc SEQUENCE _ (omega arith) (λ l. ok_flag ca)
 
 pub basic_constraints_is : IsKind basic_constraints
 basic_constraints_is = record {

@@ -31,7 +31,7 @@ use Rattle.rpki_ext.specs.CertificateExtensions.{bare, ExtensionFields, parts, n
 use Rattle.rpki_ext.specs.CertificateExtensions.Views.{ip_of}
 use Rattle.rpki_ext.specs.CertificateExtensions.Reading.{under, may_stand, all_kinds, State, ListedFields, listed_under, agreed, completed, extensions_of, state_of, Names, is_seen, wanted, HasFlag}
 use Rattle.rpki_ext.specs.ExtensionKinds.{known, basic_constraints, subject_key_identifier, authority_key_identifier, key_usage, extended_key_usage, crl_distribution_points, authority_information_access, subject_information_access, certificate_policies, ip_resources, as_resources, certificate_kinds}
-use Rattle.rpki_ext.specs.KeyIdentifiers.{IsIdentifier}
+use Rattle.rpki_ext.specs.KeyIdentifiers.{HasTwentyOctets}
 use Rattle.rpki_ext.specs.Kinds.{Gives, is_of, Any}
 use Rattle.rpki_ext.specs.SubjectAccess.{Access}
 use Rattle.rpki_ext.specs.declared.key_usage.KeyUsage.{KeyUsage as Usage}
@@ -138,7 +138,7 @@ give xs (u, (basic_ca, (subject, (authority, (usage, (purposes, (crl_uri, (ca_is
     let i = bind_some (under mode.0 ip) (λ i. under mode.0 numbers >>= λ n. some (listed_under mode.0 i n)) l.0 mode.2 in
     let n = bind_some (under mode.0 numbers) (λ n. some (listed_under mode.0 i.0 n)) l.0 i.2 in
     let same : listed_under mode.0 i.0 n.0 ≡ l.0 = some_is (listed_under mode.0 i.0 n.0) l.0 n.2 in
-    subst (λ (g : ExtensionFields). GiveFields xs g) {x = made (listed_under mode.0 i.0 n.0) key.0 used.0} (ap (λ (k : ListedFields). made k key.0 used.0) {x = listed_under mode.0 i.0 n.0} same ∙ some_is (made l.0 key.0 used.0) f used.2) (record {
+    subst (λ (g : ExtensionFields). GiveFields xs g) {x = made (listed_under mode.0 i.0 n.0) key.0 used.0} (◌∙◌ {a = made (listed_under mode.0 i.0 n.0) key.0 used.0} {b = made l.0 key.0 used.0} (ap (λ (k : ListedFields). made k key.0 used.0) {x = listed_under mode.0 i.0 n.0} same) (some_is (made l.0 key.0 used.0) f used.2)) (record {
       passed_over = weaken (λ x. may_stand x ≡ true) (λ x. is_of known x ≡ false → x.critical ≡ false) (λ x p. stands (is_of known x) x.critical p) xs others;
       basic_constraints_is = basic_is;
       subject_key_identifier_is = subst (λ (v : Option (List ℕ)). Gives subject_key_identifier xs v) key.1 subject_is;
@@ -264,7 +264,7 @@ module _ (x : ExtensionFields) (fits : ExtensionsFit x) (only_v4 : AreV4 x.v4_re
       }
 
 -- nothing that may be left out, and the issuer's IPv4 addresses
-pub inheriting_fits : (id : List ℕ) (usage : Usage) (mode : Overclaim) → IsIdentifier id → ExtensionsFit (record (bare id usage mode) { v4_resources = inherit })
+pub inheriting_fits : (id : List ℕ) (usage : Usage) (mode : Overclaim) → HasTwentyOctets id → ExtensionsFit (record (bare id usage mode) { v4_resources = inherit })
 inheriting_fits id usage mode is = record {
   subject_key_identifier_is = is;
   authority_key_identifier_is = tt;

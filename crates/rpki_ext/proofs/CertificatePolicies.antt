@@ -2,6 +2,7 @@
 use Rattle.std.specs.List.{concat}
 use Rattle.std.proofs.Common.{◌≡◌, Some, refl, arith, ℕ, List, ◌++◌, sym, ap, subst, ◌∙◌, [], ◌∷◌}
 use Rattle.std.proofs.lemmas.List.{append-nil}
+use Rattle.rpki_der.specs.Tags.{SEQUENCE, OBJECT_IDENTIFIER}
 use Rattle.rpki_der.specs.Values.{enc, AreOctets, IsNested}
 use Rattle.rpki_der.specs.Primitives.{IsObjectIdentifier}
 use Rattle.rpki_der.specs.Skipping.{IsSkippableRow, levels}
@@ -28,12 +29,12 @@ named_again : (overclaim : Overclaim) → named policy_identifier (policy_identi
 named_again Refuse = refl
 named_again Trim = refl
 
-policy_spelled : (overclaim : Overclaim) → IsObjectIdentifier (policy_identifier overclaim) (enc 6 (policy_identifier overclaim))
+policy_spelled : (overclaim : Overclaim) → IsObjectIdentifier (policy_identifier overclaim) (enc OBJECT_IDENTIFIER (policy_identifier overclaim))
 policy_spelled Refuse = spelled_oid (policy_identifier Refuse) refl refl (omega arith)
 policy_spelled Trim = spelled_oid (policy_identifier Trim) refl refl (omega arith)
 
 abbrev IsPolicy : Overclaim → List ℕ → Type 0
-IsPolicy overclaim c = (rest : List ℕ) × IsSkippableRow rest × (c ≡ enc 6 (policy_identifier overclaim) ++ rest)
+IsPolicy overclaim c = (rest : List ℕ) × IsSkippableRow rest × (c ≡ enc OBJECT_IDENTIFIER (policy_identifier overclaim) ++ rest)
 
 policy_takes : (c : List ℕ) (overclaim : Overclaim) → AreOctets c → policy_of c ≡ Some overclaim → IsPolicy overclaim c
 policy_takes c overclaim low e =
@@ -42,36 +43,36 @@ policy_takes c overclaim low e =
     let d = bind_some (skip_all_of a.0.1) (λ u. some b.0) overclaim b.2 in
     let one = oid_reads.takes c a.0.0 a.0.1 low a.1 in
     let same : a.0.0 ≡ policy_identifier b.0 = was_named policy_identifier a.0.0 (Some b.0) (sym b.1) in
-    let text : one.text ≡ enc 6 (policy_identifier b.0) = one.spelled.enc.is ∙ ap (enc 6) same in
+    let text : one.text ≡ enc OBJECT_IDENTIFIER (policy_identifier b.0) = one.spelled.enc.is ∙ ap (enc OBJECT_IDENTIFIER) same in
     subst (λ (o : Overclaim). IsPolicy o c) (some_is b.0 overclaim d.2) (a.0.1, skip_all_reads.takes a.0.1 d.0 (AreOctets-after c one.text a.0.1 one.parts low) d.1, one.parts ∙ ap (λ (t : List ℕ). t ++ a.0.1) text)
 
 policy_again : (overclaim : Overclaim) (c : List ℕ) → IsPolicy overclaim c → policy_of c ≡ Some overclaim
 policy_again overclaim c s =
-    rw (s.2, oid_reads.again (policy_identifier overclaim) (enc 6 (policy_identifier overclaim)) s.0 (policy_spelled overclaim), named_again overclaim, skip_all_reads.again tt s.0 s.1) refl
+    rw (s.2, oid_reads.again (policy_identifier overclaim) (enc OBJECT_IDENTIFIER (policy_identifier overclaim)) s.0 (policy_spelled overclaim), named_again overclaim, skip_all_reads.again tt s.0 s.1) refl
 
 pub certificate_policies_reads : Reads certificate_policies_at IsCertificatePolicies
 unfolding certificate_policies_at
 certificate_policies_reads =
-    same_reads (inside 0x30 (content 0x30 policy_of)) (Inside 0x30 (Inside 0x30 IsPolicy)) IsCertificatePolicies
-    (inside_reads 0x30 (content 0x30 policy_of) (Inside 0x30 IsPolicy) (content_reads 0x30 policy_of IsPolicy (record { takes = policy_takes; again = policy_again })))
-    (λ v text s. let p = s.1.1 in record {
-      qualifiers = p.1.0;
-      skipped = p.1.2;
-      nested = (s.0, s.2, (s.1.0, s.1.2, p.2 ∙ ap (λ (t : List ℕ). enc 6 (policy_identifier v) ++ t) p.1.1));
+    same_reads (inside SEQUENCE (content SEQUENCE policy_of)) (Inside SEQUENCE (Inside SEQUENCE IsPolicy)) IsCertificatePolicies
+    (inside_reads SEQUENCE (content SEQUENCE policy_of) (Inside SEQUENCE IsPolicy) (content_reads SEQUENCE policy_of IsPolicy (record { takes = policy_takes; again = policy_again })))
+    (λ v text (row, (policy, (_, (qualifiers, behind, skipped), is), one), sequence). record {
+      qualifiers = qualifiers;
+      skipped = skipped;
+      nested = (row, sequence, (policy, one, is ∙ ap (λ (t : List ℕ). enc OBJECT_IDENTIFIER (policy_identifier v) ++ t) behind));
     })
-    (λ v text s. let n = s.nested in (n.0, (n.2.0, (concat s.qualifiers, (s.qualifiers, refl, s.skipped), n.2.2), n.2.1), n.1))
+    (λ v text s. let (row, sequence, (policy, one, is)) = s.nested in (row, (policy, (concat s.qualifiers, (s.qualifiers, refl, s.skipped), is), one), sequence))
 
 pub certificate_policies_made : (depth : ℕ) (overclaim : Overclaim) → Short (certificate_policies_content overclaim) → IsCertificatePoliciesWithin depth overclaim (certificate_policies_content overclaim)
 certificate_policies_made depth overclaim h =
-    let identifier = enc 6 (policy_identifier overclaim) in
+    let identifier = enc OBJECT_IDENTIFIER (policy_identifier overclaim) in
     record {
       qualifiers = [];
       skipped = tt;
-      nested = subst (λ (c : List ℕ). IsNested (0x30 ∷ 0x30 ∷ []) c (certificate_policies_content overclaim)) (sym (append-nil identifier)) (nested_made (0x30 ∷ 0x30 ∷ []) identifier (omega arith, (omega arith, tt)) h);
+      nested = subst (λ (c : List ℕ). IsNested (SEQUENCE ∷ SEQUENCE ∷ []) c (certificate_policies_content overclaim)) (sym (append-nil identifier)) (nested_made (SEQUENCE ∷ SEQUENCE ∷ []) identifier (omega arith, (omega arith, tt)) h);
     }
 
 pub ok_certificate_policies : (overclaim : Overclaim) → IfShort (certificate_policies_content overclaim)
-ok_certificate_policies overclaim = ok_nested (0x30 ∷ 0x30 ∷ []) (enc 6 (policy_identifier overclaim)) (literal (0x30 ∷ 0x30 ∷ []) refl) (ok_enc 6 _ (omega arith) (λ l. policy overclaim))
+ok_certificate_policies overclaim = ok_nested (SEQUENCE ∷ SEQUENCE ∷ []) (enc OBJECT_IDENTIFIER (policy_identifier overclaim)) (literal (SEQUENCE ∷ SEQUENCE ∷ []) refl) (ok_enc OBJECT_IDENTIFIER _ (omega arith) (λ l. policy overclaim))
   where
     policy : (m : Overclaim) → AreOctets (policy_identifier m)
     policy Refuse = literal (policy_identifier Refuse) refl

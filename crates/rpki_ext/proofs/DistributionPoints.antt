@@ -1,5 +1,6 @@
 -- CRL Distribution Points, both ways, and what is written of them.
 use Rattle.std.proofs.Common.{ℕ, List, refl, subst, [], ◌∷◌, arith}
+use Rattle.rpki_der.specs.Tags.{SEQUENCE, CONTEXT_CONSTRUCTED}
 use Rattle.rpki_der.specs.Values.{IsEnc}
 use Rattle.rpki_der.specs.Reading.{inside, Inside, Reads}
 use Rattle.rpki_der.specs.Values.Reading.{value_at}
@@ -16,29 +17,29 @@ use Rattle.rpki_ext.proofs.GeneralNames.{names_read, names_made, ok_uri_name}
 use Rattle.rpki_ext.proofs.LawfulKinds.{IsKind, always, AnsweringOrMemory, answering_or_memory}
 
 abbrev IsFullName : List ℕ → List ℕ → Type 0
-IsFullName = Inside 0x30 (Inside 0x30 (Inside 0xA0 (IsEnc 0xA0)))
+IsFullName = Inside SEQUENCE (Inside SEQUENCE (Inside (CONTEXT_CONSTRUCTED 0) (IsEnc (CONTEXT_CONSTRUCTED 0))))
 
 full_name_reads : Reads full_name_at IsFullName
 unfolding full_name_at
 full_name_reads =
-    inside_reads 0x30 (inside 0x30 (inside 0xA0 (value_at 0xA0))) (Inside 0x30 (Inside 0xA0 (IsEnc 0xA0)))
-    (inside_reads 0x30 (inside 0xA0 (value_at 0xA0)) (Inside 0xA0 (IsEnc 0xA0))
-    (inside_reads 0xA0 (value_at 0xA0) (IsEnc 0xA0) (value_reads 0xA0)))
+    inside_reads SEQUENCE (inside SEQUENCE (inside (CONTEXT_CONSTRUCTED 0) (value_at (CONTEXT_CONSTRUCTED 0)))) (Inside SEQUENCE (Inside (CONTEXT_CONSTRUCTED 0) (IsEnc (CONTEXT_CONSTRUCTED 0))))
+    (inside_reads SEQUENCE (inside (CONTEXT_CONSTRUCTED 0) (value_at (CONTEXT_CONSTRUCTED 0))) (Inside (CONTEXT_CONSTRUCTED 0) (IsEnc (CONTEXT_CONSTRUCTED 0)))
+    (inside_reads (CONTEXT_CONSTRUCTED 0) (value_at (CONTEXT_CONSTRUCTED 0)) (IsEnc (CONTEXT_CONSTRUCTED 0)) (value_reads (CONTEXT_CONSTRUCTED 0))))
 
 pub crl_distribution_points_reads : Reads crl_distribution_points_at IsCrlDistributionPoints
 unfolding crl_distribution_points_at
 crl_distribution_points_reads =
     same_reads (turned names_of full_name_at) (Turned names_of IsFullName) IsCrlDistributionPoints (turned_reads names_of full_name_at IsFullName full_name_reads)
-    (λ v text s. let n = s.1 in (s.0, names_read.takes s.0 v n.1.1.1.octets s.2, (n.0, n.2, (n.1.0, n.1.2, (n.1.1.0, n.1.1.2, (s.0, n.1.1.1, refl))))))
-    (λ v text s. let n = s.2 in (s.0, (n.0, (n.2.0, (n.2.2.0, subst (λ (c : List ℕ). IsEnc 0xA0 c n.2.2.0) n.2.2.2.2 n.2.2.2.1, n.2.2.1), n.2.1), n.1), names_read.again v s.0 s.1))
+    (λ v text (names, (points, (point, (name, full, location), one), sequence), read). (names, names_read.takes names v full.octets read, (points, sequence, (point, one, (name, location, (names, full, refl))))))
+    (λ v text (names, given, (points, sequence, (point, one, (name, location, (c, full, is))))). (names, (points, (point, (name, subst (λ (t : List ℕ). IsEnc (CONTEXT_CONSTRUCTED 0) t name) is full, location), one), sequence), names_read.again v names given))
 
 pub crl_distribution_points_made : (uri : List ℕ) → IsRsync uri → Short (crl_distribution_points_content uri) → IsCrlDistributionPoints uri (crl_distribution_points_content uri)
 crl_distribution_points_made uri r h =
-    let tags : List ℕ = 0x30 ∷ 0x30 ∷ 0xA0 ∷ 0xA0 ∷ [] in
+    let tags : List ℕ = SEQUENCE ∷ SEQUENCE ∷ CONTEXT_CONSTRUCTED 0 ∷ CONTEXT_CONSTRUCTED 0 ∷ [] in
     (uri_name uri, names_made uri r (nested_short tags (uri_name uri) h), nested_made tags (uri_name uri) (omega arith, (omega arith, (omega arith, (omega arith, tt)))) h)
 
 pub ok_crl_distribution_points : (uri : List ℕ) → IsRsync uri → IfShort (crl_distribution_points_content uri)
-ok_crl_distribution_points uri r = ok_nested (0x30 ∷ 0x30 ∷ 0xA0 ∷ 0xA0 ∷ []) (uri_name uri) (literal (0x30 ∷ 0x30 ∷ 0xA0 ∷ 0xA0 ∷ []) refl) (ok_uri_name uri r.printable)
+ok_crl_distribution_points uri r = ok_nested (SEQUENCE ∷ SEQUENCE ∷ CONTEXT_CONSTRUCTED 0 ∷ CONTEXT_CONSTRUCTED 0 ∷ []) (uri_name uri) (literal (SEQUENCE ∷ SEQUENCE ∷ CONTEXT_CONSTRUCTED 0 ∷ CONTEXT_CONSTRUCTED 0 ∷ []) refl) (ok_uri_name uri r.printable)
 
 pub crl_distribution_points_is : IsKind crl_distribution_points
 crl_distribution_points_is = record {

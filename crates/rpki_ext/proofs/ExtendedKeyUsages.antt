@@ -2,6 +2,7 @@
 use Rattle.std.specs.Prelude.{is_some}
 use Rattle.std.specs.List.{AllByRecursion, AllZip, concat}
 use Rattle.std.proofs.Common.{arith, ◌≡◌, ℕ, List, ◌∷◌, true, [], refl, ◌++◌, Option, Some, None, sym, ap, subst, ◌∙◌}
+use Rattle.rpki_der.specs.Tags.{SEQUENCE, OBJECT_IDENTIFIER}
 use Rattle.rpki_der.specs.Reading.{content, ReadsWhole, Inside, Reads}
 use Rattle.rpki_der.specs.Primitives.Reading.{oid_of, oid_at}
 use Rattle.rpki_der.specs.Rows.{IsRow}
@@ -22,7 +23,7 @@ use Rattle.rpki_ext.proofs.LawfulKinds.{IsKind, always, AnsweringOrMemory, answe
 
 pub oid_shrinks : Shrinks oid_at
 unfolding oid_at
-oid_shrinks = content_shrinks 6 oid_of
+oid_shrinks = content_shrinks OBJECT_IDENTIFIER oid_of
 
 abbrev AreSome : List ℕ → List ℕ → Type 0
 AreSome kept c = (id : List ℕ) × (more : List (List ℕ)) × IsRow IsObjectIdentifier (id ∷ more) c × (kept ≡ c)
@@ -39,7 +40,7 @@ all_true (id ∷ ids) = (refl, all_true ids)
 
 not_nil : (id b : List ℕ) → IsObjectIdentifier id b → (rest : List ℕ) → [] ≡ b ++ rest → ⊥
 unfolding enc
-not_nil id b s rest e = let f : [] ≡ enc 6 id ++ rest = rw s.enc.is at e in absurd cc
+not_nil id b s rest e = let f : [] ≡ enc OBJECT_IDENTIFIER id ++ rest = rw s.enc.is at e in absurd cc
 
 some_from : (b : ℕ) (c : List ℕ) (ids : List (List ℕ)) → IsRow IsObjectIdentifier ids (b ∷ c) → AreSome (b ∷ c) (b ∷ c)
 some_from b c [] s = absurd cc
@@ -61,16 +62,16 @@ identifiers_read = record { takes = takes; again = again }
         let m : over oid_at (each (λ id. true)) tt (b ∷ c) ≡ Some tt = any_reads.again tt (b ∷ c) (s.0 ∷ s.1, s.2, all_true (s.0 ∷ s.1)) in
         rw m (ap some (sym s.3))
 
-usage_is : (kept text : List ℕ) → Inside 0x30 AreSome kept text → IsExtendedKeyUsage kept text
+usage_is : (kept text : List ℕ) → Inside SEQUENCE AreSome kept text → IsExtendedKeyUsage kept text
 usage_is kept text s =
     let a = s.1 in
     let row = row_pieces IsObjectIdentifier (a.0 ∷ a.1) s.0 a.2 in
     record {
       purposes = record { id = a.0; more = a.1; pieces = row.0; identifiers = row.1; is = a.3 ∙ row.2 };
-      sequence = subst (λ (c : List ℕ). IsEnc 0x30 c text) (sym a.3) s.2;
+      sequence = subst (λ (c : List ℕ). IsEnc SEQUENCE c text) (sym a.3) s.2;
     }
 
-is_usage : (kept text : List ℕ) → IsExtendedKeyUsage kept text → Inside 0x30 AreSome kept text
+is_usage : (kept text : List ℕ) → IsExtendedKeyUsage kept text → Inside SEQUENCE AreSome kept text
 is_usage kept text s =
     let p = s.purposes in
     let row = pieces_row IsObjectIdentifier (p.id ∷ p.more) p.pieces p.identifiers in
@@ -78,7 +79,7 @@ is_usage kept text s =
 
 pub extended_key_usage_reads : Reads extended_key_usage_at IsExtendedKeyUsage
 unfolding extended_key_usage_at
-extended_key_usage_reads = same_reads (content 0x30 purposes_of) (Inside 0x30 AreSome) IsExtendedKeyUsage (content_reads 0x30 purposes_of AreSome identifiers_read) usage_is is_usage
+extended_key_usage_reads = same_reads (content SEQUENCE purposes_of) (Inside SEQUENCE AreSome) IsExtendedKeyUsage (content_reads SEQUENCE purposes_of AreSome identifiers_read) usage_is is_usage
 
 -- what is kept, by its test
 pub kept_purposes : (c : List ℕ) → AreOctets c → is_some (purposes_of c) ≡ true → ArePurposes c
@@ -105,8 +106,8 @@ purposes_octets ids p = rw p.is (row_octets (p.id ∷ p.more) p.pieces p.identif
 pub extended_key_usage_is : IsKind extended_key_usage
 extended_key_usage_is = record {
   law = extended_key_usage_reads;
-  made = λ ids c fits e short. always (extended_key_usage.spells ids) _ c e short (λ s. record { purposes = fits; sequence = made 0x30 ids (omega arith) s });
-  octets = λ ids fits. ok_enc 0x30 ids (omega arith) (λ l. purposes_octets ids fits);
+  made = λ ids c fits e short. always (extended_key_usage.spells ids) _ c e short (λ s. record { purposes = fits; sequence = made SEQUENCE ids (omega arith) s });
+  octets = λ ids fits. ok_enc SEQUENCE ids (omega arith) (λ l. purposes_octets ids fits);
 }
 
 pub extended_key_usage_answers : AnsweringOrMemory extended_key_usage

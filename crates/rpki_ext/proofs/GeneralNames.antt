@@ -5,6 +5,7 @@ use Rattle.std.specs.Prelude.{filter}
 use Rattle.std.proofs.Common.{◌≡◌, ℕ, ◌<◌, ◌^◌, true, List, [], ◌∷◌, length, refl, arith, ltb, Decides, Some, subst, Option, None, ap, sym, Bool, cond, inl, inr}
 use Rattle.std.proofs.lemmas.Bool.{and_parts, ltb-true, lt-ltb, cases_Bool}
 use Rattle.std.proofs.lemmas.List.{append-nil}
+use Rattle.rpki_der.specs.Tags.{OBJECT_IDENTIFIER, CONTEXT}
 use Rattle.rpki_der.specs.Values.{enc, AreOctets}
 use Rattle.rpki_der.specs.Primitives.{IsObjectIdentifier}
 use Rattle.rpki_der.specs.Reading.{content, Reads, Inside, ReadsWhole}
@@ -27,7 +28,7 @@ use Rattle.rpki_ext.proofs.Choosing.{only_from, only_to, one_from, one_to}
 use Rattle.rpki_ext.proofs.Pieces.{row_pieces, pieces_row}
 
 -- an identifier that is a constant
-pub spelled_oid : (id : List ℕ) → is_oid id ≡ true → list_all (λ x. ltb x 256) id ≡ true → length id < 2 ^ 32 → IsObjectIdentifier id (enc 6 id)
+pub spelled_oid : (id : List ℕ) → is_oid id ≡ true → list_all (λ x. ltb x 256) id ≡ true → length id < 2 ^ 32 → IsObjectIdentifier id (enc OBJECT_IDENTIFIER id)
 spelled_oid id is low short = record { enc = record { octet = omega arith; low_tag = omega arith; octets = octets id low; short = short; is = refl }; oid = oid_takes id is }
   where
     octets : (b : List ℕ) → list_all (λ x. ltb x 256) b ≡ true → AreOctets b
@@ -51,14 +52,14 @@ text_takes c text e = let g = if_some (list_all is_ascii c) c text e in (g.1, su
 pub name_reads : Reads uri_name_at IsUniformResourceIdentifier
 unfolding uri_name_at
 name_reads =
-    same_reads (content 0x86 ascii_of) (Inside 0x86 IsText) IsUniformResourceIdentifier
-    (content_reads 0x86 ascii_of IsText (record { takes = λ c text low e. text_takes c text e; again = λ text c s. rw (s.0, (ascii_decides text).1 s.1) refl }))
+    same_reads (content (CONTEXT 6) ascii_of) (Inside (CONTEXT 6) IsText) IsUniformResourceIdentifier
+    (content_reads (CONTEXT 6) ascii_of IsText (record { takes = λ c text low e. text_takes c text e; again = λ text c s. rw (s.0, (ascii_decides text).1 s.1) refl }))
     (λ text b s. (rw (← s.1.0) s.2, s.1.1))
     (λ text b s. (text, (refl, s.1), s.0))
 
 pub name_shrinks : Shrinks uri_name_at
 unfolding uri_name_at
-name_shrinks = content_shrinks 0x86 ascii_of
+name_shrinks = content_shrinks (CONTEXT 6) ascii_of
 
 -- ---- names
 
@@ -105,7 +106,7 @@ ascii [] h = tt
 ascii (x ∷ text) h = (omega (arith, h.0.1), ascii text h.1)
 
 pub uri_name_made : (uri : List ℕ) → ArePrintable uri → Short (uri_name uri) → IsUniformResourceIdentifier uri (uri_name uri)
-uri_name_made uri p h = (made 0x86 uri (omega arith) h, ascii uri p)
+uri_name_made uri p h = (made (CONTEXT 6) uri (omega arith) h, ascii uri p)
 
 pub names_made : (uri : List ℕ) → IsRsync uri → Short (uri_name uri) → IsGeneralNames uri (uri_name uri)
 names_made uri r h = record {
@@ -121,4 +122,4 @@ octets [] h = tt
 octets (x ∷ text) h = (omega (arith, h.0.1), octets text h.1)
 
 pub ok_uri_name : (uri : List ℕ) → ArePrintable uri → IfShort (uri_name uri)
-ok_uri_name uri h = ok_enc 0x86 uri (omega arith) (λ l. octets uri h)
+ok_uri_name uri h = ok_enc (CONTEXT 6) uri (omega arith) (λ l. octets uri h)

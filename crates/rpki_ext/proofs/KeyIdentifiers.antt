@@ -1,6 +1,7 @@
 -- Key identifiers, both ways, and what is written of them.
 use Rattle.std.proofs.Common.{length, refl, ◌≡◌, ℕ, List, arith, [], ◌∷◌}
 use Rattle.std.proofs.lemmas.Bool.{eq-eqb}
+use Rattle.rpki_der.specs.Tags.{SEQUENCE, OCTET_STRING, CONTEXT}
 use Rattle.rpki_der.specs.Reading.{content, inside, Reads, Inside}
 use Rattle.rpki_der.specs.Values.{AreOctets}
 use Rattle.rpki_der.proofs.Readings.{content_reads, inside_reads, same_reads}
@@ -14,17 +15,17 @@ use Rattle.rpki_ext.proofs.LawfulKinds.{IsKind, always, Answering, answering}
 pub authority_key_identifier_reads : Reads authority_key_identifier_at IsAuthorityKeyIdentifier
 unfolding authority_key_identifier_at
 authority_key_identifier_reads =
-    same_reads (inside 0x30 (content 0x80 twenty)) (Inside 0x30 (Inside 0x80 IsTwenty)) IsAuthorityKeyIdentifier
-    (inside_reads 0x30 (content 0x80 twenty) (Inside 0x80 IsTwenty)
-    (content_reads 0x80 twenty IsTwenty (record { takes = λ c id low e. takes_twenty c id e; again = λ id c s. rw (s.0, eq-eqb (length id) 20 s.1) refl })))
-    (λ id text s. ((s.0, s.2, (s.1.0, s.1.2, s.1.1.0)), s.1.1.1))
-    (λ id text s. (s.0.0, (s.0.2.0, (s.0.2.2, s.1), s.0.2.1), s.0.1))
+    same_reads (inside SEQUENCE (content (CONTEXT 0) twenty)) (Inside SEQUENCE (Inside (CONTEXT 0) IsTwenty)) IsAuthorityKeyIdentifier
+    (inside_reads SEQUENCE (content (CONTEXT 0) twenty) (Inside (CONTEXT 0) IsTwenty)
+    (content_reads (CONTEXT 0) twenty IsTwenty (record { takes = λ c id low e. takes_twenty c id e; again = λ id c s. rw (s.0, eq-eqb (length id) 20 s.1) refl })))
+    (λ id text (row, (key, (is, size), first), sequence). ((row, sequence, (key, first, is)), size))
+    (λ id text ((row, sequence, (key, first, is)), size). (row, (key, (is, size), first), sequence))
 
 pub subject_key_identifier_made : (id : List ℕ) → length id ≡ 20 → Short (subject_key_identifier_content id) → IsSubjectKeyIdentifier id (subject_key_identifier_content id)
-subject_key_identifier_made id l h = record { enc = made 4 id (omega arith) h; size = l }
+subject_key_identifier_made id l h = record { enc = made OCTET_STRING id (omega arith) h; size = l }
 
 pub ok_subject_key_identifier : (id : List ℕ) → AreOctets id → IfShort (subject_key_identifier_content id)
-ok_subject_key_identifier id h = ok_enc 4 id (omega arith) (λ l. h)
+ok_subject_key_identifier id h = ok_enc OCTET_STRING id (omega arith) (λ l. h)
 
 pub subject_key_identifier_is : IsKind subject_key_identifier
 subject_key_identifier_is = record {
@@ -34,10 +35,10 @@ subject_key_identifier_is = record {
 }
 
 pub authority_key_identifier_made : (id : List ℕ) → length id ≡ 20 → Short (authority_key_identifier_content id) → IsAuthorityKeyIdentifier id (authority_key_identifier_content id)
-authority_key_identifier_made id l h = (nested_made (0x30 ∷ 0x80 ∷ []) id (omega arith, (omega arith, tt)) h, l)
+authority_key_identifier_made id l h = (nested_made (SEQUENCE ∷ CONTEXT 0 ∷ []) id (omega arith, (omega arith, tt)) h, l)
 
 pub ok_authority_key_identifier : (id : List ℕ) → AreOctets id → IfShort (authority_key_identifier_content id)
-ok_authority_key_identifier id h = ok_nested (0x30 ∷ 0x80 ∷ []) id (literal (0x30 ∷ 0x80 ∷ []) refl) (λ l. h)
+ok_authority_key_identifier id h = ok_nested (SEQUENCE ∷ CONTEXT 0 ∷ []) id (literal (SEQUENCE ∷ CONTEXT 0 ∷ []) refl) (λ l. h)
 
 pub authority_key_identifier_is : IsKind authority_key_identifier
 authority_key_identifier_is = record {

@@ -6,6 +6,7 @@ use Rattle.std.proofs.lemmas.Bool.{cases_Bool}
 use Rattle.std.proofs.lemmas.Slice.Eq.{bytes_eq-Decides}
 use Rattle.std.proofs.lemmas.List.{append-nil}
 use Rattle.std.proofs.lemmas.Option.{IfSome_then}
+use Rattle.rpki_der.specs.Tags.{SEQUENCE, OBJECT_IDENTIFIER}
 use Rattle.rpki_der.specs.Rows.{IsRow, IsFirstOf}
 use Rattle.rpki_der.specs.Rows.Reading.{Shrinks}
 use Rattle.rpki_der.specs.Values.{enc, AreOctets, IsEnc, IsSequence, sequence, sequence_of_some}
@@ -42,7 +43,7 @@ Description = Option (AccessMethod × List ℕ)
 
 pub description_shrinks : Shrinks description_at
 unfolding description_at
-description_shrinks = content_shrinks 0x30 description_of
+description_shrinks = content_shrinks SEQUENCE description_of
 
 -- ---- methods
 
@@ -70,7 +71,7 @@ method_is id m e =
 pub one_method : (m n : AccessMethod) → method_identifier m ≡ method_identifier n → m ≡ n
 one_method m n e = some_is m n (sym (method_again m) ∙ ap method_of e ∙ method_again n)
 
-pub method_spelled : (m : AccessMethod) → IsObjectIdentifier (method_identifier m) (enc 6 (method_identifier m))
+pub method_spelled : (m : AccessMethod) → IsObjectIdentifier (method_identifier m) (enc OBJECT_IDENTIFIER (method_identifier m))
 method_spelled CaRepository = spelled_oid (method_identifier CaRepository) refl refl (omega arith)
 method_spelled RpkiManifest = spelled_oid (method_identifier RpkiManifest) refl refl (omega arith)
 method_spelled SignedObject = spelled_oid (method_identifier SignedObject) refl refl (omega arith)
@@ -84,7 +85,7 @@ unknown_method id h (Some m) e = absurd (h m (method_is id m e))
 
 -- a whole description
 abbrev IsDescribed : Description → List ℕ → Type 0
-IsDescribed (Some (method, uri)) c = (name : List ℕ) × IsUniformResourceIdentifier uri name × (c ≡ enc 6 (method_identifier method) ++ name)
+IsDescribed (Some (method, uri)) c = (name : List ℕ) × IsUniformResourceIdentifier uri name × (c ≡ enc OBJECT_IDENTIFIER (method_identifier method) ++ name)
 IsDescribed None c = (id : List ℕ) × (method : List ℕ) × (rest : List ℕ) × IsObjectIdentifier id method × ((known : AccessMethod) → id ≢ method_identifier known) × IsSkippableRow rest × (c ≡ method ++ rest)
 
 location_takes : (id text rest : List ℕ) (r : Option AccessMethod) (d : Description) → method_of id ≡ r → AreOctets rest → IsObjectIdentifier id text → location_of r rest ≡ Some d → IsDescribed d (text ++ rest)
@@ -93,7 +94,7 @@ location_takes id text rest (Some m) d is low spelled e =
     let g = ended_some a.0.1 (some {A = AccessMethod × List ℕ} (m, a.0.0)) d a.2 in
     let one = name_reads.takes rest a.0.0 a.0.1 low a.1 in
     let used : one.text ≡ rest = sym (append-nil one.text) ∙ sym (ap (λ (r : List ℕ). one.text ++ r) g.0) ∙ sym one.parts in
-    let same : text ≡ enc 6 (method_identifier m) = spelled.enc.is ∙ ap (enc 6) (method_is id m is) in
+    let same : text ≡ enc OBJECT_IDENTIFIER (method_identifier m) = spelled.enc.is ∙ ap (enc OBJECT_IDENTIFIER) (method_is id m is) in
     subst (λ (x : Description). IsDescribed x (text ++ rest)) g.1 (rest, subst (λ (t : List ℕ). IsUniformResourceIdentifier a.0.0 t) used one.spelled, ap (λ (t : List ℕ). t ++ rest) same)
 location_takes id text rest None d is low spelled e =
     let a = bind_some (skip_all_of rest) (λ u. some {A = Description} None) d e in
@@ -108,28 +109,27 @@ description_takes c d low e =
 description_again : (d : Description) (c : List ℕ) → IsDescribed d c → description_of c ≡ Some d
 description_again (Some (m, uri)) c s =
     let whole : uri_name_at s.0 ≡ some {A = List ℕ × List ℕ} (uri, []) = ap uri_name_at (sym (append-nil s.0)) ∙ name_reads.again uri s.0 [] s.1 in
-    rw (s.2, oid_reads.again (method_identifier m) (enc 6 (method_identifier m)) s.0 (method_spelled m), method_again m, whole) refl
+    rw (s.2, oid_reads.again (method_identifier m) (enc OBJECT_IDENTIFIER (method_identifier m)) s.0 (method_spelled m), method_again m, whole) refl
 description_again None c s =
     rw (s.6, oid_reads.again s.0 s.1 s.2 s.3, unknown_method s.0 s.4 (method_of s.0) refl, skip_all_reads.again tt s.2 s.5) refl
 
-described : (d : Description) (text : List ℕ) → Inside 0x30 IsDescribed d text → IsAccessDescriptionWithin levels d text
-described (Some (m, uri)) text s =
-    (s.1.0, s.1.1, subst (λ (c : List ℕ). IsEnc 0x30 c text) (s.1.2 ∙ ap (λ (t : List ℕ). enc 6 (method_identifier m) ++ t) (sym (append-nil s.1.0))) s.2)
-described None text s =
-    let i = s.1 in
-    record { id = i.0; method = i.1; row = i.5.0; method_is = i.3; unknown = i.4; skipped = i.5.2; sequence = subst (λ (c : List ℕ). IsEnc 0x30 c text) (i.6 ∙ ap (λ (t : List ℕ). i.1 ++ t) i.5.1) s.2 }
+described : (d : Description) (text : List ℕ) → Inside SEQUENCE IsDescribed d text → IsAccessDescriptionWithin levels d text
+described (Some (m, uri)) text (_, (name, spelled, is), sequence) =
+    (name, spelled, subst (λ (c : List ℕ). IsEnc SEQUENCE c text) (is ∙ ap (λ (t : List ℕ). enc OBJECT_IDENTIFIER (method_identifier m) ++ t) (sym (append-nil name))) sequence)
+described None text (_, (id, method, _, spelled, unknown, (row, behind, skipped), is), sequence) =
+    record { id = id; method = method; row = row; method_is = spelled; unknown = unknown; skipped = skipped; sequence = subst (λ (c : List ℕ). IsEnc SEQUENCE c text) (is ∙ ap (λ (t : List ℕ). method ++ t) behind) sequence }
 
-is_described : (d : Description) (text : List ℕ) → IsAccessDescriptionWithin levels d text → Inside 0x30 IsDescribed d text
+is_described : (d : Description) (text : List ℕ) → IsAccessDescriptionWithin levels d text → Inside SEQUENCE IsDescribed d text
 is_described (Some (m, uri)) text s =
-    (enc 6 (method_identifier m) ++ s.0, (s.0, s.1, refl), subst (λ (c : List ℕ). IsEnc 0x30 c text) (ap (λ (t : List ℕ). enc 6 (method_identifier m) ++ t) (append-nil s.0)) s.2)
+    (enc OBJECT_IDENTIFIER (method_identifier m) ++ s.0, (s.0, s.1, refl), subst (λ (c : List ℕ). IsEnc SEQUENCE c text) (ap (λ (t : List ℕ). enc OBJECT_IDENTIFIER (method_identifier m) ++ t) (append-nil s.0)) s.2)
 is_described None text s =
     (s.method ++ concat s.row, (s.id, s.method, concat s.row, s.method_is, s.unknown, (s.row, refl, s.skipped), refl), s.sequence)
 
 pub description_reads : Reads description_at (IsAccessDescriptionWithin levels)
 unfolding description_at
 description_reads =
-    same_reads (content 0x30 description_of) (Inside 0x30 IsDescribed) (IsAccessDescriptionWithin levels)
-    (content_reads 0x30 description_of IsDescribed (record { takes = description_takes; again = description_again }))
+    same_reads (content SEQUENCE description_of) (Inside SEQUENCE IsDescribed) (IsAccessDescriptionWithin levels)
+    (content_reads SEQUENCE description_of IsDescribed (record { takes = description_takes; again = description_again }))
     described is_described
 
 -- ---- URIs
@@ -175,8 +175,8 @@ IsAccess a c = (d : Description) × (ds : List Description) × IsRow (IsAccessDe
 
 not_nil : (d : Description) (text rest : List ℕ) → IsAccessDescriptionWithin levels d text → [] ≡ text ++ rest → ⊥
 unfolding enc
-not_nil (Some x) text rest s e = let f : [] ≡ enc 0x30 (concat (enc 6 (method_identifier x.0) ∷ s.0 ∷ [])) ++ rest = rw s.2.is at e in absurd cc
-not_nil None text rest s e = let f : [] ≡ enc 0x30 (concat (s.method ∷ s.row)) ++ rest = rw s.sequence.is at e in absurd cc
+not_nil (Some x) text rest s e = let f : [] ≡ enc SEQUENCE (concat (enc OBJECT_IDENTIFIER (method_identifier x.0) ∷ s.0 ∷ [])) ++ rest = rw s.2.is at e in absurd cc
+not_nil None text rest s e = let f : [] ≡ enc SEQUENCE (concat (s.method ∷ s.row)) ++ rest = rw s.sequence.is at e in absurd cc
 
 access_from : (b : ℕ) (c : List ℕ) (uris : Uris) (ds : List Description) → IsRow (IsAccessDescriptionWithin levels) ds (b ∷ c) → access_fold.means ds uris → IsAccess (access_made uris) (b ∷ c)
 access_from b c uris [] s m = absurd cc
@@ -193,21 +193,20 @@ access_again : (a : Access) (c : List ℕ) → IsAccess a c → access_of c ≡ 
 access_again a [] s = absurd (not_nil s.0 s.2.0 s.2.1 s.2.2 s.2.4)
 access_again a (b ∷ c) s = rw (uris_read.again (uris_of a) (b ∷ c) (s.0 ∷ s.1, s.2, s.3)) refl
 
-access_is : (a : Access) (text : List ℕ) → Inside 0x30 IsAccess a text → IsSubjectInformationAccess a text
-access_is a text s =
-    let i = s.1 in
-    let row = row_pieces (IsAccessDescriptionWithin levels) (i.0 ∷ i.1) s.0 i.2 in
-    record { first = i.0; more = i.1; pieces = row.0; spelled = row.1; sequence = subst (λ (c : List ℕ). IsEnc 0x30 c text) row.2 s.2; repository = i.3.0; manifest = i.3.1.0; object = i.3.1.1.0; notify = i.3.1.1.1 }
+access_is : (a : Access) (text : List ℕ) → Inside SEQUENCE IsAccess a text → IsSubjectInformationAccess a text
+access_is a text (inside, (first, more, row, (repository, (manifest, (object, notify)))), sequence) =
+    let (pieces, spelled, is) = row_pieces (IsAccessDescriptionWithin levels) (first ∷ more) inside row in
+    record { first = first; more = more; pieces = pieces; spelled = spelled; sequence = subst (λ (c : List ℕ). IsEnc SEQUENCE c text) is sequence; repository = repository; manifest = manifest; object = object; notify = notify }
 
-is_access : (a : Access) (text : List ℕ) → IsSubjectInformationAccess a text → Inside 0x30 IsAccess a text
+is_access : (a : Access) (text : List ℕ) → IsSubjectInformationAccess a text → Inside SEQUENCE IsAccess a text
 is_access a text s =
     (concat s.pieces, (s.first, s.more, pieces_row (IsAccessDescriptionWithin levels) (s.first ∷ s.more) s.pieces s.spelled, (s.repository, (s.manifest, (s.object, s.notify)))), s.sequence)
 
 pub subject_information_access_reads : Reads subject_information_access_at IsSubjectInformationAccess
 unfolding subject_information_access_at
 subject_information_access_reads =
-    same_reads (content 0x30 access_of) (Inside 0x30 IsAccess) IsSubjectInformationAccess
-    (content_reads 0x30 access_of IsAccess (record { takes = access_takes; again = access_again }))
+    same_reads (content SEQUENCE access_of) (Inside SEQUENCE IsAccess) IsSubjectInformationAccess
+    (content_reads SEQUENCE access_of IsAccess (record { takes = access_takes; again = access_again }))
     access_is is_access
 
 -- ---- what is written, method by method
@@ -242,7 +241,7 @@ spelled depth [] p h = tt
 spelled depth ((m, None) ∷ ms) p h = spelled depth ms p.1 h
 spelled depth ((m, Some uri) ∷ ms) p h =
     let shorts = description_pieces_short (method_identifier m) uri h.0 in
-    ((_, uri_name_made uri p.0 shorts.1, made 0x30 _ (omega arith) h.0), spelled depth ms p.1 h.1)
+    ((_, uri_name_made uri p.0 shorts.1, made SEQUENCE _ (omega arith) h.0), spelled depth ms p.1 h.1)
 
 ok_texts : (ms : Methods) → ArePrintables ms → AllByRecursion IfShort (texts ms)
 ok_texts [] p = tt
@@ -313,7 +312,7 @@ sequence_made : (depth : ℕ) (a : Access) (ds : List Description) (ps : List (L
 sequence_made depth a ds [] zipped f c e h = absurd cc
 sequence_made depth a ds (p ∷ ps) zipped f c e h =
     let is : sequence (p ∷ ps) ≡ c = some_is (sequence (p ∷ ps)) c e in
-    subst (λ (x : List ℕ). Short x → IsSubjectInformationAccessWithin depth a x) is (λ short. row ds (zipped (pieces_short (p ∷ ps) (content_short 0x30 _ short))) f (made 0x30 _ (omega arith) short)) h
+    subst (λ (x : List ℕ). Short x → IsSubjectInformationAccessWithin depth a x) is (λ short. row ds (zipped (pieces_short (p ∷ ps) (content_short SEQUENCE _ short))) f (made SEQUENCE _ (omega arith) short)) h
   where
     row : (es : List Description) → AllZip (IsAccessDescriptionWithin depth) es (p ∷ ps) → Firsts a es → IsSequence (p ∷ ps) (sequence (p ∷ ps)) → IsSubjectInformationAccessWithin depth a (sequence (p ∷ ps))
     row [] zip g enc = elim zip [ ]
@@ -330,8 +329,8 @@ all_absent ((m, Some uri) ∷ ms) e = absurd cc
 
 pub no_uris : (a : Access) → subject_information_access_content a ≡ None → a ≡ record { ca_repository = None; rpki_manifest = None; signed_object = None; rpki_notify = None }
 no_uris a e =
-    let h = all_absent (rows a) (texts_are a ∙ no_pieces (descriptions a) e) in
-    λ i. record { ca_repository = h.0 i; rpki_manifest = h.1.0 i; signed_object = h.1.1.0 i; rpki_notify = h.1.1.1.0 i }
+    let (repository, (manifest, (object, (notify, _)))) = all_absent (rows a) (texts_are a ∙ no_pieces (descriptions a) e) in
+    λ i. record { ca_repository = repository i; rpki_manifest = manifest i; signed_object = object i; rpki_notify = notify i }
 
 pub ok_subject_information_access : (a : Access) → HasUris a → IfSome (subject_information_access_content a) IfShort
 ok_subject_information_access a h = rw (← texts_are a) (ok_pieces (texts (rows a)) (ok_texts (rows a) (printables a h)))

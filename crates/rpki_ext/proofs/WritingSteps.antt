@@ -3,6 +3,7 @@ use Rattle.std.proofs.Common.{ℕ, zero, suc, ◌≤◌, ◌++◌, Bool, false, 
 use Rattle.std.specs.Prelude.{OnOk}
 use Rattle.std.specs.List.{concat}
 use Rattle.std.proofs.lemmas.List.{append-nil, length-append}
+use Rattle.rpki_der.specs.Tags.{SEQUENCE}
 use Rattle.rpki_der.specs.Extensions.{extension_pieces, extension_of_some, content_of_some, OptionalExtension, text, part_of}
 use Rattle.rpki_der.proofs.ValueWritten.{enc_longer}
 pub use Rattle.rpki_der.proofs.TooLong.{still_long}
@@ -13,7 +14,7 @@ nothing = record { identifier = []; critical = false; content = None }
 
 some_longer : (id : List ℕ) (critical : Bool) (c : Option (List ℕ)) → length (content_of_some id critical c) ≤ length (extension_of_some id critical c)
 some_longer id critical None = omega arith
-some_longer id critical (Some c) = enc_longer 0x30 (concat (extension_pieces id critical c))
+some_longer id critical (Some c) = enc_longer SEQUENCE (concat (extension_pieces id critical c))
 
 longer_at : (ps : List OptionalExtension) (k : ℕ) → length (part_of (get_or ps k nothing)).inside ≤ length (concat (map text ps))
 longer_at [] k = omega arith

@@ -3,6 +3,7 @@ use Rattle.std.specs.List.{concat}
 use Rattle.std.proofs.Common.{◌≡◌, Bool, ℕ, ◌≤◌, List, [], ◌∷◌, ◌++◌, Option, Some, None, length, refl, append_assoc, arith}
 use Rattle.std.proofs.lemmas.List.{length-append, append-nil}
 use Rattle.std.proofs.lemmas.List.Folds.{concat-append}
+use Rattle.rpki_der.specs.Tags.{SEQUENCE, OBJECT_IDENTIFIER}
 use Rattle.rpki_der.specs.Values.{enc, sequence, sequence_of_some}
 use Rattle.rpki_der.proofs.Appending.{length-enc}
 use Rattle.rpki_der.proofs.ValueWritten.{enc_longer}
@@ -25,7 +26,7 @@ one_by_one a old one two three new e f g h = rw (h, g, f, e, concat-descriptions
 
 none_here : (method : AccessMethod) (uri : Option (List ℕ)) (rest : List (List ℕ)) → length (concat (description_if method uri ++ rest)) ≡ 0 → (description_if method uri ≡ []) × (length (concat rest) ≡ 0)
 none_here method None rest e = (refl, e)
-none_here method (Some uri) rest e = absurd (omega (arith, e, length-append (description (method_identifier method) uri) (concat rest), length-enc 0x30 (concat (enc 6 (method_identifier method) ∷ uri_name uri ∷ []))))
+none_here method (Some uri) rest e = absurd (omega (arith, e, length-append (description (method_identifier method) uri) (concat rest), length-enc SEQUENCE (concat (enc OBJECT_IDENTIFIER (method_identifier method) ∷ uri_name uri ∷ []))))
 
 pub none_written : (a : Access) → length (concat (descriptions a)) ≡ 0 → descriptions a ≡ []
 none_written a e =
@@ -37,4 +38,4 @@ none_written a e =
 
 pub row_longer : (id : List ℕ) (critical : Bool) (ds : List (List ℕ)) → length (concat ds) ≤ length (content_of_some id critical (sequence_of_some ds))
 row_longer id critical [] = omega arith
-row_longer id critical (d ∷ ds) = omega (arith, enc_longer 0x30 (concat (d ∷ ds)), content_longer id critical (sequence (d ∷ ds)))
+row_longer id critical (d ∷ ds) = omega (arith, enc_longer SEQUENCE (concat (d ∷ ds)), content_longer id critical (sequence (d ∷ ds)))

@@ -14,7 +14,8 @@ use Rattle.rpki_ext.specs.Kinds.{ExtensionKind, required}
 abbrev pub ca_issuers : List ℕ
 ca_issuers = pkix 0x30 0x02
 
--- Authority Information Access (RFC 6487 4.8.7): one AccessDescription, of id-ad-caIssuers
+-- Authority Information Access (RFC 6487 4.8.7): one AccessDescription, of id-ad-caIssuers; several GeneralNames may stand behind its
+-- identifier (own; RFC 5280 4.2.2.1 has exactly one)
 abbrev pub IsAuthorityInformationAccess : List ℕ → List ℕ → Type 0
 IsAuthorityInformationAccess v b = (names : List ℕ) × IsGeneralNames v names × IsNested (SEQUENCE ∷ SEQUENCE ∷ []) (enc OBJECT_IDENTIFIER ca_issuers ++ names) b
 

@@ -54,7 +54,9 @@ bare identifier usage overclaim = record {
 }
 
 -- The extensions give these fields: at most one of each known kind, whatever their order, and none of an unknown kind is
--- critical (RFC 5280 4.2, RFC 6487 4.8). Resources stand under the identifiers of the policy's mode (RFC 8360 4.2).
+-- critical (RFC 5280 4.2, RFC 6487 4.8); an unknown one that isn't critical may stand twice (own). The subject's key identifier,
+-- key usage, policy and one of the two resource extensions must be there. Resources stand under the identifiers of the
+-- policy's mode (RFC 8360 4.2).
 pub record GiveFieldsWithin (depth : ℕ) (xs : List Extension) (f : ExtensionFields) : Type 0 where
   pub passed_over : AllByRecursion (λ x. is_of known x ≡ false → x.critical ≡ false) xs
   pub basic_constraints_is : Gives basic_constraints xs f.basic_ca

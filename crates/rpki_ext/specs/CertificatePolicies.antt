@@ -38,6 +38,7 @@ certificate_policies_at = inside SEQUENCE (content SEQUENCE policy_of)
 
 -- ---- the kind
 
+-- qualifiers stand at most so deep; for other depths than `levels` only what is spelled is used
 abbrev pub certificate_policies_within : ℕ → ExtensionKind Overclaim
 certificate_policies_within depth = record {
   identifier = id_ce 0x20;

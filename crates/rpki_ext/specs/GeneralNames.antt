@@ -15,7 +15,7 @@ use Rattle.rpki_ext.specs.Choosing.{IsOnlyWith}
 abbrev pub IsUniformResourceIdentifier : List ℕ → List ℕ → Type 0
 IsUniformResourceIdentifier text b = IsEnc (CONTEXT 6) text b × AllByRecursion (λ octet. octet < 128) text
 
--- GeneralNames of which exactly one is an rsync URI, v (RFC 6487 4.8.6, 4.8.7)
+-- GeneralNames of which exactly one is an rsync URI, v (RFC 6487 4.8.6, 4.8.7; own: a second one is refused)
 pub record IsGeneralNames (v b : List ℕ) : Type 0 where
   pub texts : List (List ℕ)
   pub pieces : List (List ℕ)

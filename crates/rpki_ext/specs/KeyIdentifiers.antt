@@ -30,8 +30,8 @@ authority_key_identifier_at = inside SEQUENCE (content (CONTEXT 0) twenty)
 -- ---- the kinds
 
 -- of 20 octets
-abbrev pub IsIdentifier : List ℕ → Type 0
-IsIdentifier id = AreOctets id × (length id ≡ 20)
+abbrev pub HasTwentyOctets : List ℕ → Type 0
+HasTwentyOctets id = AreOctets id × (length id ≡ 20)
 
 abbrev pub subject_key_identifier : ExtensionKind (List ℕ)
 subject_key_identifier = record {
@@ -39,7 +39,7 @@ subject_key_identifier = record {
   flag = required false;
   spells = IsSubjectKeyIdentifier;
   reads = key_identifier_at;
-  fits = IsIdentifier;
+  fits = HasTwentyOctets;
   written = λ id. Some (subject_key_identifier_content id);
 }
 
@@ -49,6 +49,6 @@ authority_key_identifier = record {
   flag = required false;
   spells = IsAuthorityKeyIdentifier;
   reads = authority_key_identifier_at;
-  fits = IsIdentifier;
+  fits = HasTwentyOctets;
   written = λ id. Some (authority_key_identifier_content id);
 }

@@ -67,7 +67,7 @@ Gives kind xs v = IsAtMostOne (Tells kind) (only (identifiers kind) xs) v
 
 -- ---- kinds with an identifier for each mode
 
--- both identifiers (RFC 8360 4.2.2, 4.2.3)
+-- both identifiers (RFC 8360 4.2.2.1, 4.2.2.3)
 abbrev pub identifiers_by_mode : {V : Type 0} → (Overclaim → ExtensionKind V) → List (List ℕ)
 identifiers_by_mode kinds = (kinds Refuse).identifier ∷ (kinds Trim).identifier ∷ []
 

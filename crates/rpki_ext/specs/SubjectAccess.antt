@@ -41,7 +41,9 @@ pub record IsUnknownAccessWithin (depth : ℕ) (b : List ℕ) : Type 0 where
 
 -- AccessDescription: a known method and one uniformResourceIdentifier, or another method, of which nothing is kept
 abbrev pub IsAccessDescriptionWithin : ℕ → Option (AccessMethod × List ℕ) → List ℕ → Type 0
-IsAccessDescriptionWithin depth (Some (method, uri)) b = (name : List ℕ) × IsUniformResourceIdentifier uri name × IsSequence (enc OBJECT_IDENTIFIER (method_identifier method) ∷ name ∷ []) b
+IsAccessDescriptionWithin depth (Some (method, uri)) b =
+    (name : List ℕ) × IsUniformResourceIdentifier uri name
+    × IsSequence (enc OBJECT_IDENTIFIER (method_identifier method) ∷ name ∷ []) b
 IsAccessDescriptionWithin depth None b = IsUnknownAccessWithin depth b
 
 -- the description has this method, and its name reads as the URI
@@ -79,13 +81,16 @@ description_if method None = []
 description_if method (Some uri) = description (method_identifier method) uri ∷ []
 
 abbrev pub descriptions : Access → List (List ℕ)
-descriptions a = description_if CaRepository a.ca_repository ++ (description_if RpkiManifest a.rpki_manifest ++ (description_if SignedObject a.signed_object ++ description_if RpkiNotify a.rpki_notify))
+descriptions a =
+    description_if CaRepository a.ca_repository
+    ++ (description_if RpkiManifest a.rpki_manifest
+    ++ (description_if SignedObject a.signed_object ++ description_if RpkiNotify a.rpki_notify))
 
 -- Subject Information Access: none where there is no URI
 abbrev pub subject_information_access_content : Access → Option (List ℕ)
 subject_information_access_content a = sequence_of_some (descriptions a)
 
--- each URI that is there is one, of rpkiNotify an https URI (RFC 8182 3.2)
+-- each URI that is there is an rsync URI, of rpkiNotify an https URI (RFC 8182 3.2)
 pub record HasUris (a : Access) : Type 0 where
   pub ca_repository_is : IfSome a.ca_repository IsRsync
   pub rpki_manifest_is : IfSome a.rpki_manifest IsRsync
@@ -144,7 +149,7 @@ subject_information_access_at = content SEQUENCE access_of
 
 -- ---- the kind
 
--- what is skipped in it stands at most so deep
+-- what is skipped in it stands at most so deep; for other depths than `levels` only what is spelled is used
 abbrev pub subject_information_access_within : ℕ → ExtensionKind Access
 subject_information_access_within depth = record {
   identifier = pkix 0x01 0x0B;

@@ -1,8 +1,8 @@
 //! What the extensions of a certificate give, and how they are written.
-ghost use Rattle.std.specs.Prelude.{◌≡◌, ◌^◌, ◌≤◌, ◌++◌, length, OnOk, IsErrOf, IfOk, IfSome};
+ghost use Rattle.std.specs.Prelude.{◌≡◌, ◌^◌, ◌≤◌, ◌++◌, length, OnOk, IsErrOf, IfOk, IfErr, IfSome, Ok, Err};
 ghost use Rattle.std.specs.Fn.{FnOnceReturnsAt};
 ghost use Rattle.rpki_parts.specs.Uris.{IsRsync, IsHttps};
-ghost use Rattle.rpki_ext.specs.KeyIdentifiers.{IsIdentifier};
+ghost use Rattle.rpki_ext.specs.KeyIdentifiers.{HasTwentyOctets};
 ghost use Rattle.rpki_ext.specs.ExtendedKeyUsages.{ArePurposes};
 ghost use Rattle.rpki_ext.specs.CertificateExtensions.{bare, ExtensionsFit, extensions};
 
@@ -96,6 +96,17 @@ fn copied<T: Drop, F: FnOnce(&T) -> Result<T, AllocError>>(
     }
 }
 
+// What there is so far, and what comes next; the error alone where that is one.
+pub(crate) fn beside<S: Drop, T, E>(so_far: S, next: Result<T, E>) -> Result<(S, T), E>
+    ensures ok { IfOk result (λ r. (r.0 ≡ so_far) × (next ≡ Ok r.1)) }
+    ensures refused { IfErr result (λ e. next ≡ Err e) }
+{
+    match next {
+        Ok(next) => Ok((so_far, next)),
+        Err(error) => Err(error),
+    }
+}
+
 // What a URI and purposes keep, where they are there. Called for what they ensure alone.
 
 fn known_rsync(uri: &Option<Rsync>)
@@ -123,7 +134,7 @@ fn known_usage(usage: &Option<ExtendedKeyUsage>)
 }
 
 fn known_identifier(identifier: &Option<KeyIdentifier>)
-    ensures { IfSome identifier.now IsIdentifier }
+    ensures { IfSome identifier.now HasTwentyOctets }
 {
     if let Some(identifier) = identifier {
         let _octets = identifier.as_octets();
@@ -177,20 +188,60 @@ impl Extensions {
         let _numbers = self.as_resources.is_present();
     }
 
+    // The URIs of Subject Information Access, once more.
+    fn try_clone_access(
+        &self,
+        alloc: Global,
+    ) -> Result<
+        (
+            ((Option<Rsync>, Option<Rsync>), Option<Rsync>),
+            Option<Https>,
+        ),
+        AllocError,
+    >
+        ensures { let a = self.now.access in IfOk result (λ u. u ≡
+            (((a.ca_repository, a.rpki_manifest), a.signed_object), a.rpki_notify)) }
+    {
+        let repository = copied(&self.ca_repository, |uri| uri.try_clone(alloc))?;
+        let manifest = beside(
+            repository,
+            copied(&self.rpki_manifest, |uri| uri.try_clone(alloc)),
+        )?;
+        let object = beside(
+            manifest,
+            copied(&self.signed_object, |uri| uri.try_clone(alloc)),
+        )?;
+        beside(
+            object,
+            copied(&self.rpki_notify, |uri| uri.try_clone(alloc)),
+        )
+    }
+
+    // The resources, once more.
+    fn try_clone_resources(
+        &self,
+        alloc: Global,
+    ) -> Result<((IpResources, IpResources), AsResources), AllocError>
+        ensures { IfOk result (λ r. r ≡
+            ((self.now.v4_resources, self.now.v6_resources), self.now.as_resources)) }
+    {
+        let v4 = self.v4_resources.try_clone(alloc)?;
+        let v6 = beside(v4, self.v6_resources.try_clone(alloc))?;
+        beside(v6, self.as_resources.try_clone(alloc))
+    }
+
     /// The same once more.
     pub fn try_clone(&self, alloc: Global) -> Result<Extensions, AllocError>
         ensures { IfOk result (λ copy. copy ≡ self.now) }
     {
-        let extended_key_usage = copied(&self.extended_key_usage, |usage| usage.try_clone(alloc))?;
-        let crl_uri = copied(&self.crl_uri, |uri| uri.try_clone(alloc))?;
-        let ca_issuer = copied(&self.ca_issuer, |uri| uri.try_clone(alloc))?;
-        let ca_repository = copied(&self.ca_repository, |uri| uri.try_clone(alloc))?;
-        let rpki_manifest = copied(&self.rpki_manifest, |uri| uri.try_clone(alloc))?;
-        let signed_object = copied(&self.signed_object, |uri| uri.try_clone(alloc))?;
-        let rpki_notify = copied(&self.rpki_notify, |uri| uri.try_clone(alloc))?;
-        let v4_resources = self.v4_resources.try_clone(alloc)?;
-        let v6_resources = self.v6_resources.try_clone(alloc)?;
-        let as_resources = self.as_resources.try_clone(alloc)?;
+        let purposes = copied(&self.extended_key_usage, |usage| usage.try_clone(alloc))?;
+        let lists = beside(purposes, copied(&self.crl_uri, |uri| uri.try_clone(alloc)))?;
+        let issuers = beside(lists, copied(&self.ca_issuer, |uri| uri.try_clone(alloc)))?;
+        let uris = beside(issuers, self.try_clone_access(alloc))?;
+        let (uris, resources) = beside(uris, self.try_clone_resources(alloc))?;
+        let (((extended_key_usage, crl_uri), ca_issuer), access) = uris;
+        let (((ca_repository, rpki_manifest), signed_object), rpki_notify) = access;
+        let ((v4_resources, v6_resources), as_resources) = resources;
         Ok(Extensions {
             basic_ca: self.basic_ca,
             subject_key_identifier: self.subject_key_identifier,
@@ -210,7 +261,8 @@ impl Extensions {
         })
     }
 
-    /// Appends the extensions, one after the other, in one fixed order and each with the flag that it must have (RFC 6487 4.8).
+    /// Appends the extensions, one after the other, in one fixed order and each with the flag that it must have (RFC 6487 4.8). After an error a
+    /// front of the row may stand there.
     pub fn encode_row(&self, alloc: Global, out: &mut Vec<u8>) -> Result<(), EncodeError>
         ensures ok { OnOk result (out.new.items ≡ out.old.items ++ extensions self.now) }
         ensures too_long { IsErrOf result EncodeError.TooLong

@@ -1,4 +1,4 @@
-//! Single extensions of certificates and revocation lists.
+//! Single extensions of certificates and revocation lists, the row of them that a certificate has, and the faults of inspection.
 #![tactic(auto)]
 
 mod agreement;

@@ -1,11 +1,12 @@
 //! The extensions of a certificate, in one pass, whatever order they stand in.
-ghost use Rattle.std.specs.Prelude.{◌≡◌, ◌⊎◌, true, false, OnOk, OnErr, IfErr, Some, unwrap_or};
+ghost use Rattle.std.specs.Prelude.{◌≡◌, ◌⊎◌, true, false, OnOk, OnErr, IfOk, IfErr, Some, None, unwrap_or};
 ghost use Rattle.rpki_der.specs.Place.{Place, left, MeansOrMemory, Refuses};
 ghost use Rattle.rpki_der.specs.Place.Reading.{Returns, ReturnsOrMemory, ReturnsOrMemoryBy};
 ghost use Rattle.rpki_der.specs.Extensions.{Extension};
 ghost use Rattle.rpki_der.specs.Extensions.Reading.{extension_at};
 ghost use Rattle.rpki_der.specs.Extensions.Views.{extension_view};
 ghost use Rattle.rpki_der.specs.Folding.{over};
+ghost use Rattle.rpki_der.specs.declared.error.DecodeError.TheVariants.{Missing};
 ghost use Rattle.rpki_ext.specs.CertificateExtensions.{AreExtensions, no_access};
 ghost use Rattle.rpki_ext.specs.CertificateExtensions.Reading.{Names, wanted, HasFlag, field_of, all_kinds, state_of, is_seen, completed, extensions_of};
 ghost use Rattle.rpki_ext.specs.CertificateExtensions.Views.{access_with};
@@ -15,7 +16,7 @@ use crate::authority_access::take_authority_information_access;
 use crate::basic_constraints::take_basic_constraints;
 use crate::distribution_points::take_crl_distribution_points;
 use crate::extended_key_usage::{ExtendedKeyUsage, take_extended_key_usage};
-use crate::extensions::Extensions;
+use crate::extensions::{Extensions, beside};
 use crate::key_identifiers::{take_authority_key_identifier, take_subject_key_identifier};
 use crate::key_usage::{KeyUsage, take_key_usage};
 use crate::policies::take_certificate_policies;
@@ -274,11 +275,17 @@ impl Seen {
         while !rest.is_empty() {
             let extension = match take_extension(&mut rest) {
                 Ok(extension) => extension,
-                Err(error) => return Err(error),
+                Err(error) => {
+                    drop(seen);
+                    return Err(error);
+                }
             };
             match seen.put(alloc, extension) {
                 Ok(()) => {}
-                Err(error) => return Err(error),
+                Err(error) => {
+                    drop(seen);
+                    return Err(error);
+                }
             }
         }
         Ok(seen)
@@ -292,6 +299,17 @@ fn uris(access: Option<Sia>) -> (Option<Rsync>, Option<Rsync>, Option<Rsync>, Op
     match access {
         Some(access) => access.into_uris(),
         None => (None, None, None, None),
+    }
+}
+
+// The value that must be there.
+fn required<T: Drop>(value: Option<T>, field: Field) -> Result<T, DecodeError>
+    ensures ok { IfOk result (λ v. value ≡ Some v) }
+    ensures missing { IfErr result (λ e. (value ≡ None) × (e ≡ Missing field)) }
+{
+    match value {
+        Some(value) => Ok(value),
+        None => Err(DecodeError::Missing(field)),
     }
 }
 
@@ -314,16 +332,12 @@ impl Extensions {
             ip_resources,
             as_resources,
         } = seen;
-        let resources = match agreed(overclaim, ip_resources, as_resources) {
-            Ok(resources) => resources,
-            Err(error) => return Err(error),
-        };
-        let Some(subject_key_identifier) = subject_key_identifier else {
-            return Err(DecodeError::Missing(Field::SubjectKeyIdentifier));
-        };
-        let Some(key_usage) = key_usage else {
-            return Err(DecodeError::Missing(Field::KeyUsage));
-        };
+        let kept = (extended_key_usage, crl_uri, ca_issuer, access);
+        let kept = beside(kept, agreed(overclaim, ip_resources, as_resources))?;
+        let identifier = required(subject_key_identifier, Field::SubjectKeyIdentifier);
+        let (kept, subject_key_identifier) = beside(kept, identifier)?;
+        let (kept, key_usage) = beside(kept, required(key_usage, Field::KeyUsage))?;
+        let ((extended_key_usage, crl_uri, ca_issuer, access), resources) = kept;
         let (ca_repository, rpki_manifest, signed_object, rpki_notify) = uris(access);
         Ok(Extensions {
             basic_ca,
@@ -352,7 +366,7 @@ impl Extensions {
         Extensions::complete(Seen::from_row(alloc, row)?)
     }
 
-    /// What a whole row of extensions gives (RFC 6487 4.8). Errs with the name of a fault where it gives no fields.
+    /// What a whole row of extensions gives (RFC 6487 4.8). Errs with a fault where it gives no fields; which of several isn't promised.
     #[tactic(auto, using(crate::proofs::CertificateExtensions::row_means))]
     pub fn from_row(alloc: Global, row: &Cursor<'_>) -> Result<Extensions, DecodeError>
         ensures means { MeansOrMemory AreExtensions result (left row.now) }

@@ -1,4 +1,5 @@
 use Rattle.std.proofs.Common.{ℕ, List, false, length, rules, ap, arith}
+use Rattle.rpki_der.specs.Tags.{SEQUENCE}
 use Rattle.rpki_der.specs.Identifiers.{pkix}
 use Rattle.rpki_der.specs.Values.{enc}
 use Rattle.rpki_der.proofs.ValueWritten.{enc_longer}
@@ -14,5 +15,5 @@ returns-in_err-put_description c =
       ok = search rules;
       err = search rules;
       fits = search rules;
-      too_long = passed_long c.from_residual.result _ _ _ c.from_residual.ensures.1 c.in_err-put_description.ensures.too_long (omega (arith, enc_longer 0x30 row, content_longer (pkix 0x01 0x01) false (enc 0x30 row), ap (λ (uri : List ℕ). length (description ca_issuers uri)) c.as_bytes.ensures.octets));
+      too_long = passed_long c.from_residual.result _ _ _ c.from_residual.ensures.1 c.in_err-put_description.ensures.too_long (omega (arith, enc_longer SEQUENCE row, content_longer (pkix 0x01 0x01) false (enc SEQUENCE row), ap (λ (uri : List ℕ). length (description ca_issuers uri)) c.as_bytes.ensures.octets));
     }

@@ -1,4 +1,5 @@
 use Rattle.std.proofs.Common.{◌≡◌, ℕ, ◌<◌, ◌^◌, Bool, true, false, List, length, refl, arith}
+use Rattle.rpki_der.specs.Tags.{SEQUENCE, OBJECT_IDENTIFIER, OCTET_STRING, CONTEXT}
 use Rattle.rpki_der.specs.Primitives.{bool_or_false}
 use Rattle.rpki_der.specs.Values.{enc}
 use Rattle.rpki_der.proofs.RoundTrips.{enc_small}
@@ -13,8 +14,8 @@ use Rattle.rpki_ext.specs.declared.key_usage.KeyUsage.TheVariants.{Ca, Ee}
 use Rattle.rpki_ext.proofs.laws.short_contents.Goals as goal
 
 flag_small : (ca : Bool) → length (basic_constraints_content ca) < 2 ^ 32
-flag_small true = omega (arith, enc_small 0x30 (bool_or_false true) (omega arith))
-flag_small false = omega (arith, enc_small 0x30 (bool_or_false false) (omega arith))
+flag_small true = omega (arith, enc_small SEQUENCE (bool_or_false true) (omega arith))
+flag_small false = omega (arith, enc_small SEQUENCE (bool_or_false false) (omega arith))
 
 identifier_small : (t : ℕ) (id : List ℕ) → length id ≡ 20 → length (enc t id) ≡ 22
 identifier_small t id l = omega (arith, enc_small t id (omega arith))
@@ -29,19 +30,19 @@ policy_small Trim = refl
 
 policies_small : (overclaim : Overclaim) → length (certificate_policies_content overclaim) < 2 ^ 32
 policies_small overclaim =
-    let id = enc 6 (policy_identifier overclaim) in
-    let one : length id ≡ 10 = omega (arith, policy_small overclaim, enc_small 6 (policy_identifier overclaim) (omega (arith, policy_small overclaim))) in
-    let two : length (enc 0x30 id) ≡ 12 = omega (arith, enc_small 0x30 id (omega arith)) in
-    omega (arith, enc_small 0x30 (enc 0x30 id) (omega arith))
+    let id = enc OBJECT_IDENTIFIER (policy_identifier overclaim) in
+    let one : length id ≡ 10 = omega (arith, policy_small overclaim, enc_small OBJECT_IDENTIFIER (policy_identifier overclaim) (omega (arith, policy_small overclaim))) in
+    let two : length (enc SEQUENCE id) ≡ 12 = omega (arith, enc_small SEQUENCE id (omega arith)) in
+    omega (arith, enc_small SEQUENCE (enc SEQUENCE id) (omega arith))
 
 pub returns-clause-basic_constraints : goal.returns-clause-basic_constraints
 returns-clause-basic_constraints c = flag_small
 
 pub returns-clause-subject_key_identifier : goal.returns-clause-subject_key_identifier
-returns-clause-subject_key_identifier c = λ id l. omega (arith, identifier_small 4 id l)
+returns-clause-subject_key_identifier c = λ id l. omega (arith, identifier_small OCTET_STRING id l)
 
 pub returns-clause-authority_key_identifier : goal.returns-clause-authority_key_identifier
-returns-clause-authority_key_identifier c = λ id l. omega (arith, enc_small 0x30 (enc 0x80 id) (omega (arith, identifier_small 0x80 id l)), identifier_small 0x80 id l)
+returns-clause-authority_key_identifier c = λ id l. omega (arith, enc_small SEQUENCE (enc (CONTEXT 0) id) (omega (arith, identifier_small (CONTEXT 0) id l)), identifier_small (CONTEXT 0) id l)
 
 pub returns-clause-key_usage : goal.returns-clause-key_usage
 returns-clause-key_usage c = usage_small
