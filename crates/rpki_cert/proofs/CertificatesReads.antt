@@ -1,20 +1,17 @@
 -- Certificates, both ways.
-use Rattle.std.specs.Prelude.{bytes_eq}
-use Rattle.std.proofs.Common.{◌≡◌, ℕ, List, [], ◌∷◌, Some, inl, inr, refl, ◌∙◌, arith, ◌++◌, sym, ap, subst}
-use Rattle.std.proofs.lemmas.Bool.{cases_Bool}
-use Rattle.std.proofs.lemmas.Slice.Eq.{bytes_eq-Decides}
+use Rattle.std.proofs.Common.{◌≡◌, ℕ, List, [], ◌∷◌, Option, Some, refl, ◌∙◌, arith, ◌++◌, sym, ap, subst}
 use Rattle.std.proofs.lemmas.List.{append-nil}
 use Rattle.rpki_der.specs.Values.{enc, length_octets, IsEnc}
 use Rattle.rpki_der.specs.Tags.{CONTEXT_CONSTRUCTED, INTEGER, SEQUENCE}
 use Rattle.rpki_der.specs.Reading.{inside, content, mapped, Inside, Reads, Both}
-use Rattle.rpki_der.specs.Values.Reading.{value_at, ◌>>=◌}
+use Rattle.rpki_der.specs.Values.Reading.{value_at}
 use Rattle.rpki_der.specs.Serials.{IsSerial}
-use Rattle.rpki_der.specs.Choices.{Turned, turned}
-use Rattle.rpki_der.proofs.Octets.{nothing, bind_some, some, some_is}
+use Rattle.rpki_der.specs.Choices.{exactly, Turned, turned}
+use Rattle.rpki_der.proofs.Octets.{bind_some, some, some_is}
 use Rattle.rpki_der.proofs.Readings.{inside_reads, content_reads, mapped_reads, same_reads, both_reads}
 use Rattle.rpki_der.proofs.ValueReads.{value_reads}
 use Rattle.rpki_der.proofs.SerialReads.{serial_reads}
-use Rattle.rpki_der.proofs.Choices.{turned_reads}
+use Rattle.rpki_der.proofs.Choices.{exactly_reads, turned_reads}
 use Rattle.rpki_der.proofs.Formats.{of_enc}
 use Rattle.rpki_parts.specs.Validities.{IsValidity}
 use Rattle.rpki_parts.specs.Keys.{IsPublicKey}
@@ -27,7 +24,7 @@ use Rattle.rpki_parts.proofs.AlgorithmReads.{algorithm_reads}
 use Rattle.rpki_parts.proofs.NameReads.{name_reads}
 use Rattle.rpki_parts.proofs.SignedDataReads.{AreSigned, signed_reads}
 use Rattle.rpki_cert.specs.Certificates.{version_3, TbsFields, IsTbsCertificateContent, IsTbsCertificate, IsCertificateContent, IsCertificate}
-use Rattle.rpki_cert.specs.Certificates.Reading.{is_two, version_at, Fields, fields_in_order, fields_at, with_extensions, tbs_at, certificate, cert_content_at, cert_at}
+use Rattle.rpki_cert.specs.Certificates.Reading.{version_at, Fields, fields_in_order, fields_at, with_extensions, tbs_at, certificate, cert_content_at, cert_at}
 use Rattle.rpki_ext.specs.CertificateExtensions.{AreExtensions, ExtensionFields}
 use Rattle.rpki_ext.specs.CertificateExtensions.Reading.{extensions_of}
 use Rattle.rpki_ext.proofs.CertificateExtensions.{extensions_read}
@@ -37,15 +34,11 @@ use Rattle.rpki_ext.proofs.CertificateExtensions.{extensions_read}
 abbrev IsVersion : Unit {0} → List ℕ → Type 0
 IsVersion u text = text ≡ version_3
 
+abbrev two : List ℕ → Option (Unit {0})
+two = exactly (2 ∷ [])
+
 abbrev IsTwo : Unit {0} → List ℕ → Type 0
 IsTwo u c = c ≡ 2 ∷ []
-
-two_takes : (c : List ℕ) (u : Unit {0}) → is_two c ≡ Some u → IsTwo u c
-two_takes c u e =
-    elim (cases_Bool (bytes_eq c (2 ∷ []))) [
-      | inl y ↦ (bytes_eq-Decides c (2 ∷ [])).0 y
-      | inr n ↦ nothing u (rw n at e)
-    ]
 
 version_to : (u : Unit {0}) (text : List ℕ) → Inside (CONTEXT_CONSTRUCTED 0) (Inside INTEGER IsTwo) u text → IsVersion u text
 unfolding enc length_octets
@@ -62,9 +55,9 @@ version_back u text s = (
 version_reads : Reads version_at IsVersion
 unfolding version_at
 version_reads =
-    same_reads (inside (CONTEXT_CONSTRUCTED 0) (content INTEGER is_two)) (Inside (CONTEXT_CONSTRUCTED 0) (Inside INTEGER IsTwo)) IsVersion
-    (inside_reads (CONTEXT_CONSTRUCTED 0) (content INTEGER is_two) (Inside INTEGER IsTwo)
-    (content_reads INTEGER is_two IsTwo (record { takes = λ c u low e. two_takes c u e; again = λ u c s. rw s refl })))
+    same_reads (inside (CONTEXT_CONSTRUCTED 0) (content INTEGER two)) (Inside (CONTEXT_CONSTRUCTED 0) (Inside INTEGER IsTwo)) IsVersion
+    (inside_reads (CONTEXT_CONSTRUCTED 0) (content INTEGER two) (Inside INTEGER IsTwo)
+    (content_reads INTEGER two IsTwo (exactly_reads (2 ∷ []))))
     version_to version_back
 
 -- ---- the fields
@@ -88,39 +81,52 @@ fields_reads =
     (both_reads _ _ _ _ public_key_reads
     (inside_reads (CONTEXT_CONSTRUCTED 3) (value_at SEQUENCE) (IsEnc SEQUENCE) (value_reads SEQUENCE)))))))))
 
-abbrev fields_made : Fields → ExtensionFields → TbsFields
-fields_made p x = record { serial = p.1.0; algorithm = p.1.1.0; issuer = p.1.1.1.0; validity = p.1.1.1.1.0; subject = p.1.1.1.1.1.0; key = p.1.1.1.1.1.1.0; extensions = x }
+-- the row of extensions, as it stands
+abbrev row_in : Fields → List ℕ
+row_in (_, (_, (_, (_, (_, (_, (_, row))))))) = row
 
-is_content : (p : Fields) (x : ExtensionFields) (text : List ℕ) → AreInOrder p text → extensions_of p.1.1.1.1.1.1.1 ≡ Some x → IsTbsCertificateContent (fields_made p x) text
-is_content p x text s e =
-    let b = s.3 in
-    let c = b.3 in
-    let d = c.3 in
-    let v = d.3 in
-    let g = v.3 in
-    let h = g.3 in
-    let tagged = h.3 in
-    let row = extensions_read.takes p.1.1.1.1.1.1.1 x tagged.1.octets e in
+abbrev fields_made : Fields → ExtensionFields → TbsFields
+fields_made (_, (serial, (algorithm, (issuer, (validity, (subject, (key, _))))))) x =
+    record { serial = serial; algorithm = algorithm; issuer = issuer; validity = validity; subject = subject; key = key; extensions = x }
+
+is_content : (p : Fields) (x : ExtensionFields) (text : List ℕ) → AreInOrder p text → extensions_of (row_in p) ≡ Some x → IsTbsCertificateContent (fields_made p x) text
+is_content p x text (version, after_version, version_is, fields, text_is) e =
+    let (serial, _, serial_is, after_serial, from_serial) = fields in
+    let (algorithm, _, algorithm_is, after_algorithm, from_algorithm) = after_serial in
+    let (issuer, _, issuer_is, after_issuer, from_issuer) = after_algorithm in
+    let (validity, _, validity_is, after_validity, from_validity) = after_issuer in
+    let (subject, _, subject_is, after_subject, from_subject) = after_validity in
+    let (key, extensions, key_is, tagged, from_key) = after_subject in
+    let (sequence, sequence_is, tagged_is) = tagged in
+    let (triples, row_is, gives) = extensions_read.takes (row_in p) x sequence_is.octets e in
     record {
-      serial = b.0;
-      algorithm = c.0;
-      issuer = d.0;
-      validity = v.0;
-      subject = g.0;
-      key = h.0;
-      extensions = h.1;
-      serial_is = b.2;
-      algorithm_is = c.2;
-      issuer_is = d.2;
-      validity_is = v.2;
-      subject_is = g.2;
-      key_is = h.2;
-      row = p.1.1.1.1.1.1.1;
-      triples = row.0;
-      row_is = row.1;
-      extensions_is = (tagged.0, tagged.2, (p.1.1.1.1.1.1.1, tagged.1, refl));
-      gives = row.2;
-      is = s.4 ∙ ap (λ (t : List ℕ). t ++ s.1) s.2 ∙ ap (λ (t : List ℕ). version_3 ++ t) (b.4 ∙ ap (λ (t : List ℕ). b.0 ++ t) (c.4 ∙ ap (λ (t : List ℕ). c.0 ++ t) (d.4 ∙ ap (λ (t : List ℕ). d.0 ++ t) (v.4 ∙ ap (λ (t : List ℕ). v.0 ++ t) (g.4 ∙ ap (λ (t : List ℕ). g.0 ++ t) (h.4 ∙ ap (λ (t : List ℕ). h.0 ++ t) (sym (append-nil h.1))))))));
+      serial = serial;
+      algorithm = algorithm;
+      issuer = issuer;
+      validity = validity;
+      subject = subject;
+      key = key;
+      extensions = extensions;
+      serial_is = serial_is;
+      algorithm_is = algorithm_is;
+      issuer_is = issuer_is;
+      validity_is = validity_is;
+      subject_is = subject_is;
+      key_is = key_is;
+      row = row_in p;
+      triples = triples;
+      row_is = row_is;
+      extensions_is = (sequence, tagged_is, (row_in p, sequence_is, refl));
+      gives = gives;
+      is =
+          text_is ∙ ap (λ (t : List ℕ). t ++ after_version) version_is
+          ∙ ap (λ (t : List ℕ). version_3 ++ t) (from_serial
+          ∙ ap (λ (t : List ℕ). serial ++ t) (from_algorithm
+          ∙ ap (λ (t : List ℕ). algorithm ++ t) (from_issuer
+          ∙ ap (λ (t : List ℕ). issuer ++ t) (from_validity
+          ∙ ap (λ (t : List ℕ). validity ++ t) (from_subject
+          ∙ ap (λ (t : List ℕ). subject ++ t) (from_key
+          ∙ ap (λ (t : List ℕ). key ++ t) (sym (append-nil extensions))))))));
     }
 
 abbrev fields_of : (f : TbsFields) → List ℕ → Fields
@@ -183,7 +189,7 @@ some_made f row e = rw e refl
 
 is_tbs : (f : TbsFields) (text : List ℕ) → Turned with_extensions (Inside SEQUENCE AreInOrder) f text → IsTbsCertificate f text
 is_tbs f text (p, s, e) =
-    let a = bind_some (extensions_of p.1.1.1.1.1.1.1) (λ x. some (fields_made p x)) f e in
+    let a = bind_some (extensions_of (row_in p)) (λ x. some (fields_made p x)) f e in
     let content : IsTbsCertificateContent (fields_made p a.0) s.0 = is_content p a.0 s.0 s.1 a.1 in
     record { content = s.0; content_is = subst (λ (g : TbsFields). IsTbsCertificateContent g s.0) (some_is (fields_made p a.0) f a.2) content; enc = s.2 }
 

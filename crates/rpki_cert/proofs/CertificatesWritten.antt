@@ -7,7 +7,7 @@ use Rattle.rpki_der.specs.Values.{AreOctets, IsEnc, enc, nested}
 use Rattle.rpki_der.proofs.Formats.{of_enc}
 use Rattle.rpki_der.specs.Extensions.{text}
 use Rattle.rpki_der.specs.Primitives.{number}
-use Rattle.rpki_der.proofs.ValueWritten.{Short, pieces_short, nested_made, nested_short, number_made}
+use Rattle.rpki_der.proofs.ValueWritten.{pieces_short, nested_made, nested_short, number_made}
 use Rattle.rpki_der.proofs.WrittenOctets.{literal, value_octets, ok_concat, ok_nested, ok_number}
 use Rattle.rpki_blocks.specs.Prefixes.{AreV4}
 use Rattle.rpki_parts.specs.Validities.{validity}
@@ -60,8 +60,7 @@ module _ (f : TbsFields) (fits : Fits f) (only_v4 : AreV4 f.extensions.v4_resour
   pub tbs_made : (b : List ℕ) → b ≡ spelling f → HasResources f.extensions → IsTbsCertificate f b
   unfolding extensions
   tbs_made b is some =
-      let s = pieces_short (pieces f) (fits.short, content_octets) in
-      let last : Short (nested (CONTEXT_CONSTRUCTED 3 ∷ SEQUENCE ∷ []) (extensions f.extensions)) = s.1.1.1.1.1.1.1.0 in
+      let (_, (serial_short, (algorithm_short, (_, (validity_short, (_, (key_short, (last, _)))))))) = pieces_short (pieces f) (fits.short, content_octets) in
       let row = pieces_short (map text (parts f.extensions)) (nested_short (CONTEXT_CONSTRUCTED 3 ∷ SEQUENCE ∷ []) (extensions f.extensions) last) in
       record {
         content = tbs_content f;
@@ -73,12 +72,12 @@ module _ (f : TbsFields) (fits : Fits f) (only_v4 : AreV4 f.extensions.v4_resour
           subject = f.subject;
           key = key f.key;
           extensions = nested (CONTEXT_CONSTRUCTED 3 ∷ SEQUENCE ∷ []) (extensions f.extensions);
-          serial_is = record { number = number_made f.serial s.1.0; small = fits.serial_is };
-          algorithm_is = algorithm_made f.algorithm s.1.1.0;
+          serial_is = record { number = number_made f.serial serial_short; small = fits.serial_is };
+          algorithm_is = algorithm_made f.algorithm algorithm_short;
           issuer_is = fits.issuer_is;
-          validity_is = validity_made f.validity fits.not_before_is fits.not_after_is s.1.1.1.1.0;
+          validity_is = validity_made f.validity fits.not_before_is fits.not_after_is validity_short;
           subject_is = fits.subject_is;
-          key_is = key_made f.key s.1.1.1.1.1.1.0;
+          key_is = key_made f.key key_short;
           row = extensions f.extensions;
           triples = written (parts f.extensions);
           row_is = row_made (parts f.extensions) (known_parts f.extensions) row;

@@ -24,7 +24,7 @@ use Rattle.rpki_der.proofs.Answering.{whole_means}
 use Rattle.rpki_ext.proofs.OneMeaning.{one_meaning}
 use Rattle.rpki_cert.specs.Certificates.{TbsFields, CertFields, IsCertificate, IsMade, spelling, tbs_content}
 use Rattle.rpki_cert.specs.Certificates.Reading.{cert_at}
-use Rattle.rpki_cert.specs.Issuing.{IsMadeOf, IsUnreadable, IsNotMade, IsSigningOrMemory, IsNotReadAgain}
+use Rattle.rpki_cert.specs.Issuing.{IsMadeOf, IsUnreadable, IsNotMade, IsNoReadingFault, IsNotReadAgain}
 use Rattle.rpki_cert.specs.declared.issue.IssueCaError.{IssueCaError}
 use Rattle.rpki_cert.specs.declared.issue.IssueCaError.TheVariants.{Signing, Encode, Decode, Validation}
 use Rattle.rpki_cert.proofs.CertificatesReads.{cert_reads}
@@ -63,12 +63,12 @@ certificate_again c d made h =
 -- ---- why it isn't
 
 -- it isn't too long
-pub captured_or_memory : (E : Type 0) (s : SignedFields) (e : EncodeError) → (e ≡ writing.TooLong → 2 ^ 32 ≤ length (content_of s)) → length (content_of s) < 2 ^ 32 → IsSigningOrMemory {E = E} (Encode e)
+pub captured_or_memory : (E : Type 0) (s : SignedFields) (e : EncodeError) → (e ≡ writing.TooLong → 2 ^ 32 ≤ length (content_of s)) → length (content_of s) < 2 ^ 32 → IsNoReadingFault {E = E} (Encode e)
 captured_or_memory E s writing.TooLong long short = let h = long refl in omega arith
 captured_or_memory E s writing.Memory long short = tt
 
 -- it can be read
-pub read_or_memory : (E : Type 0) {P : Type 0} (e : DecodeError) → Refuses e P → (P → ⊥) → IsSigningOrMemory {E = E} (Decode e)
+pub read_or_memory : (E : Type 0) {P : Type 0} (e : DecodeError) → Refuses e P → (P → ⊥) → IsNoReadingFault {E = E} (Decode e)
 read_or_memory E reading.Memory h no_p = tt
 read_or_memory E _ h no_p = no_p h
 
@@ -79,14 +79,14 @@ readable c made no_c =
     no_c c (whole_means IsCertificate c (signed_data c.signed_data) own)
 
 -- of what was made of the fields
-pub not_made : {E : Type 0} (f : TbsFields) (Answers : Result SignatureFields (SigningError E) → Type 0) (s : SignedFields) (e : IssueCaError E) → IsMadeOf f Answers s → IsNotReadAgain s e → IsNotMade f Answers e
-not_made f Answers s (Signing e) made h = absurd h
-not_made f Answers s (Encode writing.TooLong) made h = let short = made.short in omega arith
-not_made f Answers s (Encode writing.Memory) made h = tt
-not_made f Answers s (Validation e) made h = absurd h
-not_made f Answers s (Decode e) made h = of_it e h
+pub not_made : {E : Type 0} (f : TbsFields) (MayAnswer : Result SignatureFields (SigningError E) → Type 0) (s : SignedFields) (e : IssueCaError E) → IsMadeOf f MayAnswer s → IsNotReadAgain s e → IsNotMade f MayAnswer e
+not_made f MayAnswer s (Signing e) made h = absurd h
+not_made f MayAnswer s (Encode writing.TooLong) made h = let short = made.short in omega arith
+not_made f MayAnswer s (Encode writing.Memory) made h = tt
+not_made f MayAnswer s (Validation e) made h = absurd h
+not_made f MayAnswer s (Decode e) made h = of_it e h
   where
-    of_it : (e : DecodeError) → Refuses e (IsUnreadable s) → Refuses e ((t : SignedFields) × IsMadeOf f Answers t × IsUnreadable t)
+    of_it : (e : DecodeError) → Refuses e (IsUnreadable s) → Refuses e ((t : SignedFields) × IsMadeOf f MayAnswer t × IsUnreadable t)
     of_it reading.Memory h = tt
     of_it _ h = (s, made, h)
 

@@ -15,9 +15,9 @@ use Rattle.rpki_cert.specs.declared.issue.IssueCaError.TheVariants.{Signing, Enc
 use Rattle.rpki_cert.specs.declared.validation_error.ValidationError.{ValidationError}
 
 -- the signed data is made of the fields, with a signer that may give these answers, and isn't too long
-pub record IsMadeOf {E : Type 0} (f : TbsFields) (Answers : Result SignatureFields (SigningError E) → Type 0) (s : SignedFields) : Type 0 where
+pub record IsMadeOf {E : Type 0} (f : TbsFields) (MayAnswer : Result SignatureFields (SigningError E) → Type 0) (s : SignedFields) : Type 0 where
   pub message_is : s.message ≡ spelling f
-  pub signed : Answers (Ok s.signature)
+  pub signed : MayAnswer (Ok s.signature)
   pub short : length (concat (signed_pieces s)) < 2 ^ 32
 
 -- no certificate begins its octets
@@ -27,32 +27,34 @@ IsUnreadable s = (c : CertFields) → Means IsCertificate c (signed_data s) → 
 -- Why nothing is read again of what is made of the fields, with a signer that may give these answers: nothing is made; memory was wanted;
 -- or something is made whose octets no certificate begins.
 abbrev pub IsNotMade : {E : Type 0} → TbsFields → (Result SignatureFields (SigningError E) → Type 0) → IssueCaError E → Type 0
-IsNotMade f Answers (Signing e) = IsRefusal (tbs_content f) Answers e
-IsNotMade f Answers (Encode writing.TooLong) = ⊥
-IsNotMade f Answers (Encode writing.Memory) = Unit {0}
-IsNotMade f Answers (Decode e) = Refuses e ((s : SignedFields) × IsMadeOf f Answers s × IsUnreadable s)
-IsNotMade f Answers (Validation e) = ⊥
+IsNotMade f MayAnswer (Signing e) = IsRefusal (tbs_content f) MayAnswer e
+IsNotMade f MayAnswer (Encode writing.TooLong) = ⊥
+IsNotMade f MayAnswer (Encode writing.Memory) = Unit {0}
+IsNotMade f MayAnswer (Decode e) = Refuses e ((s : SignedFields) × IsMadeOf f MayAnswer s × IsUnreadable s)
+IsNotMade f MayAnswer (Validation e) = ⊥
 
--- a certificate that was read again of what was made of the fields, with a signer that may give these answers
-pub record IsReadOf {E : Type 0} (f : TbsFields) (Answers : Result SignatureFields (SigningError E) → Type 0) (c : CertFields) : Type 0 where
+-- a certificate that was read again, from its own octets, of what was made of the fields, with a signer that may give these answers
+pub record IsReadOf {E : Type 0} (f : TbsFields) (MayAnswer : Result SignatureFields (SigningError E) → Type 0) (c : CertFields) : Type 0 where
+  pub read : IsCertificate c (signed_data c.signed_data)
   pub message_is : c.signed_data.message ≡ spelling f
   pub fields_are : CanBeWritten f → c.fields ≡ f
-  pub signed : CanBeWritten f → Answers (Ok c.signed_data.signature)
+  pub signed : CanBeWritten f → MayAnswer (Ok c.signed_data.signature)
 
 -- Why none is issued: nothing is read again, or what is read again isn't valid.
-abbrev pub IsNotIssued : {E : Type 0} → TbsFields → (Result SignatureFields (SigningError E) → Type 0) → (CertFields → ValidationError → Type 0) → IssueCaError E → Type 0
-IsNotIssued f Answers Invalid (Signing e) = IsNotMade f Answers (Signing e)
-IsNotIssued f Answers Invalid (Encode e) = IsNotMade f Answers (Encode e)
-IsNotIssued f Answers Invalid (Decode e) = IsNotMade f Answers (Decode e)
-IsNotIssued f Answers Invalid (Validation e) = (c : CertFields) × IsReadOf f Answers c × Invalid c e
+abbrev pub IsNotIssued : {E : Type 0} → TbsFields → (Result SignatureFields (SigningError E) → Type 0)
+    → (CertFields → ValidationError → Type 0) → IssueCaError E → Type 0
+IsNotIssued f MayAnswer Invalid (Signing e) = IsNotMade f MayAnswer (Signing e)
+IsNotIssued f MayAnswer Invalid (Encode e) = IsNotMade f MayAnswer (Encode e)
+IsNotIssued f MayAnswer Invalid (Decode e) = IsNotMade f MayAnswer (Decode e)
+IsNotIssued f MayAnswer Invalid (Validation e) = (c : CertFields) × IsReadOf f MayAnswer c × Invalid c e
 
--- a refusal to make it or of what was made, or want of memory
-abbrev pub IsSigningOrMemory : {E : Type 0} → IssueCaError E → Type 0
-IsSigningOrMemory (Signing e) = Unit {0}
-IsSigningOrMemory (Validation e) = Unit {0}
-IsSigningOrMemory (Encode writing.Memory) = Unit {0}
-IsSigningOrMemory (Decode reading.Memory) = Unit {0}
-IsSigningOrMemory _ = ⊥
+-- it is not that what was made can't be read again
+abbrev pub IsNoReadingFault : {E : Type 0} → IssueCaError E → Type 0
+IsNoReadingFault (Signing e) = Unit {0}
+IsNoReadingFault (Validation e) = Unit {0}
+IsNoReadingFault (Encode writing.Memory) = Unit {0}
+IsNoReadingFault (Decode reading.Memory) = Unit {0}
+IsNoReadingFault _ = ⊥
 
 -- the same of what was made already
 abbrev pub IsNotReadAgain : {E : Type 0} → SignedFields → IssueCaError E → Type 0

@@ -1,4 +1,5 @@
--- What is verified of a certificate, line by line (RFC 6487 7.2, RFC 8360 4.2.4.4; the order of the lines is own).
+-- What is verified of a certificate, line by line (RFC 6487 7.2, RFC 8360 4.2.4.4; own: the order of the lines, and that revocation and the
+-- chaining of names are the caller's to ask).
 use Rattle.std.specs.Prelude.{◌≡◌, ◌≢◌, ◌↔◌, ◌⊎◌, ◌≤◌, ◌^◌, ◌-◌, ℕ, List, [], ◌∷◌, IsSome, IfSome, codes}
 use Rattle.std.specs.List.{AllByRecursion}
 use Rattle.rpki_der.specs.Times.{Moment}

@@ -67,14 +67,16 @@ impl Cert {
         Ok(cert)
     }
 
-    /// The certificate that a front of the octets is; what follows it is left unread. Errs with the name of a fault where no front is one.
+    /// The certificate that a front of the octets is; what follows it is left unread. Errs with a fault where no front is one; which of
+    /// several isn't promised.
     pub fn decode(alloc: Global, octets: &[u8]) -> Result<Cert, DecodeError>
         ensures { MeansOrMemory (Means IsCertificate) result octets.now }
     {
         Cert::decode_shared(alloc, Bytes::copy_from_slice(alloc, octets)?)
     }
 
-    /// The same of octets that are shared: what the certificate keeps shares their buffer (own).
+    /// The same of octets that are shared (own): what is kept shares the buffer and keeps all of it alive; a copy ([`Cert::try_clone`])
+    /// copies no octets.
     pub fn decode_shared(alloc: Global, octets: Bytes) -> Result<Cert, DecodeError>
         ensures { MeansOrMemory (Means IsCertificate) result octets }
     {
@@ -82,7 +84,8 @@ impl Cert {
         Cert::take_from(alloc, &mut cursor)
     }
 
-    /// The certificate that stands next, one SEQUENCE (RFC 5280 4.1). Errs with the name of a fault where no front of what is left is one.
+    /// The certificate that stands next, one SEQUENCE (RFC 5280 4.1). Errs with a fault where no front of what is left is one; which of
+    /// several isn't promised.
     pub fn take_from(alloc: Global, cursor: &mut Cursor<'_>) -> Result<Cert, DecodeError>
         ensures answers { AnswersOrMemory IsCertificate cursor.old result cursor.new }
         ensures keeps { Keeps result cursor.old cursor.new }

@@ -12,7 +12,7 @@ use crate::tbs::TbsCert;
 use rpki_ext::{InspectionError, KeyUsage};
 
 /// The kinds of certificates that are told apart in inspection.
-#[derive(Clone, Copy)]
+#[derive(Debug, Clone, Copy, PartialEq, Eq)]
 pub enum Kind {
     /// A trust anchor, which signs itself.
     Anchor,
@@ -263,8 +263,8 @@ impl Cert {
         Ok(())
     }
 
-    /// Whether the certificate meets the profile of a trust anchor (RFC 6487 4): a CA whose key no other one has signed. Errs with the first of its faults, in the
-    /// order of the profile. Wants no memory.
+    /// Whether the certificate meets the profile of a trust anchor (RFC 6487 4): a CA that names no other key as the one that signs. Errs
+    /// with the first of its faults, in the order of the profile. Wants no memory.
     pub fn inspect_ta(&self, strict: bool) -> Result<(), InspectionError>
         ensures ok { OnOk result (MeetsProfile Anchor strict self.now) }
         ensures fault { IfErr result (IsFirstFault Anchor strict self.now) }

@@ -1,7 +1,8 @@
 //! Certification authorities issue certificates.
 ghost use Rattle.std.specs.Prelude.{◌≡◌, Ok, IfOk, IfErr};
-ghost use Rattle.rpki_cert.specs.Certificates.{TbsFields, CanBeWritten, IsMade, spelling};
-ghost use Rattle.rpki_cert.specs.Issuing.{IsNotMade, IsNotReadAgain, IsNotIssued, IsSigningOrMemory};
+ghost use Rattle.rpki_parts.specs.SignedDatas.{signed_data};
+ghost use Rattle.rpki_cert.specs.Certificates.{TbsFields, CanBeWritten, IsCertificate, IsMade, spelling};
+ghost use Rattle.rpki_cert.specs.Issuing.{IsNotMade, IsNotReadAgain, IsNotIssued, IsNoReadingFault};
 ghost use Rattle.rpki_cert.specs.Profiles.{MeetsProfile};
 ghost use Rattle.rpki_cert.specs.Validation.{IsInvalid};
 ghost use Rattle.rpki_cert.specs.Verification.{LineUnder, IsVerified, IsFirstFalseOrMemory, HasIssued, issued_lines};
@@ -23,13 +24,13 @@ pub enum IssueCaError<E> {
     #[error("certificate not signed")]
     Signing(SigningError<E>),
     /// What was made could not be captured.
-    #[error("certificate not captured")]
+    #[error("certificate not captured: {0}")]
     Encode(EncodeError),
     /// What was captured could not be read again.
-    #[error("certificate not read again")]
+    #[error("certificate not read again: {0}")]
     Decode(DecodeError),
     /// What was read again is not valid below the issuer.
-    #[error("issued certificate not valid")]
+    #[error("issued certificate not valid: {0}")]
     Validation(ValidationError),
 }
 
@@ -53,9 +54,10 @@ impl<E> IssueCaError<E> {
 fn read_again<E>(alloc: Global, made: &Cert) -> Result<Cert, IssueCaError<E>>
     ensures message { IfOk result (λ c. (f : TbsFields)
         → made.now.signed_data.message ≡ spelling f → c.signed_data.message ≡ spelling f) }
+    ensures read { IfOk result (λ c. IsCertificate c (signed_data c.signed_data)) }
     ensures same { IfOk result (λ c. IsMade made.now → c ≡ made.now) }
     ensures refused { IfErr result (IsNotReadAgain made.now.signed_data) }
-    ensures readable { IsMade made.now → IfErr result IsSigningOrMemory }
+    ensures readable { IsMade made.now → IfErr result IsNoReadingFault }
 {
     let octets = match made.to_captured(alloc) {
         Ok(octets) => octets,
@@ -76,6 +78,7 @@ fn make_and_read<S: Signer>(
     signer: &S,
     key: &S::KeyId,
 ) -> Result<Cert, IssueCaError<S::Error>>
+    ensures read { IfOk result (λ c. IsCertificate c (signed_data c.signed_data)) }
     ensures message { IfOk result (λ c. c.signed_data.message ≡ spelling tbs) }
     ensures fields { CanBeWritten tbs → IfOk result (λ c. c.fields ≡ tbs) }
     ensures signed { CanBeWritten tbs → IfOk result
@@ -83,7 +86,7 @@ fn make_and_read<S: Signer>(
         (Ok c.signed_data.signature)) }
     ensures refused { IfErr result
         (IsNotMade tbs (S.signs signer.now key.now tbs.algorithm (spelling tbs))) }
-    ensures readable { CanBeWritten tbs → IfErr result IsSigningOrMemory }
+    ensures readable { CanBeWritten tbs → IfErr result IsNoReadingFault }
 {
     match tbs.into_cert(alloc, signer, key) {
         Ok(made) => {
@@ -107,6 +110,7 @@ pub fn issue_ca<S: Signer, V: Verifier>(
     now: Time,
     verifier: &V,
 ) -> Result<ResourceCert, IssueCaError<S::Error>>
+    ensures read { IfOk result (λ r. IsCertificate r.cert (signed_data r.cert.signed_data)) }
     ensures message { IfOk result (λ r. r.cert.signed_data.message ≡ spelling tbs) }
     ensures fields { CanBeWritten tbs → IfOk result (λ r. r.cert.fields ≡ tbs) }
     ensures signed { CanBeWritten tbs → IfOk result
@@ -120,7 +124,7 @@ pub fn issue_ca<S: Signer, V: Verifier>(
         (S.signs signer.now key.now tbs.algorithm (spelling tbs))
         (λ c. IsInvalid Authority strict c (IsFirstFalseOrMemory
         (LineUnder (V.verifies verifier.now) now issuer.now c) issued_lines))) }
-    ensures readable { CanBeWritten tbs → IfErr result IsSigningOrMemory }
+    ensures readable { CanBeWritten tbs → IfErr result IsNoReadingFault }
 {
     match make_and_read(alloc, tbs, signer, key) {
         Ok(cert) => match cert.validate_ca_at(alloc, issuer, strict, now, verifier) {

@@ -89,7 +89,7 @@ impl ResourceCert {
         &self.tal
     }
 
-    /// The same, alone.
+    /// The locator; certificate and sets are let go.
     pub fn into_tal(self) -> Rc<TalInfo>
         ensures { rc_value result ≡ self.tal }
     {

@@ -1,4 +1,5 @@
-//! Certificates are validated: inspected, then verified (RFC 6487 7.2).
+//! Certificates are validated: inspected, then verified (RFC 6487 7.2; own: revocation and the chaining of names are the caller's
+//! to ask).
 ghost use Rattle.std.specs.Prelude.{◌≡◌, OnOk, IfOk, IfErr};
 ghost use Rattle.std.proofs.Common.{rc_value};
 ghost use Rattle.rpki_parts.specs.Conditions.{IsFirstFalse};

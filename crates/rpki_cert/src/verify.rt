@@ -1,4 +1,5 @@
-//! Certificates are verified, at a moment and under an issuer (RFC 6487 7.2).
+//! Certificates are verified, at a moment and under an issuer (RFC 6487 7.2; own: revocation and the chaining of names are the
+//! caller's to ask).
 ghost use Rattle.std.specs.Prelude.{◌≡◌, ◌↔◌, ◌⊎◌, IsTrue, IsOk, OnOk, IfOk, IfErr};
 ghost use Rattle.rpki_blocks.specs.Sets.{Has};
 ghost use Rattle.rpki_parts.specs.Conditions.{IsFirstFalse, Tests};
@@ -202,7 +203,8 @@ impl Cert {
         Ok(())
     }
 
-    /// Whether the certificate names the issuer's key as the one that signs it, and where the issuer's certificate is. Wants no memory.
+    /// Whether the certificate names the issuer's key as the one that signs it, and where the issuer's certificate is. The mode changes
+    /// nothing. Wants no memory.
     pub fn verify_issuer_claim(
         &self,
         issuer: &ResourceCert,
@@ -223,7 +225,8 @@ impl Cert {
         Ok(())
     }
 
-    /// Whether the issuer's key signed the certificate, as the verifier answers of the octets that are kept. Wants no memory.
+    /// Whether the issuer's key signed the certificate, as the verifier answers of the octets that are kept. The mode changes nothing.
+    /// Wants no memory.
     pub fn verify_signature<V: Verifier>(
         &self,
         issuer: &Cert,

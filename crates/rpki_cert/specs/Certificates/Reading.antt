@@ -1,10 +1,10 @@
 -- Reading functions of certificates.
-use Rattle.std.specs.Prelude.{ℕ, bytes_eq, if◌then◌else◌, List, [], ◌∷◌, Option, Some, None}
+use Rattle.std.specs.Prelude.{ℕ, List, [], ◌∷◌, Option, Some}
 use Rattle.rpki_der.specs.Tags.{CONTEXT_CONSTRUCTED, INTEGER, SEQUENCE}
 use Rattle.rpki_der.specs.Reading.{inside, content, both, mapped}
 use Rattle.rpki_der.specs.Values.Reading.{◌>>=◌, value_at}
 use Rattle.rpki_der.specs.Serials.Reading.{serial_at}
-use Rattle.rpki_der.specs.Choices.{turned}
+use Rattle.rpki_der.specs.Choices.{turned, exactly}
 use Rattle.rpki_parts.specs.Algorithms.{Algorithm}
 use Rattle.rpki_parts.specs.Validities.{ValidityFields}
 use Rattle.rpki_parts.specs.Validities.Reading.{validity_at}
@@ -19,11 +19,8 @@ use Rattle.rpki_ext.specs.CertificateExtensions.Reading.{extensions_of}
 
 -- ---- TBSCertificate
 
-abbrev pub is_two : List ℕ → Option (Unit {0})
-is_two c = if bytes_eq c (2 ∷ []) then Some tt else None
-
 unfoldable pub version_at : List ℕ → Option (Unit {0} × List ℕ)
-version_at = inside (CONTEXT_CONSTRUCTED 0) (content INTEGER is_two)
+version_at = inside (CONTEXT_CONSTRUCTED 0) (content INTEGER (exactly (2 ∷ [])))
 
 -- the fields in their order, and the row of extensions as it stands
 abbrev pub Fields : Type 0

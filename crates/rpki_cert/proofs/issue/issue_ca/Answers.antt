@@ -1,9 +1,13 @@
 use Rattle.std.proofs.Common.{Ok, sym, ap, subst, ◌∙◌}
-use Rattle.rpki_cert.specs.Certificates.{CertFields, spelling}
+use Rattle.rpki_parts.specs.SignedDatas.{signed_data}
+use Rattle.rpki_cert.specs.Certificates.{CertFields, IsCertificate, spelling}
 use Rattle.rpki_cert.specs.Profiles.{MeetsProfile}
 use Rattle.rpki_cert.specs.Verification.{LineUnder, IsVerified, issued_lines}
 use Rattle.rpki_cert.specs.declared.inspect.Kind.TheVariants.{Authority}
 use Rattle.rpki_cert.proofs.issue.issue_ca.Goals as goal
+
+pub returns-in-Ok-validate_ca_at-clause-read : goal.returns-in-Ok-validate_ca_at-clause-read
+returns-in-Ok-validate_ca_at-clause-read g c = subst (λ (x : CertFields). IsCertificate x (signed_data x.signed_data)) (sym c.in-Ok-validate_ca_at.ensures.gives.cert_is) c.in-Ok.ensures.read
 
 pub returns-in-Ok-validate_ca_at-clause-fields : goal.returns-in-Ok-validate_ca_at-clause-fields
 returns-in-Ok-validate_ca_at-clause-fields g c can = ap (λ (x : CertFields). x.fields) c.in-Ok-validate_ca_at.ensures.gives.cert_is ∙ c.in-Ok.ensures.fields can

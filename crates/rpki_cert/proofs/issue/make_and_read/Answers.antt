@@ -7,6 +7,9 @@ use Rattle.rpki_cert.specs.Certificates.{CertFields, CanBeWritten, IsMade, spell
 use Rattle.rpki_cert.proofs.ReadAgain.{if_ok, if_err, not_made}
 use Rattle.rpki_cert.proofs.issue.make_and_read.Goals as goal
 
+pub returns-in-Ok-clause-read : goal.returns-in-Ok-clause-read
+returns-in-Ok-clause-read g c = c.read_again.ensures.read
+
 pub returns-in-Ok-clause-message : goal.returns-in-Ok-clause-message
 returns-in-Ok-clause-message g c = if_ok c.read_again.result _ _ (λ x h. h c.args.tbs c.in-Ok.ensures.message) c.read_again.ensures.message
 

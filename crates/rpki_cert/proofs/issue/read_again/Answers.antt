@@ -4,6 +4,7 @@ use Rattle.rpki_der.specs.Values.{AreOctets}
 use Rattle.rpki_parts.specs.SignedDatas.{signed_data}
 use Rattle.rpki_ext.specs.Kinds.{Means}
 use Rattle.rpki_cert.specs.Certificates.{CertFields, IsCertificate}
+use Rattle.rpki_cert.proofs.CertificatesWritten.{certificate_is}
 use Rattle.rpki_cert.proofs.ReadAgain.{message_again, certificate_again, read_or_memory, readable}
 use Rattle.rpki_cert.proofs.issue.read_again.Goals as goal
 
@@ -13,6 +14,12 @@ returns-in-Ok-decode-clause-message g c f is =
     let octets : AreOctets (signed_data c.args.made.now.signed_data) = subst AreOctets all c.rest-octets.ensures.octets in
     let same : c.deref.result.now ≡ signed_data c.args.made.now.signed_data = grind (arith, c.deref.ensures, c.in-Ok.ensures.ok, c.octets.view_is) in
     message_again c.args.made.now.signed_data f c.in-Ok-decode.cert is octets (c.in-Ok.ensures.fits refl) (subst (λ o. Means IsCertificate c.in-Ok-decode.cert o) same c.in-Ok-decode.ensures)
+
+pub returns-in-Ok-decode-clause-read : goal.returns-in-Ok-decode-clause-read
+returns-in-Ok-decode-clause-read g c =
+    let cert = c.in-Ok-decode.cert in
+    let (_, begins) = c.in-Ok-decode.ensures in
+    subst (λ o. IsCertificate cert o) (certificate_is cert begins.text begins.spelled) begins.spelled
 
 pub returns-in-Ok-decode-clause-same : goal.returns-in-Ok-decode-clause-same
 returns-in-Ok-decode-clause-same g c made =
