@@ -1,24 +1,23 @@
 -- Revocation lists, both ways.
-use Rattle.std.specs.Prelude.{bytes_eq, Bool, not}
+use Rattle.std.specs.Prelude.{Bool, not}
 use Rattle.std.specs.Bool.{beq}
 use Rattle.std.specs.Cmp.{booleans_Decides}
-use Rattle.std.proofs.Common.{◌≡◌, ℕ, List, [], ◌∷◌, Some, inl, inr, refl, ◌∙◌, arith, ◌++◌, sym, ap, subst, None, true, false}
-use Rattle.std.proofs.lemmas.Bool.{cases_Bool}
-use Rattle.std.proofs.lemmas.Slice.Eq.{bytes_eq-Decides}
+use Rattle.std.proofs.Common.{◌≡◌, ℕ, List, [], ◌∷◌, Option, Some, refl, ◌∙◌, arith, ◌++◌, sym, ap, subst, None, true, false}
 use Rattle.std.proofs.lemmas.List.{append-nil}
+use Rattle.rpki_der.specs.Tags.{CONTEXT_CONSTRUCTED, INTEGER, SEQUENCE}
 use Rattle.rpki_der.specs.Values.{enc, length_octets, IsEnc}
 use Rattle.rpki_der.specs.Spelling.{BeginsOther}
 use Rattle.rpki_der.specs.Reading.{inside, content, Inside, Reads, Both}
 use Rattle.rpki_der.specs.Values.Reading.{value_at}
 use Rattle.rpki_der.specs.Times.{IsTime}
-use Rattle.rpki_der.specs.Choices.{Turned, turned}
-use Rattle.rpki_der.proofs.Octets.{nothing, bind_some, some, some_is, chosen}
+use Rattle.rpki_der.specs.Choices.{exactly, Turned, turned}
+use Rattle.rpki_der.proofs.Octets.{bind_some, some, some_is, chosen}
 use Rattle.rpki_der.proofs.Formats.{of_enc}
 use Rattle.rpki_der.proofs.Readings.{inside_reads, content_reads, mapped_reads, same_reads, both_reads, before_then}
 use Rattle.rpki_der.proofs.Optionals.{absent_before}
 use Rattle.rpki_der.proofs.ValueReads.{value_reads}
 use Rattle.rpki_der.proofs.TimeReads.{time_reads}
-use Rattle.rpki_der.proofs.Choices.{turned_reads}
+use Rattle.rpki_der.proofs.Choices.{exactly_reads, turned_reads}
 use Rattle.rpki_parts.specs.Algorithms.{Algorithm, IsSignatureAlgorithm}
 use Rattle.rpki_parts.specs.SignedDatas.{SignedFields}
 use Rattle.rpki_parts.specs.SignedDatas.Reading.{signed_at, signed_content_at}
@@ -27,7 +26,7 @@ use Rattle.rpki_parts.specs.Names.{IsName}
 use Rattle.rpki_parts.proofs.AlgorithmReads.{algorithm_reads}
 use Rattle.rpki_parts.proofs.NameReads.{name_reads}
 use Rattle.rpki_crl.specs.Lists.{version_2, ListFields, IsTbsCertListContent, IsTbsCertList, CrlFields, IsCertificateListContent, IsCertificateList}
-use Rattle.rpki_crl.specs.Lists.Reading.{is_one, list_version_at, ListParts, list_parts_in_order, list_parts_at, fields_from, list_at, crl_from, kept_at, same_algorithm, with_same_algorithm, crl_content_at, crl_at}
+use Rattle.rpki_crl.specs.Lists.Reading.{list_version_at, ListParts, list_parts_in_order, list_parts_at, fields_from, list_at, crl_from, kept_at, same_algorithm, with_same_algorithm, crl_content_at, crl_at}
 use Rattle.rpki_crl.specs.ListExtensions.{ListExtensions}
 use Rattle.rpki_crl.specs.ListExtensions.Reading.{list_extensions_of}
 use Rattle.rpki_crl.specs.RevokedEntries.{Revoked, IsRevokedCertificates}
@@ -40,86 +39,94 @@ use Rattle.rpki_crl.proofs.ListExtensionsReads.{list_extensions_read, AreExtensi
 abbrev IsVersion : Unit {0} → List ℕ → Type 0
 IsVersion u text = text ≡ version_2
 
+abbrev one : List ℕ → Option (Unit {0})
+one = exactly (1 ∷ [])
+
 abbrev IsOne : Unit {0} → List ℕ → Type 0
 IsOne u c = c ≡ 1 ∷ []
 
-one_takes : (c : List ℕ) (u : Unit {0}) → is_one c ≡ Some u → IsOne u c
-one_takes c u e =
-    elim (cases_Bool (bytes_eq c (1 ∷ []))) [
-      | inl y ↦ (bytes_eq-Decides c (1 ∷ [])).0 y
-      | inr n ↦ nothing u (rw n at e)
-    ]
-
-version_to : (u : Unit {0}) (text : List ℕ) → Inside 0x02 IsOne u text → IsVersion u text
+version_to : (u : Unit {0}) (text : List ℕ) → Inside INTEGER IsOne u text → IsVersion u text
 unfolding enc length_octets
 version_to u text s = s.2.is ∙ rw s.1 refl
 
-version_back : (u : Unit {0}) (text : List ℕ) → IsVersion u text → Inside 0x02 IsOne u text
+version_back : (u : Unit {0}) (text : List ℕ) → IsVersion u text → Inside INTEGER IsOne u text
 unfolding enc length_octets
 version_back u text s = (1 ∷ [], refl, record { octet = omega arith; low_tag = omega arith; octets = (omega arith, tt); short = omega arith; is = s })
 
 version_reads : Reads list_version_at IsVersion
 unfolding list_version_at
 version_reads =
-    same_reads (content 0x02 is_one) (Inside 0x02 IsOne) IsVersion
-    (content_reads 0x02 is_one IsOne (record { takes = λ c u low e. one_takes c u e; again = λ u c s. rw s refl }))
+    same_reads (content INTEGER one) (Inside INTEGER IsOne) IsVersion
+    (content_reads INTEGER one IsOne (exactly_reads (1 ∷ [])))
     version_to version_back
 
 -- ---- the fields
 
 abbrev IsTagged : List ℕ → List ℕ → Type 0
-IsTagged = Inside 0xA0 (IsEnc 0x30)
+IsTagged = Inside (CONTEXT_CONSTRUCTED 0) (IsEnc SEQUENCE)
 
 -- what is tagged is no SEQUENCE
-tagged_other : (y : List ℕ) (text rest : List ℕ) → IsTagged y text → BeginsOther 0x30 (text ++ rest)
+tagged_other : (y : List ℕ) (text rest : List ℕ) → IsTagged y text → BeginsOther SEQUENCE (text ++ rest)
 unfolding enc
 tagged_other y text rest s = rw s.2.is (λ e. absurd (omega (arith, e)))
 
 abbrev AreInOrder : ListParts → List ℕ → Type 0
 AreInOrder = Both IsVersion (Both IsSignatureAlgorithm (Both IsName (Both IsTime (Both IsTime (Both IsRevokedCertificates IsTagged)))))
 
-fields_reads : Reads list_parts_at (Inside 0x30 AreInOrder)
+fields_reads : Reads list_parts_at (Inside SEQUENCE AreInOrder)
 unfolding list_parts_at list_parts_in_order
 fields_reads =
-    inside_reads 0x30 _ AreInOrder
+    inside_reads SEQUENCE _ AreInOrder
     (both_reads _ _ _ _ version_reads
     (both_reads _ _ _ _ algorithm_reads
     (both_reads _ _ _ _ name_reads
     (both_reads _ _ _ _ time_reads
     (both_reads _ _ _ _ time_reads
-    (before_then (BeginsOther 0x30) revoked_at (inside 0xA0 (value_at 0x30)) IsRevokedCertificates IsTagged (absent_before 0x30 revoked_at IsRevokedCertificates list_reads)
-    (inside_reads 0xA0 (value_at 0x30) (IsEnc 0x30) (value_reads 0x30)) tagged_other))))))
+    (before_then (BeginsOther SEQUENCE) revoked_at (inside (CONTEXT_CONSTRUCTED 0) (value_at SEQUENCE)) IsRevokedCertificates IsTagged (absent_before SEQUENCE revoked_at IsRevokedCertificates list_reads)
+    (inside_reads (CONTEXT_CONSTRUCTED 0) (value_at SEQUENCE) (IsEnc SEQUENCE) (value_reads SEQUENCE)) tagged_other))))))
+
+-- the row of extensions, as it stands
+abbrev row_in : ListParts → List ℕ
+row_in (_, (_, (_, (_, (_, (_, row)))))) = row
 
 abbrev fields_made : ListParts → ListExtensions → ListFields Revoked
-fields_made p x = record { algorithm = p.1.0; issuer = p.1.1.0; this_update = p.1.1.1.0; next_update = p.1.1.1.1.0; revoked = p.1.1.1.1.1.0; extensions = x }
+fields_made (_, (algorithm, (issuer, (this_update, (next_update, (revoked, _)))))) x =
+    record { algorithm = algorithm; issuer = issuer; this_update = this_update; next_update = next_update; revoked = revoked; extensions = x }
 
-is_content : (p : ListParts) (x : ListExtensions) (text : List ℕ) → AreInOrder p text → list_extensions_of p.1.1.1.1.1.1 ≡ Some x → IsTbsCertListContent (fields_made p x) text
-is_content p x text s e =
-    let b = s.3 in
-    let c = b.3 in
-    let d = c.3 in
-    let v = d.3 in
-    let h = v.3 in
-    let tagged = h.3 in
-    let row = list_extensions_read.takes p.1.1.1.1.1.1 x tagged.1.octets e in
+is_content : (p : ListParts) (x : ListExtensions) (text : List ℕ) → AreInOrder p text → list_extensions_of (row_in p) ≡ Some x → IsTbsCertListContent (fields_made p x) text
+is_content p x text (version, after_version, version_is, fields, text_is) e =
+    let (algorithm, _, algorithm_is, after_algorithm, from_algorithm) = fields in
+    let (issuer, _, issuer_is, after_issuer, from_issuer) = after_algorithm in
+    let (this_update, _, this_update_is, after_this_update, from_this_update) = after_issuer in
+    let (next_update, _, next_update_is, after_next_update, from_next_update) = after_this_update in
+    let (revoked, extensions, revoked_is, tagged, from_revoked) = after_next_update in
+    let (sequence, sequence_is, tagged_is) = tagged in
+    let (triples, row_is, gives) = list_extensions_read.takes (row_in p) x sequence_is.octets e in
     record {
-      algorithm = b.0;
-      issuer = c.0;
-      this_update = d.0;
-      next_update = v.0;
-      revoked = h.0;
-      extensions = h.1;
-      algorithm_is = b.2;
-      issuer_is = c.2;
-      this_update_is = d.2;
-      next_update_is = v.2;
-      revoked_is = h.2;
-      row = p.1.1.1.1.1.1;
-      triples = row.0;
-      row_is = row.1;
-      extensions_is = (tagged.0, tagged.2, (p.1.1.1.1.1.1, tagged.1, refl));
-      gives = row.2;
-      is = s.4 ∙ ap (λ (t : List ℕ). t ++ s.1) s.2 ∙ ap (λ (t : List ℕ). version_2 ++ t) (b.4 ∙ ap (λ (t : List ℕ). b.0 ++ t) (c.4 ∙ ap (λ (t : List ℕ). c.0 ++ t) (d.4 ∙ ap (λ (t : List ℕ). d.0 ++ t) (v.4 ∙ ap (λ (t : List ℕ). v.0 ++ t) (h.4 ∙ ap (λ (t : List ℕ). h.0 ++ t) (sym (append-nil h.1)))))));
+      algorithm = algorithm;
+      issuer = issuer;
+      this_update = this_update;
+      next_update = next_update;
+      revoked = revoked;
+      extensions = extensions;
+      algorithm_is = algorithm_is;
+      issuer_is = issuer_is;
+      this_update_is = this_update_is;
+      next_update_is = next_update_is;
+      revoked_is = revoked_is;
+      row = row_in p;
+      triples = triples;
+      row_is = row_is;
+      extensions_is = (sequence, tagged_is, (row_in p, sequence_is, refl));
+      gives = gives;
+      is =
+          text_is ∙ ap (λ (t : List ℕ). t ++ after_version) version_is
+          ∙ ap (λ (t : List ℕ). version_2 ++ t) (from_algorithm
+          ∙ ap (λ (t : List ℕ). algorithm ++ t) (from_issuer
+          ∙ ap (λ (t : List ℕ). issuer ++ t) (from_this_update
+          ∙ ap (λ (t : List ℕ). this_update ++ t) (from_next_update
+          ∙ ap (λ (t : List ℕ). next_update ++ t) (from_revoked
+          ∙ ap (λ (t : List ℕ). revoked ++ t) (sym (append-nil extensions)))))));
     }
 
 abbrev fields_of : ListFields Revoked → List ℕ → ListParts
@@ -173,13 +180,13 @@ row_again f text s = list_extensions_read.again f.extensions s.extensions_is.2.0
 some_made : (f : ListFields Revoked) (row : List ℕ) → list_extensions_of row ≡ Some f.extensions → fields_from (fields_of f row) ≡ Some f
 some_made f row e = rw e refl
 
-is_list : (f : ListFields Revoked) (text : List ℕ) → Turned fields_from (Inside 0x30 AreInOrder) f text → IsTbsCertList f text
+is_list : (f : ListFields Revoked) (text : List ℕ) → Turned fields_from (Inside SEQUENCE AreInOrder) f text → IsTbsCertList f text
 is_list f text (p, s, e) =
-    let a = bind_some (list_extensions_of p.1.1.1.1.1.1) (λ x. some (fields_made p x)) f e in
+    let a = bind_some (list_extensions_of (row_in p)) (λ x. some (fields_made p x)) f e in
     let content : IsTbsCertListContent (fields_made p a.0) s.0 = is_content p a.0 s.0 s.1 a.1 in
     record { content = s.0; content_is = subst (λ (g : ListFields Revoked). IsTbsCertListContent g s.0) (some_is (fields_made p a.0) f a.2) content; enc = s.2 }
 
-list_is : (f : ListFields Revoked) (text : List ℕ) → IsTbsCertList f text → Turned fields_from (Inside 0x30 AreInOrder) f text
+list_is : (f : ListFields Revoked) (text : List ℕ) → IsTbsCertList f text → Turned fields_from (Inside SEQUENCE AreInOrder) f text
 list_is f text s =
     let row = s.content_is.extensions_is.2.0 in
     (fields_of f row, (s.content, content_is f s.content s.content_is, s.enc), some_made f row (row_again f s.content s.content_is))
@@ -187,8 +194,8 @@ list_is f text s =
 pub tbs_reads : Reads list_at IsTbsCertList
 unfolding list_at
 tbs_reads =
-    same_reads (turned fields_from list_parts_at) (Turned fields_from (Inside 0x30 AreInOrder)) IsTbsCertList
-    (turned_reads fields_from list_parts_at (Inside 0x30 AreInOrder) fields_reads)
+    same_reads (turned fields_from list_parts_at) (Turned fields_from (Inside SEQUENCE AreInOrder)) IsTbsCertList
+    (turned_reads fields_from list_parts_at (Inside SEQUENCE AreInOrder) fields_reads)
     is_list list_is
 
 -- ---- lists
@@ -229,8 +236,8 @@ crl_content_reads =
 pub crl_reads : Reads crl_at IsCertificateList
 unfolding crl_at
 crl_reads =
-    same_reads (inside 0x30 crl_content_at) (Inside 0x30 IsCertificateListContent) IsCertificateList
-    (inside_reads 0x30 crl_content_at IsCertificateListContent crl_content_reads)
+    same_reads (inside SEQUENCE crl_content_at) (Inside SEQUENCE IsCertificateListContent) IsCertificateList
+    (inside_reads SEQUENCE crl_content_at IsCertificateListContent crl_content_reads)
     (λ c text s. record { content = s.0; content_is = s.1; enc = s.2 })
     (λ c text s. (s.content, s.content_is, s.enc))
 

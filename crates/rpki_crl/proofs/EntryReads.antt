@@ -1,5 +1,6 @@
 -- An entry that is read is spelled so, and what is spelled so is read again.
 use Rattle.std.proofs.Common.{ℕ, refl}
+use Rattle.rpki_der.specs.Tags.{SEQUENCE}
 use Rattle.rpki_der.specs.Reading.{both, Both, Inside, Reads}
 use Rattle.rpki_der.specs.Serials.Reading.{serial_at}
 use Rattle.rpki_der.specs.Times.Reading.{time_at}
@@ -27,11 +28,11 @@ entry_content_reads =
 pub entry_reads : Reads entry_at IsEntry
 unfolding entry_at
 entry_reads =
-    same_reads entry_at (Inside 0x30 IsEntryContent) IsEntry
-    (inside_reads 0x30 entry_content_at IsEntryContent entry_content_reads)
+    same_reads entry_at (Inside SEQUENCE IsEntryContent) IsEntry
+    (inside_reads SEQUENCE entry_content_at IsEntryContent entry_content_reads)
     (λ e text s. record { content = s.0; content_is = s.1; enc = s.2 })
     (λ e text s. (s.content, s.content_is, s.enc))
 
 pub entry_shrinks : Shrinks entry_at
 unfolding entry_at
-entry_shrinks = inside_shrinks 0x30 entry_content_at
+entry_shrinks = inside_shrinks SEQUENCE entry_content_at

@@ -1,5 +1,6 @@
 -- Fields of a list that have a spelling.
 use Rattle.std.proofs.Common.{ℕ, List, [], ◌∷◌, refl, arith, ◌<◌, ◌^◌, length}
+use Rattle.rpki_der.specs.Tags.{SEQUENCE}
 use Rattle.rpki_der.specs.Primitives.{number}
 use Rattle.rpki_der.specs.Times.{Moment, IsMoment, time}
 use Rattle.rpki_der.specs.Values.{enc, length_octets}
@@ -15,7 +16,7 @@ year_2000 = record { year = 2000; month = 1; day = 1; hour = 0; minute = 0; seco
 
 -- a name without parts
 abbrev no_name : List ℕ
-no_name = 0x30 ∷ 0 ∷ []
+no_name = SEQUENCE ∷ 0 ∷ []
 
 -- an identifier of a key
 abbrev no_key : List ℕ

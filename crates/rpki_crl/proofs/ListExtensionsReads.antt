@@ -30,13 +30,13 @@ list_fold_law : IsLawful HasOctets list_fold
 list_fold_law = beside_law _ _ (each_law (is_of (identifiers_of list_kinds_with_any_flag))) (table_law list_kinds_with_any_flag kinds_are)
 
 give : (xs : List Extension) (identifier : Option (List ℕ)) (number : Option ℕ) (f : ListExtensions) → both_seen (tt, (identifier, (number, tt))) ≡ Some f → list_fold.means xs (tt, (identifier, (number, tt))) → GiveListExtensions xs f
-give xs identifier number f e h =
+give xs identifier number f e (others, (identifier_given, (number_given, _))) =
     let i = bind_some identifier (λ i. number >>= λ n. some (list_extensions i n)) f e in
     let n = bind_some number (λ n. some (list_extensions i.0 n)) f i.2 in
     subst (λ (g : ListExtensions). GiveListExtensions xs g) (some_is (list_extensions i.0 n.0) f n.2) (record {
-      no_others = h.0;
-      authority_key_identifier_is = subst (λ (v : Option (List ℕ)). Gives (with_any_flag authority_key_identifier) xs v) i.1 h.1.0;
-      crl_number_is = subst (λ (v : Option ℕ). Gives (with_any_flag crl_number) xs v) n.1 h.1.1.0;
+      no_others = others;
+      authority_key_identifier_is = subst (λ (v : Option (List ℕ)). Gives (with_any_flag authority_key_identifier) xs v) i.1 identifier_given;
+      crl_number_is = subst (λ (v : Option ℕ). Gives (with_any_flag crl_number) xs v) n.1 number_given;
     })
 
 -- the octets are a row of extensions that give these values
@@ -48,8 +48,9 @@ unfolding list_extensions_of
 list_extensions_read = record {
   takes = λ c f low e.
       let a = bind_some (over extension_at list_fold.step list_fold.start c) both_seen f e in
+      let (_, (identifier, (number, _))) = a.0 in
       let folded : IsFolded IsExtension list_fold a.0 c = going.takes c a.0 low a.1 in
-      (folded.0, folded.1, give folded.0 a.0.1.0 a.0.1.1.0 f a.2 folded.2);
+      (folded.0, folded.1, give folded.0 identifier number f a.2 folded.2);
   again = λ f c s. rw (going.again (tt, (Some f.authority_key_identifier, (Some f.crl_number, tt))) c (s.0, s.1, (s.2.no_others, (s.2.authority_key_identifier_is, (s.2.crl_number_is, tt))))) refl;
 }
   where

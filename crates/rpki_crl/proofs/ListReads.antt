@@ -1,5 +1,6 @@
 -- A list of entries that is read stands at the front, and one that stands there is read.
 use Rattle.std.proofs.Common.{◌≡◌, ℕ, List, [], Option, Some, None, refl, sym, ap, subst, ◌∙◌, inl, inr, ◌⊎◌}
+use Rattle.rpki_der.specs.Tags.{SEQUENCE}
 use Rattle.rpki_der.specs.Choices.{optional_of}
 use Rattle.rpki_der.specs.Reading.{content, optional, Inside, Optional, ReadsOrAbsent, ReadsWhole}
 use Rattle.rpki_der.specs.Rows.Reading.{row_of}
@@ -53,25 +54,25 @@ no_octets entries octets are none =
     let read : row_of entry_at [] ≡ some entries = rw (← none) (row_again entry_at IsEntry entry_reads entry_shrinks entries octets are) in
     some_is entries [] (sym read ∙ all_read)
 
-list_is : (o : Option Revoked) (text : List ℕ) → Optional (Inside 0x30 IsContent) o text → IsRevokedCertificates (or_no_entries o) text
+list_is : (o : Option Revoked) (text : List ℕ) → Optional (Inside SEQUENCE IsContent) o text → IsRevokedCertificates (or_no_entries o) text
 list_is None text s = record { entries = refl; sequence = inl (refl, s) }
 list_is (Some r) text s = record { entries = s.1.entries; sequence = inr (rw s.1.octets s.2) }
 
 abbrev IsFrom : Revoked → List ℕ → Type 0
-IsFrom r text = (o : Option Revoked) × (or_no_entries o ≡ r) × Optional (Inside 0x30 IsContent) o text
+IsFrom r text = (o : Option Revoked) × (or_no_entries o ≡ r) × Optional (Inside SEQUENCE IsContent) o text
 
 is_list : (r : Revoked) (text : List ℕ) → IsRevokedCertificates r text → IsFrom r text
 is_list r text is = form is.sequence
   where
-    form : ((r.octets ≡ []) × (text ≡ [])) ⊎ IsEnc 0x30 r.octets text → IsFrom r text
+    form : ((r.octets ≡ []) × (text ≡ [])) ⊎ IsEnc SEQUENCE r.octets text → IsFrom r text
     form (inl none) = (None, same_revoked no_entries r (sym (no_octets r.entries r.octets is.entries none.0)) (sym none.0), none.1)
     form (inr enc) = (Some r, refl, (r.octets, record { octets = refl; entries = is.entries }, enc))
 
-pub list_reads : ReadsOrAbsent 0x30 revoked_at IsRevokedCertificates
+pub list_reads : ReadsOrAbsent SEQUENCE revoked_at IsRevokedCertificates
 unfolding revoked_at
 list_reads =
-    let same : optional 0x30 (content 0x30 revoked_of) ≡ optional_of 0x30 revoked_of = λ i octets. sym (optional_of_is 0x30 revoked_of octets) i in
-    let reads = optional_or_absent 0x30 (content 0x30 revoked_of) (Inside 0x30 IsContent) (content_reads 0x30 revoked_of IsContent content_is_read) (inside_begins 0x30 IsContent) in
-    mapped_or_absent 0x30 or_no_entries (optional_of 0x30 revoked_of) (Optional (Inside 0x30 IsContent)) IsRevokedCertificates
-    (subst (λ (f : List ℕ → Option (Option Revoked × List ℕ)). ReadsOrAbsent 0x30 f (Optional (Inside 0x30 IsContent))) same reads)
+    let same : optional SEQUENCE (content SEQUENCE revoked_of) ≡ optional_of SEQUENCE revoked_of = λ i octets. sym (optional_of_is SEQUENCE revoked_of octets) i in
+    let reads = optional_or_absent SEQUENCE (content SEQUENCE revoked_of) (Inside SEQUENCE IsContent) (content_reads SEQUENCE revoked_of IsContent content_is_read) (inside_begins SEQUENCE IsContent) in
+    mapped_or_absent SEQUENCE or_no_entries (optional_of SEQUENCE revoked_of) (Optional (Inside SEQUENCE IsContent)) IsRevokedCertificates
+    (subst (λ (f : List ℕ → Option (Option Revoked × List ℕ)). ReadsOrAbsent SEQUENCE f (Optional (Inside SEQUENCE IsContent))) same reads)
     list_is is_list

@@ -2,6 +2,7 @@
 use Rattle.std.proofs.Common.{ℕ, zero, suc, ◌≤◌, false, List, [], ◌∷◌, length, get_or, arith}
 use Rattle.std.specs.List.{concat}
 use Rattle.std.proofs.lemmas.List.{length-append}
+use Rattle.rpki_der.specs.Tags.{CONTEXT_CONSTRUCTED, SEQUENCE}
 use Rattle.rpki_der.specs.Extensions.{extension, extension_pieces}
 use Rattle.rpki_der.specs.Primitives.{number}
 use Rattle.rpki_der.specs.Times.{time}
@@ -18,22 +19,22 @@ use Rattle.rpki_crl.specs.RevokedEntries.{Revoked, revoked}
 pub identifier_longer : (x : ListExtensions) → length (concat (extension_pieces authority_key_identifier.identifier false (authority_key_identifier_content x.authority_key_identifier))) ≤ length (list_row x)
 identifier_longer x =
     let pieces = concat (extension_pieces authority_key_identifier.identifier false (authority_key_identifier_content x.authority_key_identifier)) in
-    omega (arith, enc_longer 0x30 pieces, length-append (enc 0x30 pieces) (extension crl_number.identifier false (number x.crl_number)))
+    omega (arith, enc_longer SEQUENCE pieces, length-append (enc SEQUENCE pieces) (extension crl_number.identifier false (number x.crl_number)))
 
 pub number_longer : (x : ListExtensions) → length (concat (extension_pieces crl_number.identifier false (number x.crl_number))) ≤ length (list_row x)
 number_longer x =
     let pieces = concat (extension_pieces crl_number.identifier false (number x.crl_number)) in
     let front = extension authority_key_identifier.identifier false (authority_key_identifier_content x.authority_key_identifier) in
-    omega (arith, enc_longer 0x30 pieces, length-append front (enc 0x30 pieces))
+    omega (arith, enc_longer SEQUENCE pieces, length-append front (enc SEQUENCE pieces))
 
 -- the row, and its SEQUENCE, in the tag
 pub row_longer : (x : ListExtensions) → length (list_row x) ≤ length (tagged_list_extensions x)
 unfolding tagged_list_extensions
-row_longer x = omega (arith, enc_longer 0xA0 (enc 0x30 (list_row x)), enc_longer 0x30 (list_row x))
+row_longer x = omega (arith, enc_longer (CONTEXT_CONSTRUCTED 0) (enc SEQUENCE (list_row x)), enc_longer SEQUENCE (list_row x))
 
-pub sequence_longer : (x : ListExtensions) → length (enc 0x30 (list_row x)) ≤ length (tagged_list_extensions x)
+pub sequence_longer : (x : ListExtensions) → length (enc SEQUENCE (list_row x)) ≤ length (tagged_list_extensions x)
 unfolding tagged_list_extensions
-sequence_longer x = enc_longer 0xA0 (enc 0x30 (list_row x))
+sequence_longer x = enc_longer (CONTEXT_CONSTRUCTED 0) (enc SEQUENCE (list_row x))
 
 member_longer : (ps : List (List ℕ)) (k : ℕ) → length (get_or ps k []) ≤ length (concat ps)
 member_longer [] k = omega arith
@@ -43,7 +44,7 @@ member_longer (p ∷ ps) (suc k) = omega (arith, member_longer ps k, length-appe
 -- the entries, in their SEQUENCE
 entries_longer : (octets : List ℕ) → length octets ≤ length (revoked octets)
 entries_longer [] = omega arith
-entries_longer (octet ∷ octets) = enc_longer 0x30 (octet ∷ octets)
+entries_longer (octet ∷ octets) = enc_longer SEQUENCE (octet ∷ octets)
 
 pub revoked_longer : (f : ListFields Revoked) → length f.revoked.octets ≤ length (list_content f)
 revoked_longer f =

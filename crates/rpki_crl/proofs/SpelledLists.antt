@@ -1,6 +1,7 @@
 -- What is written of fields is a TBSCertList of these fields.
 use Rattle.std.proofs.Common.{ℕ, List, [], ◌∷◌, ◌++◌, ◌≡◌, ◌⊎◌, inl, inr, false, refl, sym, ap, subst, arith}
 use Rattle.std.proofs.lemmas.List.{append-nil}
+use Rattle.rpki_der.specs.Tags.{CONTEXT_CONSTRUCTED, SEQUENCE}
 use Rattle.rpki_der.specs.Extensions.{Extension, extension}
 use Rattle.rpki_der.specs.Primitives.{number}
 use Rattle.rpki_der.specs.Times.{time}
@@ -29,11 +30,11 @@ row_octets (e ∷ es) b s = subst AreOctets (sym s.4) (AreOctets-append s.0 s.1 
 
 ok_revoked : (octets : List ℕ) → AreOctets octets → IfShort (revoked octets)
 ok_revoked [] low = λ l. tt
-ok_revoked (o ∷ octets) low = ok_enc 0x30 (o ∷ octets) (omega arith) (λ l. low)
+ok_revoked (o ∷ octets) low = ok_enc SEQUENCE (o ∷ octets) (omega arith) (λ l. low)
 
-form : (octets : List ℕ) → Short (revoked octets) → ((octets ≡ []) × (revoked octets ≡ [])) ⊎ IsEnc 0x30 octets (revoked octets)
+form : (octets : List ℕ) → Short (revoked octets) → ((octets ≡ []) × (revoked octets ≡ [])) ⊎ IsEnc SEQUENCE octets (revoked octets)
 form [] short = inl (refl, refl)
-form (o ∷ octets) short = inr (made 0x30 (o ∷ octets) (omega arith) short)
+form (o ∷ octets) short = inr (made SEQUENCE (o ∷ octets) (omega arith) short)
 
 -- ---- extensions
 
@@ -74,7 +75,7 @@ module _ (f : ListFields Revoked) (fits : ListFits f) where
                 ok_time f.next_update fits.next_update_is,
                 (
                   ok_revoked f.revoked.octets (row_octets f.revoked.entries f.revoked.octets fits.entries_are),
-                  (ok_nested (0xA0 ∷ 0x30 ∷ []) (list_row f.extensions) (literal (0xA0 ∷ 0x30 ∷ []) refl) ok_row, tt),
+                  (ok_nested (CONTEXT_CONSTRUCTED 0 ∷ SEQUENCE ∷ []) (list_row f.extensions) (literal (CONTEXT_CONSTRUCTED 0 ∷ SEQUENCE ∷ []) refl) ok_row, tt),
                 ),
               ),
             ),
@@ -83,7 +84,7 @@ module _ (f : ListFields Revoked) (fits : ListFits f) where
       )
       fits.short
 
-  pub data_made : (b : List ℕ) → b ≡ list_spelling f → IsEnc 0x30 (list_content f) b
+  pub data_made : (b : List ℕ) → b ≡ list_spelling f → IsEnc SEQUENCE (list_content f) b
   data_made b is = record { octet = omega arith; low_tag = omega arith; octets = content_octets; short = fits.short; is = is }
 
   module _ (row : Short (list_row f.extensions)) where
@@ -103,9 +104,8 @@ module _ (f : ListFields Revoked) (fits : ListFits f) where
   pub list_made : IsTbsCertList f (list_spelling f)
   unfolding tagged_list_extensions
   list_made =
-      let s = pieces_short pieces (fits.short, content_octets) in
-      let last = s.1.1.1.1.1.1.0 in
-      let row = nested_short (0xA0 ∷ 0x30 ∷ []) (list_row f.extensions) last in
+      let (_, (algorithm_short, (_, (_, (_, (revoked_short, (last, _))))))) = pieces_short pieces (fits.short, content_octets) in
+      let row = nested_short (CONTEXT_CONSTRUCTED 0 ∷ SEQUENCE ∷ []) (list_row f.extensions) last in
       let x = f.extensions in
       record {
         content = list_content f;
@@ -116,11 +116,11 @@ module _ (f : ListFields Revoked) (fits : ListFits f) where
           next_update = time f.next_update;
           revoked = revoked f.revoked.octets;
           extensions = tagged_list_extensions x;
-          algorithm_is = algorithm_made f.algorithm s.1.0;
+          algorithm_is = algorithm_made f.algorithm algorithm_short;
           issuer_is = fits.issuer_is;
           this_update_is = moment_made f.this_update fits.this_update_is;
           next_update_is = moment_made f.next_update fits.next_update_is;
-          revoked_is = record { entries = fits.entries_are; sequence = form f.revoked.octets s.1.1.1.1.1.0 };
+          revoked_is = record { entries = fits.entries_are; sequence = form f.revoked.octets revoked_short };
           row = list_row x;
           triples = identifier_of x ∷ number_of x ∷ [];
           row_is = (
@@ -130,7 +130,7 @@ module _ (f : ListFields Revoked) (fits : ListFits f) where
             (second x, [], extension_made (number_of x) (plain_oid 0x55 (0x1D ∷ 0x14 ∷ []) (omega arith, (omega arith, (omega arith, tt)))) (parts_short row).1.0, refl, sym (append-nil (second x))),
             refl,
           );
-          extensions_is = nested_made (0xA0 ∷ 0x30 ∷ []) (list_row x) (omega arith, (omega arith, tt)) last;
+          extensions_is = nested_made (CONTEXT_CONSTRUCTED 0 ∷ SEQUENCE ∷ []) (list_row x) (omega arith, (omega arith, tt)) last;
           gives = given row;
           is = refl;
         };

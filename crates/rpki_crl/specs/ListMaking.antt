@@ -27,5 +27,9 @@ with_entries f es = record {
 
 -- Why no list is made of the fields with the entries that are given, by a signer that may give these answers of a message: memory was
 -- wanted before the entries were there, or there is no signed data.
-abbrev pub IsListRefusal : {C E : Type 0} → ListFields C → (List Entry → Type 0) → (List ℕ → Result SignatureFields (SigningError E) → Type 0) → SigningError E → Type 0
-IsListRefusal f Given Answers e = (e ≡ Memory) ⊎ ((es : List Entry) × Given es × IsRefusal (list_content (with_entries f es)) (Answers (list_spelling (with_entries f es))) e)
+abbrev pub IsListRefusal : {C E : Type 0} → ListFields C → (List Entry → Type 0)
+    → (List ℕ → Result SignatureFields (SigningError E) → Type 0) → SigningError E → Type 0
+IsListRefusal f Given MayAnswer e =
+    (e ≡ Memory)
+    ⊎ ((es : List Entry) × Given es
+    × IsRefusal (list_content (with_entries f es)) (MayAnswer (list_spelling (with_entries f es))) e)

@@ -12,7 +12,7 @@ use Rattle.rpki_parts.specs.Algorithms.{Algorithm, IsSignatureAlgorithm, algorit
 use Rattle.rpki_parts.specs.Names.{IsNameWithin, IsName}
 use Rattle.rpki_parts.specs.SignedDatas.{SignedFields, IsSignedDataContent, signed_pieces}
 use Rattle.rpki_ext.specs.CrlNumbers.{crl_number}
-use Rattle.rpki_ext.specs.KeyIdentifiers.{authority_key_identifier, authority_key_identifier_content, IsIdentifier}
+use Rattle.rpki_ext.specs.KeyIdentifiers.{authority_key_identifier, authority_key_identifier_content, HasTwentyOctets}
 use Rattle.rpki_crl.specs.ListExtensions.{ListExtensions, GiveListExtensions}
 use Rattle.rpki_crl.specs.RevokedEntries.{Revoked, AreEntries, IsRevokedCertificates, revoked}
 pub mod Reading
@@ -101,7 +101,9 @@ tagged_list_extensions x = nested (CONTEXT_CONSTRUCTED 0 ∷ SEQUENCE ∷ []) (l
 
 -- what stands inside the SEQUENCE
 abbrev pub list_content : ListFields Revoked → List ℕ
-list_content f = concat (version_2 ∷ algorithm f.algorithm ∷ f.issuer ∷ time f.this_update ∷ time f.next_update ∷ revoked f.revoked.octets ∷ tagged_list_extensions f.extensions ∷ [])
+list_content f =
+    concat (version_2 ∷ algorithm f.algorithm ∷ f.issuer ∷ time f.this_update ∷ time f.next_update
+    ∷ revoked f.revoked.octets ∷ tagged_list_extensions f.extensions ∷ [])
 
 abbrev pub list_spelling : ListFields Revoked → List ℕ
 list_spelling f = enc SEQUENCE (list_content f)
@@ -112,7 +114,7 @@ pub record ListFits (f : ListFields Revoked) : Type 0 where
   pub this_update_is : IsMoment f.this_update
   pub next_update_is : IsMoment f.next_update
   pub entries_are : AreEntries f.revoked.entries f.revoked.octets
-  pub identifier_is : IsIdentifier f.extensions.authority_key_identifier
+  pub identifier_is : HasTwentyOctets f.extensions.authority_key_identifier
   pub number_is : f.extensions.crl_number < 2 ^ 160
   pub short : length (list_content f) < 2 ^ 32
 

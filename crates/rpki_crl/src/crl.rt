@@ -101,7 +101,8 @@ impl Crl {
         Ok(crl)
     }
 
-    /// The list that a front of the octets is; what follows it is left unread. Errs with the name of a fault where no front is one.
+    /// The list that a front of the octets is; what follows it is left unread. Errs with a fault where no front is one; which of several
+    /// isn't promised.
     pub fn decode(alloc: Global, octets: &[u8]) -> Result<Crl, DecodeError>
         ensures means { let front = Means IsCertificateList in
             MeansOrMemoryBy (λ c. c.list) front result octets.now }
@@ -110,7 +111,8 @@ impl Crl {
         Crl::decode_shared(alloc, Bytes::copy_from_slice(alloc, octets)?)
     }
 
-    /// The same of octets that the list then shares, so that none is copied.
+    /// The same of octets that are shared (own): what is kept shares the buffer and keeps all of it alive; a copy ([`Crl::try_clone`])
+    /// copies no octets.
     pub fn decode_shared(alloc: Global, octets: Bytes) -> Result<Crl, DecodeError>
         ensures means { let front = Means IsCertificateList in
             MeansOrMemoryBy (λ c. c.list) front result octets }
@@ -120,8 +122,8 @@ impl Crl {
         Crl::take_from(alloc, &mut cursor)
     }
 
-    /// The list that stands next, one SEQUENCE (RFC 5280 5.1, RFC 6487 5). Errs with the name of a fault where no front of what is left
-    /// is one.
+    /// The list that stands next, one SEQUENCE (RFC 5280 5.1, RFC 6487 5). Errs with a fault where no front of what is left is one;
+    /// which of several isn't promised.
     pub fn take_from(alloc: Global, cursor: &mut Cursor<'_>) -> Result<Crl, DecodeError>
         ensures answers { let spells = IsCertificateList in
             AnswersOrMemoryBy (λ c. c.list) spells cursor.old result cursor.new }

@@ -164,8 +164,8 @@ impl TbsCertList<RevokedCertificates> {
         })
     }
 
-    /// The TBSCertList that stands next, one SEQUENCE (RFC 5280 5.1.2, RFC 6487 5), whatever order its extensions stand in. Errs with the
-    /// name of a fault where no front of what is left is one.
+    /// The TBSCertList that stands next, one SEQUENCE (RFC 5280 5.1.2, RFC 6487 5), whatever order its extensions stand in. Errs with a
+    /// fault where no front of what is left is one; which of several isn't promised.
     pub fn take_from(
         alloc: Global,
         cursor: &mut Cursor<'_>,

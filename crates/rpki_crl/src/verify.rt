@@ -8,7 +8,8 @@ use rpki_cert::{ResourceCert, VerificationError};
 use rpki_parts::{PublicKey, Verifier};
 
 impl Crl {
-    /// Whether the list names the key of this issuer as the one that signs it (RFC 5280 5.2.1). Errs with `WrongKeyId` alone; wants no memory.
+    /// Whether the list names the key of this issuer as the one that signs it (RFC 5280 5.2.1). The mode changes nothing. Errs
+    /// with `WrongKeyId` alone; wants no memory.
     pub fn verify_issuer_claim(
         &self,
         issuer: &ResourceCert,

@@ -4,7 +4,7 @@ ghost use Rattle.rpki_der.specs.Tags.{SEQUENCE};
 ghost use Rattle.rpki_der.specs.Writers.{value, Writes};
 ghost use Rattle.rpki_der.specs.Times.{IsMoment};
 ghost use Rattle.rpki_parts.specs.Names.{IsName};
-ghost use Rattle.rpki_ext.specs.KeyIdentifiers.{IsIdentifier};
+ghost use Rattle.rpki_ext.specs.KeyIdentifiers.{HasTwentyOctets};
 ghost use Rattle.rpki_crl.specs.RevokedEntries.{AreEntries};
 ghost use Rattle.rpki_crl.specs.ListExtensions.Views.{extensions_view};
 ghost use Rattle.rpki_crl.specs.Lists.{ListFits, list_content, list_row, tagged_list_extensions};
@@ -58,7 +58,7 @@ impl TbsCertList<RevokedCertificates> {
         ensures this_update { IsMoment self.now.this_update }
         ensures next_update { IsMoment self.now.next_update }
         ensures entries { AreEntries self.now.revoked.entries self.now.revoked.octets }
-        ensures identifier { IsIdentifier self.now.extensions.authority_key_identifier }
+        ensures identifier { HasTwentyOctets self.now.extensions.authority_key_identifier }
     {
         let _issuer = self.issuer.as_bytes();
         self.this_update.known();

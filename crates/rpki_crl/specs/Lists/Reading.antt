@@ -1,7 +1,7 @@
 -- Reading functions of revocation lists.
 use Rattle.std.specs.Bool.{beq}
-use Rattle.std.specs.Prelude.{ℕ, Bool, bytes_eq, if◌then◌else◌, List, [], ◌∷◌, Option, Some, None}
-use Rattle.rpki_der.specs.Choices.{turned}
+use Rattle.std.specs.Prelude.{ℕ, Bool, if◌then◌else◌, List, [], ◌∷◌, Option, Some, None}
+use Rattle.rpki_der.specs.Choices.{turned, exactly}
 use Rattle.rpki_der.specs.Reading.{inside, content, both, mapped}
 use Rattle.rpki_der.specs.Tags.{CONTEXT_CONSTRUCTED, INTEGER, SEQUENCE}
 use Rattle.rpki_der.specs.Times.{Moment}
@@ -19,11 +19,8 @@ use Rattle.rpki_crl.specs.RevokedEntries.Reading.{revoked_at}
 
 -- ---- TBSCertList
 
-abbrev pub is_one : List ℕ → Option (Unit {0})
-is_one c = if bytes_eq c (1 ∷ []) then Some tt else None
-
 unfoldable pub list_version_at : List ℕ → Option (Unit {0} × List ℕ)
-list_version_at = content INTEGER is_one
+list_version_at = content INTEGER (exactly (1 ∷ []))
 
 -- the fields in their order, and the row of extensions as it stands
 abbrev pub ListParts : Type 0

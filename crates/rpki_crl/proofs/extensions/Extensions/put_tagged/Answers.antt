@@ -1,4 +1,5 @@
 use Rattle.std.proofs.Common.{◌≡◌, ℕ, List, ◌++◌, length, ap, ◌∙◌, arith}
+use Rattle.rpki_der.specs.Tags.{SEQUENCE}
 use Rattle.rpki_der.specs.Values.{enc}
 use Rattle.rpki_der.proofs.TooLong.{passed_long, still_long}
 use Rattle.rpki_crl.specs.ListExtensions.Views.{extensions_view}
@@ -19,5 +20,5 @@ pub returns-clause-too_long : goal.returns-clause-too_long
 returns-clause-too_long c =
     let row = list_row (extensions_view c.args.self.now) in
     let held : c.deref.result.now ≡ row = c.deref.ensures.value ∙ c.in_ok-put_row.ensures.ok ∙ ap (λ (b : List ℕ). b ++ row) c.new-row.ensures.items in
-    let inner : c.deref-2.result.now ≡ enc 0x30 row = c.deref-2.ensures.value ∙ c.in_ok-put_value.ensures.ok ∙ ap (λ (b : List ℕ). b ++ enc 0x30 c.deref.result.now) c.new-sequence.ensures.items ∙ ap (enc 0x30) held in
+    let inner : c.deref-2.result.now ≡ enc SEQUENCE row = c.deref-2.ensures.value ∙ c.in_ok-put_value.ensures.ok ∙ ap (λ (b : List ℕ). b ++ enc SEQUENCE c.deref.result.now) c.new-sequence.ensures.items ∙ ap (enc SEQUENCE) held in
     still_long c.put_value-2.result _ _ c.put_value-2.ensures.too_long.0 (omega (arith, ap length inner, sequence_longer (extensions_view c.args.self.now)))
