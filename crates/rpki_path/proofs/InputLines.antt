@@ -10,7 +10,7 @@ use Rattle.rpki_path.specs.declared.validating.Leaf.TheVariants.{Ee, DetachedEe}
 use Rattle.rpki_path.specs.declared.input.Input.{Input}
 use Rattle.rpki_path.specs.declared.input.Input.TheVariants.{Bad}
 use Rattle.rpki_path.specs.TextLines.{AreLines, line_end}
-use Rattle.rpki_path.specs.InputLines.{at_moment, strictness, anchor, authority, last, IsLine, IsRevokedLine, IsMomentLine, IsOctetsLine}
+use Rattle.rpki_path.specs.InputLines.{at_moment, strictness, anchor, authority, end_entity, IsLine, IsRevokedLine, IsMomentLine, IsOctetsLine}
 use Rattle.rpki_path.specs.Program.{PathQuestion, Question, is_revoked, is_good_path, Ask, AreInput, BeginInput}
 use Rattle.rpki_path.specs.Questions.{IsFirstLine, AreReadAs, IsReadBehind}
 
@@ -94,7 +94,7 @@ unfolding head
 not_both now list serial line m r = let same : 97 ≡ 114 = ap head (sym m.is ∙ r.is) in absurd (omega (arith, same))
 
 -- a line of an authority is none of a leaf
-pub other_name : (leaf : Leaf) (octets line : List ℕ) → IsLine (last leaf) line → IsLine (authority octets) line → ⊥
+pub other_name : (leaf : Leaf) (octets line : List ℕ) → IsLine (end_entity leaf) line → IsLine (authority octets) line → ⊥
 unfolding head
 other_name (Ee o) octets line l a = let same : 101 ≡ 99 = ap head (sym l.is ∙ a.is) in absurd (omega (arith, same))
 other_name (DetachedEe o) octets line l a = let same : 100 ≡ 99 = ap head (sym l.is ∙ a.is) in absurd (omega (arith, same))
@@ -137,8 +137,8 @@ first_tells (is_revoked list serial) line more h = inl (list, serial, h.0)
 first_tells (is_good_path q) line more h = inr (q.now, h.0)
 
 pub first_unfit : (line : List ℕ) → ((list : List ℕ) (serial : ℕ) → IsRevokedLine list serial line → ⊥) → ((now : Moment) → IsMomentLine now line → ⊥) → BeginInput (line ∷ []) → ⊥
-first_unfit line no_list no_moment b =
-    elim (first_tells b.1.0 line b.0 b.1.1) [ inl l ↦ no_list l.0 l.1 l.2 | inr m ↦ no_moment m.0 m.1 ]
+first_unfit line no_list no_moment (more, (q, asked)) =
+    elim (first_tells q line more asked) [ inl l ↦ no_list l.0 l.1 l.2 | inr m ↦ no_moment m.0 m.1 ]
 
 -- a list has one line
 list_alone : (list : List ℕ) (serial : ℕ) (q : Question) (line next : List ℕ) (more : List (List ℕ)) → IsRevokedLine list serial line → Ask q (line ∷ next ∷ more) → ⊥
@@ -150,7 +150,7 @@ module _ (list : List ℕ) (serial : ℕ) (line : List ℕ) (is : IsRevokedLine 
   list_begins = whole_begins (line ∷ []) (is_revoked list serial, (is, tt))
 
   pub second_of_list : (next : List ℕ) → BeginInput ((line ∷ []) ++ next ∷ []) → ⊥
-  second_of_list next b = list_alone list serial b.1.0 line next b.0 is b.1.1
+  second_of_list next (more, (q, asked)) = list_alone list serial q line next more is asked
 
 -- ---- the second line
 
@@ -182,7 +182,7 @@ module _ (now : Moment) where
 
   second_unfit : (before : List (List ℕ)) → Moments now before → (line : List ℕ) → ((strict : Bool) → IsLine (strictness strict) line → ⊥) → BeginInput (before ++ line ∷ []) → ⊥
   second_unfit [] is line none b = elim is [ ]
-  second_unfit (m ∷ []) is line none b = let told = second_tells b.1.0 m line b.0 b.1.1 in none told.0 told.1
+  second_unfit (m ∷ []) is line none (more, (q, asked)) = let (strict, tells) = second_tells q m line more asked in none strict tells
   second_unfit (m ∷ s ∷ more) is line none b = elim is.1 [ ]
 
   second_needed : (before : List (List ℕ)) → Moments now before → AreInput before → ⊥
@@ -201,11 +201,11 @@ module _ (now : Moment) where
 
 third_tells : (q : Question) (m s line : List ℕ) (more : List (List ℕ)) → Ask q (m ∷ s ∷ line ∷ more) → (octets : List ℕ) × IsLine (anchor octets) line
 third_tells (is_revoked list serial) m s line more h = absurd h.1
-third_tells (is_good_path q) m s line more h = (q.anchor_octets, h.1.1.0)
+third_tells (is_good_path q) m s line more (_, (_, (tells, _))) = (q.anchor_octets, tells)
 
 two_are_few : (q : Question) (m s : List ℕ) → Ask q (m ∷ s ∷ []) → ⊥
 two_are_few (is_revoked list serial) m s h = h.1
-two_are_few (is_good_path q) m s h = h.1.1
+two_are_few (is_good_path q) m s (_, (_, none)) = none
 
 abbrev Pairs : Moment → Bool → List (List ℕ) → Type 0
 Pairs now strict before = AllZip IsLine (at_moment now ∷ strictness strict ∷ []) before
@@ -215,25 +215,25 @@ module _ (now : Moment) (strict : Bool) where
   pair_begins [] is = elim is [ ]
   pair_begins (m ∷ []) is = elim is.1 [ ]
   pair_begins (m ∷ s ∷ []) is = (codes "ta -" ∷ [], (is_good_path (short_path now strict []), (is.0, (is.1.0, (no_octets (codes "ta "), tt)))))
-  pair_begins (m ∷ s ∷ t ∷ more) is = elim is.1.1 [ ]
+  pair_begins (m ∷ s ∷ t ∷ more) (_, (_, none)) = elim none [ ]
 
   two_so_far : (before : List (List ℕ)) → Pairs now strict before → 3 ≡ length before + 1
   two_so_far [] is = elim is [ ]
   two_so_far (m ∷ []) is = elim is.1 [ ]
   two_so_far (m ∷ s ∷ []) is = refl
-  two_so_far (m ∷ s ∷ t ∷ more) is = elim is.1.1 [ ]
+  two_so_far (m ∷ s ∷ t ∷ more) (_, (_, none)) = elim none [ ]
 
   third_unfit : (before : List (List ℕ)) → Pairs now strict before → (line : List ℕ) → ((octets : List ℕ) → IsLine (anchor octets) line → ⊥) → BeginInput (before ++ line ∷ []) → ⊥
   third_unfit [] is line none b = elim is [ ]
   third_unfit (m ∷ []) is line none b = elim is.1 [ ]
-  third_unfit (m ∷ s ∷ []) is line none b = let told = third_tells b.1.0 m s line b.0 b.1.1 in none told.0 told.1
-  third_unfit (m ∷ s ∷ t ∷ more) is line none b = elim is.1.1 [ ]
+  third_unfit (m ∷ s ∷ []) is line none (more, (q, asked)) = let (octets, tells) = third_tells q m s line more asked in none octets tells
+  third_unfit (m ∷ s ∷ t ∷ more) (_, (_, excess)) line none b = elim excess [ ]
 
   third_needed : (before : List (List ℕ)) → Pairs now strict before → AreInput before → ⊥
   third_needed [] is a = elim is [ ]
   third_needed (m ∷ []) is a = elim is.1 [ ]
   third_needed (m ∷ s ∷ []) is a = two_are_few a.0 m s a.1
-  third_needed (m ∷ s ∷ t ∷ more) is a = elim is.1.1 [ ]
+  third_needed (m ∷ s ∷ t ∷ more) (_, (_, none)) a = elim none [ ]
 
   module _ (before : List (List ℕ)) (is : Pairs now strict before) (text : List ℕ) where
     pub no_third : text ≡ [] → IsReadBehind before text (Bad 3)

@@ -8,7 +8,7 @@ use Rattle.std.proofs.Math.Seq.{get_or-append_seam}
 use Rattle.rpki_blocks.specs.Resources.{Resources, missing, inherit, blocks}
 use Rattle.rpki_blocks.specs.IssuedSets.{IsListed, Gets}
 use Rattle.rpki_cert.specs.Certificates.{CertFields}
-use Rattle.rpki_path.specs.Paths.{Member, Path, last, certificate_at, NumberKind, Lists, Inherits, Holds}
+use Rattle.rpki_path.specs.Paths.{Member, Path, last, certificate_at, NumberKind, PassesOn, Holds}
 
 -- ---- places
 
@@ -44,37 +44,34 @@ last_extended p m = length-append p.below (m ∷ [])
 
 -- ---- numbers
 
-abbrev pub Passes : CertFields → NumberKind → ℕ → Type 0
-Passes c k n = Lists c k n ⊎ Inherits c k
-
 module _ (p : Path) (m : Member) (more : List Member) (k : NumberKind) (n : ℕ) where
   pub holds_above : (i : ℕ) → i ≤ last p → Holds p i k n ↔ Holds (extended p m more) i k n
   holds_above i h = (
     (λ held. record {
       listed = held.listed;
-      passed_on = λ j low high. let short : j ≤ last p = omega arith in subst (λ (c : CertFields). Passes c k n) (sym (above p m more j short)) (held.passed_on j low high);
+      passed_on = λ j low high. let short : j ≤ last p = omega arith in subst (λ (c : CertFields). PassesOn c k n) (sym (above p m more j short)) (held.passed_on j low high);
     }),
     (λ held. record {
       listed = held.listed;
-      passed_on = λ j low high. let short : j ≤ last p = omega arith in subst (λ (c : CertFields). Passes c k n) (above p m more j short) (held.passed_on j low high);
+      passed_on = λ j low high. let short : j ≤ last p = omega arith in subst (λ (c : CertFields). PassesOn c k n) (above p m more j short) (held.passed_on j low high);
     }),
   )
 
-  holds_then : Holds p (last p) k n → Passes m.cert k n → (j : ℕ) → 1 ≤ j → (j ≡ last p + 1) ⊎ (j < last p + 1) → Passes (certificate_at (extended p m more) j) k n
-  holds_then held passes j low (inl e) = subst (λ (i : ℕ). Passes (certificate_at (extended p m more) i) k n) (sym e) (subst (λ (c : CertFields). Passes c k n) (sym (there p m more)) passes)
+  holds_then : Holds p (last p) k n → PassesOn m.cert k n → (j : ℕ) → 1 ≤ j → (j ≡ last p + 1) ⊎ (j < last p + 1) → PassesOn (certificate_at (extended p m more) j) k n
+  holds_then held passes j low (inl e) = subst (λ (i : ℕ). PassesOn (certificate_at (extended p m more) i) k n) (sym e) (subst (λ (c : CertFields). PassesOn c k n) (sym (there p m more)) passes)
   holds_then held passes j low (inr h) =
       let short : j ≤ last p = omega arith in
-      subst (λ (c : CertFields). Passes c k n) (sym (above p m more j short)) (held.passed_on j low short)
+      subst (λ (c : CertFields). PassesOn c k n) (sym (above p m more j short)) (held.passed_on j low short)
 
   -- the member below the last holds what the last holds, where it passes it on
-  pub holds_there : Holds (extended p m more) (last p + 1) k n ↔ (Holds p (last p) k n × Passes m.cert k n)
+  pub holds_there : Holds (extended p m more) (last p + 1) k n ↔ (Holds p (last p) k n × PassesOn m.cert k n)
   holds_there = (
     (λ held. (
       record {
         listed = held.listed;
-        passed_on = λ j low high. let further : j ≤ last p + 1 = omega arith in subst (λ (c : CertFields). Passes c k n) (above p m more j high) (held.passed_on j low further);
+        passed_on = λ j low high. let further : j ≤ last p + 1 = omega arith in subst (λ (c : CertFields). PassesOn c k n) (above p m more j high) (held.passed_on j low further);
       },
-      (let low : 1 ≤ last p + 1 = omega arith in let high : last p + 1 ≤ last p + 1 = omega arith in subst (λ (c : CertFields). Passes c k n) (there p m more) (held.passed_on (last p + 1) low high)),
+      (let low : 1 ≤ last p + 1 = omega arith in let high : last p + 1 ≤ last p + 1 = omega arith in subst (λ (c : CertFields). PassesOn c k n) (there p m more) (held.passed_on (last p + 1) low high)),
     )),
     (λ both. record { listed = both.0.listed; passed_on = λ j low high. holds_then both.0 both.1 j low (eq-or-lt_of_le high) }),
   )

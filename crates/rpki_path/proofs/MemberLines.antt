@@ -12,7 +12,7 @@ use Rattle.rpki_path.specs.declared.input.Input.TheVariants.{Bad}
 use Rattle.rpki_path.specs.declared.input.Input.TheVariants as input
 use Rattle.rpki_path.specs.declared.path_lines.PathQuestion as declared
 use Rattle.rpki_path.specs.TextLines.{AreLines}
-use Rattle.rpki_path.specs.InputLines.{InputLine, at_moment, strictness, anchor, authority, last, IsLine, IsOctetsLine}
+use Rattle.rpki_path.specs.InputLines.{InputLine, at_moment, strictness, anchor, authority, end_entity, IsLine, IsOctetsLine}
 use Rattle.rpki_path.specs.Program.{PathQuestion, Question, is_revoked, is_good_path, leaf_lines, Ask, BeginInput, IsBadLine}
 use Rattle.rpki_path.specs.Questions.{IsFirstLine, member_line, path_question, IsReadBehind}
 use Rattle.rpki_path.proofs.InputLines.{other_name, whole_begins, one_more, bad_line, bad_after}
@@ -53,7 +53,7 @@ member_tells [] None (b ∷ before) line more h = absurd h
 member_tells [] (Some leaf) (b ∷ before) line more h = absurd (none_behind IsLine before line more h.1)
 member_tells (c ∷ cas) leaf (b ∷ before) line more h = member_tells cas leaf before line more h.1
 
-leaf_is_last : (leaf : Leaf) (e line : List ℕ) → IsLine (last leaf) e → (cas : List (List ℕ)) (other : Option Leaf) (before : List (List ℕ)) (more : List (List ℕ)) → AllZip IsLine (map authority cas ++ leaf_lines other) (before ++ e ∷ line ∷ more) → ⊥
+leaf_is_last : (leaf : Leaf) (e line : List ℕ) → IsLine (end_entity leaf) e → (cas : List (List ℕ)) (other : Option Leaf) (before : List (List ℕ)) (more : List (List ℕ)) → AllZip IsLine (map authority cas ++ leaf_lines other) (before ++ e ∷ line ∷ more) → ⊥
 leaf_is_last leaf e line is [] None [] more h = h
 leaf_is_last leaf e line is [] (Some other) [] more h = h.1
 leaf_is_last leaf e line is (c ∷ cas) other [] more h = other_name leaf c e is h.0
@@ -66,22 +66,22 @@ Heads now strict octets before = AllZip IsLine (at_moment now ∷ strictness str
 
 below_tells : (q : Question) (m s t : List ℕ) (lines : List (List ℕ)) → Ask q (m ∷ s ∷ t ∷ lines) → (cas : List (List ℕ)) × (leaf : Option Leaf) × AllZip IsLine (map authority cas ++ leaf_lines leaf) lines
 below_tells (is_revoked list serial) m s t lines h = absurd h.1
-below_tells (is_good_path q) m s t lines h = (q.authorities, q.leaf, h.1.1.1)
+below_tells (is_good_path q) m s t lines (_, (_, (_, below))) = (q.authorities, q.leaf, below)
 
 module _ (now : Moment) (strict : Bool) (octets : List ℕ) where
   tells_below : (before : List (List ℕ)) → Heads now strict octets before → (q : Question) (lines : List (List ℕ)) → Ask q (before ++ lines) → (cas : List (List ℕ)) × (leaf : Option Leaf) × AllZip IsLine (map authority cas ++ leaf_lines leaf) lines
   tells_below [] is q lines h = elim is [ ]
   tells_below (m ∷ []) is q lines h = elim is.1 [ ]
-  tells_below (m ∷ s ∷ []) is q lines h = elim is.1.1 [ ]
+  tells_below (m ∷ s ∷ []) (_, (_, none)) q lines h = elim none [ ]
   tells_below (m ∷ s ∷ t ∷ []) is q lines h = below_tells q m s t lines h
-  tells_below (m ∷ s ∷ t ∷ u ∷ more) is q lines h = elim is.1.1.1 [ ]
+  tells_below (m ∷ s ∷ t ∷ u ∷ more) (_, (_, (_, none))) q lines h = elim none [ ]
 
   three_so_far : (before : List (List ℕ)) → Heads now strict octets before → length before ≡ 3
   three_so_far [] is = elim is [ ]
   three_so_far (m ∷ []) is = elim is.1 [ ]
-  three_so_far (m ∷ s ∷ []) is = elim is.1.1 [ ]
+  three_so_far (m ∷ s ∷ []) (_, (_, none)) = elim none [ ]
   three_so_far (m ∷ s ∷ t ∷ []) is = refl
-  three_so_far (m ∷ s ∷ t ∷ u ∷ more) is = elim is.1.1.1 [ ]
+  three_so_far (m ∷ s ∷ t ∷ u ∷ more) (_, (_, (_, none))) = elim none [ ]
 
   abbrev pub question : List (List ℕ) → Option Leaf → PathQuestion
   question cas leaf = record { now = now; strict = strict; anchor_octets = octets; authorities = cas; leaf = leaf }
@@ -99,11 +99,11 @@ module _ (now : Moment) (strict : Bool) (octets : List ℕ) where
     -- ---- a line that tells of no member
 
     members_unfit : (line : List ℕ) → ((member : Member) → IsLine (member_line member) line → ⊥) → BeginInput ((before ++ lines) ++ line ∷ []) → ⊥
-    members_unfit line none b =
-        let parts : ((before ++ lines) ++ line ∷ []) ++ b.0 ≡ before ++ (lines ++ line ∷ b.0) = append_assoc (before ++ lines) (line ∷ []) b.0 ∙ append_assoc before lines (line ∷ b.0) in
-        let below = tells_below before is b.1.0 (lines ++ line ∷ b.0) (subst (λ (l : List (List ℕ)). Ask b.1.0 l) parts b.1.1) in
-        let told = member_tells below.0 below.1 lines line b.0 below.2 in
-        none told.0 told.1
+    members_unfit line none (more, (q, asked)) =
+        let parts : ((before ++ lines) ++ line ∷ []) ++ more ≡ before ++ (lines ++ line ∷ more) = append_assoc (before ++ lines) (line ∷ []) more ∙ append_assoc before lines (line ∷ more) in
+        let (others, leaf, below) = tells_below before is q (lines ++ line ∷ more) (subst (λ (l : List (List ℕ)). Ask q l) parts asked) in
+        let (member, tells) = member_tells others leaf lines line more below in
+        none member tells
 
     module _ (text rest : List ℕ) (so_far : (more : List (List ℕ)) → AreLines more rest → AreLines (lines ++ more) text) where
       -- what is read behind the lines so far
@@ -126,7 +126,7 @@ module _ (now : Moment) (strict : Bool) (octets : List ℕ) where
         subst (λ (p : PathQuestion). Ask (is_good_path p) (before ++ (lines ++ []))) (sym same) (asks None [] tt),
       )
 
-      module _ (leaf : Leaf) (line others : List ℕ) (first : IsFirstLine line others rest) (tells : IsLine (last leaf) line) where
+      module _ (leaf : Leaf) (line others : List ℕ) (first : IsFirstLine line others rest) (tells : IsLine (end_entity leaf) line) where
         -- nor a further line behind that of a leaf
         pub ended_by_leaf : (q : declared.PathQuestion) → path_question q ≡ question cas (Some leaf) → others ≡ [] → IsReadBehind before text (input.Path q)
         ended_by_leaf q same none = (
@@ -136,11 +136,11 @@ module _ (now : Moment) (strict : Bool) (octets : List ℕ) where
         )
 
         nothing_follows : (next : List ℕ) → BeginInput ((before ++ (lines ++ line ∷ [])) ++ next ∷ []) → ⊥
-        nothing_follows next b =
-            let parts : ((before ++ (lines ++ line ∷ [])) ++ next ∷ []) ++ b.0 ≡ before ++ (lines ++ line ∷ next ∷ b.0) =
-            append_assoc (before ++ (lines ++ line ∷ [])) (next ∷ []) b.0 ∙ append_assoc before (lines ++ line ∷ []) (next ∷ b.0) ∙ ap (λ (l : List (List ℕ)). before ++ l) (append_assoc lines (line ∷ []) (next ∷ b.0)) in
-            let below = tells_below before is b.1.0 (lines ++ line ∷ next ∷ b.0) (subst (λ (l : List (List ℕ)). Ask b.1.0 l) parts b.1.1) in
-            leaf_is_last leaf line next tells below.0 below.1 lines b.0 below.2
+        nothing_follows next (more, (q, asked)) =
+            let parts : ((before ++ (lines ++ line ∷ [])) ++ next ∷ []) ++ more ≡ before ++ (lines ++ line ∷ next ∷ more) =
+            append_assoc (before ++ (lines ++ line ∷ [])) (next ∷ []) more ∙ append_assoc before (lines ++ line ∷ []) (next ∷ more) ∙ ap (λ (l : List (List ℕ)). before ++ l) (append_assoc lines (line ∷ []) (next ∷ more)) in
+            let (others, other, below) = tells_below before is q (lines ++ line ∷ next ∷ more) (subst (λ (l : List (List ℕ)). Ask q l) parts asked) in
+            leaf_is_last leaf line next tells others other lines more below
 
         pub line_after_leaf : (others ≡ [] → ⊥) → IsReadBehind before text (Bad (length cas + 5))
         line_after_leaf some =

@@ -1,105 +1,80 @@
 -- Fourteen digits, as they are read and as they are written.
-use Rattle.std.specs.Prelude.{nat_le, ◌&&◌, bytes_eq, IsSome, IfSome, IfNone, ◌↔◌}
+use Rattle.std.specs.Prelude.{bytes_eq, ◌&&◌, IsSome, IfSome, IfNone, ◌↔◌}
 use Rattle.std.specs.Option.{ok_or}
-use Rattle.std.proofs.Common.{◌≡◌, ℕ, ◌+◌, ◌-◌, ◌*◌, ◌/◌, ◌%◌, ◌<◌, ◌≤◌, true, List, [], ◌∷◌, ◌++◌, Option, Some, None, refl, sym, ap, subst, ◌∙◌, arith, codes}
-use Rattle.std.proofs.lemmas.Slice.Eq.{bytes_eq-Decides}
-use Rattle.std.proofs.lemmas.Bool.{leb-true, le-leb, and_parts, and_from}
+use Rattle.std.proofs.Common.{◌≡◌, ℕ, ◌+◌, ◌*◌, eqb, false, List, [], ◌∷◌, ◌++◌, Option, Some, None, refl, sym, ap, ◌∙◌, inl, inr, codes}
+use Rattle.std.proofs.lemmas.Bool.{cases_Bool}
+use Rattle.std.proofs.lemmas.List.{append_cancel_right}
 use Rattle.rpki_der.specs.Values.Reading.{◌>>=◌}
-use Rattle.rpki_der.specs.Times.{Moment, moment, IsMoment, two}
-use Rattle.rpki_der.specs.Times.Reading.{is_digit, two_at, is_moment}
+use Rattle.rpki_der.specs.Times.{Moment, moment, IsMoment}
+use Rattle.rpki_der.specs.Times.Reading.{is_digit, two_at, is_moment, after_year_of, generalized_of}
+use Rattle.rpki_der.specs.Times.Reading as der
 use Rattle.rpki_der.specs.Place.Reading.{Returns}
 use Rattle.rpki_der.specs.declared.error.DecodeError.TheVariants.{BadValue}
-use Rattle.rpki_der.proofs.MomentTests.{moment_exists, exists_moment, gives_moment}
-use Rattle.rpki_der.proofs.Octets.{bind_some, if_some}
-use Rattle.rpki_der.proofs.WrittenOctets.{days}
+use Rattle.rpki_der.proofs.MomentTests.{gives_moment}
+use Rattle.rpki_der.proofs.TimeReads.{generalized_takes, generalized_again}
 use Rattle.rpki_path.specs.InputLines.{fourteen_digits, IsMomentLine}
 use Rattle.rpki_path.specs.Questions.{moment_at}
 
-abbrev IsTwo : List ℕ → ℕ → List ℕ → Type 0
-IsTwo text n rest = (text ≡ two n ++ rest) × (n < 100)
+-- ---- fourteen digits are the text of a GeneralizedTime without its Z
 
-heads : {a b c d : ℕ} {x y : List ℕ} → a ≡ c → b ≡ d → x ≡ y → a ∷ b ∷ x ≡ c ∷ d ∷ y
-heads p q r = cc
+abbrev z : List ℕ
+z = 90 ∷ []
 
-two_takes : (text : List ℕ) (n : ℕ) (rest : List ℕ) → two_at text ≡ Some (n, rest) → IsTwo text n rest
+-- Z is no digit
+with_z : (text : List ℕ) (f g : ℕ × List ℕ → Option Moment) → ((n : ℕ) (rest : List ℕ) → f (n, rest) ≡ g (n, rest ++ z)) → (two_at text >>= f) ≡ (two_at (text ++ z) >>= g)
 unfolding two_at
-two_takes [] n rest e = absurd cc
-two_takes (a ∷ []) n rest e = absurd cc
-two_takes (a ∷ b ∷ text) n rest e =
-    let g = if_some (is_digit a && is_digit b) ((a - 48) * 10 + (b - 48), text) (n, rest) e in
-    let tests = and_parts (is_digit a) (is_digit b) g.0 in
-    let first = and_parts (nat_le 48 a) (nat_le a 57) tests.0 in
-    let second = and_parts (nat_le 48 b) (nat_le b 57) tests.1 in
-    let a_low : 48 ≤ a = leb-true 48 a first.0 in
-    let a_high : a ≤ 57 = leb-true a 57 first.1 in
-    let b_low : 48 ≤ b = leb-true 48 b second.0 in
-    let b_high : b ≤ 57 = leb-true b 57 second.1 in
-    let number : (a - 48) * 10 + (b - 48) ≡ n = ap (λ (x : ℕ × List ℕ). x.0) g.1 in
-    let same : text ≡ rest = ap (λ (x : ℕ × List ℕ). x.1) g.1 in
-    (heads (omega arith) (omega arith) same, omega arith)
+with_z [] f g same = refl
+with_z (a ∷ []) f g same =
+    elim (cases_Bool (is_digit a)) [
+      | inl y ↦ rw y refl
+      | inr n ↦ rw n refl
+    ]
+with_z (a ∷ b ∷ text) f g same =
+    elim (cases_Bool (is_digit a && is_digit b)) [
+      | inl y ↦ rw y (same _ text)
+      | inr n ↦ rw n refl
+    ]
 
-two_again : (n : ℕ) (rest : List ℕ) → n < 100 → two_at (two n ++ rest) ≡ Some (n, rest)
-unfolding two_at
-two_again n rest h =
-    let tens : is_digit (48 + n / 10) ≡ true = and_from _ _ (le-leb 48 (48 + n / 10) (omega arith)) (le-leb (48 + n / 10) 57 (omega arith)) in
-    let ones : is_digit (48 + n % 10) ≡ true = and_from _ _ (le-leb 48 (48 + n % 10) (omega arith)) (le-leb (48 + n % 10) 57 (omega arith)) in
-    let number : (48 + n / 10 - 48) * 10 + (48 + n % 10 - 48) ≡ n = omega arith in
-    rw (tens, ones, number) refl
+no_octet : (a : ℕ) (more : List ℕ) → (eqb a 90 && bytes_eq (more ++ z) []) ≡ false
+no_octet a more =
+    elim (cases_Bool (eqb a 90)) [
+      | inl y ↦ rw y (not_empty more)
+      | inr n ↦ rw n refl
+    ]
+  where
+    not_empty : (more : List ℕ) → bytes_eq (more ++ z) [] ≡ false
+    not_empty [] = refl
+    not_empty (b ∷ more) = refl
 
--- the steps of the reading
+same_end : (rest : List ℕ) → bytes_eq (rest ++ z) z ≡ bytes_eq rest []
+same_end [] = refl
+same_end (a ∷ rest) = no_octet a rest
+
 abbrev existing : List ℕ → Moment → Option Moment
 existing rest m = Rattle.std.specs.Prelude.cond (bytes_eq rest [] && is_moment m) (Some m) None
 
-abbrev from_second : ℕ → ℕ → ℕ → ℕ → ℕ → List ℕ → Option Moment
-from_second year month day hour minute text = two_at text >>= λ s. existing s.1 (moment year month day hour minute s.0)
+ends : (rest : List ℕ) (m : Moment) → existing rest m ≡ der.existing (rest ++ z) m
+ends rest m = rw (same_end rest) refl
 
-abbrev from_minute : ℕ → ℕ → ℕ → ℕ → List ℕ → Option Moment
-from_minute year month day hour text = two_at text >>= λ s. from_second year month day hour s.0 s.1
+without_z : (text : List ℕ) → moment_at text ≡ generalized_of (text ++ z)
+unfolding moment_at generalized_of after_year_of
+without_z text =
+    with_z text _ _ (λ century from_year.
+    with_z from_year _ _ (λ year from_month.
+    with_z from_month _ _ (λ month from_day.
+    with_z from_day _ _ (λ day from_hour.
+    with_z from_hour _ _ (λ hour from_minute.
+    with_z from_minute _ _ (λ minute from_second.
+    with_z from_second _ _ (λ second rest.
+    ends rest (moment (century * 100 + year) month day hour minute second))))))))
 
-abbrev from_hour : ℕ → ℕ → ℕ → List ℕ → Option Moment
-from_hour year month day text = two_at text >>= λ s. from_minute year month day s.0 s.1
-
-abbrev from_day : ℕ → ℕ → List ℕ → Option Moment
-from_day year month text = two_at text >>= λ s. from_hour year month s.0 s.1
-
-abbrev from_month : ℕ → List ℕ → Option Moment
-from_month year text = two_at text >>= λ s. from_day year s.0 s.1
-
-pub moment_takes : (text : List ℕ) (m : Moment) → moment_at text ≡ Some m → IsMoment m × (text ≡ fourteen_digits m)
-unfolding moment_at
+moment_takes : (text : List ℕ) (m : Moment) → moment_at text ≡ Some m → IsMoment m × (text ≡ fourteen_digits m)
 moment_takes text m e =
-    let century = bind_some (two_at text) (λ c. two_at c.1 >>= λ s. from_month (c.0 * 100 + s.0) s.1) m e in
-    let near = bind_some (two_at century.0.1) (λ s. from_month (century.0.0 * 100 + s.0) s.1) m century.2 in
-    let year = century.0.0 * 100 + near.0.0 in
-    let month = bind_some (two_at near.0.1) (λ s. from_day year s.0 s.1) m near.2 in
-    let day = bind_some (two_at month.0.1) (λ s. from_hour year month.0.0 s.0 s.1) m month.2 in
-    let hour = bind_some (two_at day.0.1) (λ s. from_minute year month.0.0 day.0.0 s.0 s.1) m day.2 in
-    let minute = bind_some (two_at hour.0.1) (λ s. from_second year month.0.0 day.0.0 hour.0.0 s.0 s.1) m hour.2 in
-    let found : ℕ → Moment = λ s. moment year month.0.0 day.0.0 hour.0.0 minute.0.0 s in
-    let second = bind_some (two_at minute.0.1) (λ s. existing s.1 (found s.0)) m minute.2 in
-    let end = if_some (bytes_eq second.0.1 [] && is_moment (found second.0.0)) (found second.0.0) m second.2 in
-    let tests = and_parts (bytes_eq second.0.1 []) (is_moment (found second.0.0)) end.0 in
-    let none : second.0.1 ≡ [] = (bytes_eq-Decides second.0.1 []).0 tests.0 in
-    let front = two_takes text century.0.0 century.0.1 century.1 in
-    let next = two_takes century.0.1 near.0.0 near.0.1 near.1 in
-    let first : year / 100 ≡ century.0.0 = omega (arith, next.1) in
-    let last : year % 100 ≡ near.0.0 = omega (arith, next.1) in
-    let t6 : minute.0.1 ≡ two second.0.0 ++ [] = (two_takes minute.0.1 second.0.0 second.0.1 second.1).0 ∙ ap (λ (x : List ℕ). two second.0.0 ++ x) none in
-    let t5 = (two_takes hour.0.1 minute.0.0 minute.0.1 minute.1).0 ∙ ap (λ (x : List ℕ). two minute.0.0 ++ x) t6 in
-    let t4 = (two_takes day.0.1 hour.0.0 hour.0.1 hour.1).0 ∙ ap (λ (x : List ℕ). two hour.0.0 ++ x) t5 in
-    let t3 = (two_takes month.0.1 day.0.0 day.0.1 day.1).0 ∙ ap (λ (x : List ℕ). two day.0.0 ++ x) t4 in
-    let t2 = (two_takes near.0.1 month.0.0 month.0.1 month.1).0 ∙ ap (λ (x : List ℕ). two month.0.0 ++ x) t3 in
-    let t1 = next.0 ∙ ap (λ (x : List ℕ). two near.0.0 ++ x) t2 ∙ ap (λ (n : ℕ). two n ++ (two month.0.0 ++ (two day.0.0 ++ (two hour.0.0 ++ (two minute.0.0 ++ (two second.0.0 ++ [])))))) (sym last) in
-    let t0 = front.0 ∙ ap (λ (x : List ℕ). two century.0.0 ++ x) t1 ∙ ap (λ (n : ℕ). two n ++ (two (year % 100) ++ (two month.0.0 ++ (two day.0.0 ++ (two hour.0.0 ++ (two minute.0.0 ++ (two second.0.0 ++ []))))))) (sym first) in
-    subst (λ (n : Moment). IsMoment n × (text ≡ fourteen_digits n)) end.1 (moment_exists (found second.0.0) tests.1, t0)
+    let (exists, is) = generalized_takes (text ++ z) m (sym (without_z text) ∙ e) in
+    (exists, append_cancel_right text (fourteen_digits m) z is)
 
-pub moment_again : (m : Moment) → IsMoment m → moment_at (fourteen_digits m) ≡ Some m
-unfolding moment_at
-moment_again m h =
-    let none : bytes_eq [] [] ≡ true = refl in
-    let day : m.day < 100 = omega (arith, h.day, days m.year m.month) in
-    let whole : m.year / 100 * 100 + m.year % 100 ≡ m.year = omega arith in
-    rw (two_again (m.year / 100) _ (omega (arith, h.year)), two_again (m.year % 100) _ (omega arith), whole, two_again m.month _ (omega (arith, h.month)), two_again m.day _ day, two_again m.hour _ (omega (arith, h.hour)), two_again m.minute _ (omega (arith, h.minute)), two_again m.second _ (omega (arith, h.second)), exists_moment m h) refl
+moment_again : (m : Moment) → IsMoment m → moment_at (fourteen_digits m) ≡ Some m
+moment_again m exists = without_z (fourteen_digits m) ∙ generalized_again m (fourteen_digits m ++ z) (exists, refl)
 
 -- ---- what the code finds
 

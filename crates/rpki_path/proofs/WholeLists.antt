@@ -2,6 +2,7 @@
 use Rattle.std.specs.Prelude.{IsErr}
 use Rattle.std.proofs.Common.{◌≡◌, List, [], Result, Ok, Err, sym, ℕ}
 use Rattle.std.proofs.lemmas.List.{append-nil}
+use Rattle.rpki_der.specs.Tags.{SEQUENCE}
 use Rattle.rpki_der.specs.declared.error.DecodeError.{DecodeError}
 use Rattle.rpki_der.specs.Place.{Refuses, MeansOrMemory}
 use Rattle.rpki_der.specs.Spelling.{BeginsOrAbsent}
@@ -9,7 +10,7 @@ use Rattle.rpki_der.proofs.Answering.{refuses, certainly}
 use Rattle.rpki_crl.specs.RevokedEntries.{IsRevokedCertificates, Revoked}
 
 abbrev Begins : List ℕ → Revoked → List ℕ → Type 0
-Begins = BeginsOrAbsent 0x30 IsRevokedCertificates
+Begins = BeginsOrAbsent SEQUENCE IsRevokedCertificates
 
 whole_begins : (octets : List ℕ) (r : Revoked) → IsRevokedCertificates r octets → Begins octets r []
 whole_begins octets r is = record { text = octets; spelled = is; parts = sym (append-nil octets); absent = λ none. rw none tt }

@@ -51,7 +51,7 @@ pub data InputLine : Type 0 where
   at_moment : Moment → InputLine
   strictness : Bool → InputLine
   anchor authority : List ℕ → InputLine
-  last : Leaf → InputLine
+  end_entity : Leaf → InputLine
 
 -- the line tells it
 abbrev pub IsLine : InputLine → List ℕ → Type 0
@@ -61,5 +61,5 @@ IsLine (strictness true) line = line ≡ codes "strict"
 IsLine (strictness false) line = line ≡ codes "lenient"
 IsLine (anchor octets) line = IsOctetsLine (codes "ta ") octets line
 IsLine (authority octets) line = IsOctetsLine (codes "ca ") octets line
-IsLine (last (Ee octets)) line = IsOctetsLine (codes "ee ") octets line
-IsLine (last (DetachedEe octets)) line = IsOctetsLine (codes "detached ") octets line
+IsLine (end_entity (Ee octets)) line = IsOctetsLine (codes "ee ") octets line
+IsLine (end_entity (DetachedEe octets)) line = IsOctetsLine (codes "detached ") octets line

@@ -1,4 +1,5 @@
--- Good paths: what they are, and which numbers their members hold (RFC 6487 7.2, RFC 8360 4.2.4.4).
+-- Good paths: what they are, and which numbers their members hold (RFC 6487 7.2, RFC 8360 4.2.4.4; own: revocation and the chaining of names
+-- are the caller's to ask).
 use Rattle.std.specs.Prelude.{◌≡◌, ◌≢◌, ◌↔◌, ◌⊎◌, ◌+◌, ◌-◌, ◌^◌, ◌<◌, ◌≤◌, ℕ, Bool, List, [], ◌∷◌, ◌++◌, length, map, slice_index_or, Option, Some, None, Result, Ok, Err}
 use Rattle.std.specs.List.{AllByRecursion, AllZip}
 use Rattle.rpki_der.specs.Times.{Moment}
@@ -58,10 +59,14 @@ Lists c k n = IsListed n (kind_resources k c)
 abbrev pub Inherits : CertFields → NumberKind → Type 0
 Inherits c k = kind_resources k c ≡ inherit
 
+-- lists n or inherits
+abbrev pub PassesOn : CertFields → NumberKind → ℕ → Type 0
+PassesOn c k n = Lists c k n ⊎ Inherits c k
+
 -- the anchor lists n, and every later member down to place i lists n or inherits
 pub record Holds (p : Path) (i : ℕ) (k : NumberKind) (n : ℕ) : Type 0 where
   pub listed : Lists p.anchor k n
-  pub passed_on : (j : ℕ) → 1 ≤ j → j ≤ i → Lists (certificate_at p j) k n ⊎ Inherits (certificate_at p j) k
+  pub passed_on : (j : ℕ) → 1 ≤ j → j ≤ i → PassesOn (certificate_at p j) k n
 
 -- the numbers that the member at place i holds
 abbrev pub HeldAt : Path → ℕ → Held
@@ -179,4 +184,5 @@ greatest_number system_numbers = 2 ^ 32 - 1
 pub record PassesMore (p q : Path) : Type 0 where
   pub same_length : last p ≡ last q
   pub anchor_lists : (k : NumberKind) (n : ℕ) → n ≤ greatest_number k → Lists p.anchor k n → Lists q.anchor k n
-  pub later_pass : (j : ℕ) → 1 ≤ j → j ≤ last p → (k : NumberKind) (n : ℕ) → n ≤ greatest_number k → Lists (certificate_at p j) k n ⊎ Inherits (certificate_at p j) k → Lists (certificate_at q j) k n ⊎ Inherits (certificate_at q j) k
+  pub later_pass : (j : ℕ) → 1 ≤ j → j ≤ last p → (k : NumberKind) (n : ℕ) → n ≤ greatest_number k
+      → PassesOn (certificate_at p j) k n → PassesOn (certificate_at q j) k n

@@ -13,7 +13,7 @@ use Rattle.rpki_path.specs.declared.path_fault.PathFault.TheVariants.{Decode, In
 use Rattle.rpki_path.specs.declared.running.Status.{Status}
 use Rattle.rpki_path.specs.declared.running.Status.TheVariants.{Done, Refused, BadInput}
 use Rattle.rpki_path.specs.declared.validating.Leaf.{Leaf}
-use Rattle.rpki_path.specs.InputLines.{InputLine, seeks, at_moment, strictness, anchor, authority, last, IsLine}
+use Rattle.rpki_path.specs.InputLines.{InputLine, seeks, at_moment, strictness, anchor, authority, end_entity, IsLine}
 use Rattle.rpki_path.specs.Paths.{Path, Holds, v4_addresses, v6_addresses, system_numbers, asked, Asked, IsPathOf, IsGoodPath, IsNoGoodPath, IsFault}
 use Rattle.rpki_path.specs.Paths as paths
 use Rattle.rpki_path.specs.PrintedSets.{v4_end, v6_end, IsSetLine}
@@ -36,7 +36,7 @@ pub data Question : Type 0 where
 
 abbrev pub leaf_lines : Option Leaf → List InputLine
 leaf_lines None = []
-leaf_lines (Some leaf) = last leaf ∷ []
+leaf_lines (Some leaf) = end_entity leaf ∷ []
 
 -- what the lines of an input tell
 abbrev pub lines_of : Question → List InputLine
@@ -161,3 +161,7 @@ pub record HasAnswered (given left held holds : Option (List ℕ)) (status : Sta
   pub short : length input ≤ 2 ^ 24
   pub says : Says input output status
   pub is_written : Appends held holds output
+
+-- with this status a run has ended that began with what the reader gave and what the writer held
+abbrev pub HasEnded : Option (List ℕ) → Option (List ℕ) → Status → Type 0
+HasEnded given held status = (left : Option (List ℕ)) × (holds : Option (List ℕ)) × HasAnswered given left held holds status

@@ -9,7 +9,7 @@ use Rattle.rpki_path.specs.declared.path_lines.Member.{Member}
 use Rattle.rpki_path.specs.declared.path_lines.Member.TheVariants.{Authority, Last}
 use Rattle.rpki_path.specs.declared.input.Input.{Input}
 use Rattle.rpki_path.specs.declared.input.Input.TheVariants.{Revoked, Path, Bad}
-use Rattle.rpki_path.specs.InputLines.{InputLine, authority, last}
+use Rattle.rpki_path.specs.InputLines.{InputLine, authority, end_entity}
 use Rattle.rpki_path.specs.TextLines.{line_end, IsWithout, AreLines}
 use Rattle.rpki_path.specs.Program.{Question, is_revoked, is_good_path, Ask, IsBadLine}
 use Rattle.rpki_path.specs.Program as program
@@ -36,7 +36,7 @@ moment_at text = do
 -- what the line of a member below the anchor tells
 abbrev pub member_line : Member → InputLine
 member_line (Authority octets) = authority octets
-member_line (Last leaf) = last leaf
+member_line (Last leaf) = end_entity leaf
 
 abbrev pub revoked_question : RevokedQuestion → Question
 revoked_question q = is_revoked q.list q.serial

@@ -1,4 +1,4 @@
-//! Answers about the resource certificates of the RPKI, from octets read to octets written.
+//! Whole paths, and the program.
 #![tactic(auto)]
 
 mod exiting;

@@ -101,8 +101,8 @@ pub fn run<R: Read, W: Write>(
         → IfSome (R.remaining (device reader.old)) (λ octets. 2 ^ 24 < length octets) }
 
     // What is left alone.
-    ensures unwritten { IsErrOf result RunFault.Read ⊎ IsErrOf result RunFault.TooLong
-        → writer.new ≡ writer.old }
+    ensures unwritten { IsErr result
+        → IsErrOf result RunFault.Write ⊎ (writer.new ≡ writer.old) }
     ensures taken { TakesAtMost (2 ^ 24 + 1)
         (R.remaining (device reader.old)) (R.remaining (device reader.new)) }
 {

@@ -1,4 +1,4 @@
-//! Whole paths: from an anchor down to the last member (RFC 6487 7.2).
+//! Whole paths: from an anchor down to the last member (RFC 6487 7.2; own: revocation and the chaining of names are the caller's to ask).
 ghost use Rattle.std.specs.Prelude.{◌≡◌, Ok, Err, IfOk, OnOk, IfErr, map};
 ghost use Rattle.std.proofs.Common.{rc_value};
 ghost use Rattle.rpki_cert.specs.Profiles.{MeetsProfile, IsFirstFault};
@@ -217,6 +217,9 @@ fn validate_members<V: Verifier>(
 /// the next: the anchor at this moment and by its own key, each later one under the member above it (RFC 6487 7.2). The answer is the last
 /// member, with the numbers that the anchor lists and every later member lists or inherits, and with the locator. Errs with the place of the
 /// first member that is wrong, and what is wrong with it.
+///
+/// Not asked (own): whether a member is on its issuer's revocation list (`Crl::contains`), and whether names chain. `strict` affects only
+/// which string types may stand in names. The leaf is consumed.
 pub fn validate_path<V: Verifier>(
     alloc: Global,
     anchor: &Bytes,

@@ -1,4 +1,4 @@
-//! Answers the question on standard input by a line on standard output.
+//! Answers the question on standard input by lines on standard output: one of a list, several of a path.
 #![tactic(auto)]
 
 use rpki_path::program;

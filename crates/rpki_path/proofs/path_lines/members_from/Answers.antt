@@ -1,6 +1,6 @@
 use Rattle.std.specs.List.{AllZip}
 use Rattle.std.proofs.Common.{◌≡◌, ◌∷◌, ◌++◌, [], ℕ, List, Some, None, length, map, refl, sym, subst, rules}
-use Rattle.rpki_path.specs.InputLines.{IsLine, authority, last}
+use Rattle.rpki_path.specs.InputLines.{IsLine, authority, end_entity}
 use Rattle.rpki_path.specs.declared.path_lines.Member.TheVariants.{Authority, Last}
 use Rattle.rpki_path.proofs.InputLines.{none_left, some_left}
 use Rattle.rpki_path.proofs.MemberLines.{Heads, authority_more, authority_spelled, bad_member, ended, ended_by_leaf, line_after_leaf}
@@ -28,7 +28,7 @@ returns-then-not-is_empty c = λ before is.
     let leaf = c.in-Some-Last.leaf in
     let line = c.in-Some.line.now in
     let found : c.in_ok-octets.field-0 ≡ Some (Last leaf) = search rules in
-    let tells : IsLine (last leaf) line = rw found at c.in_ok-octets.ensures.some in
+    let tells : IsLine (end_entity leaf) line = rw found at c.in_ok-octets.ensures.some in
     let many : c.len.result ≡ length c.loop-line.cas.items = search rules in
     rw many
     (line_after_leaf c.args.now c.args.strict c.args.anchor before is c.loop-line.cas.items so_far.lines so_far.spelled c.args.text.now c.loop-line.rest.now so_far.so_far leaf line c.in-Some.others.now c.in-Some.ensures.line tells
@@ -40,7 +40,7 @@ returns-in-Some-Last c = λ before is.
     let leaf = c.in-Some-Last.leaf in
     let line = c.in-Some.line.now in
     let found : c.in_ok-octets.field-0 ≡ Some (Last leaf) = search rules in
-    let tells : IsLine (last leaf) line = rw found at c.in_ok-octets.ensures.some in
+    let tells : IsLine (end_entity leaf) line = rw found at c.in_ok-octets.ensures.some in
     let heads = subst (λ (anchor : List ℕ). Heads c.args.now c.args.strict anchor before) (sym so_far.kept) is in
     ended_by_leaf c.args.now c.args.strict c.loop-line.anchor before heads c.loop-line.cas.items so_far.lines so_far.spelled c.args.text.now c.loop-line.rest.now so_far.so_far leaf line c.in-Some.others.now c.in-Some.ensures.line tells
     (record { now = c.args.now; strict = c.args.strict; anchor = c.loop-line.anchor; cas = c.loop-line.cas; leaf = Some leaf }) refl
