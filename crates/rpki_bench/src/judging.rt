@@ -37,11 +37,6 @@ pub(crate) fn went_well<T: Drop, E: Drop>(answer: Result<T, E>) -> bool {
     answer.is_ok()
 }
 
-// An answer, once the value is let go.
-fn without<T: Drop>(_value: T, answer: u32) -> u32 {
-    answer
-}
-
 // Reads the certificate, and where it is asked validates it too.
 fn step(alloc: Global, octets: &Bytes, issuer: Option<&ResourceCert>, now: Time) -> bool {
     let shared: Result<Bytes, AllocError> = octets.clone();
@@ -99,13 +94,10 @@ fn judged(
 ) -> Option<u32> {
     let now = Time::utc(2030, 1, 1, 0, 0, 0)?;
     let octets = Bytes::copy_from_slice(alloc, octets).ok()?;
-    match anchor(alloc, anchor_octets, now) {
-        Some(issuer) => {
-            let went = rounds_under(alloc, &octets, &issuer, validates, now, rounds);
-            Some(without(issuer, went))
-        }
-        None => None,
-    }
+    let issuer = anchor(alloc, anchor_octets, now)?;
+    let went = rounds_under(alloc, &octets, &issuer, validates, now, rounds);
+    drop(issuer);
+    Some(went)
 }
 
 /// Reads the certificate so many times, and where `validates` isn't 0 validates it each time under the anchor, at the beginning of 2030,

@@ -1,4 +1,4 @@
-//! Asks a path of certificates about an AS number, by the crate `rpki` alone.
+//! Asks a path of certificates about an AS number, through the crate `rpki`.
 #![tactic(auto)]
 
 ghost use Rattle.rpki_example.specs.Answers.{TellsHeld};

@@ -9,7 +9,7 @@ use rpki_ext::InspectionError;
 use rpki_parts::{
     BadUri, InvalidName, SignatureVerificationError, SigningError, UriError, ValidityError,
 };
-use rpki_path::RunFault;
+use rpki_path::{PathError, PathFault, RunFault};
 use std::alloc::{AllocError, Global};
 use std::process::Abort;
 
@@ -275,15 +275,50 @@ fn of_issuing(rt: HostRuntime) {
     let reading = IssueCaError::Decode(DecodeError::Memory);
     let validity = IssueCaError::Validation(ValidationError::from(InspectionError::Issuer));
     assert_unissued(&rt, alloc, &signing, "Signing", "certificate not signed");
-    assert_unissued(&rt, alloc, &capture, "Encode", "certificate not captured");
-    assert_unissued(&rt, alloc, &reading, "Decode", "certificate not read again");
-    assert_unissued(
+    let text = "certificate not captured: out of memory";
+    assert_unissued(&rt, alloc, &capture, "Encode", text);
+    let text = "certificate not read again: out of memory";
+    assert_unissued(&rt, alloc, &reading, "Decode", text);
+    let text = "issued certificate not valid: invalid issuer";
+    assert_unissued(&rt, alloc, &validity, "Validation", text);
+}
+
+fn assert_wrong(rt: &impl Abort, alloc: Global, fault: PathFault, name: &str, text: &str) {
+    assert_eq!(rt; fault.name(), name);
+    let error = PathError { index: 2, fault };
+    assert_eq!(rt; error.name(), "PathError");
+    assert_shown(rt, format!(in alloc; "{error}"), text);
+}
+
+#[test]
+fn of_paths(rt: HostRuntime) {
+    let alloc = rt.alloc();
+    let reading = PathFault::from(DecodeError::BadTag);
+    assert_wrong(
         &rt,
         alloc,
-        &validity,
-        "Validation",
-        "issued certificate not valid",
+        reading,
+        "Decode",
+        "certificate 2: unexpected identifier",
     );
+    let profile = PathFault::from(InspectionError::Issuer);
+    assert_wrong(
+        &rt,
+        alloc,
+        profile,
+        "Inspect",
+        "certificate 2: invalid issuer",
+    );
+    let line = PathFault::from(VerificationError::Expired);
+    assert_wrong(
+        &rt,
+        alloc,
+        line,
+        "Verify",
+        "certificate 2: certificate expired",
+    );
+    let memory = PathFault::from(DecodeError::Memory);
+    assert_wrong(&rt, alloc, memory, "Memory", "certificate 2: out of memory");
 }
 
 fn assert_invalid(rt: &impl Abort, alloc: Global, invalid: InvalidExtension) {

@@ -1,13 +1,14 @@
 //! Authorities are issued under an anchor, and lists are verified under it.
 
 use crate::samples::{self, day, rsa};
+use crate::signers::{Refusal, Refusing};
 use rpki_blocks::{AsBlock, Asn};
 use rpki_cert::{
     Cert, IssueCaError, KeyUsage, Overclaim, ResourceCert, TbsCert, ValidationError,
     VerificationError, issue_ca,
 };
 use rpki_crl::{Crl, CrlEntry, TbsCertList};
-use rpki_parts::{RpkiSignatureAlgorithm, Signature, Signer, SigningError, StandIn, TalInfo};
+use rpki_parts::{SigningError, StandIn, TalInfo};
 use std::alloc::Global;
 use std::process::Abort;
 
@@ -117,30 +118,6 @@ fn another_key_does_not_issue(rt: HostRuntime) {
     drop(anchor);
 }
 
-// Refuses each time, with the key.
-#[derive(Drop)]
-struct Refusing;
-
-impl Signer for Refusing {
-    ghost use Rattle.std.specs.Prelude.{⊤};
-
-    type KeyId = u32;
-
-    type Error = u32;
-
-    ghost signs = { λ _ _ _ _ _. ⊤ };
-
-    fn sign(
-        &self,
-        _alloc: Global,
-        key: &u32,
-        _algorithm: RpkiSignatureAlgorithm,
-        _message: &[u8],
-    ) -> Result<Signature, SigningError<u32>> {
-        Err(SigningError::Signer(*key))
-    }
-}
-
 // What a refusing signer refused with; 0 for anything else.
 fn refused_with(answer: &Result<ResourceCert, IssueCaError<u32>>) -> u32 {
     match answer {
@@ -152,9 +129,11 @@ fn refused_with(answer: &Result<ResourceCert, IssueCaError<u32>>) -> u32 {
 fn refused(rt: &impl Abort, alloc: Global, issuer: &ResourceCert) -> u32 {
     let tbs = authority(rt, alloc, Overclaim::Trim);
     let now = day(rt, 2024);
-    let answer = issue_ca(alloc, tbs, &Refusing, &7, issuer, true, now, &StandIn);
+    let signer = Refusing::new(Refusal::Own);
+    let answer = issue_ca(alloc, tbs, &signer, &7, issuer, true, now, &StandIn);
     let key = refused_with(&answer);
     drop(answer);
+    assert_eq!(rt; signer.calls(), 1);
     key
 }
 

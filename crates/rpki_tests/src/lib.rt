@@ -34,6 +34,8 @@ mod sets;
 #[cfg(test)]
 mod shared;
 #[cfg(test)]
+mod signers;
+#[cfg(test)]
 mod signing;
 #[cfg(test)]
 mod uris;

@@ -24,6 +24,8 @@ fn router() -> PublicKey {
 
 fn assert_router(rt: &impl Abort, router: &PublicKey, other: &PublicKey) {
     assert!(rt; router.allow_router_cert() && !router.allow_rpki_cert());
+    assert_eq!(rt; router.algorithm(), PublicKeyFormat::EcdsaP256);
+    assert_eq!(rt; other.algorithm(), PublicKeyFormat::Rsa);
     assert!(rt; router.key_identifier() == other.key_identifier());
 }
 

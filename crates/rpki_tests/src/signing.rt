@@ -1,6 +1,7 @@
 //! Certificates are signed, by the stand-in and by signers of a caller's own.
 
 use crate::samples;
+use crate::signers::{Refusal, Refusing};
 use bytes::Bytes;
 use rpki_cert::{Cert, TbsCert, round_trip};
 use rpki_parts::{RpkiSignatureAlgorithm, Signature, Signer, SigningError, StandIn};
@@ -27,46 +28,6 @@ fn a_router_is_made(rt: HostRuntime) {
     samples::assert_hash(&rt, rt.alloc(), &router, samples::ROUTER);
 }
 
-// What this signer refuses with.
-#[derive(Clone, Copy)]
-enum Refusal {
-    Own,
-    TooLong,
-    Memory,
-}
-
-// Refuses each time, and counts.
-#[derive(Drop)]
-struct Refusing {
-    refusal: Refusal,
-    calls: Cell<usize>,
-}
-
-impl Signer for Refusing {
-    ghost use Rattle.std.specs.Prelude.{⊤};
-
-    type KeyId = u32;
-
-    type Error = u32;
-
-    ghost signs = { λ _ _ _ _ _. ⊤ };
-
-    fn sign(
-        &self,
-        _alloc: Global,
-        key: &u32,
-        _algorithm: RpkiSignatureAlgorithm,
-        _message: &[u8],
-    ) -> Result<Signature, SigningError<u32>> {
-        self.calls.set(self.calls.get().wrapping_add(1));
-        match self.refusal {
-            Refusal::Own => Err(SigningError::Signer(*key)),
-            Refusal::TooLong => Err(SigningError::TooLong),
-            Refusal::Memory => Err(SigningError::Memory),
-        }
-    }
-}
-
 // What the refused call answered; 0 for a certificate.
 fn answered(made: Result<Cert, SigningError<u32>>) -> (u32, &'static str) {
     match made {
@@ -80,15 +41,12 @@ fn answered(made: Result<Cert, SigningError<u32>>) -> (u32, &'static str) {
 }
 
 fn assert_refused(rt: &impl Abort, alloc: Global, refusal: Refusal, answer: (u32, &'static str)) {
-    let signer = Refusing {
-        refusal,
-        calls: Cell::new(0),
-    };
+    let signer = Refusing::new(refusal);
     let made = samples::anchor(rt, alloc).into_cert(alloc, &signer, &7);
     let (key, name) = answered(made);
     assert_eq!(rt; key, answer.0);
     assert_eq!(rt; name, answer.1);
-    assert_eq!(rt; signer.calls.get(), 1);
+    assert_eq!(rt; signer.calls(), 1);
 }
 
 #[test]

@@ -61,6 +61,15 @@ fn numbers_and_times(rt: HostRuntime) {
 }
 
 #[test]
+fn parts_of_numbers_and_times(rt: HostRuntime) {
+    let time = Time::utc(2024, 2, 29, 23, 58, 57).expect(&rt, "a time");
+    assert_eq!(rt; (time.year(), time.month(), time.day()), (2024, 2, 29));
+    assert_eq!(rt; (time.hour(), time.minute(), time.second()), (23, 58, 57));
+    let octets = Serial::from(0x0102u64).octets();
+    assert_eq!(rt; &octets[17..], b"\x00\x01\x02".as_slice());
+}
+
+#[test]
 fn flags_of_certificates(rt: HostRuntime) {
     let mut out = Vec::new(rt.alloc());
     encode_basic_constraints(rt.alloc(), &mut out, true).expect(&rt, "memory");
