@@ -12,6 +12,7 @@ ghost use Rattle.rpki_der.specs.Spelling.{Means};
 ghost use Rattle.rpki_cert.specs.Certificates.{IsCertificateContent, IsCertificate};
 ghost use Rattle.rpki_cert.specs.Certificates.Reading.{cert_content_at, cert_at};
 
+use crate::beside::beside;
 use crate::tbs::TbsCert;
 use bytes::Bytes;
 use rpki_der::{Cursor, DecodeError, EncodeError, tag};
@@ -45,7 +46,8 @@ impl Cert {
     {
         let mut ahead = content.fork();
         let signed_data = SignedData::from_constructed(alloc, &mut ahead)?;
-        let tbs = TbsCert::read(alloc, &mut content.fork())?;
+        let tbs = TbsCert::read(alloc, &mut content.fork());
+        let (signed_data, tbs) = beside(signed_data, tbs)?;
         *content = ahead;
         Ok(Cert { tbs, signed_data })
     }
@@ -61,6 +63,7 @@ impl Cert {
         let mut content = ahead.take_sequence()?;
         let cert = Cert::read_content(alloc, &mut content)?;
         if !content.is_empty() {
+            drop(cert);
             return Err(DecodeError::Trailing);
         }
         *cursor = ahead;
@@ -154,7 +157,7 @@ impl Cert {
         ensures { IfOk result (λ c. c ≡ self.now) }
     {
         let signed_data = self.signed_data.try_clone(alloc)?;
-        let tbs = self.tbs.try_clone(alloc)?;
+        let (signed_data, tbs) = beside(signed_data, self.tbs.try_clone(alloc))?;
         Ok(Cert { tbs, signed_data })
     }
 }

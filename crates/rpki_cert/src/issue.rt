@@ -92,7 +92,9 @@ fn make_and_read<S: Signer>(
         Ok(made) => {
             // Called for what it ensures alone.
             let _signature = made.signed_data().signature().value();
-            read_again(alloc, &made)
+            let cert = read_again(alloc, &made);
+            drop(made);
+            cert
         }
         Err(refusal) => Err(IssueCaError::Signing(refusal)),
     }

@@ -1,6 +1,7 @@
 //! Resource certificates (RFC 6487).
 #![tactic(auto)]
 
+mod beside;
 mod cert;
 mod fields;
 mod inspect;

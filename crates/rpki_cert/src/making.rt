@@ -8,6 +8,7 @@ ghost use Rattle.rpki_parts.specs.Signing.{IsRefusal};
 ghost use Rattle.rpki_cert.specs.Making.{new_fields};
 ghost use Rattle.rpki_cert.specs.Certificates.{Fits, tbs_content, spelling};
 
+use crate::beside::beside;
 use crate::cert::Cert;
 use crate::tbs::TbsCert;
 use bytes::Bytes;
@@ -106,12 +107,8 @@ impl TbsCert {
         ensures refused { IfErr result (IsRefusal (tbs_content self)
             (S.signs signer.now key.now self.algorithm (spelling self))) }
     {
-        match self.sign(alloc, signer, key) {
-            Ok(signed_data) => Ok(Cert {
-                tbs: self,
-                signed_data,
-            }),
-            Err(refusal) => Err(refusal),
-        }
+        let signed = self.sign(alloc, signer, key);
+        let (tbs, signed_data) = beside(self, signed)?;
+        Ok(Cert { tbs, signed_data })
     }
 }

@@ -2,8 +2,9 @@
 ghost use Rattle.std.specs.Prelude.{◌≡◌, IfOk};
 ghost use Rattle.std.proofs.Common.{rc_value};
 
+use crate::beside::beside;
 use crate::cert::Cert;
-use crate::verify_owned::{Kept, beside, joined};
+use crate::verify_owned::{Kept, joined};
 use rpki_blocks::{AsBlocks, IpBlocks};
 use rpki_parts::TalInfo;
 use std::alloc::{AllocError, Global};
@@ -24,8 +25,8 @@ impl Sets {
         ensures { IfOk result (λ s. s ≡ self.now) }
     {
         let v4 = self.v4.try_clone(alloc)?;
-        let v6 = self.v6.try_clone(alloc)?;
-        let as_numbers = self.as_numbers.try_clone(alloc)?;
+        let addresses = beside(v4, self.v6.try_clone(alloc))?;
+        let ((v4, v6), as_numbers) = beside(addresses, self.as_numbers.try_clone(alloc))?;
         Ok(Sets { v4, v6, as_numbers })
     }
 }
@@ -107,7 +108,7 @@ impl ResourceCert {
         ensures tal { IfOk result (λ k. rc_value k.tal ≡ self.now.tal) }
     {
         let sets = self.sets.try_clone(alloc)?;
-        let tal = self.tal.clone()?;
+        let (sets, tal) = beside(sets, self.tal.clone())?;
         Ok(Kept { sets, tal })
     }
 

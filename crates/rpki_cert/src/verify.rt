@@ -9,6 +9,7 @@ ghost use Rattle.rpki_cert.specs.Verification.{TimeLine, ClaimLine, OwnLine, Hel
 ghost use Rattle.rpki_cert.specs.Verification.{validity_lines, claim_lines, own_lines, held_lines, basis_lines, anchor_lines, router_lines};
 ghost use Rattle.rpki_cert.specs.declared.verification_error.VerificationError.TheVariants.{Memory};
 
+use crate::beside::beside;
 use crate::cert::Cert;
 use crate::resource_cert::{ResourceCert, Sets};
 use crate::verification_error::VerificationError;
@@ -70,8 +71,8 @@ impl Cert {
     {
         let tbs = self.as_tbs();
         let v4 = listed(alloc, tbs.v4_resources())?;
-        let v6 = listed(alloc, tbs.v6_resources())?;
-        let as_numbers = listed(alloc, tbs.as_resources())?;
+        let addresses = beside(v4, listed(alloc, tbs.v6_resources()))?;
+        let ((v4, v6), as_numbers) = beside(addresses, listed(alloc, tbs.as_resources()))?;
         Ok(Sets { v4, v6, as_numbers })
     }
 
@@ -107,14 +108,16 @@ impl Cert {
             tbs.v6_resources(),
             mode,
             VerificationError::OverclaimV6,
-        )?;
+        );
+        let addresses = beside(v4, v6)?;
         let as_numbers = issued(
             alloc,
             issuer.as_resources(),
             tbs.as_resources(),
             mode,
             VerificationError::OverclaimAs,
-        )?;
+        );
+        let ((v4, v6), as_numbers) = beside(addresses, as_numbers)?;
         Ok(Sets { v4, v6, as_numbers })
     }
 

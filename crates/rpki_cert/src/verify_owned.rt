@@ -1,9 +1,10 @@
 //! Certificates that are verified become resource certificates (RFC 6487 7.2).
-ghost use Rattle.std.specs.Prelude.{◌≡◌, Ok, Err, OnOk, IfOk, IfErr};
+ghost use Rattle.std.specs.Prelude.{◌≡◌, OnOk, IfOk, IfErr};
 ghost use Rattle.std.proofs.Common.{rc_value};
 ghost use Rattle.rpki_blocks.specs.IssuedSets.{IsIssued};
 ghost use Rattle.rpki_cert.specs.Verification.{LineUnder, AnchorLine, IsVerified, IsFirstFalseOrMemory, ListsNumbers, HasListed, HasIssued, issued_lines, anchor_lines};
 
+use crate::beside::beside;
 use crate::cert::Cert;
 use crate::resource_cert::{ResourceCert, Sets};
 use crate::verification_error::VerificationError;
@@ -17,17 +18,6 @@ use std::rc::Rc;
 pub(crate) struct Kept {
     pub(crate) sets: Sets,
     pub(crate) tal: Rc<TalInfo>,
-}
-
-// A value beside what a test of it gave; without it where the test failed.
-pub(crate) fn beside<T: Drop, S, E>(value: T, tested: Result<S, E>) -> Result<(T, S), E>
-    ensures ok { IfOk result (λ r. (r.0 ≡ value) × (tested ≡ Ok r.1)) }
-    ensures refused { IfErr result (λ e. tested ≡ Err e) }
-{
-    match tested {
-        Ok(given) => Ok((value, given)),
-        Err(error) => Err(error),
-    }
 }
 
 // The two in one.
@@ -66,7 +56,7 @@ impl Cert {
     {
         self.verify_basis(issuer, strict, now, verifier)?;
         let sets = self.issued_sets(alloc, issuer)?;
-        let tal = issuer.tal().clone()?;
+        let (sets, tal) = beside(sets, issuer.tal().clone())?;
         Ok(Kept { sets, tal })
     }
 

@@ -147,8 +147,16 @@ fn of_path(alloc: Global, question: PathQuestion) -> Result<Report, AllocError>
     } = question;
     let tal = TalInfo::from_name(String::new(alloc)).into_rc(alloc)?;
     match validate_path(alloc, &anchor, &cas, leaf, tal, strict, now, &StandIn) {
-        Ok(cert) => accepted(alloc, &cert),
-        Err(error) => wrong(alloc, &error),
+        Ok(cert) => {
+            let report = accepted(alloc, &cert);
+            drop(cert);
+            report
+        }
+        Err(error) => {
+            let report = wrong(alloc, &error);
+            drop(error);
+            report
+        }
     }
 }
 
