@@ -12,10 +12,10 @@ ghost use Rattle.rpki_der.specs.Spelling.{Means};
 ghost use Rattle.rpki_cert.specs.Certificates.{IsCertificateContent, IsCertificate};
 ghost use Rattle.rpki_cert.specs.Certificates.Reading.{cert_content_at, cert_at};
 
-use crate::beside::beside;
 use crate::tbs::TbsCert;
 use bytes::Bytes;
 use rpki_der::{Cursor, DecodeError, EncodeError, tag};
+use rpki_ext::beside;
 use rpki_parts::SignedData;
 use std::alloc::{AllocError, Global};
 use std::marker::Model;

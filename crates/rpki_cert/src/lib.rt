@@ -1,7 +1,6 @@
 //! Resource certificates (RFC 6487).
 #![tactic(auto)]
 
-mod beside;
 mod cert;
 mod fields;
 mod inspect;

@@ -8,13 +8,12 @@ ghost use Rattle.rpki_parts.specs.Signing.{IsRefusal};
 ghost use Rattle.rpki_cert.specs.Making.{new_fields};
 ghost use Rattle.rpki_cert.specs.Certificates.{Fits, tbs_content, spelling};
 
-use crate::beside::beside;
 use crate::cert::Cert;
 use crate::tbs::TbsCert;
 use bytes::Bytes;
 use rpki_blocks::Overclaim;
 use rpki_der::{EncodeError, Serial};
-use rpki_ext::{Extensions, KeyUsage};
+use rpki_ext::{Extensions, KeyUsage, beside};
 use rpki_parts::{
     Name, PublicKey, RpkiSignatureAlgorithm, SignedData, Signer, SigningError, Validity,
 };

@@ -2,10 +2,10 @@
 ghost use Rattle.std.specs.Prelude.{◌≡◌, IfOk};
 ghost use Rattle.std.proofs.Common.{rc_value};
 
-use crate::beside::beside;
 use crate::cert::Cert;
 use crate::verify_owned::{Kept, joined};
 use rpki_blocks::{AsBlocks, IpBlocks};
+use rpki_ext::beside;
 use rpki_parts::TalInfo;
 use std::alloc::{AllocError, Global};
 use std::marker::Model;

@@ -8,13 +8,12 @@ ghost use Rattle.rpki_cert.specs.Verification.{LineUnder, AnchorLine, IsVerified
 ghost use Rattle.rpki_cert.specs.Validation.{IsInvalid};
 ghost use Rattle.rpki_cert.specs.declared.inspect.Kind.TheVariants.{Anchor, Authority, EndEntity, Detached, Router};
 
-use crate::beside::beside;
 use crate::cert::Cert;
 use crate::inspect::Kind;
 use crate::resource_cert::ResourceCert;
 use crate::validation_error::ValidationError;
 use rpki_der::Time;
-use rpki_ext::InspectionError;
+use rpki_ext::{InspectionError, beside};
 use rpki_parts::{TalInfo, Verifier};
 use std::alloc::Global;
 use std::rc::Rc;

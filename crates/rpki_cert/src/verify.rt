@@ -9,12 +9,12 @@ ghost use Rattle.rpki_cert.specs.Verification.{TimeLine, ClaimLine, OwnLine, Hel
 ghost use Rattle.rpki_cert.specs.Verification.{validity_lines, claim_lines, own_lines, held_lines, basis_lines, anchor_lines, router_lines};
 ghost use Rattle.rpki_cert.specs.declared.verification_error.VerificationError.TheVariants.{Memory};
 
-use crate::beside::beside;
 use crate::cert::Cert;
 use crate::resource_cert::{ResourceCert, Sets};
 use crate::verification_error::VerificationError;
 use rpki_blocks::{AsBlocks, Bound, Chain, IpBlocks, IssueError, Overclaim, Resources};
 use rpki_der::Time;
+use rpki_ext::beside;
 use rpki_parts::{SignatureVerificationError, Verifier};
 use std::alloc::{AllocError, Global};
 

@@ -4,11 +4,11 @@ ghost use Rattle.std.proofs.Common.{rc_value};
 ghost use Rattle.rpki_blocks.specs.IssuedSets.{IsIssued};
 ghost use Rattle.rpki_cert.specs.Verification.{LineUnder, AnchorLine, IsVerified, IsFirstFalseOrMemory, ListsNumbers, HasListed, HasIssued, issued_lines, anchor_lines};
 
-use crate::beside::beside;
 use crate::cert::Cert;
 use crate::resource_cert::{ResourceCert, Sets};
 use crate::verification_error::VerificationError;
 use rpki_der::Time;
+use rpki_ext::beside;
 use rpki_parts::{TalInfo, Verifier};
 use std::alloc::Global;
 use std::rc::Rc;

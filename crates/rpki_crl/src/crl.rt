@@ -18,6 +18,7 @@ use crate::table::SerialTable;
 use crate::tbs::TbsCertList;
 use bytes::Bytes;
 use rpki_der::{Cursor, DecodeError, EncodeError, Serial, tag};
+use rpki_ext::beside;
 use rpki_parts::SignedData;
 use std::alloc::{AllocError, Global};
 use std::marker::Model;
@@ -73,6 +74,8 @@ impl Crl {
         let signed_data = SignedData::from_constructed(alloc, &mut ahead)?;
         let list = TbsCertList::read(alloc, &mut content.fork())?;
         if list.signature() != *signed_data.signature().algorithm() {
+            drop(list);
+            drop(signed_data);
             return Err(DecodeError::AlgorithmMismatch);
         }
         *content = ahead;
@@ -95,6 +98,7 @@ impl Crl {
         let mut content = ahead.take_sequence()?;
         let crl = Crl::read_content(alloc, &mut content)?;
         if !content.is_empty() {
+            drop(crl);
             return Err(DecodeError::Trailing);
         }
         *cursor = ahead;
@@ -232,12 +236,13 @@ impl Crl {
     pub fn try_clone(&self, alloc: Global) -> Result<Crl, AllocError>
         ensures { IfOk result (λ c. c ≡ self.now) }
     {
-        let signed_data = self.signed_data.try_clone(alloc)?;
-        let list = self.list.try_clone(alloc)?;
         let cache = match &self.cache {
             Some(table) => Some(table.try_clone(alloc)?),
             None => None,
         };
+        let (cache, signed_data) = beside(cache, self.signed_data.try_clone(alloc))?;
+        let both = beside(signed_data, self.list.try_clone(alloc));
+        let (cache, (signed_data, list)) = beside(cache, both)?;
         Ok(Crl {
             list,
             signed_data,

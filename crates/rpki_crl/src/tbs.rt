@@ -15,6 +15,7 @@ ghost use Rattle.rpki_crl.specs.Lists.Lending.{LendsRevoked};
 use crate::extensions::Extensions;
 use crate::revoked::RevokedCertificates;
 use rpki_der::{Cursor, DecodeError, Serial, Time, tag};
+use rpki_ext::beside;
 use rpki_parts::{KeyIdentifier, Name, RpkiSignatureAlgorithm};
 use std::alloc::{AllocError, Global};
 use std::marker::Model;
@@ -98,10 +99,11 @@ fn take_in_order<'a>(
     take_version(&mut ahead)?;
     let signature = RpkiSignatureAlgorithm::x509_take_from(&mut ahead)?;
     let issuer = Name::take_from(alloc, &mut ahead)?;
-    let this_update = Time::take_from(&mut ahead)?;
-    let next_update = Time::take_from(&mut ahead)?;
-    let revoked_certs = RevokedCertificates::read(alloc, &mut ahead)?;
-    let row = take_row(&mut ahead)?;
+    let (issuer, this_update) = beside(issuer, Time::take_from(&mut ahead))?;
+    let (issuer, next_update) = beside(issuer, Time::take_from(&mut ahead))?;
+    let both = beside(issuer, RevokedCertificates::read(alloc, &mut ahead))?;
+    let (both, row) = beside(both, take_row(&mut ahead))?;
+    let (issuer, revoked_certs) = both;
     *cursor = ahead;
     let head = Head {
         signature,
@@ -126,6 +128,7 @@ fn take_fields<'a>(
     let mut content = ahead.take_sequence()?;
     let fields = take_in_order(alloc, &mut content)?;
     if !content.is_empty() {
+        drop(fields);
         return Err(DecodeError::Trailing);
     }
     *cursor = ahead;
@@ -145,7 +148,7 @@ impl TbsCertList<RevokedCertificates> {
     {
         let mut ahead = cursor.fork();
         let (head, row) = take_fields(alloc, &mut ahead)?;
-        let extensions = Extensions::from_row(alloc, &row)?;
+        let (head, extensions) = beside(head, Extensions::from_row(alloc, &row))?;
         *cursor = ahead;
         let Head {
             signature,

@@ -1,14 +1,17 @@
 -- A time that is read is the time that was written.
-use Rattle.std.specs.Prelude.{nat_lt, nat_le, ◌&&◌, bytes_eq}
+use Rattle.std.specs.Prelude.{nat_lt, nat_le, ◌&&◌, bytes_eq, Result, Ok, Err, IfSome, IfNone}
+use Rattle.std.specs.Result.{result_ok}
 use Rattle.std.proofs.Common.{◌≡◌, ℕ, ◌+◌, ◌-◌, ◌*◌, ◌/◌, ◌%◌, ◌<◌, ◌≤◌, true, cond, List, [], ◌∷◌, ◌++◌, Option, Some, refl, sym, ap, subst, ◌∙◌, arith, inl, inr}
 use Rattle.std.proofs.lemmas.Slice.Eq.{bytes_eq-Decides}
 use Rattle.std.proofs.lemmas.Bool.{leb-true, le-leb, lt-ltb, le-ltb, and_parts, and_from, cases_lt}
 use Rattle.rpki_der.specs.Reading.{content, Reads, ReadsWhole, Inside, BeginWith}
 use Rattle.rpki_der.specs.Values.Reading.{◌>>=◌}
 use Rattle.rpki_der.specs.Spelling.{BeginsOther}
-use Rattle.rpki_der.specs.Times.{Moment, IsMoment, IsTime, two, after_year}
+use Rattle.rpki_der.specs.Place.Reading.{Returns}
+use Rattle.rpki_der.specs.declared.error.DecodeError.{DecodeError}
+use Rattle.rpki_der.specs.Times.{Moment, IsMoment, IsTime, two, day_and_time, after_year, fourteen_digits}
 use Rattle.rpki_der.specs.Choices.{Either}
-use Rattle.rpki_der.specs.Times.Reading.{is_digit, two_at, existing, after_year_of, utc_of, generalized_of, time_at, is_moment}
+use Rattle.rpki_der.specs.Times.Reading.{is_digit, two_at, existing, after_year_of, utc_of, moment_at, generalized_of, time_at, is_moment}
 use Rattle.rpki_der.specs.Values.{enc}
 use Rattle.rpki_der.specs.Tags.{GENERALIZED_TIME, UTC_TIME}
 use Rattle.rpki_der.proofs.Choices.{choice_reads}
@@ -64,45 +67,45 @@ five_before month day hour minute second t0 t1 t2 t3 t4 t5 tail e1 e2 e3 e4 e5 e
     next_two t0 month t1 _ e1 (next_two t1 day t2 _ e2 (next_two t2 hour t3 _ e3 (next_two t3 minute t4 _ e4 (next_two t4 second t5 tail e5 end))))
 
 -- the steps after the year
-abbrev from_second : ℕ → ℕ → ℕ → ℕ → ℕ → List ℕ → Option Moment
-from_second year month day hour minute text = two_at text >>= λ s. existing s.1 (record { year = year; month = month; day = day; hour = hour; minute = minute; second = s.0 })
+abbrev from_second : List ℕ → ℕ → ℕ → ℕ → ℕ → ℕ → List ℕ → Option Moment
+from_second end year month day hour minute text = two_at text >>= λ s. existing end s.1 (record { year = year; month = month; day = day; hour = hour; minute = minute; second = s.0 })
 
-abbrev from_minute : ℕ → ℕ → ℕ → ℕ → List ℕ → Option Moment
-from_minute year month day hour text = two_at text >>= λ s. from_second year month day hour s.0 s.1
+abbrev from_minute : List ℕ → ℕ → ℕ → ℕ → ℕ → List ℕ → Option Moment
+from_minute end year month day hour text = two_at text >>= λ s. from_second end year month day hour s.0 s.1
 
-abbrev from_hour : ℕ → ℕ → ℕ → List ℕ → Option Moment
-from_hour year month day text = two_at text >>= λ s. from_minute year month day s.0 s.1
+abbrev from_hour : List ℕ → ℕ → ℕ → ℕ → List ℕ → Option Moment
+from_hour end year month day text = two_at text >>= λ s. from_minute end year month day s.0 s.1
 
-abbrev from_day : ℕ → ℕ → List ℕ → Option Moment
-from_day year month text = two_at text >>= λ s. from_hour year month s.0 s.1
+abbrev from_day : List ℕ → ℕ → ℕ → List ℕ → Option Moment
+from_day end year month text = two_at text >>= λ s. from_hour end year month s.0 s.1
 
--- the text after the year of a moment that exists
-record IsAfterYear (year : ℕ) (text : List ℕ) (m : Moment) : Type 0 where
+-- the text after the year of a moment that exists, and then the end
+record IsAfterYear (end : List ℕ) (year : ℕ) (text : List ℕ) (m : Moment) : Type 0 where
   exists : IsMoment m
   year_is : m.year ≡ year
-  text_is : text ≡ after_year m
+  text_is : text ≡ day_and_time m ++ end
 
-after_takes : (year : ℕ) (text : List ℕ) (m : Moment) → after_year_of year text ≡ Some m → IsAfterYear year text m
+after_takes : (end : List ℕ) (year : ℕ) (text : List ℕ) (m : Moment) → after_year_of end year text ≡ Some m → IsAfterYear end year text m
 unfolding after_year_of
-after_takes year text m e =
-    let month = bind_some (two_at text) (λ s. from_day year s.0 s.1) m e in
-    let day = bind_some (two_at month.0.1) (λ s. from_hour year month.0.0 s.0 s.1) m month.2 in
-    let hour = bind_some (two_at day.0.1) (λ s. from_minute year month.0.0 day.0.0 s.0 s.1) m day.2 in
-    let minute = bind_some (two_at hour.0.1) (λ s. from_second year month.0.0 day.0.0 hour.0.0 s.0 s.1) m hour.2 in
+after_takes end year text m e =
+    let month = bind_some (two_at text) (λ s. from_day end year s.0 s.1) m e in
+    let day = bind_some (two_at month.0.1) (λ s. from_hour end year month.0.0 s.0 s.1) m month.2 in
+    let hour = bind_some (two_at day.0.1) (λ s. from_minute end year month.0.0 day.0.0 s.0 s.1) m day.2 in
+    let minute = bind_some (two_at hour.0.1) (λ s. from_second end year month.0.0 day.0.0 hour.0.0 s.0 s.1) m hour.2 in
     let found : ℕ → Moment = λ s. record { year = year; month = month.0.0; day = day.0.0; hour = hour.0.0; minute = minute.0.0; second = s } in
-    let second = bind_some (two_at minute.0.1) (λ s. existing s.1 (found s.0)) m minute.2 in
-    let end = if_some (bytes_eq second.0.1 (90 ∷ []) && is_moment (found second.0.0)) (found second.0.0) m second.2 in
-    let tests = and_parts (bytes_eq second.0.1 (90 ∷ [])) (is_moment (found second.0.0)) end.0 in
-    let z : second.0.1 ≡ 90 ∷ [] = (bytes_eq-Decides second.0.1 (90 ∷ [])).0 tests.0 in
-    let all = five_before month.0.0 day.0.0 hour.0.0 minute.0.0 second.0.0 text month.0.1 day.0.1 hour.0.1 minute.0.1 second.0.1 (90 ∷ []) month.1 day.1 hour.1 minute.1 second.1 z in
-    subst (λ (n : Moment). IsAfterYear year text n) {x = found second.0.0} end.1 (record { exists = moment_exists (found second.0.0) tests.1; year_is = refl; text_is = all })
+    let second = bind_some (two_at minute.0.1) (λ s. existing end s.1 (found s.0)) m minute.2 in
+    let last = if_some (bytes_eq second.0.1 end && is_moment (found second.0.0)) (found second.0.0) m second.2 in
+    let tests = and_parts (bytes_eq second.0.1 end) (is_moment (found second.0.0)) last.0 in
+    let ends : second.0.1 ≡ end = (bytes_eq-Decides second.0.1 end).0 tests.0 in
+    let all = five_before month.0.0 day.0.0 hour.0.0 minute.0.0 second.0.0 text month.0.1 day.0.1 hour.0.1 minute.0.1 second.0.1 end month.1 day.1 hour.1 minute.1 second.1 ends in
+    subst (λ (n : Moment). IsAfterYear end year text n) {x = found second.0.0} last.1 (record { exists = moment_exists (found second.0.0) tests.1; year_is = refl; text_is = all })
 
-after_again : (m : Moment) → IsMoment m → after_year_of m.year (after_year m) ≡ Some m
+after_again : (end : List ℕ) (m : Moment) → IsMoment m → after_year_of end m.year (day_and_time m ++ end) ≡ Some m
 unfolding after_year_of
-after_again m h =
-    let z : bytes_eq (90 ∷ []) (90 ∷ []) ≡ true = refl in
+after_again end m h =
+    let ends : bytes_eq end end ≡ true = (bytes_eq-Decides end end).1 refl in
     let day : m.day < 100 = omega (arith, h.day, days m.year m.month) in
-    rw (two_again m.month _ (omega (arith, h.month)), two_again m.day _ day, two_again m.hour _ (omega (arith, h.hour)), two_again m.minute _ (omega (arith, h.minute)), two_again m.second _ (omega (arith, h.second)), exists_moment m h) refl
+    rw (two_again m.month _ (omega (arith, h.month)), two_again m.day _ day, two_again m.hour _ (omega (arith, h.hour)), two_again m.minute _ (omega (arith, h.minute)), two_again m.second _ (omega (arith, h.second)), ends, exists_moment m h) refl
 
 -- ---- whole contents
 
@@ -133,9 +136,9 @@ utc_whole : ReadsWhole utc_of IsUtcText
 unfolding utc_of
 utc_whole = record {
   takes = λ text m fits e.
-      let year = bind_some (two_at text) (λ s. after_year_of (century_of s.0) s.1) m e in
+      let year = bind_some (two_at text) (λ s. after_year_of (90 ∷ []) (century_of s.0) s.1) m e in
       let front = two_takes text year.0.0 year.0.1 year.1 in
-      let rest = after_takes (century_of year.0.0) year.0.1 m year.2 in
+      let rest = after_takes (90 ∷ []) (century_of year.0.0) year.0.1 m year.2 in
       let near = century_near year.0.0 front.1 in
       let last : m.year % 100 ≡ year.0.0 = omega (arith, near.2, rest.year_is) in
       record {
@@ -144,33 +147,53 @@ utc_whole = record {
         below = omega (arith, near.1, rest.year_is);
         text_is = two_before text year.0.0 (m.year % 100) year.0.1 (after_year m) front last rest.text_is;
       };
-  again = λ m text s. rw (s.text_is, two_again (m.year % 100) (after_year m) (omega arith), century_again m.year s.from s.below) (after_again m s.exists);
+  again = λ m text s. rw (s.text_is, two_again (m.year % 100) (after_year m) (omega arith), century_again m.year s.from s.below) (after_again (90 ∷ []) m s.exists);
 }
 
-abbrev pub IsGeneralizedText : Moment → List ℕ → Type 0
-IsGeneralizedText m text = IsMoment m × (text ≡ two (m.year / 100) ++ (two (m.year % 100) ++ after_year m))
+-- the digits of a moment that exists, and then the end
+abbrev IsMomentText : List ℕ → Moment → List ℕ → Type 0
+IsMomentText end m text = IsMoment m × (text ≡ fourteen_digits m ++ end)
 
-pub generalized_takes : (text : List ℕ) (m : Moment) → generalized_of text ≡ Some m → IsGeneralizedText m text
-unfolding generalized_of
-generalized_takes text m e =
-    let century = bind_some (two_at text) (λ c. two_at c.1 >>= λ s. after_year_of (c.0 * 100 + s.0) s.1) m e in
-    let year = bind_some (two_at century.0.1) (λ s. after_year_of (century.0.0 * 100 + s.0) s.1) m century.2 in
+moment_takes : (end text : List ℕ) (m : Moment) → moment_at end text ≡ Some m → IsMomentText end m text
+unfolding moment_at
+moment_takes end text m e =
+    let century = bind_some (two_at text) (λ c. two_at c.1 >>= λ s. after_year_of end (c.0 * 100 + s.0) s.1) m e in
+    let year = bind_some (two_at century.0.1) (λ s. after_year_of end (century.0.0 * 100 + s.0) s.1) m century.2 in
     let front = two_takes text century.0.0 century.0.1 century.1 in
     let next = two_takes century.0.1 year.0.0 year.0.1 year.1 in
-    let rest = after_takes (century.0.0 * 100 + year.0.0) year.0.1 m year.2 in
+    let rest = after_takes end (century.0.0 * 100 + year.0.0) year.0.1 m year.2 in
     let first : m.year / 100 ≡ century.0.0 = omega (arith, next.1, rest.year_is) in
     let last : m.year % 100 ≡ year.0.0 = omega (arith, next.1, rest.year_is) in
-    let after = two_before century.0.1 year.0.0 (m.year % 100) year.0.1 (after_year m) next last rest.text_is in
-    (rest.exists, two_before text century.0.0 (m.year / 100) century.0.1 (two (m.year % 100) ++ after_year m) front first after)
+    let after = two_before century.0.1 year.0.0 (m.year % 100) year.0.1 (day_and_time m ++ end) next last rest.text_is in
+    (rest.exists, two_before text century.0.0 (m.year / 100) century.0.1 (two (m.year % 100) ++ (day_and_time m ++ end)) front first after)
 
-pub generalized_again : (m : Moment) (text : List ℕ) → IsGeneralizedText m text → generalized_of text ≡ Some m
-unfolding generalized_of
-generalized_again m text s =
+moment_again : (end : List ℕ) (m : Moment) (text : List ℕ) → IsMomentText end m text → moment_at end text ≡ Some m
+unfolding moment_at
+moment_again end m text s =
     let whole : m.year / 100 * 100 + m.year % 100 ≡ m.year = omega arith in
-    rw (s.1, two_again (m.year / 100) (two (m.year % 100) ++ after_year m) (omega (arith, s.0.year)), two_again (m.year % 100) (after_year m) (omega arith), whole) (after_again m s.0)
+    rw (s.1, two_again (m.year / 100) (two (m.year % 100) ++ (day_and_time m ++ end)) (omega (arith, s.0.year)), two_again (m.year % 100) (day_and_time m ++ end) (omega arith), whole) (after_again end m s.0)
+
+abbrev IsGeneralizedText : Moment → List ℕ → Type 0
+IsGeneralizedText = IsMomentText (90 ∷ [])
 
 generalized_whole : ReadsWhole generalized_of IsGeneralizedText
-generalized_whole = record { takes = λ text m fits e. generalized_takes text m e; again = generalized_again }
+generalized_whole = record { takes = λ text m fits e. moment_takes (90 ∷ []) text m e; again = moment_again (90 ∷ []) }
+
+-- ---- digits alone
+
+digits_are : (text : List ℕ) (m : Moment) → IsMoment m → text ≡ fourteen_digits m → moment_at [] text ≡ Some m
+digits_are text m exists is = moment_again [] m text (exists, is)
+
+-- what is found in digits
+pub found_digits : (text : List ℕ) (r : Result Moment DecodeError) → Returns r (moment_at [] text) → IfSome (result_ok r) (λ m. IsMoment m × (text ≡ fourteen_digits m))
+found_digits text (Ok m) found = moment_takes [] text m found
+found_digits text (Err e) refused = tt
+
+pub no_digits : (text : List ℕ) (r : Result Moment DecodeError) → Returns r (moment_at [] text) → IfNone (result_ok r) ((m : Moment) → IsMoment m → text ≡ fourteen_digits m → ⊥)
+no_digits text (Ok m) found = tt
+no_digits text (Err e) refused = λ m exists is.
+    let found : moment_at [] text ≡ Some m = digits_are text m exists is in
+    absurd cc
 
 -- ---- the two forms
 

@@ -1,26 +1,30 @@
 //! Times.
-ghost use Rattle.std.specs.Prelude.{◌≡◌, ◌↔◌, ◌++◌, ◌/◌, ◌%◌, ◌<◌, ◌≤◌, List, pos, ◌≤ℤ◌, unsigned_abs, nat_eq, OnOk, OnErr, IsSome, IfSome, IfOk, IfErr};
+ghost use Rattle.std.specs.Prelude.{◌≡◌, ◌↔◌, ◌++◌, ◌/◌, ◌%◌, ◌<◌, ◌≤◌, List, pos, ◌≤ℤ◌, unsigned_abs, nat_eq, OnOk, OnErr, IsSome, IfSome, IfNone, IsOk, IfOk, IfErr};
 ghost use Rattle.std.specs.Ordering.{nat_cmp, on, as_partial_cmp};
 ghost use Rattle.std.specs.Cmp.{partial_order_from_own_ties};
 ghost use Rattle.std.proofs.Common.{rules};
 ghost use Rattle.std.specs.Cmp.Rules.{comparing};
+ghost use Rattle.jiff_core.specs.Calendar.{IsDate};
+ghost use Rattle.jiff_core.specs.Date.{IsYmd};
+ghost use Rattle.jiff_core.specs.Time.{IsHms};
+ghost use Rattle.jiff_core.specs.Time.{IsTime as IsClock};
 ghost use Rattle.rpki_der.specs.Place.{Place, left, Keeps, Answers};
 ghost use Rattle.rpki_der.specs.Place.Reading.{Took, Returns, ReturnsBy};
 ghost use Rattle.rpki_der.specs.Values.{AreOctets};
-ghost use Rattle.rpki_der.specs.Times.{Moment, moment, IsMoment, IsTime, second_number, two, after_year, time};
+ghost use Rattle.rpki_der.specs.Times.{Moment, moment, IsMoment, IsTime, second_number, two, after_year, fourteen_digits, time};
 ghost use Rattle.rpki_der.specs.declared.error.EncodeError.TheVariants.{Memory};
-ghost use Rattle.rpki_der.specs.Times.Reading.{two_at, after_year_of, utc_of, generalized_of, time_at};
+ghost use Rattle.rpki_der.specs.Times.Reading.{two_at, after_year_of, utc_of, moment_at, generalized_of, time_at};
 
 use crate::cursor::Cursor;
 use crate::error::{DecodeError, EncodeError};
 use crate::put::put_value;
 use crate::tag;
-use jiff::civil::DateTime;
+use jiff_core::civil::{Date, DateTime, Time as Clock};
 use std::alloc::Global;
 use std::cmp::Ordering;
 use std::marker::Model;
 
-// What ends the text of a time.
+// What ends the text of a time of DER.
 const END: &[u8] = b"Z";
 
 /// A second of the years 0 to 9999, in UTC (RFC 5280 4.1.2.5).
@@ -59,6 +63,25 @@ fn year_part(year: u32) -> i16
     year as i16
 }
 
+// The date and the time of day with these parts, where the calendar has the one and a clock the other.
+fn civil(
+    year: i16,
+    month: i8,
+    day: i8,
+    hour: i8,
+    minute: i8,
+    second: i8,
+) -> Result<DateTime, jiff_core::Error>
+    ensures succeeds { IsOk result
+        ↔ (IsDate year month day × IsClock hour minute second (pos 0)) }
+    ensures value { IfOk result (λ t.
+        IsYmd year month day t.date × IsHms hour minute second (pos 0) t.time) }
+{
+    let date = Date::new(year, month, day)?;
+    let time = Clock::new(hour, minute, second, 0)?;
+    Ok(DateTime { date, time })
+}
+
 impl Time {
     /// The second with these parts, where the calendar has the day, in the years 0 to 9999, and a
     /// clock the time.
@@ -85,19 +108,27 @@ impl Time {
         if year > 9999 || month > 12 || day > 31 || hour > 23 || minute > 59 || second > 59 {
             return None;
         }
-        let civil = DateTime::new(
+        let civil = civil(
             year_part(year),
             part(month),
             part(day),
             part(hour),
             part(minute),
             part(second),
-            0,
         );
         match civil {
             Ok(inner) => Some(Time { inner }),
             Err(_) => None,
         }
+    }
+
+    /// The moment YYYYMMDDhhmmss in decimal digits, where there is one.
+    pub fn from_digits(text: &[u8]) -> Option<Time>
+        ensures some { IfSome result (λ t. IsMoment t × (text.now ≡ fourteen_digits t)) }
+        ensures none { IfNone result
+            ((t : Moment) → IsMoment t → text.now ≡ fourteen_digits t → ⊥) }
+    {
+        four_digit_year(text, b"").ok()
     }
 
     // The time that stands next, by the reading function.
@@ -130,7 +161,7 @@ impl Time {
     pub fn known(&self)
         ensures { IsMoment self.now }
     {
-        let _parts = self.inner.to_plain();
+        let _parts = self.inner;
     }
 
     /// The year, from 0 to 9999.
@@ -138,42 +169,42 @@ impl Time {
         ensures year { result ≡ self.now.year }
         ensures small { result < 10000 }
     {
-        self.inner.year() as u16
+        self.inner.date.year as u16
     }
 
     /// The month, from 1 to 12.
     pub fn month(&self) -> u8
         ensures { result ≡ self.now.month }
     {
-        self.inner.to_plain().date.month
+        self.inner.date.month
     }
 
     /// The day of the month, from 1.
     pub fn day(&self) -> u8
         ensures { result ≡ self.now.day }
     {
-        self.inner.to_plain().date.day
+        self.inner.date.day
     }
 
     /// The hour, from 0 to 23.
     pub fn hour(&self) -> u8
         ensures { result ≡ self.now.hour }
     {
-        self.inner.to_plain().time.hour
+        self.inner.time.hour
     }
 
     /// The minute, from 0 to 59.
     pub fn minute(&self) -> u8
         ensures { result ≡ self.now.minute }
     {
-        self.inner.to_plain().time.minute
+        self.inner.time.minute
     }
 
     /// The second, from 0 to 59.
     pub fn second(&self) -> u8
         ensures { result ≡ self.now.second }
     {
-        self.inner.to_plain().time.second
+        self.inner.time.second
     }
 
     // The parts in decimal digits, the year in four, and Z.
@@ -183,7 +214,7 @@ impl Time {
         ensures exists { IsMoment self.now }
     {
         let year = self.year();
-        let civil = self.inner.to_plain();
+        let civil = self.inner;
         let [thousands, hundreds] = digits((year / 100) as u8);
         let [tens, ones] = digits((year % 100) as u8);
         let [month_tens, month] = digits(civil.date.month);
@@ -251,18 +282,18 @@ fn two_digits(text: &[u8]) -> Result<(u32, &[u8]), DecodeError>
     }
 }
 
-// The time of this year with this text after it, MMDDhhmmssZ.
+// The time of this year with this text after it, MMDDhhmmss and the end.
 #[tactic(auto, unfolding(crate::specs::Times::Reading::after_year_of))]
-fn after_year(year: u32, text: &[u8]) -> Result<Time, DecodeError>
+fn after_year(year: u32, text: &[u8], end: &[u8]) -> Result<Time, DecodeError>
     requires { year < 10000 }
-    ensures { Returns result (after_year_of year text.now) }
+    ensures { Returns result (after_year_of end.now year text.now) }
 {
     let (month, text) = two_digits(text)?;
     let (day, text) = two_digits(text)?;
     let (hour, text) = two_digits(text)?;
     let (minute, text) = two_digits(text)?;
     let (second, text) = two_digits(text)?;
-    if text != END {
+    if text != end {
         return Err(DecodeError::BadValue);
     }
     match Time::at(year, month, day, hour, minute, second) {
@@ -278,17 +309,24 @@ fn utc_time(text: &[u8]) -> Result<Time, DecodeError>
 {
     let (year, text) = two_digits(text)?;
     let year = if year < 50 { 2000 + year } else { 1900 + year };
-    after_year(year, text)
+    after_year(year, text, END)
 }
 
-// The time of a whole content YYYYMMDDhhmmssZ.
-#[tactic(auto, unfolding(crate::specs::Times::Reading::generalized_of))]
-fn generalized_time(text: &[u8]) -> Result<Time, DecodeError>
-    ensures { Returns result (generalized_of text.now) }
+// The time of a whole text YYYYMMDDhhmmss and the end.
+#[tactic(auto, unfolding(crate::specs::Times::Reading::moment_at))]
+fn four_digit_year(text: &[u8], end: &[u8]) -> Result<Time, DecodeError>
+    ensures { Returns result (moment_at end.now text.now) }
 {
     let (century, text) = two_digits(text)?;
     let (year, text) = two_digits(text)?;
-    after_year(century * 100 + year, text)
+    after_year(century * 100 + year, text, end)
+}
+
+// The time of a whole content YYYYMMDDhhmmssZ.
+fn generalized_time(text: &[u8]) -> Result<Time, DecodeError>
+    ensures { Returns result (generalized_of text.now) }
+{
+    four_digit_year(text, END)
 }
 
 impl PartialEq for Time {

@@ -90,7 +90,37 @@ AreExtensions f row = (xs : List Extension) × IsRow IsExtension xs row × GiveF
 
 -- what is written of each kind
 abbrev pub values_of : ExtensionFields → Values certificate_kinds
-values_of x = (x.basic_ca, (Some x.subject_key_identifier, (x.authority_key_identifier, (Some x.key_usage, (x.extended_key_usage, (x.crl_uri, (x.ca_issuer, (Some x.access, (Some x.overclaim, ((x.overclaim, Some (record { v4 = x.v4_resources; v6 = x.v6_resources })), ((x.overclaim, Some x.as_resources), tt)))))))))))
+values_of x = (
+  x.basic_ca,
+  (
+    Some x.subject_key_identifier,
+    (
+      x.authority_key_identifier,
+      (
+        Some x.key_usage,
+        (
+          x.extended_key_usage,
+          (
+            x.crl_uri,
+            (
+              x.ca_issuer,
+              (
+                Some x.access,
+                (
+                  Some x.overclaim,
+                  (
+                    (x.overclaim, Some (record { v4 = x.v4_resources; v6 = x.v6_resources })),
+                    ((x.overclaim, Some x.as_resources), tt),
+                  ),
+                ),
+              ),
+            ),
+          ),
+        ),
+      ),
+    ),
+  ),
+)
 
 -- in the order of the table
 abbrev pub parts : ExtensionFields → List OptionalExtension

@@ -1,5 +1,5 @@
 //! What the extensions of a certificate give, and how they are written.
-ghost use Rattle.std.specs.Prelude.{◌≡◌, ◌^◌, ◌≤◌, ◌++◌, length, OnOk, IsErrOf, IfOk, IfErr, IfSome, Ok, Err};
+ghost use Rattle.std.specs.Prelude.{◌≡◌, ◌^◌, ◌≤◌, ◌++◌, length, OnOk, IsErrOf, IfOk, IfSome};
 ghost use Rattle.std.specs.Fn.{FnOnceReturnsAt};
 ghost use Rattle.rpki_parts.specs.Uris.{IsRsync, IsHttps};
 ghost use Rattle.rpki_ext.specs.KeyIdentifiers.{HasTwentyOctets};
@@ -12,6 +12,7 @@ use crate::distribution_points::put_crl_distribution_points;
 use crate::extended_key_usage::{ExtendedKeyUsage, put_extended_key_usage};
 use crate::key_identifiers::{encode_subject_key_identifier, put_authority_key_identifier};
 use crate::key_usage::{KeyUsage, encode_key_usage};
+use crate::letting_go::beside;
 use crate::policies::encode_certificate_policies;
 use crate::subject_access::encode_subject_information_access;
 use rpki_blocks::{AsResources, IpResources, Overclaim};
@@ -93,17 +94,6 @@ fn copied<T: Drop, F: FnOnce(&T) -> Result<T, AllocError>>(
     match value {
         Some(value) => Ok(Some(copy(value)?)),
         None => Ok(None),
-    }
-}
-
-// What there is so far, and what comes next; the error alone where that is one.
-pub(crate) fn beside<S: Drop, T, E>(so_far: S, next: Result<T, E>) -> Result<(S, T), E>
-    ensures ok { IfOk result (λ r. (r.0 ≡ so_far) × (next ≡ Ok r.1)) }
-    ensures refused { IfErr result (λ e. next ≡ Err e) }
-{
-    match next {
-        Ok(next) => Ok((so_far, next)),
-        Err(error) => Err(error),
     }
 }
 

@@ -13,6 +13,7 @@ mod inspection;
 mod key_identifiers;
 mod key_usage;
 pub mod laws;
+mod letting_go;
 mod names;
 mod policies;
 mod reading;
@@ -34,6 +35,7 @@ pub use key_identifiers::{
     take_subject_key_identifier,
 };
 pub use key_usage::{KeyUsage, encode_key_usage, take_key_usage};
+pub use letting_go::beside;
 pub use policies::{encode_certificate_policies, take_certificate_policies};
 pub use rpki_der::take_extension;
 pub use subject_access::{Sia, encode_subject_information_access, take_subject_information_access};

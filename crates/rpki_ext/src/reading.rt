@@ -16,9 +16,10 @@ use crate::authority_access::take_authority_information_access;
 use crate::basic_constraints::take_basic_constraints;
 use crate::distribution_points::take_crl_distribution_points;
 use crate::extended_key_usage::{ExtendedKeyUsage, take_extended_key_usage};
-use crate::extensions::{Extensions, beside};
+use crate::extensions::Extensions;
 use crate::key_identifiers::{take_authority_key_identifier, take_subject_key_identifier};
 use crate::key_usage::{KeyUsage, take_key_usage};
+use crate::letting_go::beside;
 use crate::policies::take_certificate_policies;
 use crate::subject_access::{Sia, take_subject_information_access};
 use bytes::Bytes;
@@ -236,11 +237,9 @@ impl Seen {
             }
             Named::IpResources(mode) => {
                 self.ip_resources = Some((mode, IpResources::take_families_from(alloc, content)?));
-                return Ok(());
             }
             Named::AsResources(mode) => {
                 self.as_resources = Some((mode, AsResources::take_from(alloc, content)?));
-                return Ok(());
             }
         }
         Ok(())

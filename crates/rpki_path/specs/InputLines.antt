@@ -1,8 +1,8 @@
 -- The lines of the program's input, each alone (own).
-use Rattle.std.specs.Prelude.{◌≡◌, ℕ, ◌/◌, ◌%◌, ◌^◌, ◌<◌, Bool, true, false, List, [], ◌∷◌, ◌++◌, codes}
+use Rattle.std.specs.Prelude.{◌≡◌, ℕ, ◌^◌, ◌<◌, Bool, true, false, List, [], ◌∷◌, ◌++◌, codes}
 use Rattle.std.specs.List.{concat}
 use Rattle.std.specs.Int.Digits.{number_from_digits}
-use Rattle.rpki_der.specs.Times.{Moment, IsMoment, two}
+use Rattle.rpki_der.specs.Times.{Moment, IsMoment, fourteen_digits}
 use Rattle.rpki_path.specs.HexWords.{IsHexWord}
 use Rattle.rpki_path.specs.declared.validating.Leaf.{Leaf}
 use Rattle.rpki_path.specs.declared.validating.Leaf.TheVariants.{Ee, DetachedEe}
@@ -24,11 +24,6 @@ pub record IsRevokedLine (list : List ℕ) (serial : ℕ) (line : List ℕ) : Ty
   pub is : line ≡ revoked_line list_word serial_word
 
 -- ---- `at YYYYMMDDhhmmss`
-
--- a moment in decimal digits: YYYYMMDDhhmmss
-abbrev pub fourteen_digits : Moment → List ℕ
-fourteen_digits m =
-    concat (two (m.year / 100) ∷ two (m.year % 100) ∷ two m.month ∷ two m.day ∷ two m.hour ∷ two m.minute ∷ two m.second ∷ [])
 
 -- the moment exists, in the years 0 to 9999
 pub record IsMomentLine (now : Moment) (line : List ℕ) : Type 0 where

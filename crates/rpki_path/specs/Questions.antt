@@ -1,8 +1,5 @@
 -- What the program's input is read as, whole and in parts.
-use Rattle.std.specs.Prelude.{◌≡◌, ◌≢◌, ◌⊎◌, ◌&&◌, ◌+◌, ◌*◌, ℕ, List, [], ◌∷◌, ◌++◌, Option, Some, None, if◌then◌else◌, bytes_eq}
-use Rattle.rpki_der.specs.Times.{Moment, moment}
-use Rattle.rpki_der.specs.Times.Reading.{two_at, is_moment}
-use Rattle.rpki_der.specs.Values.Reading.{◌>>=◌}
+use Rattle.std.specs.Prelude.{◌≡◌, ◌≢◌, ◌⊎◌, ◌+◌, ℕ, List, [], ◌∷◌, ◌++◌}
 use Rattle.rpki_path.specs.declared.lines.RevokedQuestion.{RevokedQuestion}
 use Rattle.rpki_path.specs.declared.path_lines.PathQuestion.{PathQuestion}
 use Rattle.rpki_path.specs.declared.path_lines.Member.{Member}
@@ -19,19 +16,6 @@ abbrev pub IsFirstLine : List ℕ → List ℕ → List ℕ → Type 0
 IsFirstLine line rest text =
     IsWithout line_end line
     × (((rest ≡ []) × (line ≢ []) × (text ≡ line)) ⊎ (text ≡ line ++ line_end ∷ rest))
-
--- the moment that a text of fourteen digits is
-unfoldable pub moment_at : List ℕ → Option Moment
-moment_at text = do
-  century ← two_at text
-  year ← two_at century.1
-  month ← two_at year.1
-  day ← two_at month.1
-  hour ← two_at day.1
-  minute ← two_at hour.1
-  second ← two_at minute.1
-  if bytes_eq second.1 [] && is_moment (moment (century.0 * 100 + year.0) month.0 day.0 hour.0 minute.0 second.0)
-      then Some (moment (century.0 * 100 + year.0) month.0 day.0 hour.0 minute.0 second.0) else None
 
 -- what the line of a member below the anchor tells
 abbrev pub member_line : Member → InputLine

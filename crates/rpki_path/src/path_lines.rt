@@ -1,11 +1,10 @@
 //! The lines that ask whether strings are a good path.
-ghost use Rattle.std.specs.Prelude.{◌≡◌, ◌↔◌, ◌<◌, ℕ, Bool, List, [], ◌∷◌, Some, None, IfOk, IsSome, IfSome, IfNone};
+ghost use Rattle.std.specs.Prelude.{◌<◌, ℕ, Bool, List, [], ◌∷◌, Some, None, IfOk, IfSome, IfNone};
 ghost use Rattle.std.specs.List.{AllZip};
-ghost use Rattle.rpki_der.specs.Times.{Moment, moment, IsMoment};
-ghost use Rattle.rpki_der.specs.Times.Reading.{two_at};
+ghost use Rattle.rpki_der.specs.Times.{Moment};
 ghost use Rattle.rpki_path.specs.InputLines.{IsMomentLine, IsLine, at_moment, strictness};
 ghost use Rattle.rpki_path.specs.InputLines.{anchor as anchor_line};
-ghost use Rattle.rpki_path.specs.Questions.{moment_at, member_line, IsReadBehind};
+ghost use Rattle.rpki_path.specs.Questions.{member_line, IsReadBehind};
 
 use crate::input::Input;
 use crate::lines::{behind, octets_behind, split_line};
@@ -28,55 +27,12 @@ pub(crate) struct PathQuestion {
     pub(crate) leaf: Option<Leaf>,
 }
 
-// The number that two decimal digits are, and what follows them.
-#[tactic(auto, unfolding(rpki_der::specs::Times::Reading::two_at))]
-fn two_digits(text: &[u8]) -> Option<(u32, &[u8])>
-    ensures some { IfSome result (λ x. two_at text.now ≡ Some (x.0, x.1.now)) }
-    ensures none { IfNone result (two_at text.now ≡ None) }
-    ensures small { IfSome result (λ x. x.0 < 100) }
-{
-    match text {
-        [tens @ b'0'..=b'9', ones @ b'0'..=b'9', rest @ ..] => {
-            let number = (*tens - b'0') * 10 + (*ones - b'0');
-            Some((number as u32, rest))
-        }
-        _ => None,
-    }
-}
-
-// The second with these parts, where there is one.
-fn second_of(year: u32, month: u32, day: u32, hour: u32, minute: u32, second: u32) -> Option<Time>
-    requires { year < 10000 }
-    ensures exists { IsSome result ↔ IsMoment (moment year month day hour minute second) }
-    ensures value { IfSome result (λ t. t ≡ moment year month day hour minute second) }
-{
-    Time::utc(year as i32, month, day, hour, minute, second)
-}
-
-// The moment YYYYMMDDhhmmss.
-#[tactic(auto, unfolding(crate::specs::Questions::moment_at))]
-fn moment_of(text: &[u8]) -> Option<Time>
-    ensures { result ≡ moment_at text.now }
-{
-    let (century, text) = two_digits(text)?;
-    let (year, text) = two_digits(text)?;
-    let (month, text) = two_digits(text)?;
-    let (day, text) = two_digits(text)?;
-    let (hour, text) = two_digits(text)?;
-    let (minute, text) = two_digits(text)?;
-    let (second, text) = two_digits(text)?;
-    if !text.is_empty() {
-        return None;
-    }
-    second_of(century * 100 + year, month, day, hour, minute, second)
-}
-
 /// The moment of a line `at YYYYMMDDhhmmss`.
 pub(crate) fn moment_from(line: &[u8]) -> Option<Time>
     ensures some { IfSome result (λ now. IsMomentLine now line.now) }
     ensures none { IfNone result ((now : Moment) → IsMomentLine now line.now → ⊥) }
 {
-    moment_of(behind(b"at ", line)?)
+    Time::from_digits(behind(b"at ", line)?)
 }
 
 // Whether a line is `strict` or `lenient`.

@@ -1,21 +1,22 @@
 //! The README's example.
 
-use crate::samples::{self, day};
 use rpki_blocks::Asn;
 use rpki_example::holds_as;
 use rpki_parts::{StandIn, TalInfo};
+use rpki_samples::day;
 use std::alloc::Global;
 use std::process::Abort;
 
 // Whether the anchor holds this AS number, which it does if it lists it.
 fn anchor_holds(rt: &impl Abort, alloc: Global, asn: Asn, listed: Asn) -> bool {
-    let mut tbs = samples::anchor(rt, alloc);
+    let mut tbs = rpki_samples::anchor(alloc).expect(rt, "memory");
     tbs.as_resources_from_iter(alloc, [(Asn::MIN, listed).into()])
         .expect(rt, "memory");
-    let anchor = samples::signed(rt, alloc, tbs);
+    let anchor = rpki_samples::signed(alloc, tbs).expect(rt, "memory");
     let tal = TalInfo::from_name(String::new(alloc)).into_rc(alloc);
     let tal = tal.expect(rt, "memory");
-    let answer = holds_as(alloc, &anchor, &[], tal, day(rt, 2024), &StandIn, asn);
+    let now = day(2024).expect(rt, "a day");
+    let answer = holds_as(alloc, &anchor, &[], tal, now, &StandIn, asn);
     answer.expect(rt, "a good path")
 }
 

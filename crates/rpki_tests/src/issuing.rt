@@ -1,7 +1,5 @@
 //! Authorities are issued under an anchor, and lists are verified under it.
 
-use crate::samples::{self, day, rsa};
-use crate::signers::{Refusal, Refusing};
 use rpki_blocks::{AsBlock, Asn};
 use rpki_cert::{
     Cert, IssueCaError, KeyUsage, Overclaim, ResourceCert, TbsCert, ValidationError,
@@ -9,6 +7,7 @@ use rpki_cert::{
 };
 use rpki_crl::{Crl, CrlEntry, TbsCertList};
 use rpki_parts::{SigningError, StandIn, TalInfo};
+use rpki_samples::{Refusal, Refusing, day, rsa};
 use std::alloc::Global;
 use std::process::Abort;
 
@@ -20,26 +19,26 @@ fn numbers(rt: &impl Abort, alloc: Global, tbs: &mut TbsCert, low: u32, high: u3
 
 // The octets of the anchor, which has AS1 to AS10.
 fn anchor_octets(rt: &impl Abort, alloc: Global) -> bytes::Bytes {
-    let mut tbs = samples::anchor(rt, alloc);
+    let mut tbs = rpki_samples::anchor(alloc).expect(rt, "memory");
     numbers(rt, alloc, &mut tbs, 1, 10);
-    samples::signed(rt, alloc, tbs)
+    rpki_samples::signed(alloc, tbs).expect(rt, "memory")
 }
 
 fn anchor(rt: &impl Abort, alloc: Global) -> ResourceCert {
     let cert = Cert::decode_shared(alloc, anchor_octets(rt, alloc)).expect(rt, "a certificate");
     let tal = TalInfo::from_name(String::new(alloc)).into_rc(alloc);
-    let now = day(rt, 2024);
+    let now = day(2024).expect(rt, "a day");
     cert.validate_ta_at(alloc, tal.expect(rt, "memory"), true, now, &StandIn)
         .expect(rt, "an anchor")
 }
 
 // The data of an authority that lists AS5 to AS20.
 fn authority(rt: &impl Abort, alloc: Global, mode: Overclaim) -> TbsCert {
-    let mut tbs = samples::bare(rt, alloc, 13, rsa(b"a"), KeyUsage::Ca);
+    let mut tbs = rpki_samples::bare(alloc, 13, rsa(b"a"), KeyUsage::Ca).expect(rt, "memory");
     tbs.set_basic_ca(Some(true));
     tbs.set_overclaim(mode);
-    samples::set_issuer(rt, alloc, &mut tbs);
-    samples::set_places(rt, alloc, &mut tbs);
+    rpki_samples::set_issuer(alloc, &mut tbs).expect(rt, "memory");
+    rpki_samples::set_places(alloc, &mut tbs).expect(rt, "memory");
     numbers(rt, alloc, &mut tbs, 5, 20);
     tbs
 }
@@ -48,7 +47,7 @@ type Issued = Result<ResourceCert, IssueCaError<()>>;
 
 fn issued(rt: &impl Abort, alloc: Global, issuer: &ResourceCert, mode: Overclaim) -> Issued {
     let tbs = authority(rt, alloc, mode);
-    let now = day(rt, 2024);
+    let now = day(2024).expect(rt, "a day");
     issue_ca(
         alloc,
         tbs,
@@ -100,7 +99,7 @@ fn one_that_overclaims_is_not_issued(rt: HostRuntime) {
 fn another_key_does_not_issue(rt: HostRuntime) {
     let anchor = anchor(&rt, rt.alloc());
     let tbs = authority(&rt, rt.alloc(), Overclaim::Trim);
-    let now = day(&rt, 2024);
+    let now = day(2024).expect(&rt, "a day");
     let key = rsa(b"a");
     let answer = issue_ca(
         rt.alloc(),
@@ -128,7 +127,7 @@ fn refused_with(answer: &Result<ResourceCert, IssueCaError<u32>>) -> u32 {
 
 fn refused(rt: &impl Abort, alloc: Global, issuer: &ResourceCert) -> u32 {
     let tbs = authority(rt, alloc, Overclaim::Trim);
-    let now = day(rt, 2024);
+    let now = day(2024).expect(rt, "a day");
     let signer = Refusing::new(Refusal::Own);
     let answer = issue_ca(alloc, tbs, &signer, &7, issuer, true, now, &StandIn);
     let key = refused_with(&answer);

@@ -1,32 +1,33 @@
 //! Whole paths: long ones, and with a verifier of a caller's own.
 
-use crate::samples::{self, day, rsa};
 use bytes::Bytes;
 use rpki_blocks::Asn;
 use rpki_cert::{KeyUsage, ResourceCert, VerificationError};
 use rpki_parts::{PublicKey, RpkiSignatureAlgorithm, StandIn, TalInfo, Verifier};
 use rpki_path::{Leaf, PathError, PathFault, validate_path};
+use rpki_samples::{day, rsa};
 use std::alloc::{AllocError, Global};
 use std::process::Abort;
 
 fn anchor(rt: &impl Abort, alloc: Global) -> Bytes {
-    samples::signed(rt, alloc, samples::anchor(rt, alloc))
+    rpki_samples::anchor_octets(alloc).expect(rt, "memory")
 }
 
 // An authority with the anchor's key, which inherits all.
 fn authority(rt: &impl Abort, alloc: Global) -> Bytes {
-    let mut tbs = samples::bare(rt, alloc, 13, rsa(b"abc"), KeyUsage::Ca);
+    let mut tbs = rpki_samples::bare(alloc, 13, rsa(b"abc"), KeyUsage::Ca).expect(rt, "memory");
     tbs.set_basic_ca(Some(true));
-    samples::set_issuer(rt, alloc, &mut tbs);
-    samples::set_places(rt, alloc, &mut tbs);
+    rpki_samples::set_issuer(alloc, &mut tbs).expect(rt, "memory");
+    rpki_samples::set_places(alloc, &mut tbs).expect(rt, "memory");
     tbs.set_v4_resources_inherit();
     tbs.set_v6_resources_inherit();
     tbs.set_as_resources_inherit();
-    samples::signed(rt, alloc, tbs)
+    rpki_samples::signed(alloc, tbs).expect(rt, "memory")
 }
 
 fn leaf(rt: &impl Abort, alloc: Global) -> Leaf {
-    Leaf::DetachedEe(samples::signed(rt, alloc, samples::end_entity(rt, alloc)))
+    let tbs = rpki_samples::end_entity(alloc).expect(rt, "memory");
+    Leaf::DetachedEe(rpki_samples::signed(alloc, tbs).expect(rt, "memory"))
 }
 
 // So many authorities one below the other.
@@ -54,7 +55,7 @@ fn validated<V: Verifier>(rt: &impl Abort, alloc: Global, count: usize, verifier
         leaf,
         tal,
         true,
-        day(rt, 2024),
+        day(2024).expect(rt, "a day"),
         verifier,
     )
 }
@@ -109,8 +110,10 @@ fn fault(answer: Validated) -> (usize, &'static str) {
 }
 
 fn data_length(rt: &impl Abort, alloc: Global) -> usize {
-    let tbs = samples::end_entity(rt, alloc);
-    let length = samples::written(rt, alloc, &tbs).len();
+    let tbs = rpki_samples::end_entity(alloc).expect(rt, "memory");
+    let length = rpki_samples::written(alloc, &tbs)
+        .expect(rt, "memory")
+        .len();
     drop(tbs);
     length
 }

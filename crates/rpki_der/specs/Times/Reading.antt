@@ -22,32 +22,36 @@ two_at [] = None
 two_at (a ∷ []) = None
 two_at (a ∷ b ∷ text) = if is_digit a && is_digit b then Some ((a - 48) * 10 + (b - 48), text) else None
 
--- the moment, where it exists and Z ends the text
-abbrev pub existing : List ℕ → Moment → Option Moment
-existing end m = if bytes_eq end (90 ∷ []) && is_moment m then Some m else None
+-- the moment, where it exists and this alone is left of the text
+abbrev pub existing : List ℕ → List ℕ → Moment → Option Moment
+existing end text m = if bytes_eq text end && is_moment m then Some m else None
 
--- MMDDhhmmssZ
-unfoldable pub after_year_of : ℕ → List ℕ → Option Moment
-after_year_of year text = do
+-- MMDDhhmmss and this end
+unfoldable pub after_year_of : List ℕ → ℕ → List ℕ → Option Moment
+after_year_of end year text = do
   month ← two_at text
   day ← two_at month.1
   hour ← two_at day.1
   minute ← two_at hour.1
   second ← two_at minute.1
-  existing second.1 (moment year month.0 day.0 hour.0 minute.0 second.0)
+  existing end second.1 (moment year month.0 day.0 hour.0 minute.0 second.0)
 
 -- YYMMDDhhmmssZ
 unfoldable pub utc_of : List ℕ → Option Moment
 utc_of text = do
   year ← two_at text
-  after_year_of (if nat_lt year.0 50 then 2000 + year.0 else 1900 + year.0) year.1
+  after_year_of (90 ∷ []) (if nat_lt year.0 50 then 2000 + year.0 else 1900 + year.0) year.1
 
--- YYYYMMDDhhmmssZ
-unfoldable pub generalized_of : List ℕ → Option Moment
-generalized_of text = do
+-- YYYYMMDDhhmmss and this end
+unfoldable pub moment_at : List ℕ → List ℕ → Option Moment
+moment_at end text = do
   century ← two_at text
   year ← two_at century.1
-  after_year_of (century.0 * 100 + year.0) year.1
+  after_year_of end (century.0 * 100 + year.0) year.1
+
+-- YYYYMMDDhhmmssZ
+abbrev pub generalized_of : List ℕ → Option Moment
+generalized_of = moment_at (90 ∷ [])
 
 unfoldable pub time_at : List ℕ → Option (Moment × List ℕ)
 time_at = choice UTC_TIME (content UTC_TIME utc_of) (content GENERALIZED_TIME generalized_of)

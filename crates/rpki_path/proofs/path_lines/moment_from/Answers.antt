@@ -1,8 +1,8 @@
-use Rattle.rpki_path.proofs.MomentLines.{found_moment, found_no_moment}
+use Rattle.rpki_path.proofs.MomentLines.{moment_line, no_moment_line}
 use Rattle.rpki_path.proofs.path_lines.moment_from.Goals as goal
 
 pub returns-clause-some : goal.returns-clause-some
-returns-clause-some c = found_moment c.args.line.now c.in_ok-behind.field-0.now c.moment_of.result c.in_ok-behind.ensures.some c.moment_of.ensures
+returns-clause-some c = moment_line c.args.line.now c.in_ok-behind.field-0.now c.from_digits.result c.in_ok-behind.ensures.some c.from_digits.ensures.some
 
 pub returns-clause-none : goal.returns-clause-none
-returns-clause-none c = found_no_moment c.args.line.now c.in_ok-behind.field-0.now c.moment_of.result c.in_ok-behind.ensures.some c.moment_of.ensures
+returns-clause-none c = no_moment_line c.args.line.now c.in_ok-behind.field-0.now c.from_digits.result c.in_ok-behind.ensures.some c.from_digits.ensures.none

@@ -1,31 +1,32 @@
 //! Certificates are signed, by the stand-in and by signers of a caller's own.
 
-use crate::samples;
-use crate::signers::{Refusal, Refusing};
 use bytes::Bytes;
 use rpki_cert::{Cert, TbsCert, round_trip};
 use rpki_parts::{RpkiSignatureAlgorithm, Signature, Signer, SigningError, StandIn};
+use rpki_samples::{Refusal, Refusing};
 use std::alloc::Global;
 use std::cell::{Cell, RefCell};
 use std::process::Abort;
 
 #[test]
 fn an_anchor_is_made(rt: HostRuntime) {
-    let anchor = samples::signed(&rt, rt.alloc(), samples::anchor(&rt, rt.alloc()));
+    let anchor = rpki_samples::anchor_octets(rt.alloc()).expect(&rt, "memory");
     assert_eq!(rt; anchor.len(), 947);
-    samples::assert_hash(&rt, rt.alloc(), &anchor, samples::ANCHOR);
+    assert!(rt; rpki_samples::has_hash(rt.alloc(), &anchor, rpki_samples::ANCHOR));
 }
 
 #[test]
 fn an_end_entity_is_made(rt: HostRuntime) {
-    let end_entity = samples::signed(&rt, rt.alloc(), samples::end_entity(&rt, rt.alloc()));
-    samples::assert_hash(&rt, rt.alloc(), &end_entity, samples::END_ENTITY);
+    let tbs = rpki_samples::end_entity(rt.alloc()).expect(&rt, "memory");
+    let end_entity = rpki_samples::signed(rt.alloc(), tbs).expect(&rt, "memory");
+    assert!(rt; rpki_samples::has_hash(rt.alloc(), &end_entity, rpki_samples::END_ENTITY));
 }
 
 #[test]
 fn a_router_is_made(rt: HostRuntime) {
-    let router = samples::signed(&rt, rt.alloc(), samples::router(&rt, rt.alloc()));
-    samples::assert_hash(&rt, rt.alloc(), &router, samples::ROUTER);
+    let tbs = rpki_samples::router(rt.alloc()).expect(&rt, "memory");
+    let router = rpki_samples::signed(rt.alloc(), tbs).expect(&rt, "memory");
+    assert!(rt; rpki_samples::has_hash(rt.alloc(), &router, rpki_samples::ROUTER));
 }
 
 // What the refused call answered; 0 for a certificate.
@@ -42,7 +43,8 @@ fn answered(made: Result<Cert, SigningError<u32>>) -> (u32, &'static str) {
 
 fn assert_refused(rt: &impl Abort, alloc: Global, refusal: Refusal, answer: (u32, &'static str)) {
     let signer = Refusing::new(refusal);
-    let made = samples::anchor(rt, alloc).into_cert(alloc, &signer, &7);
+    let tbs = rpki_samples::anchor(alloc).expect(rt, "memory");
+    let made = tbs.into_cert(alloc, &signer, &7);
     let (key, name) = answered(made);
     assert_eq!(rt; key, answer.0);
     assert_eq!(rt; name, answer.1);
@@ -91,7 +93,8 @@ fn assert_kept(rt: &impl Abort, alloc: Global, signer: &Keeping, cert: &Cert) {
     assert_eq!(rt; signer.calls.get(), 1);
     let asked = signer.asked.try_borrow().expect(rt, "no other borrow");
     assert!(rt; asked.as_slice() == cert.signed_data().data());
-    assert!(rt; asked.as_slice() == samples::written(rt, alloc, cert.as_tbs()).as_slice());
+    let written = rpki_samples::written(alloc, cert.as_tbs()).expect(rt, "memory");
+    assert!(rt; asked.as_slice() == written.as_slice());
     assert_eq!(rt;
         cert.signed_data().signature().value(),
         b"\x01\x02".as_slice()
@@ -111,14 +114,19 @@ fn what_is_kept_is_signed_once(rt: HostRuntime) {
         calls: Cell::new(0),
         asked: RefCell::new(Vec::new(rt.alloc())),
     };
-    assert_signed(&rt, rt.alloc(), &signer, samples::anchor(&rt, rt.alloc()));
+    assert_signed(
+        &rt,
+        rt.alloc(),
+        &signer,
+        rpki_samples::anchor(rt.alloc()).expect(&rt, "memory"),
+    );
 }
 
 // The certificate of this data, with the issuer's IPv4 addresses, read again from its own octets.
 fn read_again(rt: &impl Abort, alloc: Global, mut tbs: TbsCert) -> Cert {
     tbs.set_v4_resources_inherit();
     let made = tbs
-        .into_cert(alloc, &StandIn, &samples::rsa(b"abc"))
+        .into_cert(alloc, &StandIn, &rpki_samples::rsa(b"abc"))
         .expect(rt, "a certificate");
     let again = round_trip::read_again(alloc, &made).expect(rt, "memory");
     drop(made);
@@ -127,8 +135,9 @@ fn read_again(rt: &impl Abort, alloc: Global, mut tbs: TbsCert) -> Cert {
 
 #[test]
 fn a_made_certificate_is_read_again(rt: HostRuntime) {
-    let cert = read_again(&rt, rt.alloc(), samples::end_entity(&rt, rt.alloc()));
+    let tbs = rpki_samples::end_entity(rt.alloc()).expect(&rt, "memory");
+    let cert = read_again(&rt, rt.alloc(), tbs);
     let octets = cert.to_captured(rt.alloc()).expect(&rt, "memory");
-    samples::assert_hash(&rt, rt.alloc(), &octets, samples::END_ENTITY);
+    assert!(rt; rpki_samples::has_hash(rt.alloc(), &octets, rpki_samples::END_ENTITY));
     drop(cert);
 }

@@ -1,6 +1,5 @@
 //! Resources that a caller's closure or iterator gives to certificate data.
 
-use crate::samples;
 use rpki_blocks::{Addr, AsBlock, Asn, IpBlock, Prefix};
 use rpki_cert::TbsCert;
 use std::alloc::Global;
@@ -29,12 +28,12 @@ fn build_none(rt: &impl Abort, alloc: Global, tbs: &mut TbsCert) {
 
 #[test]
 fn blocks_are_given(rt: HostRuntime) {
-    let mut tbs = samples::anchor(&rt, rt.alloc());
+    let mut tbs = rpki_samples::anchor(rt.alloc()).expect(&rt, "memory");
     build_none(&rt, rt.alloc(), &mut tbs);
     assert!(rt; !tbs.has_ip_resources());
     assert!(rt; !tbs.as_resources().is_present());
     build_all(&rt, rt.alloc(), &mut tbs);
-    let octets = samples::written(&rt, rt.alloc(), &tbs);
-    samples::assert_hash(&rt, rt.alloc(), &octets, samples::ANCHOR_DATA);
+    let octets = rpki_samples::written(rt.alloc(), &tbs).expect(&rt, "memory");
+    assert!(rt; rpki_samples::has_hash(rt.alloc(), &octets, rpki_samples::ANCHOR_DATA));
     drop(tbs);
 }

@@ -1,9 +1,9 @@
 //! URIs: from text and from octets, equal, identical, and their parents.
 
-use crate::samples::uri;
 use bytes::Bytes;
 use rpki_der::Piece;
 use rpki_parts::{Https, Rsync, UriError};
+use rpki_samples::uri;
 use std::alloc::Global;
 use std::process::Abort;
 
@@ -45,7 +45,7 @@ fn https_is_equal_across_case(rt: HostRuntime) {
 #[test]
 fn rsync_is_read_from_text(rt: HostRuntime) {
     let text = "rsync://example.com/m/p/mft.mft";
-    let found = uri(&rt, rt.alloc(), text);
+    let found = uri(rt.alloc(), text).expect(&rt, "a URI");
     assert_eq!(rt; found.as_bytes(), text.as_bytes());
     let refused = Rsync::from_text(rt.alloc(), "rsync://example.com/");
     assert!(rt; matches!(refused, Err(UriError::BadUri)));
@@ -66,18 +66,18 @@ fn rsync_is_read_from_octets(rt: HostRuntime) {
 
 #[test]
 fn rsync_is_equal_across_case(rt: HostRuntime) {
-    let found = uri(&rt, rt.alloc(), "rsync://example.com/m/p");
-    let upper = uri(&rt, rt.alloc(), "RSYNC://EXAMPLE.com/m/p");
-    let other = uri(&rt, rt.alloc(), "rsync://example.com/M/p");
+    let found = uri(rt.alloc(), "rsync://example.com/m/p").expect(&rt, "a URI");
+    let upper = uri(rt.alloc(), "RSYNC://EXAMPLE.com/m/p").expect(&rt, "a URI");
+    let other = uri(rt.alloc(), "rsync://example.com/M/p").expect(&rt, "a URI");
     assert!(rt; found == upper);
     assert!(rt; found != other);
 }
 
 #[test]
 fn a_trailing_slash_is_identical(rt: HostRuntime) {
-    let found = uri(&rt, rt.alloc(), "rsync://example.com/m/p");
-    let folder = uri(&rt, rt.alloc(), "rsync://EXAMPLE.com/m/p/");
-    let deeper = uri(&rt, rt.alloc(), "rsync://example.com/m/p//");
+    let found = uri(rt.alloc(), "rsync://example.com/m/p").expect(&rt, "a URI");
+    let folder = uri(rt.alloc(), "rsync://EXAMPLE.com/m/p/").expect(&rt, "a URI");
+    let deeper = uri(rt.alloc(), "rsync://example.com/m/p//").expect(&rt, "a URI");
     assert!(rt; found != folder);
     assert!(rt; found.is_identical_to(&folder) && folder.is_identical_to(&found));
     assert!(rt; !found.is_identical_to(&deeper));
@@ -92,9 +92,9 @@ fn assert_parent(rt: &impl Abort, alloc: Global, uri: &Rsync, parent: &Rsync) {
 
 #[test]
 fn parents(rt: HostRuntime) {
-    let manifest = uri(&rt, rt.alloc(), "rsync://example.com/m/p/mft.mft");
-    let folder = uri(&rt, rt.alloc(), "rsync://example.com/m/p/");
-    let top = uri(&rt, rt.alloc(), "rsync://example.com/m/");
+    let manifest = uri(rt.alloc(), "rsync://example.com/m/p/mft.mft").expect(&rt, "a URI");
+    let folder = uri(rt.alloc(), "rsync://example.com/m/p/").expect(&rt, "a URI");
+    let top = uri(rt.alloc(), "rsync://example.com/m/").expect(&rt, "a URI");
     assert_parent(&rt, rt.alloc(), &manifest, &folder);
     assert_parent(&rt, rt.alloc(), &folder, &top);
     assert!(rt; top.parent(rt.alloc()).expect(&rt, "memory").is_none());

@@ -1,6 +1,5 @@
 //! Each writer once, behind what stands in the vector, and lengths that no line can have.
 
-use crate::samples::{self, rsa, uri};
 use bytes::Bytes;
 use rpki_blocks::{AsResources, IpResources};
 use rpki_cert::{KeyUsage, Overclaim, TbsCert};
@@ -14,11 +13,12 @@ use rpki_ext::{
     encode_subject_information_access, encode_subject_key_identifier,
 };
 use rpki_parts::{Https, Rsync};
+use rpki_samples::{rsa, uri};
 use std::alloc::Global;
 use std::process::Abort;
 
 fn assert_written(rt: &impl Abort, alloc: Global, out: &[u8], digits: &str) {
-    assert_eq!(rt; out, samples::octets(rt, alloc, digits).as_slice());
+    assert!(rt; rpki_samples::has_digits(alloc, out, digits));
 }
 
 #[test]
@@ -104,8 +104,8 @@ fn put_issuer(rt: &impl Abort, alloc: Global, list: &Rsync, issuer: &Rsync) -> V
 
 #[test]
 fn where_an_issuer_is(rt: HostRuntime) {
-    let list = uri(&rt, rt.alloc(), "rsync://example.com/m/p/x.crl");
-    let issuer = uri(&rt, rt.alloc(), "rsync://example.com/m/ta.cer");
+    let list = uri(rt.alloc(), "rsync://example.com/m/p/x.crl").expect(&rt, "a URI");
+    let issuer = uri(rt.alloc(), "rsync://example.com/m/ta.cer").expect(&rt, "a URI");
     let out = put_issuer(&rt, rt.alloc(), &list, &issuer);
     let digits =
         "302e0603551d1f042730253023a021a01f861d7273796e633a2f2f6578616d706c652e636f6d2f6d2f702f782e63726c303806082b06010505070101042c302a302806082b06010505073002861c7273796e633a2f2f6578616d706c652e636f6d2f6d2f74612e636572";
@@ -131,7 +131,7 @@ fn no_subject(rt: HostRuntime) {
 
 #[test]
 fn where_a_subject_is(rt: HostRuntime) {
-    let folder = uri(&rt, rt.alloc(), "rsync://a/m/");
+    let folder = uri(rt.alloc(), "rsync://a/m/").expect(&rt, "a URI");
     let site = Https::from_text(rt.alloc(), "https://a").expect(&rt, "a URI");
     let out = put_subject(&rt, rt.alloc(), Some(&folder), Some(&site));
     let digits =
@@ -194,20 +194,21 @@ fn long_uri(rt: &impl Abort, alloc: Global, letters: usize) -> Rsync {
 }
 
 fn assert_read_again(rt: &impl Abort, alloc: Global, octets: Vec<u8>, part: &str) {
-    assert!(rt; samples::contains(&octets, &samples::octets(rt, alloc, part)));
+    let part = rpki_samples::octets(alloc, part).expect(rt, "digits");
+    assert!(rt; rpki_samples::contains(&octets, &part));
     let octets = Bytes::from_vec(octets).expect(rt, "memory");
     let again = TbsCert::from_constructed(alloc, &mut Cursor::new(&octets));
     let again = again.expect(rt, "certificate data");
-    let written = samples::written(rt, alloc, &again);
+    let written = rpki_samples::written(alloc, &again).expect(rt, "memory");
     drop(again);
     assert!(rt; written.as_slice() == octets.as_slice());
 }
 
 fn assert_part(rt: &impl Abort, alloc: Global, letters: usize, part: &str) {
-    let mut tbs = samples::anchor(rt, alloc);
+    let mut tbs = rpki_samples::anchor(alloc).expect(rt, "memory");
     tbs.set_ca_repository(Some(long_uri(rt, alloc, letters)));
     tbs.set_rpki_manifest(None);
-    let octets = samples::written(rt, alloc, &tbs);
+    let octets = rpki_samples::written(alloc, &tbs).expect(rt, "memory");
     drop(tbs);
     assert_read_again(rt, alloc, octets, part);
 }

@@ -1,6 +1,5 @@
 //! Certificates by each of the ways to read one, what is written of them, and their copies.
 
-use crate::samples;
 use bytes::Bytes;
 use rpki_cert::Cert;
 use rpki_der::{Cursor, DecodeError, EncodeError};
@@ -8,7 +7,7 @@ use std::alloc::{AllocError, Global};
 use std::process::Abort;
 
 fn anchor(rt: &impl Abort, alloc: Global) -> Bytes {
-    samples::signed(rt, alloc, samples::anchor(rt, alloc))
+    rpki_samples::anchor_octets(alloc).expect(rt, "memory")
 }
 
 // The octets, and one more behind them.
@@ -32,7 +31,7 @@ fn assert_same(rt: &impl Abort, alloc: Global, cert: &Cert, octets: &[u8]) {
     assert_eq!(rt; out.first(), Some(&7));
     assert!(rt; out.get(1..) == Some(octets));
     assert_octets(rt, cert.to_captured(alloc), octets);
-    let data = samples::written(rt, alloc, cert.as_tbs());
+    let data = rpki_samples::written(alloc, cert.as_tbs()).expect(rt, "memory");
     assert!(rt; cert.signed_data().data() == data.as_slice());
 }
 
@@ -95,6 +94,7 @@ fn a_content_is_a_certificate(rt: HostRuntime) {
 
 #[test]
 fn a_router_is_read(rt: HostRuntime) {
-    let octets = samples::signed(&rt, rt.alloc(), samples::router(&rt, rt.alloc()));
+    let tbs = rpki_samples::router(rt.alloc()).expect(&rt, "memory");
+    let octets = rpki_samples::signed(rt.alloc(), tbs).expect(&rt, "memory");
     assert_found(&rt, rt.alloc(), Cert::decode(rt.alloc(), &octets), &octets);
 }

@@ -6,7 +6,7 @@ use std::cell::Cell;
 
 /// What the signer refuses with.
 #[derive(Clone, Copy)]
-pub(crate) enum Refusal {
+pub enum Refusal {
     /// The key's number, as an error of the signer's own.
     Own,
     TooLong,
@@ -15,13 +15,13 @@ pub(crate) enum Refusal {
 
 /// Refuses each time, and counts.
 #[derive(Drop)]
-pub(crate) struct Refusing {
+pub struct Refusing {
     refusal: Refusal,
     calls: Cell<usize>,
 }
 
 impl Refusing {
-    pub(crate) fn new(refusal: Refusal) -> Self {
+    pub fn new(refusal: Refusal) -> Self {
         Refusing {
             refusal,
             calls: Cell::new(0),
@@ -29,7 +29,7 @@ impl Refusing {
     }
 
     /// How often it was asked.
-    pub(crate) fn calls(&self) -> usize {
+    pub fn calls(&self) -> usize {
         self.calls.get()
     }
 }

@@ -1,0 +1,27 @@
+//! Tests of certificates and of the crates below them that no line of questions and answers can
+//! ask: calls with a caller's signer, verifier, closure or iterator, setters, copies, what stands
+//! after a refusal, and calls that may want memory, with enough of it.
+#![tactic(auto)]
+
+#[cfg(test)]
+mod builders;
+#[cfg(test)]
+mod certificates;
+#[cfg(test)]
+mod copies;
+#[cfg(test)]
+mod cursors;
+#[cfg(test)]
+mod making;
+#[cfg(test)]
+mod refusals;
+#[cfg(test)]
+mod sets;
+#[cfg(test)]
+mod signing;
+#[cfg(test)]
+mod uris;
+#[cfg(test)]
+mod verifying;
+#[cfg(test)]
+mod writing;
