@@ -128,6 +128,16 @@ fn pass_over(alloc: Global, identifier: &[u8], critical: bool) -> Result<(), Dec
     Err(DecodeError::UnexpectedCritical(Oid::new(identifier)?))
 }
 
+// Whether an extension could be taken.
+type Taken = Result<(), DecodeError>;
+
+// Keeps a value; what was kept before is let go.
+fn keep<T: Drop>(kept: &mut Option<T>, value: T)
+    ensures { kept.new ≡ Some value }
+{
+    *kept = Some(value);
+}
+
 /// What the extensions that were seen so far gave.
 #[derive(Drop)]
 pub(crate) struct Seen {
@@ -199,14 +209,8 @@ impl Seen {
     }
 
     // Reads the content of an extension of this kind, where it is the first and has the kind's flag.
-    fn take(
-        &mut self,
-        alloc: Global,
-        kind: Named,
-        content: &mut Cursor<'_>,
-    ) -> Result<(), DecodeError>
-        ensures { (x : Extension) → Names x.identifier (Some kind)
-            → HasFlag (wanted kind) x.critical
+    fn take(&mut self, alloc: Global, kind: Named, content: &mut Cursor<'_>) -> Taken
+        ensures { (x : Extension) → Names x.identifier (Some kind) → HasFlag (wanted kind) x.critical
             → is_seen self.old kind ≡ false → x.content ≡ left content.old
             → ReturnsOrMemoryBy (λ _. state_of self.new) result
             (all_kinds.step (state_of self.old) x) }
@@ -221,36 +225,38 @@ impl Seen {
             }
             Named::KeyUsage => self.key_usage = Some(take_key_usage(content)?),
             Named::ExtendedKeyUsage => {
-                self.extended_key_usage = Some(take_extended_key_usage(alloc, content)?);
+                let purposes = take_extended_key_usage(alloc, content)?;
+                keep(&mut self.extended_key_usage, purposes);
             }
             Named::CrlDistributionPoints => {
-                self.crl_uri = Some(take_crl_distribution_points(alloc, content)?);
+                let uri = take_crl_distribution_points(alloc, content)?;
+                keep(&mut self.crl_uri, uri);
             }
             Named::AuthorityInformationAccess => {
-                self.ca_issuer = Some(take_authority_information_access(alloc, content)?);
+                let uri = take_authority_information_access(alloc, content)?;
+                keep(&mut self.ca_issuer, uri);
             }
             Named::SubjectInformationAccess => {
-                self.access = Some(take_subject_information_access(alloc, content)?);
+                let uris = take_subject_information_access(alloc, content)?;
+                keep(&mut self.access, uris);
             }
             Named::CertificatePolicies => {
                 self.overclaim = Some(take_certificate_policies(content)?);
             }
             Named::IpResources(mode) => {
-                self.ip_resources = Some((mode, IpResources::take_families_from(alloc, content)?));
+                let read = (mode, IpResources::take_families_from(alloc, content)?);
+                keep(&mut self.ip_resources, read);
             }
             Named::AsResources(mode) => {
-                self.as_resources = Some((mode, AsResources::take_from(alloc, content)?));
+                let read = (mode, AsResources::take_from(alloc, content)?);
+                keep(&mut self.as_resources, read);
             }
         }
         Ok(())
     }
 
     // One extension more.
-    fn put(
-        &mut self,
-        alloc: Global,
-        extension: (&[u8], bool, Cursor<'_>),
-    ) -> Result<(), DecodeError>
+    fn put(&mut self, alloc: Global, extension: (&[u8], bool, Cursor<'_>)) -> Taken
         ensures { ReturnsOrMemoryBy (λ _. state_of self.new) result
             (all_kinds.step (state_of self.old) (extension_view extension.entry)) }
     {

@@ -1,15 +1,13 @@
 //! Tests that cross the layers, and that no line of questions and answers can ask: calls of
-//! revocation lists and paths with a caller's signer, verifier, reader or writer, issuing, the
-//! README's example, and the texts of all errors. Those of certificates and of the crates below
-//! them stand in `rpki_cert_tests`.
+//! revocation lists and paths with a caller's signer, verifier, reader or writer, issuing, and the
+//! texts of all errors. Those of certificates and of the crates below them stand in
+//! `rpki_cert_tests`.
 #![tactic(auto)]
 
 #[cfg(test)]
 mod devices;
 #[cfg(test)]
 mod errors;
-#[cfg(test)]
-mod example;
 #[cfg(test)]
 mod issuing;
 #[cfg(test)]

@@ -1,4 +1,4 @@
-//! The README's example.
+//! What the README's example answers.
 
 use rpki_blocks::Asn;
 use rpki_example::holds_as;
