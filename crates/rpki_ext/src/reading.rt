@@ -210,9 +210,9 @@ impl Seen {
 
     // Reads the content of an extension of this kind, where it is the first and has the kind's flag.
     fn take(&mut self, alloc: Global, kind: Named, content: &mut Cursor<'_>) -> Taken
-        ensures { (x : Extension) → Names x.identifier (Some kind) → HasFlag (wanted kind) x.critical
-            → is_seen self.old kind ≡ false → x.content ≡ left content.old
-            → ReturnsOrMemoryBy (λ _. state_of self.new) result
+        ensures { (x : Extension) → Names x.identifier (Some kind)
+            → HasFlag (wanted kind) x.critical → is_seen self.old kind ≡ false
+            → x.content ≡ left content.old → ReturnsOrMemoryBy (λ _. state_of self.new) result
             (all_kinds.step (state_of self.old) x) }
     {
         match kind {
