@@ -15,6 +15,8 @@ fn of_octets(rt: HostRuntime) {
     let copy = piece.try_clone(rt.alloc()).expect(&rt, "memory");
     assert!(rt; copy == piece);
     assert_eq!(rt; copy.as_bytes(), b"\x05\x00".as_slice());
+    drop(copy);
+    drop(piece);
 }
 
 #[test]
@@ -26,6 +28,9 @@ fn of_identifiers(rt: HostRuntime) {
     assert_eq!(rt; copy.as_bytes(), b"\x55\x1d\x63".as_slice());
     let other = Oid::new(Bytes::from_static(b"\x55\x1d\x13")).expect(&rt, "an identifier");
     assert!(rt; other != id);
+    drop(other);
+    drop(copy);
+    drop(id);
 }
 
 fn seven_to_nine(rt: &impl Abort, alloc: Global) -> AsBlocks {
@@ -91,6 +96,7 @@ fn assert_site(rt: &impl Abort, alloc: Global, site: &Https, text: &[u8]) {
     let copy = site.try_clone(alloc).expect(rt, "memory");
     assert!(rt; copy == *site);
     assert_eq!(rt; copy.as_bytes(), text);
+    drop(copy);
 }
 
 #[test]
@@ -111,6 +117,7 @@ fn assert_signed(rt: &impl Abort, alloc: Global, signed: &SignedData) {
     let copy = signed.try_clone(alloc).expect(rt, "memory");
     assert_eq!(rt; copy.data(), b"\x05\x00".as_slice());
     assert_signature(rt, copy.signature());
+    drop(copy);
 }
 
 #[test]
@@ -142,6 +149,8 @@ fn of_purposes(rt: HostRuntime) {
     assert_purposes(&rt, rt.alloc(), &purposes, &kept);
     let copy = purposes.try_clone(rt.alloc()).expect(&rt, "memory");
     assert_purposes(&rt, rt.alloc(), &copy, &kept);
+    drop(copy);
+    drop(purposes);
 }
 
 // What is written of the copy.

@@ -53,7 +53,8 @@ fn two_forms_of_a_key_identifier(rt: HostRuntime) {
     let mut cursor = Cursor::new(&octets);
     assert!(rt; KeyIdentifier::take_from(&mut cursor).expect(&rt, "an identifier") == id);
     let other = KeyIdentifier::take_from(&mut cursor);
-    assert!(rt; matches!(other, Err(DecodeError::BadTag)));
+    assert!(rt; matches!(&other, Err(DecodeError::BadTag)));
+    drop(other);
     assert_eq!(rt; cursor.span(), (22, 44));
     assert_eq!(rt; cursor.rest().first(), Some(&0x80));
 }

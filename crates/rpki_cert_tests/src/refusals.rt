@@ -11,6 +11,7 @@ use std::process::Abort;
 
 fn assert_kept<T: Drop>(rt: &impl Abort, answer: Result<T, DecodeError>, cursor: &Cursor<'_>) {
     assert!(rt; answer.is_err());
+    drop(answer);
     assert_eq!(rt; cursor.span(), (0, 8));
 }
 

@@ -90,6 +90,7 @@ fn devices_may_be_slow(rt: HostRuntime) -> Result<(), Fail> {
     assert!(rt; !reader.failed());
     assert!(rt; !writer.failed());
     assert_eq!(rt; output.octets.as_slice(), b"yes\n".as_slice());
+    drop(output);
     Ok(())
 }
 
@@ -223,7 +224,11 @@ impl Write for FailsOnce {
 fn kind_of(answer: io::Result<usize>) -> Option<ErrorKind> {
     match answer {
         Ok(_) => None,
-        Err(error) => Some(error.kind()),
+        Err(error) => {
+            let kind = error.kind();
+            drop(error);
+            Some(kind)
+        }
     }
 }
 

@@ -17,45 +17,46 @@ fn assert_shown(rt: &impl Abort, shown: Result<String, AllocError>, text: &str) 
     assert_eq!(rt; shown.expect(rt, "memory").as_str(), text);
 }
 
-fn assert_read(rt: &impl Abort, alloc: Global, error: &DecodeError, name: &str, text: &str) {
+fn assert_read(rt: &impl Abort, alloc: Global, error: DecodeError, name: &str, text: &str) {
     assert_eq!(rt; error.name(), name);
     assert_shown(rt, format!(in alloc; "{error}"), text);
+    drop(error);
 }
 
 #[test]
 fn of_values_that_are_read(rt: HostRuntime) {
     let alloc = rt.alloc();
     let (truncated, length) = (DecodeError::Truncated, DecodeError::BadLength);
-    assert_read(&rt, alloc, &truncated, "Truncated", "truncated value");
-    assert_read(&rt, alloc, &length, "BadLength", "bad length");
+    assert_read(&rt, alloc, truncated, "Truncated", "truncated value");
+    assert_read(&rt, alloc, length, "BadLength", "bad length");
     let (tag, value) = (DecodeError::BadTag, DecodeError::BadValue);
-    assert_read(&rt, alloc, &tag, "BadTag", "unexpected identifier");
-    assert_read(&rt, alloc, &value, "BadValue", "bad value");
+    assert_read(&rt, alloc, tag, "BadTag", "unexpected identifier");
+    assert_read(&rt, alloc, value, "BadValue", "bad value");
     let (trailing, deep) = (DecodeError::Trailing, DecodeError::TooDeep);
-    assert_read(&rt, alloc, &trailing, "Trailing", "trailing octets");
-    assert_read(&rt, alloc, &deep, "TooDeep", "values nested too deep");
+    assert_read(&rt, alloc, trailing, "Trailing", "trailing octets");
+    assert_read(&rt, alloc, deep, "TooDeep", "values nested too deep");
     let memory = DecodeError::Memory;
-    assert_read(&rt, alloc, &memory, "Memory", "out of memory");
+    assert_read(&rt, alloc, memory, "Memory", "out of memory");
 }
 
 #[test]
 fn of_fields_that_are_read(rt: HostRuntime) {
     let alloc = rt.alloc();
     let missing = DecodeError::Missing(Field::Resources);
-    assert_read(&rt, alloc, &missing, "Missing", "missing Resources");
+    assert_read(&rt, alloc, missing, "Missing", "missing Resources");
     let twice = DecodeError::Duplicate(Field::KeyUsage);
-    assert_read(&rt, alloc, &twice, "Duplicate", "duplicate KeyUsage");
+    assert_read(&rt, alloc, twice, "Duplicate", "duplicate KeyUsage");
     let critical = DecodeError::Critical(Field::CrlNumber);
-    assert_read(&rt, alloc, &critical, "Critical", "CrlNumber is critical");
+    assert_read(&rt, alloc, critical, "Critical", "CrlNumber is critical");
     let uncritical = DecodeError::NotCritical(Field::BasicConstraints);
     let text = "BasicConstraints is not critical";
-    assert_read(&rt, alloc, &uncritical, "NotCritical", text);
+    assert_read(&rt, alloc, uncritical, "NotCritical", text);
     let wrong = DecodeError::WrongResources(Field::IpResources);
     let text = "wrong identifier of IpResources";
-    assert_read(&rt, alloc, &wrong, "WrongResources", text);
+    assert_read(&rt, alloc, wrong, "WrongResources", text);
     let algorithms = DecodeError::AlgorithmMismatch;
     let text = "signature algorithm mismatch";
-    assert_read(&rt, alloc, &algorithms, "AlgorithmMismatch", text);
+    assert_read(&rt, alloc, algorithms, "AlgorithmMismatch", text);
 }
 
 fn identifier(rt: &impl Abort) -> Oid {
@@ -66,10 +67,10 @@ fn identifier(rt: &impl Abort) -> Oid {
 fn of_extensions_that_are_read(rt: HostRuntime) {
     let unknown = DecodeError::UnexpectedCritical(identifier(&rt));
     let text = "unexpected critical extension 551d63";
-    assert_read(&rt, rt.alloc(), &unknown, "UnexpectedCritical", text);
+    assert_read(&rt, rt.alloc(), unknown, "UnexpectedCritical", text);
     let invalid = DecodeError::InvalidExtension(identifier(&rt));
     let text = "invalid extension 551d63";
-    assert_read(&rt, rt.alloc(), &invalid, "InvalidExtension", text);
+    assert_read(&rt, rt.alloc(), invalid, "InvalidExtension", text);
 }
 
 #[test]
@@ -259,12 +260,13 @@ fn of_validation(rt: HostRuntime) {
 fn assert_unissued(
     rt: &impl Abort,
     alloc: Global,
-    error: &IssueCaError<u32>,
+    error: IssueCaError<u32>,
     name: &str,
     text: &str,
 ) {
     assert_eq!(rt; error.name(), name);
     assert_shown(rt, format!(in alloc; "{error}"), text);
+    drop(error);
 }
 
 #[test]
@@ -274,13 +276,13 @@ fn of_issuing(rt: HostRuntime) {
     let capture = IssueCaError::Encode(EncodeError::Memory);
     let reading = IssueCaError::Decode(DecodeError::Memory);
     let validity = IssueCaError::Validation(ValidationError::from(InspectionError::Issuer));
-    assert_unissued(&rt, alloc, &signing, "Signing", "certificate not signed");
+    assert_unissued(&rt, alloc, signing, "Signing", "certificate not signed");
     let text = "certificate not captured: out of memory";
-    assert_unissued(&rt, alloc, &capture, "Encode", text);
+    assert_unissued(&rt, alloc, capture, "Encode", text);
     let text = "certificate not read again: out of memory";
-    assert_unissued(&rt, alloc, &reading, "Decode", text);
+    assert_unissued(&rt, alloc, reading, "Decode", text);
     let text = "issued certificate not valid: invalid issuer";
-    assert_unissued(&rt, alloc, &validity, "Validation", text);
+    assert_unissued(&rt, alloc, validity, "Validation", text);
 }
 
 fn assert_wrong(rt: &impl Abort, alloc: Global, fault: PathFault, name: &str, text: &str) {
@@ -288,6 +290,7 @@ fn assert_wrong(rt: &impl Abort, alloc: Global, fault: PathFault, name: &str, te
     let error = PathError { index: 2, fault };
     assert_eq!(rt; error.name(), "PathError");
     assert_shown(rt, format!(in alloc; "{error}"), text);
+    drop(error);
 }
 
 #[test]
@@ -332,7 +335,7 @@ fn assert_invalid(rt: &impl Abort, alloc: Global, invalid: InvalidExtension) {
     assert_read(
         rt,
         alloc,
-        &error,
+        error,
         "InvalidExtension",
         "invalid extension 551d63",
     );

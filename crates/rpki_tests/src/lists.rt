@@ -50,6 +50,7 @@ fn assert_data(rt: &impl Abort, alloc: Global, list: &Crl, number: Serial) {
     let mut out = Vec::new(alloc);
     data.encode_ref(alloc, &mut out).expect(rt, "octets");
     assert!(rt; out.as_slice() == list.signed_data().data());
+    drop(data);
 }
 
 #[test]
@@ -63,6 +64,7 @@ fn push(rt: &impl Abort, alloc: Global, store: &mut CrlStore, under: &str, digit
     let under = uri(alloc, under).expect(rt, "a URI");
     let pushed = store.push(under, list(rt, alloc, digits));
     assert!(rt; pushed.is_ok());
+    drop(pushed);
 }
 
 fn assert_stored(rt: &impl Abort, alloc: Global, store: &CrlStore, under: &str, digits: &str) {
@@ -84,6 +86,7 @@ fn the_first_list_under_a_uri_is_found(rt: HostRuntime) {
             .get(&uri(rt.alloc(), "rsync://h/m/A.crl").expect(&rt, "a URI"))
             .is_none()
     );
+    drop(store);
 }
 
 /// The data of the list of the key `abc` with the entries 12 and 42, for ten years.
