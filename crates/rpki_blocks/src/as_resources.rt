@@ -20,6 +20,7 @@ use std::alloc::Global;
 struct AsNumbers;
 
 // A range of a whole content.
+#[inline(always)]
 fn range_in(mut content: Cursor<'_>) -> Result<AsBlock, DecodeError>
     ensures { Returns result (as_range_of (left content.entry)) }
 {
@@ -33,6 +34,7 @@ fn range_in(mut content: Cursor<'_>) -> Result<AsBlock, DecodeError>
 }
 
 #[tactic(auto, unfolding(crate::specs::Systems::Reading::as_element_at))]
+#[inline(always)]
 fn take_element(cursor: &mut Cursor<'_>) -> Result<AsBlock, DecodeError>
     ensures reads { Took as_element_at cursor.old result cursor.new }
     ensures keeps { Keeps result cursor.old cursor.new }
@@ -54,6 +56,7 @@ impl Elements for AsNumbers {
 
     ghost element_at = { λ _. as_element_at };
 
+    #[inline(always)]
     fn take_element(&self, cursor: &mut Cursor<'_>) -> Result<AsBlock, DecodeError> {
         take_element(cursor)
     }

@@ -29,6 +29,7 @@ pub(crate) trait Elements {
 }
 
 // One block more.
+#[inline(always)]
 fn push<B: Bound>(blocks: &mut Vec<Block<B>>, block: Block<B>) -> Result<(), AllocError>
     ensures { OnOk result (blocks.new.items ≡ blocks.old.items ++ block ∷ []) }
 {
@@ -37,6 +38,7 @@ fn push<B: Bound>(blocks: &mut Vec<Block<B>>, block: Block<B>) -> Result<(), All
 }
 
 // The elements that a content is a row of.
+#[inline(always)]
 fn elements_in<K: Elements>(
     alloc: Global,
     kind: &K,

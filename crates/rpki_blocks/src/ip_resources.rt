@@ -51,6 +51,7 @@ impl Family {
 }
 
 // The least address that begins with these octets.
+#[inline(always)]
 fn lower(octets: &[u8]) -> u128
     requires { length octets.now ≤ 16 }
     ensures { result ≡ lower octets.now }
@@ -66,6 +67,7 @@ fn lower(octets: &[u8]) -> u128
 }
 
 // The addresses that begin with the bits of a BIT STRING.
+#[inline(always)]
 fn prefix_of(bits: usize, unused: u8, octets: &[u8]) -> Result<IpBlock, DecodeError>
     requires family { bits ≤ 128 }
     requires few { unused < 8 }
@@ -82,6 +84,7 @@ fn prefix_of(bits: usize, unused: u8, octets: &[u8]) -> Result<IpBlock, DecodeEr
 
 // The addresses that begin with the bits of the BIT STRING that stands next.
 #[tactic(auto, unfolding(crate::specs::Addresses::Reading::address_at))]
+#[inline(always)]
 fn take_address(family: Family, cursor: &mut Cursor<'_>) -> Result<IpBlock, DecodeError>
     ensures reads { Took (address_at family) cursor.old result cursor.new }
     ensures keeps { Keeps result cursor.old cursor.new }
@@ -94,6 +97,7 @@ fn take_address(family: Family, cursor: &mut Cursor<'_>) -> Result<IpBlock, Deco
 }
 
 // A range: from the first address of one prefix to the last of another.
+#[inline(always)]
 fn range_in(family: Family, mut content: Cursor<'_>) -> Result<IpBlock, DecodeError>
     ensures { Returns result (address_range family (left content.entry)) }
 {
@@ -112,6 +116,7 @@ impl Elements for Family {
     ghost element_at = { ip_element_at };
 
     #[tactic(auto, unfolding(crate::specs::Addresses::Reading::ip_element_at))]
+    #[inline(always)]
     fn take_element(&self, cursor: &mut Cursor<'_>) -> Result<IpBlock, DecodeError> {
         let mut ahead = cursor.fork();
         let block = match ahead.take_opt_sequence()? {

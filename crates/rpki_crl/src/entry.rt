@@ -35,6 +35,7 @@ impl CrlEntry {
 
     // What stands in the SEQUENCE, by the reading function.
     #[tactic(auto, unfolding(crate::specs::RevokedEntries::Reading::entry_content_at))]
+    #[inline(always)]
     fn take_content(content: &mut Cursor<'_>) -> Result<CrlEntry, DecodeError>
         ensures reads { TookBy entry_of entry_content_at content.old result content.new }
         ensures keeps { Keeps result content.old content.new }
@@ -52,6 +53,7 @@ impl CrlEntry {
 
     // The entry that stands next, by the reading function.
     #[tactic(auto, unfolding(crate::specs::RevokedEntries::Reading::entry_at))]
+    #[inline(always)]
     fn take_entry(cursor: &mut Cursor<'_>) -> Result<CrlEntry, DecodeError>
         ensures reads { TookBy entry_of entry_at cursor.old result cursor.new }
         ensures keeps { Keeps result cursor.old cursor.new }
@@ -66,6 +68,7 @@ impl CrlEntry {
     }
 
     /// The SEQUENCE of a serial number and a time that must stand next (RFC 5280 5.1).
+    #[inline(always)]
     pub fn take_from(cursor: &mut Cursor<'_>) -> Result<CrlEntry, DecodeError>
         ensures answers { AnswersBy entry_of IsEntry cursor.old result cursor.new }
         ensures reads { TookBy entry_of entry_at cursor.old result cursor.new }

@@ -7,7 +7,7 @@ pub mod Reading
 -- how many constructed values may stand one inside the other, the skipped one counted as the first
 -- (own)
 abbrev pub levels : ℕ
-levels = 16
+levels = 32
 
 abbrev pub IsPrimitive : ℕ → Type 0
 IsPrimitive tag = (tag / 32) % 2 ≡ 0

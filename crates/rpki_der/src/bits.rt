@@ -11,6 +11,7 @@ use crate::error::DecodeError;
 use crate::tag;
 
 // Whether as many bits as are unused are 0 at the end, and none are unused where there is no octet.
+#[inline(always)]
 fn has_zero_bits(unused: u8, octets: &[u8]) -> bool
     ensures { result ≡ has_zero_bits unused octets.now }
 {
@@ -23,6 +24,7 @@ fn has_zero_bits(unused: u8, octets: &[u8]) -> bool
 impl<'a> Cursor<'a> {
     // The next BIT STRING, by the reading function.
     #[tactic(auto, unfolding(crate::specs::Primitives::Reading::bits_at))]
+    #[inline(always)]
     fn next_bits(&mut self) -> Result<(u8, Cursor<'a>), DecodeError>
         ensures reads { TookBy (λ x. (x.0, left x.1)) bits_at self.old result self.new }
         ensures keeps { Keeps result self.old self.new }
@@ -43,6 +45,7 @@ impl<'a> Cursor<'a> {
 
     /// How many bits are unused at the end of the BIT STRING that must stand next, and a cursor
     /// over its octets (X.690 8.6). The unused bits are 0 (X.690 11.2.1).
+    #[inline(always)]
     pub fn take_bits(&mut self) -> Result<(u8, Cursor<'a>), DecodeError>
         ensures answers { AnswersBy (λ x. (x.0, left x.1)) IsBits self.old result self.new }
         ensures reads { TookBy (λ x. (x.0, left x.1)) bits_at self.old result self.new }

@@ -13,6 +13,7 @@ use crate::error::DecodeError;
 use crate::tag;
 
 // The value of a whole content.
+#[inline(always)]
 fn bool_in(content: &[u8]) -> Result<bool, DecodeError>
     ensures { Returns result (bool_of content.now) }
 {
@@ -26,6 +27,7 @@ fn bool_in(content: &[u8]) -> Result<bool, DecodeError>
 impl<'a> Cursor<'a> {
     // The next BOOLEAN.
     #[tactic(auto, unfolding(crate::specs::Primitives::Reading::bool_at))]
+    #[inline(always)]
     fn next_bool(&mut self) -> Result<bool, DecodeError>
         ensures reads { Took bool_at self.old result self.new }
         ensures keeps { Keeps result self.old self.new }
@@ -39,6 +41,7 @@ impl<'a> Cursor<'a> {
 
     // The next BOOLEAN, if one stands next, by the reading function.
     #[tactic(auto, unfolding(crate::specs::Primitives::Reading::bool_or_false_at))]
+    #[inline(always)]
     fn next_bool_or_false(&mut self) -> Result<bool, DecodeError>
         ensures reads { Took bool_or_false_at self.old result self.new }
         ensures keeps { Keeps result self.old self.new }
@@ -52,6 +55,7 @@ impl<'a> Cursor<'a> {
 
     /// The BOOLEAN that stands next, else false: at the end, or before another identifier (X.690
     /// 8.2, 11.1). An explicit false is read too (own).
+    #[inline(always)]
     pub fn take_bool_or_false(&mut self) -> Result<bool, DecodeError>
         ensures answers { AnswersOrAbsent BOOLEAN IsBoolOrFalse self.old result self.new }
         ensures reads { Took bool_or_false_at self.old result self.new }

@@ -35,6 +35,7 @@ impl<'a> Model for Cursor<'a> {
 
 impl<'a> Cursor<'a> {
     /// A cursor over all of the source.
+    #[inline(always)]
     pub fn new(source: &'a Bytes) -> Cursor<'a>
         ensures whole { result
             ≡ record { source = source.now; from = 0; to = length source.now } }
@@ -48,6 +49,7 @@ impl<'a> Cursor<'a> {
     }
 
     /// Another cursor at this place. What it reads moves only itself.
+    #[inline(always)]
     pub fn fork(&self) -> Cursor<'a>
         ensures same { result ≡ self.now }
         ensures octets { AreOctets (left self.now) }
@@ -62,6 +64,7 @@ impl<'a> Cursor<'a> {
     }
 
     /// Where in the source the octets that are left begin and end.
+    #[inline(always)]
     pub fn span(&self) -> (usize, usize)
         ensures span { result ≡ (self.now.from, self.now.to) }
         ensures order { self.now.from ≤ self.now.to }
@@ -71,6 +74,7 @@ impl<'a> Cursor<'a> {
     }
 
     /// The octets that are left.
+    #[inline(always)]
     pub fn rest(&self) -> &'a [u8]
         ensures left { result.now ≡ left self.now }
         ensures octets { AreOctets result.now }
@@ -81,6 +85,7 @@ impl<'a> Cursor<'a> {
     }
 
     /// Whether no octet is left.
+    #[inline(always)]
     pub fn is_empty(&self) -> bool
         ensures { IsTrue result ↔ (left self.now ≡ []) }
     {
@@ -88,6 +93,7 @@ impl<'a> Cursor<'a> {
     }
 
     /// Ends the reading of these octets. Answers `Trailing` where some are left.
+    #[inline(always)]
     pub fn finish(self) -> Result<(), DecodeError>
         ensures end { IsOk result ↔ (left self.entry ≡ []) }
         ensures at_end { OnOk result (self.entry.from ≡ self.entry.to) }
@@ -101,6 +107,7 @@ impl<'a> Cursor<'a> {
     }
 
     // Passes over octets that are left.
+    #[inline(always)]
     pub(crate) fn advance(&mut self, count: usize)
         requires { count ≤ length (left self.old) }
         ensures left { left self.new ≡ drop count (left self.old) }
@@ -110,6 +117,7 @@ impl<'a> Cursor<'a> {
     }
 
     // A cursor over the octets from here to a later place.
+    #[inline(always)]
     pub(crate) fn until(&self, later: &Cursor<'a>) -> Cursor<'a>
         requires { MovesOn self.now later.now }
         ensures { left result
@@ -123,6 +131,7 @@ impl<'a> Cursor<'a> {
     }
 
     // The next value, by the reading function.
+    #[inline(always)]
     fn next_value(&mut self, tag: u8) -> Result<Cursor<'a>, DecodeError>
         ensures reads { TookBy left (value_at tag) self.old result self.new }
         ensures keeps { Keeps result self.old self.new }
@@ -144,6 +153,7 @@ impl<'a> Cursor<'a> {
 
     /// A cursor over the content of the next value, which must have this identifier octet (X.690
     /// 8.1, 10.1).
+    #[inline(always)]
     pub fn take_value(&mut self, tag: u8) -> Result<Cursor<'a>, DecodeError>
         ensures answers { AnswersBy left (IsEnc tag) self.old result self.new }
         ensures reads { TookBy left (value_at tag) self.old result self.new }
@@ -156,6 +166,7 @@ impl<'a> Cursor<'a> {
 
     /// The same where the next value has this identifier octet, else `None`: at the end, or before
     /// another one.
+    #[inline(always)]
     pub fn take_opt_value(&mut self, tag: u8) -> Result<Option<Cursor<'a>>, DecodeError>
         ensures answers { AnswersOptionalBy left tag (IsEnc tag) self.old result self.new }
         ensures reads { let reading = optional tag (value_at tag) in
@@ -171,6 +182,7 @@ impl<'a> Cursor<'a> {
     }
 
     /// A cursor over the content of the SEQUENCE that must stand next.
+    #[inline(always)]
     pub fn take_sequence(&mut self) -> Result<Cursor<'a>, DecodeError>
         ensures answers { AnswersBy left (IsEnc SEQUENCE) self.old result self.new }
         ensures reads { TookBy left (value_at SEQUENCE) self.old result self.new }
@@ -182,6 +194,7 @@ impl<'a> Cursor<'a> {
     }
 
     /// The same where a SEQUENCE stands next, else `None`.
+    #[inline(always)]
     pub fn take_opt_sequence(&mut self) -> Result<Option<Cursor<'a>>, DecodeError>
         ensures answers { let spells = IsEnc SEQUENCE in
             AnswersOptionalBy left SEQUENCE spells self.old result self.new }
@@ -195,6 +208,7 @@ impl<'a> Cursor<'a> {
     }
 
     /// All that is left, kept. The cursor then stands at the end; the only error is `Memory`.
+    #[inline(always)]
     pub fn capture_rest(&mut self, _alloc: Global) -> Result<Piece, DecodeError>
         ensures ok { IfOk result (λ p. (p ≡ left self.old) × (left self.new ≡ [])) }
         ensures keeps { Keeps result self.old self.new }

@@ -107,6 +107,7 @@ pub fn put_extension(
 
 // The extension that stands next, by the reading function.
 #[tactic(auto, unfolding(crate::specs::Extensions::Reading::extension_at))]
+#[inline(always)]
 fn read<'a>(cursor: &mut Cursor<'a>) -> Result<(&'a [u8], bool, Cursor<'a>), DecodeError>
     ensures reads { TookBy extension_view extension_at cursor.old result cursor.new }
     ensures keeps { Keeps result cursor.old cursor.new }
@@ -126,6 +127,7 @@ fn read<'a>(cursor: &mut Cursor<'a>) -> Result<(&'a [u8], bool, Cursor<'a>), Dec
 
 /// The identifier, the critical flag and the content of the extension that stands next (RFC 5280
 /// 4.1.2.9).
+#[inline(always)]
 pub fn take_extension<'a>(
     cursor: &mut Cursor<'a>,
 ) -> Result<(&'a [u8], bool, Cursor<'a>), DecodeError>

@@ -12,6 +12,7 @@ use crate::error::DecodeError;
 use crate::tag;
 
 // Whether these are the content of an INTEGER that is not negative.
+#[inline(always)]
 pub(crate) fn is_unsigned(content: &[u8]) -> bool
     ensures { result ≡ is_unsigned content.now }
 {
@@ -22,6 +23,7 @@ pub(crate) fn is_unsigned(content: &[u8]) -> bool
 }
 
 // The number of a whole content.
+#[inline(always)]
 fn u32_in(content: &[u8]) -> Result<u32, DecodeError>
     ensures { Returns result (number_below (2 ^ 32) content.now) }
 {
@@ -63,6 +65,7 @@ pub(crate) fn sign(digits: &[u8]) -> &'static [u8]
 impl<'a> Cursor<'a> {
     // The next INTEGER, by the reading function.
     #[tactic(auto, unfolding(crate::specs::Primitives::Reading::u32_at))]
+    #[inline(always)]
     fn next_u32(&mut self) -> Result<u32, DecodeError>
         ensures reads { Took u32_at self.old result self.new }
         ensures keeps { Keeps result self.old self.new }
@@ -76,6 +79,7 @@ impl<'a> Cursor<'a> {
     }
 
     /// The INTEGER from 0 to 2^32 - 1 that must stand next (X.690 8.3).
+    #[inline(always)]
     pub fn take_u32(&mut self) -> Result<u32, DecodeError>
         ensures answers { Answers IsU32 self.old result self.new }
         ensures reads { Took u32_at self.old result self.new }

@@ -59,8 +59,10 @@ pub fn one_moment()
         → second_number m ≡ second_number n → m ≡ n }
 {}
 
-/// What may be skipped under one bound of depth may be skipped under a greater one.
+/// What may be skipped under one bound of depth may be skipped under a greater one: so what was
+/// skipped when the bound was 16 is skipped under today's 32.
 pub fn deeper()
-    ensures { (d e : ℕ) (b : List ℕ) → d ≤ e
+    ensures general { (d e : ℕ) (b : List ℕ) → d ≤ e
         → IsSkippableWithin d b → IsSkippableWithin e b }
+    ensures to_32 { (b : List ℕ) → IsSkippableWithin 16 b → IsSkippableWithin 32 b }
 {}

@@ -124,6 +124,7 @@ impl Model for Oid {
 }
 
 /// Whether these are whole subidentifiers, each without a leading `80`.
+#[inline(always)]
 pub(crate) fn is_oid(content: &[u8]) -> bool
     ensures { result ≡ is_oid content.now }
 {
@@ -181,6 +182,7 @@ impl Oid {
 impl<'a> Cursor<'a> {
     // The content of the next OBJECT IDENTIFIER, by the reading function.
     #[tactic(auto, unfolding(crate::specs::Primitives::Reading::oid_at))]
+    #[inline(always)]
     fn next_oid(&mut self) -> Result<&'a [u8], DecodeError>
         ensures reads { TookBy (λ id. id.now) oid_at self.old result self.new }
         ensures keeps { Keeps result self.old self.new }
@@ -196,6 +198,7 @@ impl<'a> Cursor<'a> {
     }
 
     /// The content octets of the OBJECT IDENTIFIER that must stand next (X.690 8.19).
+    #[inline(always)]
     pub fn take_oid(&mut self) -> Result<&'a [u8], DecodeError>
         ensures answers { AnswersBy (λ id. id.now) IsObjectIdentifier self.old result self.new }
         ensures reads { TookBy (λ id. id.now) oid_at self.old result self.new }

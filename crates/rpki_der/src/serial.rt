@@ -68,6 +68,7 @@ impl From<u128> for Serial {
 
 impl Serial {
     /// The number of these octets, the greatest first, if it is below 2^160. No octets are 0.
+    #[inline(always)]
     pub fn from_slice(octets: &[u8]) -> Option<Serial>
         ensures some { IsSome result ↔ (number_from_digits 256 octets.now < 2 ^ 160) }
         ensures value { IfSome result (λ s. s ≡ number_from_digits 256 octets.now) }
@@ -108,6 +109,7 @@ impl Serial {
 
     // The serial that stands next, by the reading function.
     #[tactic(auto, unfolding(crate::specs::Serials::Reading::serial_at))]
+    #[inline(always)]
     fn take_number(cursor: &mut Cursor<'_>) -> Result<Serial, DecodeError>
         ensures reads { Took serial_at cursor.old result cursor.new }
         ensures keeps { Keeps result cursor.old cursor.new }
@@ -121,6 +123,7 @@ impl Serial {
     }
 
     /// The INTEGER that must stand next, from 0 to 2^160 - 1 (RFC 5280 4.1.2.2).
+    #[inline(always)]
     pub fn take_from(cursor: &mut Cursor<'_>) -> Result<Serial, DecodeError>
         ensures answers { Answers IsSerial cursor.old result cursor.new }
         ensures reads { Took serial_at cursor.old result cursor.new }
@@ -131,6 +134,7 @@ impl Serial {
 }
 
 // The serial of a whole content.
+#[inline(always)]
 fn serial_in(content: &[u8]) -> Result<Serial, DecodeError>
     ensures { Returns result (serial_of content.now) }
 {

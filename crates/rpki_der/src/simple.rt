@@ -13,6 +13,7 @@ use crate::tag;
 
 impl<'a> Cursor<'a> {
     /// A cursor over the octets of the OCTET STRING that must stand next (X.690 8.7).
+    #[inline(always)]
     pub fn take_octets(&mut self) -> Result<Cursor<'a>, DecodeError>
         ensures answers { AnswersBy left (IsEnc OCTET_STRING) self.old result self.new }
         ensures reads { TookBy left octets_at self.old result self.new }
@@ -25,6 +26,7 @@ impl<'a> Cursor<'a> {
 
     // The next NULL, by the reading function.
     #[tactic(auto, unfolding(crate::specs::Primitives::Reading::null_at))]
+    #[inline(always)]
     fn next_null(&mut self) -> Result<(), DecodeError>
         ensures reads { Took null_at self.old result self.new }
         ensures keeps { Keeps result self.old self.new }
@@ -39,6 +41,7 @@ impl<'a> Cursor<'a> {
     }
 
     /// The NULL that must stand next (X.690 8.8). Answers `BadValue` where it has a content.
+    #[inline(always)]
     pub fn take_null(&mut self) -> Result<(), DecodeError>
         ensures answers { Answers IsNull self.old result self.new }
         ensures reads { Took null_at self.old result self.new }

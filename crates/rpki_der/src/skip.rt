@@ -13,10 +13,11 @@ use std::alloc::Global;
 
 // How many constructed values may stand one inside the other, the skipped one counted as the first
 // (own).
-const LEVELS: u8 = 16;
+const LEVELS: u8 = 32;
 
 impl<'a> Cursor<'a> {
     // The identifier octet and the content of the next value.
+    #[inline(always)]
     fn next_any(&mut self) -> Result<(u8, Cursor<'a>), DecodeError>
         ensures reads { TookBy (λ x. (x.0, left x.1)) any_at self.old result self.new }
         ensures keeps { Keeps result self.old self.new }
@@ -71,7 +72,7 @@ impl<'a> Cursor<'a> {
     }
 
     /// Passes over one well-formed value (X.690 8.1, 10.1) in which constructed values stand at
-    /// most 16 deep, this one counted as the first (own). Answers `TooDeep` at a constructed value
+    /// most 32 deep, this one counted as the first (own). Answers `TooDeep` at a constructed value
     /// below the last level. Takes no memory.
     pub fn skip_one(&mut self) -> Result<(), DecodeError>
         ensures answers { Answers IsSkipped self.old result self.new }
@@ -107,6 +108,7 @@ impl<'a> Cursor<'a> {
 
     // The octets of the next value, by the reading function.
     #[tactic(auto, unfolding(crate::specs::Skipping::Reading::captured_at))]
+    #[inline(always)]
     fn next_captured(&mut self, alloc: Global) -> Result<Piece, DecodeError>
         ensures reads { TookOrMemory captured_at self.old result self.new }
         ensures keeps { Keeps result self.old self.new }
@@ -121,6 +123,7 @@ impl<'a> Cursor<'a> {
 
     /// Keeps the next value whole, whatever its identifier octet (X.690 8.1, 10.1). Its inside is
     /// not tested. The only other error than those of the identifier and the length is `Memory`.
+    #[inline(always)]
     pub fn capture_one(&mut self, alloc: Global) -> Result<Piece, DecodeError>
         ensures answers { AnswersOrMemory IsCaptured self.old result self.new }
         ensures reads { TookOrMemory captured_at self.old result self.new }

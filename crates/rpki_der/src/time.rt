@@ -49,6 +49,7 @@ impl Model for Time {
 }
 
 // A part of a date or of a time of day, as the calendar takes it.
+#[inline(always)]
 fn part(n: u32) -> i8
     requires { n < 100 }
     ensures { result ≡ pos n }
@@ -56,6 +57,7 @@ fn part(n: u32) -> i8
     n as i8
 }
 
+#[inline(always)]
 fn year_part(year: u32) -> i16
     requires { year < 10000 }
     ensures { result ≡ pos year }
@@ -64,6 +66,7 @@ fn year_part(year: u32) -> i16
 }
 
 // The date and the time of day with these parts, where the calendar has the one and a clock the other.
+#[inline(always)]
 fn civil(
     year: i16,
     month: i8,
@@ -99,6 +102,7 @@ impl Time {
     }
 
     // The same from a year that is not negative.
+    #[inline(always)]
     fn at(year: u32, month: u32, day: u32, hour: u32, minute: u32, second: u32) -> Option<Time>
         ensures exists { IsSome result
             ↔ IsMoment (moment year month day hour minute second) }
@@ -133,6 +137,7 @@ impl Time {
 
     // The time that stands next, by the reading function.
     #[tactic(auto, unfolding(crate::specs::Times::Reading::time_at))]
+    #[inline(always)]
     fn take_time(cursor: &mut Cursor<'_>) -> Result<Time, DecodeError>
         ensures reads { Took time_at cursor.old result cursor.new }
         ensures keeps { Keeps result cursor.old cursor.new }
@@ -149,6 +154,7 @@ impl Time {
 
     /// The UTCTime or GeneralizedTime that must stand next, in the form that ends in seconds and Z
     /// (RFC 5280 4.1.2.5).
+    #[inline(always)]
     pub fn take_from(cursor: &mut Cursor<'_>) -> Result<Time, DecodeError>
         ensures answers { Answers IsTime cursor.old result cursor.new }
         ensures reads { Took time_at cursor.old result cursor.new }
@@ -269,6 +275,7 @@ fn digits(n: u8) -> [u8; 2]
 
 // The number of the two decimal digits at the front, and what follows them.
 #[tactic(auto, unfolding(crate::specs::Times::Reading::two_at))]
+#[inline(always)]
 fn two_digits(text: &[u8]) -> Result<(u32, &[u8]), DecodeError>
     ensures reads { ReturnsBy (λ x. (x.0, x.1.now)) result (two_at text.now) }
     ensures small { IfOk result (λ x. x.0 < 100) }
@@ -284,6 +291,7 @@ fn two_digits(text: &[u8]) -> Result<(u32, &[u8]), DecodeError>
 
 // The time of this year with this text after it, MMDDhhmmss and the end.
 #[tactic(auto, unfolding(crate::specs::Times::Reading::after_year_of))]
+#[inline(always)]
 fn after_year(year: u32, text: &[u8], end: &[u8]) -> Result<Time, DecodeError>
     requires { year < 10000 }
     ensures { Returns result (after_year_of end.now year text.now) }
@@ -304,6 +312,7 @@ fn after_year(year: u32, text: &[u8], end: &[u8]) -> Result<Time, DecodeError>
 
 // The time of a whole content YYMMDDhhmmssZ.
 #[tactic(auto, unfolding(crate::specs::Times::Reading::utc_of))]
+#[inline(always)]
 fn utc_time(text: &[u8]) -> Result<Time, DecodeError>
     ensures { Returns result (utc_of text.now) }
 {

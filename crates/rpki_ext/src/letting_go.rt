@@ -2,6 +2,7 @@
 ghost use Rattle.std.specs.Prelude.{◌≡◌, Ok, Err, IfOk, IfErr};
 
 /// A value beside what a step after it gave; the error alone where that step refused.
+#[inline(always)]
 pub fn beside<T: Drop, S, E>(value: T, step: Result<S, E>) -> Result<(T, S), E>
     ensures ok { IfOk result (λ r. (r.0 ≡ value) × (step ≡ Ok r.1)) }
     ensures refused { IfErr result (λ e. step ≡ Err e) }
