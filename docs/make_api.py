@@ -1,0 +1,267 @@
+#!/usr/bin/env python3
+"""Makes docs/api: a page for each public module of the crate `rpki`, from the facade and the sources.
+
+    docs/make_api.py            writes the pages
+    docs/make_api.py --check    writes nothing, and exits with 1 where a page isn't up to date
+
+A page has each public item of its module: the comment, the signature, the clauses of the contract,
+and where the definitions stand that the clauses cite. Plain Python 3, standard library alone.
+"""
+import re
+import sys
+from pathlib import Path
+
+ROOT = Path(__file__).resolve().parent.parent
+CRATES = ROOT / "crates"
+FACADE = CRATES / "rpki" / "src"
+PAGES = ROOT / "docs" / "api"
+ITEM = re.compile(r"(\s*)pub (fn|struct|enum|trait|type|const) ([A-Za-z_0-9]+)")
+IMPL = re.compile(r"impl(?:<[^{]*?>)? ([A-Z][A-Za-z0-9]*)(?:<.*>)?(?: where .*)? \{?$")
+FROM = re.compile(r"impl(?:<[^{]*?>)? (From<.*>|FromIterator<.*>|fmt::Display|Display) for ([A-Z][A-Za-z0-9]*)")
+
+
+class Source:
+    """A source file: its lines, and where the names of its clauses come from."""
+
+    def __init__(self, path):
+        self.path = path
+        self.lines = path.read_text().split("\n")
+        self.cited = {}
+        for crate, module, names in re.findall(
+            r"ghost use Rattle\.(rpki_\w+|rsa_\w+)\.specs\.([\w.]+)\.\{([^}]*)\}", "\n".join(self.lines)
+        ):
+            for name in names.split(","):
+                known, _, here = name.strip().partition(" as ")
+                self.cited[here or known] = (crate, module, known)
+
+    def comment(self, at):
+        """The lines `///` above a line, and the attributes passed over."""
+        found = []
+        at -= 1
+        while at >= 0 and self.lines[at].strip().startswith(("///", "#[")):
+            if self.lines[at].strip().startswith("///"):
+                found.append(self.lines[at].strip()[3:].strip())
+            at -= 1
+        return " ".join(reversed(found))
+
+    def signature(self, at):
+        """A function's head with its clauses, without its body."""
+        indent = len(self.lines[at]) - len(self.lines[at].lstrip())
+        taken = []
+        for line in self.lines[at:]:
+            bare = line[indent:] if line[:indent].strip() == "" else line
+            if bare in ("{", "{}", "{ }") or bare.rstrip() == "{}":
+                break
+            if bare.endswith(" {") and not bare.lstrip().startswith("ensures"):
+                taken.append(bare[:-2])
+                break
+            if bare.endswith(" {}"):
+                taken.append(bare[:-3])
+                break
+            taken.append(bare)
+        return taken
+
+    def whole(self, at):
+        """A declaration to its closing brace."""
+        if self.lines[at].rstrip().endswith(";"):
+            return [self.lines[at]]
+        taken = []
+        for line in self.lines[at:]:
+            taken.append(line)
+            if line in ("}", ");") or line.rstrip().endswith("{}"):
+                break
+        return taken
+
+
+def sources(crate):
+    return [Source(path) for path in sorted((CRATES / crate / "src").rglob("*.rt"))]
+
+
+class Library:
+    """The items of one library by name, and the calls of its types."""
+
+    def __init__(self, crate):
+        self.crate = crate
+        self.items, self.calls, self.modules, self.gives = {}, {}, {}, {}
+        for source in sources(crate):
+            self.read(source)
+
+    def read(self, source):
+        module = source.path.stem
+        owner = None
+        for at, line in enumerate(source.lines):
+            if line.startswith("impl"):
+                head = IMPL.match(line)
+                owner = head.group(1) if head else None
+                of = FROM.match(line)
+                if of:
+                    self.gives.setdefault(of.group(2), []).append(of.group(1))
+            elif line == "}":
+                owner = None
+            found = ITEM.match(line)
+            if not found:
+                continue
+            indent, kind, name = found.groups()
+            if not indent:
+                self.items[name] = (kind, source, at)
+                self.modules.setdefault(module, []).append((kind, name, source, at))
+            elif owner and kind in ("fn", "const"):
+                self.calls.setdefault(owner, []).append((kind, name, source, at))
+
+
+LIBRARIES = {}
+
+
+def library(crate):
+    if crate not in LIBRARIES:
+        LIBRARIES[crate] = Library(crate)
+    return LIBRARIES[crate]
+
+
+def definition(crate, module, name):
+    """Where a definition stands: a path from the root, with its line."""
+    path = CRATES / crate / "specs" / (module.replace(".", "/") + ".antt")
+    if not path.exists():
+        return None
+    wanted = re.compile(r"(?:abbrev |data |record )*pub (?:record |data |abbrev )*" + re.escape(name) + r"\b")
+    for number, line in enumerate(path.read_text().split("\n"), 1):
+        if wanted.match(line):
+            return f"{path.relative_to(ROOT)}#L{number}"
+    return str(path.relative_to(ROOT))
+
+
+def links(page, source, text):
+    """The definitions that a text cites, as links from a page."""
+    up = "../" * len(page.relative_to(ROOT).parent.parts)
+    found = []
+    for word in dict.fromkeys(re.findall(r"[A-Za-z_][A-Za-z_0-9]*", text)):
+        if word in source.cited:
+            place = definition(*source.cited[word])
+            if place:
+                found.append(f"[`{word}`]({up}{place})")
+    return found
+
+
+def wrapped(text, width=100):
+    lines, line = [], ""
+    for word in text.split():
+        if line and len(line) + 1 + len(word) > width:
+            lines.append(line)
+            line = word
+        else:
+            line = f"{line} {word}" if line else word
+    return lines + [line] if line else lines
+
+
+def entry(page, title, source, at, code, level):
+    out = [f"{'#' * level} {title}", ""]
+    comment = source.comment(at)
+    if comment:
+        out += wrapped(comment) + [""]
+    out += ["```rust"] + code + ["```", ""]
+    cited = links(page, source, "\n".join(code))
+    if cited:
+        out += wrapped("Definitions: " + ", ".join(cited)) + [""]
+    return out
+
+
+def of_item(page, crate, name, public):
+    lib = library(crate)
+    if name not in lib.items:
+        return None
+    kind, source, at = lib.items[name]
+    code = source.signature(at) if kind == "fn" else shown(source, kind, at)
+    out = entry(page, f"`{public}`", source, at, code, 2)
+    gives = [f"`{what}`" for what in lib.gives.get(name, [])]
+    if gives:
+        out += wrapped("Implements " + ", ".join(gives) + ".") + [""]
+    for _, call, where, line in lib.calls.get(name, []):
+        out += entry(page, f"`{public}::{call}`", where, line, where.signature(line), 3)
+    return out
+
+
+def shown(source, kind, at):
+    """A type as a caller sees it: fields that aren't public are left out."""
+    whole = source.whole(at)
+    if kind != "struct" or len(whole) == 1:
+        return whole
+    inside = [line for line in whole[1:-1] if line.strip().startswith("pub ")]
+    hidden = len(inside) < len([line for line in whole[1:-1] if line.strip() and "//" not in line])
+    return [whole[0]] + inside + (["    // private"] if hidden else []) + [whole[-1]]
+
+
+def of_module(page, crate, module, public):
+    out = []
+    for kind, name, source, at in library(crate).modules.get(module, []):
+        code = source.signature(at) if kind == "fn" else shown(source, kind, at)
+        out += entry(page, f"`{public}::{name}`", source, at, code, 2)
+    return out
+
+
+def uses(text):
+    """The names that a facade's file hands on: crate, name, public name."""
+    for crate, rest in re.findall(r"pub use (rpki_\w+|rsa_\w+)::([^;]+);", text):
+        for part in re.sub(r"[{}]", "", rest).split(","):
+            name, _, public = part.strip().partition(" as ")
+            if name:
+                yield crate, name, public or name
+
+
+def homes():
+    """The page of each item: the deepest that hands it on."""
+    found = {}
+    for path in sorted(FACADE.rglob("*.rt"), key=lambda path: (len(path.parts), path)):
+        page = page_of(path)
+        for crate, name, public in uses(path.read_text()):
+            found[crate, name] = (page, public)
+    return found
+
+
+def page_of(path):
+    parts = list(path.relative_to(FACADE).with_suffix("").parts)
+    return PAGES / ("/".join(["rpki"] if parts == ["lib"] else parts) + ".md")
+
+
+def pages():
+    home = homes()
+    for path in sorted(FACADE.rglob("*.rt")):
+        parts = list(path.relative_to(FACADE).with_suffix("").parts)
+        module = "::".join(["rpki"] + ([] if parts == ["lib"] else parts))
+        page = page_of(path)
+        text = path.read_text()
+        head = " ".join(line[3:].strip() for line in text.split("\n") if line.startswith("//!"))
+        out = [f"# `{module}`", ""] + wrapped(head) + [""]
+        out += ["Made by `docs/make_api.py` from the sources; edit those.", ""]
+        body = []
+        for crate, name, public in uses(text):
+            at, there = home[crate, name]
+            if at != page:
+                body += [f"- `{public}`: [here]({at.relative_to(page.parent)})"]
+                continue
+            body += of_item(page, crate, name, public) or of_module(page, crate, name, public)
+        if body:
+            yield page, module, head, "\n".join(out + body).rstrip() + "\n"
+
+
+def main():
+    made = {}
+    index = ["# The public calls", "", "A page for each public module, with the contract of each call."]
+    index += ["Made by `docs/make_api.py` from the sources; edit those.", "", "| Module | What it has |", "|---|---|"]
+    for page, module, head, text in pages():
+        made[page] = text
+        index.append(f"| [`{module}`]({page.relative_to(PAGES)}) | {head} |")
+    made[PAGES / "README.md"] = "\n".join(index) + "\n"
+    if "--check" in sys.argv[1:]:
+        stale = [page for page, text in made.items() if not page.exists() or page.read_text() != text]
+        stale += [page for page in PAGES.rglob("*.md") if page not in made]
+        for page in stale:
+            print(f"not up to date: {page.relative_to(ROOT)}")
+        sys.exit(1 if stale else 0)
+    for page, text in made.items():
+        page.parent.mkdir(parents=True, exist_ok=True)
+        page.write_text(text)
+    print(f"{len(made)} pages")
+
+
+if __name__ == "__main__":
+    main()
