@@ -1,0 +1,46 @@
+#!/usr/bin/env python3
+"""Brings the sizes in docs/ARCHITECTURE.md, "What has to be believed", up to date.
+
+    docs/sizes.py            writes the lines of each file of definitions behind its name
+    docs/sizes.py --check    writes nothing, and exits with 1 where a size is another
+"""
+import re
+import sys
+from pathlib import Path
+
+ROOT = Path(__file__).resolve().parent.parent
+PAGE = ROOT / "docs" / "ARCHITECTURE.md"
+
+
+def lines_of(crate, name):
+    path = ROOT / "crates" / crate / "specs" / f"{name}.antt"
+    return len(path.read_text().splitlines()) if path.exists() else None
+
+
+def main():
+    text = PAGE.read_text()
+    start = text.index("## What has to be believed")
+    end = text.index("The other files compute", start)
+    crate, told = None, []
+
+    def sized(match):
+        size = lines_of(crate, match.group(1))
+        if size is None or size == int(match.group(2)):
+            return match.group(0)
+        told.append(f"{crate} {match.group(1)}: {match.group(2)}, has {size}")
+        return f"{match.group(1)} {size}"
+
+    made = []
+    for line in text[start:end].split("\n"):
+        of = re.match(r"- `(\w+)`:", line)
+        crate = of.group(1) if of else crate
+        made.append(re.sub(r"\b([A-Z]\w+(?:/\w+)?) (\d+)", sized, line) if crate else line)
+    for line in told:
+        print(line)
+    if "--check" in sys.argv[1:]:
+        sys.exit(1 if told else 0)
+    PAGE.write_text(text[:start] + "\n".join(made) + text[end:])
+
+
+if __name__ == "__main__":
+    main()
