@@ -7,7 +7,7 @@ use Rattle.rpki_der.specs.Extensions.{Extension, IsExtension}
 use Rattle.rpki_parts.specs.Signatures.{SignatureFields}
 use Rattle.rpki_ext.specs.ExtensionKinds.{known}
 use Rattle.rpki_ext.specs.Kinds.{is_of}
-use Rattle.rpki_cert.specs.Certificates.{TbsFields, CertFields, IsCertificate}
+use Rattle.rpki_cert.specs.Certificates.{TbsFields, IsCertificate}
 
 -- how often the string stands among the pieces
 abbrev pub times : List ℕ → List (List ℕ) → ℕ
