@@ -10,3 +10,4 @@ pub mod ReadAgain
 pub mod Reordering
 pub mod SameExtensions
 pub mod RearrangedCertificates
+pub mod DeeperCertificates

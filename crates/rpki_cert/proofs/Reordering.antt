@@ -20,7 +20,8 @@ NoMore x = ⊥
 
 -- ---- from the counts of equal strings
 
-abbrev hit : List ℕ → List ℕ → ℕ
+-- 1 where x is the string
+abbrev pub hit : List ℕ → List ℕ → ℕ
 hit e x = cond (bytes_eq e x) 1 0
 
 times_cons : (e x : List ℕ) (xs : List (List ℕ)) → times e (x ∷ xs) ≡ hit e x + times e xs
