@@ -7,3 +7,7 @@ pub mod Testing
 pub mod Lines
 pub mod IssuedNumbers
 pub mod ReadAgain
+pub mod Reordering
+pub mod SameExtensions
+pub mod RearrangedCertificates
+pub mod DeeperCertificates

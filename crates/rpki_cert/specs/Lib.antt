@@ -6,3 +6,4 @@ pub mod Verification
 pub mod Errors
 pub mod Validation
 pub mod Issuing
+pub mod Rearranged

@@ -1,0 +1,132 @@
+-- Extensions in another order, with more among them that are passed over, give the same fields.
+use Rattle.std.specs.List.{AllByRecursion, AllZip}
+use Rattle.std.proofs.Common.{◌≡◌, false, refl, ℕ, zero, suc, ◌≤◌, List, [], ◌∷◌, length, take, drop, Option, Some, arith, subst, sym}
+use Rattle.std.proofs.lemmas.Bool.{or_parts, or_from}
+use Rattle.rpki_der.specs.Extensions.{Extension, IsExtension}
+use Rattle.rpki_der.specs.Extensions.Reading.{extension_at}
+use Rattle.rpki_der.specs.Rows.{IsAtMostOne}
+use Rattle.rpki_der.proofs.ExtensionReads.{extension_reads}
+use Rattle.rpki_blocks.specs.declared.overclaim.Overclaim.{Overclaim}
+use Rattle.rpki_ext.specs.CertificateExtensions.{ExtensionFields, GiveFields}
+use Rattle.rpki_ext.specs.ExtensionKinds.{known, basic_constraints, subject_key_identifier, authority_key_identifier, key_usage, extended_key_usage, crl_distribution_points, authority_information_access, subject_information_access, certificate_policies, ip_resources, as_resources}
+use Rattle.rpki_ext.specs.Kinds.{ExtensionKind, is_of, only, identifiers, identifiers_by_mode, Tells, TellsUnder, Gives, GivesUnder}
+use Rattle.rpki_ext.proofs.OneMeaning.{unambiguous}
+use Rattle.rpki_cert.specs.Rearranged.{IsPassedOver, IsSomeExtension}
+use Rattle.rpki_cert.proofs.Reordering.{IsReordered, kept, short_same, length_moved, all_moved, all_moved_back, carry}
+
+-- ---- the identifiers of a kind are known
+
+abbrev IsPassed : Extension → Type 0
+IsPassed x = (is_of known x ≡ false) × (x.critical ≡ false)
+
+-- an extension of no known kind isn't under one of these
+abbrev AreKnown : List (List ℕ) → Type 0
+AreKnown ids = (x : Extension) → is_of known x ≡ false → is_of ids x ≡ false
+
+none_before : (count : ℕ) (ids : List (List ℕ)) (x : Extension) → is_of ids x ≡ false → is_of (take count ids) x ≡ false
+none_before zero ids x e = refl
+none_before (suc count) [] x e = refl
+none_before (suc count) (id ∷ ids) x e = let parts = or_parts _ _ e in or_from _ _ parts.0 (none_before count ids x parts.1)
+
+none_behind : (place : ℕ) (ids : List (List ℕ)) (x : Extension) → is_of ids x ≡ false → is_of (drop place ids) x ≡ false
+none_behind zero ids x e = e
+none_behind (suc place) [] x e = refl
+none_behind (suc place) (id ∷ ids) x e = none_behind place ids x (or_parts _ _ e).1
+
+-- these are so many of the known ones, from this place on
+at : (place count : ℕ) → AreKnown (take count (drop place known))
+at place count x e = none_before count (drop place known) x (none_behind place known x e)
+
+-- ---- what a row gives
+
+-- of each known kind of which there is at most one, the extensions are the same
+abbrev SameKinds : List Extension → List Extension → Type 0
+SameKinds xs ys = (ids : List (List ℕ)) → AreKnown ids → length (only ids xs) ≤ 1 → only ids xs ≡ only ids ys
+
+one_short : {X V : Type 0} (P : X → V → Type 0) (xs : List X) (v : Option V) → IsAtMostOne P xs v → length xs ≤ 1
+one_short P [] v h = omega arith
+one_short P (x ∷ []) v h = omega arith
+one_short P (x ∷ y ∷ more) v h = absurd h
+
+module _ (xs ys : List Extension) (same : SameKinds xs ys) where
+  one : {V : Type 0} (P : Extension → V → Type 0) (ids : List (List ℕ)) (v : Option V) → AreKnown ids → IsAtMostOne P (only ids xs) v → IsAtMostOne P (only ids ys) v
+  one P ids v in_known h = subst (λ (s : List Extension). IsAtMostOne P s v) (same ids in_known (one_short P (only ids xs) v h)) h
+
+  given : {V : Type 0} (kind : ExtensionKind V) (v : Option V) → AreKnown (identifiers kind) → Gives kind xs v → Gives kind ys v
+  given kind v in_known h = one (Tells kind) (identifiers kind) v in_known h
+
+  given_under : {V : Type 0} (kinds : Overclaim → ExtensionKind V) (mode : Overclaim) (v : Option V) → AreKnown (identifiers_by_mode kinds) → GivesUnder kinds mode xs v → GivesUnder kinds mode ys v
+  given_under kinds mode v in_known h = one (TellsUnder kinds mode) (identifiers_by_mode kinds) v in_known h
+
+  same_fields : (f : ExtensionFields) → AllByRecursion (λ x. is_of known x ≡ false → x.critical ≡ false) ys → GiveFields xs f → GiveFields ys f
+  same_fields f passed_over g = record {
+    passed_over = passed_over;
+    basic_constraints_is = given basic_constraints f.basic_ca (at 0 1) g.basic_constraints_is;
+    subject_key_identifier_is = given subject_key_identifier (Some f.subject_key_identifier) (at 1 1) g.subject_key_identifier_is;
+    authority_key_identifier_is = given authority_key_identifier f.authority_key_identifier (at 2 1) g.authority_key_identifier_is;
+    key_usage_is = given key_usage (Some f.key_usage) (at 3 1) g.key_usage_is;
+    extended_key_usage_is = given extended_key_usage f.extended_key_usage (at 4 1) g.extended_key_usage_is;
+    crl_distribution_points_is = given crl_distribution_points f.crl_uri (at 5 1) g.crl_distribution_points_is;
+    authority_information_access_is = given authority_information_access f.ca_issuer (at 6 1) g.authority_information_access_is;
+    access = g.access;
+    subject_information_access_is = given subject_information_access g.access (at 7 1) g.subject_information_access_is;
+    access_is = g.access_is;
+    certificate_policies_is = given certificate_policies (Some f.overclaim) (at 8 1) g.certificate_policies_is;
+    ip = g.ip;
+    ip_resources_is = given_under ip_resources f.overclaim g.ip (at 9 2) g.ip_resources_is;
+    v4_is = g.v4_is;
+    v6_is = g.v6_is;
+    numbers = g.numbers;
+    as_resources_is = given_under as_resources f.overclaim g.numbers (at 11 2) g.as_resources_is;
+    as_is = g.as_is;
+    some_resources = g.some_resources;
+  }
+
+-- ---- in another order
+
+same_kinds : (xs ys : List Extension) → IsReordered IsPassed xs ys → SameKinds xs ys
+same_kinds xs ys r ids in_known short = short_same _ _ (kept IsPassed (is_of ids) (λ x h. in_known x h.0) xs ys r) short
+
+same_kinds_back : (xs ys : List Extension) → IsReordered IsPassed xs ys → SameKinds ys xs
+same_kinds_back xs ys r ids in_known short =
+    let filtered = kept IsPassed (is_of ids) (λ x h. in_known x h.0) xs ys r in
+    sym (short_same _ _ filtered (omega (arith, length_moved _ _ filtered, short)))
+
+-- ---- pieces
+
+-- what the extensions of one row of pieces give, those of the other give
+abbrev pub GiveAlike : List (List ℕ) → List (List ℕ) → Type 0
+GiveAlike old new = (xs : List Extension) (f : ExtensionFields) → AllZip IsExtension xs old → GiveFields xs f → (ys : List Extension) × AllZip IsExtension ys new × GiveFields ys f
+
+passed_is : (piece : List ℕ) → IsPassedOver piece → (x : Extension) × IsExtension x piece × IsPassed x
+passed_is piece h = (h.extension, h.piece_is, (h.unknown, h.not_critical))
+
+pub new_give : (old new : List (List ℕ)) → IsReordered IsPassedOver old new → GiveAlike old new
+new_give old new r xs f zipped g =
+    let carried = carry IsExtension IsPassedOver IsPassed passed_is xs old new zipped r in
+    let passed_over = all_moved IsPassed (λ x. is_of known x ≡ false → x.critical ≡ false) (λ x h _. h.1) xs carried.0 carried.2 g.passed_over in
+    (carried.0, carried.1, same_fields xs carried.0 (same_kinds xs carried.0 carried.2) f passed_over g)
+
+some_row : (pieces : List (List ℕ)) → AllByRecursion IsSomeExtension pieces → (xs : List Extension) × AllZip IsExtension xs pieces
+some_row [] h = ([], tt)
+some_row (p ∷ ps) h = let r = some_row ps h.1 in (h.0.0 ∷ r.0, (h.0.1, r.1))
+
+-- a piece is one extension
+one_row_of : (xs ys : List Extension) (pieces : List (List ℕ)) → AllZip IsExtension xs pieces → AllZip IsExtension ys pieces → xs ≡ ys
+one_row_of [] [] [] p q = refl
+one_row_of [] (y ∷ ys) [] p q = elim q [ ]
+one_row_of (x ∷ xs) ys [] p q = elim p [ ]
+one_row_of [] ys (b ∷ bs) p q = elim p [ ]
+one_row_of (x ∷ xs) [] (b ∷ bs) p q = elim q [ ]
+one_row_of (x ∷ xs) (y ∷ ys) (b ∷ bs) p q =
+    let first : x ≡ y = (unambiguous extension_at IsExtension extension_reads x y b b [] [] p.0 q.0 refl).0 in
+    let rest = one_row_of xs ys bs p.1 q.1 in cc (first, rest)
+
+pub old_give : (old new : List (List ℕ)) → AllByRecursion IsSomeExtension old → IsReordered IsPassedOver old new → GiveAlike new old
+old_give old new pieces_are r ys f zipped g =
+    let xs = some_row old pieces_are in
+    let carried = carry IsExtension IsPassedOver IsPassed passed_is xs.0 old new xs.1 r in
+    let same : carried.0 ≡ ys = one_row_of carried.0 ys new carried.1 zipped in
+    let moved : IsReordered IsPassed xs.0 ys = subst (λ (s : List Extension). IsReordered IsPassed xs.0 s) same carried.2 in
+    let passed_over = all_moved_back IsPassed (λ x. is_of known x ≡ false → x.critical ≡ false) xs.0 ys moved g.passed_over in
+    (xs.0, xs.1, same_fields ys xs.0 (same_kinds_back xs.0 ys moved) f passed_over g)
