@@ -146,14 +146,21 @@ def into_crl(r, key):
 
 
 @reader
-def take_crl(cursor):
-    """A revocation list (RFC 5280 5.1)."""
-    content = cursor.take_sequence()
-    signed = take_signed_content(content)
-    content.finish()
+def take_crl_content(cursor):
+    """The content of a revocation list's SEQUENCE."""
+    signed = take_signed_content(cursor)
     tbs = take_tbs_list(Cursor(signed.data, depth=cursor.depth))
     require(tbs.signature == signed.algorithm, 'AlgorithmMismatch')
     return Crl(tbs, signed)
+
+
+@reader
+def take_crl(cursor):
+    """A revocation list (RFC 5280 5.1)."""
+    content = cursor.take_sequence()
+    crl = take_crl_content(content)
+    content.finish()
+    return crl
 
 
 def decode_crl(octets, depth=DEPTH):
