@@ -56,6 +56,10 @@ pub use Rattle.rpki_parts.specs.declared.key.PublicKeyFormat
 pub use Rattle.rpki_parts.specs.declared.signature.SigningError
 pub use Rattle.rpki_parts.specs.declared.uri.UriError
 pub use Rattle.rpki_parts.specs.declared.valid_at.ValidityError
+-- ---- signatures of the RPKI
+pub use Rattle.rpki_rsa.specs.Octets
+pub use Rattle.rpki_rsa.specs.RsaKeys
+pub use Rattle.rpki_rsa.specs.RsaSignatures
 -- ---- extensions
 pub use Rattle.rpki_ext.specs.Choosing
 pub use Rattle.rpki_ext.specs.Kinds

@@ -1,0 +1,2 @@
+//! Signatures by the RPKI's RSA keys, verified from octets.
+pub use rpki_rsa::{is_rpki_key, verify};
