@@ -8,6 +8,7 @@ pub mod Lines
 pub mod IssuedNumbers
 pub mod ReadAgain
 pub mod Reordering
+pub mod Permutations
 pub mod SameExtensions
 pub mod RearrangedCertificates
 pub mod DeeperCertificates
