@@ -90,6 +90,7 @@ pub use Rattle.rpki_cert.specs.Verification
 pub use Rattle.rpki_cert.specs.Errors
 pub use Rattle.rpki_cert.specs.Validation
 pub use Rattle.rpki_cert.specs.Issuing
+pub use Rattle.rpki_cert.specs.Rearranged
 pub use Rattle.rpki_cert.specs.declared.inspect.Kind
 pub use Rattle.rpki_cert.specs.declared.issue.IssueCaError
 pub use Rattle.rpki_cert.specs.declared.validation_error.ValidationError

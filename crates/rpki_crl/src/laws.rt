@@ -1,11 +1,12 @@
 //! Laws about the definitions. Each is the contract of a function with no parameters and an empty body.
-ghost use Rattle.std.specs.Prelude.{◌≡◌, ℕ, List};
+ghost use Rattle.std.specs.Prelude.{◌≡◌, ℕ, ◌≤◌, List};
 ghost use Rattle.std.specs.List.{AllByRecursion};
-ghost use Rattle.rpki_der.specs.Spelling.{BeginsOrAbsent};
+ghost use Rattle.rpki_der.specs.Spelling.{Begins, BeginsOrAbsent};
 ghost use Rattle.rpki_der.specs.Tags.{SEQUENCE};
 ghost use Rattle.rpki_der.specs.Values.{IsUnambiguous};
 ghost use Rattle.rpki_parts.specs.SignedDatas.{signed_data};
-ghost use Rattle.rpki_crl.specs.Lists.{CrlFields, ListFields, ListFits, IsTbsCertList, IsCertificateList, IsMadeList, list_spelling};
+ghost use Rattle.rpki_crl.specs.Lists.{CrlFields, ListFields, ListFits, IsTbsCertList, IsCertificateList, IsCertificateListWithin};
+ghost use Rattle.rpki_crl.specs.Lists.{IsMadeList, list_spelling};
 ghost use Rattle.rpki_crl.specs.RevokedEntries.{Entry, Revoked, AreEntries, IsRevokedCertificates, FitsEntry, entries};
 
 /// A string begins with at most one revocation list, with its fields and entries, and no list's octets are a proper beginning of
@@ -39,4 +40,15 @@ pub fn written_is_read()
         → IsCertificateList r (signed_data r.signed_data) }
     ensures row { (es : List Entry) → AllByRecursion FitsEntry es → AreEntries es (entries es) }
     ensures premises { (f : ListFields Revoked) × ListFits f }
+{}
+
+/// Says that a revocation list under one bound of depth is one under a greater bound, with the octets, fields and entries that it has: the
+/// bound concerns its issuer's name alone. So what readers took when skipped values might stand 16 deep is read under today's 32, at the front
+/// of whatever octets, with the rest that it had.
+pub fn still_read()
+    ensures general { (d e : ℕ) (r : CrlFields) (b : List ℕ) → d ≤ e
+        → IsCertificateListWithin d r b → IsCertificateListWithin e r b }
+    ensures to_32 { (r : CrlFields) (octets rest : List ℕ)
+        → Begins (IsCertificateListWithin 16) octets r rest
+        → Begins IsCertificateList octets r rest }
 {}
