@@ -542,11 +542,11 @@ def random_member(rng, path, kind, above, issuer_key):
     return draft_of(rng, kind, ref.TbsCert(**fields), issuer_key, path.depth)
 
 
-def random_path(rng, depth=ref.DEPTH):
-    """An accepted path of length 1 to 8."""
+def random_path(rng, longest=8, depth=ref.DEPTH):
+    """An accepted path of 1 to `longest` members."""
     path = Path([], strict=chance(rng, 0.6), depth=depth,
                 now=random_time(rng, [2024]))
-    length = rng.randint(1, 8)
+    length = rng.randint(1, longest)
     leaf = rng.choice([ref.EE, ref.DETACHED, ref.CA])
     kinds = [ref.TA] + [ref.CA] * (length - 2) + [leaf] * (length > 1)
     for kind in kinds:
