@@ -399,7 +399,8 @@ def revocation(words):
     if now is None or not members or members[0][0] != ref.TA:
         return 'unfit'
     store = ref.CrlStore(pairs_of(words.at(3)))
-    return path_line(members, words.at(2) == 'strict', now, store)
+    answer = path_line(members, words.at(2) == 'strict', now, store)
+    return line(answer, ('cached', 'same'))
 
 
 WORDS = {

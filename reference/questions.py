@@ -422,7 +422,7 @@ def revocation_question(rng):
         share_a_uri(rng, path.drafts)
     label, pairs = random_store(rng, path)
     members = [(it.kind, it.octets()) for it in path.drafts]
-    if chance(rng, 0.05):
+    if chance(rng, 0.1) and members[-1][0] in (ref.TA, ref.CA):
         members.append((ref.CA, b'\x30'))
     store = ';'.join(f'{uri.hex()}:{crl.octets().hex()}' for uri, crl in pairs)
     shown = ' '.join(f'{kind}:{hexed(octets)}' for kind, octets in members)
