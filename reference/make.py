@@ -3,17 +3,18 @@
 
     python3 reference/make.py NAME > crates/rpki_rows/data/made-NAME.rows
     python3 reference/make.py --all         # writes all of them
-    python3 reference/make.py --check       # compares all of them
-    python3 reference/make.py --judge       # asks every row of every file
+    python3 reference/make.py --check       # makes all, and compares
+    python3 reference/make.py --judge       # asks the reference all other rows
 
-A file depends on its name, its seed and this folder alone. `--check` makes all
-files in memory and compares them with those that stand, `--judge` asks the
-reference the questions of every file of rows, made or not, and compares its
-answers; both print each difference, `N passed, M failed`, and exit with 1 where
-anything differs.
+A file depends on its name, its seed, this folder, and on the other files of
+rows, whose questions it doesn't ask again. `--check` makes all files in memory and compares them with those that stand; `--judge` asks the
+reference the questions of all other files of rows, whose answers are from
+elsewhere, and tells of questions that are asked twice. Both print each
+difference, `N passed, M failed`, and exit with 1 where anything differs.
 """
 
 import collections
+import functools
 import random
 import sys
 from typing import Callable, NamedTuple
@@ -82,9 +83,18 @@ def random_row(name, index):
     return label, question
 
 
+@functools.cache
+def asked_elsewhere():
+    """The questions of the files that are not made here."""
+    made = [file_of(name) for name in BLOCKS]
+    return {rows.with_octets(row.question)
+            for path in rows.DATA.glob('*.rows') if path not in made
+            for row in rows.read(path)}
+
+
 def rows_of(name):
     """The rows of a file: questions in turn, none twice, of all verdicts."""
-    block, made, seen = BLOCKS[name], [], set()
+    block, made, seen = BLOCKS[name], [], set(asked_elsewhere())
     kinds, index = collections.Counter(), 0
     while len(made) < block.count:
         label, question = random_row(name, index)
@@ -134,26 +144,30 @@ def check():
     return len(BLOCKS) - failed, failed
 
 
+def judge_row(path, row):
+    """Whether a row's answer is the reference's; None where it has no word."""
+    answer = answers.answer(rows.with_octets(row.question))
+    if answer is not None and answer != row.answer:
+        print(f'{path.name}: {row.name}\n  stands     {row.answer}\n'
+              f'  reference  {answer}')
+    return None if answer is None else answer == row.answer
+
+
 def judge():
-    """Asks the reference every row, and compares its answer."""
-    passed, failed = 0, 0
-    asked = collections.Counter()
+    """Asks the reference each row that it didn't make."""
+    asked, verdicts = collections.Counter(), collections.Counter()
+    made = [file_of(name) for name in BLOCKS]
     for path in sorted(rows.DATA.glob('*.rows')):
         for row in rows.read(path):
-            asked[row.question] += 1
-            answer = answers.answer(rows.with_octets(row.question))
-            if answer is None:
-                continue
-            passed, failed = passed + (answer == row.answer), failed + (
-                answer != row.answer)
-            if answer != row.answer:
-                print(f'{path.name}: {row.name}\n  stands  {row.answer}\n'
-                      f'  answer  {answer}')
-    for question, count in asked.items():
-        if count > 1:
-            failed += 1
-            print(f'asked {count} times: {question[:120]}')
-    return passed, failed
+            asked[rows.with_octets(row.question)] += 1
+            if path not in made:
+                verdicts[judge_row(path, row)] += 1
+    twice = [question for question, count in asked.items() if count > 1]
+    for question in twice:
+        print(f'asked twice: {question[:120]}')
+    if verdicts[None]:
+        print(f'{verdicts[None]} rows have words that the reference has not')
+    return verdicts[True], verdicts[False] + len(twice)
 
 
 def totals(counts):

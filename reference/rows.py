@@ -36,10 +36,10 @@ def read(path):
     return rows
 
 
-def with_octets(question, folder=DATA):
+def with_octets(question):
     """The question with the octets of NAME.der for each `@NAME`, if it is there."""
     def octets(found):
-        path = folder / f'{found[1]}.der'
+        path = DATA / f'{found[1]}.der'
         return path.read_bytes().hex() if path.exists() else found[0]
     return re.sub('@([a-z0-9-]+)', octets, question)
 
