@@ -167,12 +167,6 @@ def decode_crl(octets, depth=DEPTH):
     return take_crl(Cursor(octets, depth=depth))
 
 
-def verify_crl_claim(crl, issuer):
-    """Whether the list names the issuer's key (RFC 6487 5)."""
-    expect(crl.tbs.authority_key_identifier ==
-           issuer.cert.tbs.subject_key_identifier, 'WrongKeyId')
-
-
 def contains_counted(octets, serial, cached):
     """The answer and the comparisons made: all uncached, halving cached."""
     serials = [entry.serial for entry in entries_of(octets)]

@@ -7,10 +7,11 @@
     python3 reference/make.py --judge       # asks the reference all other rows
 
 A file depends on its name, its seed, this folder, and on the other files of
-rows, whose questions it doesn't ask again. `--check` makes all files in memory and compares them with those that stand; `--judge` asks the
-reference the questions of all other files of rows, whose answers are from
-elsewhere, and tells of questions that are asked twice. Both print each
-difference, `N passed, M failed`, and exit with 1 where anything differs.
+rows, whose questions it doesn't ask again. `--check` makes all files in memory
+and compares them with those that stand; `--judge` asks the reference the
+questions of all other files, whose answers are from elsewhere, and tells of
+questions that are asked twice. Both print each difference, `N passed,
+M failed`, and exit with 1 where anything differs.
 """
 
 import collections

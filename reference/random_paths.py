@@ -65,11 +65,6 @@ def random_set(rng, kind, most=5):
                      for _ in range(rng.randint(1, most)))
 
 
-def is_v4_set(ranges):
-    return all(low % (1 << 96) == 0 and (high + 1) % (1 << 96) == 0
-               for low, high in ranges)
-
-
 def part_of(rng, kind, ranges):
     """A set inside another, None where that is empty."""
     cut = ref.intersection(random_set(rng, kind), ranges)
