@@ -12,7 +12,6 @@ from parts import (
     take_signed_content)
 from extensions import OID, put_extension, take_authority_key_identifier, take_extension
 from certificates import put_key_id_content
-from verification import expect
 
 
 class Entry(NamedTuple):
