@@ -131,10 +131,6 @@ def validity(asked, times):
             ('written', show.again(asked, written))]
 
 
-def take_key_identifier(cursor):
-    return ref.take_subject_key_identifier(cursor)
-
-
 def key_identifier(asked, octets):
     return [('identifier', show.hexed(octets)),
             ('written', show.again(asked, ref.enc(0x04, octets))),
@@ -202,7 +198,7 @@ PARTS = {
         ('time', show.time(it))]),
     'validity': lambda w: read(w, 1, ref.take_validity, validity, True),
     'key-identifier': lambda w: read(
-        w, 1, take_key_identifier, key_identifier, True),
+        w, 1, ref.take_subject_key_identifier, key_identifier, True),
     'algorithm': lambda w: read(w, 1, ref.take_algorithm, algorithm, True),
     'name': lambda w: read(w, 1, ref.take_name, name, True),
     'key': lambda w: read(w, 1, ref.take_key, key, True),

@@ -385,13 +385,32 @@ def rearrange(words):
         return refused(fault)
 
 
+# -------------------------------------------------------------- revocation ---
+
+def pairs_of(word):
+    """The pairs `URI:LIST` of a store, both in hexadecimal."""
+    pairs = [] if word == '-' else [pair.split(':') for pair in word.split(';')]
+    return [(show.octets_of(uri), ref.decode_crl(show.octets_of(octets)))
+            for uri, octets in pairs]
+
+
+def revocation(words):
+    now, members = show.moment_of(words.at(1)), members_of(words, 4)
+    if now is None or not members or members[0][0] != ref.TA:
+        return 'unfit'
+    store = ref.CrlStore(pairs_of(words.at(3)))
+    answer = path_line(members, words.at(2) == 'strict', now, store)
+    return line(answer, ('cached', 'same'))
+
+
 WORDS = {
     'certificate': certificate, 'data': data, 'make': make,
     'inspect': inspect, 'verify': verify, 'validate': validate,
     'extension': extension, 'compare': compare, 'write': write,
     'list': revocation_list, 'shared': lambda words: 'same', 'cut': cut,
     'path': path, 'run': run, 'run-unnamed': run_unnamed,
-    'rearrange': rearrange, **PARTS, **URIS, **RESOURCES, **DER,
+    'rearrange': rearrange, 'revocation': revocation,
+    **PARTS, **URIS, **RESOURCES, **DER,
 }
 
 

@@ -24,10 +24,10 @@ ACCEPTED = ('accepted',)
 
 # ----------------------------------------------------- whole paths ---
 
-def spoiled_path(rng, fault):
+def spoiled_path(rng, fault, longest=8):
     """A path that offers the fault its place, and what it expects."""
     while True:
-        path = sound.random_path(rng)
+        path = sound.random_path(rng, longest)
         expected = fault(rng, path)
         if expected is not None:
             return path, expected
@@ -41,11 +41,11 @@ def round_robin(table, index):
     return name, table[name]
 
 
-def path_case(rng, index):
+def path_case(rng, index, longest):
     """Of twenty cases eight are sound, seven by the tables, five wild."""
     turn, place = index // 20, index % 20
     if place < 8:
-        path = sound.random_path(rng)
+        path = sound.random_path(rng, longest)
         return 'valid', sound.program_input(rng, path), ACCEPTED
     if place < 12:
         name, fault = round_robin(faults.PROFILE_FAULTS, turn * 4 + place - 8)
@@ -59,8 +59,8 @@ def path_case(rng, index):
             ('order', faults.order_fault)])
     else:
         return text_case(rng, turn, sound.program_input(
-            rng, sound.random_path(rng)))
-    path, expected = spoiled_path(rng, fault)
+            rng, sound.random_path(rng, longest)))
+    path, expected = spoiled_path(rng, fault, longest)
     return name, sound.program_input(rng, path), expected
 
 
@@ -160,8 +160,8 @@ def revoked_case(rng, index):
     return text_case(rng, turn, revoked_line(rng, octets, word))
 
 
-def make_case(index, form, seed):
+def make_case(index, form, seed, longest=8):
     rng = random.Random(f'{form} {seed} {index}')
     made = (revoked_case(rng, index) if form == REVOKED
-            else path_case(rng, index))
+            else path_case(rng, index, longest))
     return Case(index, *made)

@@ -161,7 +161,8 @@ def save(folder, case, data, wanted):
 
 def reachable():
     """The answers that a run of the form `paths` can have."""
-    inspections = [ref.CONDITIONS[n][0] for n in range(1, 22)]
+    inspections = sorted({name for kind in (ref.TA, ref.CA, ref.EE, ref.DETACHED)
+                          for name in ref.TESTS[kind]})
     return ([f'inspect {name}' for name in inspections] +
             [f'verify {name}' for name in ref.VERIFICATION_NAMES])
 

@@ -12,7 +12,6 @@ from parts import (
     take_signed_content)
 from extensions import OID, put_extension, take_authority_key_identifier, take_extension
 from certificates import put_key_id_content
-from verification import expect
 
 
 class Entry(NamedTuple):
@@ -165,12 +164,6 @@ def take_crl(cursor):
 
 def decode_crl(octets, depth=DEPTH):
     return take_crl(Cursor(octets, depth=depth))
-
-
-def verify_crl_claim(crl, issuer):
-    """Whether the list names the issuer's key (RFC 6487 5)."""
-    expect(crl.tbs.authority_key_identifier ==
-           issuer.cert.tbs.subject_key_identifier, 'WrongKeyId')
 
 
 def contains_counted(octets, serial, cached):

@@ -7,7 +7,7 @@ import hashlib
 from typing import NamedTuple
 
 from der import (
-    Cursor, enc, put_bits, reader, require, take_null, take_oid, take_whole_octets)
+    Cursor, enc, put_bits, reader, require, take_oid, take_whole_octets)
 
 
 def hex_octets(text):
@@ -97,12 +97,11 @@ def take_algorithm(cursor):
 
 
 def take_opt_null(sequence):
-    """An optional NULL at the end of a SEQUENCE."""
-    if sequence.is_empty():
-        return False
-    take_null(sequence)
+    """An optional NULL at the end of a SEQUENCE; absent before another value."""
+    value = sequence.take_opt_value(0x05)
+    require(value is None or value.is_empty())
     sequence.finish()
-    return True
+    return value is not None
 
 
 def put_algorithm(has_null):

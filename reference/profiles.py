@@ -22,62 +22,79 @@ def has_router_purpose(f):
     return OID_ROUTER in identifiers_of(f.extended_key_usage)
 
 
-# Number: name and condition (true is good) over certificate, kind, strict.
+# Each fault and its condition (true is good) over certificate, kind, strict.
 CONDITIONS = {
-    1: ('AlgorithmMismatch',
-        lambda c, k, s: c.tbs.signature == c.signed.algorithm),
-    2: ('Issuer', lambda c, k, s: inspect_rpki_name(c.tbs.issuer, s)),
-    3: ('Subject', subject_fits),
-    4: ('KeyAlgorithm',
-        lambda c, k, s: c.tbs.key.format == (P256 if k == ROUTER else RSA)),
-    5: ('SubjectKeyIdentifier', lambda c, k, s:
-        c.tbs.subject_key_identifier == c.tbs.key.identifier()),
-    6: ('ExtendedKeyUsagePresent',
-        lambda c, k, s: c.tbs.extended_key_usage is None),
-    7: ('CaFlagFalse', lambda c, k, s: c.tbs.basic_ca is not False),
-    8: ('MissingBasicConstraints',
-        lambda c, k, s: c.tbs.basic_ca is not None),
-    9: ('KeyUsage', lambda c, k, s:
-        c.tbs.key_usage == ('Ca' if k in (TA, CA) else 'Ee')),
-    10: ('MissingCaRepository',
-         lambda c, k, s: c.tbs.ca_repository is not None),
-    11: ('MissingManifest', lambda c, k, s: c.tbs.rpki_manifest is not None),
-    12: ('ManifestNotChild', lambda c, k, s: manifest_is_child(c.tbs)),
-    13: ('SignedObjectPresent', lambda c, k, s: c.tbs.signed_object is None),
-    14: ('AuthorityKeyIdentifier', lambda c, k, s: c.tbs.is_self_signed()),
-    15: ('CrlUriPresent', lambda c, k, s: c.tbs.crl_uri is None),
-    16: ('CaIssuerPresent', lambda c, k, s: c.tbs.ca_issuer is None),
-    17: ('MissingCrlUri', lambda c, k, s: c.tbs.crl_uri is not None),
-    18: ('BasicConstraintsPresent', lambda c, k, s: c.tbs.basic_ca is None),
-    19: ('CaRepositoryPresent', lambda c, k, s: c.tbs.ca_repository is None),
-    20: ('ManifestPresent', lambda c, k, s: c.tbs.rpki_manifest is None),
-    21: ('MissingSignedObject',
-         lambda c, k, s: c.tbs.signed_object is not None),
-    22: ('MissingExtendedKeyUsage',
-         lambda c, k, s: c.tbs.extended_key_usage is not None),
-    23: ('MissingRouterPurpose', lambda c, k, s: has_router_purpose(c.tbs)),
-    24: ('SubjectInformationPresent', lambda c, k, s: all(
-        getattr(c.tbs, field) is None for field, _, _ in SIA_METHODS)),
-    25: ('IpResourcesPresent', lambda c, k, s: not c.tbs.has_ip_resources()),
-    26: ('MissingAsResources', lambda c, k, s: c.tbs.asn != MISSING),
-    27: ('InheritedAsResources', lambda c, k, s: c.tbs.asn != INHERIT),
+    'AlgorithmMismatch': lambda c, k, s: c.tbs.signature == c.signed.algorithm,
+    'Issuer': lambda c, k, s: inspect_rpki_name(c.tbs.issuer, s),
+    'Subject': subject_fits,
+    'KeyAlgorithm': lambda c, k, s:
+        c.tbs.key.format == (P256 if k == ROUTER else RSA),
+    'SubjectKeyIdentifier': lambda c, k, s:
+        c.tbs.subject_key_identifier == c.tbs.key.identifier(),
+    'ExtendedKeyUsagePresent': lambda c, k, s: c.tbs.extended_key_usage is None,
+    'CaFlagFalse': lambda c, k, s: c.tbs.basic_ca is not False,
+    'MissingBasicConstraints': lambda c, k, s: c.tbs.basic_ca is not None,
+    'KeyUsage': lambda c, k, s:
+        c.tbs.key_usage == ('Ca' if k in (TA, CA) else 'Ee'),
+    'MissingCaRepository': lambda c, k, s: c.tbs.ca_repository is not None,
+    'MissingManifest': lambda c, k, s: c.tbs.rpki_manifest is not None,
+    'ManifestNotChild': lambda c, k, s: manifest_is_child(c.tbs),
+    'SignedObjectPresent': lambda c, k, s: c.tbs.signed_object is None,
+    'AuthorityKeyIdentifier': lambda c, k, s: c.tbs.is_self_signed(),
+    'CrlUriPresent': lambda c, k, s: c.tbs.crl_uri is None,
+    'CaIssuerPresent': lambda c, k, s: c.tbs.ca_issuer is None,
+    'MissingCrlUri': lambda c, k, s: c.tbs.crl_uri is not None,
+    'BasicConstraintsPresent': lambda c, k, s: c.tbs.basic_ca is None,
+    'CaRepositoryPresent': lambda c, k, s: c.tbs.ca_repository is None,
+    'ManifestPresent': lambda c, k, s: c.tbs.rpki_manifest is None,
+    'MissingSignedObject': lambda c, k, s: c.tbs.signed_object is not None,
+    'MissingExtendedKeyUsage': lambda c, k, s:
+        c.tbs.extended_key_usage is not None,
+    'MissingRouterPurpose': lambda c, k, s: has_router_purpose(c.tbs),
+    'SubjectInformationPresent': lambda c, k, s: all(
+        getattr(c.tbs, field) is None for field, _, _ in SIA_METHODS),
+    'IpResourcesPresent': lambda c, k, s: not c.tbs.has_ip_resources(),
+    'MissingAsResources': lambda c, k, s: c.tbs.asn != MISSING,
+    'InheritedAsResources': lambda c, k, s: c.tbs.asn != INHERIT,
 }
+
+# The faults of each kind, in the order in which they are tested.
 TESTS = {
-    TA: [*range(1, 17)],
-    CA: [*range(1, 14), 17],
-    EE: [*range(1, 7), 17, 18, 9, 19, 20, 21],
-    DETACHED: [*range(1, 7), 17, 18, 9, 19, 20],
-    ROUTER: [1, 2, 3, 4, 18, 5, 9, 22, 23, 17, 24, 25, 26, 27],
+    TA: [
+        'AlgorithmMismatch', 'Issuer', 'Subject', 'KeyAlgorithm',
+        'SubjectKeyIdentifier', 'ExtendedKeyUsagePresent', 'CaFlagFalse',
+        'MissingBasicConstraints', 'KeyUsage', 'MissingCaRepository',
+        'MissingManifest', 'ManifestNotChild', 'SignedObjectPresent',
+        'AuthorityKeyIdentifier', 'CrlUriPresent', 'CaIssuerPresent'],
+    CA: [
+        'AlgorithmMismatch', 'Issuer', 'Subject', 'KeyAlgorithm',
+        'SubjectKeyIdentifier', 'ExtendedKeyUsagePresent', 'CaFlagFalse',
+        'MissingBasicConstraints', 'KeyUsage', 'MissingCaRepository',
+        'MissingManifest', 'ManifestNotChild', 'SignedObjectPresent',
+        'MissingCrlUri'],
+    EE: [
+        'AlgorithmMismatch', 'Issuer', 'Subject', 'KeyAlgorithm',
+        'SubjectKeyIdentifier', 'ExtendedKeyUsagePresent', 'MissingCrlUri',
+        'BasicConstraintsPresent', 'KeyUsage', 'CaRepositoryPresent',
+        'ManifestPresent', 'MissingSignedObject'],
+    DETACHED: [
+        'AlgorithmMismatch', 'Issuer', 'Subject', 'KeyAlgorithm',
+        'SubjectKeyIdentifier', 'ExtendedKeyUsagePresent', 'MissingCrlUri',
+        'BasicConstraintsPresent', 'KeyUsage', 'CaRepositoryPresent',
+        'ManifestPresent'],
+    ROUTER: [
+        'AlgorithmMismatch', 'Issuer', 'Subject', 'KeyAlgorithm',
+        'BasicConstraintsPresent', 'SubjectKeyIdentifier', 'KeyUsage',
+        'MissingExtendedKeyUsage', 'MissingRouterPurpose', 'MissingCrlUri',
+        'SubjectInformationPresent', 'IpResourcesPresent',
+        'MissingAsResources', 'InheritedAsResources'],
 }
 
 
 def first_fault(kind, strict, cert):
     """The name of the first condition that is false, None for none."""
-    for number in TESTS[kind]:
-        name, holds_for = CONDITIONS[number]
-        if not holds_for(cert, kind, strict):
-            return name
-    return None
+    return next((name for name in TESTS[kind]
+                 if not CONDITIONS[name](cert, kind, strict)), None)
 
 
 def inspect(kind, strict, cert):

@@ -65,11 +65,6 @@ def random_set(rng, kind, most=5):
                      for _ in range(rng.randint(1, most)))
 
 
-def is_v4_set(ranges):
-    return all(low % (1 << 96) == 0 and (high + 1) % (1 << 96) == 0
-               for low, high in ranges)
-
-
 def part_of(rng, kind, ranges):
     """A set inside another, None where that is empty."""
     cut = ref.intersection(random_set(rng, kind), ranges)
@@ -542,11 +537,11 @@ def random_member(rng, path, kind, above, issuer_key):
     return draft_of(rng, kind, ref.TbsCert(**fields), issuer_key, path.depth)
 
 
-def random_path(rng, depth=ref.DEPTH):
-    """An accepted path of length 1 to 8."""
+def random_path(rng, longest=8, depth=ref.DEPTH):
+    """An accepted path of 1 to `longest` members."""
     path = Path([], strict=chance(rng, 0.6), depth=depth,
                 now=random_time(rng, [2024]))
-    length = rng.randint(1, 8)
+    length = rng.randint(1, longest)
     leaf = rng.choice([ref.EE, ref.DETACHED, ref.CA])
     kinds = [ref.TA] + [ref.CA] * (length - 2) + [leaf] * (length > 1)
     for kind in kinds:

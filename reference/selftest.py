@@ -40,10 +40,6 @@ def fault_of(call, *arguments, **options):
     return 'Ok'
 
 
-def name_of(call, *arguments, **options):
-    return fault_of(call, *arguments, **options).split('(')[0]
-
-
 def read(take, octets, *rest, depth=ref.DEPTH):
     return take(ref.Cursor(octets, depth=depth), *rest)
 
