@@ -13,3 +13,4 @@ pub mod ExampleLists
 pub mod GivenEntries
 pub mod SpelledLists
 pub mod DeeperLists
+pub mod Earliest
