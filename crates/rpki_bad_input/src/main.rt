@@ -1,9 +1,11 @@
 //! The program once more, for a stored run with another exit status.
 #![tactic(auto)]
 
-use rpki_path::program;
+use rpki_path::{Watched, program};
 use std::process::ExitCode;
 
 fn main(rt: HostRuntime) -> ExitCode {
-    program(rt.alloc(), rt.stdin(), rt.stdout())
+    let mut input = Watched::new(rt.stdin());
+    let mut output = Watched::new(rt.stdout());
+    program(rt.alloc(), &mut input, &mut output)
 }

@@ -166,7 +166,3 @@ pub record HasAnswered (given left held holds : Option (List ℕ)) (status : Sta
   pub short : length input ≤ 2 ^ 24
   pub says : Says input output status
   pub is_written : Appends held holds output
-
--- with this status a run has ended that began with what the reader gave and what the writer held
-abbrev pub HasEnded : Option (List ℕ) → Option (List ℕ) → Status → Type 0
-HasEnded given held status = (left : Option (List ℕ)) × (holds : Option (List ℕ)) × HasAnswered given left held holds status

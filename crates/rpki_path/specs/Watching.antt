@@ -11,6 +11,10 @@ device w = w.inner
 abbrev pub HasFailed : {T : Type 0} → Watched T → Type 0
 HasFailed w = w.works ≡ false
 
+-- of the octets that a reader gives, this many were taken
+abbrev pub Takes : ℕ → Option (List ℕ) → Option (List ℕ) → Type 0
+Takes count given left = (octets : List ℕ) × (length octets ≡ count) × Consumes given left octets
+
 -- of the octets that a reader gives, no more than this many were taken
 abbrev pub TakesAtMost : ℕ → Option (List ℕ) → Option (List ℕ) → Type 0
 TakesAtMost most given left = (octets : List ℕ) × (length octets ≤ most) × Consumes given left octets

@@ -1,7 +1,8 @@
 //! The program: a run over its input and output, and its exit status.
-ghost use Rattle.std.specs.Prelude.{◌≡◌, ◌≤◌, ◌↔◌, Ok, IsErr};
+ghost use Rattle.std.specs.Prelude.{◌≡◌, ◌↔◌, ◌⊎◌, ◌+◌, ◌^◌, ◌≤◌, Ok, IsErr};
 ghost use Rattle.std.specs.Process.{exit_status};
-ghost use Rattle.rpki_path.specs.Program.{HasEnded};
+ghost use Rattle.rpki_path.specs.Watching.{device, HasFailed, TakesAtMost};
+ghost use Rattle.rpki_path.specs.Program.{HasAnswered};
 
 use crate::running::{RunFault, Status, run};
 use crate::watched::Watched;
@@ -28,17 +29,36 @@ fn status_of(answer: Result<Status, RunFault>) -> u8
 
 /// Reads the input to its end and writes the answer to the output, as [`run`] says. The exit status is 0 where the question was answered, 1
 /// where octets were refused, 2 where the input doesn't have its form, and 3 after a fault, of which this status alone tells.
-pub fn program<R: Read + Drop, W: Write + Drop>(alloc: Global, input: R, output: W) -> ExitCode
-    ensures done { exit_status result ≡ 0
-        → HasEnded (R.remaining input) (W.contents output) Status.Done }
-    ensures refused { exit_status result ≡ 1
-        → HasEnded (R.remaining input) (W.contents output) Status.Refused }
-    ensures bad_input { exit_status result ≡ 2
-        → HasEnded (R.remaining input) (W.contents output) Status.BadInput }
+///
+/// What became of the input and the output shows in the two that are lent.
+pub fn program<R: Read, W: Write>(
+    alloc: Global,
+    reader: &mut Watched<R>,
+    writer: &mut Watched<W>,
+) -> ExitCode
+    requires reader { HasFailed reader.old → ⊥ }
+    requires writer { HasFailed writer.old → ⊥ }
+
+    // What was read, to the end, and what was written in answer.
+    ensures done { exit_status result ≡ 0 → HasAnswered
+        (R.remaining (device reader.old)) (R.remaining (device reader.new))
+        (W.contents (device writer.old)) (W.contents (device writer.new)) Status.Done }
+    ensures refused { exit_status result ≡ 1 → HasAnswered
+        (R.remaining (device reader.old)) (R.remaining (device reader.new))
+        (W.contents (device writer.old)) (W.contents (device writer.new)) Status.Refused }
+    ensures bad_input { exit_status result ≡ 2 → HasAnswered
+        (R.remaining (device reader.old)) (R.remaining (device reader.new))
+        (W.contents (device writer.old)) (W.contents (device writer.new)) Status.BadInput }
     ensures no_other { exit_status result ≤ 3 }
+
+    // Which failures end with 3, and what is left alone then.
+    ensures read { HasFailed reader.new → exit_status result ≡ 3 }
+    ensures written { HasFailed writer.new → exit_status result ≡ 3 }
+    ensures unwritten { exit_status result ≡ 3
+        → HasFailed writer.new ⊎ (writer.new ≡ writer.old) }
+    ensures taken { TakesAtMost (2 ^ 24 + 1)
+        (R.remaining (device reader.old)) (R.remaining (device reader.new)) }
 {
-    let mut reader = Watched::new(input);
-    let mut writer = Watched::new(output);
-    let answer = run(alloc, &mut reader, &mut writer);
+    let answer = run(alloc, reader, writer);
     ExitCode::from(status_of(answer))
 }

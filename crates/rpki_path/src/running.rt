@@ -1,7 +1,7 @@
 //! From the octets of a reader to those of a writer.
-ghost use Rattle.std.specs.Prelude.{◌≡◌, ◌≢◌, ◌↔◌, ◌⊎◌, ◌+◌, ◌^◌, ◌<◌, ◌≤◌, ℕ, List, length, IfOk, OnOk, IfSome, IsErr, IfErr, IsErrOf};
+ghost use Rattle.std.specs.Prelude.{◌≡◌, ◌≢◌, ◌↔◌, ◌⊎◌, ◌+◌, ◌^◌, ◌≤◌, ℕ, List, length, IfOk, OnOk, IsErr, IfErr, IsErrOf};
 ghost use Rattle.std.specs.Io.KnownBytes.{Appends, Consumes, IsAtEnd};
-ghost use Rattle.rpki_path.specs.Watching.{device, HasFailed, TakesAtMost};
+ghost use Rattle.rpki_path.specs.Watching.{device, HasFailed, Takes, TakesAtMost};
 ghost use Rattle.rpki_path.specs.Program.{HasAnswered};
 
 use crate::input::from_text;
@@ -98,7 +98,7 @@ pub fn run<R: Read, W: Write>(
     ensures read { IsErrOf result RunFault.Read ↔ HasFailed reader.new }
     ensures written { IsErrOf result RunFault.Write ↔ HasFailed writer.new }
     ensures too_long { IsErrOf result RunFault.TooLong
-        → IfSome (R.remaining (device reader.old)) (λ octets. 2 ^ 24 < length octets) }
+        → Takes (2 ^ 24 + 1) (R.remaining (device reader.old)) (R.remaining (device reader.new)) }
 
     // What is left alone.
     ensures unwritten { IsErr result
@@ -121,7 +121,7 @@ fn read_whole<R: Read>(alloc: Global, reader: &mut Watched<R>) -> Result<Vec<u8>
     ensures end { OnOk result (IsAtEnd (R.remaining (device reader.new))) }
     ensures short { IfOk result (λ input. length input.items ≤ MAX_INPUT) }
     ensures too_long { IsErrOf result RunFault.TooLong
-        → IfSome (R.remaining (device reader.old)) (λ octets. MAX_INPUT < length octets) }
+        → Takes (MAX_INPUT + 1) (R.remaining (device reader.old)) (R.remaining (device reader.new)) }
     ensures failed { IsErrOf result RunFault.Read ↔ HasFailed reader.new }
     ensures unwritten { result ≢ Err RunFault.Write }
     ensures taken { TakesAtMost (MAX_INPUT + 1)
