@@ -2,6 +2,7 @@
 
 import answer_words as show
 import reference as ref
+import rsa
 from answer_parts import (
     DER, PARTS, RESOURCES, URIS, compare, extension, write)
 from answer_words import ADDRESSES, NUMBERS, Words, line, refused
@@ -275,9 +276,10 @@ def members_of(words, first):
     return [(pair[0], show.octets_of(pair[-1])) for pair in pairs]
 
 
-def path_line(members, strict, now, store=None):
+def path_line(members, strict, now, verifier=ref.stand_in, store=None):
     try:
-        return show.held(ref.validate_path(members, strict, now, store=store))
+        return show.held(ref.validate_path(members, strict, now, verifier,
+                                           store=store))
     except ref.PathError as e:
         inside = '' if e.stage == 'decode' else f' {e.fault}'
         return refused(f'{e.index} {e.stage}{inside}')
@@ -288,6 +290,14 @@ def path(words):
     if now is None or not members or members[0][0] != ref.TA:
         return 'unfit'
     return path_line(members, words.at(1) == 'strict', now)
+
+
+def real_path(words):
+    """A path with real signatures; the moment stands before the mode."""
+    now, members = show.moment_of(words.at(1)), members_of(words, 3)
+    if now is None or not members or members[0][0] != ref.TA:
+        return 'unfit'
+    return path_line(members, words.at(2) == 'strict', now, rsa.verifier)
 
 
 STATUS = {ref.DONE: 'Done', ref.REFUSED: 'Refused', ref.BAD_INPUT: 'BadInput'}
@@ -399,7 +409,8 @@ def revocation(words):
     if now is None or not members or members[0][0] != ref.TA:
         return 'unfit'
     store = ref.CrlStore(pairs_of(words.at(3)))
-    answer = path_line(members, words.at(2) == 'strict', now, store)
+    answer = path_line(members, words.at(2) == 'strict', now,
+                       store=store)
     return line(answer, ('cached', 'same'))
 
 
@@ -409,7 +420,9 @@ WORDS = {
     'extension': extension, 'compare': compare, 'write': write,
     'list': revocation_list, 'shared': lambda words: 'same', 'cut': cut,
     'path': path, 'run': run, 'run-unnamed': run_unnamed,
-    'rearrange': rearrange, 'revocation': revocation,
+    'rearrange': rearrange, 'revocation': revocation, 'real-path': real_path,
+    'rsa': lambda w: show.yes(rsa.verify(*map(w.octets, (1, 2, 3)))),
+    'rsa-key': lambda w: show.yes(rsa.is_rpki_key(w.octets(1))),
     **PARTS, **URIS, **RESOURCES, **DER,
 }
 

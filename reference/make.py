@@ -5,13 +5,15 @@
     python3 reference/make.py --all         # writes all of them
     python3 reference/make.py --check       # makes all, and compares
     python3 reference/make.py --judge       # asks the reference all other rows
+    python3 reference/make.py --counts > crates/rpki_rows/stdout
 
 A file depends on its name, its seed, this folder, and on the other files of
 rows, whose questions it doesn't ask again. `--check` makes all files in memory
 and compares them with those that stand; `--judge` asks the reference the
 questions of all other files, whose answers are from elsewhere, and tells of
 questions that are asked twice. Both print each difference, `N passed,
-M failed`, and exit with 1 where anything differs.
+M failed`, and exit with 1 where anything differs. `--counts` prints how many
+rows each file of `crates/rpki_rows/args` has, as the program does that passes.
 """
 
 import collections
@@ -171,6 +173,15 @@ def judge():
     return verdicts[True], verdicts[False] + len(twice)
 
 
+def counts():
+    """What the program prints that passes all rows."""
+    names = (rows.DATA.parent / 'args').read_text().split()
+    found = {name: len(rows.read(rows.DATA / name)) for name in names}
+    found['all'] = sum(found.values())
+    return ''.join(f'{name}: {count} rows, {count} passed\n'
+                   for name, count in found.items())
+
+
 def totals(counts):
     print('{} passed, {} failed'.format(*counts))
     return 1 if counts[1] else 0
@@ -181,6 +192,9 @@ def main(words):
         return totals(check())
     if words == ['--judge']:
         return totals(judge())
+    if words == ['--counts']:
+        sys.stdout.write(counts())
+        return 0
     if words == ['--all']:
         for name in BLOCKS:
             file_of(name).write_text(text_of(name))

@@ -1,8 +1,8 @@
 """What the `openssl` command prints of certificates and lists, as fields.
 
-`printed` and `known` give dictionaries of the same names: the one of what the
-command prints, the other of what the reference read. Fields that the command
-prints as bare octets, as the resources of RFC 8360, are left out.
+The printed fields and those that the reference read are dictionaries of the
+same names. What the command doesn't print is left out: the resources of RFC
+8360, and an extension that it can't parse.
 """
 
 import ipaddress
@@ -14,15 +14,16 @@ import reference as ref
 MONTHS = ('Jan', 'Feb', 'Mar', 'Apr', 'May', 'Jun', 'Jul', 'Aug', 'Sep', 'Oct',
           'Nov', 'Dec')
 OPTIONS = ('-inform', 'DER', '-noout', '-text', '-nameopt', 'oneline,-esc_msb')
+UNKNOWN = ('-certopt', 'ext_error')     # no bare octets of what it can't print
 
 
-def openssl(command, octets):
+def openssl(command, octets, *more):
     """The lines that a command prints, None where it refuses."""
-    done = subprocess.run(['openssl', command, *OPTIONS], input=octets,
+    done = subprocess.run(['openssl', command, *OPTIONS, *more], input=octets,
                           capture_output=True)
     if done.returncode:
         return None
-    return done.stdout.decode('utf-8', 'replace').splitlines()
+    return done.stdout.decode('utf-8', 'replace').split('\n')
 
 
 def behind(lines, label):
@@ -124,7 +125,7 @@ def listed(lines, label, block):
 
 
 def resources(found):
-    """The resources of RFC 3779; those of RFC 8360 are printed as octets."""
+    """The resources of RFC 3779; those of RFC 8360 are not printed."""
     fields = {}
     if 'sbgp-ipAddrBlockv2' not in found:
         lines = found.get('sbgp-ipAddrBlock', [])
@@ -148,8 +149,8 @@ def key_identifiers(found):
 def uses(found):
     basic = found.get('X509v3 Basic Constraints')
     usage = found.get('X509v3 Key Usage', [''])[0]
-    policy = found.get('X509v3 Certificate Policies', [': '])[0]
-    policy = policy.split(': ')[1]
+    policy = found.get('X509v3 Certificate Policies', [''])[0]
+    policy = policy.rpartition(': ')[2]
     return {'basic_ca': None if basic is None else basic[0] == 'CA:TRUE',
             'key_usage': USAGES.get(usage, usage),
             'overclaim': POLICIES.get(policy, policy)}
@@ -172,19 +173,23 @@ def places(found):
                      'ca_issuer': first_of(issuers, b'rsync:')}
 
 
+UNPRINTED = ('<Parse Error>', '<Not Supported>')
+
+
 def printed_certificate(octets):
     """The fields that the command prints, None where it refuses."""
-    lines = openssl('x509', octets)
+    lines = openssl('x509', octets, *UNKNOWN)
     if lines is None:
         return None
     found = extensions(lines, 'X509v3 extensions:')
-    return {'serial': serial(behind(lines, 'Serial Number:')),
-            'issuer': behind(lines, 'Issuer:'),
-            'subject': behind(lines, 'Subject:'),
-            'not_before': moment(behind(lines, 'Not Before:')),
-            'not_after': moment(behind(lines, 'Not After :')),
-            **key_identifiers(found), **uses(found), **places(found),
-            **resources(found)}
+    fields = {'serial': serial(behind(lines, 'Serial Number:')),
+              'issuer': behind(lines, 'Issuer:'),
+              'subject': behind(lines, 'Subject:'),
+              'not_before': moment(behind(lines, 'Not Before:')),
+              'not_after': moment(behind(lines, 'Not After :')),
+              **key_identifiers(found), **uses(found), **places(found),
+              **resources(found)}
+    return {name: it for name, it in fields.items() if it not in UNPRINTED}
 
 
 def printed_list(octets):

@@ -13,6 +13,8 @@ from dataclasses import replace
 
 import random_paths as sound
 import reference as ref
+import rows
+import rsa
 import worked
 
 CHECKS = []
@@ -768,6 +770,43 @@ def laws_by_chance():
         if any(getattr(f, kind) != ref.MISSING for kind in sound.KINDS):
             yield (f'chance {number} written is read',
                    fields(ref.into_cert(f, worked.K1).octets()), f)
+
+
+def signed_by_openssl():
+    """An anchor, an authority, an end entity and the anchor's list."""
+    names = ('ta', 'ca', 'ee', 'ta-crl')
+    return [(rows.DATA / f'openssl-{name}.der').read_bytes()
+            for name in names]
+
+
+def bit_changed(octets, place):
+    return octets[:place] + bytes([octets[place] ^ 1]) + octets[place + 1:]
+
+
+@checks
+def real_signatures():
+    """Signatures that OpenSSL made, and one bit of each part changed."""
+    *path, crl = signed_by_openssl()
+    certs = [ref.decode_cert(octets) for octets in path]
+    anchor, authority, _ = (cert.tbs.key for cert in certs)
+    signed = [(anchor, certs[0].signed), (anchor, certs[1].signed),
+              (authority, certs[2].signed),
+              (anchor, ref.decode_crl(crl).signed)]
+    for place, (key, it) in enumerate(signed):
+        parts = key, True, it.data, it.signature
+        yield f'signature {place}', rsa.verifier(*parts), True
+        for label, changed in (
+                ('of other octets', (*parts[:2], bit_changed(it.data, 9),
+                                     it.signature)),
+                ('changed', (*parts[:3], bit_changed(it.signature, 40))),
+                ('an octet short', (*parts[:3], it.signature[1:])),
+                ('an octet long', (*parts[:3], b'\0' + it.signature))):
+            yield f'signature {place} {label}', rsa.verifier(*changed), False
+    members = list(zip((ref.TA, ref.CA, ref.EE), path))
+    yield 'path of real signatures', fault_of(
+        ref.validate_path, members, True, worked.NOW, rsa.verifier), 'Ok'
+    yield 'path by the stand-in', fault_of(
+        ref.validate_path, members, True, worked.NOW), '0 verify BadSignature'
 
 
 def numbers_around(certs, kind):
