@@ -79,18 +79,17 @@ fn extension(row: &mut Cursor<'_>) -> Result<(), DecodeError> {
 // The extensions, each of which is well formed; what they mean isn't looked at.
 fn extensions(data: &mut Cursor<'_>, identifier: u8) -> Result<(), Place> {
     let start = at(data);
-    let Ok(mut outer) = data.take_value(identifier) else {
-        return Err(Place {
-            field: "the extensions",
-            octet: start,
-        });
+    let mut outer = match data.take_value(identifier) {
+        Ok(outer) => outer,
+        Err(fault) => {
+            drop(fault);
+            return Err(Place {
+                field: "the extensions",
+                octet: start,
+            });
+        }
     };
-    let Ok(mut row) = outer.take_sequence() else {
-        return Err(Place {
-            field: "the extensions",
-            octet: at(&outer),
-        });
-    };
+    let mut row = inside(&mut outer, "the extensions")?;
     for _ in 0..u64::MAX {
         if row.is_empty() {
             break;
@@ -138,38 +137,32 @@ fn of_list(alloc: Global, data: &mut Cursor<'_>) -> Result<(), Place> {
     extensions(data, 0xa0)
 }
 
-fn outer(octets: &Bytes) -> Result<Cursor<'_>, Place> {
+fn inside<'a>(cursor: &mut Cursor<'a>, field: &'static str) -> Result<Cursor<'a>, Place> {
+    let octet = at(cursor);
+    match cursor.take_sequence() {
+        Ok(inner) => Ok(inner),
+        Err(fault) => {
+            drop(fault);
+            Err(Place { field, octet })
+        }
+    }
+}
+
+fn fields(alloc: Global, octets: &Bytes, is_list: bool) -> Result<(), Place> {
     let mut cursor = Cursor::new(octets);
-    let Ok(mut whole) = cursor.take_sequence() else {
-        return Err(Place {
-            field: "the outer SEQUENCE",
-            octet: 0,
-        });
-    };
-    let octet = at(&whole);
-    match whole.take_sequence() {
-        Ok(data) => Ok(data),
-        Err(_) => Err(Place {
-            field: "the signed data",
-            octet,
-        }),
+    let mut whole = inside(&mut cursor, "the outer SEQUENCE")?;
+    let mut data = inside(&mut whole, "what is signed")?;
+    if is_list {
+        of_list(alloc, &mut data)
+    } else {
+        of_certificate(alloc, &mut data)
     }
 }
 
 /// Tells where the reading of a file stops that is neither a certificate nor a list: the first field that has
 /// not the form that it must have.
 pub fn place_of(alloc: Global, octets: &Bytes, is_list: bool) -> Place {
-    let found = match outer(octets) {
-        Ok(mut data) => {
-            if is_list {
-                of_list(alloc, &mut data)
-            } else {
-                of_certificate(alloc, &mut data)
-            }
-        }
-        Err(place) => Err(place),
-    };
-    match found {
+    match fields(alloc, octets, is_list) {
         Err(place) => place,
         Ok(()) => Place {
             field: "the signature",
