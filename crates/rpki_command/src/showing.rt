@@ -1,0 +1,200 @@
+//! A file for a person or as JSON.
+use crate::files::{Form, Object, looks_like};
+use crate::page::Page;
+use crate::places::place_of;
+use crate::{certificate, json, list};
+use base64::engine::general_purpose::STANDARD;
+use bytes::Bytes;
+use rpki::der::{Cursor, DecodeError};
+use rpki::repository::x509::Time;
+use rpki::repository::{Cert, Crl};
+use serde_json::Value;
+use sha2::{Digest, Sha256};
+use std::alloc::{AllocError, Global};
+
+/// How files are shown.
+#[derive(Clone, Copy)]
+pub struct Options {
+    pub now: Time,
+    pub strict: bool,
+    pub json: bool,
+    pub all: bool,
+}
+
+fn begun(page: &mut Page, object: &Object<'_>) {
+    page.line("File", object.name);
+    page.label("SHA-256");
+    let digest = Sha256::digest(object.octets.as_slice());
+    let made = STANDARD.encode(page.alloc(), digest.as_slice());
+    page.formed(made);
+    page.end();
+}
+
+fn ended(page: &mut Page, left: usize) {
+    if left > 0 {
+        page.label("After its end");
+        page.number(left as u64);
+        page.text(" octets that were not read\n");
+    }
+}
+
+fn printed(page: &mut Page, made: Result<Value, AllocError>) {
+    match made {
+        Ok(value) => {
+            let text = value.to_string_pretty(page.alloc());
+            page.formed(text);
+            page.end();
+        }
+        Err(_) => page.fail(),
+    }
+}
+
+fn refused(page: &mut Page, object: &Object<'_>, fault: &DecodeError, options: &Options) {
+    let alloc = page.alloc();
+    let why = match format!(in alloc; "{fault}") {
+        Ok(why) => why,
+        Err(_) => {
+            page.fail();
+            return;
+        }
+    };
+    let is_list = looks_like(&object.octets) == Form::List;
+    let place = place_of(alloc, &object.octets, is_list);
+    if options.json {
+        let whole = object.octets.as_slice();
+        let made = json::refused(alloc, object.name, whole, why.as_str(), place);
+        printed(page, made);
+    } else {
+        begun(page, object);
+        page.line("Fault", why.as_str());
+        page.label("Where");
+        page.text(place.field);
+        page.text(", from octet ");
+        page.number(place.octet as u64);
+        page.end();
+    }
+}
+
+fn shown_certificate(page: &mut Page, object: &Object<'_>, cert: &Cert, options: &Options) {
+    if options.json {
+        let made = json::certificate(
+            page.alloc(),
+            object.name,
+            object.octets.as_slice(),
+            cert,
+            options.strict,
+        );
+        printed(page, made);
+    } else {
+        begun(page, object);
+        certificate::certificate(page, cert, options.now, options.strict);
+    }
+}
+
+// The certificate that the octets begin with, and how many octets stand behind it.
+fn certificate_in(alloc: Global, octets: &Bytes) -> Result<(Cert, usize), DecodeError> {
+    let mut cursor = Cursor::new(octets);
+    let cert = Cert::take_from(alloc, &mut cursor)?;
+    Ok((cert, cursor.rest().len()))
+}
+
+fn whole_certificate(
+    page: &mut Page,
+    object: &Object<'_>,
+    cert: &Cert,
+    left: usize,
+    options: &Options,
+) {
+    shown_certificate(page, object, cert, options);
+    let is_person = !options.json;
+    if is_person {
+        ended(page, left);
+    }
+}
+
+fn certificate_of(page: &mut Page, object: &Object<'_>, options: &Options) -> bool {
+    let octets = &object.octets;
+    match certificate_in(page.alloc(), octets) {
+        Ok(found) => {
+            let (cert, left) = found;
+            whole_certificate(page, object, &cert, left, options);
+            drop(cert);
+            true
+        }
+        Err(fault) => {
+            refused(page, object, &fault, options);
+            drop(fault);
+            false
+        }
+    }
+}
+
+fn shown_list(page: &mut Page, object: &Object<'_>, it: &Crl, options: &Options) {
+    if options.json {
+        let made = json::list(page.alloc(), object.name, object.octets.as_slice(), it);
+        printed(page, made);
+    } else {
+        begun(page, object);
+        page.line("Kind", "revocation list");
+        list::list(page, it, options.now, options.all);
+    }
+}
+
+// The list that the octets begin with, and how many octets stand behind it.
+fn list_in(alloc: Global, octets: &Bytes) -> Result<(Crl, usize), DecodeError> {
+    let mut cursor = Cursor::new(octets);
+    let list = Crl::take_from(alloc, &mut cursor)?;
+    Ok((list, cursor.rest().len()))
+}
+
+fn whole_list(page: &mut Page, object: &Object<'_>, it: &Crl, left: usize, options: &Options) {
+    shown_list(page, object, it, options);
+    let is_person = !options.json;
+    if is_person {
+        ended(page, left);
+    }
+}
+
+fn list_of(page: &mut Page, object: &Object<'_>, options: &Options) -> bool {
+    let octets = &object.octets;
+    match list_in(page.alloc(), octets) {
+        Ok(found) => {
+            let (it, left) = found;
+            whole_list(page, object, &it, left, options);
+            drop(it);
+            true
+        }
+        Err(fault) => {
+            refused(page, object, &fault, options);
+            drop(fault);
+            false
+        }
+    }
+}
+
+/// Shows a file, and says whether it is a certificate or a list.
+pub fn show(page: &mut Page, object: &Object<'_>, options: &Options) -> bool {
+    match looks_like(&object.octets) {
+        Form::List => list_of(page, object, options),
+        Form::Certificate | Form::Other => certificate_of(page, object, options),
+    }
+}
+
+/// The text of the objects, and whether each of them is a certificate or a list.
+pub fn shown(
+    alloc: Global,
+    objects: &[Object<'_>],
+    options: &Options,
+) -> Result<(String, bool), AllocError> {
+    let mut page = Page::new(alloc);
+    let mut well = true;
+    let mut is_first = true;
+    for object in objects {
+        if !is_first && !options.json {
+            page.end();
+        }
+        well = show(&mut page, object, options) && well;
+        is_first = false;
+    }
+    Ok((page.into_text()?, well))
+}
