@@ -1,6 +1,7 @@
 //! Revocation lists (RFC 5280 5, RFC 6487 5).
 #![tactic(auto)]
 
+pub mod comparing;
 mod crl;
 mod entry;
 mod extensions;
