@@ -193,13 +193,15 @@ impl Crl {
     }
 
     /// The same, and how many serials were looked at to tell: without a table those of the entries up to the first that has the
-    /// serial, or of all; with one at most as many as the number of entries has binary digits. Takes no memory.
+    /// serial, or of all; with one at most as many as the number of entries has binary digits, and at least one where the list has
+    /// the serial. Takes no memory.
     pub fn contains_counted(&self, serial: Serial) -> (bool, usize)
         ensures revoked { IsTrue result.0 ↔ IsRevoked serial self.now.list.fields.revoked.entries }
         ensures walked { self.now.is_cached ≡ false
             → result.1 ≡ looks serial self.now.list.fields.revoked.entries }
         ensures searched { self.now.is_cached ≡ true
             → result.1 ≤ digits (length self.now.list.fields.revoked.entries) }
+        ensures looked { self.now.is_cached ≡ true → IsTrue result.0 → 1 ≤ result.1 }
     {
         match &self.cache {
             Some(table) => {

@@ -1,5 +1,6 @@
 //! The extensions of a revocation list, in one pass, whatever order they stand in.
-ghost use Rattle.std.specs.Prelude.{◌≡◌, codes, string_bytes, IfOk, IfErr};
+ghost use Rattle.std.specs.Prelude.{◌≡◌, ◌⊎◌, codes, string_bytes, IfOk, IfErr};
+ghost use Rattle.rpki_der.specs.Primitives.{IsOid};
 ghost use Rattle.rpki_der.specs.Place.{Place, left, Refuses};
 ghost use Rattle.rpki_der.specs.Place.Reading.{Returns, ReturnsBy, ReturnsOrMemoryBy};
 ghost use Rattle.rpki_der.specs.Extensions.Reading.{extension_at};
@@ -41,8 +42,11 @@ pub(crate) struct Extensions {
     pub(crate) crl_number: Serial,
 }
 
-// An extension of no known kind is refused, critical or not.
-fn refuse(alloc: Global, identifier: &[u8]) -> DecodeError {
+// An extension of no known kind is refused under its own identifier, critical or not.
+fn refuse(alloc: Global, identifier: &[u8]) -> DecodeError
+    ensures { IsOid identifier.now
+        → (result ≡ DecodeError.InvalidExtension identifier.now) ⊎ (result ≡ DecodeError.Memory) }
+{
     let octets = match Bytes::copy_from_slice(alloc, identifier) {
         Ok(octets) => octets,
         Err(error) => return DecodeError::from(error),

@@ -59,7 +59,9 @@ impl<C: Drop> TbsCertList<C> {
     {
         self.extensions.crl_number = crl_number;
     }
+}
 
+impl<C> TbsCertList<C> {
     /// Whether the next list was to be made before this moment.
     pub fn is_stale(&self, now: Time) -> bool
         ensures { IsTrue result ↔ (second_number self.now.next_update < second_number now) }

@@ -8,7 +8,7 @@ use std::fmt::{Display, Formatter, Write};
 use std::marker::Model;
 
 /// A revocation list has an extension that none may have (RFC 6487 5).
-#[derive(Drop)]
+#[derive(Debug, Drop)]
 pub struct InvalidExtension {
     oid: Oid,
 }

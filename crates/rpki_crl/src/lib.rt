@@ -2,6 +2,7 @@
 #![tactic(auto)]
 
 mod check;
+pub mod comparing;
 mod crl;
 mod entry;
 mod extensions;

@@ -85,6 +85,7 @@ impl SerialTable {
     pub(crate) fn contains(&self, serial: Serial) -> (bool, Count)
         ensures found { IsTrue result.0 ↔ Contains self.now serial }
         ensures few { result.1 ≤ digits (length self.now) }
+        ensures looked { IsTrue result.0 → 1 ≤ result.1 }
     {
         let mut count = Count::new();
         let mut low = 0;
