@@ -1,6 +1,6 @@
 -- What is verified of a certificate, line by line (RFC 6487 7.2, RFC 8360 4.2.4.4; own: the order of the lines, and that revocation and the
 -- chaining of names are the caller's to ask).
-use Rattle.std.specs.Prelude.{◌≡◌, ◌≢◌, ◌↔◌, ◌⊎◌, ◌≤◌, ◌^◌, ◌-◌, ℕ, List, [], ◌∷◌, IsSome, IfSome, codes}
+use Rattle.std.specs.Prelude.{◌≡◌, ◌≢◌, ◌↔◌, ◌⊎◌, ◌≤◌, ◌^◌, ◌-◌, ℕ, Bool, List, [], ◌∷◌, IsSome, IfSome, codes}
 use Rattle.std.specs.List.{AllByRecursion}
 use Rattle.rpki_der.specs.Times.{Moment}
 use Rattle.rpki_blocks.specs.Sets.{Block, Has}
@@ -64,22 +64,30 @@ HeldLine held c OverclaimV6 = ListsOnlyHeld c.fields.extensions.overclaim (2 ^ 1
 HeldLine held c OverclaimAs = ListsOnlyHeld c.fields.extensions.overclaim (2 ^ 32 - 1) held.as_numbers c.fields.extensions.as_resources
 HeldLine held c _ = Unit {0}
 
--- The line is true of c, at this moment, under an issuer with these sets and a verifier that answers by this relation. A line is named by
--- the error that it gives where it isn't true.
-abbrev pub Line : Verifies → Moment → TbsFields → Held → CertFields → VerificationError → Type 0
-Line V now issuer held c NotYetValid = TimeLine now c NotYetValid
-Line V now issuer held c Expired = TimeLine now c Expired
-Line V now issuer held c InheritedV4 = OwnLine c InheritedV4
-Line V now issuer held c InheritedV6 = OwnLine c InheritedV6
-Line V now issuer held c InheritedAs = OwnLine c InheritedAs
-Line V now issuer held c MissingKeyId = ClaimLine issuer c MissingKeyId
-Line V now issuer held c WrongKeyId = ClaimLine issuer c WrongKeyId
-Line V now issuer held c MissingIssuerUri = ClaimLine issuer c MissingIssuerUri
-Line V now issuer held c BadSignature = IsSignedBy V issuer.key c.signed_data
-Line V now issuer held c OverclaimV4 = HeldLine held c OverclaimV4
-Line V now issuer held c OverclaimV6 = HeldLine held c OverclaimV6
-Line V now issuer held c OverclaimAs = HeldLine held c OverclaimAs
-Line V now issuer held c Memory = Unit {0}
+-- under what a certificate is judged: how the verifier answers, the moment, and whether names are read strictly
+pub record Context : Type 1 where
+  pub verifies : Verifies
+  pub now : Moment
+  pub strict : Bool
+
+abbrev pub context : Verifies → Moment → Bool → Context
+context verifies now strict = record { verifies = verifies; now = now; strict = strict }
+
+-- The line is true of c, in this context, under an issuer with these sets. A line is named by the error that it gives where it isn't true.
+abbrev pub Line : Context → TbsFields → Held → CertFields → VerificationError → Type 0
+Line x issuer held c NotYetValid = TimeLine x.now c NotYetValid
+Line x issuer held c Expired = TimeLine x.now c Expired
+Line x issuer held c InheritedV4 = OwnLine c InheritedV4
+Line x issuer held c InheritedV6 = OwnLine c InheritedV6
+Line x issuer held c InheritedAs = OwnLine c InheritedAs
+Line x issuer held c MissingKeyId = ClaimLine issuer c MissingKeyId
+Line x issuer held c WrongKeyId = ClaimLine issuer c WrongKeyId
+Line x issuer held c MissingIssuerUri = ClaimLine issuer c MissingIssuerUri
+Line x issuer held c BadSignature = IsSignedBy x.verifies issuer.key c.signed_data
+Line x issuer held c OverclaimV4 = HeldLine held c OverclaimV4
+Line x issuer held c OverclaimV6 = HeldLine held c OverclaimV6
+Line x issuer held c OverclaimAs = HeldLine held c OverclaimAs
+Line x issuer held c Memory = Unit {0}
 
 -- ---- the lines of each call, in their order
 
@@ -112,7 +120,7 @@ abbrev pub router_lines : List VerificationError
 router_lines = NotYetValid ∷ Expired ∷ MissingKeyId ∷ WrongKeyId ∷ MissingIssuerUri ∷ BadSignature ∷ OverclaimAs ∷ []
 
 -- all of these lines are true
-abbrev pub IsVerified : (VerificationError → Type 0) → List VerificationError → Type 0
+abbrev pub IsVerified : {X : Type 0} → (X → Type 0) → List X → Type 0
 IsVerified line lines = AllByRecursion line lines
 
 -- the first of them that isn't true; or memory was wanted
@@ -134,12 +142,12 @@ abbrev pub held_by : ResourceFields → Held
 held_by r = record { v4 = Has r.v4; v6 = Has r.v6; as_numbers = Has r.as_numbers }
 
 -- the lines under an issuer that was verified
-abbrev pub LineUnder : Verifies → Moment → ResourceFields → CertFields → VerificationError → Type 0
-LineUnder V now issuer c = Line V now issuer.cert.fields (held_by issuer) c
+abbrev pub LineUnder : Context → ResourceFields → CertFields → VerificationError → Type 0
+LineUnder x issuer c = Line x issuer.cert.fields (held_by issuer) c
 
 -- the lines of an anchor, which issued itself
-abbrev pub AnchorLine : Verifies → Moment → CertFields → VerificationError → Type 0
-AnchorLine V now c = Line V now c.fields nothing_held c
+abbrev pub AnchorLine : Context → CertFields → VerificationError → Type 0
+AnchorLine x c = Line x c.fields nothing_held c
 
 -- the set has the numbers that are listed
 abbrev pub ListsNumbers : Resources → List Block → Type 0

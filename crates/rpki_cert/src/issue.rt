@@ -5,7 +5,7 @@ ghost use Rattle.rpki_cert.specs.Certificates.{TbsFields, CanBeWritten, IsCertif
 ghost use Rattle.rpki_cert.specs.Issuing.{IsNotMade, IsNotReadAgain, IsNotIssued, IsNoReadingFault};
 ghost use Rattle.rpki_cert.specs.Profiles.{MeetsProfile};
 ghost use Rattle.rpki_cert.specs.Validation.{IsInvalid};
-ghost use Rattle.rpki_cert.specs.Verification.{LineUnder, IsVerified, IsFirstFalseOrMemory, HasIssued, issued_lines};
+ghost use Rattle.rpki_cert.specs.Verification.{context, LineUnder, IsVerified, IsFirstFalseOrMemory, HasIssued, issued_lines};
 ghost use Rattle.rpki_cert.specs.declared.inspect.Kind.TheVariants.{Authority};
 
 use crate::cert::Cert;
@@ -119,13 +119,13 @@ pub fn issue_ca<S: Signer, V: Verifier>(
         (λ r. S.signs signer.now key.now tbs.algorithm (spelling tbs)
         (Ok r.cert.signed_data.signature)) }
     ensures profile { IfOk result (λ r. MeetsProfile Authority strict r.cert) }
-    ensures lines { IfOk result (λ r. IsVerified
-        (LineUnder (V.verifies verifier.now) now issuer.now r.cert) issued_lines) }
+    ensures lines { let x = context (V.verifies verifier.now) now strict in
+        IfOk result (λ r. IsVerified (LineUnder x issuer.now r.cert) issued_lines) }
     ensures gives { IfOk result (λ r. HasIssued r.cert issuer.now r) }
-    ensures refused { IfErr result (IsNotIssued tbs
-        (S.signs signer.now key.now tbs.algorithm (spelling tbs))
-        (λ c. IsInvalid Authority strict c (IsFirstFalseOrMemory
-        (LineUnder (V.verifies verifier.now) now issuer.now c) issued_lines))) }
+    ensures refused { let x = context (V.verifies verifier.now) now strict in
+        IfErr result (IsNotIssued tbs (S.signs signer.now key.now tbs.algorithm (spelling tbs))
+        (λ c. IsInvalid Authority strict c
+        (IsFirstFalseOrMemory (LineUnder x issuer.now c) issued_lines))) }
     ensures readable { CanBeWritten tbs → IfErr result IsNoReadingFault }
 {
     match make_and_read(alloc, tbs, signer, key) {

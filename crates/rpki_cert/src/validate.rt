@@ -4,7 +4,7 @@ ghost use Rattle.std.specs.Prelude.{◌≡◌, OnOk, IfOk, IfErr};
 ghost use Rattle.std.proofs.Common.{rc_value};
 ghost use Rattle.rpki_parts.specs.Conditions.{IsFirstFalse};
 ghost use Rattle.rpki_cert.specs.Profiles.{MeetsProfile, IsFirstFault};
-ghost use Rattle.rpki_cert.specs.Verification.{LineUnder, AnchorLine, IsVerified, IsFirstFalseOrMemory, HasListed, HasIssued, issued_lines, anchor_lines, router_lines};
+ghost use Rattle.rpki_cert.specs.Verification.{context, LineUnder, AnchorLine, IsVerified, IsFirstFalseOrMemory, HasListed, HasIssued, issued_lines, anchor_lines, router_lines};
 ghost use Rattle.rpki_cert.specs.Validation.{IsInvalid};
 ghost use Rattle.rpki_cert.specs.declared.inspect.Kind.TheVariants.{Anchor, Authority, EndEntity, Detached, Router};
 
@@ -41,11 +41,12 @@ impl Cert {
         verifier: &V,
     ) -> Result<ResourceCert, ValidationError>
         ensures profile { OnOk result (MeetsProfile kind strict self) }
-        ensures lines { OnOk result (IsVerified
-            (LineUnder (V.verifies verifier.now) now issuer.now self) issued_lines) }
+        ensures lines { let x = context (V.verifies verifier.now) now strict in
+            OnOk result (IsVerified (LineUnder x issuer.now self) issued_lines) }
         ensures gives { IfOk result (HasIssued self issuer.now) }
-        ensures fault { IfErr result (IsInvalid kind strict self (IsFirstFalseOrMemory
-            (LineUnder (V.verifies verifier.now) now issuer.now self) issued_lines)) }
+        ensures fault { let x = context (V.verifies verifier.now) now strict in
+            IfErr result (IsInvalid kind strict self
+            (IsFirstFalseOrMemory (LineUnder x issuer.now self) issued_lines)) }
     {
         let cert = self.inspected(kind, strict)?;
         Ok(cert.verify_issued_at(alloc, issuer, strict, now, verifier)?)
@@ -62,11 +63,12 @@ impl Cert {
         verifier: &V,
     ) -> Result<ResourceCert, ValidationError>
         ensures profile { OnOk result (MeetsProfile Anchor strict self) }
-        ensures lines { OnOk result
-            (IsVerified (AnchorLine (V.verifies verifier.now) now self) anchor_lines) }
+        ensures lines { let x = context (V.verifies verifier.now) now strict in
+            OnOk result (IsVerified (AnchorLine x self) anchor_lines) }
         ensures gives { IfOk result (HasListed self (rc_value tal)) }
-        ensures fault { IfErr result (IsInvalid Anchor strict self (IsFirstFalseOrMemory
-            (AnchorLine (V.verifies verifier.now) now self) anchor_lines)) }
+        ensures fault { let x = context (V.verifies verifier.now) now strict in
+            IfErr result (IsInvalid Anchor strict self
+            (IsFirstFalseOrMemory (AnchorLine x self) anchor_lines)) }
     {
         let cert = self.inspected(Kind::Anchor, strict)?;
         Ok(cert.verify_ta_at(alloc, tal, strict, now, verifier)?)
@@ -83,11 +85,12 @@ impl Cert {
         verifier: &V,
     ) -> Result<ResourceCert, ValidationError>
         ensures profile { OnOk result (MeetsProfile Authority strict self) }
-        ensures lines { OnOk result (IsVerified
-            (LineUnder (V.verifies verifier.now) now issuer.now self) issued_lines) }
+        ensures lines { let x = context (V.verifies verifier.now) now strict in
+            OnOk result (IsVerified (LineUnder x issuer.now self) issued_lines) }
         ensures gives { IfOk result (HasIssued self issuer.now) }
-        ensures fault { IfErr result (IsInvalid Authority strict self (IsFirstFalseOrMemory
-            (LineUnder (V.verifies verifier.now) now issuer.now self) issued_lines)) }
+        ensures fault { let x = context (V.verifies verifier.now) now strict in
+            IfErr result (IsInvalid Authority strict self
+            (IsFirstFalseOrMemory (LineUnder x issuer.now self) issued_lines)) }
     {
         self.validate_issued_at(alloc, issuer, Kind::Authority, strict, now, verifier)
     }
@@ -103,11 +106,12 @@ impl Cert {
         verifier: &V,
     ) -> Result<ResourceCert, ValidationError>
         ensures profile { OnOk result (MeetsProfile EndEntity strict self) }
-        ensures lines { OnOk result (IsVerified
-            (LineUnder (V.verifies verifier.now) now issuer.now self) issued_lines) }
+        ensures lines { let x = context (V.verifies verifier.now) now strict in
+            OnOk result (IsVerified (LineUnder x issuer.now self) issued_lines) }
         ensures gives { IfOk result (HasIssued self issuer.now) }
-        ensures fault { IfErr result (IsInvalid EndEntity strict self (IsFirstFalseOrMemory
-            (LineUnder (V.verifies verifier.now) now issuer.now self) issued_lines)) }
+        ensures fault { let x = context (V.verifies verifier.now) now strict in
+            IfErr result (IsInvalid EndEntity strict self
+            (IsFirstFalseOrMemory (LineUnder x issuer.now self) issued_lines)) }
     {
         self.validate_issued_at(alloc, issuer, Kind::EndEntity, strict, now, verifier)
     }
@@ -123,11 +127,12 @@ impl Cert {
         verifier: &V,
     ) -> Result<ResourceCert, ValidationError>
         ensures profile { OnOk result (MeetsProfile Detached strict self) }
-        ensures lines { OnOk result (IsVerified
-            (LineUnder (V.verifies verifier.now) now issuer.now self) issued_lines) }
+        ensures lines { let x = context (V.verifies verifier.now) now strict in
+            OnOk result (IsVerified (LineUnder x issuer.now self) issued_lines) }
         ensures gives { IfOk result (HasIssued self issuer.now) }
-        ensures fault { IfErr result (IsInvalid Detached strict self (IsFirstFalseOrMemory
-            (LineUnder (V.verifies verifier.now) now issuer.now self) issued_lines)) }
+        ensures fault { let x = context (V.verifies verifier.now) now strict in
+            IfErr result (IsInvalid Detached strict self
+            (IsFirstFalseOrMemory (LineUnder x issuer.now self) issued_lines)) }
     {
         self.validate_issued_at(alloc, issuer, Kind::Detached, strict, now, verifier)
     }
@@ -142,10 +147,11 @@ impl Cert {
         verifier: &V,
     ) -> Result<(), ValidationError>
         ensures profile { OnOk result (MeetsProfile Router strict self.now) }
-        ensures lines { OnOk result (IsVerified
-            (LineUnder (V.verifies verifier.now) now issuer.now self.now) router_lines) }
-        ensures fault { IfErr result (IsInvalid Router strict self.now (IsFirstFalse
-            (LineUnder (V.verifies verifier.now) now issuer.now self.now) router_lines)) }
+        ensures lines { let x = context (V.verifies verifier.now) now strict in
+            OnOk result (IsVerified (LineUnder x issuer.now self.now) router_lines) }
+        ensures fault { let x = context (V.verifies verifier.now) now strict in
+            IfErr result (IsInvalid Router strict self.now
+            (IsFirstFalse (LineUnder x issuer.now self.now) router_lines)) }
     {
         self.inspect_router(strict)?;
         self.verify_router_at(issuer, strict, now, verifier)?;

@@ -5,7 +5,7 @@ ghost use Rattle.rpki_blocks.specs.Sets.{Has};
 ghost use Rattle.rpki_parts.specs.Conditions.{IsFirstFalse, Tests};
 ghost use Rattle.rpki_blocks.specs.IssuedSets.{IsIssued};
 ghost use Rattle.rpki_cert.specs.Verification.{IsSignedBy, ListsOnlyHeld, ListsNumbers, held_by, IsVerified, IsFirstFalseOrMemory};
-ghost use Rattle.rpki_cert.specs.Verification.{TimeLine, ClaimLine, OwnLine, HeldLine, LineUnder, AnchorLine};
+ghost use Rattle.rpki_cert.specs.Verification.{context, TimeLine, ClaimLine, OwnLine, HeldLine, LineUnder, AnchorLine};
 ghost use Rattle.rpki_cert.specs.Verification.{validity_lines, claim_lines, own_lines, held_lines, basis_lines, anchor_lines, router_lines};
 ghost use Rattle.rpki_cert.specs.declared.verification_error.VerificationError.TheVariants.{Memory};
 
@@ -146,8 +146,8 @@ impl Cert {
         now: Time,
         verifier: &V,
     ) -> Result<(), VerificationError>
-        ensures { Tests (LineUnder (V.verifies verifier.now) now issuer.now self.now)
-            basis_lines result }
+        ensures { let x = context (V.verifies verifier.now) now strict in
+            Tests (LineUnder x issuer.now self.now) basis_lines result }
     {
         self.verify_validity(now)?;
         self.verify_issuer_claim(issuer, strict)?;
@@ -163,10 +163,10 @@ impl Cert {
         now: Time,
         verifier: &V,
     ) -> Result<(), VerificationError>
-        ensures ok { OnOk result
-            (IsVerified (AnchorLine (V.verifies verifier.now) now self.now) anchor_lines) }
-        ensures fault { IfErr result
-            (IsFirstFalse (AnchorLine (V.verifies verifier.now) now self.now) anchor_lines) }
+        ensures ok { let x = context (V.verifies verifier.now) now strict in
+            OnOk result (IsVerified (AnchorLine x self.now) anchor_lines) }
+        ensures fault { let x = context (V.verifies verifier.now) now strict in
+            IfErr result (IsFirstFalse (AnchorLine x self.now) anchor_lines) }
     {
         self.verify_validity(now)?;
         self.verify_inherits_nothing()?;
@@ -184,10 +184,10 @@ impl Cert {
         now: Time,
         verifier: &V,
     ) -> Result<(), VerificationError>
-        ensures ok { OnOk result (IsVerified
-            (LineUnder (V.verifies verifier.now) now issuer.now self.now) router_lines) }
-        ensures fault { IfErr result (IsFirstFalse
-            (LineUnder (V.verifies verifier.now) now issuer.now self.now) router_lines) }
+        ensures ok { let x = context (V.verifies verifier.now) now strict in
+            OnOk result (IsVerified (LineUnder x issuer.now self.now) router_lines) }
+        ensures fault { let x = context (V.verifies verifier.now) now strict in
+            IfErr result (IsFirstFalse (LineUnder x issuer.now self.now) router_lines) }
     {
         self.verify_basis(issuer, strict, now, verifier)?;
         let tbs = self.as_tbs();

@@ -2,7 +2,7 @@
 ghost use Rattle.std.specs.Prelude.{◌≡◌, OnOk, IfOk, IfErr};
 ghost use Rattle.std.proofs.Common.{rc_value};
 ghost use Rattle.rpki_blocks.specs.IssuedSets.{IsIssued};
-ghost use Rattle.rpki_cert.specs.Verification.{LineUnder, AnchorLine, IsVerified, IsFirstFalseOrMemory, ListsNumbers, HasListed, HasIssued, issued_lines, anchor_lines};
+ghost use Rattle.rpki_cert.specs.Verification.{context, LineUnder, AnchorLine, IsVerified, IsFirstFalseOrMemory, ListsNumbers, HasListed, HasIssued, issued_lines, anchor_lines};
 
 use crate::cert::Cert;
 use crate::resource_cert::{ResourceCert, Sets};
@@ -42,10 +42,10 @@ impl Cert {
         now: Time,
         verifier: &V,
     ) -> Result<Kept, VerificationError>
-        ensures lines { OnOk result (IsVerified
-            (LineUnder (V.verifies verifier.now) now issuer.now self.now) issued_lines) }
-        ensures fault { IfErr result (IsFirstFalseOrMemory
-            (LineUnder (V.verifies verifier.now) now issuer.now self.now) issued_lines) }
+        ensures lines { let x = context (V.verifies verifier.now) now strict in
+            OnOk result (IsVerified (LineUnder x issuer.now self.now) issued_lines) }
+        ensures fault { let x = context (V.verifies verifier.now) now strict in
+            IfErr result (IsFirstFalseOrMemory (LineUnder x issuer.now self.now) issued_lines) }
         ensures v4 { IfOk result
             (λ k. IsIssued issuer.now.v4 self.now.fields.extensions.v4_resources k.sets.v4) }
         ensures v6 { IfOk result
@@ -69,10 +69,10 @@ impl Cert {
         now: Time,
         verifier: &V,
     ) -> Result<ResourceCert, VerificationError>
-        ensures lines { OnOk result (IsVerified
-            (LineUnder (V.verifies verifier.now) now issuer.now self) issued_lines) }
-        ensures fault { IfErr result (IsFirstFalseOrMemory
-            (LineUnder (V.verifies verifier.now) now issuer.now self) issued_lines) }
+        ensures lines { let x = context (V.verifies verifier.now) now strict in
+            OnOk result (IsVerified (LineUnder x issuer.now self) issued_lines) }
+        ensures fault { let x = context (V.verifies verifier.now) now strict in
+            IfErr result (IsFirstFalseOrMemory (LineUnder x issuer.now self) issued_lines) }
         ensures gives { IfOk result (HasIssued self issuer.now) }
     {
         let tested = self.kept_below(alloc, issuer, strict, now, verifier);
@@ -91,10 +91,10 @@ impl Cert {
         now: Time,
         verifier: &V,
     ) -> Result<ResourceCert, VerificationError>
-        ensures lines { OnOk result (IsVerified
-            (LineUnder (V.verifies verifier.now) now issuer.now self) issued_lines) }
-        ensures fault { IfErr result (IsFirstFalseOrMemory
-            (LineUnder (V.verifies verifier.now) now issuer.now self) issued_lines) }
+        ensures lines { let x = context (V.verifies verifier.now) now strict in
+            OnOk result (IsVerified (LineUnder x issuer.now self) issued_lines) }
+        ensures fault { let x = context (V.verifies verifier.now) now strict in
+            IfErr result (IsFirstFalseOrMemory (LineUnder x issuer.now self) issued_lines) }
         ensures gives { IfOk result (HasIssued self issuer.now) }
     {
         self.verify_issued_at(alloc, issuer, strict, now, verifier)
@@ -109,10 +109,10 @@ impl Cert {
         now: Time,
         verifier: &V,
     ) -> Result<ResourceCert, VerificationError>
-        ensures lines { OnOk result (IsVerified
-            (LineUnder (V.verifies verifier.now) now issuer.now self) issued_lines) }
-        ensures fault { IfErr result (IsFirstFalseOrMemory
-            (LineUnder (V.verifies verifier.now) now issuer.now self) issued_lines) }
+        ensures lines { let x = context (V.verifies verifier.now) now strict in
+            OnOk result (IsVerified (LineUnder x issuer.now self) issued_lines) }
+        ensures fault { let x = context (V.verifies verifier.now) now strict in
+            IfErr result (IsFirstFalseOrMemory (LineUnder x issuer.now self) issued_lines) }
         ensures gives { IfOk result (HasIssued self issuer.now) }
     {
         self.verify_issued_at(alloc, issuer, strict, now, verifier)
@@ -126,10 +126,10 @@ impl Cert {
         now: Time,
         verifier: &V,
     ) -> Result<Sets, VerificationError>
-        ensures lines { OnOk result
-            (IsVerified (AnchorLine (V.verifies verifier.now) now self.now) anchor_lines) }
-        ensures fault { IfErr result (IsFirstFalseOrMemory
-            (AnchorLine (V.verifies verifier.now) now self.now) anchor_lines) }
+        ensures lines { let x = context (V.verifies verifier.now) now strict in
+            OnOk result (IsVerified (AnchorLine x self.now) anchor_lines) }
+        ensures fault { let x = context (V.verifies verifier.now) now strict in
+            IfErr result (IsFirstFalseOrMemory (AnchorLine x self.now) anchor_lines) }
         ensures v4 { IfOk result
             (λ s. ListsNumbers self.now.fields.extensions.v4_resources s.v4) }
         ensures v6 { IfOk result
@@ -151,10 +151,10 @@ impl Cert {
         now: Time,
         verifier: &V,
     ) -> Result<ResourceCert, VerificationError>
-        ensures lines { OnOk result
-            (IsVerified (AnchorLine (V.verifies verifier.now) now self) anchor_lines) }
-        ensures fault { IfErr result (IsFirstFalseOrMemory
-            (AnchorLine (V.verifies verifier.now) now self) anchor_lines) }
+        ensures lines { let x = context (V.verifies verifier.now) now strict in
+            OnOk result (IsVerified (AnchorLine x self) anchor_lines) }
+        ensures fault { let x = context (V.verifies verifier.now) now strict in
+            IfErr result (IsFirstFalseOrMemory (AnchorLine x self) anchor_lines) }
         ensures gives { IfOk result (HasListed self (rc_value tal)) }
     {
         let tested = self.kept_of_anchor(alloc, strict, now, verifier);

@@ -12,3 +12,4 @@ pub mod SignedLists
 pub mod ExampleLists
 pub mod GivenEntries
 pub mod SpelledLists
+pub mod Earliest

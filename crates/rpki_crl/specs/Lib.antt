@@ -4,3 +4,4 @@ pub mod ListExtensions
 pub mod Lists
 pub mod Stores
 pub mod ListMaking
+pub mod Revocation

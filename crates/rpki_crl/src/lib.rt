@@ -1,6 +1,7 @@
 //! Revocation lists (RFC 5280 5, RFC 6487 5).
 #![tactic(auto)]
 
+mod check;
 mod crl;
 mod entry;
 mod extensions;
@@ -8,6 +9,7 @@ mod fields;
 mod invalid_extension;
 pub mod laws;
 mod making;
+mod revocation_error;
 mod revoked;
 pub mod round_trip;
 mod store;
@@ -19,6 +21,7 @@ mod writing;
 pub use crl::Crl;
 pub use entry::CrlEntry;
 pub use invalid_extension::InvalidExtension;
+pub use revocation_error::RevocationError;
 pub use revoked::{RevokedCertificates, RevokedCertificatesIter};
 pub use store::CrlStore;
 pub use tbs::TbsCertList;

@@ -11,7 +11,7 @@ use std::marker::Model;
 #[derive(Drop)]
 pub struct CrlStore {
     alloc: Global,
-    pairs: Vec<(Rsync, Crl)>,
+    pub(crate) pairs: Vec<(Rsync, Crl)>,
     caches: bool,
 }
 

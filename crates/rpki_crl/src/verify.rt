@@ -1,6 +1,7 @@
 //! Revocation lists are verified.
 ghost use Rattle.std.specs.Prelude.{◌≡◌, ◌↔◌, IsOk, IfErr};
 ghost use Rattle.rpki_cert.specs.Verification.{IsSignedBy};
+ghost use Rattle.rpki_crl.specs.Revocation.{NamesIssuer};
 ghost use Rattle.rpki_cert.specs.declared.verification_error.VerificationError.TheVariants.{WrongKeyId, BadSignature};
 
 use crate::crl::Crl;
@@ -15,8 +16,7 @@ impl Crl {
         issuer: &ResourceCert,
         _strict: bool,
     ) -> Result<(), VerificationError>
-        ensures ok { IsOk result ↔ self.now.list.fields.extensions.authority_key_identifier
-            ≡ issuer.now.cert.fields.extensions.subject_key_identifier }
+        ensures ok { IsOk result ↔ NamesIssuer issuer.now.cert.fields self.now.list }
         ensures fault { IfErr result (λ e. e ≡ WrongKeyId) }
     {
         let named = self.as_cert_list().authority_key_identifier();

@@ -1,21 +1,21 @@
 -- A good path gets a further member.
 use Rattle.std.specs.List.{AllByRecursion}
-use Rattle.std.specs.Prelude.{Bool}
+use Rattle.std.specs.Prelude.{Option}
 use Rattle.std.proofs.Common.{◌≡◌, ◌⊎◌, ◌↔◌, ◌+◌, ◌<◌, ◌≤◌, ℕ, List, [], ◌∷◌, ◌++◌, refl, sym, ap, subst, ◌∙◌, inl, inr, arith}
 use Rattle.std.proofs.Math.Nat.{eq-or-lt_of_le}
-use Rattle.rpki_der.specs.Times.{Moment}
 use Rattle.rpki_blocks.specs.Sets.{Has, Block}
 use Rattle.rpki_blocks.specs.IssuedSets.{IsIssued}
 use Rattle.rpki_parts.specs.Conditions.{IsFirstFalse}
-use Rattle.rpki_parts.specs.Signatures.{Verifies}
 use Rattle.rpki_cert.specs.Certificates.{TbsFields, CertFields}
 use Rattle.rpki_cert.specs.Profiles.{MeetsProfile}
-use Rattle.rpki_cert.specs.Verification.{Held, Line, LineUnder, issued_lines, IsVerified, ResourceFields, held_by}
+use Rattle.rpki_cert.specs.Verification.{Context, Held, Line, LineUnder, issued_lines, IsVerified, ResourceFields, held_by}
 use Rattle.rpki_cert.specs.declared.inspect.Kind.{Kind}
 use Rattle.rpki_cert.specs.declared.verification_error.VerificationError.{VerificationError}
 use Rattle.rpki_cert.specs.declared.verification_error.VerificationError.TheVariants.{NotYetValid, Expired, InheritedV4, InheritedV6, InheritedAs, MissingKeyId, WrongKeyId, MissingIssuerUri, BadSignature, OverclaimV4, OverclaimV6, OverclaimAs, Memory}
-use Rattle.rpki_path.specs.Paths.{Member, Path, last, certificate_at, NumberKind, v4_addresses, v6_addresses, system_numbers, kind_resources, Holds, HeldAt, LineBelow, IsGoodPath, Asked, ask, IsMember, HasHeld, IsAccepted}
-use Rattle.rpki_path.specs.Paths.Steps.{IsAnchor, IsIssuedBy}
+use Rattle.rpki_crl.specs.Revocation.{revocation_lines}
+use Rattle.rpki_crl.specs.Stores.{Stored}
+use Rattle.rpki_path.specs.Paths.{Member, Path, last, certificate_at, NumberKind, v4_addresses, v6_addresses, system_numbers, kind_resources, Holds, HeldAt, LineBelow, AskedLine, IsGoodPath, Asked, ask, IsMember, HasHeld, IsAccepted}
+use Rattle.rpki_path.specs.Paths.Steps.{IsAnchor, IsBelow, IsIssuedBy}
 use Rattle.rpki_path.proofs.LongerPaths.{extended, above, there, last_extended, holds_above, holds_there, gets_passed, zip_more, all_more}
 
 -- ---- conditions
@@ -49,8 +49,8 @@ turned s = record {
   as_same = λ n. ((s.as_same n).1, (s.as_same n).0);
 }
 
-module _ (V : Verifies) (now : Moment) where
-  line_kept : (f : TbsFields) (h g : Held) → SameHeld h g → (c : CertFields) (e : VerificationError) → Line V now f h c e → Line V now f g c e
+module _ (x : Context) where
+  line_kept : (f : TbsFields) (h g : Held) → SameHeld h g → (c : CertFields) (e : VerificationError) → Line x f h c e → Line x f g c e
   line_kept f h g same c NotYetValid l = l
   line_kept f h g same c Expired l = l
   line_kept f h g same c InheritedV4 l = l
@@ -65,22 +65,22 @@ module _ (V : Verifies) (now : Moment) where
   line_kept f h g same c OverclaimAs l = λ mode n small listed. (same.as_same n).0 (l mode n small listed)
   line_kept f h g same c Memory l = l
 
-  line_same : (f d : TbsFields) → f ≡ d → (h g : Held) → SameHeld h g → (c : CertFields) (e : VerificationError) → Line V now f h c e ↔ Line V now d g c e
+  line_same : (f d : TbsFields) → f ≡ d → (h g : Held) → SameHeld h g → (c : CertFields) (e : VerificationError) → Line x f h c e ↔ Line x d g c e
   line_same f d is h g same c e = (
-    (λ l. line_kept d h g same c e (subst (λ (x : TbsFields). Line V now x h c e) is l)),
-    (λ l. line_kept f g h (turned same) c e (subst (λ (x : TbsFields). Line V now x g c e) (sym is) l)),
+    (λ l. line_kept d h g same c e (subst (λ (y : TbsFields). Line x y h c e) is l)),
+    (λ l. line_kept f g h (turned same) c e (subst (λ (y : TbsFields). Line x y g c e) (sym is) l)),
   )
 
   -- the lines under the last member, as it was validated, are those of the path
-  pub line_last : (p : Path) (tal : List ℕ) (issuer : ResourceFields) → HasHeld p tal issuer → (c : CertFields) (e : VerificationError) → LineUnder V now issuer c e ↔ LineBelow V now p (last p) c e
+  pub line_last : (p : Path) (tal : List ℕ) (issuer : ResourceFields) → HasHeld p tal issuer → (c : CertFields) (e : VerificationError) → LineUnder x issuer c e ↔ LineBelow x p (last p) c e
   line_last p tal issuer held c e =
-      line_same issuer.cert.fields (certificate_at p (last p)).fields (ap (λ (x : CertFields). x.fields) held.cert_is) (held_by issuer) (HeldAt p (last p))
+      line_same issuer.cert.fields (certificate_at p (last p)).fields (ap (λ (c : CertFields). c.fields) held.cert_is) (held_by issuer) (HeldAt p (last p))
       (record { v4_same = held.v4_is; v6_same = held.v6_is; as_same = held.as_is }) c e
 
   -- they stay so with further members
-  pub line_above : (p : Path) (m : Member) (more : List Member) (i : ℕ) → i ≤ last p → (c : CertFields) (e : VerificationError) → LineBelow V now p i c e ↔ LineBelow V now (extended p m more) i c e
+  pub line_above : (p : Path) (m : Member) (more : List Member) (i : ℕ) → i ≤ last p → (c : CertFields) (e : VerificationError) → LineBelow x p i c e ↔ LineBelow x (extended p m more) i c e
   line_above p m more i h c e =
-      line_same (certificate_at p i).fields (certificate_at (extended p m more) i).fields (ap (λ (x : CertFields). x.fields) (sym (above p m more i h))) (HeldAt p i) (HeldAt (extended p m more) i)
+      line_same (certificate_at p i).fields (certificate_at (extended p m more) i).fields (ap (λ (c : CertFields). c.fields) (sym (above p m more i h))) (HeldAt p i) (HeldAt (extended p m more) i)
       (record {
         v4_same = λ n. holds_above p m more v4_addresses n i h;
         v6_same = λ n. holds_above p m more v6_addresses n i h;
@@ -89,16 +89,22 @@ module _ (V : Verifies) (now : Moment) where
 
   -- ---- a further member
 
-  module _ (strict : Bool) where
+  module _ (lists : Option (List Stored)) where
     -- an anchor alone
-    pub anchor_alone : (anchor tal : List ℕ) (r : ResourceFields) → IsAnchor V now strict anchor tal r → IsAccepted V now strict anchor [] tal r
+    pub anchor_alone : (anchor tal : List ℕ) (r : ResourceFields) → IsAnchor x anchor tal r → IsAccepted x lists anchor [] tal r
     anchor_alone anchor tal r is =
         let p : Path = record { anchor = r.cert; below = [] } in
         let holds : (k : NumberKind) (n : ℕ) → Rattle.rpki_path.specs.Paths.Lists r.cert k n ↔ Holds p 0 k n = λ k n. ((λ l. record { listed = l; passed_on = λ j low high. absurd (omega arith) }), (λ h. h.listed)) in
         record {
           path = p;
-          path_of = record { anchor_begins = is.read.begins; members = tt };
-          good = record { anchor_meets = is.read.meets; members_meet = tt; anchor_verified = is.lines; members_verified = λ i h. absurd (omega arith) };
+          path_of = record { anchor_begins = is.begins; members = tt };
+          good = record {
+            anchor_meets = is.meets;
+            members_meet = tt;
+            anchor_verified = is.lines;
+            members_verified = λ i h. absurd (omega arith);
+            members_unrevoked = λ i h. absurd (omega arith);
+          };
           held = record {
             cert_is = refl;
             v4_is = λ n. ((λ h. (holds v4_addresses n).0 ((is.listed.v4_is n).0 h)), (λ h. (is.listed.v4_is n).1 ((holds v4_addresses n).1 h)));
@@ -125,46 +131,65 @@ module _ (V : Verifies) (now : Moment) where
             (λ h. let both = holds.0 (subst (λ (i : ℕ). Holds longer i n_kind n) at h) in (issued n).1 (gets.1 ((is n).1 both.0, both.1))),
           )
 
-      module _ (good : IsGoodPath V now strict p) (lines : IsVerified (LineUnder V now issuer r.cert) issued_lines) where
-        verified : (i : ℕ) → (i ≡ last p) ⊎ (i < last p) → IsVerified (LineBelow V now longer i (certificate_at longer (i + 1))) issued_lines
+      module _ (good : IsGoodPath x lists p) (is : IsBelow x issuer k r.cert r) (free : IsVerified (AskedLine x lists issuer.cert.fields r.cert) revocation_lines) where
+        verified : (i : ℕ) → (i ≡ last p) ⊎ (i < last p) → IsVerified (LineBelow x longer i (certificate_at longer (i + 1))) issued_lines
         verified i (inl e) =
             let h : last p ≤ last p = omega arith in
-            let under = all_map (LineUnder V now issuer r.cert) (LineBelow V now p (last p) r.cert) issued_lines (λ x. (line_last p tal issuer held r.cert x).0) lines in
-            let below = all_map (LineBelow V now p (last p) r.cert) (LineBelow V now longer (last p) r.cert) issued_lines (λ x. (line_above p member [] (last p) h r.cert x).0) under in
-            subst (λ (j : ℕ). IsVerified (LineBelow V now longer j (certificate_at longer (j + 1))) issued_lines) (sym e)
-            (subst (λ (c : CertFields). IsVerified (LineBelow V now longer (last p) c) issued_lines) (sym (there p member [])) below)
+            let under = all_map (LineUnder x issuer r.cert) (LineBelow x p (last p) r.cert) issued_lines (λ l. (line_last p tal issuer held r.cert l).0) is.lines in
+            let below = all_map (LineBelow x p (last p) r.cert) (LineBelow x longer (last p) r.cert) issued_lines (λ l. (line_above p member [] (last p) h r.cert l).0) under in
+            subst (λ (j : ℕ). IsVerified (LineBelow x longer j (certificate_at longer (j + 1))) issued_lines) (sym e)
+            (subst (λ (c : CertFields). IsVerified (LineBelow x longer (last p) c) issued_lines) (sym (there p member [])) below)
         verified i (inr h) =
             let low : i ≤ last p = omega arith in
             let next : i + 1 ≤ last p = omega arith in
             let c = certificate_at p (i + 1) in
-            subst (λ (c : CertFields). IsVerified (LineBelow V now longer i c) issued_lines) (sym (above p member [] (i + 1) next))
-            (all_map (LineBelow V now p i c) (LineBelow V now longer i c) issued_lines (λ x. (line_above p member [] i low c x).0) (good.members_verified i h))
+            subst (λ (c : CertFields). IsVerified (LineBelow x longer i c) issued_lines) (sym (above p member [] (i + 1) next))
+            (all_map (LineBelow x p i c) (LineBelow x longer i c) issued_lines (λ l. (line_above p member [] i low c l).0) (good.members_verified i h))
 
-        good_then : MeetsProfile k strict r.cert → IsGoodPath V now strict longer
-        good_then meets = record {
+        -- the lines that lists are asked for a certificate below another
+        abbrev Free : CertFields → CertFields → Type 0
+        Free above c = IsVerified (AskedLine x lists above.fields c) revocation_lines
+
+        unrevoked : (i : ℕ) → (i ≡ last p) ⊎ (i < last p) → Free (certificate_at longer i) (certificate_at longer (i + 1))
+        unrevoked i (inl e) =
+            let h : last p ≤ last p = omega arith in
+            let issuer_is : certificate_at longer (last p) ≡ issuer.cert = above p member [] (last p) h ∙ sym held.cert_is in
+            subst (λ (j : ℕ). Free (certificate_at longer j) (certificate_at longer (j + 1))) (sym e)
+            (subst (λ (c : CertFields). Free (certificate_at longer (last p)) c) (sym (there p member []))
+            (subst (λ (c : CertFields). Free c r.cert) (sym issuer_is) free))
+        unrevoked i (inr h) =
+            let low : i ≤ last p = omega arith in
+            let next : i + 1 ≤ last p = omega arith in
+            subst (λ (c : CertFields). Free (certificate_at longer i) c) (sym (above p member [] (i + 1) next))
+            (subst (λ (c : CertFields). Free c (certificate_at p (i + 1))) (sym (above p member [] i low)) (good.members_unrevoked i h))
+
+        good_then : IsGoodPath x lists longer
+        good_then = record {
           anchor_meets = good.anchor_meets;
-          members_meet = all_more (λ (m : Member). MeetsProfile m.kind strict m.cert) p.below member good.members_meet meets;
+          members_meet = all_more (λ (m : Member). MeetsProfile m.kind x.strict m.cert) p.below member good.members_meet is.meets;
           anchor_verified = good.anchor_verified;
           members_verified = λ i h. let low : i ≤ last p = omega (arith, last_extended p member) in verified i (eq-or-lt_of_le low);
+          members_unrevoked = λ i h. let low : i ≤ last p = omega (arith, last_extended p member) in unrevoked i (eq-or-lt_of_le low);
         }
 
     -- the path with one member more
-    pub one_more : (anchor : List ℕ) (below : List Asked) (tal : List ℕ) (issuer : ResourceFields) (k : Kind) (octets : List ℕ) (r : ResourceFields) → IsAccepted V now strict anchor below tal issuer → IsIssuedBy V now strict issuer k octets r → IsAccepted V now strict anchor (below ++ ask k octets ∷ []) tal r
+    pub one_more : (anchor : List ℕ) (below : List Asked) (tal : List ℕ) (issuer : ResourceFields) (k : Kind) (octets : List ℕ) (r : ResourceFields) → IsAccepted x lists anchor below tal issuer → IsIssuedBy x lists issuer k octets r → IsAccepted x lists anchor (below ++ ask k octets ∷ []) tal r
     one_more anchor below tal issuer k octets r a is =
         let p = a.path in
         let m : Member = record { kind = k; cert = r.cert } in
+        let issued = is.below.issued in
         record {
           path = extended p m [];
           path_of = record {
             anchor_begins = a.path_of.anchor_begins;
-            members = zip_more IsMember p.below below m (ask k octets) a.path_of.members (record { kind_is = refl; begins = is.read.begins });
+            members = zip_more IsMember p.below below m (ask k octets) a.path_of.members (record { kind_is = refl; begins = is.begins });
           };
-          good = good_then p tal issuer a.held k r a.good is.lines is.read.meets;
+          good = good_then p tal issuer a.held k r a.good is.below is.unrevoked;
           held = record {
             cert_is = sym (there p m []) ∙ ap (λ (i : ℕ). certificate_at (extended p m []) i) (sym (last_extended p m));
-            v4_is = held_then p tal issuer a.held k r v4_addresses issuer.v4 r.v4 a.held.v4_is is.issued.v4_is;
-            v6_is = held_then p tal issuer a.held k r v6_addresses issuer.v6 r.v6 a.held.v6_is is.issued.v6_is;
-            as_is = held_then p tal issuer a.held k r system_numbers issuer.as_numbers r.as_numbers a.held.as_is is.issued.as_is;
-            tal_is = is.issued.tal_is ∙ a.held.tal_is;
+            v4_is = held_then p tal issuer a.held k r v4_addresses issuer.v4 r.v4 a.held.v4_is issued.v4_is;
+            v6_is = held_then p tal issuer a.held k r v6_addresses issuer.v6 r.v6 a.held.v6_is issued.v6_is;
+            as_is = held_then p tal issuer a.held k r system_numbers issuer.as_numbers r.as_numbers a.held.as_is issued.as_is;
+            tal_is = issued.tal_is ∙ a.held.tal_is;
           };
         }

@@ -14,3 +14,4 @@ pub mod GoodPaths
 pub mod Refusals
 pub mod PathSteps
 pub mod MoreNumbers
+pub mod Headlines

@@ -1,12 +1,11 @@
 -- What a report says of what was asked.
 use Rattle.std.proofs.Common.{◌≡◌, ℕ, Bool, true, false, inl, inr, List, [], ◌∷◌, Result, Ok, Err, refl, sym, subst, arith}
-use Rattle.std.specs.Prelude.{IsTrue, ◌↔◌, Contains, IfOk, OnOk, cond, codes, string_bytes}
+use Rattle.std.specs.Prelude.{IsTrue, ◌↔◌, Contains, IfOk, OnOk, None, cond, codes, string_bytes}
 use Rattle.std.proofs.lemmas.Bool.{false≢true}
 use Rattle.rpki_der.specs.declared.error.DecodeError.{DecodeError}
 use Rattle.rpki_der.specs.declared.error.DecodeError.TheVariants.{Truncated, BadLength, BadTag, BadValue, Trailing, TooDeep, Missing, Duplicate, Critical, NotCritical, UnexpectedCritical, InvalidExtension, WrongResources, AlgorithmMismatch, Memory}
 use Rattle.rpki_der.specs.ErrorNames.{decode_error_name}
 use Rattle.rpki_der.specs.Place.{Refuses}
-use Rattle.rpki_parts.specs.Signatures.{IsStandInSignature}
 use Rattle.rpki_cert.specs.Verification.{ResourceFields}
 use Rattle.rpki_crl.specs.RevokedEntries.{IsRevoked, IsRevokedCertificates, Revoked}
 use Rattle.rpki_path.specs.declared.running.Status.{Status}
@@ -18,7 +17,7 @@ use Rattle.rpki_path.specs.declared.path_fault.PathFault.TheVariants as fault
 use Rattle.rpki_path.specs.Paths.{IsAccepted, IsFault, IsNoGoodPath}
 use Rattle.rpki_path.specs.Paths as paths
 use Rattle.rpki_path.specs.PrintedSets.{v4_end, v6_end, ranges, worded}
-use Rattle.rpki_path.specs.Program.{PathQuestion, asked_below, decode_faults, printed, IsToldBy, PrintsFault, SaysOfList, SaysOfPath}
+use Rattle.rpki_path.specs.Program.{PathQuestion, question_context, asked_below, decode_faults, printed, IsToldBy, PrintsFault, SaysOfList, SaysOfPath}
 use Rattle.rpki_path.specs.Reports.{accepted_text, HasSortedSets}
 
 other_fault : {P : Type 0} (e : DecodeError) → (e ≡ Memory → ⊥) → Refuses e P → P
@@ -69,7 +68,7 @@ refused_says list serial e (Err x) none other s named = tt
 
 -- ---- paths
 
-accepted_says : (q : PathQuestion) (tal : List ℕ) (r : ResourceFields) → IsAccepted IsStandInSignature q.now q.strict q.anchor_octets (asked_below q) tal r → HasSortedSets r → SaysOfPath q (accepted_text r) status.Done
+accepted_says : (q : PathQuestion) (tal : List ℕ) (r : ResourceFields) → IsAccepted (question_context q) None q.anchor_octets (asked_below q) tal r → HasSortedSets r → SaysOfPath q (accepted_text r) status.Done
 accepted_says q tal r a sorted = (
   a.path,
   a.path_of,
@@ -85,7 +84,7 @@ accepted_says q tal r a sorted = (
   },
 )
 
-pub path_accepted : {E : Type 0} (q : PathQuestion) (tal : List ℕ) (cert : ResourceFields) (r : Result Report E) → IsAccepted IsStandInSignature q.now q.strict q.anchor_octets (asked_below q) tal cert
+pub path_accepted : {E : Type 0} (q : PathQuestion) (tal : List ℕ) (cert : ResourceFields) (r : Result Report E) → IsAccepted (question_context q) None q.anchor_octets (asked_below q) tal cert
     → IfOk r (λ report. report.status ≡ status.Done) → IfOk r (λ report. string_bytes report.text ≡ accepted_text cert) → OnOk r (HasSortedSets cert) → IfOk r (λ report. SaysOfPath q (string_bytes report.text) report.status)
 path_accepted q tal cert (Ok report) a s t sorted = says_with (SaysOfPath q) report status.Done (accepted_text cert) s t (accepted_says q tal cert a sorted)
 path_accepted q tal cert (Err x) a s t sorted = tt
@@ -95,9 +94,10 @@ not_memory : {P : Type 0} (f : PathFault) (stage name : List ℕ) → IsToldBy f
 not_memory (fault.Decode e) stage name t h = h
 not_memory (fault.Inspect e) stage name t h = h
 not_memory (fault.Verify e) stage name t h = h
+not_memory (fault.Revocation e) stage name t h = h
 not_memory fault.Memory stage name t h = absurd t
 
-pub path_wrong : {E : Type 0} (q : PathQuestion) (e : PathError) (r : Result Report E) → paths.UnlessMemory e.fault (IsNoGoodPath IsStandInSignature q.now q.strict q.anchor_octets (asked_below q)) → IsFault IsStandInSignature q.now q.strict q.anchor_octets (asked_below q) e
+pub path_wrong : {E : Type 0} (q : PathQuestion) (e : PathError) (r : Result Report E) → paths.UnlessMemory e.fault (IsNoGoodPath (question_context q) None q.anchor_octets (asked_below q)) → IsFault (question_context q) None q.anchor_octets (asked_below q) e
     → IfOk r (λ report. report.status ≡ status.Refused) → IfOk r (λ report. PrintsFault e (string_bytes report.text)) → IfOk r (λ report. SaysOfPath q (string_bytes report.text) report.status)
 path_wrong q e (Ok report) none is s prints =
     subst (λ (x : Status). SaysOfPath q (string_bytes report.text) x) (sym s) (not_memory e.fault prints.stage prints.name prints.told none, e, is, prints)

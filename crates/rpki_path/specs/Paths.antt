@@ -1,23 +1,27 @@
--- Good paths: what they are, and which numbers their members hold (RFC 6487 7.2, RFC 8360 4.2.4.4; own: revocation and the chaining of names
--- are the caller's to ask).
-use Rattle.std.specs.Prelude.{◌≡◌, ◌≢◌, ◌↔◌, ◌⊎◌, ◌+◌, ◌-◌, ◌^◌, ◌<◌, ◌≤◌, ℕ, Bool, List, [], ◌∷◌, ◌++◌, length, map, slice_index_or, Option, Some, None, Result, Ok, Err}
+-- Good paths: what they are, and which numbers their members hold (RFC 6487 7.2, RFC 8360 4.2.4.4; own: revocation lists are asked where they
+-- are given, and the chaining of names is the caller's to ask).
+use Rattle.std.specs.Prelude.{◌≡◌, ◌≢◌, ◌↔◌, ◌⊎◌, ◌+◌, ◌-◌, ◌^◌, ◌<◌, ◌≤◌, ℕ, List, [], ◌∷◌, ◌++◌, length, map, slice_index_or, Option, Some, None, Result, Ok, Err}
 use Rattle.std.specs.List.{AllByRecursion, AllZip}
-use Rattle.rpki_der.specs.Times.{Moment}
 use Rattle.rpki_der.specs.declared.error.DecodeError.TheVariants as decoding
 use Rattle.rpki_blocks.specs.Sets.{Has}
 use Rattle.rpki_blocks.specs.Resources.{Resources, inherit}
 use Rattle.rpki_blocks.specs.IssuedSets.{IsListed}
-use Rattle.rpki_parts.specs.Signatures.{Verifies}
 use Rattle.rpki_parts.specs.Conditions.{IsFirstFalse}
 use Rattle.rpki_ext.specs.Kinds.{Means}
-use Rattle.rpki_cert.specs.Certificates.{CertFields, IsCertificate}
-use Rattle.rpki_cert.specs.Profiles.{MeetsProfile, IsFirstFault}
-use Rattle.rpki_cert.specs.Verification.{Held, Line, AnchorLine, anchor_lines, issued_lines, IsVerified, ResourceFields}
+use Rattle.rpki_cert.specs.Certificates.{TbsFields, CertFields, IsCertificate}
+use Rattle.rpki_cert.specs.Profiles.{MeetsProfile}
+use Rattle.rpki_cert.specs.Validation.{IsInvalid}
+use Rattle.rpki_cert.specs.Verification.{Context, Held, Line, AnchorLine, anchor_lines, issued_lines, IsVerified, ResourceFields}
 use Rattle.rpki_cert.specs.declared.inspect.Kind.{Kind}
 use Rattle.rpki_cert.specs.declared.inspect.Kind.TheVariants.{Anchor, Authority, EndEntity, Detached}
+use Rattle.rpki_cert.specs.declared.validation_error.ValidationError.{ValidationError}
+use Rattle.rpki_cert.specs.declared.validation_error.ValidationError.TheVariants.{Inspection, Verification}
 use Rattle.rpki_cert.specs.declared.verification_error.VerificationError.{VerificationError}
+use Rattle.rpki_crl.specs.Revocation.{CertRevocationLine, revocation_lines}
+use Rattle.rpki_crl.specs.Stores.{Stored}
+use Rattle.rpki_crl.specs.declared.revocation_error.RevocationError.{RevocationError}
 use Rattle.rpki_path.specs.declared.path_fault.PathFault.{PathFault}
-use Rattle.rpki_path.specs.declared.path_fault.PathFault.TheVariants.{Decode, Inspect, Verify, Memory}
+use Rattle.rpki_path.specs.declared.path_fault.PathFault.TheVariants.{Decode, Inspect, Verify, Revocation, Memory}
 use Rattle.rpki_path.specs.declared.path_fault.PathError.{PathError}
 use Rattle.rpki_path.specs.declared.validating.Leaf.{Leaf}
 use Rattle.rpki_path.specs.declared.validating.Leaf.TheVariants.{Ee, DetachedEe}
@@ -75,15 +79,26 @@ HeldAt p i = record { v4 = Holds p i v4_addresses; v6 = Holds p i v6_addresses; 
 -- ---- good paths
 
 -- the lines of a certificate that the member at place i issued
-abbrev pub LineBelow : Verifies → Moment → Path → ℕ → CertFields → VerificationError → Type 0
-LineBelow V now p i c = Line V now (certificate_at p i).fields (HeldAt p i) c
+abbrev pub LineBelow : Context → Path → ℕ → CertFields → VerificationError → Type 0
+LineBelow x p i c = Line x (certificate_at p i).fields (HeldAt p i) c
 
--- every member meets the profile of its kind, the anchor's lines are true of itself, and those of each later member under the one above it
-pub record IsGoodPath (V : Verifies) (now : Moment) (strict : Bool) (p : Path) : Type 0 where
-  pub anchor_meets : MeetsProfile Anchor strict p.anchor
-  pub members_meet : AllByRecursion (λ m. MeetsProfile m.kind strict m.cert) p.below
-  pub anchor_verified : IsVerified (AnchorLine V now p.anchor) anchor_lines
-  pub members_verified : (i : ℕ) → i < last p → IsVerified (LineBelow V now p i (certificate_at p (i + 1))) issued_lines
+-- where lists are given, the lines that they are asked for a certificate below this issuer
+abbrev pub AskedLine : Context → Option (List Stored) → TbsFields → CertFields → RevocationError → Type 0
+AskedLine x None issuer c e = Unit {0}
+AskedLine x (Some lists) issuer c e = CertRevocationLine x lists issuer c e
+
+-- the same below the member at place i
+abbrev pub AskedBelow : Context → Option (List Stored) → Path → ℕ → CertFields → RevocationError → Type 0
+AskedBelow x lists p i c = AskedLine x lists (certificate_at p i).fields c
+
+-- every member meets the profile of its kind, the anchor's lines are true of itself, and those of each later member under the one above it;
+-- where lists are given, none of the later members is revoked
+pub record IsGoodPath (x : Context) (lists : Option (List Stored)) (p : Path) : Type 0 where
+  pub anchor_meets : MeetsProfile Anchor x.strict p.anchor
+  pub members_meet : AllByRecursion (λ m. MeetsProfile m.kind x.strict m.cert) p.below
+  pub anchor_verified : IsVerified (AnchorLine x p.anchor) anchor_lines
+  pub members_verified : (i : ℕ) → i < last p → IsVerified (LineBelow x p i (certificate_at p (i + 1))) issued_lines
+  pub members_unrevoked : (i : ℕ) → i < last p → IsVerified (AskedBelow x lists p i (certificate_at p (i + 1))) revocation_lines
 
 -- ---- strings
 
@@ -125,15 +140,15 @@ pub record HasHeld (p : Path) (tal : List ℕ) (r : ResourceFields) : Type 0 whe
   pub tal_is : r.tal ≡ tal
 
 -- the strings are a good path, and the result is what its last member holds
-pub record IsAccepted (V : Verifies) (now : Moment) (strict : Bool) (anchor : List ℕ) (below : List Asked) (tal : List ℕ) (r : ResourceFields) : Type 0 where
+pub record IsAccepted (x : Context) (lists : Option (List Stored)) (anchor : List ℕ) (below : List Asked) (tal : List ℕ) (r : ResourceFields) : Type 0 where
   pub path : Path
   pub path_of : IsPathOf anchor below path
-  pub good : IsGoodPath V now strict path
+  pub good : IsGoodPath x lists path
   pub held : HasHeld path tal r
 
 -- they are none
-abbrev pub IsNoGoodPath : Verifies → Moment → Bool → List ℕ → List Asked → Type 0
-IsNoGoodPath V now strict anchor below = (p : Path) → IsPathOf anchor below p → IsGoodPath V now strict p → ⊥
+abbrev pub IsNoGoodPath : Context → Option (List Stored) → List ℕ → List Asked → Type 0
+IsNoGoodPath x lists anchor below = (p : Path) → IsPathOf anchor below p → IsGoodPath x lists p → ⊥
 
 -- what want of memory may stand in place of
 abbrev pub UnlessMemory : PathFault → Type 0 → Type 0
@@ -141,36 +156,70 @@ UnlessMemory Memory P = Unit {0}
 UnlessMemory _ P = P
 
 -- Ok exactly where the strings are a good path, with what its last member holds; want of memory aside
-abbrev pub Validates : Verifies → Moment → Bool → List ℕ → List Asked → List ℕ → Result ResourceFields PathError → Type 0
-Validates V now strict anchor below tal (Ok r) = IsAccepted V now strict anchor below tal r
-Validates V now strict anchor below tal (Err e) = UnlessMemory e.fault (IsNoGoodPath V now strict anchor below)
+abbrev pub Validates : Context → Option (List Stored) → List ℕ → List Asked → List ℕ → Result ResourceFields PathError → Type 0
+Validates x lists anchor below tal (Ok r) = IsAccepted x lists anchor below tal r
+Validates x lists anchor below tal (Err e) = UnlessMemory e.fault (IsNoGoodPath x lists anchor below)
 
--- what a fault says of a string where a certificate of this kind, with these lines, is asked for
-abbrev pub Finds : Kind → Bool → (CertFields → VerificationError → Type 0) → List VerificationError → List ℕ → PathFault → Type 0
-Finds kind strict line lines octets (Decode e) = (e ≢ decoding.Memory) × ((c : CertFields) → Means IsCertificate c octets → ⊥)
-Finds kind strict line lines octets (Inspect e) = (c : CertFields) × Means IsCertificate c octets × IsFirstFault kind strict c e
-Finds kind strict line lines octets (Verify e) = (c : CertFields) × Means IsCertificate c octets × MeetsProfile kind strict c × IsFirstFalse (line c) lines e
-Finds kind strict line lines octets Memory = Unit {0}
+-- what is asked of a certificate: its kind, with the profile, the lines that are verified, and then those of revocation lists
+pub record Demand : Type 1 where
+  pub kind : Kind
+  pub line : CertFields → VerificationError → Type 0
+  pub lines : List VerificationError
+  pub asked_line : CertFields → RevocationError → Type 0
+
+-- of an anchor, for which no lists are asked
+abbrev pub anchor_demand : Context → Demand
+anchor_demand x = record { kind = Anchor; line = AnchorLine x; lines = anchor_lines; asked_line = λ c e. Unit {0} }
+
+-- of a member of this kind below the member at place i
+abbrev pub demand_below : Context → Option (List Stored) → Path → ℕ → Kind → Demand
+demand_below x lists p i kind = record { kind = kind; line = LineBelow x p i; lines = issued_lines; asked_line = AskedBelow x lists p i }
+
+-- the string begins with a certificate, which isn't valid as one of the kind, and this is why
+abbrev pub BeginsInvalid : Context → Demand → List ℕ → ValidationError → Type 0
+BeginsInvalid x d octets e =
+    (c : CertFields) × Means IsCertificate c octets × IsInvalid d.kind x.strict c (IsFirstFalse (d.line c) d.lines) e
+
+-- the string begins with a certificate, which is valid, and this is the first of its lines of revocation lists that isn't true
+pub record BeginsRevoked (x : Context) (d : Demand) (octets : List ℕ) (e : RevocationError) : Type 0 where
+  pub cert : CertFields
+  pub begins : Means IsCertificate cert octets
+  pub meets : MeetsProfile d.kind x.strict cert
+  pub verified : IsVerified (d.line cert) d.lines
+  pub first : IsFirstFalse (d.asked_line cert) revocation_lines e
+
+-- what a fault says of a string of which this is asked
+abbrev pub Finds : Context → Demand → List ℕ → PathFault → Type 0
+Finds x d octets (Decode e) = (e ≢ decoding.Memory) × ((c : CertFields) → Means IsCertificate c octets → ⊥)
+Finds x d octets (Inspect e) = BeginsInvalid x d octets (Inspection e)
+Finds x d octets (Verify e) = BeginsInvalid x d octets (Verification e)
+Finds x d octets (Revocation e) = BeginsRevoked x d octets e
+Finds x d octets Memory = Unit {0}
 
 -- the error is one of the anchor
-pub record IsFaultOfAnchor (V : Verifies) (now : Moment) (strict : Bool) (anchor : List ℕ) (e : PathError) : Type 0 where
+pub record IsFaultOfAnchor (x : Context) (anchor : List ℕ) (e : PathError) : Type 0 where
   pub index_is : e.index ≡ 0
-  pub fault_is : Finds Anchor strict (AnchorLine V now) anchor_lines anchor e.fault
+  pub fault_is : Finds x (anchor_demand x) anchor e.fault
 
 -- the members before the index are a good path, and the error is one of the string there
-pub record IsFaultBelow (V : Verifies) (now : Moment) (strict : Bool) (anchor : List ℕ) (below : List Asked) (e : PathError) : Type 0 where
+pub record IsFaultBelow (x : Context) (lists : Option (List Stored)) (anchor : List ℕ) (below : List Asked) (e : PathError) : Type 0 where
   pub before : List Asked
   pub there : Asked
   pub after : List Asked
   pub parts : below ≡ before ++ there ∷ after
   pub path : Path
   pub path_of : IsPathOf anchor before path
-  pub good : IsGoodPath V now strict path
+  pub good : IsGoodPath x lists path
   pub index_is : e.index ≡ length before + 1
-  pub fault_is : Finds there.kind strict (LineBelow V now path (last path)) issued_lines there.octets e.fault
+  pub fault_is : Finds x (demand_below x lists path (last path) there.kind) there.octets e.fault
 
-abbrev pub IsFault : Verifies → Moment → Bool → List ℕ → List Asked → PathError → Type 0
-IsFault V now strict anchor below e = IsFaultOfAnchor V now strict anchor e ⊎ IsFaultBelow V now strict anchor below e
+abbrev pub IsFault : Context → Option (List Stored) → List ℕ → List Asked → PathError → Type 0
+IsFault x lists anchor below e = IsFaultOfAnchor x anchor e ⊎ IsFaultBelow x lists anchor below e
+
+-- the fault is none of revocation
+abbrev pub IsUnasked : PathFault → Type 0
+IsUnasked (Revocation e) = ⊥
+IsUnasked _ = Unit {0}
 
 -- ---- more numbers
 

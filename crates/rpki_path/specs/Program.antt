@@ -5,11 +5,11 @@ use Rattle.std.specs.Io.KnownBytes.{Appends, Consumes, IsAtEnd}
 use Rattle.rpki_der.specs.Times.{Moment}
 use Rattle.rpki_parts.specs.Signatures.{IsStandInSignature}
 use Rattle.rpki_ext.specs.Inspection.{inspection_error_name}
-use Rattle.rpki_cert.specs.Verification.{verification_error_name}
+use Rattle.rpki_cert.specs.Verification.{Context, context, verification_error_name}
 use Rattle.rpki_crl.specs.RevokedEntries.{Revoked, IsRevoked, IsRevokedCertificates}
 use Rattle.rpki_path.specs.declared.path_fault.PathError.{PathError}
 use Rattle.rpki_path.specs.declared.path_fault.PathFault.{PathFault}
-use Rattle.rpki_path.specs.declared.path_fault.PathFault.TheVariants.{Decode, Inspect, Verify, Memory}
+use Rattle.rpki_path.specs.declared.path_fault.PathFault.TheVariants.{Decode, Inspect, Verify, Revocation, Memory}
 use Rattle.rpki_path.specs.declared.running.Status.{Status}
 use Rattle.rpki_path.specs.declared.running.Status.TheVariants.{Done, Refused, BadInput}
 use Rattle.rpki_path.specs.declared.validating.Leaf.{Leaf}
@@ -107,11 +107,12 @@ pub record PrintsHeld (p : Path) (output : List ℕ) : Type 0 where
   pub as_is : IsSetLine (codes "as") decimal (Holds p (paths.last p) system_numbers) as_line
   pub is : output ≡ stand_in ++ concat (printed (codes "accepted" ∷ []) ∷ printed (v4_line ∷ []) ∷ printed (v6_line ∷ []) ∷ printed (as_line ∷ []) ∷ [])
 
--- where a fault was met, and its name; which of its faults a reader names is free
+-- where a fault was met, and its name; which of its faults a reader names is free, and no lists are asked
 abbrev pub IsToldBy : PathFault → List ℕ → List ℕ → Type 0
 IsToldBy (Decode e) stage name = (stage ≡ codes "decode") × Contains decode_faults name
 IsToldBy (Inspect e) stage name = (stage ≡ codes "inspect") × (name ≡ inspection_error_name e)
 IsToldBy (Verify e) stage name = (stage ≡ codes "verify") × (name ≡ verification_error_name e)
+IsToldBy (Revocation e) stage name = ⊥
 IsToldBy Memory stage name = ⊥
 
 -- at which place a path is wrong, the anchor at 0, and how
@@ -125,13 +126,17 @@ pub record PrintsFault (e : PathError) (output : List ℕ) : Type 0 where
 abbrev pub asked_below : PathQuestion → List Asked
 asked_below q = asked q.authorities q.leaf
 
+-- in which context the strings are judged
+abbrev pub question_context : PathQuestion → Context
+question_context q = context IsStandInSignature q.now q.strict
+
 -- that the strings are a good path, and what its last member holds; or that they are none, and the first fault
 abbrev pub SaysOfPath : PathQuestion → List ℕ → Status → Type 0
 SaysOfPath q output Done =
-    (p : Path) × IsPathOf q.anchor_octets (asked_below q) p × IsGoodPath IsStandInSignature q.now q.strict p × PrintsHeld p output
+    (p : Path) × IsPathOf q.anchor_octets (asked_below q) p × IsGoodPath (question_context q) None p × PrintsHeld p output
 SaysOfPath q output Refused =
-    IsNoGoodPath IsStandInSignature q.now q.strict q.anchor_octets (asked_below q)
-    × (e : PathError) × IsFault IsStandInSignature q.now q.strict q.anchor_octets (asked_below q) e × PrintsFault e output
+    IsNoGoodPath (question_context q) None q.anchor_octets (asked_below q)
+    × (e : PathError) × IsFault (question_context q) None q.anchor_octets (asked_below q) e × PrintsFault e output
 SaysOfPath q output BadInput = ⊥
 
 -- the answer to a question

@@ -1,5 +1,5 @@
 -- What the program's input is read as, whole and in parts.
-use Rattle.std.specs.Prelude.{◌≡◌, ◌≢◌, ◌⊎◌, ◌+◌, ℕ, List, [], ◌∷◌, ◌++◌}
+use Rattle.std.specs.Prelude.{◌≡◌, ◌≢◌, ◌⊎◌, ℕ, List, [], ◌∷◌, ◌++◌}
 use Rattle.rpki_path.specs.declared.lines.RevokedQuestion.{RevokedQuestion}
 use Rattle.rpki_path.specs.declared.path_lines.PathQuestion.{PathQuestion}
 use Rattle.rpki_path.specs.declared.path_lines.Member.{Member}

@@ -16,5 +16,5 @@ mod watched;
 pub use exiting::program;
 pub use path_fault::{PathError, PathFault};
 pub use running::{MAX_INPUT, RunFault, Status, run};
-pub use validating::{Leaf, validate_path};
+pub use validating::{Leaf, validate_path, validate_path_with};
 pub use watched::Watched;

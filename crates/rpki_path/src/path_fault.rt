@@ -1,7 +1,8 @@
 //! Why a path isn't accepted.
 ghost use Rattle.std.specs.Prelude.{◌≡◌};
 
-use rpki_cert::{InspectionError, VerificationError};
+use rpki_cert::{InspectionError, ValidationError, VerificationError};
+use rpki_crl::RevocationError;
 use rpki_der::DecodeError;
 use std::alloc::AllocError;
 use thiserror::Error;
@@ -18,6 +19,9 @@ pub enum PathFault {
     /// The certificate isn't valid at the moment, or not issued by the one above it.
     #[error("{0}")]
     Verify(VerificationError),
+    /// The certificate isn't found unrevoked on the list of the one above it.
+    #[error("{0}")]
+    Revocation(RevocationError),
     /// Memory ran out.
     #[error("out of memory")]
     Memory,
@@ -34,6 +38,7 @@ impl PathFault {
             PathFault::Decode(_) => "Decode",
             PathFault::Inspect(_) => "Inspect",
             PathFault::Verify(_) => "Verify",
+            PathFault::Revocation(_) => "Revocation",
             PathFault::Memory => "Memory",
         }
     }
@@ -82,6 +87,29 @@ impl From<VerificationError> for PathFault {
             VerificationError::Memory => PathFault::Memory,
             other => PathFault::Verify(other),
         }
+    }
+}
+
+impl From<ValidationError> for PathFault {
+    ghost use Rattle.rpki_path.specs.FaultNames.{of_validation};
+
+    ghost from_gives = { λ d e. e ≡ of_validation d };
+
+    fn from(error: ValidationError) -> PathFault {
+        match error {
+            ValidationError::Inspection(fault) => PathFault::Inspect(fault),
+            ValidationError::Verification(fault) => PathFault::from(fault),
+        }
+    }
+}
+
+impl From<RevocationError> for PathFault {
+    ghost use Rattle.rpki_path.specs.declared.path_fault.PathFault.TheVariants.{Revocation};
+
+    ghost from_gives = { λ d e. e ≡ Revocation d };
+
+    fn from(error: RevocationError) -> PathFault {
+        PathFault::Revocation(error)
     }
 }
 

@@ -1,5 +1,6 @@
 //! What the program prints.
 ghost use Rattle.std.specs.Prelude.{◌≡◌, ◌≢◌, ℕ, List, [], ◌∷◌, IfOk, OnOk, Contains, cond, string_bytes, codes, decimal};
+ghost use Rattle.rpki_path.specs.Paths.{IsUnasked};
 ghost use Rattle.rpki_path.specs.Program.{decode_faults, printed, IsToldBy, PrintsFault, Says, SaysOfList, SaysOfPath};
 ghost use Rattle.rpki_path.specs.Reports.{accepted_text, HasSortedSets};
 ghost use Rattle.rpki_path.specs.Questions.{IsInput, path_question};
@@ -107,20 +108,23 @@ fn accepted(alloc: Global, cert: &ResourceCert) -> Result<Report, AllocError>
     })
 }
 
-// At which stage a fault was met, and its name; want of memory is none.
+// At which stage a fault was met, and its name; want of memory is none. No lists were asked.
 fn told(fault: &PathFault) -> Result<(&'static str, &'static str), AllocError>
+    requires { IsUnasked fault.now }
     ensures { IfOk result (λ words. IsToldBy fault.now words.0.now words.1.now) }
 {
     match fault {
         PathFault::Decode(error) => Ok(("decode", decode_fault(error)?)),
         PathFault::Inspect(error) => Ok(("inspect", error.name())),
         PathFault::Verify(error) => Ok(("verify", error.name())),
+        PathFault::Revocation(_) => unreachable!(),
         PathFault::Memory => Err(AllocError),
     }
 }
 
 // Where a path is wrong, and how.
 fn wrong(alloc: Global, error: &PathError) -> Result<Report, AllocError>
+    requires { IsUnasked error.now.fault }
     ensures status { IfOk result (λ report. report.status ≡ Status.Refused) }
     ensures text { IfOk result (λ report. PrintsFault error.now (string_bytes report.text)) }
 {

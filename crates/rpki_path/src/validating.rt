@@ -1,15 +1,20 @@
-//! Whole paths: from an anchor down to the last member (RFC 6487 7.2; own: revocation and the chaining of names are the caller's to ask).
-ghost use Rattle.std.specs.Prelude.{◌≡◌, Ok, Err, IfOk, OnOk, IfErr, map};
+//! Whole paths: from an anchor down to the last member (RFC 6487 7.2; own: the chaining of names is the caller's to ask).
+ghost use Rattle.std.specs.Prelude.{◌≡◌, Ok, Err, None, Some, IfOk, OnOk, IfErr, map, option_map};
 ghost use Rattle.std.proofs.Common.{rc_value};
-ghost use Rattle.rpki_cert.specs.Profiles.{MeetsProfile, IsFirstFault};
-ghost use Rattle.rpki_cert.specs.Verification.{AnchorLine, LineUnder, anchor_lines, issued_lines};
+ghost use Rattle.rpki_ext.specs.Kinds.{Means};
+ghost use Rattle.rpki_parts.specs.Conditions.{Tests};
+ghost use Rattle.rpki_cert.specs.Certificates.{IsCertificate};
+ghost use Rattle.rpki_cert.specs.Validation.{IsInvalid};
+ghost use Rattle.rpki_cert.specs.Verification.{context, LineUnder, IsFirstFalseOrMemory, issued_lines};
 ghost use Rattle.rpki_cert.specs.declared.inspect.Kind.TheVariants.{Authority as authority};
-ghost use Rattle.rpki_path.specs.Paths.{ask, asked, Finds, IsFault, IsAccepted, Validates};
-ghost use Rattle.rpki_path.specs.Paths.Steps.{IsReadAs, IsUnread, IsAnchor, IsIssuedBy};
+ghost use Rattle.rpki_crl.specs.Revocation.{revocation_lines};
+ghost use Rattle.rpki_path.specs.Paths.{ask, asked, anchor_demand, AskedLine, Finds, IsFault, IsAccepted, IsUnasked, Validates};
+ghost use Rattle.rpki_path.specs.Paths.Steps.{kind_of, IsUnread, IsAnchor, IsBelow, IsIssuedBy, demand_under};
 
 use crate::path_fault::{PathError, PathFault};
 use bytes::Bytes;
-use rpki_cert::{Cert, InspectionError, Kind, ResourceCert, laws};
+use rpki_cert::{Cert, ResourceCert, ValidationError, laws};
+use rpki_crl::{CrlStore, RevocationError};
 use rpki_der::Time;
 use rpki_parts::{TalInfo, Verifier};
 use std::alloc::Global;
@@ -24,18 +29,12 @@ pub enum Leaf {
     DetachedEe(Bytes),
 }
 
-// Whether the certificate meets the profile of this kind.
-fn inspect(cert: &Cert, kind: Kind, strict: bool) -> Result<(), InspectionError>
-    ensures ok { OnOk result (MeetsProfile kind strict cert.now) }
-    ensures fault { IfErr result (IsFirstFault kind strict cert.now) }
-{
-    match kind {
-        Kind::Anchor => cert.inspect_ta(strict),
-        Kind::Authority => cert.inspect_ca(strict),
-        Kind::EndEntity => cert.inspect_ee(strict),
-        Kind::Detached => cert.inspect_detached_ee(strict),
-        Kind::Router => cert.inspect_router(strict),
-    }
+// What a member below the anchor is.
+#[derive(Clone, Copy)]
+enum Role {
+    Authority,
+    EndEntity,
+    Detached,
 }
 
 // A value that was tested; without it where the test failed.
@@ -62,14 +61,12 @@ fn placed<T: Drop>(index: usize, answer: Result<T, PathFault>) -> Result<T, Path
     }
 }
 
-// The certificate that the string begins with, which meets the profile of this kind.
-fn read_as(alloc: Global, octets: &Bytes, kind: Kind, strict: bool) -> Result<Cert, PathFault>
-    ensures ok { IfOk result (IsReadAs kind strict octets.now) }
-    ensures fault { IfErr result (IsUnread kind strict octets.now) }
+// The certificate that the string begins with.
+fn decoded(alloc: Global, octets: &Bytes) -> Result<Cert, PathFault>
+    ensures ok { IfOk result (λ c. Means IsCertificate c octets.now) }
+    ensures fault { IfErr result (IsUnread octets.now) }
 {
-    let cert = Cert::decode_shared(alloc, octets.clone()?)?;
-    let test = inspect(&cert, kind, strict);
-    Ok(tested(cert, test)?)
+    Ok(Cert::decode_shared(alloc, octets.clone()?)?)
 }
 
 // The anchor of a path.
@@ -81,32 +78,83 @@ fn validate_anchor<V: Verifier>(
     now: Time,
     verifier: &V,
 ) -> Result<ResourceCert, PathFault>
-    ensures ok { IfOk result
-        (IsAnchor (V.verifies verifier.now) now strict octets.now (rc_value tal)) }
-    ensures fault { IfErr result (Finds Kind.Anchor strict
-        (AnchorLine (V.verifies verifier.now) now) anchor_lines octets.now) }
+    ensures ok { let x = context (V.verifies verifier.now) now strict in
+        IfOk result (IsAnchor x octets.now (rc_value tal)) }
+    ensures fault { let x = context (V.verifies verifier.now) now strict in
+        IfErr result (Finds x (anchor_demand x) octets.now) }
 {
-    let cert = read_as(alloc, octets, Kind::Anchor, strict)?;
-    Ok(cert.verify_ta_at(alloc, tal, strict, now, verifier)?)
+    let cert = decoded(alloc, octets)?;
+    Ok(cert.validate_ta_at(alloc, tal, strict, now, verifier)?)
 }
 
-// The member that stands below the issuer; the lines of an end entity are those of an authority.
+// The certificate, valid below the issuer.
+fn validate_below<V: Verifier>(
+    alloc: Global,
+    cert: Cert,
+    issuer: &ResourceCert,
+    role: Role,
+    strict: bool,
+    now: Time,
+    verifier: &V,
+) -> Result<ResourceCert, ValidationError>
+    ensures ok { let x = context (V.verifies verifier.now) now strict in
+        IfOk result (IsBelow x issuer.now (kind_of role) cert) }
+    ensures fault { let x = context (V.verifies verifier.now) now strict in
+        IfErr result (IsInvalid (kind_of role) strict cert
+        (IsFirstFalseOrMemory (LineUnder x issuer.now cert) issued_lines)) }
+{
+    match role {
+        Role::Authority => cert.validate_ca_at(alloc, issuer, strict, now, verifier),
+        Role::EndEntity => cert.validate_ee_at(alloc, issuer, strict, now, verifier),
+        Role::Detached => cert.validate_detached_ee_at(alloc, issuer, strict, now, verifier),
+    }
+}
+
+// Whether the lists, where they are given, leave the certificate below the issuer unrevoked.
+fn ask_lists<V: Verifier>(
+    lists: Option<&CrlStore>,
+    cert: &Cert,
+    issuer: &ResourceCert,
+    strict: bool,
+    now: Time,
+    verifier: &V,
+) -> Result<(), RevocationError>
+    ensures { let x = context (V.verifies verifier.now) now strict in
+        Tests (AskedLine x (option_map (λ store. store.now.pairs) lists.entry) issuer.now.cert.fields cert.now)
+        revocation_lines result }
+{
+    let Some(store) = lists else {
+        return Ok(());
+    };
+    let tbs = cert.as_tbs();
+    match tbs.crl_uri() {
+        Some(uri) => store.check(uri, tbs.serial_number(), issuer, strict, now, verifier),
+        None => Err(RevocationError::NoCrl),
+    }
+}
+
+// The member that stands below the issuer.
 fn validate_member<V: Verifier>(
     alloc: Global,
     issuer: &ResourceCert,
     octets: &Bytes,
-    kind: Kind,
+    role: Role,
+    lists: Option<&CrlStore>,
     strict: bool,
     now: Time,
     verifier: &V,
 ) -> Result<ResourceCert, PathFault>
-    ensures ok { IfOk result (IsIssuedBy
-        (V.verifies verifier.now) now strict issuer.now kind octets.now) }
-    ensures fault { IfErr result (Finds kind strict
-        (LineUnder (V.verifies verifier.now) now issuer.now) issued_lines octets.now) }
+    ensures ok { let x = context (V.verifies verifier.now) now strict in
+        let pairs = option_map (λ store. store.now.pairs) lists.entry in
+        IfOk result (IsIssuedBy x pairs issuer.now (kind_of role) octets.now) }
+    ensures fault { let x = context (V.verifies verifier.now) now strict in
+        let pairs = option_map (λ store. store.now.pairs) lists.entry in
+        IfErr result (Finds x (demand_under x pairs issuer.now (kind_of role)) octets.now) }
 {
-    let cert = read_as(alloc, octets, kind, strict)?;
-    Ok(cert.verify_ca_at(alloc, issuer, strict, now, verifier)?)
+    let cert = decoded(alloc, octets)?;
+    let member = validate_below(alloc, cert, issuer, role, strict, now, verifier)?;
+    let test = ask_lists(lists, member.as_cert(), issuer, strict, now, verifier);
+    Ok(tested(member, test)?)
 }
 
 // An answer, once the issuer is let go.
@@ -122,18 +170,22 @@ fn validate_next<V: Verifier>(
     issuer: ResourceCert,
     index: usize,
     octets: &Bytes,
-    kind: Kind,
+    role: Role,
+    lists: Option<&CrlStore>,
     strict: bool,
     now: Time,
     verifier: &V,
 ) -> Result<ResourceCert, PathError>
-    ensures ok { IfOk result (IsIssuedBy
-        (V.verifies verifier.now) now strict issuer kind octets.now) }
+    ensures ok { let x = context (V.verifies verifier.now) now strict in
+        let pairs = option_map (λ store. store.now.pairs) lists.entry in
+        IfOk result (IsIssuedBy x pairs issuer (kind_of role) octets.now) }
     ensures index { IfErr result (λ e. e.index ≡ index) }
-    ensures fault { IfErr result (λ e. Finds kind strict
-        (LineUnder (V.verifies verifier.now) now issuer) issued_lines octets.now e.fault) }
+    ensures fault { let x = context (V.verifies verifier.now) now strict in
+        let pairs = option_map (λ store. store.now.pairs) lists.entry in
+        let demand = demand_under x pairs issuer (kind_of role) in
+        IfErr result (λ e. Finds x demand octets.now e.fault) }
 {
-    let next = validate_member(alloc, &issuer, octets, kind, strict, now, verifier);
+    let next = validate_member(alloc, &issuer, octets, role, lists, strict, now, verifier);
     placed(index, without(issuer, next))
 }
 
@@ -143,14 +195,17 @@ fn validate_authorities<V: Verifier>(
     anchor: &Bytes,
     cas: &[Bytes],
     tal: Rc<TalInfo>,
+    lists: Option<&CrlStore>,
     strict: bool,
     now: Time,
     verifier: &V,
 ) -> Result<ResourceCert, PathError>
-    ensures ok { IfOk result (IsAccepted (V.verifies verifier.now) now strict
-        anchor.now (map (ask authority) cas.now) (rc_value tal)) }
-    ensures named { IfErr result (IsFault (V.verifies verifier.now) now strict
-        anchor.now (map (ask authority) cas.now)) }
+    ensures ok { let x = context (V.verifies verifier.now) now strict in
+        let pairs = option_map (λ store. store.now.pairs) lists.entry in
+        IfOk result (IsAccepted x pairs anchor.now (map (ask authority) cas.now) (rc_value tal)) }
+    ensures named { let x = context (V.verifies verifier.now) now strict in
+        let pairs = option_map (λ store. store.now.pairs) lists.entry in
+        IfErr result (IsFault x pairs anchor.now (map (ask authority) cas.now)) }
 {
     let first = validate_anchor(alloc, anchor, tal, strict, now, verifier);
     let mut issuer = placed(0, first)?;
@@ -160,7 +215,8 @@ fn validate_authorities<V: Verifier>(
             issuer,
             i + 1,
             ca,
-            Kind::Authority,
+            Role::Authority,
+            lists,
             strict,
             now,
             verifier,
@@ -176,16 +232,19 @@ fn validate_members<V: Verifier>(
     cas: &[Bytes],
     leaf: &Option<Leaf>,
     tal: Rc<TalInfo>,
+    lists: Option<&CrlStore>,
     strict: bool,
     now: Time,
     verifier: &V,
 ) -> Result<ResourceCert, PathError>
-    ensures ok { IfOk result (IsAccepted (V.verifies verifier.now) now strict
-        anchor.now (asked cas.now leaf.now) (rc_value tal)) }
-    ensures named { IfErr result (IsFault (V.verifies verifier.now) now strict
-        anchor.now (asked cas.now leaf.now)) }
+    ensures ok { let x = context (V.verifies verifier.now) now strict in
+        let pairs = option_map (λ store. store.now.pairs) lists.entry in
+        IfOk result (IsAccepted x pairs anchor.now (asked cas.now leaf.now) (rc_value tal)) }
+    ensures named { let x = context (V.verifies verifier.now) now strict in
+        let pairs = option_map (λ store. store.now.pairs) lists.entry in
+        IfErr result (IsFault x pairs anchor.now (asked cas.now leaf.now)) }
 {
-    let last = validate_authorities(alloc, anchor, cas, tal, strict, now, verifier)?;
+    let last = validate_authorities(alloc, anchor, cas, tal, lists, strict, now, verifier)?;
     let below = cas.len() + 1;
     match leaf {
         None => Ok(last),
@@ -194,7 +253,8 @@ fn validate_members<V: Verifier>(
             last,
             below,
             octets,
-            Kind::EndEntity,
+            Role::EndEntity,
+            lists,
             strict,
             now,
             verifier,
@@ -204,7 +264,8 @@ fn validate_members<V: Verifier>(
             last,
             below,
             octets,
-            Kind::Detached,
+            Role::Detached,
+            lists,
             strict,
             now,
             verifier,
@@ -216,10 +277,10 @@ fn validate_members<V: Verifier>(
 /// string has to begin with a certificate, and what follows that is ignored. A member is decoded, inspected as its kind and verified before
 /// the next: the anchor at this moment and by its own key, each later one under the member above it (RFC 6487 7.2). The answer is the last
 /// member, with the numbers that the anchor lists and every later member lists or inherits, and with the locator. Errs with the place of the
-/// first member that is wrong, and what is wrong with it.
+/// first member that is wrong, and what is wrong with it; never with `Revocation`.
 ///
-/// Not asked (own): whether a member is on its issuer's revocation list (`Crl::contains`), and whether names chain. `strict` affects only
-/// which string types may stand in names. The leaf is consumed.
+/// Not asked (own): whether a member is revoked by its issuer ([`validate_path_with`] asks that), and whether names chain. `strict` affects
+/// only which string types may stand in names. The leaf is consumed.
 pub fn validate_path<V: Verifier>(
     alloc: Global,
     anchor: &Bytes,
@@ -231,12 +292,53 @@ pub fn validate_path<V: Verifier>(
     verifier: &V,
 ) -> Result<ResourceCert, PathError>
     // Ok exactly where each string begins with a member of a good path: the headline.
-    ensures validates { Validates (V.verifies verifier.now) now strict
-        anchor.now (asked cas.now leaf) (rc_value tal) result }
+    ensures validates { let x = context (V.verifies verifier.now) now strict in
+        Validates x None anchor.now (asked cas.now leaf) (rc_value tal) result }
     // The members before the index are a good path, and the fault is that of the string there.
-    ensures named { IfErr result (IsFault (V.verifies verifier.now) now strict
-        anchor.now (asked cas.now leaf)) }
+    ensures named { let x = context (V.verifies verifier.now) now strict in
+        IfErr result (IsFault x None anchor.now (asked cas.now leaf)) }
+    ensures unasked { IfErr result (λ e. IsUnasked e.fault) }
 {
     laws::unambiguous();
-    validate_members(alloc, anchor, cas, &leaf, tal, strict, now, verifier)
+    validate_members(alloc, anchor, cas, &leaf, tal, None, strict, now, verifier)
+}
+
+/// Validates a path as [`validate_path`] does, and asks the lists of this store whether a member is revoked: each member below the anchor,
+/// once it is verified and before the next is decoded ([`CrlStore::check`], with the URI and the serial number of the member's certificate
+/// and the member above it as the issuer; RFC 6487 7.2). The anchor isn't asked for. Errs with the place of the first member that is wrong or
+/// isn't found unrevoked, and why.
+///
+/// Not asked (own): whether a list is the newest of its issuer, and whether names chain.
+pub fn validate_path_with<V: Verifier>(
+    alloc: Global,
+    store: &CrlStore,
+    anchor: &Bytes,
+    cas: &[Bytes],
+    leaf: Option<Leaf>,
+    tal: Rc<TalInfo>,
+    strict: bool,
+    now: Time,
+    verifier: &V,
+) -> Result<ResourceCert, PathError>
+    // Ok exactly where each string begins with a member of a good path, none of which is revoked.
+    ensures validates { let x = context (V.verifies verifier.now) now strict in
+        let pairs = Some store.now.pairs in
+        Validates x pairs anchor.now (asked cas.now leaf) (rc_value tal) result }
+    // The members before the index are a good path, unrevoked, and the fault is that of the string there.
+    ensures named { let x = context (V.verifies verifier.now) now strict in
+        let pairs = Some store.now.pairs in
+        IfErr result (IsFault x pairs anchor.now (asked cas.now leaf)) }
+{
+    laws::unambiguous();
+    validate_members(
+        alloc,
+        anchor,
+        cas,
+        &leaf,
+        tal,
+        Some(store),
+        strict,
+        now,
+        verifier,
+    )
 }

@@ -2,7 +2,7 @@ use Rattle.std.proofs.Common.{Ok, sym, ap, subst, ◌∙◌}
 use Rattle.rpki_parts.specs.SignedDatas.{signed_data}
 use Rattle.rpki_cert.specs.Certificates.{CertFields, IsCertificate, spelling}
 use Rattle.rpki_cert.specs.Profiles.{MeetsProfile}
-use Rattle.rpki_cert.specs.Verification.{LineUnder, IsVerified, issued_lines}
+use Rattle.rpki_cert.specs.Verification.{context, LineUnder, IsVerified, issued_lines}
 use Rattle.rpki_cert.specs.declared.inspect.Kind.TheVariants.{Authority}
 use Rattle.rpki_cert.proofs.issue.issue_ca.Goals as goal
 
@@ -19,4 +19,4 @@ pub returns-in-Ok-validate_ca_at-clause-profile : goal.returns-in-Ok-validate_ca
 returns-in-Ok-validate_ca_at-clause-profile g c = subst (λ (x : CertFields). MeetsProfile Authority c.args.strict x) (sym c.in-Ok-validate_ca_at.ensures.gives.cert_is) c.in-Ok-validate_ca_at.ensures.profile
 
 pub returns-in-Ok-validate_ca_at-clause-lines : goal.returns-in-Ok-validate_ca_at-clause-lines
-returns-in-Ok-validate_ca_at-clause-lines g c = subst (λ (x : CertFields). IsVerified (LineUnder (g.V.Verifier.verifies c.args.verifier.now) c.args.now c.args.issuer.now x) issued_lines) (sym c.in-Ok-validate_ca_at.ensures.gives.cert_is) c.in-Ok-validate_ca_at.ensures.lines
+returns-in-Ok-validate_ca_at-clause-lines g c = subst (λ (x : CertFields). IsVerified (LineUnder (context (g.V.Verifier.verifies c.args.verifier.now) c.args.now c.args.strict) c.args.issuer.now x) issued_lines) (sym c.in-Ok-validate_ca_at.ensures.gives.cert_is) c.in-Ok-validate_ca_at.ensures.lines

@@ -1,23 +1,25 @@
 use Rattle.std.proofs.Common.{rules, ◌≡◌, Err, rc_value}
+use Rattle.std.specs.Prelude.{option_map}
+use Rattle.rpki_cert.specs.Verification.{context}
 use Rattle.rpki_path.proofs.GoodPaths.{anchor_alone}
 use Rattle.rpki_path.proofs.PathSteps.{next_authority, wrong_authority, whole}
 use Rattle.rpki_path.proofs.validating.validate_authorities.Goals as goal
 
 pub loop-i-init : goal.loop-i-init
 loop-i-init g c =
-    anchor_alone (g.V.Verifier.verifies c.args.verifier.now) c.args.now c.args.strict c.args.anchor.now (rc_value c.args.tal) c.in_ok-issuer.issuer
+    anchor_alone (context (g.V.Verifier.verifies c.args.verifier.now) c.args.now c.args.strict) (option_map (λ store. store.now.pairs) c.args.lists) c.args.anchor.now (rc_value c.args.tal) c.in_ok-issuer.issuer
     (rw c.in_ok-issuer.ensures.ok at c.validate_anchor-first.ensures.ok)
 
 pub returns-in_err-issuer-2-clause-named : goal.returns-in_err-issuer-2-clause-named
 returns-in_err-issuer-2-clause-named g c =
     let e = c.in_err-issuer-2.field-0.0 in
     let same : c.from_residual-in_err-issuer-2.result ≡ Err e = search rules in
-    rw same (wrong_authority (g.V.Verifier.verifies c.args.verifier.now) c.args.now c.args.strict c.args.anchor.now (rc_value c.args.tal) c.args.cas.now c.loop-i.i c.loop-i-test.true c.index-cas-i.result c.index-cas-i.is c.loop-i.issuer c.loop-i.invariant e c.in_err-issuer-2.ensures.index c.in_err-issuer-2.ensures.fault)
+    rw same (wrong_authority (context (g.V.Verifier.verifies c.args.verifier.now) c.args.now c.args.strict) (option_map (λ store. store.now.pairs) c.args.lists) c.args.anchor.now (rc_value c.args.tal) c.args.cas.now c.loop-i.i c.loop-i-test.true c.index-cas-i.result c.index-cas-i.is c.loop-i.issuer c.loop-i.invariant e c.in_err-issuer-2.ensures.index c.in_err-issuer-2.ensures.fault)
 
 pub loop-i-preserved : goal.loop-i-preserved
 loop-i-preserved g c =
-    next_authority (g.V.Verifier.verifies c.args.verifier.now) c.args.now c.args.strict c.args.anchor.now (rc_value c.args.tal) c.args.cas.now c.loop-i.i c.loop-i-test.true c.index-cas-i.result c.index-cas-i.is c.loop-i.issuer c.loop-i.invariant c.in_ok-issuer-2.issuer c.in_ok-issuer-2.ensures.ok
+    next_authority (context (g.V.Verifier.verifies c.args.verifier.now) c.args.now c.args.strict) (option_map (λ store. store.now.pairs) c.args.lists) c.args.anchor.now (rc_value c.args.tal) c.args.cas.now c.loop-i.i c.loop-i-test.true c.index-cas-i.result c.index-cas-i.is c.loop-i.issuer c.loop-i.invariant c.in_ok-issuer-2.issuer c.in_ok-issuer-2.ensures.ok
 
 pub returns-clause-ok : goal.returns-clause-ok
 returns-clause-ok g c =
-    whole (g.V.Verifier.verifies c.args.verifier.now) c.args.now c.args.strict c.args.anchor.now (rc_value c.args.tal) c.args.cas.now c.loop-i.i c.loop-i-test.false c.loop-i.issuer c.loop-i.invariant
+    whole (context (g.V.Verifier.verifies c.args.verifier.now) c.args.now c.args.strict) (option_map (λ store. store.now.pairs) c.args.lists) c.args.anchor.now (rc_value c.args.tal) c.args.cas.now c.loop-i.i c.loop-i-test.false c.loop-i.issuer c.loop-i.invariant

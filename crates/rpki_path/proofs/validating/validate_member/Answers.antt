@@ -1,20 +1,48 @@
-use Rattle.std.proofs.Common.{rules, ◌≡◌, Err, subst, sym}
+use Rattle.std.proofs.Common.{rules, ◌≡◌, Err, subst}
+use Rattle.std.specs.Prelude.{option_map}
+use Rattle.rpki_parts.specs.Conditions.{IsFirstFalse, Tests}
 use Rattle.rpki_cert.specs.Certificates.{CertFields}
-use Rattle.rpki_cert.specs.Verification.{LineUnder, HasIssued, issued_lines}
-use Rattle.rpki_path.specs.FaultNames.{of_verification}
-use Rattle.rpki_path.proofs.FoundSteps.{not_verified}
+use Rattle.rpki_cert.specs.Verification.{context, IsVerified}
+use Rattle.rpki_crl.specs.Revocation.{revocation_lines}
+use Rattle.rpki_path.specs.FaultNames.{of_validation}
+use Rattle.rpki_path.specs.declared.path_fault.PathFault.TheVariants.{Revocation}
+use Rattle.rpki_path.specs.Paths.{AskedLine}
+use Rattle.rpki_path.specs.Paths.Steps.{demand_under, kind_of}
+use Rattle.rpki_path.proofs.FoundSteps.{unread, not_valid, issued_by, revoked_below}
 use Rattle.rpki_path.proofs.validating.validate_member.Goals as goal
 
-pub returns-in_err-verify_ca_at-clause-fault : goal.returns-in_err-verify_ca_at-clause-fault
-returns-in_err-verify_ca_at-clause-fault g c =
-    let same : c.from_residual-in_err-verify_ca_at.result ≡ Err (of_verification c.in_err-verify_ca_at.field-0.0) = search rules in
-    rw same (not_verified c.args.kind c.args.strict (LineUnder (g.V.Verifier.verifies c.args.verifier.now) c.args.now c.args.issuer.now) issued_lines c.args.octets.now c.in_ok-cert.cert c.in_ok-cert.ensures.ok c.in_err-verify_ca_at.field-0.0 c.in_err-verify_ca_at.ensures.fault)
+pub returns-in_err-cert-clause-fault : goal.returns-in_err-cert-clause-fault
+returns-in_err-cert-clause-fault g c =
+    let x = context (g.V.Verifier.verifies c.args.verifier.now) c.args.now c.args.strict in
+    let e = c.in_err-cert.field-0.0 in
+    let same : c.from_residual.result ≡ Err e = search rules in
+    rw same (unread x (demand_under x (option_map (λ store. store.now.pairs) c.args.lists) c.args.issuer.now (kind_of c.args.role)) c.args.octets.now e c.in_err-cert.ensures.fault)
+
+pub returns-in_err-member-clause-fault : goal.returns-in_err-member-clause-fault
+returns-in_err-member-clause-fault g c =
+    let x = context (g.V.Verifier.verifies c.args.verifier.now) c.args.now c.args.strict in
+    let e = c.in_err-member.field-0.0 in
+    let same : c.from_residual-in_err-member.result ≡ Err (of_validation e) = search rules in
+    rw same (not_valid x (demand_under x (option_map (λ store. store.now.pairs) c.args.lists) c.args.issuer.now (kind_of c.args.role)) c.args.octets.now c.in_ok-cert.cert c.in_ok-cert.ensures.ok e c.in_err-member.ensures.fault)
+
+pub returns-in_err-tested-clause-fault : goal.returns-in_err-tested-clause-fault
+returns-in_err-tested-clause-fault g c =
+    let x = context (g.V.Verifier.verifies c.args.verifier.now) c.args.now c.args.strict in
+    let pairs = option_map (λ store. store.now.pairs) c.args.lists in
+    let issuer = c.args.issuer.now in
+    let member = c.in_ok-member.member in
+    let e = c.in_err-tested.field-0.0 in
+    let same : c.from_residual-in_err-tested.result ≡ Err (Revocation e) = search rules in
+    let tests = subst (λ (d : CertFields). Tests (AskedLine x pairs issuer.cert.fields d) revocation_lines c.ask_lists-test.result) c.as_cert.ensures c.ask_lists-test.ensures in
+    let first : IsFirstFalse (AskedLine x pairs issuer.cert.fields member.cert) revocation_lines e = rw c.in_err-tested.ensures.refused at tests in
+    rw same (revoked_below x pairs issuer (kind_of c.args.role) c.args.octets.now c.in_ok-cert.cert member c.in_ok-cert.ensures.ok c.in_ok-member.ensures.ok e first)
 
 pub returns-clause-ok : goal.returns-clause-ok
 returns-clause-ok g c =
-    let gives = c.in_ok-verify_ca_at.ensures.gives in
-    record {
-      read = rw gives.cert_is c.in_ok-cert.ensures.ok;
-      lines = rw gives.cert_is c.in_ok-verify_ca_at.ensures.lines;
-      issued = subst (λ (d : CertFields). HasIssued d c.args.issuer.now c.in_ok-verify_ca_at.field-0) (sym gives.cert_is) gives;
-    }
+    let x = context (g.V.Verifier.verifies c.args.verifier.now) c.args.now c.args.strict in
+    let pairs = option_map (λ store. store.now.pairs) c.args.lists in
+    let issuer = c.args.issuer.now in
+    let member = c.in_ok-member.member in
+    let tests = subst (λ (d : CertFields). Tests (AskedLine x pairs issuer.cert.fields d) revocation_lines c.ask_lists-test.result) c.as_cert.ensures c.ask_lists-test.ensures in
+    let free : IsVerified (AskedLine x pairs issuer.cert.fields member.cert) revocation_lines = rw c.in_ok-tested.ensures.passed at tests in
+    rw c.in_ok-tested.ensures.ok (issued_by x pairs issuer (kind_of c.args.role) c.args.octets.now c.in_ok-cert.cert member c.in_ok-cert.ensures.ok c.in_ok-member.ensures.ok free)

@@ -1,0 +1,77 @@
+-- The list that is asked, and its lines.
+use Rattle.std.specs.List.{AllByRecursion}
+use Rattle.std.specs.Prelude.{Result, Ok, Err}
+use Rattle.std.proofs.Common.{◌≡◌, ℕ, List, [], ◌∷◌, ◌++◌, Option, Some, None, refl, sym, ap, subst, ◌∙◌, inl, inr}
+use Rattle.rpki_der.specs.Rows.{IsFirstWith}
+use Rattle.rpki_parts.specs.Conditions.{IsFirstFalse, Tests}
+use Rattle.rpki_cert.specs.Certificates.{TbsFields}
+use Rattle.rpki_cert.specs.Verification.{Context}
+use Rattle.rpki_crl.specs.Lists.{CrlState}
+use Rattle.rpki_crl.specs.Stores.{Stored, IsUnder, IsEarliest}
+use Rattle.rpki_crl.specs.Revocation.{ListLine, RevocationLine, IsUnderUri, revocation_lines}
+use Rattle.rpki_crl.specs.declared.revocation_error.RevocationError.{RevocationError}
+use Rattle.rpki_crl.specs.declared.revocation_error.RevocationError.TheVariants.{NoCrl, WrongKeyId, BadSignature, Stale, Revoked}
+
+-- ---- the first with P is one
+
+module _ {X : Type 0} (P : X → Type 0) where
+  has_none : (before : List X) (x : X) (after : List X) → P x → AllByRecursion (λ y. P y → ⊥) (before ++ x ∷ after) → ⊥
+  has_none [] x after p none = none.0 p
+  has_none (y ∷ before) x after p none = has_none before x after p none.1
+
+  one_first : (bs cs : List X) (x y : X) (ds es : List X) → bs ++ x ∷ ds ≡ cs ++ y ∷ es → P x → P y → AllByRecursion (λ z. P z → ⊥) bs → AllByRecursion (λ z. P z → ⊥) cs → x ≡ y
+  one_first [] [] x y ds es e p q none other = cc e
+  one_first [] (c ∷ cs) x y ds es e p q none other = let same : x ≡ c = cc e in absurd (other.0 (subst P same p))
+  one_first (b ∷ bs) [] x y ds es e p q none other = let same : y ≡ b = cc e in absurd (none.0 (subst P same q))
+  one_first (b ∷ bs) (c ∷ cs) x y ds es e p q none other = let same : bs ++ x ∷ ds ≡ cs ++ y ∷ es = cc e in one_first bs cs x y ds es same p q none.1 other.1
+
+  pub first_is_one : (xs : List X) (x y : X) → IsFirstWith P x xs → IsFirstWith P y xs → x ≡ y
+  first_is_one xs x y f g = one_first f.before g.before x y f.after g.after (sym f.is ∙ g.is) f.has g.has f.none_before g.none_before
+
+  pub none_is_first : (xs : List X) (x : X) → AllByRecursion (λ y. P y → ⊥) xs → IsFirstWith P x xs → ⊥
+  none_is_first xs x none f = has_none f.before x f.after f.has (subst (λ (ys : List X). AllByRecursion (λ y. P y → ⊥) ys) f.is none)
+
+-- ---- the list under a URI is one
+
+module _ (pairs : List Stored) (uri : List ℕ) where
+  pub one_earliest : (c d : CrlState) → IsUnderUri pairs uri c → IsUnderUri pairs uri d → c ≡ d
+  one_earliest c d p q = p.2 ∙ ap (λ (s : Stored). s.1) (first_is_one (IsUnder uri) pairs p.0 q.0 p.1 q.1) ∙ sym q.2
+
+  pub no_earliest : IsEarliest uri pairs None → (c : CrlState) → IsUnderUri pairs uri c → ⊥
+  no_earliest none c p = none_is_first (IsUnder uri) pairs p.0 none p.1
+
+-- ---- its lines are those of the list
+
+module _ (x : Context) (issuer : TbsFields) (serial : ℕ) (IsAsked : CrlState → Type 0) where
+  module _ (crl : CrlState) (is : IsAsked crl) (one : (d : CrlState) → IsAsked d → d ≡ crl) where
+    line_of : (e : RevocationError) → ListLine x issuer serial crl.list e → RevocationLine x issuer serial IsAsked e
+    line_of NoCrl l = (crl, is)
+    line_of WrongKeyId l = λ d at. subst (λ (c : CrlState). ListLine x issuer serial c.list WrongKeyId) (sym (one d at)) l
+    line_of BadSignature l = λ d at. subst (λ (c : CrlState). ListLine x issuer serial c.list BadSignature) (sym (one d at)) l
+    line_of Stale l = λ d at. subst (λ (c : CrlState). ListLine x issuer serial c.list Stale) (sym (one d at)) l
+    line_of Revoked l = λ d at. subst (λ (c : CrlState). ListLine x issuer serial c.list Revoked) (sym (one d at)) l
+
+    list_of : (e : RevocationError) → RevocationLine x issuer serial IsAsked e → ListLine x issuer serial crl.list e
+    list_of NoCrl l = tt
+    list_of WrongKeyId l = l crl is
+    list_of BadSignature l = l crl is
+    list_of Stale l = l crl is
+    list_of Revoked l = l crl is
+
+    all_of : (es : List RevocationError) → AllByRecursion (ListLine x issuer serial crl.list) es → AllByRecursion (RevocationLine x issuer serial IsAsked) es
+    all_of [] all = tt
+    all_of (e ∷ es) all = (line_of e all.0, all_of es all.1)
+
+    first_of : (es : List RevocationError) (e : RevocationError) → IsFirstFalse (ListLine x issuer serial crl.list) es e → IsFirstFalse (RevocationLine x issuer serial IsAsked) es e
+    first_of [] e h = absurd h
+    first_of (d ∷ es) e (inl h) = inl (h.0, λ l. h.1 (list_of d l))
+    first_of (d ∷ es) e (inr h) = inr (line_of d h.0, first_of es e h.1)
+
+    -- what is tested of the list is what is tested
+    pub tests_of : (r : Result (Unit {0}) RevocationError) → Tests (ListLine x issuer serial crl.list) revocation_lines r → Tests (RevocationLine x issuer serial IsAsked) revocation_lines r
+    tests_of (Ok v) t = all_of revocation_lines t
+    tests_of (Err e) t = first_of revocation_lines e t
+
+  -- without one the first line is false
+  pub no_list : ((d : CrlState) → IsAsked d → ⊥) → IsFirstFalse (RevocationLine x issuer serial IsAsked) revocation_lines NoCrl
+  no_list none = inl (refl, λ l. none l.0 l.1)

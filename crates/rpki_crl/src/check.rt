@@ -1,0 +1,67 @@
+//! Certificates are looked for on the list of their issuer (RFC 6487 7.2, RFC 5280 6.3.3).
+ghost use Rattle.rpki_parts.specs.Conditions.{Tests};
+ghost use Rattle.rpki_cert.specs.Verification.{context};
+ghost use Rattle.rpki_crl.specs.Revocation.{ListLine, RevocationLine, IsUnderUri, revocation_lines};
+
+use crate::crl::Crl;
+use crate::revocation_error::RevocationError;
+use crate::store::CrlStore;
+use rpki_cert::ResourceCert;
+use rpki_der::{Serial, Time};
+use rpki_parts::{Rsync, Verifier};
+
+impl Crl {
+    // Whether this list of the issuer leaves the certificate with the serial number unrevoked.
+    fn check<V: Verifier>(
+        &self,
+        serial: Serial,
+        issuer: &ResourceCert,
+        strict: bool,
+        now: Time,
+        verifier: &V,
+    ) -> Result<(), RevocationError>
+        ensures { let x = context (V.verifies verifier.now) now strict in
+            Tests (ListLine x issuer.now.cert.fields serial self.now.list)
+            revocation_lines result }
+    {
+        if self.verify_issuer_claim(issuer, strict).is_err() {
+            return Err(RevocationError::WrongKeyId);
+        }
+        let key = issuer.as_cert().as_tbs().subject_public_key_info();
+        if self.verify_signature(key, verifier).is_err() {
+            return Err(RevocationError::BadSignature);
+        }
+        if self.as_cert_list().is_stale(now) {
+            return Err(RevocationError::Stale);
+        }
+        if self.contains(serial) {
+            return Err(RevocationError::Revoked);
+        }
+        Ok(())
+    }
+}
+
+impl CrlStore {
+    /// Looks whether the certificate with this serial number below the issuer is revoked: the list that was pushed first under the URI is
+    /// there (`NoCrl`), it names the issuer's key (`WrongKeyId`), the issuer's key signed it (`BadSignature`), its next update isn't
+    /// before the moment (`Stale`), and it doesn't have the serial number (`Revoked`; RFC 6487 7.2, RFC 5280 6.3.3). Errs with the first of
+    /// these that isn't so. The mode changes nothing. Takes no memory.
+    pub fn check<V: Verifier>(
+        &self,
+        crl_uri: &Rsync,
+        serial: Serial,
+        issuer: &ResourceCert,
+        strict: bool,
+        now: Time,
+        verifier: &V,
+    ) -> Result<(), RevocationError>
+        ensures { let x = context (V.verifies verifier.now) now strict in
+            Tests (RevocationLine x issuer.now.cert.fields serial
+            (IsUnderUri self.now.pairs crl_uri.now)) revocation_lines result }
+    {
+        match self.get(crl_uri) {
+            Some(crl) => crl.check(serial, issuer, strict, now, verifier),
+            None => Err(RevocationError::NoCrl),
+        }
+    }
+}
