@@ -1,9 +1,11 @@
-//! Reads questions on standard input, one a line, and prints for each a line with all that the
-//! public calls of the libraries answer.
+//! Runs files of rows, whose names are the arguments that end in `.rows` (others may name files
+//! that rows use, so that `rt try -- data/*` finds them): a row is a name, a question and the
+//! answer that is wanted, on three adjacent lines. Prints how many rows of each file pass, the
+//! name and both answers of each row that doesn't, and ends with status 1 where one doesn't.
 //!
-//! A question is a row of words with one space between. HEX is octets in hexadecimal digits, `-`
-//! for none; TEXT stands as it is, or is `octets:HEX`. A line that is empty or begins with `#` is
-//! printed as it stands.
+//! An empty line, or one that begins with `#`, stands between rows. A question is a row of words
+//! with one space between. HEX is octets in hexadecimal digits, `-` for none, or `@NAME` for those
+//! of the file `NAME.der`; TEXT stands as it is, or is `octets:HEX`.
 //!
 //! Certificates:
 //! - `certificate HEX`: a certificate, by each of the four calls that read one.
@@ -89,6 +91,8 @@ mod making;
 mod parts;
 mod paths;
 mod revocation;
+mod rows;
+mod running;
 mod runs;
 mod sets;
 mod show;
@@ -98,8 +102,10 @@ mod words;
 mod writing;
 
 use answer::Answer;
+use running::{Tally, run_file};
 use std::alloc::{AllocError, Global};
-use std::io::{self, BufRead, BufReader};
+use std::process::ExitCode;
+use std::{env, io};
 use words::Words;
 
 // Each of the next two says whether the question is one of its own.
@@ -171,14 +177,11 @@ fn answered(words: &Words<'_>, out: &mut Answer) {
     }
 }
 
-fn line_for(alloc: Global, line: &str) -> Result<Answer, AllocError> {
+/// The answer to a question.
+pub fn line_for(alloc: Global, question: &str) -> Result<Answer, AllocError> {
     let mut out = Answer::new(alloc);
-    if line.is_empty() || line.starts_with('#') {
-        out.text(line);
-    } else {
-        let words = Words::of(alloc, line)?;
-        answered(&words, &mut out);
-    }
+    let words = Words::of(alloc, question)?;
+    answered(&words, &mut out);
     if out.has_failed() {
         Err(AllocError)
     } else {
@@ -186,11 +189,17 @@ fn line_for(alloc: Global, line: &str) -> Result<Answer, AllocError> {
     }
 }
 
-fn main(rt: HostRuntime) -> io::Result<()> {
-    let alloc = rt.alloc();
-    for line in BufReader::new(alloc, rt.reader())?.lines(alloc) {
-        let out = line_for(alloc, line?.as_str())?;
-        println!(rt; "{}", out.line())?;
+fn main(rt: HostRuntime) -> io::Result<ExitCode> {
+    let mut all = Tally::new();
+    for file in env::args(&rt)?.skip(1) {
+        if file.ends_with(".rows") {
+            all.add(run_file(&rt, file.as_str())?);
+        }
     }
-    Ok(())
+    all.print(&rt, "all")?;
+    Ok(if all.is_clean() {
+        ExitCode::SUCCESS
+    } else {
+        ExitCode::FAILURE
+    })
 }
