@@ -23,6 +23,9 @@
 //!   anchor down, which are accepted; MODE is `strict` or `lenient`.
 //! - `path MODE YYYYMMDDhhmmss ta:HEX ca:HEX .. ee:HEX`: a whole path; the leaf may be absent, or
 //!   `detached:HEX`.
+//! - `revocation YYYYMMDDhhmmss MODE STORE ta:HEX ca:HEX .. ee:HEX`: the same, where the lists of a
+//!   store are asked; STORE is URI:LIST;URI:LIST;.., each in HEX, as they are pushed, or `-`.
+//!   `cached=same`: a store that caches serial numbers gives the same answer.
 //!
 //! Revocation lists:
 //! - `list HEX SERIALS`: a list, by each of the calls that read one, and of each serial number
@@ -87,6 +90,7 @@ mod lists;
 mod making;
 mod parts;
 mod paths;
+mod revocation;
 mod rows;
 mod running;
 mod runs;
@@ -149,6 +153,8 @@ fn of_several(words: &Words<'_>, out: &mut Answer) -> bool {
         lists::cut(words, out);
     } else if words.is(0, "path") {
         paths::path(words, out);
+    } else if words.is(0, "revocation") {
+        revocation::revocation(words, out);
     } else if words.is(0, "run") {
         runs::answer(words, out);
     } else if words.is(0, "run-unnamed") {

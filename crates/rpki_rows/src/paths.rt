@@ -8,8 +8,8 @@ use rpki_der::Time;
 use rpki_parts::StandIn;
 use rpki_path::{Leaf, PathError, PathFault, validate_path};
 
-// The octets behind `NAME:` of a word.
-fn named(out: &mut Answer, word: &str, name: &str) -> Option<Bytes> {
+/// The octets behind `NAME:` of a word.
+pub fn named(out: &mut Answer, word: &str, name: &str) -> Option<Bytes> {
     let (before, digits) = word.split_once(':')?;
     if before == name {
         Some(bytes(out, digits))
@@ -18,9 +18,10 @@ fn named(out: &mut Answer, word: &str, name: &str) -> Option<Bytes> {
     }
 }
 
-fn authorities(out: &mut Answer, words: &Words<'_>) -> Vec<Bytes> {
+/// The authorities among the words from a place on.
+pub fn authorities(out: &mut Answer, words: &Words<'_>, from: usize) -> Vec<Bytes> {
     let mut found: Vec<Bytes> = Vec::new(out.alloc());
-    for place in 4..words.count() {
+    for place in from..words.count() {
         if let Some(octets) = named(out, words.at(place), "ca") {
             if found.push(octets).is_err() {
                 out.fail();
@@ -30,7 +31,8 @@ fn authorities(out: &mut Answer, words: &Words<'_>) -> Vec<Bytes> {
     found
 }
 
-fn leaf(out: &mut Answer, words: &Words<'_>) -> Option<Leaf> {
+/// The leaf, where the last word is one.
+pub fn leaf(out: &mut Answer, words: &Words<'_>) -> Option<Leaf> {
     let last = words.at(words.count().wrapping_sub(1));
     if let Some(octets) = named(out, last, "ee") {
         return Some(Leaf::Ee(octets));
@@ -51,11 +53,16 @@ fn refused(out: &mut Answer, error: &PathError) {
             out.text(" verify ");
             out.text(fault.name());
         }
+        PathFault::Revocation(fault) => {
+            out.text(" revocation ");
+            out.text(fault.name());
+        }
         PathFault::Memory => out.fail(),
     }
 }
 
-fn validated(out: &mut Answer, answer: Result<ResourceCert, PathError>) {
+/// What was answered of a path.
+pub fn validated(out: &mut Answer, answer: Result<ResourceCert, PathError>) {
     match answer {
         Ok(cert) => {
             held(out, &cert);
@@ -67,7 +74,7 @@ fn validated(out: &mut Answer, answer: Result<ResourceCert, PathError>) {
 
 fn answered(out: &mut Answer, words: &Words<'_>, now: Time) -> Option<()> {
     let anchor = named(out, words.at(3), "ta")?;
-    let cas = authorities(out, words);
+    let cas = authorities(out, words, 4);
     let leaf = leaf(out, words);
     let tal = tal(out.alloc()).ok()?;
     let strict = words.is(1, "strict");

@@ -10,7 +10,7 @@ use Rattle.rpki_cert.specs.declared.inspect.Kind.TheVariants.{Anchor, Authority,
 use Rattle.rpki_crl.specs.Revocation.{revocation_lines}
 use Rattle.rpki_crl.specs.Stores.{Stored}
 use Rattle.rpki_path.specs.declared.path_fault.PathFault.{PathFault}
-use Rattle.rpki_path.specs.declared.path_fault.PathFault.TheVariants.{Decode, Inspect, Verify, Revocation, Memory}
+use Rattle.rpki_path.specs.declared.path_fault.PathFault.TheVariants.{Decode, Memory}
 use Rattle.rpki_path.specs.declared.validating.Role.{Role}
 use Rattle.rpki_path.specs.declared.validating.Role.TheVariants as role
 use Rattle.rpki_path.specs.Paths.{Demand, AskedLine}

@@ -1,0 +1,96 @@
+//! Whole paths whose members are looked for on revocation lists, with the stand-in for signatures.
+use crate::answer::Answer;
+use crate::paths::{authorities, leaf, named, validated};
+use crate::validating::tal;
+use crate::words::{Words, bytes, moment, octets};
+use bytes::Bytes;
+use rpki_crl::{Crl, CrlStore};
+use rpki_der::Time;
+use rpki_parts::{Rsync, StandIn};
+use rpki_path::validate_path_with;
+
+// Stores the list `URI:LIST`, both in hexadecimal.
+fn store_pair(out: &mut Answer, store: &mut CrlStore, pair: &str) -> Option<()> {
+    let (uri, list) = pair.split_once(':')?;
+    let uri = Rsync::from_bytes(bytes(out, uri)).ok()?;
+    let list = octets(out, list);
+    let pushed = match Crl::decode(out.alloc(), &list) {
+        Ok(crl) => store.push(uri, crl),
+        Err(error) => {
+            drop(error);
+            drop(uri);
+            return None;
+        }
+    };
+    if let Err(pair) = pushed {
+        drop(pair);
+        out.fail();
+    }
+    Some(())
+}
+
+// The store of a word; `-` for one without lists.
+fn store_of(out: &mut Answer, word: &str, is_cached: bool) -> Option<CrlStore> {
+    let mut store = CrlStore::new(out.alloc());
+    if is_cached {
+        store.enable_serial_caching();
+    }
+    if word == "-" {
+        return Some(store);
+    }
+    let mut is_fit = true;
+    for pair in word.split(';') {
+        is_fit = is_fit && store_pair(out, &mut store, pair).is_some();
+    }
+    if is_fit {
+        Some(store)
+    } else {
+        drop(store);
+        None
+    }
+}
+
+fn asked(
+    out: &mut Answer,
+    words: &Words<'_>,
+    anchor: &Bytes,
+    now: Time,
+    is_cached: bool,
+) -> Option<()> {
+    let alloc = out.alloc();
+    let cas = authorities(out, words, 5);
+    let leaf = leaf(out, words);
+    let tal = tal(alloc).ok()?;
+    let strict = words.is(2, "strict");
+    let store = store_of(out, words.at(3), is_cached)?;
+    let answer = validate_path_with(
+        alloc, &store, anchor, &cas, leaf, tal, strict, now, &StandIn,
+    );
+    drop(store);
+    validated(out, answer);
+    Some(())
+}
+
+fn answered(out: &mut Answer, words: &Words<'_>) -> Option<()> {
+    let now = moment(words.at(1))?;
+    let anchor = named(out, words.at(4), "ta")?;
+    let mut plain = out.beside();
+    asked(&mut plain, words, &anchor, now, false)?;
+    let mut cached = out.beside();
+    asked(&mut cached, words, &anchor, now, true)?;
+    if plain.has_failed() {
+        out.fail();
+    }
+    out.text(plain.line());
+    out.field("cached");
+    out.compared(&plain, &cached);
+    Some(())
+}
+
+/// What the last member of a path holds, or which member is refused, and why, where the lists of a
+/// store are asked; and whether the answer is the same where serial numbers are cached.
+pub fn revocation(words: &Words<'_>, out: &mut Answer) {
+    if answered(out, words).is_none() {
+        out.text("unfit");
+    }
+}
