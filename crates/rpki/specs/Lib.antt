@@ -102,7 +102,9 @@ pub use Rattle.rpki_crl.specs.ListExtensions
 pub use Rattle.rpki_crl.specs.Lists
 pub use Rattle.rpki_crl.specs.Stores
 pub use Rattle.rpki_crl.specs.ListMaking
+pub use Rattle.rpki_crl.specs.Revocation
 pub use Rattle.rpki_crl.specs.declared.entry.CrlEntry
+pub use Rattle.rpki_crl.specs.declared.revocation_error.RevocationError
 -- ---- whole paths, and the program
 pub use Rattle.rpki_path.specs.Watching
 pub use Rattle.rpki_path.specs.HexWords

@@ -1,18 +1,18 @@
 -- What an answer about a path says.
-use Rattle.std.specs.Prelude.{◌↔◌, ℕ, Bool, List, Result, Ok, Err, None, IsTrue, true}
-use Rattle.rpki.specs.Times.{Moment}
-use Rattle.rpki.specs.Signatures.{Verifies}
+use Rattle.std.specs.Prelude.{◌↔◌, ℕ, Bool, List, Result, Ok, Err, Some, None, IsTrue}
 use Rattle.rpki.specs.Paths.{Path, last, asked, IsPathOf, IsGoodPath, IsNoGoodPath, Holds, system_numbers, UnlessMemory}
 use Rattle.rpki.specs.PathError.{PathError}
+use Rattle.rpki.specs.Stores.{Stored}
+use Rattle.rpki.specs.Verification.{Context}
 
--- the strings are a good path, and the answer tells whether its last member holds the AS number
-pub record IsHeld (V : Verifies) (now : Moment) (anchor : List ℕ) (cas : List (List ℕ)) (asn : ℕ) (answer : Bool) : Type 0 where
+-- the strings are a good path, of which these lists revoke no member, and the answer tells whether its last member holds the AS number
+pub record IsHeld (x : Context) (lists : List Stored) (anchor : List ℕ) (cas : List (List ℕ)) (asn : ℕ) (answer : Bool) : Type 0 where
   pub path : Path
   pub path_of : IsPathOf anchor (asked cas None) path
-  pub good : IsGoodPath V now true path
+  pub good : IsGoodPath x (Some lists) path
   pub held : IsTrue answer ↔ Holds path (last path) system_numbers asn
 
--- an error, that the strings are no good path; want of memory aside
-abbrev pub TellsHeld : Verifies → Moment → List ℕ → List (List ℕ) → ℕ → Result Bool PathError → Type 0
-TellsHeld V now anchor cas asn (Ok answer) = IsHeld V now anchor cas asn answer
-TellsHeld V now anchor cas asn (Err e) = UnlessMemory e.fault (IsNoGoodPath V now true anchor (asked cas None))
+-- an error, that the strings are no such path; want of memory aside
+abbrev pub TellsHeld : Context → List Stored → List ℕ → List (List ℕ) → ℕ → Result Bool PathError → Type 0
+TellsHeld x lists anchor cas asn (Ok answer) = IsHeld x lists anchor cas asn answer
+TellsHeld x lists anchor cas asn (Err e) = UnlessMemory e.fault (IsNoGoodPath x (Some lists) anchor (asked cas None))

@@ -1,20 +1,26 @@
 //! Asks a path of certificates about an AS number, through the crate `rpki`.
 #![tactic(auto)]
 
+ghost use Rattle.std.specs.Prelude.{true};
+ghost use Rattle.rpki.specs.Verification.{context};
 ghost use Rattle.rpki_example.specs.Answers.{TellsHeld};
 
 use bytes::Bytes;
 use rpki::crypto::Verifier;
-use rpki::repository::path::{PathError, validate_path};
+use rpki::repository::crl::CrlStore;
+use rpki::repository::path::{PathError, validate_path_with};
 use rpki::repository::resources::Asn;
 use rpki::repository::tal::TalInfo;
 use rpki::repository::x509::Time;
 use std::alloc::Global;
 use std::rc::Rc;
 
-/// Whether the last of these certificates, from the anchor down, holds the AS number at this moment.
+/// Tells whether the last of these certificates, from the anchor down, holds the AS number at this
+/// moment. Errs where they are no valid path, and where the lists of the store revoke one of them or
+/// don't tell.
 pub fn holds_as<V: Verifier>(
     alloc: Global,
+    store: &CrlStore,
     anchor: &Bytes,
     cas: &[Bytes],
     tal: Rc<TalInfo>,
@@ -22,8 +28,9 @@ pub fn holds_as<V: Verifier>(
     verifier: &V,
     asn: Asn,
 ) -> Result<bool, PathError>
-    ensures held { TellsHeld (V.verifies verifier.now) now anchor.now cas.now asn result }
+    ensures held { let x = context (V.verifies verifier.now) now true in
+        TellsHeld x store.now.pairs anchor.now cas.now asn result }
 {
-    let holder = validate_path(alloc, anchor, cas, None, tal, true, now, verifier)?;
+    let holder = validate_path_with(alloc, store, anchor, cas, None, tal, true, now, verifier)?;
     Ok(holder.as_resources().contains(asn))
 }

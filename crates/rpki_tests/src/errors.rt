@@ -3,7 +3,7 @@
 use bytes::Bytes;
 use rpki_blocks::{Inherited, IssueError};
 use rpki_cert::{IssueCaError, ValidationError, VerificationError};
-use rpki_crl::InvalidExtension;
+use rpki_crl::{InvalidExtension, RevocationError};
 use rpki_der::{DecodeError, EncodeError, Field, Oid};
 use rpki_ext::InspectionError;
 use rpki_parts::{
@@ -320,8 +320,48 @@ fn of_paths(rt: HostRuntime) {
         "Verify",
         "certificate 2: certificate expired",
     );
+    let revocation = PathFault::from(RevocationError::Revoked);
+    assert_wrong(
+        &rt,
+        alloc,
+        revocation,
+        "Revocation",
+        "certificate 2: certificate revoked",
+    );
     let memory = PathFault::from(DecodeError::Memory);
     assert_wrong(&rt, alloc, memory, "Memory", "certificate 2: out of memory");
+}
+
+fn assert_revocation(
+    rt: &impl Abort,
+    alloc: Global,
+    error: RevocationError,
+    name: &str,
+    text: &str,
+) {
+    assert_eq!(rt; error.name(), name);
+    assert_shown(rt, format!(in alloc; "{error}"), text);
+}
+
+#[test]
+fn of_revocation(rt: HostRuntime) {
+    let alloc = rt.alloc();
+    let missing = RevocationError::NoCrl;
+    assert_revocation(&rt, alloc, missing, "NoCrl", "missing revocation list");
+    let text = "wrong authority key identifier of the revocation list";
+    assert_revocation(&rt, alloc, RevocationError::WrongKeyId, "WrongKeyId", text);
+    let text = "bad signature of the revocation list";
+    assert_revocation(
+        &rt,
+        alloc,
+        RevocationError::BadSignature,
+        "BadSignature",
+        text,
+    );
+    let stale = RevocationError::Stale;
+    assert_revocation(&rt, alloc, stale, "Stale", "stale revocation list");
+    let revoked = RevocationError::Revoked;
+    assert_revocation(&rt, alloc, revoked, "Revoked", "certificate revoked");
 }
 
 fn assert_invalid(rt: &impl Abort, alloc: Global, invalid: InvalidExtension) {

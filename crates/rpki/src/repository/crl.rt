@@ -1,5 +1,5 @@
 //! Revocation lists (RFC 5280 5, RFC 6487 5).
 pub use rpki_crl::{
-    Crl, CrlEntry, CrlStore, InvalidExtension, RevokedCertificates, RevokedCertificatesIter,
-    TbsCertList,
+    Crl, CrlEntry, CrlStore, InvalidExtension, RevocationError, RevokedCertificates,
+    RevokedCertificatesIter, TbsCertList,
 };
