@@ -2,11 +2,12 @@
 #![tactic(auto)]
 
 ghost use Rattle.std.specs.Prelude.{true};
+ghost use Rattle.rpki.specs.RsaSignatures.{IsSignedByRsa};
 ghost use Rattle.rpki.specs.Verification.{context};
 ghost use Rattle.rpki_example.specs.Answers.{TellsHeld};
 
 use bytes::Bytes;
-use rpki::crypto::Verifier;
+use rpki::crypto::RsaVerifier;
 use rpki::repository::crl::CrlStore;
 use rpki::repository::path::{PathError, validate_path_with};
 use rpki::repository::resources::Asn;
@@ -18,19 +19,19 @@ use std::rc::Rc;
 /// Tells whether the last of these certificates, from the anchor down, holds the AS number at this
 /// moment. Errs where they are no valid path, and where the lists of the store revoke one of them or
 /// don't tell.
-pub fn holds_as<V: Verifier>(
+pub fn holds_as(
     alloc: Global,
     store: &CrlStore,
     anchor: &Bytes,
     cas: &[Bytes],
     tal: Rc<TalInfo>,
     now: Time,
-    verifier: &V,
     asn: Asn,
 ) -> Result<bool, PathError>
-    ensures held { let x = context (V.verifies verifier.now) now true in
+    ensures held { let x = context IsSignedByRsa now true in
         TellsHeld x store.now.pairs anchor.now cas.now asn result }
 {
-    let holder = validate_path_with(alloc, store, anchor, cas, None, tal, true, now, verifier)?;
+    let verifier = RsaVerifier;
+    let holder = validate_path_with(alloc, store, anchor, cas, None, tal, true, now, &verifier)?;
     Ok(holder.as_resources().contains(asn))
 }

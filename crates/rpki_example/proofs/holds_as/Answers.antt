@@ -1,5 +1,6 @@
 use Rattle.std.proofs.Common.{rules, ◌≡◌, ℕ, List, Bool, true, None, rc_value}
 use Rattle.std.specs.Prelude.{Some}
+use Rattle.rpki.specs.RsaSignatures.{IsSignedByRsa}
 use Rattle.rpki.specs.Sets.{is_in}
 use Rattle.rpki.specs.Stores.{Stored}
 use Rattle.rpki.specs.Verification.{Context, context, ResourceFields}
@@ -13,8 +14,8 @@ answered x lists anchor cas tal asn r answer is a =
     record { path = a.path; path_of = a.path_of; good = a.good; held = rw is (a.held.as_is asn) }
 
 pub returns : goal.returns
-returns g c =
-    let x = context (g.V.Verifier.verifies c.args.verifier.now) c.args.now true in
+returns c =
+    let x = context IsSignedByRsa c.args.now true in
     let is : c.contains.result ≡ is_in c.args.asn c.in_ok-holder.holder.as_numbers = search rules in
     record {
       held = answered x c.args.store.now.pairs c.args.anchor.now c.args.cas.now (rc_value c.args.tal) c.args.asn c.in_ok-holder.holder c.contains.result is c.in_ok-holder.ensures.validates;
