@@ -347,7 +347,7 @@ def revocation_list(words):
     try:
         crl = ref.decode_crl(octets)
     except ref.DecodeError as fault:
-        return line(refused(fault.name), ('take', 'refused'),
+        return line(refused(fault), ('take', 'refused'),
                     show.left(ref.Cursor(octets)))
     first, others = four_ways(octets, ref.take_crl, ref.take_crl_content,
                               lambda crl: list_line(octets, crl))

@@ -179,10 +179,9 @@ fn found(out: &mut Answer, crl: &Crl, words: &Words<'_>, octets: &Bytes) {
     }
 }
 
-// Why it is none, without what that speaks of.
+// Why it is none, what that speaks of, and what is left.
 fn refused(out: &mut Answer, error: &DecodeError, octets: &Bytes) {
-    out.text("refused ");
-    out.text(error.name());
+    out.refused(error);
     let mut cursor = Cursor::new(octets);
     let again = Crl::take_from(out.alloc(), &mut cursor);
     out.field("take");
