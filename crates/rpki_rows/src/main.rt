@@ -24,6 +24,11 @@
 //! - `path MODE YYYYMMDDhhmmss ta:HEX ca:HEX .. ee:HEX`: a whole path; the leaf may be absent, or
 //!   `detached:HEX`.
 //!
+//! Signatures:
+//! - `rsa KEY HEX SIGNATURE`: whether a signature is one of a message, by the bits of a key.
+//! - `rsa-key KEY`: whether bits are a key of the RPKI.
+//! - `real-path YYYYMMDDhhmmss MODE ta:HEX ca:HEX .. ee:HEX`: a path as above, with RSA signatures.
+//!
 //! Revocation lists:
 //! - `list HEX SERIALS`: a list, by each of the calls that read one, and of each serial number
 //!   whether it is revoked and how many entries are looked at; SERIALS is HEX,HEX,..
@@ -92,6 +97,7 @@ mod running;
 mod runs;
 mod sets;
 mod show;
+mod signatures;
 mod uris;
 mod validating;
 mod words;
@@ -149,6 +155,12 @@ fn of_several(words: &Words<'_>, out: &mut Answer) -> bool {
         lists::cut(words, out);
     } else if words.is(0, "path") {
         paths::path(words, out);
+    } else if words.is(0, "real-path") {
+        signatures::real_path(words, out);
+    } else if words.is(0, "rsa") {
+        signatures::rsa(words, out);
+    } else if words.is(0, "rsa-key") {
+        signatures::rsa_key(words, out);
     } else if words.is(0, "run") {
         runs::answer(words, out);
     } else if words.is(0, "run-unnamed") {

@@ -1,15 +1,15 @@
-//! Whole paths, with the stand-in for signatures.
+//! Whole paths.
 use crate::answer::Answer;
 use crate::validating::{held, tal};
 use crate::words::{Words, bytes, moment};
 use bytes::Bytes;
 use rpki_cert::ResourceCert;
 use rpki_der::Time;
-use rpki_parts::StandIn;
+use rpki_parts::{StandIn, Verifier};
 use rpki_path::{Leaf, PathError, PathFault, validate_path};
 
-// The octets behind `NAME:` of a word.
-fn named(out: &mut Answer, word: &str, name: &str) -> Option<Bytes> {
+/// The octets behind `NAME:` of a word.
+pub fn named(out: &mut Answer, word: &str, name: &str) -> Option<Bytes> {
     let (before, digits) = word.split_once(':')?;
     if before == name {
         Some(bytes(out, digits))
@@ -18,9 +18,10 @@ fn named(out: &mut Answer, word: &str, name: &str) -> Option<Bytes> {
     }
 }
 
-fn authorities(out: &mut Answer, words: &Words<'_>) -> Vec<Bytes> {
+/// The authorities among the words from a place on.
+pub fn authorities(out: &mut Answer, words: &Words<'_>, from: usize) -> Vec<Bytes> {
     let mut found: Vec<Bytes> = Vec::new(out.alloc());
-    for place in 4..words.count() {
+    for place in from..words.count() {
         if let Some(octets) = named(out, words.at(place), "ca") {
             if found.push(octets).is_err() {
                 out.fail();
@@ -30,7 +31,8 @@ fn authorities(out: &mut Answer, words: &Words<'_>) -> Vec<Bytes> {
     found
 }
 
-fn leaf(out: &mut Answer, words: &Words<'_>) -> Option<Leaf> {
+/// The leaf, where the last word is one.
+pub fn leaf(out: &mut Answer, words: &Words<'_>) -> Option<Leaf> {
     let last = words.at(words.count().wrapping_sub(1));
     if let Some(octets) = named(out, last, "ee") {
         return Some(Leaf::Ee(octets));
@@ -55,7 +57,8 @@ fn refused(out: &mut Answer, error: &PathError) {
     }
 }
 
-fn validated(out: &mut Answer, answer: Result<ResourceCert, PathError>) {
+/// What was answered of a path.
+pub fn validated(out: &mut Answer, answer: Result<ResourceCert, PathError>) {
     match answer {
         Ok(cert) => {
             held(out, &cert);
@@ -65,24 +68,41 @@ fn validated(out: &mut Answer, answer: Result<ResourceCert, PathError>) {
     }
 }
 
-fn answered(out: &mut Answer, words: &Words<'_>, now: Time) -> Option<()> {
+fn answered<V: Verifier>(
+    out: &mut Answer,
+    words: &Words<'_>,
+    mode: &str,
+    now: Time,
+    verifier: &V,
+) -> Option<()> {
     let anchor = named(out, words.at(3), "ta")?;
-    let cas = authorities(out, words);
+    let cas = authorities(out, words, 4);
     let leaf = leaf(out, words);
     let tal = tal(out.alloc()).ok()?;
-    let strict = words.is(1, "strict");
-    let answer = validate_path(out.alloc(), &anchor, &cas, leaf, tal, strict, now, &StandIn);
+    let strict = mode == "strict";
+    let answer = validate_path(out.alloc(), &anchor, &cas, leaf, tal, strict, now, verifier);
     validated(out, answer);
     Some(())
 }
 
-/// What the last member of a path holds, or which member is refused, and why.
-pub fn path(words: &Words<'_>, out: &mut Answer) {
-    let answer = match moment(words.at(2)) {
-        Some(now) => answered(out, words, now),
+/// What the path of the words behind the third answers, in a mode, at a moment and by a verifier.
+pub fn judged<V: Verifier>(
+    words: &Words<'_>,
+    out: &mut Answer,
+    mode: &str,
+    at: &str,
+    verifier: &V,
+) {
+    let answer = match moment(at) {
+        Some(now) => answered(out, words, mode, now, verifier),
         None => None,
     };
     if answer.is_none() {
         out.text("unfit");
     }
+}
+
+/// What the last member of a path holds, or which member is refused, and why, under the stand-in.
+pub fn path(words: &Words<'_>, out: &mut Answer) {
+    judged(words, out, words.at(1), words.at(2), &StandIn);
 }
