@@ -27,6 +27,11 @@
 //!   store are asked; STORE is URI:LIST;URI:LIST;.., each in HEX, as they are pushed, or `-`.
 //!   `cached=same`: a store that caches serial numbers gives the same answer.
 //!
+//! Signatures:
+//! - `rsa KEY HEX SIGNATURE`: whether a signature is one of a message, by the bits of a key.
+//! - `rsa-key KEY`: whether bits are a key of the RPKI.
+//! - `real-path YYYYMMDDhhmmss MODE ta:HEX ca:HEX .. ee:HEX`: a path as above, with RSA signatures.
+//!
 //! Revocation lists:
 //! - `list HEX SERIALS`: a list, by each of the calls that read one, and of each serial number
 //!   whether it is revoked and how many entries are looked at; SERIALS is HEX,HEX,..
@@ -96,6 +101,7 @@ mod running;
 mod runs;
 mod sets;
 mod show;
+mod signatures;
 mod uris;
 mod validating;
 mod words;
@@ -155,6 +161,12 @@ fn of_several(words: &Words<'_>, out: &mut Answer) -> bool {
         paths::path(words, out);
     } else if words.is(0, "revocation") {
         revocation::revocation(words, out);
+    } else if words.is(0, "real-path") {
+        signatures::real_path(words, out);
+    } else if words.is(0, "rsa") {
+        signatures::rsa(words, out);
+    } else if words.is(0, "rsa-key") {
+        signatures::rsa_key(words, out);
     } else if words.is(0, "run") {
         runs::answer(words, out);
     } else if words.is(0, "run-unnamed") {

@@ -1,11 +1,11 @@
-//! Whole paths, with the stand-in for signatures.
+//! Whole paths.
 use crate::answer::Answer;
 use crate::validating::{held, tal};
 use crate::words::{Words, bytes, moment};
 use bytes::Bytes;
 use rpki_cert::ResourceCert;
 use rpki_der::Time;
-use rpki_parts::StandIn;
+use rpki_parts::{StandIn, Verifier};
 use rpki_path::{Leaf, PathError, PathFault, validate_path};
 
 /// The octets behind `NAME:` of a word.
@@ -72,24 +72,41 @@ pub fn validated(out: &mut Answer, answer: Result<ResourceCert, PathError>) {
     }
 }
 
-fn answered(out: &mut Answer, words: &Words<'_>, now: Time) -> Option<()> {
+fn answered<V: Verifier>(
+    out: &mut Answer,
+    words: &Words<'_>,
+    mode: &str,
+    now: Time,
+    verifier: &V,
+) -> Option<()> {
     let anchor = named(out, words.at(3), "ta")?;
     let cas = authorities(out, words, 4);
     let leaf = leaf(out, words);
     let tal = tal(out.alloc()).ok()?;
-    let strict = words.is(1, "strict");
-    let answer = validate_path(out.alloc(), &anchor, &cas, leaf, tal, strict, now, &StandIn);
+    let strict = mode == "strict";
+    let answer = validate_path(out.alloc(), &anchor, &cas, leaf, tal, strict, now, verifier);
     validated(out, answer);
     Some(())
 }
 
-/// What the last member of a path holds, or which member is refused, and why.
-pub fn path(words: &Words<'_>, out: &mut Answer) {
-    let answer = match moment(words.at(2)) {
-        Some(now) => answered(out, words, now),
+/// What the path of the words behind the third answers, in a mode, at a moment and by a verifier.
+pub fn judged<V: Verifier>(
+    words: &Words<'_>,
+    out: &mut Answer,
+    mode: &str,
+    at: &str,
+    verifier: &V,
+) {
+    let answer = match moment(at) {
+        Some(now) => answered(out, words, mode, now, verifier),
         None => None,
     };
     if answer.is_none() {
         out.text("unfit");
     }
+}
+
+/// What the last member of a path holds, or which member is refused, and why, under the stand-in.
+pub fn path(words: &Words<'_>, out: &mut Answer) {
+    judged(words, out, words.at(1), words.at(2), &StandIn);
 }

@@ -1,0 +1,24 @@
+//! Signatures by RSA keys, and whole paths with them.
+use crate::answer::Answer;
+use crate::paths;
+use crate::words::Words;
+use rpki_rsa::{RsaVerifier, is_rpki_key, verify};
+
+/// Whether bits are a key of the RPKI.
+pub fn rsa_key(words: &Words<'_>, out: &mut Answer) {
+    let bits = words.octets(out, 1);
+    out.yes(is_rpki_key(&bits));
+}
+
+/// Whether a signature is one of a message, by the bits of a key.
+pub fn rsa(words: &Words<'_>, out: &mut Answer) {
+    let bits = words.octets(out, 1);
+    let message = words.octets(out, 2);
+    let signature = words.octets(out, 3);
+    out.yes(verify(&bits, &message, &signature));
+}
+
+/// What the last member of a path with RSA signatures holds, or which member is refused, and why.
+pub fn real_path(words: &Words<'_>, out: &mut Answer) {
+    paths::judged(words, out, words.at(2), words.at(1), &RsaVerifier);
+}
