@@ -7,3 +7,7 @@ pub mod Testing
 pub mod Lines
 pub mod IssuedNumbers
 pub mod ReadAgain
+pub mod Orders
+pub mod FrameReads
+pub mod RowsMade
+pub mod RowsBuilt
