@@ -91,8 +91,12 @@ pub use Rattle.rpki_cert.specs.Errors
 pub use Rattle.rpki_cert.specs.Validation
 pub use Rattle.rpki_cert.specs.Issuing
 pub use Rattle.rpki_cert.specs.Rearranged
+pub use Rattle.rpki_cert.specs.Rearranging
+pub use Rattle.rpki_cert.specs.RearrangeErrors
 pub use Rattle.rpki_cert.specs.declared.inspect.Kind
+pub use Rattle.rpki_cert.specs.declared.extra.Extra
 pub use Rattle.rpki_cert.specs.declared.issue.IssueCaError
+pub use Rattle.rpki_cert.specs.declared.rearrange_error.RearrangeError
 pub use Rattle.rpki_cert.specs.declared.validation_error.ValidationError
 pub use Rattle.rpki_cert.specs.declared.verification_error.VerificationError
 -- ---- revocation lists

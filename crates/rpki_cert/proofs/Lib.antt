@@ -12,3 +12,7 @@ pub mod Permutations
 pub mod SameExtensions
 pub mod RearrangedCertificates
 pub mod DeeperCertificates
+pub mod Orders
+pub mod FrameReads
+pub mod RowsMade
+pub mod RowsBuilt

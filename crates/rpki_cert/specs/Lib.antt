@@ -7,3 +7,5 @@ pub mod Errors
 pub mod Validation
 pub mod Issuing
 pub mod Rearranged
+pub mod Rearranging
+pub mod RearrangeErrors

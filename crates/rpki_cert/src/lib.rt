@@ -2,15 +2,21 @@
 #![tactic(auto)]
 
 mod cert;
+mod extra;
 mod fields;
+mod frame;
 mod inspect;
 mod issue;
 pub mod laws;
 mod making;
+mod order;
 pub mod profile_laws;
+mod rearrange_error;
+mod rearranging;
 mod resource_cert;
 mod resources;
 pub mod round_trip;
+mod row;
 mod tbs;
 mod validate;
 mod validation_error;
@@ -21,8 +27,11 @@ mod verify_owned;
 mod writing;
 
 pub use cert::Cert;
+pub use extra::Extra;
 pub use inspect::Kind;
 pub use issue::{IssueCaError, issue_ca};
+pub use rearrange_error::RearrangeError;
+pub use rearranging::rearrange;
 pub use resource_cert::ResourceCert;
 pub use rpki_blocks::Overclaim;
 pub use rpki_ext::{ExtendedKeyUsage, InspectionError, KeyUsage, Sia};

@@ -1,5 +1,5 @@
 //! Resource certificates (RFC 6487).
 pub use rpki_cert::{
-    Cert, ExtendedKeyUsage, IssueCaError, KeyUsage, Kind, Overclaim, ResourceCert, Sia, TbsCert,
-    issue_ca,
+    Cert, ExtendedKeyUsage, Extra, IssueCaError, KeyUsage, Kind, Overclaim, RearrangeError,
+    ResourceCert, Sia, TbsCert, issue_ca, rearrange,
 };

@@ -1,0 +1,206 @@
+-- What a certificate is built of is what is read of it.
+use Rattle.std.specs.List.{AllByRecursion, AllZip, concat}
+use Rattle.std.specs.Prelude.{IfOk, IfErr}
+use Rattle.std.proofs.Common.{◌≡◌, ◌<◌, ◌-◌, ℕ, List, [], ◌∷◌, ◌++◌, length, take, Option, Some, None, Result, Ok, Err, refl, sym, ap, subst, ◌∙◌, arith}
+use Rattle.std.proofs.lemmas.List.{append-nil}
+use Rattle.std.proofs.lemmas.List.Folds.{concat-append}
+use Rattle.rpki_der.specs.Extensions.{Extension, IsExtension}
+use Rattle.rpki_der.specs.Place.{Refuses}
+use Rattle.rpki_der.specs.Place.Reading.{ReturnsOrMemoryBy}
+use Rattle.rpki_der.specs.Rows.{IsRow}
+use Rattle.rpki_der.specs.Rows.Reading.{row_of, Shrinks}
+use Rattle.rpki_der.specs.Skipping.{IsCaptured}
+use Rattle.rpki_der.specs.Skipping.Reading.{any_at, captured_at}
+use Rattle.rpki_der.specs.Spelling.{Means}
+use Rattle.rpki_der.specs.Tags.{CONTEXT_CONSTRUCTED, SEQUENCE}
+use Rattle.rpki_der.specs.Values.{enc, length_octets, IsEnc, IsValue, IsNested}
+use Rattle.rpki_der.specs.Values.Reading.{value_at}
+use Rattle.rpki_der.specs.declared.error.DecodeError.{DecodeError}
+use Rattle.rpki_der.specs.declared.error.DecodeError.TheVariants.{Memory}
+use Rattle.rpki_der.proofs.Answering.{certainly, refuses}
+use Rattle.rpki_der.proofs.Formats.{of_enc}
+use Rattle.rpki_der.proofs.Octets.{bind_some, both_are, some, some_is, nothing}
+use Rattle.rpki_der.proofs.Rows.{row_again}
+use Rattle.rpki_der.proofs.SkippingReads.{captured_reads}
+use Rattle.rpki_der.proofs.SkippingSteps.{any_shrinks}
+use Rattle.rpki_der.proofs.ValueReads.{value_again}
+use Rattle.rpki_ext.proofs.Pieces.{row_pieces}
+use Rattle.rpki_cert.specs.Certificates.{CertFields, TbsFields, version_3, IsTbsCertificateContent, IsCertificate}
+use Rattle.rpki_cert.specs.Rearranged.{IsBuiltOf, IsSomeExtension}
+use Rattle.rpki_cert.specs.Rearranging.{BeginsWith, IsRefused, Parts}
+use Rattle.rpki_cert.specs.Rearranging.Reading.{parts_at, row_in, split_last, with_front}
+use Rattle.rpki_cert.specs.RearrangeErrors.{of_reading}
+use Rattle.rpki_cert.specs.declared.extra.Extra.{Extra}
+use Rattle.rpki_cert.specs.declared.rearrange_error.RearrangeError.{RearrangeError}
+
+-- ---- values one after the other
+
+pub captured_shrinks : Shrinks captured_at
+unfolding captured_at
+captured_shrinks = λ octets v rest e.
+    let a = bind_some (any_at octets) (λ w. some {A = List ℕ × List ℕ} (take (length octets - length w.1) octets, w.1)) (v, rest) e in
+    let same = both_are (take (length octets - length a.0.1) octets, a.0.1) (v, rest) a.2 in
+    omega (arith, any_shrinks octets a.0.0 a.0.1 a.1, ap length same.1)
+
+captured_row : (ps : List (List ℕ)) → AllByRecursion IsValue ps → IsRow IsCaptured ps (concat ps)
+captured_row [] h = refl
+captured_row (p ∷ ps) h = (p, concat ps, (h.0, refl), captured_row ps h.1, refl)
+
+values_are_read : (ps : List (List ℕ)) (octets : List ℕ) → AllByRecursion IsValue ps → octets ≡ concat ps → row_of captured_at octets ≡ some ps
+values_are_read ps octets h e = rw e (row_again captured_at IsCaptured captured_reads captured_shrinks ps (concat ps) (captured_row ps h))
+
+-- ---- the last of them
+
+split_push : {X : Type 0} (xs : List X) (x : X) → split_last (xs ++ x ∷ []) ≡ some {A = List X × X} (xs, x)
+split_push [] x = refl
+split_push (y ∷ xs) x = rw (split_push xs x) refl
+
+pub split_is : {X : Type 0} (all xs : List X) (x : X) → all ≡ xs ++ x ∷ [] → split_last all ≡ some {A = List X × X} (xs, x)
+split_is all xs x e = rw e (split_push xs x)
+
+-- ---- extensions
+
+zipped_values : (xs : List Extension) (ps : List (List ℕ)) → AllZip IsExtension xs ps → AllByRecursion IsValue ps × AllByRecursion IsSomeExtension ps
+zipped_values xs [] h = (tt, tt)
+zipped_values [] (p ∷ ps) h = elim h [ ]
+zipped_values (x ∷ xs) (p ∷ ps) h = let r = zipped_values xs ps h.1 in ((of_enc h.0.sequence, r.0), ((x, h.0), r.1))
+
+whole_value : (t : ℕ) (c text : List ℕ) → IsEnc t c text → value_at t text ≡ some {A = List ℕ × List ℕ} (c, [])
+whole_value t c text s = ap (value_at t) (sym (append-nil text)) ∙ value_again t c text [] s
+
+row_is_read : (ps : List (List ℕ)) (row value : List ℕ) → AllByRecursion IsValue ps → row ≡ concat ps → IsNested (CONTEXT_CONSTRUCTED 3 ∷ SEQUENCE ∷ []) row value → row_in value ≡ some ps
+unfolding row_in
+row_is_read ps row value h e (inner, outer_is, (content, inner_is, same)) =
+    let values : row_of captured_at content ≡ some ps = values_are_read ps content h (same ∙ e) in
+    rw (whole_value (CONTEXT_CONSTRUCTED 3) inner value outer_is, whole_value SEQUENCE content inner inner_is) values
+
+-- ---- a certificate
+
+version_is_value : IsValue version_3
+unfolding enc length_octets
+version_is_value = record {
+  tag = CONTEXT_CONSTRUCTED 0;
+  content = 2 ∷ 1 ∷ 2 ∷ [];
+  enc = record { octet = omega arith; low_tag = omega arith; octets = (omega arith, (omega arith, (omega arith, tt))); short = omega arith; is = refl };
+}
+
+module _ {f : TbsFields} {content : List ℕ} (t : IsTbsCertificateContent f content) where
+  abbrev front_of : List (List ℕ)
+  front_of = version_3 ∷ t.serial ∷ t.algorithm ∷ t.issuer ∷ t.validity ∷ t.subject ∷ t.key ∷ []
+
+  front_values : AllByRecursion IsValue front_of
+  front_values = (
+    version_is_value,
+    (
+      of_enc t.serial_is.number.enc,
+      (
+        of_enc t.algorithm_is.sequence,
+        (of_enc t.issuer_is.parts_are.sequence, (of_enc t.validity_is.sequence, (of_enc t.subject_is.parts_are.sequence, (of_enc t.key_is.sequence, tt)))),
+      ),
+    ),
+  )
+
+  all_values : AllByRecursion IsValue (front_of ++ t.extensions ∷ [])
+  all_values =
+      let h = front_values in
+      (h.0, (h.1.0, (h.1.1.0, (h.1.1.1.0, (h.1.1.1.1.0, (h.1.1.1.1.1.0, (h.1.1.1.1.1.1.0, (of_enc t.extensions_is.1, tt))))))))
+
+concat_last : (before : List (List ℕ)) (last : List ℕ) → concat (before ++ last ∷ []) ≡ concat before ++ last
+concat_last before last = concat-append before (last ∷ []) ∙ ap (λ (s : List ℕ). concat before ++ s) (append-nil last)
+
+parts_from : (octets content rest tbs behind last : List ℕ) (values before row : List (List ℕ)) → value_at SEQUENCE octets ≡ some {A = List ℕ × List ℕ} (content, rest) → value_at SEQUENCE content ≡ some {A = List ℕ × List ℕ} (tbs, behind)
+    → row_of captured_at tbs ≡ some values → split_last values ≡ some {A = List (List ℕ) × List ℕ} (before, last) → row_in last ≡ some row
+    → parts_at octets ≡ some {A = List (List ℕ) × (List (List ℕ) × List ℕ)} (before, (row, behind))
+unfolding parts_at
+parts_from octets content rest tbs behind last values before row a b c d e = rw (a, b, c, d, e) refl
+
+-- of a certificate the parts are read that it is built of
+record AreParts (octets front : List ℕ) : Type 0 where
+  parts : Parts
+  read : parts_at octets ≡ some {A = List (List ℕ) × (List (List ℕ) × List ℕ)} (parts.before, (parts.old, parts.behind))
+  built : IsBuiltOf parts.before parts.old parts.behind front
+  extensions_are : AllByRecursion IsSomeExtension parts.old
+
+certificate_parts : (c : CertFields) (octets front rest : List ℕ) → octets ≡ front ++ rest → IsCertificate c front → AreParts octets front
+certificate_parts c octets front rest e s =
+    let signed = s.content_is.signed_is in
+    let tbs = s.content_is.fields_are in
+    let inside = tbs.content_is in
+    let behind = signed.algorithm ++ (signed.signature ++ []) in
+    let before = front_of inside in
+    let found = row_pieces IsExtension inside.triples inside.row inside.row_is in
+    let zipped = zipped_values inside.triples found.0 found.1 in
+    let message = c.signed_data.message in
+    let first : value_at SEQUENCE octets ≡ some {A = List ℕ × List ℕ} (s.content, rest) = ap (value_at SEQUENCE) e ∙ value_again SEQUENCE s.content front rest s.enc in
+    let second : value_at SEQUENCE s.content ≡ some {A = List ℕ × List ℕ} (tbs.content, behind) = ap (value_at SEQUENCE) signed.is ∙ value_again SEQUENCE tbs.content message behind tbs.enc in
+    let third : row_of captured_at tbs.content ≡ some (before ++ inside.extensions ∷ []) = values_are_read (before ++ inside.extensions ∷ []) tbs.content (all_values inside) inside.is in
+    let fourth : row_in inside.extensions ≡ some found.0 = row_is_read found.0 inside.row inside.extensions zipped.0 found.2 inside.extensions_is in
+    record {
+      parts = record { before = before; old = found.0; behind = behind };
+      read = parts_from octets s.content rest tbs.content behind inside.extensions (before ++ inside.extensions ∷ []) before found.0 first second third (split_push before inside.extensions) fourth;
+      built = record {
+        extensions = inside.extensions;
+        tbs = message;
+        before_are = front_values inside;
+        extensions_is = subst (λ (row : List ℕ). IsNested (CONTEXT_CONSTRUCTED 3 ∷ SEQUENCE ∷ []) row inside.extensions) found.2 inside.extensions_is;
+        tbs_is = subst (λ (d : List ℕ). IsEnc SEQUENCE d message) (inside.is ∙ concat_last before inside.extensions) tbs.enc;
+        whole = subst (λ (d : List ℕ). IsEnc SEQUENCE d front) signed.is s.enc;
+      };
+      extensions_are = zipped.1;
+    }
+
+-- ---- what is read
+
+abbrev pub view : Parts → List (List ℕ) × (List (List ℕ) × List ℕ)
+view p = (p.before, (p.old, p.behind))
+
+same_parts : (p q : Parts) → some {A = List (List ℕ) × (List (List ℕ) × List ℕ)} (view p) ≡ Some (view q) → p ≡ q
+same_parts p q e = let same : view p ≡ view q = some_is (view p) (view q) e in ap (λ (x : List (List ℕ) × (List (List ℕ) × List ℕ)). record { before = x.0; old = x.1.0; behind = x.1.1 }) same
+
+begins : (octets : List ℕ) (c : CertFields) (m : Means IsCertificate c octets) (p : Parts) → parts_at octets ≡ Some (view p) → BeginsWith octets p
+begins octets c m p e =
+    let found = certificate_parts c octets m.1.text m.0 m.1.parts m.1.spelled in
+    let same : found.parts ≡ p = same_parts found.parts p (sym found.read ∙ e) in
+    subst (λ (q : Parts). BeginsWith octets q) same (record {
+      certificate = c;
+      front = m.1.text;
+      rest = m.0;
+      certificate_is = m.1.spelled;
+      built = found.built;
+      extensions_are = found.extensions_are;
+      octets_are = m.1.parts;
+    })
+
+-- a certificate's parts are read, or memory was wanted
+pub parts_ok : (octets copy : List ℕ) (c : CertFields) → Means IsCertificate c copy → copy ≡ octets → (r : Result Parts DecodeError) → ReturnsOrMemoryBy view r (parts_at octets) → IfOk r (λ p. BeginsWith octets p)
+parts_ok octets copy c m same (Ok p) e = begins octets c (subst (λ (o : List ℕ). Means IsCertificate c o) same m) p e
+parts_ok octets copy c m same (Err d) e = tt
+
+abbrev IsNone : List ℕ → Type 0
+IsNone octets = (x : CertFields) → Means IsCertificate x octets → ⊥
+
+pub parts_refused : (octets copy : List ℕ) (c : CertFields) → Means IsCertificate c copy → copy ≡ octets → (r : Result Parts DecodeError) → ReturnsOrMemoryBy view r (parts_at octets) → IfErr r (λ d. Refuses d (IsNone octets))
+parts_refused octets copy c m same (Ok p) e = tt
+parts_refused octets copy c m same (Err d) e =
+    let n = subst (λ (o : List ℕ). Means IsCertificate c o) same m in
+    let found = certificate_parts c octets n.1.text n.0 n.1.parts n.1.spelled in
+    refuses d (λ none. nothing (view found.parts) (sym none ∙ found.read)) e
+
+-- ---- why nothing could be read
+
+pub refusal_passed_on : {X : Type 0} (octets copy : List ℕ) (r : Result X DecodeError) (d : DecodeError) → r ≡ Err d → Refuses d (IsNone copy) → copy ≡ octets → IfErr r (λ e. Refuses e (IsNone octets))
+refusal_passed_on octets copy (Ok x) d e h same = tt
+refusal_passed_on octets copy (Err f) d e h same =
+    let error : f ≡ d = cc in
+    subst (λ (g : DecodeError). Refuses g (IsNone octets)) (sym error) (subst (λ (o : List ℕ). Refuses d (IsNone o)) same h)
+
+-- it is why nothing is rearranged
+refused_by_reading : (octets : List ℕ) (d : DecodeError) → Refuses d (IsNone octets) → (order : List ℕ) (extras : List Extra) → IsRefused octets order extras (of_reading d)
+refused_by_reading octets Memory h order extras = tt
+refused_by_reading octets _ h order extras = h
+
+pub refused_from : {X : Type 0} (octets copy : List ℕ) (r : Result X RearrangeError) (d : DecodeError) → r ≡ Err (of_reading d) → Refuses d (IsNone copy) → copy ≡ octets → IfErr r (λ e. (order : List ℕ) (extras : List Extra) → IsRefused octets order extras e)
+refused_from octets copy (Ok x) d e h same = tt
+refused_from octets copy (Err f) d e h same =
+    let error : f ≡ of_reading d = cc in
+    subst (λ (g : RearrangeError). (order : List ℕ) (extras : List Extra) → IsRefused octets order extras g) (sym error) (refused_by_reading octets d (subst (λ (o : List ℕ). Refuses d (IsNone o)) same h))

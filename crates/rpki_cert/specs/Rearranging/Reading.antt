@@ -1,0 +1,32 @@
+-- The reading function of what a certificate is built of.
+use Rattle.std.specs.Prelude.{ℕ, List, [], ◌∷◌, Option, Some, None}
+use Rattle.rpki_der.specs.Tags.{CONTEXT_CONSTRUCTED, SEQUENCE}
+use Rattle.rpki_der.specs.Values.Reading.{◌>>=◌, value_at}
+use Rattle.rpki_der.specs.Rows.Reading.{row_of}
+use Rattle.rpki_der.specs.Skipping.Reading.{captured_at}
+
+-- what stands before the last, and the last
+abbrev pub with_front : {X : Type 0} → X → Option (List X × X) → List X × X
+with_front x None = ([], x)
+with_front x (Some (front, last)) = (x ∷ front, last)
+
+abbrev pub split_last : {X : Type 0} → List X → Option (List X × X)
+split_last [] = None
+split_last (x ∷ xs) = Some (with_front x (split_last xs))
+
+-- the values that stand inside the two tags of extensions
+unfoldable pub row_in : List ℕ → Option (List (List ℕ))
+row_in value = do
+  tagged ← value_at (CONTEXT_CONSTRUCTED 3) value
+  row ← value_at SEQUENCE tagged.0
+  row_of captured_at row.0
+
+-- the values before the extensions, the extensions, and what stands behind the TBSCertificate
+unfoldable pub parts_at : List ℕ → Option (List (List ℕ) × (List (List ℕ) × List ℕ))
+parts_at octets = do
+  whole ← value_at SEQUENCE octets
+  tbs ← value_at SEQUENCE whole.0
+  values ← row_of captured_at tbs.0
+  split ← split_last values
+  row ← row_in split.1
+  Some (split.0, (row, tbs.1))

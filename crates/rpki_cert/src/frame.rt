@@ -1,0 +1,185 @@
+//! What a certificate is built of.
+ghost use Rattle.std.specs.Prelude.{◌≡◌, ◌^◌, ◌<◌, ◌++◌, ℕ, List, [], ◌∷◌, length, OnOk, IsOk, IfOk, IfErr, option_map};
+ghost use Rattle.std.specs.List.{concat};
+ghost use Rattle.rpki_der.specs.Tags.{CONTEXT_CONSTRUCTED, SEQUENCE};
+ghost use Rattle.rpki_der.specs.Values.{enc, nested};
+ghost use Rattle.rpki_der.specs.Writers.{SaysLong};
+ghost use Rattle.rpki_der.specs.Place.{Place, left, Refuses};
+ghost use Rattle.rpki_der.specs.Place.Reading.{ReturnsOrMemory, ReturnsOrMemoryBy};
+ghost use Rattle.rpki_der.specs.Rows.Reading.{row_of};
+ghost use Rattle.rpki_der.specs.Skipping.Reading.{captured_at};
+ghost use Rattle.rpki_der.specs.Spelling.{Means};
+ghost use Rattle.rpki_cert.specs.Certificates.{CertFields, IsCertificate};
+ghost use Rattle.rpki_cert.specs.Rearranging.{BeginsWith, IsRefused, tbs_content_with, content_with};
+ghost use Rattle.rpki_cert.specs.Rearranging.Reading.{row_in, parts_at, split_last};
+ghost use Rattle.rpki_cert.specs.declared.extra.Extra.{Extra};
+
+use crate::cert::Cert;
+use crate::rearrange_error::RearrangeError;
+use bytes::Bytes;
+use rpki_der::{Cursor, DecodeError, EncodeError, Piece, put_value, tag};
+use std::alloc::{AllocError, Global};
+use std::marker::Model;
+
+/// What a certificate is built of: the values before its extensions, the extensions, each as it stands, and what stands behind its
+/// TBSCertificate (RFC 5280 4.1).
+#[derive(Drop)]
+pub(crate) struct Frame {
+    pub(crate) before: Vec<Piece>,
+    pub(crate) extensions: Vec<Piece>,
+    pub(crate) behind: Piece,
+}
+
+impl Model for Frame {
+    ghost use Rattle.rpki_cert.specs.Rearranging.{Parts};
+
+    ghost Value = { Parts };
+
+    ghost view = { λ f. record { before = f.before.items; old = f.extensions.items; behind = f.behind } };
+}
+
+// One value more.
+fn push(values: &mut Vec<Piece>, value: Piece) -> Result<(), AllocError>
+    ensures { OnOk result (values.new.items ≡ values.old.items ++ value ∷ []) }
+{
+    values.push(value)?;
+    Ok(())
+}
+
+// The values that the octets are a row of.
+fn values_in(alloc: Global, mut row: Cursor<'_>) -> Result<Vec<Piece>, DecodeError>
+    ensures { ReturnsOrMemoryBy (λ v. v.items) result (row_of captured_at (left row.entry)) }
+{
+    let mut values = Vec::new(alloc);
+    while !row.is_empty() {
+        let value = row.capture_one(alloc)?;
+        push(&mut values, value)?;
+    }
+    Ok(values)
+}
+
+// The values before the last, and the last.
+fn without_last(mut values: Vec<Piece>) -> Option<(Vec<Piece>, Piece)>
+    ensures { option_map (λ x. (x.0.items, x.1)) result ≡ split_last values.items }
+{
+    let last = values.pop()?;
+    Some((values, last))
+}
+
+// The extensions that stand inside the two tags of a value.
+#[tactic(auto, unfolding(crate::specs::Rearranging::Reading::row_in))]
+fn extensions_in(alloc: Global, value: &Piece) -> Result<Vec<Piece>, DecodeError>
+    ensures { ReturnsOrMemoryBy (λ v. v.items) result (row_in value.now) }
+{
+    let mut tagged = value.cursor().take_value(tag::CONTEXT_CONSTRUCTED + 3)?;
+    let row = tagged.take_sequence()?;
+    values_in(alloc, row)
+}
+
+// What the certificate at the beginning of the octets is built of, by the reading function.
+#[tactic(auto, unfolding(crate::specs::Rearranging::Reading::parts_at))]
+fn read(alloc: Global, octets: &Bytes) -> Result<Frame, DecodeError>
+    ensures { ReturnsOrMemoryBy (λ f. (f.before, (f.old, f.behind))) result (parts_at octets.now) }
+{
+    let mut content = Cursor::new(octets).take_sequence()?;
+    let tbs = content.take_sequence()?;
+    let behind = content.capture_rest(alloc)?;
+    let values = values_in(alloc, tbs)?;
+    let Some((before, last)) = without_last(values) else {
+        return Err(DecodeError::Truncated);
+    };
+    let extensions = extensions_in(alloc, &last)?;
+    Ok(Frame {
+        before,
+        extensions,
+        behind,
+    })
+}
+
+// What the certificate at the beginning of the octets is built of.
+fn certificate_frame(alloc: Global, octets: &Bytes) -> Result<Frame, DecodeError>
+    ensures ok { IfOk result (λ frame. BeginsWith octets.now frame) }
+    ensures refused { IfErr result (λ e. Refuses e
+        ((c : CertFields) → Means IsCertificate c octets.now → ⊥)) }
+{
+    let cert = Cert::decode_shared(alloc, octets.clone()?)?;
+    drop(cert);
+    read(alloc, octets)
+}
+
+/// What the certificate that the octets begin with is built of. Errs with `NoCertificate` where they begin with none, or with `Memory`.
+pub(crate) fn frame_of(alloc: Global, octets: &[u8]) -> Result<Frame, RearrangeError>
+    ensures ok { IfOk result (λ frame. BeginsWith octets.now frame) }
+    ensures refused { IfErr result (λ e. (order : List ℕ) (extras : List Extra)
+        → IsRefused octets.now order extras e) }
+{
+    let octets = Bytes::copy_from_slice(alloc, octets)?;
+    Ok(certificate_frame(alloc, &octets)?)
+}
+
+// The octets of the pieces, one after the other.
+#[tactic(auto, using(crate::proofs::RowsMade::concat_more))]
+fn concatenated(alloc: Global, pieces: &[Piece]) -> Result<Vec<u8>, AllocError>
+    ensures { IfOk result (λ octets. octets.items ≡ concat pieces.now) }
+{
+    let mut octets = Vec::new(alloc);
+    for piece in pieces {
+        octets.extend_from_slice(piece.as_bytes())?;
+    }
+    Ok(octets)
+}
+
+// Appends the row inside the two tags of extensions.
+fn put_row(alloc: Global, row: &[u8], out: &mut Vec<u8>) -> Result<(), EncodeError>
+    ensures ok { OnOk result (out.new.items ≡ out.old.items
+        ++ nested (CONTEXT_CONSTRUCTED 3 ∷ SEQUENCE ∷ []) row.now) }
+    ensures too_long { SaysLong result (nested (CONTEXT_CONSTRUCTED 3 ∷ SEQUENCE ∷ []) row.now) }
+{
+    let mut sequence = Vec::new(alloc);
+    put_value(&mut sequence, tag::SEQUENCE, row)?;
+    put_value(out, tag::CONTEXT_CONSTRUCTED + 3, &sequence)
+}
+
+impl Frame {
+    /// How many extensions there are.
+    pub(crate) fn count(&self) -> usize
+        ensures { result ≡ length self.now.old }
+    {
+        self.extensions.len()
+    }
+
+    // What stands inside the SEQUENCE of the TBSCertificate with the octets of another row.
+    fn tbs_content(&self, alloc: Global, row: &[u8]) -> Result<Vec<u8>, EncodeError>
+        ensures ok { IfOk result (λ content. content.items ≡ tbs_content_with row.now self.now) }
+        ensures too_long { SaysLong result (tbs_content_with row.now self.now) }
+    {
+        let mut content = concatenated(alloc, &self.before)?;
+        put_row(alloc, row, &mut content)?;
+        Ok(content)
+    }
+
+    // What stands inside the SEQUENCE of the certificate with the octets of another row.
+    fn content(&self, alloc: Global, row: &[u8]) -> Result<Vec<u8>, EncodeError>
+        ensures ok { IfOk result (λ content. content.items ≡ content_with row.now self.now) }
+        ensures too_long { SaysLong result (content_with row.now self.now) }
+    {
+        let tbs_content = self.tbs_content(alloc, row)?;
+        let mut content = Vec::new(alloc);
+        put_value(&mut content, tag::SEQUENCE, &tbs_content)?;
+        content.extend_from_slice(self.behind.as_bytes())?;
+        Ok(content)
+    }
+
+    /// The certificate with the octets of another row of extensions. Answers `TooLong` where its content would have 2^32 octets or more.
+    pub(crate) fn with_row(&self, alloc: Global, row: &[u8]) -> Result<Vec<u8>, EncodeError>
+        ensures ok { IfOk result
+            (λ answer. answer.items ≡ enc SEQUENCE (content_with row.now self.now)) }
+        ensures fits { IsOk result → length (content_with row.now self.now) < 2 ^ 32 }
+        ensures too_long { SaysLong result (content_with row.now self.now) }
+    {
+        let content = self.content(alloc, row)?;
+        let mut answer = Vec::new(alloc);
+        put_value(&mut answer, tag::SEQUENCE, &content)?;
+        Ok(answer)
+    }
+}

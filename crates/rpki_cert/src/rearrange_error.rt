@@ -1,0 +1,81 @@
+//! Why a certificate isn't rearranged.
+ghost use Rattle.std.specs.Prelude.{◌≡◌};
+
+use rpki_der::{DecodeError, EncodeError};
+use std::alloc::AllocError;
+use thiserror::Error;
+
+/// Why a certificate isn't rearranged (own).
+#[derive(Debug, Drop, Error)]
+pub enum RearrangeError {
+    /// No beginning of the octets is a certificate.
+    #[error("no certificate")]
+    NoCertificate,
+    /// The order doesn't name each extension once, or an extension is to be added behind a place that isn't there.
+    #[error("not an order of the extensions")]
+    NotAnOrder,
+    /// An extension to be added is of a kind that readers know.
+    #[error("added extension of a known kind")]
+    KnownExtra,
+    /// A content would have 2^32 octets or more.
+    #[error("content too long")]
+    TooLong,
+    #[error("out of memory")]
+    Memory,
+}
+
+impl RearrangeError {
+    ghost use Rattle.rpki_cert.specs.RearrangeErrors.{rearrange_error_name};
+
+    /// Gives the variant's name.
+    pub fn name(&self) -> &'static str
+        ensures { result.now ≡ rearrange_error_name self.now }
+    {
+        match self {
+            RearrangeError::NoCertificate => "NoCertificate",
+            RearrangeError::NotAnOrder => "NotAnOrder",
+            RearrangeError::KnownExtra => "KnownExtra",
+            RearrangeError::TooLong => "TooLong",
+            RearrangeError::Memory => "Memory",
+        }
+    }
+}
+
+impl From<DecodeError> for RearrangeError {
+    ghost use Rattle.rpki_cert.specs.RearrangeErrors.{of_reading};
+
+    ghost from_gives = { λ d e. e ≡ of_reading d };
+
+    fn from(error: DecodeError) -> RearrangeError {
+        match error {
+            DecodeError::Memory => RearrangeError::Memory,
+            other => {
+                drop(other);
+                RearrangeError::NoCertificate
+            }
+        }
+    }
+}
+
+impl From<EncodeError> for RearrangeError {
+    ghost use Rattle.rpki_cert.specs.RearrangeErrors.{of_writing};
+
+    ghost from_gives = { λ d e. e ≡ of_writing d };
+
+    fn from(error: EncodeError) -> RearrangeError {
+        match error {
+            EncodeError::TooLong => RearrangeError::TooLong,
+            EncodeError::Memory => RearrangeError::Memory,
+        }
+    }
+}
+
+impl From<AllocError> for RearrangeError {
+    ghost use Rattle.rpki_cert.specs.declared.rearrange_error.RearrangeError.TheVariants.{Memory};
+
+    ghost from_gives = { λ _ e. e ≡ Memory };
+
+    fn from(_error: AllocError) -> RearrangeError {
+        RearrangeError::Memory
+    }
+}

@@ -1,0 +1,109 @@
+//! Certificates whose extensions are set in another order, with others among them.
+ghost use Rattle.std.specs.Prelude.{◌≡◌, ◌↔◌, ◌^◌, ◌<◌, ◌++◌, ℕ, List, length, IsTrue, IsOk, IfOk, IfErr};
+ghost use Rattle.std.specs.List.{AllByRecursion, concat};
+ghost use Rattle.rpki_der.specs.Primitives.{IsOid};
+ghost use Rattle.rpki_der.specs.Tags.{SEQUENCE};
+ghost use Rattle.rpki_der.specs.Values.{AreOctets, enc};
+ghost use Rattle.rpki_der.specs.Writers.{SaysLong};
+ghost use Rattle.rpki_cert.specs.Rearranged.{IsRearrangement};
+ghost use Rattle.rpki_cert.specs.Rearranging.{IsPlan, IsRearranged, IsRefused, content_with, new_row};
+
+use crate::extra::{Extra, are_placed, are_unknown};
+use crate::frame::{Frame, frame_of};
+use crate::order::is_order;
+use crate::rearrange_error::RearrangeError;
+use crate::row::{gathered, row_octets};
+use rpki_der::{EncodeError, Piece};
+use std::alloc::{AllocError, Global};
+
+// Whether the order names each of so many places once, and each extension is to be added at one of them or behind the last.
+fn is_plan(
+    alloc: Global,
+    order: &[usize],
+    extras: &[Extra],
+    count: usize,
+) -> Result<bool, AllocError>
+    ensures { IfOk result (λ yes. IsTrue yes ↔ IsPlan count order.now extras.now) }
+{
+    if !is_order(alloc, order, count)? {
+        return Ok(false);
+    }
+    Ok(are_placed(extras, count))
+}
+
+// The octets of the new row.
+fn make_row(
+    alloc: Global,
+    order: &[usize],
+    extras: &[Extra],
+    old: &[Piece],
+) -> Result<Vec<u8>, EncodeError>
+    requires { IsPlan (length old.now) order.now extras.now }
+    ensures ok { IfOk result
+        (λ row. row.items ≡ concat (new_row order.now extras.now old.now)) }
+    ensures valid { IfOk result (λ row. AllByRecursion (λ x. IsOid x.oid) extras.now) }
+    ensures too_long { SaysLong result (concat (new_row order.now extras.now old.now)) }
+{
+    let places = gathered(alloc, extras, old.len())?;
+    Ok(row_octets(alloc, order, &places, old)?)
+}
+
+// Octets are below 256. Called for what it ensures alone.
+fn known(octets: &[u8])
+    ensures { AreOctets octets.now }
+{
+    let _octets = octets;
+}
+
+// The certificate with the new row.
+fn make(
+    alloc: Global,
+    frame: &Frame,
+    order: &[usize],
+    extras: &[Extra],
+) -> Result<Vec<u8>, EncodeError>
+    requires { IsPlan (length frame.now.old) order.now extras.now }
+    ensures ok { let row = concat (new_row order.now extras.now frame.now.old) in IfOk result
+        (λ answer. answer.items ≡ enc SEQUENCE (content_with row frame.now)) }
+    ensures fits { let row = concat (new_row order.now extras.now frame.now.old) in
+        IsOk result → length (content_with row frame.now) < 2 ^ 32 }
+    ensures valid { IfOk result (λ answer. AllByRecursion (λ x. IsOid x.oid) extras.now) }
+    ensures octets { IfOk result (λ answer. AreOctets answer.items) }
+    ensures too_long { let row = concat (new_row order.now extras.now frame.now.old) in
+        SaysLong result (content_with row frame.now) }
+{
+    let row = make_row(alloc, order, extras, &frame.extensions)?;
+    let answer = frame.with_row(alloc, &row)?;
+    known(&answer);
+    Ok(answer)
+}
+
+/// Sets the extensions of the certificate that the octets begin with in another order, and adds others among them: at each place stands the old extension
+/// that the order names, just before it those that are added there, and last those that are added behind the last. Enclosing lengths are restated, the
+/// signature's value stays, and what followed the certificate is dropped (own). Errs with the first of these that holds: `NoCertificate` where no beginning of
+/// the octets is a certificate, `NotAnOrder` where the order doesn't name each extension once or an added one is to stand behind a place that isn't there,
+/// `KnownExtra` where an added one is of a kind that readers know, `TooLong` where a content would have 2^32 octets or more; or with `Memory`.
+pub fn rearrange(
+    alloc: Global,
+    octets: &[u8],
+    order: &[usize],
+    extras: &[Extra],
+) -> Result<Vec<u8>, RearrangeError>
+    ensures ok { IfOk result
+        (λ answer. IsRearranged octets.now order.now extras.now answer.items) }
+    ensures rearrangement { IfOk result (λ answer. (front : List ℕ) × (rest : List ℕ)
+        × (octets.now ≡ front ++ rest) × IsRearrangement front answer.items) }
+    ensures refused { IfErr result (IsRefused octets.now order.now extras.now) }
+{
+    let frame = frame_of(alloc, octets)?;
+    if !is_plan(alloc, order, extras, frame.count())? {
+        return Err(RearrangeError::NotAnOrder);
+    }
+    if !are_unknown(extras) {
+        return Err(RearrangeError::KnownExtra);
+    }
+    match make(alloc, &frame, order, extras) {
+        Ok(answer) => Ok(answer),
+        Err(error) => Err(RearrangeError::from(error)),
+    }
+}
