@@ -23,6 +23,9 @@
 //!   anchor down, which are accepted; MODE is `strict` or `lenient`.
 //! - `path MODE YYYYMMDDhhmmss ta:HEX ca:HEX .. ee:HEX`: a whole path; the leaf may be absent, or
 //!   `detached:HEX`.
+//! - `rearrange HEX ORDER EXTRAS`: a certificate with its extensions in another order and others
+//!   among them; ORDER is places, as `2,0,1`, and EXTRAS are `PLACE:IDENTIFIER:CONTENT`, with
+//!   commas between, each `-` where there are none.
 //! - `revocation YYYYMMDDhhmmss MODE STORE ta:HEX ca:HEX .. ee:HEX`: the same, where the lists of a
 //!   store are asked; STORE is URI:LIST;URI:LIST;.., each in HEX, as they are pushed, or `-`.
 //!   `cached=same`: a store that caches serial numbers gives the same answer.
@@ -95,6 +98,7 @@ mod lists;
 mod making;
 mod parts;
 mod paths;
+mod rearranging;
 mod revocation;
 mod rows;
 mod running;
@@ -157,6 +161,8 @@ fn of_several(words: &Words<'_>, out: &mut Answer) -> bool {
         shared(words, out);
     } else if words.is(0, "cut") {
         lists::cut(words, out);
+    } else if words.is(0, "rearrange") {
+        rearranging::rearrange(words, out);
     } else if words.is(0, "path") {
         paths::path(words, out);
     } else if words.is(0, "revocation") {
