@@ -192,5 +192,8 @@ pub fn certificate(page: &mut Page, cert: &Cert, now: Time, strict: bool) {
     places(page, data);
     resources(page, data);
     profiles(page, cert, strict);
-    page.line("Signature", "not checked here (`rpki validate` checks those of a path)");
+    page.line(
+        "Signature",
+        "not checked here (`rpki validate` checks those of a path)",
+    );
 }

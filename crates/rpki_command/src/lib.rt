@@ -22,11 +22,11 @@ use files::{Object, read_object};
 use path::Question;
 use rpki::repository::x509::Time;
 use showing::{Options, shown};
-use std::process::ExitCode;
+use std::fs;
 use std::io::Read;
+use std::process::ExitCode;
 use std::rt::Clock;
 use std::time::{SystemTime, UNIX_EPOCH};
-use std::fs;
 
 const USAGE: &str = "usage: rpki show [-j|--json] [--all] [--at MOMENT] [--lenient] FILE..
        rpki validate [-j|--json] [--crl FILE].. [--at MOMENT] [--lenient] ANCHOR [CA].. [LAST]
@@ -53,7 +53,10 @@ fn moment(rt: &impl Clock, at: Option<&str>) -> Result<Time> {
 fn octets_of(rt: &HostRuntime, name: &str) -> Result<Vec<u8>> {
     if name == "-" {
         let mut octets = Vec::new(rt.alloc());
-        let _count = rt.stdin().read_to_end(&mut octets).context("standard input")?;
+        let _count = rt
+            .stdin()
+            .read_to_end(&mut octets)
+            .context("standard input")?;
         return Ok(octets);
     }
     Ok(fs::read(rt, name).context(format_args!("{name}"))?)
@@ -69,10 +72,7 @@ fn objects<'a>(rt: &HostRuntime, names: &[&'a str]) -> Result<Vec<Object<'a>>> {
     Ok(all)
 }
 
-fn answer(
-    rt: &HostRuntime,
-    request: &Request<'_>,
-) -> Result<(String, bool)> {
+fn answer(rt: &HostRuntime, request: &Request<'_>) -> Result<(String, bool)> {
     let now = moment(rt, request.at)?;
     let files = objects(rt, &request.files)?;
     if request.task == Task::Show {

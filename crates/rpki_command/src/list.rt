@@ -59,5 +59,8 @@ pub fn list(page: &mut Page, it: &Crl, now: Time, all: bool) {
     }
     page.text(")\n");
     entries(page, data.revoked_certs(), all);
-    page.line("Signature", "not checked here (`rpki validate` checks those of a path)");
+    page.line(
+        "Signature",
+        "not checked here (`rpki validate` checks those of a path)",
+    );
 }

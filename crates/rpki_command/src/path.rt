@@ -99,8 +99,8 @@ fn store_for(
     list: Crl,
 ) -> Result<(), AllocError> {
     let data = member.as_tbs();
-    let is_issuers =
-        data.authority_key_identifier() == Some(*list.as_cert_list().authority_key_identifier());
+    let is_issuers = data.authority_key_identifier()
+        == Some(*list.as_cert_list().authority_key_identifier());
     let uri = match data.crl_uri() {
         Some(uri) if is_issuers => uri.try_clone(alloc)?,
         _ => {
@@ -317,10 +317,7 @@ fn with_router(
 
 /// Validates a path of files with real signatures, and with the revocation lists where some are given. Gives
 /// `None` where there is no file.
-pub fn judge(
-    alloc: Global,
-    question: &Question<'_, '_>,
-) -> Result<Option<Verdict>, AllocError> {
+pub fn judge(alloc: Global, question: &Question<'_, '_>) -> Result<Option<Verdict>, AllocError> {
     let store = store_of(alloc, question)?;
     let (path, router) = without_router(alloc, question.members, question.strict);
     let answer = validated_path(alloc, path, &store, question)?;

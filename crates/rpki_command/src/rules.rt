@@ -40,7 +40,10 @@ fn common(fault: InspectionError) -> Rule {
 fn of_authorities(fault: InspectionError) -> Rule {
     match fault {
         InspectionError::CaFlagFalse => {
-            meaning("Basic Constraints don't say that it is a CA", "RFC 6487 4.8.1")
+            meaning(
+                "Basic Constraints don't say that it is a CA",
+                "RFC 6487 4.8.1",
+            )
         }
         InspectionError::MissingBasicConstraints => {
             meaning("Basic Constraints are missing", "RFC 6487 4.8.1")
@@ -52,7 +55,10 @@ fn of_authorities(fault: InspectionError) -> Rule {
             meaning("the URI of the manifest is missing", "RFC 6487 4.8.8.1")
         }
         InspectionError::ManifestNotChild => {
-            meaning("the manifest stands outside the repository", "RFC 6487 4.8.8.1")
+            meaning(
+                "the manifest stands outside the repository",
+                "RFC 6487 4.8.8.1",
+            )
         }
         InspectionError::SignedObjectPresent => meaning(
             "the URI of a signed object must be absent",
@@ -153,13 +159,22 @@ pub fn of_verification(fault: &VerificationError) -> Rule {
             "RFC 6487 7.2",
         ),
         VerificationError::OverclaimV4 => {
-            meaning("it lists IPv4 addresses that its issuer doesn't hold", "RFC 6487 7.2")
+            meaning(
+                "it lists IPv4 addresses that its issuer doesn't hold",
+                "RFC 6487 7.2",
+            )
         }
         VerificationError::OverclaimV6 => {
-            meaning("it lists IPv6 addresses that its issuer doesn't hold", "RFC 6487 7.2")
+            meaning(
+                "it lists IPv6 addresses that its issuer doesn't hold",
+                "RFC 6487 7.2",
+            )
         }
         VerificationError::OverclaimAs => {
-            meaning("it lists AS numbers that its issuer doesn't hold", "RFC 6487 7.2")
+            meaning(
+                "it lists AS numbers that its issuer doesn't hold",
+                "RFC 6487 7.2",
+            )
         }
         VerificationError::Memory => meaning("out of memory", "no section"),
     }
@@ -168,7 +183,10 @@ pub fn of_verification(fault: &VerificationError) -> Rule {
 /// What a fault of revocation means.
 pub fn of_revocation(fault: &RevocationError) -> Rule {
     match fault {
-        RevocationError::NoCrl => meaning("its issuer's list isn't among those given", "RFC 6487 7.2"),
+        RevocationError::NoCrl => meaning(
+            "its issuer's list isn't among those given",
+            "RFC 6487 7.2",
+        ),
         RevocationError::WrongKeyId => meaning(
             "the list under its URI names another key than its issuer's",
             "RFC 6487 5",
