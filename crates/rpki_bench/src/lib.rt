@@ -7,6 +7,7 @@ ghost use Rattle.std.specs.Prelude.{◌≤◌};
 mod judging;
 mod lists;
 mod paths;
+mod signatures;
 
 use rpki_cert::Cert;
 use rpki_der::DecodeError;
