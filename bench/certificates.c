@@ -9,6 +9,7 @@ uint32_t rpki_decode(const unsigned char *octets, size_t len);
 uint32_t rpki_validate(const unsigned char *anchor, size_t anchor_len, const unsigned char *octets, size_t len, uint32_t validates, uint32_t rounds);
 uint32_t rpki_hash(const unsigned char *octets, size_t len, uint32_t rounds);
 uint32_t rpki_write(const unsigned char *octets, size_t len, uint32_t rounds);
+uint32_t rpki_rearrange(const unsigned char *octets, size_t len, uint32_t count, uint32_t rounds);
 
 enum { HASHES = 5000 };
 
@@ -42,10 +43,13 @@ int main(int argc, char **argv) {
         return 1;
     }
 
+    uint32_t extensions = 0;
+    while (extensions < 20 && rpki_rearrange(octets, len, extensions, 1) != 1) extensions++;
+
     size_t our_most, their_most;
     MOST(our_most, rpki_decode(octets, len));
     MOST(their_most, openssl_decode(octets, len));
-    double ours = 0, theirs = 0, writing = 0, anchors = 0, shared = 0, valid = 0, read = 0, hash = 0;
+    double ours = 0, theirs = 0, writing = 0, rearranging = 0, anchors = 0, shared = 0, valid = 0, read = 0, hash = 0;
     LEAST(ours, 1, rpki_decode(octets, len));
     LEAST(theirs, 1, openssl_decode(octets, len));
     uint32_t rounds = rounds_for(ours), their_rounds = rounds_for(theirs);
@@ -55,17 +59,20 @@ int main(int argc, char **argv) {
         LEAST(read, 1, rpki_hash(octets, len, 0));
         LEAST(hash, 1, rpki_hash(octets, len, HASHES));
         LEAST(writing, 1, rpki_write(octets, len, rounds));
+        LEAST(rearranging, 1, rpki_rearrange(octets, len, extensions, rounds));
         LEAST(anchors, 1, rpki_validate(anchor, anchor_len, octets, len, 0, 0));
         LEAST(shared, 1, rpki_validate(anchor, anchor_len, octets, len, 0, rounds));
         LEAST(valid, 1, rpki_validate(anchor, anchor_len, octets, len, 1, rounds));
     }
     hash = (hash - read) / HASHES;
     writing = (writing - read) / rounds;
+    rearranging /= rounds;
     valid = (valid - shared) / rounds;
     shared = (shared - anchors) / rounds;
     printf("%zu octets: Cert::decode %.0f ns, OpenSSL %.0f ns (%.1f times); memory %zu, OpenSSL %zu\n",
            len, ours, theirs, theirs / ours, our_most, their_most);
     printf("  TbsCert::encode_ref %.0f ns; Cert::decode_shared %.0f ns, validate_ca_at %.0f ns (%.2f of it), of which SHA-1 %.0f ns (%.2f without it)\n",
            writing, shared, valid, valid / shared, hash, (valid - hash) / shared);
+    printf("  rearrange of %u extensions %.0f ns (%.2f of Cert::decode)\n", extensions, rearranging, rearranging / ours);
     return 0;
 }

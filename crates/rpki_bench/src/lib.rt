@@ -7,6 +7,7 @@ ghost use Rattle.std.specs.Prelude.{◌≤◌};
 mod judging;
 mod lists;
 mod paths;
+mod rearranging;
 mod signatures;
 
 use rpki_cert::Cert;
