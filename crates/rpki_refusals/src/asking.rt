@@ -1,7 +1,7 @@
 //! Which call is asked for, where it begins and ends, and what it answered.
 
 use rpki_blocks::IssueError;
-use rpki_cert::{IssueCaError, ValidationError, VerificationError};
+use rpki_cert::{IssueCaError, RearrangeError, ValidationError, VerificationError};
 use rpki_der::{Cursor, DecodeError, EncodeError};
 use rpki_parts::{SigningError, UriError};
 use rpki_path::{PathError, PathFault, RunFault};
@@ -130,6 +130,12 @@ impl Fault for UriError {
 }
 
 impl Fault for VerificationError {
+    fn told(&self) -> &'static str {
+        self.name()
+    }
+}
+
+impl Fault for RearrangeError {
     fn told(&self) -> &'static str {
         self.name()
     }

@@ -3,7 +3,7 @@
 use crate::asking::{Asked, Told, begin, ended, plain, read, read_from, written};
 use crate::inputs::{ANCHOR, certificate, octets};
 use bytes::Bytes;
-use rpki_cert::{Cert, TbsCert, round_trip};
+use rpki_cert::{Cert, TbsCert, rearrange, round_trip};
 use rpki_der::Cursor;
 use std::alloc::Global;
 
@@ -114,6 +114,14 @@ fn data_copied(alloc: Global) -> Option<Told> {
     Some(Told::of(answer))
 }
 
+// The anchor with its seven extensions in reverse order.
+fn rearranged(alloc: Global) -> Option<Told> {
+    let octets = octets(alloc, ANCHOR)?;
+    begin(alloc);
+    let answer = rearrange(alloc, octets.as_slice(), &[6, 5, 4, 3, 2, 1, 0], &[]);
+    plain(alloc, answer)
+}
+
 fn reading(alloc: Global, asked: &mut Asked<'_>) -> Option<Told> {
     if asked.is("rpki_cert::Cert::decode") {
         decoded(alloc)
@@ -145,6 +153,8 @@ fn writing(alloc: Global, asked: &mut Asked<'_>) -> Option<Told> {
         data_written(alloc)
     } else if asked.is("rpki_cert::TbsCert::try_clone") {
         data_copied(alloc)
+    } else if asked.is("rpki_cert::rearrange") {
+        rearranged(alloc)
     } else {
         None
     }

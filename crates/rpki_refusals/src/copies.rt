@@ -2,6 +2,7 @@
 
 use crate::asking::{Asked, Told, begin, plain};
 use rpki_blocks::{Addr, AsBlock, Asn, Overclaim, Prefix};
+use rpki_crl::CrlEntry;
 use rpki_der::{Field, Serial};
 use rpki_ext::KeyUsage;
 use rpki_parts::{PublicKeyFormat, RpkiSignatureAlgorithm, Validity};
@@ -88,6 +89,12 @@ fn usage(alloc: Global) -> Option<Told> {
     plain(alloc, rpki_ext::comparing::copied_key_usage(&KeyUsage::Ca))
 }
 
+fn entry(alloc: Global) -> Option<Told> {
+    let entry = CrlEntry::new(Serial::from(12u64), day(2019)?);
+    begin(alloc);
+    plain(alloc, rpki_crl::comparing::copied_entry(&entry))
+}
+
 fn of_numbers(alloc: Global, asked: &mut Asked<'_>) -> Option<Told> {
     if asked.is("rpki_der::comparing::copied_serial") {
         serial(alloc)
@@ -121,6 +128,8 @@ fn of_parts(alloc: Global, asked: &mut Asked<'_>) -> Option<Told> {
         validity(alloc)
     } else if asked.is("rpki_ext::comparing::copied_key_usage") {
         usage(alloc)
+    } else if asked.is("rpki_crl::comparing::copied_entry") {
+        entry(alloc)
     } else {
         None
     }

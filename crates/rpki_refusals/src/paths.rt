@@ -1,9 +1,13 @@
 //! Whole paths, and the program.
 
 use crate::asking::{Asked, Told, begin, end, ended, plain};
-use crate::inputs::{FIRST, NUMBERS, OTHER, SECOND, SIGNING, december, locator, new_year, octets};
+use crate::inputs::{
+    FIRST, NUMBERS, OTHER, SECOND, SIGNING, december, list, locator, new_year, octets,
+};
+use rpki_crl::CrlStore;
 use rpki_parts::StandIn;
-use rpki_path::{Leaf, Watched, program, run, validate_path};
+use rpki_path::{Leaf, Watched, program, run, validate_path, validate_path_with};
+use rpki_samples::uri;
 use std::alloc::Global;
 use std::process::ExitCode;
 
@@ -51,8 +55,10 @@ fn ran(alloc: Global, input: &[u8], wanted: &[u8]) -> Option<Told> {
 
 fn ended_with(alloc: Global, input: &[u8], wanted: &[u8]) -> Option<Told> {
     let mut output = output(alloc)?;
+    let mut reader = Watched::new(input);
+    let mut writer = Watched::new(&mut output);
     begin(alloc);
-    let status = program(alloc, input, &mut output);
+    let status = program(alloc, &mut reader, &mut writer);
     end(alloc);
     let answer = if status == ExitCode::SUCCESS {
         "ok"
@@ -104,11 +110,38 @@ fn leaf_validated(alloc: Global) -> Option<Told> {
     plain(alloc, answer)
 }
 
+// The store holds the list, with the address that the first authority names for it.
+fn stored(alloc: Global, store: &mut CrlStore) -> Option<()> {
+    let under = uri(alloc, "rsync://example.com/m/p/x.crl")?;
+    store.push(under, list(alloc)?).ok()
+}
+
+fn validated_with(alloc: Global, store: &mut CrlStore) -> Option<Told> {
+    stored(alloc, store)?;
+    let now = new_year()?;
+    let anchor = octets(alloc, NUMBERS)?;
+    let cas = [octets(alloc, FIRST)?];
+    let tal = locator(alloc)?;
+    begin(alloc);
+    let answer = validate_path_with(alloc, store, &anchor, &cas, None, tal, true, now, &StandIn);
+    plain(alloc, answer)
+}
+
+// The path of the anchor and the first authority, whose serial isn't on the list.
+fn asked_validated(alloc: Global) -> Option<Told> {
+    let mut store = CrlStore::new(alloc);
+    let told = validated_with(alloc, &mut store);
+    drop(store);
+    told
+}
+
 fn of_paths(alloc: Global, asked: &mut Asked<'_>) -> Option<Told> {
     if asked.is("rpki_path::validate_path") {
         validated(alloc)
     } else if asked.is("rpki_path::validate_path/leaf") {
         leaf_validated(alloc)
+    } else if asked.is("rpki_path::validate_path_with") {
+        asked_validated(alloc)
     } else {
         None
     }
