@@ -8,17 +8,10 @@
 
 mod asking;
 mod blocks;
-mod certificates;
 mod copies;
 mod extensions;
-mod inputs;
-mod lists;
-mod making;
 mod parts;
-mod paths;
 mod setting;
-mod stores;
-mod validating;
 mod values;
 
 use asking::{Asked, Told};
@@ -33,13 +26,7 @@ fn told(alloc: Global, asked: &mut Asked<'_>) -> Option<Told> {
         .or(blocks::told(alloc, asked))
         .or(parts::told(alloc, asked))
         .or(extensions::told(alloc, asked))
-        .or(certificates::told(alloc, asked))
-        .or(making::told(alloc, asked))
         .or(setting::told(alloc, asked))
-        .or(validating::told(alloc, asked))
-        .or(lists::told(alloc, asked))
-        .or(stores::told(alloc, asked))
-        .or(paths::told(alloc, asked))
 }
 
 fn show(rt: &HostRuntime, asked: &Asked<'_>, told: Option<Told>) -> io::Result<ExitCode> {
