@@ -3,8 +3,7 @@
 use crate::asking::{Asked, Told, begin, plain, read, vector, written_digits};
 use bytes::Bytes;
 use rpki_der::{
-    Cursor, Oid, Piece, Serial, Time, oid, put_bits, put_bool, put_extension, put_oid, put_parts,
-    put_unsigned, put_value,
+    Cursor, Oid, Piece, Serial, Time, put_bits, put_bool, put_parts, put_unsigned, put_value,
 };
 use std::alloc::Global;
 
@@ -36,18 +35,6 @@ fn bits(alloc: Global) -> Option<Told> {
     let mut out = vector(alloc)?;
     let answer = put_bits(&mut out, 1, b"\x06");
     written_digits(alloc, answer, &out, "03020106")
-}
-
-fn identifier(alloc: Global) -> Option<Told> {
-    let mut out = vector(alloc)?;
-    let answer = put_oid(&mut out, oid::CE_BASIC_CONSTRAINTS);
-    written_digits(alloc, answer, &out, "0603551d13")
-}
-
-fn extension(alloc: Global) -> Option<Told> {
-    let mut out = vector(alloc)?;
-    let answer = put_extension(&mut out, oid::CE_BASIC_CONSTRAINTS, true, b"\x30\x00");
-    written_digits(alloc, answer, &out, "300c0603551d130101ff04023000")
 }
 
 fn serial(alloc: Global) -> Option<Told> {
@@ -104,10 +91,6 @@ fn putting(alloc: Global, asked: &mut Asked<'_>) -> Option<Told> {
         unsigned(alloc)
     } else if asked.is("rpki_der::put_bits") {
         bits(alloc)
-    } else if asked.is("rpki_der::put_oid") {
-        identifier(alloc)
-    } else if asked.is("rpki_der::put_extension") {
-        extension(alloc)
     } else {
         None
     }
