@@ -157,13 +157,162 @@ fn of_periods(rt: HostRuntime) {
     assert_shown(&rt, format!(in rt.alloc(); "{late}"), "expired");
 }
 
+fn assert_found(rt: &impl Abort, alloc: Global, faults: &[(InspectionError, &str, &str)]) {
+    for (fault, name, text) in faults {
+        assert_eq!(rt; fault.name(), *name);
+        assert_shown(rt, format!(in alloc; "{fault}"), text);
+    }
+}
+
 #[test]
-fn of_inspection(rt: HostRuntime) {
-    let (issuer, subject) = (InspectionError::Issuer, InspectionError::Subject);
-    assert_eq!(rt; issuer.name(), "Issuer");
-    assert_eq!(rt; subject.name(), "Subject");
-    assert_shown(&rt, format!(in rt.alloc(); "{issuer}"), "invalid issuer");
-    assert_shown(&rt, format!(in rt.alloc(); "{subject}"), "invalid subject");
+fn of_names_and_keys_inspected(rt: HostRuntime) {
+    let faults = [
+        (
+            InspectionError::AlgorithmMismatch,
+            "AlgorithmMismatch",
+            "signature algorithm mismatch",
+        ),
+        (InspectionError::Issuer, "Issuer", "invalid issuer"),
+        (InspectionError::Subject, "Subject", "invalid subject"),
+        (
+            InspectionError::KeyAlgorithm,
+            "KeyAlgorithm",
+            "invalid key algorithm",
+        ),
+        (
+            InspectionError::SubjectKeyIdentifier,
+            "SubjectKeyIdentifier",
+            "subject key identifier mismatch",
+        ),
+        (
+            InspectionError::ExtendedKeyUsagePresent,
+            "ExtendedKeyUsagePresent",
+            "extended key usage present",
+        ),
+        (
+            InspectionError::CaFlagFalse,
+            "CaFlagFalse",
+            "CA flag is false",
+        ),
+    ];
+    assert_found(&rt, rt.alloc(), &faults);
+}
+
+#[test]
+fn of_authorities_inspected(rt: HostRuntime) {
+    let faults = [
+        (
+            InspectionError::MissingBasicConstraints,
+            "MissingBasicConstraints",
+            "missing basic constraints",
+        ),
+        (InspectionError::KeyUsage, "KeyUsage", "wrong key usage"),
+        (
+            InspectionError::MissingCaRepository,
+            "MissingCaRepository",
+            "missing CA repository",
+        ),
+        (
+            InspectionError::MissingManifest,
+            "MissingManifest",
+            "missing manifest",
+        ),
+        (
+            InspectionError::ManifestNotChild,
+            "ManifestNotChild",
+            "manifest outside the repository",
+        ),
+        (
+            InspectionError::SignedObjectPresent,
+            "SignedObjectPresent",
+            "signed object present",
+        ),
+        (
+            InspectionError::AuthorityKeyIdentifier,
+            "AuthorityKeyIdentifier",
+            "authority key identifier mismatch",
+        ),
+    ];
+    assert_found(&rt, rt.alloc(), &faults);
+}
+
+#[test]
+fn of_end_entities_inspected(rt: HostRuntime) {
+    let faults = [
+        (
+            InspectionError::CrlUriPresent,
+            "CrlUriPresent",
+            "CRL URI present",
+        ),
+        (
+            InspectionError::CaIssuerPresent,
+            "CaIssuerPresent",
+            "CA issuer present",
+        ),
+        (
+            InspectionError::MissingCrlUri,
+            "MissingCrlUri",
+            "missing CRL URI",
+        ),
+        (
+            InspectionError::BasicConstraintsPresent,
+            "BasicConstraintsPresent",
+            "basic constraints present",
+        ),
+        (
+            InspectionError::CaRepositoryPresent,
+            "CaRepositoryPresent",
+            "CA repository present",
+        ),
+        (
+            InspectionError::ManifestPresent,
+            "ManifestPresent",
+            "manifest present",
+        ),
+        (
+            InspectionError::MissingSignedObject,
+            "MissingSignedObject",
+            "missing signed object",
+        ),
+    ];
+    assert_found(&rt, rt.alloc(), &faults);
+}
+
+#[test]
+fn of_routers_inspected(rt: HostRuntime) {
+    let faults = [
+        (
+            InspectionError::MissingExtendedKeyUsage,
+            "MissingExtendedKeyUsage",
+            "missing extended key usage",
+        ),
+        (
+            InspectionError::MissingRouterPurpose,
+            "MissingRouterPurpose",
+            "missing router purpose",
+        ),
+        (
+            InspectionError::SubjectInformationPresent,
+            "SubjectInformationPresent",
+            "subject information access present",
+        ),
+        (
+            InspectionError::IpResourcesPresent,
+            "IpResourcesPresent",
+            "IP resources present",
+        ),
+        (
+            InspectionError::MissingAsResources,
+            "MissingAsResources",
+            "missing AS resources",
+        ),
+        (
+            InspectionError::InheritedAsResources,
+            "InheritedAsResources",
+            "inherited AS resources",
+        ),
+    ];
+    assert_found(&rt, rt.alloc(), &faults);
 }
 
 fn assert_line(rt: &impl Abort, alloc: Global, error: &VerificationError, name: &str, text: &str) {

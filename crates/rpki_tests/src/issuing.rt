@@ -78,6 +78,16 @@ fn an_authority_is_issued(rt: HostRuntime) {
     drop(anchor);
 }
 
+#[test]
+fn a_validated_certificate_is_copied(rt: HostRuntime) {
+    let anchor = anchor(&rt, rt.alloc());
+    let copy = anchor.try_clone(rt.alloc()).expect(&rt, "memory");
+    drop(anchor);
+    assert!(rt; copy.as_resources().contains(Asn::from(1)));
+    assert!(rt; !copy.as_resources().contains(Asn::from(11)));
+    drop(copy);
+}
+
 fn name(answer: &Issued) -> &'static str {
     match answer {
         Err(IssueCaError::Validation(ValidationError::Verification(error))) => error.name(),

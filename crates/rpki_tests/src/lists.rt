@@ -1,7 +1,8 @@
 //! Revocation lists: from shared octets, fields that are set, and lists under their URIs.
 
+use bytes::Bytes;
 use rpki_crl::{Crl, CrlEntry, CrlStore, TbsCertList, round_trip};
-use rpki_der::Serial;
+use rpki_der::{Cursor, Serial};
 use rpki_parts::{RpkiSignatureAlgorithm, StandIn};
 use rpki_samples::uri;
 use std::alloc::Global;
@@ -60,6 +61,24 @@ fn the_number_of_a_list_is_set(rt: HostRuntime) {
     drop(list);
 }
 
+// That the octets are the data of the first of the two lists, which is number 1.
+fn assert_taken(rt: &impl Abort, alloc: Global, octets: &Bytes) {
+    let mut cursor = Cursor::new(octets);
+    let data = TbsCertList::take_from(alloc, &mut cursor).expect(rt, "the data of a list");
+    assert!(rt; cursor.is_empty());
+    assert!(rt; data.crl_number() == Serial::from(1u64));
+    assert!(rt; data.revoked_certs().contains(Serial::from(127u64)));
+    drop(data);
+}
+
+#[test]
+fn the_data_of_a_list_is_taken(rt: HostRuntime) {
+    let list = list(&rt, rt.alloc(), TWO);
+    let octets = Bytes::copy_from_slice(rt.alloc(), list.signed_data().data());
+    assert_taken(&rt, rt.alloc(), &octets.expect(&rt, "memory"));
+    drop(list);
+}
+
 fn push(rt: &impl Abort, alloc: Global, store: &mut CrlStore, under: &str, digits: &str) {
     let under = uri(alloc, under).expect(rt, "a URI");
     let pushed = store.push(under, list(rt, alloc, digits));
@@ -87,6 +106,16 @@ fn the_first_list_under_a_uri_is_found(rt: HostRuntime) {
             .is_none()
     );
     drop(store);
+}
+
+#[test]
+fn a_store_is_copied(rt: HostRuntime) {
+    let mut store = CrlStore::new(rt.alloc());
+    push(&rt, rt.alloc(), &mut store, "rsync://h/m/a.crl", TWO);
+    let copy = store.try_clone(rt.alloc()).expect(&rt, "memory");
+    drop(store);
+    assert_stored(&rt, rt.alloc(), &copy, "rsync://h/m/a.crl", TWO);
+    drop(copy);
 }
 
 /// The data of the list of the key `abc` with the entries 12 and 42, for ten years.
