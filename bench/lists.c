@@ -1,11 +1,9 @@
 // Nanoseconds of reading revocation lists and of looking serial numbers up in them, by this project and by OpenSSL, which makes the lists:
 // serial numbers of eight octets in a shuffled order.
 // usage: lists ENTRIES
+#include "list.h"
 #include "measure.h"
-#include <openssl/evp.h>
 #include <openssl/rsa.h>
-#include <openssl/x509.h>
-#include <openssl/x509v3.h>
 
 // crates/rpki_bench
 uint32_t rpki_list(const unsigned char *octets, size_t len, uint32_t rounds);
@@ -19,53 +17,10 @@ static struct asked {
 } mixed, ascending;
 static const uint64_t ABSENT[FEW];
 
-// the number in this place; the odd ones are on no list
-static uint64_t serial(uint32_t place) {
-    return 0x1B2C3D4E5F607182 + place * (uint64_t)0x8001;
-}
-
-static ASN1_INTEGER *integer(uint64_t n) {
-    ASN1_INTEGER *it = ASN1_INTEGER_new();
-    ASN1_INTEGER_set_uint64(it, n);
-    return it;
-}
-
-// the places from 0 on in a shuffled order
-static uint32_t *shuffled(uint32_t count) {
-    uint32_t *order = malloc((count + 1) * sizeof *order);
-    for (uint32_t i = 0; i < count; i++) order[i] = i;
-    for (uint32_t i = count; i > 1; i--) {
-        uint32_t j = (((uint32_t)rand() << 15) ^ rand()) % i, it = order[i - 1];
-        order[i - 1] = order[j];
-        order[j] = it;
-    }
-    return order;
-}
-
 static int make(uint32_t entries, unsigned char **octets) {
-    EVP_PKEY *key = EVP_RSA_gen(2048);
-    X509_CRL *crl = X509_CRL_new();
     X509_NAME *name = X509_NAME_new();
     X509_NAME_add_entry_by_txt(name, "CN", MBSTRING_ASC, (const unsigned char *)"9B7E1F2A6C0D4E5F8A3B2C1D0E9F8A7B6C5D4E3F", -1, -1, 0);
-    X509_CRL_set_version(crl, 1);
-    X509_CRL_set_issuer_name(crl, name);
-    ASN1_TIME *since = ASN1_TIME_set(NULL, 1556668800), *until = ASN1_TIME_set(NULL, 1872201600);
-    X509_CRL_set1_lastUpdate(crl, since);
-    X509_CRL_set1_nextUpdate(crl, until);
-    uint32_t *order = shuffled(entries);
-    for (uint32_t i = 0; i < entries; i++) {
-        X509_REVOKED *revoked = X509_REVOKED_new();
-        X509_REVOKED_set_serialNumber(revoked, integer(serial(2 * order[i])));
-        X509_REVOKED_set_revocationDate(revoked, since);
-        X509_CRL_add0_revoked(crl, revoked);
-    }
-    AUTHORITY_KEYID *id = AUTHORITY_KEYID_new();
-    id->keyid = ASN1_OCTET_STRING_new();
-    ASN1_OCTET_STRING_set(id->keyid, (const unsigned char *)"01234567890123456789", 20);
-    X509_CRL_add1_ext_i2d(crl, NID_authority_key_identifier, id, 0, X509V3_ADD_APPEND);
-    X509_CRL_add1_ext_i2d(crl, NID_crl_number, integer(12), 0, X509V3_ADD_APPEND);
-    X509_CRL_sign(crl, key, EVP_sha256());
-    return i2d_X509_CRL(crl, octets);
+    return make_list(entries, name, (const unsigned char *)"01234567890123456789", EVP_RSA_gen(2048), octets);
 }
 
 static void choose(struct asked *asked, uint32_t place, uint32_t at) {

@@ -4,7 +4,7 @@ root=$(cd "$(dirname "$0")/.." && pwd)
 here=$(mktemp -d)
 trap 'rm -rf "$here"' EXIT
 
-# the configuration of a certificate of this kind (anchor, ca or ee) and this name, but for its resources
+# the configuration of a certificate of this kind (anchor, ca or ee), this name and this issuer, but for its resources
 configuration() {
     manifest='1.3.6.1.5.5.7.48.10;URI = rsync://rpki.example.net/repository/member/B1b2C3d4E5f6G7h8I9j0/0/manifest.mft'
     cat <<END
@@ -27,7 +27,7 @@ sbgp-autonomousSysNum = critical, @numbers
 END
     [ "$1" = anchor ] || cat <<END
 authorityKeyIdentifier = keyid:always
-crlDistributionPoints = URI:rsync://rpki.example.net/repository/member/A1b2C3d4E5f6G7h8I9j0/A1b2C3d4E5f6G7h8I9j0.crl
+crlDistributionPoints = URI:rsync://rpki.example.net/repository/$3/A1b2C3d4E5f6G7h8I9j0/A1b2C3d4E5f6G7h8I9j0.crl
 authorityInfoAccess = caIssuers;URI:rsync://rpki.example.net/repository/anchor/A1b2C3d4E5f6G7h8I9j0.cer
 END
     if [ "$1" = ee ]; then
@@ -68,7 +68,7 @@ certificate() {
 
 # makes a certificate: NAME KIND ADDRESSES NUMBERS [ISSUER]
 member() {
-    { configuration "$2" "$(printf %s "$1" | openssl sha1 -r | cut -c 1-40)"; resources "$3" "$4"; } > "$here/$1.cnf"
+    { configuration "$2" "$(printf %s "$1" | openssl sha1 -r | cut -c 1-40)" "${5-}"; resources "$3" "$4"; } > "$here/$1.cnf"
     if [ $# -eq 5 ]; then certificate "$1" -CA "$here/$5.pem" -CAkey "$here/$5.key"; else certificate "$1"; fi
 }
 
