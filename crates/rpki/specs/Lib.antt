@@ -1,4 +1,5 @@
--- The definitions of all layers, handed on: a caller writes `ghost use Rattle.rpki.specs.Paths.{Holds};`. Behind those of a crate come the types that
+-- The definitions of all layers, handed on: a caller writes
+-- `ghost use Rattle.rpki.specs.Paths.{Holds};`. Behind those of a crate come the types that
 -- definitions of a caller's own may name.
 
 -- ---- values of DER

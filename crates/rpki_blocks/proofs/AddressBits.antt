@@ -10,6 +10,7 @@ use Rattle.std.proofs.Math.Nat.{mul-mod_left, mod-eq-zero_of_dvd, dvd_of_mod-eq-
 use Rattle.rpki_blocks.specs.Sets.{Block}
 use Rattle.rpki_blocks.specs.AddressBits.{greatest, zero_bits, one_bits, is_prefix, prefix_bits}
 
+-- the greatest number that passes does pass, where 0 does
 pub greatest_passes : (test : ℕ → Bool) (n : ℕ) → test 0 ≡ true → test (greatest test n) ≡ true
 unfolding greatest
 greatest_passes test zero h = h
@@ -19,6 +20,7 @@ greatest_passes test (suc n) h =
       | inr f ↦ let is : greatest test (suc n) ≡ greatest test n = rw f in subst (λ (k : ℕ). test k ≡ true) (sym is) (greatest_passes test n h)
     ]
 
+-- the greatest number that passes is within its bound
 pub greatest_le : (test : ℕ → Bool) (n : ℕ) → greatest test n ≤ n
 unfolding greatest
 greatest_le test zero = omega arith
@@ -28,6 +30,7 @@ greatest_le test (suc n) =
       | inr f ↦ let is : greatest test (suc n) ≡ greatest test n = rw f in omega (arith, is, greatest_le test n)
     ]
 
+-- the greatest number that passes isn't below another one that does
 pub greatest_above : (test : ℕ → Bool) (n k : ℕ) → test k ≡ true → k ≤ n → k ≤ greatest test n
 unfolding greatest
 greatest_above test zero k h le = le
@@ -42,6 +45,7 @@ greatest_above test (suc n) k h le =
           ]
     ]
 
+-- the greatest number that passes does pass, where any does
 pub greatest_found : (test : ℕ → Bool) (n k : ℕ) → test k ≡ true → k ≤ n → test (greatest test n) ≡ true
 unfolding greatest
 greatest_found test zero k h le = let same : k ≡ 0 = omega arith in subst (λ (j : ℕ). test j ≡ true) same h
@@ -107,9 +111,11 @@ power_order k j h =
 zero_test : (n k : ℕ) → n % 2 ^ k ≡ 0 → (n % 2 ^ k == 0) ≡ true
 zero_test n k h = eq-eqb _ _ h
 
+-- a number is divisible by the power of its zero bits
 pub zeros_divide : (n : ℕ) → n % 2 ^ zero_bits n ≡ 0
 zeros_divide n = eqb-true _ _ (greatest_passes (λ last. n % 2 ^ last == 0) 128 (zero_test n 0 (omega arith)))
 
+-- the number after it is divisible by the power of its one bits
 pub ones_divide : (n : ℕ) → (n + 1) % 2 ^ one_bits n ≡ 0
 ones_divide n = eqb-true _ _ (greatest_passes (λ last. (n + 1) % 2 ^ last == 0) 128 (zero_test (n + 1) 0 (omega arith)))
 
@@ -120,6 +126,7 @@ no_more n t j bit less h =
     let parts : (n / 2 ^ t % 2) * 2 ^ t + n % 2 ^ t ≡ 0 = sym (mod-pow-add n 1 t) ∙ here in
     omega (arith, pow_pos t, subst (λ (b : ℕ). b * 2 ^ t + n % 2 ^ t ≡ 0) bit parts)
 
+-- the zero bits are counted as the machine counts them
 pub trailing_zeros_are : (n : ℕ) → n < 2 ^ 128 → trailing_zeros w128 n ≡ zero_bits n
 trailing_zeros_are n small =
     elim (cases_lt 0 n) [
@@ -139,6 +146,7 @@ ones_turned n k small le =
     let down : 2 ^ 128 - 1 - n ≡ 2 ^ 128 - (n + 1) = omega arith in
     (λ h. ap (λ (m : ℕ). m % 2 ^ k) up ∙ divides_difference (2 ^ 128) (2 ^ 128 - 1 - n) (2 ^ k) whole h, λ h. ap (λ (m : ℕ). m % 2 ^ k) down ∙ divides_difference (2 ^ 128) (n + 1) (2 ^ k) whole h)
 
+-- the one bits are counted as the machine counts them
 pub trailing_ones_are : (n : ℕ) → n < 2 ^ 128 → trailing_ones w128 n ≡ one_bits n
 trailing_ones_are n small =
     let m : ℕ = 2 ^ 128 - 1 - n in
@@ -148,14 +156,17 @@ trailing_ones_are n small =
     let above = greatest_above (λ last. (2 ^ 128 - 1 - n) % 2 ^ last == 0) 128 j (zero_test (2 ^ 128 - 1 - n) j ((ones_turned n j small le).1 (eqb-true _ _ passes))) le in
     omega arith))
 
+-- an address has at most 128 zero bits
 pub zero_bits_le : (n : ℕ) → zero_bits n ≤ 128
 zero_bits_le n = greatest_le (λ last. n % 2 ^ last == 0) 128
 
+-- an address has at most 128 one bits
 pub one_bits_le : (n : ℕ) → one_bits n ≤ 128
 one_bits_le n = greatest_le (λ last. (n + 1) % 2 ^ last == 0) 128
 
 -- ---- prefixes
 
+-- the block is a prefix with so many last bits open
 pub record IsPrefixBy (b : Block) (last : ℕ) : Type 0 where
   pub zeros : b.min % 2 ^ last ≡ 0
   pub size : b.max + 1 ≡ b.min + 2 ^ last
@@ -166,6 +177,7 @@ prefix_parts b last h = let r = and_parts _ _ h in record { zeros = eqb-true _ _
 prefix_test : (b : Block) (last : ℕ) → IsPrefixBy b last → is_prefix b last ≡ true
 prefix_test b last p = and_from _ _ (eq-eqb _ _ p.zeros) (eq-eqb _ _ p.size)
 
+-- how many last bits may be open: zeros of the lower end and ones of the upper end
 abbrev pub foot : Block → ℕ
 foot b = min (zero_bits b.min) (one_bits b.max)
 
@@ -181,6 +193,7 @@ only_foot b last le p =
     let most = power_order (foot b) last (ap (λ (m : ℕ). m % 2 ^ foot b) (sym size) ∙ divides_difference (b.max + 1) b.min (2 ^ foot b) high low) in
     omega arith
 
+-- a block as large as its open bits is a prefix with these bits open
 pub prefix_yes : (b : Block) → b.min ≤ b.max → b.max - b.min ≡ 2 ^ foot b - 1 → (is_prefix b (prefix_bits b) ≡ true) × (prefix_bits b ≡ foot b)
 prefix_yes b order size =
     let most : foot b ≤ 128 = omega (arith, greatest_le (λ k. b.min % 2 ^ k == 0) 128) in
@@ -189,6 +202,7 @@ prefix_yes b order size =
     let first = greatest_found (is_prefix b) 128 (foot b) here most in
     (first, only_foot b (prefix_bits b) (greatest_le (is_prefix b) 128) (prefix_parts b _ first))
 
+-- a block of another size is no prefix
 pub prefix_no : (b : Block) → b.min ≤ b.max → (b.max - b.min ≡ 2 ^ foot b - 1 → ⊥) → is_prefix b (prefix_bits b) ≡ false
 prefix_no b order other =
     false_from_ne_true _ (λ h.

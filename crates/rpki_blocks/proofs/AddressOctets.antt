@@ -25,6 +25,7 @@ bytes_last (suc k) n =
     let top : byte_at (suc k) n ≡ byte_at k (n / 256) = ap (λ (i : ℕ). byte_at i n) e ∙ byte_above k 1 n in
     ap (λ (b : ℕ). b ∷ bytes_high_first (suc k) n) top ∙ ap (λ (bs : List ℕ). byte_at k (n / 256) ∷ bs) (bytes_last k n)
 
+-- octets of a number are its bytes with the highest first
 pub octets_are_bytes : (k n : ℕ) → octets_of k n ≡ bytes_high_first k n
 octets_are_bytes zero n = refl
 octets_are_bytes (suc k) n = ap (λ (bs : List ℕ). bs ++ (n % 256) ∷ []) (octets_are_bytes k (n / 256)) ∙ sym (bytes_last k n)
@@ -46,22 +47,25 @@ first_octets count last unused a few split =
 
 -- ---- the number of the octets
 
+-- a number in so many octets has so many
 pub length_octets_of : (count n : ℕ) → length (octets_of count n) ≡ count
 length_octets_of zero n = refl
 length_octets_of (suc count) n = omega (arith, length-append (octets_of count (n / 256)) ((n % 256) ∷ []), length_octets_of count (n / 256))
 
+-- the octets of a number stand for it
 pub number_octets_of : (count n : ℕ) → n < 2 ^ (8 * count) → number_from_digits 256 (octets_of count n) ≡ n
 number_octets_of zero n h = let e : n ≡ 0 = omega arith in sym e
 number_octets_of (suc count) n h =
     let small : n / 256 < 2 ^ (8 * count) = omega (arith, sym (octets_bits (suc count)) ∙ pow-suc 256 count ∙ ap (λ (k : ℕ). k * 256) (octets_bits count)) in
     number_push 256 (octets_of count (n / 256)) (n % 256) ∙ ap (λ (k : ℕ). k * 256 + n % 256) (number_octets_of count (n / 256) small) ∙ omega arith
 
+-- an address without its last bits is small
 pub front_small : (last address : ℕ) → last ≤ 128 → address < 2 ^ 128 → address / 2 ^ last < 2 ^ (128 - last)
 front_small last address most small =
     let split : 2 ^ 128 ≡ 2 ^ (128 - last) * 2 ^ last = let e : 128 ≡ 128 - last + last = omega arith in ap (λ (k : ℕ). 2 ^ k) e ∙ pow-add 2 (128 - last) last in
     div_below address (2 ^ last) (2 ^ (128 - last)) (pow_pos last) (subst (λ (k : ℕ). address < k) split small)
 
--- the bits that are left fill these octets
+-- the remaining bits fill these octets
 pub cut_small : (last address : ℕ) → last ≤ 128 → address < 2 ^ 128 → address / 2 ^ last * 2 ^ (8 * ((128 - last + 7) / 8) - (128 - last)) < 2 ^ (8 * ((128 - last + 7) / 8))
 cut_small last address most small =
     let up = shl_below (address / 2 ^ last) (128 - last) (8 * ((128 - last + 7) / 8) - (128 - last)) (front_small last address most small) in
@@ -74,6 +78,7 @@ pub record IsCut (last address : ℕ) (octets : List ℕ) : Type 0 where
   pub zero_bits : number_from_digits 256 octets % 2 ^ (8 * ((128 - last + 7) / 8) - (128 - last)) ≡ 0
   pub some : octets ≡ [] → 8 * ((128 - last + 7) / 8) - (128 - last) ≡ 0
 
+-- the first octets of an address are its front with unused bits
 pub cut_address : (last address : ℕ) → last ≤ 128 → address < 2 ^ 128 → IsCut last address (take ((128 - last + 7) / 8) (bytes_high_first 16 (address / 2 ^ last * 2 ^ last)))
 cut_address last address most small =
     let same = first_octets ((128 - last + 7) / 8) last (8 * ((128 - last + 7) / 8) - (128 - last)) (address / 2 ^ last) (omega arith) (omega arith) in

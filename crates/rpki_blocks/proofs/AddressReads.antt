@@ -39,6 +39,7 @@ address_is bits r b s =
 is_address : (bits : ℕ) (r : Block) (b : List ℕ) → IsIPAddress bits r b → Turned (prefix_of bits) IsBits r b
 is_address bits r b s = ((s.unused, s.octets), s.spelled, rw (le-ltb bits (8 * length s.octets) s.fits, s.is) refl)
 
+-- an IPAddress is read as it is encoded
 pub address_reads : (family : Family) → Reads (address_at family) (IsIPAddress (family_bits family))
 unfolding address_at
 address_reads family =
@@ -81,6 +82,7 @@ ip_element_reads family =
     (λ r text h. elim h [ inl s ↦ range_is (family_bits family) r text s | inr s ↦ inr s ])
     (λ r text h. is_element (family_bits family) r text h)
 
+-- reading an IPAddressOrRange uses octets up
 pub ip_element_shrinks : (family : Family) → Shrinks (ip_element_at family)
 unfolding ip_element_at address_at bits_at
 ip_element_shrinks family = content_or_shrinks SEQUENCE (address_range family) (address_at family) (turned_shrinks (prefix_of (family_bits family)) bits_at (content_shrinks BIT_STRING _))
@@ -218,6 +220,7 @@ families_in_reads =
     (λ f c s. let p = second_is s.0.0 s.0.1 f s.1.0 s.1.1 s.1.2 s.1.3 s.2 in (p.0, p.1, s.1.4 ∙ p.2))
     (λ f c s. rw s.2 (families_are f s.0 s.1))
 
+-- IPAddrBlocks are read as they are encoded
 pub ip_reads : Reads families_at IsIPAddrBlocks
 unfolding families_at
 ip_reads =

@@ -1,4 +1,4 @@
--- What is written of a block of addresses spells it.
+-- What is written of a block of addresses encodes it.
 use Rattle.std.specs.Int.Digits.{number_from_digits}
 use Rattle.std.specs.Prelude.{◌==◌}
 use Rattle.std.proofs.Common.{◌≡◌, ℕ, true, sym, subst, inl, inr, ◌≤◌, arith, ◌∙◌, ◌-◌, ◌/◌, ◌%◌, [], ◌∷◌, length, ◌+◌, ◌*◌, ◌^◌, ap, ◌<◌, List}
@@ -86,6 +86,7 @@ ones_by n p a b r small first second =
 ones_are : (n last : ℕ) → (n + 1) % 2 ^ last ≡ 0 → n / 2 ^ last * 2 ^ last + 2 ^ last - 1 ≡ n
 ones_are n last h = ones_by n (2 ^ last) (n / 2 ^ last) ((n + 1) / 2 ^ last) (n % 2 ^ last) (mod-lt n (pow_pos last)) (mod-add-div n (2 ^ last)) (omega (arith, mod-add-div (n + 1) (2 ^ last), h))
 
+-- what is written of a block of addresses of a width encodes it, if short
 pub ip_block_made : (width : ℕ) → 8 * ((width + 7) / 8) ≤ width → (P : Block → Type 0) → ((b : Block) → P b → (128 ≤ width + zero_bits b.min) × (128 ≤ width + one_bits b.max) × (is_prefix b (prefix_bits b) ≡ true → 128 ≤ width + prefix_bits b)) → (b : Block) → P b → b.min ≤ b.max → b.max < 2 ^ 128 → Short (ip_block b) → IsIPAddressOrRange width b (ip_block b)
 ip_block_made width whole P wide b p order small short =
     elim (bool_cases (is_prefix b (prefix_bits b))) [
@@ -123,6 +124,7 @@ ip_block_made width whole P wide b p order small short =
 pub v6_block_made : (b : Block) → b.min ≤ b.max → b.max < 2 ^ 128 → Short (ip_block b) → IsIPAddressOrRange 128 b (ip_block b)
 v6_block_made b order small short = ip_block_made 128 (omega arith) (λ b. Unit {0}) (λ b p. (omega arith, omega arith, λ t. omega arith)) b tt order small short
 
+-- the block is one of whole IPv4 addresses
 record IsV4Block (b : Block) : Type 0 where
   zeros : b.min % 2 ^ 96 ≡ 0
   ones : (b.max + 1) % 2 ^ 96 ≡ 0
@@ -150,6 +152,7 @@ v4_size m n k zeros ones size =
       | inr le ↦ le
     ]
 
+-- what is written of a block of IPv4 addresses encodes it, if short
 pub v4_block_made : (b : Block) → is_v4_block b ≡ true → b.min ≤ b.max → b.max < 2 ^ 128 → Short (ip_block b) → IsIPAddressOrRange 32 b (ip_block b)
 v4_block_made b v4 order small short =
     ip_block_made 32 (omega arith) IsV4Block (λ b p. (omega (arith, v4_zeros b.min p.zeros), omega (arith, v4_ones b.max p.ones), λ t. omega (arith, v4_size b.min b.max (prefix_bits b) p.zeros p.ones (eqb-true _ _ (and_parts _ _ t).1)))) b (v4_parts b v4) order small short

@@ -8,17 +8,20 @@ use Rattle.rpki_blocks.specs.Sets.{Block}
 use Rattle.rpki_blocks.specs.Prefixes.{IsPrefixBlock}
 use Rattle.rpki_blocks.specs.Addresses.{lower, upper}
 
+-- n octets are 8n bits
 pub octets_bits : (n : ℕ) → 256 ^ n ≡ 2 ^ (8 * n)
 octets_bits zero = refl
 octets_bits (suc n) =
     let more : 8 * suc n ≡ 8 * n + 8 = omega arith in
     pow-suc 256 n ∙ ap (λ (k : ℕ). k * 256) (octets_bits n) ∙ sym (pow-add 2 (8 * n) 8) ∙ ap (λ (k : ℕ). 2 ^ k) (sym more)
 
+-- a number of at most 15 octets is below 2^120
 pub room : (n i : ℕ) → n < 256 ^ i → i < 16 → n < 2 ^ 120
 room n i l m =
     let some : 2 ^ (8 * i) ≤ 2 ^ 120 = pow_mono {i = 8 * i} {j = 120} (omega arith) in
     omega (arith, octets_bits i)
 
+-- octets moved to the upper end of an address fit in it
 pub shift_fits : (n len : ℕ) → n < 256 ^ len → len ≤ 16 → n * 2 ^ (128 - 8 * len) < 2 ^ 128
 shift_fits n len l m =
     let split : 8 * len + (128 - 8 * len) ≡ 128 = omega arith in
@@ -39,6 +42,7 @@ module _ (unused : ℕ) (octets : List ℕ) (few : unused < 8) (none : octets �
   unused_fits [] e = omega (arith, none (sym e))
   unused_fits (o ∷ os) e = omega arith
 
+  -- the unused bits are no more than the octets have
   pub bits_used : unused ≤ 8 * length octets
   bits_used = unused_fits octets refl
 

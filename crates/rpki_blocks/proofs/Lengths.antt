@@ -22,15 +22,18 @@ content_longer id (Some c) = omega (arith, enc_longer OCTET_STRING c, length-app
 
 -- ---- contents are longer than their parts
 
+-- NULL is the value of its tag without content
 pub null_is_enc : enc NULL [] ≡ null
 unfolding enc length_octets
 null_is_enc = refl
 
+-- ASIdentifiers aren't shorter than the choice inside
 pub choice_longer : (r : Resources) → length (text_of (written_choice as_block r)) ≤ length (text_of (written_as r))
 choice_longer missing = omega arith
 choice_longer inherit = omega (arith, enc_longer SEQUENCE (enc (CONTEXT_CONSTRUCTED 0) null), enc_longer (CONTEXT_CONSTRUCTED 0) null)
 choice_longer (blocks bs) = omega (arith, enc_longer SEQUENCE (enc (CONTEXT_CONSTRUCTED 0) (sequence (map as_block bs))), enc_longer (CONTEXT_CONSTRUCTED 0) (sequence (map as_block bs)))
 
+-- ASIdentifiers aren't shorter than the tagged choice inside
 pub numbers_longer : (r : Resources) → r ≢ missing → length (enc (CONTEXT_CONSTRUCTED 0) (text_of (written_choice as_block r))) ≤ length (text_of (written_as r))
 numbers_longer missing some = absurd (some refl)
 numbers_longer inherit some = enc_longer SEQUENCE (enc (CONTEXT_CONSTRUCTED 0) null)
@@ -47,15 +50,18 @@ family_longer n r some =
     let c = text_of (written_choice ip_block r) in
     omega (arith, ap length (family_is n r some), enc_longer SEQUENCE ((OCTET_STRING ∷ 2 ∷ 0 ∷ n ∷ []) ++ (text_of (written_choice ip_block r) ++ [])), length-append (OCTET_STRING ∷ 2 ∷ 0 ∷ n ∷ []) (text_of (written_choice ip_block r) ++ []), length-append (text_of (written_choice ip_block r)) [], length-append (enc SEQUENCE ((OCTET_STRING ∷ 2 ∷ 0 ∷ n ∷ []) ++ (text_of (written_choice ip_block r) ++ []))) [])
 
+-- a SEQUENCE isn't shorter than its pieces
 pub some_longer : (ps : List (List ℕ)) → length (concat ps) ≤ length (text_of (sequence_of_some ps))
 some_longer [] = omega arith
 some_longer (p ∷ ps) = enc_longer SEQUENCE (concat (p ∷ ps))
 
+-- IPAddrBlocks aren't shorter than the two families inside
 pub families_longer : (v4 v6 : Resources) → length (concat (family 1 v4)) + length (concat (family 2 v6)) ≤ length (text_of (ip_addr_blocks v4 v6))
 families_longer v4 v6 = omega (arith, some_longer (family 1 v4 ++ family 2 v6), ap length (concat-append (family 1 v4) (family 2 v6)), length-append (concat (family 1 v4)) (concat (family 2 v6)))
 
 -- ---- a content, and two values beside each other
 
+-- a value with a long content is long
 pub long_value : (t : ℕ) (c : List ℕ) → 2 ^ 32 ≤ length c → 2 ^ 32 ≤ length (enc t c)
 long_value t c h = omega (arith, enc_longer t c)
 

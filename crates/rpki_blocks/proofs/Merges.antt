@@ -9,16 +9,19 @@ use Rattle.rpki_blocks.specs.Pairs.{IsJoin}
 use Rattle.rpki_blocks.proofs.Sets.{in_head, in_tail, in_cases}
 use Rattle.rpki_blocks.proofs.Walks.{in_append_cases, in_append_left, in_append_right, in_one, drop_read}
 
+-- the last block of a chain may be replaced by one with its lower end
 pub replaced : (bs : List Block) (a b : Block) → IsChain (bs ++ a ∷ []) → b.min ≡ a.min → b.min ≤ b.max → IsChain (bs ++ b ∷ [])
 replaced [] a b h e l = l
 replaced (x ∷ []) a b h e l = (h.0, omega (arith, h.1), l)
 replaced (x ∷ c ∷ bs) a b h e l = (h.0, h.1, replaced (c ∷ bs) a b h.2 e l)
 
+-- a chain goes on with a block that isn't adjacent
 pub followed : (bs : List Block) (a b : Block) → IsChain (bs ++ a ∷ []) → a.max + 1 < b.min → b.min ≤ b.max → IsChain ((bs ++ a ∷ []) ++ b ∷ [])
 followed [] a b h l m = (h, l, m)
 followed (x ∷ []) a b h l m = (h.0, h.1, (h.2, l, m))
 followed (x ∷ c ∷ bs) a b h l m = (h.0, h.1, followed (c ∷ bs) a b h.2 l m)
 
+-- a list up to the greatest number goes on with a block up to it
 pub small_more : (g : ℕ) (bs : List Block) (b : Block) → AreUpTo g bs → b.max ≤ g → AreUpTo g (bs ++ b ∷ [])
 small_more g [] b h l = (l, tt)
 small_more g (x ∷ bs) b h l = (h.0, small_more g bs b h.1 l)
@@ -44,15 +47,18 @@ rising_sorted : (b : Block) (bs : List Block) → IsNonDecreasingBy (λ x. x.min
 rising_sorted b [] h = tt
 rising_sorted b (c ∷ bs) h = (h 0 1 b (omega arith) (omega arith), rising_sorted c bs (λ i j d l m. h (suc i) (suc j) d (omega arith) (omega arith)))
 
+-- how far a sorted list is merged: the blocks done, the last one, and the rest
 pub record IsMerged (g : ℕ) (all done : List Block) (last : Block) (rest : List Block) : Type 0 where
   pub set : IsSet g (done ++ last ∷ [])
   pub rising : IsRising last.min rest
   pub to : (n : ℕ) → is_in n all ≡ true → is_in n ((done ++ last ∷ []) ++ rest) ≡ true
   pub back : (n : ℕ) → is_in n ((done ++ last ∷ []) ++ rest) ≡ true → is_in n all ≡ true
 
+-- merging starts with the first block
 pub merged_start : (g : ℕ) (b : Block) (bs : List Block) → IsNonDecreasingBy (λ x. x.min) (b ∷ bs) → b.min ≤ b.max → b.max ≤ g → IsMerged g (b ∷ bs) [] b bs
 merged_start g b bs h l m = record { set = record { chain = l; small = (m, tt) }; rising = rising_sorted b bs h; to = λ n i. i; back = λ n i. i }
 
+-- a block that touches the last one is joined to it
 pub merged_join : (g : ℕ) (all done : List Block) (last b j : Block) (rest : List Block) → IsMerged g all done last (b ∷ rest) → b.min ≤ last.max + 1 → b.min ≤ b.max → b.max ≤ g → IsJoin last b j → IsMerged g all done j rest
 merged_join g all done last b j rest m near some small join =
     record {
@@ -88,6 +94,7 @@ merged_join g all done last b j rest m near some small join =
           ]);
     }
 
+-- a block apart from the last one becomes the last one
 pub merged_new : (g : ℕ) (all done : List Block) (last b : Block) (rest : List Block) → IsMerged g all done last (b ∷ rest) → last.max + 1 < b.min → b.min ≤ b.max → b.max ≤ g → IsMerged g all (done ++ last ∷ []) b rest
 merged_new g all done last b rest m far some small =
     let e = append_assoc (done ++ last ∷ []) (b ∷ []) rest in
@@ -103,6 +110,7 @@ same_bool true q f g = sym (f refl)
 same_bool false true f g = g refl
 same_bool false false f g = refl
 
+-- when nothing is remaining, what is merged has the numbers of the list
 pub merged_end : (g : ℕ) (all sorted done : List Block) (last : Block) → IsPermutation all sorted → IsMerged g sorted done last [] → HaveSameNumbers (done ++ last ∷ []) all
 merged_end g all sorted done last p m n =
     same_bool _ _ (λ i. m.back n (in_append_left n (done ++ last ∷ []) [] i)) (λ i.
@@ -112,21 +120,25 @@ merged_end g all sorted done last p m n =
     ])
     ∙ sym (list_any-IsPermutation (is_within n) all sorted p)
 
+-- merging in place starts with the first block
 pub start_at : (g : ℕ) (items : List Block) (b : Block) → 0 < length items → b ≡ get_or items 0 b → IsNonDecreasingBy (λ x. x.min) items → b.min ≤ b.max → b.max ≤ g → IsMerged g items [] b (drop 1 items)
 start_at g items b l is h some small =
     let e : items ≡ b ∷ drop 1 items = drop_read items 0 b l is in
     subst (λ (v : List Block). IsMerged g v [] b (drop 1 items)) (sym e) (merged_start g b (drop 1 items) (subst (λ (v : List Block). IsNonDecreasingBy (λ x. x.min) v) e h) some small)
 
+-- a block at its place that touches the last one is joined to it
 pub join_at : (g : ℕ) (all items : List Block) (kept i : ℕ) (last b j : Block) → i < length items → b ≡ get_or items i b → IsMerged g all (take kept items) last (drop i items) → b.min ≤ last.max + 1 → b.min ≤ b.max → b.max ≤ g → IsJoin last b j → IsMerged g all (take kept items) j (drop (i + 1) items)
 join_at g all items kept i last b j l is m near some small join =
     merged_join g all (take kept items) last b j (drop (i + 1) items) (subst (λ (v : List Block). IsMerged g all (take kept items) last v) (drop_read items i b l is) m) near some small join
 
+-- a block at its place apart from the last one becomes the last one
 pub new_at : (g : ℕ) (all items : List Block) (kept i : ℕ) (last b : Block) → i < length items → b ≡ get_or items i b → kept < i → IsMerged g all (take kept items) last (drop i items) → last.max + 1 < b.min → b.min ≤ b.max → b.max ≤ g → IsMerged g all (take (kept + 1) (set items kept last)) b (drop (i + 1) (set items kept last))
 new_at g all items kept i last b l is behind m far some small =
     let front = take_more_set items kept last (omega arith) in
     let back = drop-set-lt (i + 1) items kept last (omega arith) in
     rw (front, back) (merged_new g all (take kept items) last b (drop (i + 1) items) (subst (λ (v : List Block). IsMerged g all (take kept items) last v) (drop_read items i b l is) m) far some small)
 
+-- at the end of the vector, what is merged has the numbers of the list
 pub end_at : (g : ℕ) (all sorted items : List Block) (kept i : ℕ) (last : Block) → IsPermutation all sorted → kept < length items → length items ≤ i → IsMerged g sorted (take kept items) last (drop i items) → HaveSameNumbers (take (kept + 1) (set items kept last)) all
 end_at g all sorted items kept i last p l past m =
     rw (take_more_set items kept last l) (merged_end g all sorted (take kept items) last p (subst (λ (v : List Block). IsMerged g sorted (take kept items) last v) (drop_all i items past) m))

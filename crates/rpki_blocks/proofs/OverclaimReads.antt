@@ -15,6 +15,7 @@ neither : (identifier : Overclaim → List ℕ) (id : List ℕ) → bytes_eq id 
 neither identifier id r t Refuse = other id (identifier Refuse) r
 neither identifier id r t Trim = other id (identifier Trim) t
 
+-- the function names the mode that the identifier names
 pub is_named : (identifier : Overclaim → List ℕ) (id : List ℕ) → IsNamed identifier id (named identifier id)
 is_named identifier id =
     elim (cases_Bool (bytes_eq id (identifier Refuse))) [
@@ -25,5 +26,6 @@ is_named identifier id =
       ]
     ]
 
+-- an answer of the function names the mode
 pub was_named : (identifier : Overclaim → List ℕ) (id : List ℕ) (r : Option Overclaim) → r ≡ named identifier id → IsNamed identifier id r
 was_named identifier id r e = subst (λ (o : Option Overclaim). IsNamed identifier id o) (sym e) (is_named identifier id)

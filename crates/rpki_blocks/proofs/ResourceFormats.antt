@@ -14,8 +14,10 @@ use Rattle.rpki_blocks.proofs.SystemReads.{as_reads}
 whole : {V : Type 0} (spells : V → List ℕ → Type 0) (v : V) (b : List ℕ) → spells v b → Begins spells b v []
 whole spells v b h = record { text = b; spelled = h; parts = sym (append-nil b) }
 
+-- IPAddrBlocks are a format
 pub ip_format : IsFormat IsIPAddrBlocks
 ip_format = record { value = λ v b h. of_enc h.sequence; one = λ v w b g h. (one_reading families_at IsIPAddrBlocks ip_reads b v w [] [] (whole IsIPAddrBlocks v b g) (whole IsIPAddrBlocks w b h)).0 }
 
+-- ASIdentifiers are a format
 pub as_format : IsFormat IsASIdentifiers
 as_format = record { value = λ v b h. of_enc h.nested.1; one = λ v w b g h. (one_reading as_identifiers_at IsASIdentifiers as_reads b v w [] [] (whole IsASIdentifiers v b g) (whole IsASIdentifiers w b h)).0 }

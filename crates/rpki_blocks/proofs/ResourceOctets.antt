@@ -46,6 +46,7 @@ ok_choice write h missing = tt
 ok_choice write h inherit = λ l. literal (NULL ∷ 0 ∷ []) refl
 ok_choice write h (blocks bs) = ok_enc SEQUENCE _ (omega arith) (ok_concat (map write bs) (ok_map write h bs))
 
+-- a SEQUENCE of pieces, if short, consists of octets where they do
 pub ok_pieces : (ps : List (List ℕ)) → AllByRecursion IfShort ps → IfSome (sequence_of_some ps) IfShort
 ok_pieces [] h = tt
 ok_pieces (p ∷ ps) h = ok_enc SEQUENCE _ (omega arith) (ok_concat (p ∷ ps) h)
@@ -54,6 +55,7 @@ ok_family_of : (n : ℕ) → n < 256 → (o : Option (List ℕ)) → IfSome o If
 ok_family_of n small None h ps rest = rest
 ok_family_of n small (Some c) h ps rest = (ok_enc SEQUENCE _ (omega arith) (ok_concat ((OCTET_STRING ∷ 2 ∷ 0 ∷ n ∷ []) ∷ c ∷ []) ((λ l. (omega arith, (omega arith, (omega arith, (small, tt))))), (h, tt))), rest)
 
+-- what is written of addresses, if short, consists of octets
 pub ok_ip : (i : Ip) → IfSome (ip i) IfShort
 ok_ip i = ok_pieces (family 1 i.v4 ++ family 2 i.v6) (ok_family_of 1 (omega arith) (written_choice ip_block i.v4) (ok_choice ip_block ok_ip_block i.v4) (family 2 i.v6) (six (written_choice ip_block i.v6) (ok_choice ip_block ok_ip_block i.v6)))
   where
@@ -61,6 +63,7 @@ ok_ip i = ok_pieces (family 1 i.v4 ++ family 2 i.v6) (ok_family_of 1 (omega arit
     six None h = tt
     six (Some c) h = ok_family_of 2 (omega arith) (Some c) h [] tt
 
+-- what is written of AS numbers, if short, consists of octets
 pub ok_as_resources : (r : Resources) → IfSome (written_as r) IfShort
 ok_as_resources missing = tt
 ok_as_resources inherit = ok_nested (SEQUENCE ∷ CONTEXT_CONSTRUCTED 0 ∷ []) _ (literal (SEQUENCE ∷ CONTEXT_CONSTRUCTED 0 ∷ []) refl) (ok_choice as_block ok_as_block inherit)
@@ -70,8 +73,10 @@ some_short : (o : Option (List ℕ)) (c : List ℕ) → o ≡ Some c → IfSome 
 some_short (Some x) c e h short = let same : x ≡ c = cc in subst AreOctets same (h (subst (λ (b : List ℕ). length b < 2 ^ 32) (sym same) short))
 some_short None c e h short = absurd cc
 
+-- a short IPAddrBlocks that is written consists of octets
 pub ip_octets : (i : Ip) (c : List ℕ) → ip i ≡ Some c → length c < 2 ^ 32 → AreOctets c
 ip_octets i c e short = some_short (ip i) c e (ok_ip i) short
 
+-- a short ASIdentifiers that is written consists of octets
 pub as_octets : (r : Resources) (c : List ℕ) → written_as r ≡ Some c → length c < 2 ^ 32 → AreOctets c
 as_octets r c e short = some_short (written_as r) c e (ok_as_resources r) short

@@ -1,4 +1,4 @@
--- What is written of resources spells them.
+-- What is written of resources encodes them.
 use Rattle.std.specs.Prelude.{◌≢◌, ◌==◌}
 use Rattle.std.specs.List.{AllByRecursion, concat, list_all}
 use Rattle.std.specs.Option.{option_map}
@@ -90,7 +90,7 @@ fits_v4 missing f v = tt
 fits_v4 inherit f v = tt
 fits_v4 (blocks bs) f v = let g = fits (2 ^ 128 - 1) (blocks bs) f in (g.0, g.1, both (IsBlock (2 ^ 128 - 1)) (λ b. is_v4_block b ≡ true) bs g.2 (all_v4 bs v))
 
--- what is written of a block spells it
+-- what is written of a block encodes it
 abbrev Writes : (Block → Type 0) → (Block → List ℕ) → (Block → List ℕ → Type 0) → Type 0
 Writes P write element = (b : Block) → P b → Short (write b) → element b (write b)
 
@@ -121,6 +121,7 @@ v6_writes b p short = v6_block_made b p.0 (omega (arith, p.1)) short
 v4_writes : Writes IsV4 ip_block (IsIPAddressOrRange 32)
 v4_writes b p short = v4_block_made b p.1 p.0.0 (omega (arith, p.0.1)) short
 
+-- what is written of AS numbers encodes them
 pub as_resources_made : (r : Resources) (c : List ℕ) → written_as r ≡ Some c → IsResources (2 ^ 32 - 1) r → Short c → IsASIdentifiers r c
 as_resources_made r c e f s = go (written_choice as_block r) refl e
   where
@@ -157,9 +158,11 @@ present missing = None
 present inherit = Some inherit
 present (blocks bs) = Some (blocks bs)
 
+-- the families that are written of addresses
 abbrev pub written_families : Ip → Families
 written_families i = record { v4 = present i.v4; v6 = present i.v6 }
 
+-- resources that are there are those that stand
 pub present_is : (r : Resources) → or_missing (present r) ≡ r
 unfolding present
 present_is missing = refl
@@ -178,6 +181,7 @@ present_none missing h = refl
 present_none inherit h = absurd cc
 present_none (blocks bs) h = absurd cc
 
+-- what is written of addresses encodes them
 pub ip_made : (i : Ip) (c : List ℕ) → ip i ≡ Some c → IsResources (2 ^ 128 - 1) i.v4 → AreV4 i.v4 → IsResources (2 ^ 128 - 1) i.v6 → Short c → IsIPAddrBlocks (written_families i) c
 ip_made i c e f4 only_v4 f6 s =
     elim (family_made 1 32 IsV4 v4_writes i.v4 (fits_v4 i.v4 f4 only_v4)) [
@@ -206,15 +210,18 @@ choice_none write missing e = refl
 choice_none write inherit e = absurd cc
 choice_none write (blocks bs) e = absurd cc
 
+-- only of missing AS numbers nothing is written
 pub no_as_resources : (r : Resources) → written_as r ≡ None → r ≡ missing
 no_as_resources missing e = refl
 no_as_resources inherit e = absurd cc
 no_as_resources (blocks bs) e = absurd cc
 
+-- only of no pieces no SEQUENCE is written
 pub no_pieces : (ps : List (List ℕ)) → sequence_of_some ps ≡ None → ps ≡ []
 no_pieces [] e = refl
 no_pieces (p ∷ ps) e = absurd cc
 
+-- only where both families are missing nothing is written of addresses
 pub no_ip : (i : Ip) → ip i ≡ None → i ≡ record { v4 = missing; v6 = missing }
 no_ip i e =
     let four = none_of 1 (written_choice ip_block i.v4) _ (no_pieces _ e) in

@@ -3,12 +3,15 @@ use Rattle.std.proofs.Common.{◌≡◌, ℕ, ◌+◌, ◌<◌, ◌≤◌, ◌�
 use Rattle.std.proofs.lemmas.Bool.{cases_lt, leb-true, le-leb, or_cases, or_left, or_right, and_parts, and_from}
 use Rattle.rpki_blocks.specs.Sets.{Block, is_within, is_in, IsChain, AreUpTo, HaveSameNumbers, AreIn}
 
+-- a number of the first block is in the list
 pub in_head : (n : ℕ) (b : Block) (bs : List Block) → b.min ≤ n → n ≤ b.max → is_in n (b ∷ bs) ≡ true
 in_head n b bs low high = or_left _ _ (and_from _ _ (le-leb b.min n low) (le-leb n b.max high))
 
+-- a number of the other blocks is in the list
 pub in_tail : (n : ℕ) (b : Block) (bs : List Block) → is_in n bs ≡ true → is_in n (b ∷ bs) ≡ true
 in_tail n b bs h = or_right (is_within n b) _ h
 
+-- a number of a list is in the first block or in the others
 pub in_cases : (n : ℕ) (b : Block) (bs : List Block) → is_in n (b ∷ bs) ≡ true → ((b.min ≤ n) × (n ≤ b.max)) ⊎ (is_in n bs ≡ true)
 in_cases n b bs h =
     elim (or_cases (is_within n b) _ h) [
@@ -16,14 +19,17 @@ in_cases n b bs h =
       | inr later ↦ inr later
     ]
 
+-- the first block of a chain is in order
 pub chain_head : (b : Block) (bs : List Block) → IsChain (b ∷ bs) → b.min ≤ b.max
 chain_head b [] h = h
 chain_head b (c ∷ bs) h = h.0
 
+-- a chain without its first block is a chain
 pub chain_tail : (b : Block) (bs : List Block) → IsChain (b ∷ bs) → IsChain bs
 chain_tail b [] h = tt
 chain_tail b (c ∷ bs) h = h.2
 
+-- a number of the later blocks lies beyond the first one and isn't adjacent
 pub beyond : (n : ℕ) (b : Block) (bs : List Block) → IsChain (b ∷ bs) → is_in n bs ≡ true → b.max + 1 < n
 beyond n b [] h i = absurd cc
 beyond n b (c ∷ bs) h i =
@@ -32,6 +38,7 @@ beyond n b (c ∷ bs) h i =
       | inr later ↦ omega (arith, beyond n c bs h.2 later, h.1, chain_head c bs h.2)
     ]
 
+-- a number of a chain is at least its lower end
 pub at_least : (n : ℕ) (b : Block) (bs : List Block) → IsChain (b ∷ bs) → is_in n (b ∷ bs) ≡ true → b.min ≤ n
 at_least n b bs h i =
     elim (in_cases n b bs i) [
@@ -48,10 +55,13 @@ in_up_to greatest n (b ∷ bs) h i =
       | inr later ↦ in_up_to greatest n bs h.1 later
     ]
 
+-- a chain whose numbers are up to the greatest has blocks up to it
 pub up_to_by_numbers : (greatest : ℕ) (bs : List Block) → IsChain bs → ((n : ℕ) → is_in n bs ≡ true → n ≤ greatest) → AreUpTo greatest bs
 up_to_by_numbers greatest [] p h = tt
 up_to_by_numbers greatest (b ∷ bs) p h = (h b.max (in_head b.max b bs (chain_head b bs p) (omega arith)), up_to_by_numbers greatest bs (chain_tail b bs p) (λ n i. h n (in_tail n b bs i)))
 
+-- the first block of a chain inside another ends no later than the other's first, if it begins no
+-- later
 pub up_to : (b c : Block) (bs cs : List Block) → IsChain (b ∷ bs) → IsChain (c ∷ cs) → AreIn (b ∷ bs) (c ∷ cs) → b.min ≤ c.min → b.max ≤ c.max
 up_to b c bs cs p q f low =
     elim (cases_lt c.max b.max) [
@@ -63,6 +73,7 @@ up_to b c bs cs p q f low =
       | inr le ↦ le
     ]
 
+-- a chain inside another stays so without the first blocks, where these end together
 pub tails_in : (b c : Block) (bs cs : List Block) → IsChain (b ∷ bs) → AreIn (b ∷ bs) (c ∷ cs) → c.max ≡ b.max → AreIn bs cs
 tails_in b c bs cs p f e n i =
     elim (in_cases n c cs (f n (in_tail n b bs i))) [
@@ -70,6 +81,7 @@ tails_in b c bs cs p f e n i =
       | inr later ↦ later
     ]
 
+-- chains that are inside each other are equal
 pub chain_one : (bs cs : List Block) → IsChain bs → IsChain cs → AreIn bs cs → AreIn cs bs → bs ≡ cs
 chain_one [] [] p q f g = refl
 chain_one [] (c ∷ cs) p q f g = let no : is_in c.min [] ≡ true = g c.min (in_head c.min c cs (omega arith) (chain_head c cs q)) in absurd cc
@@ -84,5 +96,6 @@ chain_one (b ∷ bs) (c ∷ cs) p q f g =
     let rest = chain_one bs cs (chain_tail b bs p) (chain_tail c cs q) (tails_in b c bs cs p f (sym max)) (tails_in c b cs bs q g max) in
     λ i. (record { min = min i; max = max i }) ∷ rest i
 
+-- chains with the same numbers are equal
 pub one_chain : (bs cs : List Block) → IsChain bs → IsChain cs → HaveSameNumbers bs cs → bs ≡ cs
 one_chain bs cs p q e = chain_one bs cs p q (λ n i. sym (e n) ∙ i) (λ n i. e n ∙ i)

@@ -65,10 +65,12 @@ as_element_reads =
     (λ r text h. elim h [ inl s ↦ range_is r text s | inr s ↦ id_is r text s ])
     is_element
 
+-- reading an ASIdOrRange uses octets up
 pub as_element_shrinks : Shrinks as_element_at
 unfolding as_element_at u32_at
 as_element_shrinks = content_or_shrinks SEQUENCE as_range_of as_id (turned_shrinks single u32_at (content_shrinks INTEGER _))
 
+-- ASIdentifiers are read as they are encoded
 pub as_reads : Reads as_identifiers_at IsASIdentifiers
 unfolding as_identifiers_at
 as_reads =

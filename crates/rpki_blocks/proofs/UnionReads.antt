@@ -48,6 +48,7 @@ module _ (element : List ℕ → Option (Block × List ℕ)) (S : Block → List
         | inr s ↦ inr (tt, s.1, ap some (sym s.0))
       ]
 
+  -- a choice of resources is read lawfully where its elements are
   pub choice_reads : Reads element S → Shrinks element → Reads (choice_at element) (IsResourceChoice S)
   unfolding choice_at
   choice_reads law less =
@@ -60,16 +61,20 @@ module _ (element : List ℕ → Option (Block × List ℕ)) (S : Block → List
 
 -- ---- ends in order
 
+-- a block that was made of two ends has them in order
 pub ordered_is : (low high : ℕ) (r : Block) → ordered low high ≡ Some r → (low ≤ high) × (r ≡ record { min = low; max = high })
 ordered_is low high r e = let g = unless_some (ltb high low) (record { min = low; max = high }) r e in (ltb-false _ _ g.0, sym g.1)
 
+-- two ends in order make a block
 pub is_ordered : (low high : ℕ) (r : Block) → low ≤ high → r ≡ record { min = low; max = high } → ordered low high ≡ Some r
 is_ordered low high r h e = rw (le-ltb high low h, e) refl
 
 -- ---- SEQUENCE of two
 
+-- a SEQUENCE of a content that is two pieces is a SEQUENCE of them
 pub two_pieces : (a b c text : List ℕ) → c ≡ a ++ b → IsEnc SEQUENCE c text → IsSequence (a ∷ b ∷ []) text
 two_pieces a b c text e s = subst (λ (x : List ℕ). IsEnc SEQUENCE x text) (e ∙ ap (λ (x : List ℕ). a ++ x) (sym (append-nil b))) s
 
+-- a SEQUENCE of two pieces has them as its content
 pub pieces_two : (a b text : List ℕ) → IsSequence (a ∷ b ∷ []) text → IsEnc SEQUENCE (a ++ b) text
 pieces_two a b text s = subst (λ (x : List ℕ). IsEnc SEQUENCE x text) (ap (λ (x : List ℕ). a ++ x) (append-nil b)) s

@@ -120,6 +120,7 @@ in_added n b (c ∷ cs) h =
           ]
     ]
 
+-- merged blocks are a chain
 pub merged_chain : (bs : List Block) → IsChain (merged bs)
 unfolding merged
 merged_chain [] = tt
@@ -151,6 +152,7 @@ in_merged n (b ∷ bs) h =
       | inr k ↦ rw k (in_added n b (merged bs) (under n b bs (merged bs) (in_merged n bs) h))
     ]
 
+-- merged blocks have the numbers of the blocks
 pub merged_same : (bs : List Block) → HaveSameNumbers (merged bs) bs
 merged_same bs n = both_ways _ _ (merged_in n bs) (in_merged n bs)
 
@@ -158,9 +160,11 @@ merged_same bs n = both_ways _ _ (merged_in n bs) (in_merged n bs)
 pub chain_is_merged : (chain bs : List Block) → IsChain chain → HaveSameNumbers chain bs → chain ≡ merged bs
 chain_is_merged chain bs p e = one_chain chain (merged bs) p (merged_chain bs) (λ n. e n ∙ sym (merged_same bs n))
 
+-- merged blocks, listed, are the union
 pub is_union : (bs : List Block) → IsUnion bs (listed (merged bs))
 is_union bs = record { chain = merged bs; is_chain = merged_chain bs; same = merged_same bs; is = refl }
 
+-- the union is the merged blocks, listed
 pub union_is : (bs : List Block) (r : Resources) → IsUnion bs r → r ≡ listed (merged bs)
 union_is bs r u = u.is ∙ ap listed (chain_is_merged u.chain bs u.is_chain u.same)
 

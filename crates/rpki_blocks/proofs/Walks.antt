@@ -8,6 +8,7 @@ use Rattle.rpki_blocks.proofs.Sets.{in_head, in_tail, in_cases, at_least, beyond
 
 -- a chain's end: what was found, and a block after it
 
+-- the block of one number
 abbrev pub one : ℕ → Block
 one n = record { min = n; max = n }
 
@@ -23,6 +24,7 @@ further [] b n h l = (h, l, omega arith)
 further (a ∷ []) b n h l = (h.0, h.1, (h.2, l, omega arith))
 further (a ∷ c ∷ bs) b n h l = (h.0, h.1, further (c ∷ bs) b n h.2 l)
 
+-- a number of two lists is in one of them
 pub in_append_cases : (n : ℕ) (bs cs : List Block) → is_in n (bs ++ cs) ≡ true → (is_in n bs ≡ true) ⊎ (is_in n cs ≡ true)
 in_append_cases n [] cs h = inr h
 in_append_cases n (b ∷ bs) cs h =
@@ -31,6 +33,7 @@ in_append_cases n (b ∷ bs) cs h =
       | inr later ↦ elim (in_append_cases n bs cs later) [ inl i ↦ inl (in_tail n b bs i) | inr i ↦ inr i ]
     ]
 
+-- a number of the first list is in both together
 pub in_append_left : (n : ℕ) (bs cs : List Block) → is_in n bs ≡ true → is_in n (bs ++ cs) ≡ true
 in_append_left n [] cs h = absurd cc
 in_append_left n (b ∷ bs) cs h =
@@ -39,14 +42,16 @@ in_append_left n (b ∷ bs) cs h =
       | inr later ↦ in_tail n b (bs ++ cs) (in_append_left n bs cs later)
     ]
 
+-- a number of the second list is in both together
 pub in_append_right : (n : ℕ) (bs cs : List Block) → is_in n cs ≡ true → is_in n (bs ++ cs) ≡ true
 in_append_right n [] cs h = h
 in_append_right n (b ∷ bs) cs h = in_tail n b (bs ++ cs) (in_append_right n bs cs h)
 
+-- a number in a list of one block is in the block
 pub in_one : (n : ℕ) (b : Block) → is_in n (b ∷ []) ≡ true → (b.min ≤ n) × (n ≤ b.max)
 in_one n b h = elim (in_cases n b [] h) [ inl here ↦ here | inr later ↦ absurd cc ]
 
--- both has the numbers of xs and ys that the walk along ps and qs has passed; xs and ys are left
+-- both has the numbers of xs and ys that the walk along ps and qs has passed; xs and ys remain
 pub record IsWalk (ps qs both xs ys : List Block) : Type 0 where
   pub left : IsChain xs
   pub right : IsChain ys
@@ -57,6 +62,7 @@ pub record IsWalk (ps qs both xs ys : List Block) : Type 0 where
   pub complete : (n : ℕ) → is_in n ps ≡ true → is_in n qs ≡ true → (is_in n both ≡ true) ⊎ ((is_in n xs ≡ true) × (is_in n ys ≡ true))
   pub apart : (n : ℕ) → is_in n xs ≡ true → is_in n ys ≡ true → IsChain (both ++ one n ∷ [])
 
+-- a walk over two chains is one over them in the other order
 pub walk_turned : (ps qs both xs ys : List Block) → IsWalk ps qs both xs ys → IsWalk qs ps both ys xs
 walk_turned ps qs both xs ys w = record {
   left = w.right;
@@ -120,6 +126,7 @@ walk_meet ps qs both x xs y ys m w low high some l =
       apart = λ n i j. let far : x.max + 1 < n = beyond n x xs w.left i in further both m n met (omega arith);
     }
 
+-- what a walk over a set gathers is a set
 pub walk_set : (g : ℕ) (ps qs both xs ys : List Block) → IsSet g ps → IsWalk ps qs both xs ys → IsSet g both
 walk_set g ps qs both xs ys p w = record { chain = w.chain; small = up_to_by_numbers g both w.chain (λ n i. in_up_to g n ps p.small (w.sound n i).0) }
 
@@ -135,6 +142,7 @@ grown_turned x y both more g =
       | inr h ↦ inr (omega (arith, h.0), h.1)
     ]
 
+-- a walk goes on past a block of the first chain that ends no later
 pub walk_left : (ps qs both more : List Block) (x : Block) (xs : List Block) (y : Block) (ys : List Block) → IsWalk ps qs both (x ∷ xs) (y ∷ ys) → IsGrown x y both more → x.max ≤ y.max → IsWalk ps qs more xs (y ∷ ys)
 walk_left ps qs both more x xs y ys w g l =
     let some : x.min ≤ x.max = chain_head x xs w.left in
@@ -143,32 +151,38 @@ walk_left ps qs both more x xs y ys w g l =
       | inr h ↦ rw h.1 (walk_past ps qs both x xs y ys w (omega (arith, h.0)))
     ]
 
+-- a walk goes on past a block of the second chain that ends no later
 pub walk_right : (ps qs both more : List Block) (x : Block) (xs : List Block) (y : Block) (ys : List Block) → IsWalk ps qs both (x ∷ xs) (y ∷ ys) → IsGrown x y both more → y.max ≤ x.max → IsWalk ps qs more (x ∷ xs) ys
 walk_right ps qs both more x xs y ys w g l =
     walk_turned qs ps more ys (x ∷ xs) (walk_left qs ps both more y ys x xs (walk_turned ps qs both (x ∷ xs) (y ∷ ys) w) (grown_turned x y both more g) l)
 
+-- what remains from place i is the block there and what remains after it
 pub drop_read : (xs : List Block) (i : ℕ) (x : Block) → i < length xs → x ≡ get_or xs i x → drop i xs ≡ x ∷ drop (i + 1) xs
 drop_read xs i x l e = drop_more xs i x l ∙ ap (λ v. v ∷ drop (i + 1) xs) (sym e)
 
+-- x and y stand at the places i and j
 pub record IsAt (xs ys : List Block) (i j : ℕ) (x y : Block) : Type 0 where
   pub left_below : i < length xs
   pub right_below : j < length ys
   pub left : x ≡ get_or xs i x
   pub right : y ≡ get_or ys j y
 
+-- what is said of what remains from both places may be said of the blocks there
 pub at_both : (xs ys : List Block) (i j : ℕ) (x y : Block) (P : List Block → List Block → Type 0) → IsAt xs ys i j x y → P (drop i xs) (drop j ys) → P (x ∷ drop (i + 1) xs) (y ∷ drop (j + 1) ys)
 at_both xs ys i j x y P a h =
     subst (λ (v : List Block). P v (y ∷ drop (j + 1) ys)) (drop_read xs i x a.left_below a.left) (subst (λ (v : List Block). P (drop i xs) v) (drop_read ys j y a.right_below a.right) h)
 
+-- a walk goes on in the first chain
 pub left_at : (both more xs ys : List Block) (i j : ℕ) (x y : Block) → IsAt xs ys i j x y → IsWalk xs ys both (drop i xs) (drop j ys) → IsGrown x y both more → x.max ≤ y.max → IsWalk xs ys more (drop (i + 1) xs) (drop j ys)
 left_at both more xs ys i j x y a w g l =
     subst (λ (v : List Block). IsWalk xs ys more (drop (i + 1) xs) v) (sym (drop_read ys j y a.right_below a.right)) (walk_left xs ys both more x _ y _ (at_both xs ys i j x y (IsWalk xs ys both) a w) g l)
 
+-- a walk goes on in the second chain
 pub right_at : (both more xs ys : List Block) (i j : ℕ) (x y : Block) → IsAt xs ys i j x y → IsWalk xs ys both (drop i xs) (drop j ys) → IsGrown x y both more → y.max ≤ x.max → IsWalk xs ys more (drop i xs) (drop (j + 1) ys)
 right_at both more xs ys i j x y a w g l =
     subst (λ (v : List Block). IsWalk xs ys more v (drop (j + 1) ys)) (sym (drop_read xs i x a.left_below a.left)) (walk_right xs ys both more x _ y _ (at_both xs ys i j x y (IsWalk xs ys both) a w) g l)
 
--- what is left of both chains decides whether the first is in the second
+-- what remains of both chains decides whether the first is in the second
 pub record IsDecided (g : ℕ) (ps qs xs ys : List Block) : Type 0 where
   pub left : IsChain xs
   pub right : IsChain ys
@@ -176,6 +190,7 @@ pub record IsDecided (g : ℕ) (ps qs xs ys : List Block) : Type 0 where
   pub yes : AreIn xs ys → AreIn ps qs
   pub no : Escapes g xs ys → Escapes g ps qs
 
+-- a number outside a block and outside the others is outside the list
 pub not_in : (n : ℕ) (b : Block) (bs : List Block) → (n < b.min) ⊎ (b.max < n) → is_in n bs ≡ false → is_in n (b ∷ bs) ≡ false
 not_in n b bs h e =
     false_from_ne_true _ (λ i.
@@ -184,6 +199,7 @@ not_in n b bs h e =
       | inr later ↦ both_ways _ e later
     ])
 
+-- the search goes on past a block of the second list that ends before
 pub decided_past : (g : ℕ) (ps qs : List Block) (x : Block) (xs : List Block) (y : Block) (ys : List Block) → IsDecided g ps qs (x ∷ xs) (y ∷ ys) → y.max < x.min → IsDecided g ps qs (x ∷ xs) ys
 decided_past g ps qs x xs y ys d l = record {
   left = d.left;
@@ -193,6 +209,7 @@ decided_past g ps qs x xs y ys d l = record {
   no = λ e. d.no (let low : x.min ≤ e.number = at_least e.number x xs d.left e.inside in record { number = e.number; small = e.small; inside = e.inside; outside = not_in e.number y ys (inr (omega (arith, low))) e.outside });
 }
 
+-- the search goes on past a block of the first list that is held
 pub decided_held : (g : ℕ) (ps qs : List Block) (x : Block) (xs : List Block) (y : Block) (ys : List Block) → IsDecided g ps qs (x ∷ xs) (y ∷ ys) → y.min ≤ x.min → x.max ≤ y.max → IsDecided g ps qs xs (y ∷ ys)
 decided_held g ps qs x xs y ys d low high = record {
   left = chain_tail x xs d.left;
@@ -206,10 +223,11 @@ decided_held g ps qs x xs y ys d low high = record {
   no = λ e. d.no (record { number = e.number; small = e.small; inside = in_tail e.number x xs e.inside; outside = e.outside });
 }
 
--- nothing is left to hold the first block
+-- nothing remains to hold the first block
 pub decided_none : (g : ℕ) (ps qs : List Block) (x : Block) (xs : List Block) → IsDecided g ps qs (x ∷ xs) [] → Escapes g ps qs
 decided_none g ps qs x xs d = d.no (record { number = x.min; small = omega (arith, d.small.0, chain_head x xs d.left); inside = in_head x.min x xs (omega arith) (chain_head x xs d.left); outside = refl })
 
+-- where a block reaches the second list and sticks out of it, a number of the first list escapes
 pub decided_escapes : (g : ℕ) (ps qs : List Block) (x : Block) (xs : List Block) (y : Block) (ys : List Block) → IsDecided g ps qs (x ∷ xs) (y ∷ ys) → x.min ≤ y.max → (x.min < y.min) ⊎ (y.max < x.max) → Escapes g ps qs
 decided_escapes g ps qs x xs y ys d near out =
     let some : x.min ≤ x.max = chain_head x xs d.left in
@@ -230,14 +248,17 @@ decided_escapes g ps qs x xs y ys d near out =
           })
     ]
 
+-- the search goes on in the second list
 pub past_at : (g : ℕ) (xs ys : List Block) (i j : ℕ) (x y : Block) → IsAt xs ys i j x y → IsDecided g xs ys (drop i xs) (drop j ys) → y.max < x.min → IsDecided g xs ys (drop i xs) (drop (j + 1) ys)
 past_at g xs ys i j x y a d l =
     subst (λ (v : List Block). IsDecided g xs ys v (drop (j + 1) ys)) (sym (drop_read xs i x a.left_below a.left)) (decided_past g xs ys x _ y _ (at_both xs ys i j x y (IsDecided g xs ys) a d) l)
 
+-- the search goes on in the first list
 pub held_at : (g : ℕ) (xs ys : List Block) (i j : ℕ) (x y : Block) → IsAt xs ys i j x y → IsDecided g xs ys (drop i xs) (drop j ys) → y.min ≤ x.min → x.max ≤ y.max → IsDecided g xs ys (drop (i + 1) xs) (drop j ys)
 held_at g xs ys i j x y a d low high =
     subst (λ (v : List Block). IsDecided g xs ys (drop (i + 1) xs) v) (sym (drop_read ys j y a.right_below a.right)) (decided_held g xs ys x _ y _ (at_both xs ys i j x y (IsDecided g xs ys) a d) low high)
 
+-- where the second list has ended, a number of the first is outside it
 pub none_at : (g : ℕ) (xs ys : List Block) (i j : ℕ) → i < length xs → length ys ≤ j → IsDecided g xs ys (drop i xs) (drop j ys) → Escapes g xs ys
 none_at g xs ys i j l past d =
     let some : Block = record { min = 0; max = 0 } in

@@ -26,6 +26,7 @@ without last address =
 abbrev pub is_prefix : Block → ℕ → Bool
 is_prefix b last = (b.min % 2 ^ last == 0) && (b.max + 1 == b.min + 2 ^ last)
 
+-- the greatest count of last bits for which the block is a prefix, 0 where there is none
 abbrev pub prefix_bits : Block → ℕ
 prefix_bits b = greatest (is_prefix b) 128
 
@@ -34,10 +35,11 @@ abbrev pub IsPrefixAnswer : Block → Option ℕ → Type 0
 IsPrefixAnswer b None = is_prefix b (prefix_bits b) ≡ false
 IsPrefixAnswer b (Some last) = (is_prefix b (prefix_bits b) ≡ true) × (last ≡ prefix_bits b)
 
--- how many bits at the foot of an address are 0, and how many are 1
+-- how many bits at the end of an address are 0
 abbrev pub zero_bits : ℕ → ℕ
 zero_bits n = greatest (λ last. n % 2 ^ last == 0) 128
 
+-- how many bits at the end of an address are 1
 abbrev pub one_bits : ℕ → ℕ
 one_bits n = greatest (λ last. (n + 1) % 2 ^ last == 0) 128
 

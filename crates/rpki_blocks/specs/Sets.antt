@@ -7,9 +7,11 @@ pub record Block : Type 0 where
   pub min : ℕ
   pub max : ℕ
 
+-- the block from min to max
 abbrev pub between : ℕ → ℕ → Block
 between low high = record { min = low; max = high }
 
+-- whether n is in the block
 abbrev pub is_within : ℕ → Block → Bool
 is_within n b = nat_le b.min n && nat_le n b.max
 
@@ -37,6 +39,7 @@ pub record IsSet (greatest : ℕ) (bs : List Block) : Type 0 where
   pub chain : IsChain bs
   pub small : AreUpTo greatest bs
 
+-- both lists of blocks have the same numbers
 abbrev pub HaveSameNumbers : List Block → List Block → Type 0
 HaveSameNumbers bs cs = (n : ℕ) → is_in n bs ≡ is_in n cs
 

@@ -9,12 +9,13 @@ use Rattle.rpki_blocks.specs.Resources.{Resources}
 use Rattle.rpki_blocks.specs.Unions.{IsResourceChoice, written_choice}
 pub mod Reading
 
--- ASId (3.2.3.10): an INTEGER from 0 to 2^32 - 1 (RFC 6793)
+-- ASId ::= INTEGER   (RFC 3779 3.2.3.10)
+-- restricted to 0 to 2^32 - 1 (RFC 6793)
 abbrev pub IsASId : ℕ → List ℕ → Type 0
 IsASId = IsU32
 
--- ASRange (3.2.3.8): SEQUENCE of the least and the greatest number. A range of one number is read
--- too (own)
+-- ASRange ::= SEQUENCE { min ASId, max ASId }   (RFC 3779 3.2.3.8)
+-- a range of one number is read too (own)
 pub record IsASRange (r : Block) (b : List ℕ) : Type 0 where
   pub from : List ℕ
   pub to : List ℕ
@@ -23,11 +24,13 @@ pub record IsASRange (r : Block) (b : List ℕ) : Type 0 where
   pub sequence : IsSequence (from ∷ to ∷ []) b
   pub ordered : r.min ≤ r.max
 
+-- ASIdOrRange ::= CHOICE { id ASId, range ASRange }   (RFC 3779 3.2.3.5)
 abbrev pub IsASIdOrRange : Block → List ℕ → Type 0
 IsASIdOrRange r b = IsASRange r b ⊎ ((r.min ≡ r.max) × IsASId r.min b)
 
--- ASIdentifiers (3.2.3.1): the AS numbers, under the tag 0. Routing domain identifiers are refused
--- (RFC 6487 4.8.11)
+-- ASIdentifiers ::= SEQUENCE {   (RFC 3779 3.2.3.1)
+--   asnum [0] EXPLICIT ASIdentifierChoice OPTIONAL, rdi [1] EXPLICIT ASIdentifierChoice OPTIONAL }
+-- restricted to asnum, which is there, without rdi (RFC 6487 4.8.11)
 pub record IsASIdentifiers (r : Resources) (b : List ℕ) : Type 0 where
   pub choice : List ℕ
   pub choice_is : IsResourceChoice IsASIdOrRange r choice

@@ -14,16 +14,20 @@ pub record IsUnion (bs : List Block) (r : Resources) : Type 0 where
   pub same : HaveSameNumbers chain bs
   pub is : r ≡ listed chain
 
--- NULL: what the issuer has
+-- inherit NULL, of either choice: what the issuer has
 abbrev pub IsInherit : Resources → List ℕ → Type 0
 IsInherit r b = (r ≡ inherit) × (b ≡ null)
 
--- SEQUENCE of elements
+-- addressesOrRanges SEQUENCE OF IPAddressOrRange, or asIdsOrRanges SEQUENCE OF ASIdOrRange
 pub record IsUnionOf (element : Block → List ℕ → Type 0) (r : Resources) (b : List ℕ) : Type 0 where
   pub elements : List Block
   pub spelled : IsSequenceOf (IsRow element) elements b
   pub union : IsUnion elements r
 
+-- IPAddressChoice ::= CHOICE {   (RFC 3779 2.2.3.4)
+--   inherit NULL, addressesOrRanges SEQUENCE OF IPAddressOrRange }
+-- ASIdentifierChoice ::= CHOICE {   (RFC 3779 3.2.3.2)
+--   inherit NULL, asIdsOrRanges SEQUENCE OF ASIdOrRange }
 abbrev pub IsResourceChoice : (Block → List ℕ → Type 0) → Resources → List ℕ → Type 0
 IsResourceChoice element r b = IsUnionOf element r b ⊎ IsInherit r b
 

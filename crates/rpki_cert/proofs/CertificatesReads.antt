@@ -198,6 +198,7 @@ tbs_is f text s =
     let row = s.content_is.extensions_is.2.0 in
     (fields_of f row, (s.content, content_is f s.content s.content_is, s.enc), some_made f row (row_again f s.content s.content_is))
 
+-- a TBSCertificate is read as it is encoded
 pub tbs_reads : Reads tbs_at IsTbsCertificate
 unfolding tbs_at
 tbs_reads =
@@ -207,6 +208,7 @@ tbs_reads =
 
 -- ---- certificates
 
+-- the content of a Certificate is read as it is encoded
 pub cert_content_reads : Reads cert_content_at IsCertificateContent
 unfolding cert_content_at
 cert_content_reads =
@@ -216,6 +218,7 @@ cert_content_reads =
     (λ c text s. record { signed_is = s.0; fields_are = s.1 })
     (λ c text s. (s.signed_is, s.fields_are))
 
+-- a Certificate is read as it is encoded
 pub cert_reads : Reads cert_at IsCertificate
 unfolding cert_at
 cert_reads =

@@ -1,5 +1,5 @@
--- What is written of fields is a TBSCertificate of these fields, and signed data round it is a certificate; a certificate is
--- written as it was read.
+-- What is written of fields is a TBSCertificate of these fields, and signed data round it is a
+-- certificate; a certificate is written as it was read.
 use Rattle.std.specs.List.{concat}
 use Rattle.std.proofs.Common.{ℕ, List, [], ◌∷◌, ◌≡◌, map, refl, arith, ◌<◌, ◌^◌, length, ap, ◌∙◌}
 use Rattle.rpki_der.specs.Tags.{CONTEXT_CONSTRUCTED, SEQUENCE}
@@ -57,6 +57,7 @@ module _ (f : TbsFields) (fits : Fits f) (only_v4 : AreV4 f.extensions.v4_resour
   enc_made : (b : List ℕ) → b ≡ spelling f → IsEnc SEQUENCE (tbs_content f) b
   enc_made b is = record { octet = omega arith; low_tag = omega arith; octets = content_octets; short = fits.short; is = is }
 
+  -- the encoding of fields with resources is a TBSCertificate of them
   pub tbs_made : (b : List ℕ) → b ≡ spelling f → HasResources f.extensions → IsTbsCertificate f b
   unfolding extensions
   tbs_made b is some =
@@ -88,6 +89,7 @@ module _ (f : TbsFields) (fits : Fits f) (only_v4 : AreV4 f.extensions.v4_resour
         enc = enc_made b is;
       }
 
+-- signed data of the encoding of fields is a certificate with these fields
 pub certificate_made : (c : CertFields) → Fits c.fields → c.signed_data.message ≡ spelling c.fields → AreOctets c.signed_data.signature.value → length (concat (signed_pieces c.signed_data)) < 2 ^ 32 → HasResources c.fields.extensions → AreV4 c.fields.extensions.v4_resources → IsCertificate c (signed_data c.signed_data)
 certificate_made c fits is octets short some only_v4 =
     let s = c.signed_data in

@@ -53,6 +53,7 @@ module _ (d e : ℕ) (le : d ≤ e) where
   name_part : (attributes : List Attribute) (b : List ℕ) → IsRelativeDistinguishedNameWithin d attributes b → IsRelativeDistinguishedNameWithin e attributes b
   name_part attributes b h = record { content = h.content; row = more_rows _ _ attribute attributes h.content h.row; some = h.some; set = h.set }
 
+  -- a Name under one bound of depth is one under a greater bound
   pub deeper_name : (name b : List ℕ) → IsNameWithin d name b → IsNameWithin e name b
   deeper_name name b h =
       let parts = h.parts_are in record {
@@ -147,6 +148,7 @@ module _ (d e : ℕ) (le : d ≤ e) where
   tbs : (f : TbsFields) (b : List ℕ) → IsTbsCertificateWithin d f b → IsTbsCertificateWithin e f b
   tbs f b h = record { content = h.content; content_is = tbs_content f h.content h.content_is; enc = h.enc }
 
+  -- a certificate under one bound of depth is one under a greater bound
   pub deeper_certificate : (c : CertFields) (b : List ℕ) → IsCertificateWithin d c b → IsCertificateWithin e c b
   deeper_certificate c b h = record {
     content = h.content;

@@ -1,4 +1,4 @@
--- Fields that have a spelling.
+-- Fields that have an encoding.
 use Rattle.std.proofs.Common.{ℕ, List, [], ◌∷◌, refl, arith, ◌<◌, ◌^◌, length, inl}
 use Rattle.rpki_der.specs.Tags.{SEQUENCE}
 use Rattle.rpki_der.specs.Times.{Moment, IsMoment, time}
@@ -26,6 +26,7 @@ no_name = SEQUENCE ∷ 0 ∷ []
 abbrev no_key : List ℕ
 no_key = 0 ∷ 0 ∷ 0 ∷ 0 ∷ 0 ∷ 0 ∷ 0 ∷ 0 ∷ 0 ∷ 0 ∷ 0 ∷ 0 ∷ 0 ∷ 0 ∷ 0 ∷ 0 ∷ 0 ∷ 0 ∷ 0 ∷ 0 ∷ []
 
+-- the fields of an example
 abbrev pub some_fields : TbsFields
 some_fields = record {
   serial = 1;
@@ -48,6 +49,7 @@ short : length (tbs_content some_fields) < 2 ^ 32
 unfolding extensions enc length_octets number time
 short = omega arith
 
+-- the fields of the example have an encoding
 pub some_fit : Fits some_fields
 some_fit = record {
   serial_is = omega arith;
@@ -60,5 +62,6 @@ some_fit = record {
   short = short;
 }
 
+-- the example has resources
 pub some_resources : HasResources some_fields.extensions
 some_resources = inl (λ e. cc)

@@ -58,7 +58,7 @@ module _ (strict other : Bool) (c : CertFields) where
 pub plain_is_detached : (strict : Bool) (c : CertFields) → MeetsProfile EndEntity strict c → MeetsProfile Detached strict c
 plain_is_detached strict c p = front (Lacks EndEntity strict c) (faults Detached) (fault.MissingSignedObject ∷ []) p
 
--- with the same group
+-- a certificate that meets two profiles has one group
 pub same_group : (k l : Kind) (t u : Bool) (c : CertFields) → MeetsProfile k t c → MeetsProfile l u c → group k ≡ group l
 same_group Anchor Anchor t u c p q = refl
 same_group Anchor Authority t u c p q = absurd (anchor_authority t u c p q)
@@ -95,11 +95,14 @@ no_other : (o : Option (List ℕ)) (own : List ℕ) → IfSome o (λ id. id ≡ 
 no_other None own h = inl refl
 no_other (Some id) own h = inr (ap Some h)
 
+-- a trust anchor's Basic Constraints say that it is a CA
 pub anchor_is_ca : (strict : Bool) (c : CertFields) → MeetsProfile Anchor strict c → c.fields.extensions.basic_ca ≡ Some true
 anchor_is_ca strict c p = is_true c.fields.extensions.basic_ca (lacks Anchor strict c fault.CaFlagFalse 6 refl p) (lacks Anchor strict c fault.MissingBasicConstraints 7 refl p)
 
+-- a CA's Basic Constraints say that it is one
 pub authority_is_ca : (strict : Bool) (c : CertFields) → MeetsProfile Authority strict c → c.fields.extensions.basic_ca ≡ Some true
 authority_is_ca strict c p = is_true c.fields.extensions.basic_ca (lacks Authority strict c fault.CaFlagFalse 6 refl p) (lacks Authority strict c fault.MissingBasicConstraints 7 refl p)
 
+-- a trust anchor names no other key as the one that signs
 pub signs_itself : (strict : Bool) (c : CertFields) → MeetsProfile Anchor strict c → NamesNoOtherKey c.fields.extensions
 signs_itself strict c p = no_other c.fields.extensions.authority_key_identifier c.fields.extensions.subject_key_identifier (lacks Anchor strict c fault.AuthorityKeyIdentifier 13 refl p)

@@ -35,6 +35,7 @@ use Rattle.rpki_cert.specs.declared.rearrange_error.RearrangeError.{RearrangeErr
 
 -- ---- values one after the other
 
+-- reading a value that is kept whole uses octets up
 pub captured_shrinks : Shrinks captured_at
 unfolding captured_at
 captured_shrinks = λ octets v rest e.
@@ -55,6 +56,7 @@ split_push : {X : Type 0} (xs : List X) (x : X) → split_last (xs ++ x ∷ []) 
 split_push [] x = refl
 split_push (y ∷ xs) x = rw (split_push xs x) refl
 
+-- a list with one element at its end is split before it
 pub split_is : {X : Type 0} (all xs : List X) (x : X) → all ≡ xs ++ x ∷ [] → split_last all ≡ some {A = List X × X} (xs, x)
 split_is all xs x e = rw e (split_push xs x)
 
@@ -151,6 +153,7 @@ certificate_parts c octets front rest e s =
 
 -- ---- what is read
 
+-- the parts of a certificate as contracts see them
 abbrev pub view : Parts → List (List ℕ) × (List (List ℕ) × List ℕ)
 view p = (p.before, (p.old, p.behind))
 
@@ -171,7 +174,7 @@ begins octets c m p e =
       octets_are = m.1.parts;
     })
 
--- a certificate's parts are read, or memory was wanted
+-- a certificate's parts are read, or it ran out of memory
 pub parts_ok : (octets copy : List ℕ) (c : CertFields) → Means IsCertificate c copy → copy ≡ octets → (r : Result Parts DecodeError) → ReturnsOrMemoryBy view r (parts_at octets) → IfOk r (λ p. BeginsWith octets p)
 parts_ok octets copy c m same (Ok p) e = begins octets c (subst (λ (o : List ℕ). Means IsCertificate c o) same m) p e
 parts_ok octets copy c m same (Err d) e = tt
@@ -179,6 +182,7 @@ parts_ok octets copy c m same (Err d) e = tt
 abbrev IsNone : List ℕ → Type 0
 IsNone octets = (x : CertFields) → Means IsCertificate x octets → ⊥
 
+-- where a certificate begins the octets, reading its parts fails only when out of memory
 pub parts_refused : (octets copy : List ℕ) (c : CertFields) → Means IsCertificate c copy → copy ≡ octets → (r : Result Parts DecodeError) → ReturnsOrMemoryBy view r (parts_at octets) → IfErr r (λ d. Refuses d (IsNone octets))
 parts_refused octets copy c m same (Ok p) e = tt
 parts_refused octets copy c m same (Err d) e =
@@ -188,6 +192,7 @@ parts_refused octets copy c m same (Err d) e =
 
 -- ---- why nothing could be read
 
+-- a refusal that is passed on says of octets what it said of their copy
 pub refusal_passed_on : {X : Type 0} (octets copy : List ℕ) (r : Result X DecodeError) (d : DecodeError) → r ≡ Err d → Refuses d (IsNone copy) → copy ≡ octets → IfErr r (λ e. Refuses e (IsNone octets))
 refusal_passed_on octets copy (Ok x) d e h same = tt
 refusal_passed_on octets copy (Err f) d e h same =
@@ -199,6 +204,7 @@ refused_by_reading : (octets : List ℕ) (d : DecodeError) → Refuses d (IsNone
 refused_by_reading octets Memory h order extras = tt
 refused_by_reading octets _ h order extras = h
 
+-- a refusal to read a copy, passed on as one to rearrange, is a refusal of the octets
 pub refused_from : {X : Type 0} (octets copy : List ℕ) (r : Result X RearrangeError) (d : DecodeError) → r ≡ Err (of_reading d) → Refuses d (IsNone copy) → copy ≡ octets → IfErr r (λ e. (order : List ℕ) (extras : List Extra) → IsRefused octets order extras e)
 refused_from octets copy (Ok x) d e h same = tt
 refused_from octets copy (Err f) d e h same =

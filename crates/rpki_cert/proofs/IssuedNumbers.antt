@@ -9,5 +9,6 @@ held issuer missing n h = absurd h
 held issuer inherit n h = h
 held issuer (blocks chain) n h = h.1
 
+-- issued numbers are the issuer's
 pub issued_in : (issuer : List Block) (r : Resources) (set : List Block) → IsIssued issuer r set → AreIn set issuer
 issued_in issuer r set h n p = held (Has issuer) r n ((h n).0 p)

@@ -15,6 +15,7 @@ module _ {X : Type 0} (P : X → Type 0) where
   behind [] ys e all h = h
   behind (x ∷ xs) ys e all h = inr (all.0, behind xs ys e all.1 h)
 
+  -- what all elements of both lists have, all of both together have
   pub together : (xs ys : List X) → AllByRecursion P xs → AllByRecursion P ys → AllByRecursion P (xs ++ ys)
   together [] ys all more = more
   together (x ∷ xs) ys all more = (all.0, together xs ys all.1 more)

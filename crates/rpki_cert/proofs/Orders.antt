@@ -1,4 +1,5 @@
--- Orders: what a table of the places seen says, and that an order names as many of each as there are.
+-- Orders: what a table of the places seen says, and that an order names as many of each as there
+-- are.
 use Rattle.std.specs.List.{AllByRecursion, IsDistinct, list_any}
 use Rattle.std.specs.Prelude.{nat_eq, ◌||◌}
 use Rattle.std.specs.List.{sum_by}
@@ -11,16 +12,19 @@ use Rattle.rpki_cert.specs.Rearranging.{IsOrder}
 
 -- ---- all elements, one by one
 
+-- what all elements have, the element at a place has
 pub all_get : {X : Type 0} (P : X → Type 0) (xs : List X) (i : ℕ) (d : X) → i < length xs → AllByRecursion P xs → P (get_or xs i d)
 all_get P [] i d h a = absurd (omega arith)
 all_get P (x ∷ xs) zero d h a = a.0
 all_get P (x ∷ xs) (suc i) d h a = all_get P xs i d (omega arith) a.1
 
+-- what the first i elements have and the next one has, the first i + 1 have
 pub all_more : {X : Type 0} (P : X → Type 0) (xs : List X) (i : ℕ) (d : X) → i < length xs → AllByRecursion P (take i xs) → P (get_or xs i d) → AllByRecursion P (take (suc i) xs)
 all_more P [] i d h a p = absurd (omega arith)
 all_more P (x ∷ xs) zero d h a p = (p, tt)
 all_more P (x ∷ xs) (suc i) d h a p = (a.0, all_more P xs i d (omega arith) a.1 p)
 
+-- what all elements and one more have, the longer list's elements have
 pub all_now : {X : Type 0} (P : X → Type 0) (xs : List X) (x : X) → AllByRecursion P xs → P x → AllByRecursion P (xs ++ x ∷ [])
 all_now P [] x h p = (p, tt)
 all_now P (y ∷ xs) x h p = (h.0, all_now P xs x h.1 p)
@@ -93,6 +97,7 @@ seen_more count seen order i inside table low h place below =
           get_or-set_other seen (get_or order i 0) place true false apart ∙ h place below ∙ sym (more ∙ rw other (or_false (list_any (nat_eq place) (take i order))))
     ]
 
+-- before the first place nothing was seen
 pub order_starts : (count : ℕ) (seen : List Bool) (order : List ℕ) → seen ≡ replicate count false → IsOrderSoFar count seen order 0
 unfolding IsDistinct
 order_starts count seen order e = record {
@@ -102,6 +107,7 @@ order_starts count seen order e = record {
   distinct = tt;
 }
 
+-- a place that is new is remembered
 pub order_goes_on : (count : ℕ) (seen : List Bool) (order : List ℕ) (i : ℕ) → i < length order → get_or order i 0 < count → get_or seen (get_or order i 0) false ≡ false → IsOrderSoFar count seen order i → IsOrderSoFar count (set seen (get_or order i 0) true) order (i + 1)
 order_goes_on count seen order i inside low unseen h = record {
   table = length-set seen (get_or order i 0) true ∙ h.table;
@@ -110,6 +116,7 @@ order_goes_on count seen order i inside low unseen h = record {
   distinct = rw (add-one i) (one_more order i inside h.distinct (sym (h.has_seen (get_or order i 0) low) ∙ unseen));
 }
 
+-- at the end every place was seen once
 pub order_ends : (count : ℕ) (seen : List Bool) (order : List ℕ) (i : ℕ) → length order ≡ count → length order ≤ i → IsOrderSoFar count seen order i → IsOrder count order
 order_ends count seen order i many all h = record {
   as_many = many;
@@ -117,9 +124,11 @@ order_ends count seen order i many all h = record {
   distinct = subst (λ (s : List ℕ). IsDistinct nat_eq s) (take_all i order all) h.distinct;
 }
 
+-- an order has no place beyond the extensions
 pub place_too_high : (count : ℕ) (order : List ℕ) (i : ℕ) → i < length order → count ≤ get_or order i 0 → IsOrder count order → ⊥
 place_too_high count order i inside high o = let low = all_get (λ place. place < count) order i 0 inside o.places in omega (arith, low)
 
+-- an order has no place twice
 pub place_twice : (count : ℕ) (seen : List Bool) (order : List ℕ) (i : ℕ) → i < length order → get_or order i 0 < count → get_or seen (get_or order i 0) true ≡ true → IsOrderSoFar count seen order i → IsOrder count order → ⊥
 place_twice count seen order i inside low was h o =
     let same = get_or_default seen (get_or order i 0) false true (omega (arith, low, h.table)) in
@@ -185,6 +194,7 @@ all_places f (suc n) xs below distinct =
           (omega (arith, r.0), λ e. absurd (omega (arith, r.0, e)))
     ]
 
+-- a sum over an order is one over all places
 pub order_sums : (f : ℕ → ℕ) (count : ℕ) (order : List ℕ) → IsOrder count order → sum_by f order ≡ sum_below f count
 order_sums f count order o = (all_places f count order o.places o.distinct).1 o.as_many
 
@@ -197,6 +207,7 @@ from_first : (f : ℕ → ℕ) (n : ℕ) → sum_below f (suc n) ≡ f 0 + sum_b
 from_first f zero = omega arith
 from_first f (suc n) = omega (arith, from_first f n)
 
+-- a sum over all places is one over the elements
 pub sum_of_places : {X : Type 0} (f : X → ℕ) (xs : List X) (d : X) → sum_below (λ i. f (get_or xs i d)) (length xs) ≡ sum_by f xs
 sum_of_places f [] d = refl
 sum_of_places f (x ∷ xs) d =

@@ -1,4 +1,5 @@
--- A permutation of the old pieces and of others that are passed over has the counts of a rearrangement.
+-- A permutation of the old pieces and of others that are passed over has the counts of a
+-- rearrangement.
 use Rattle.std.specs.List.{AllByRecursion}
 use Rattle.std.proofs.Common.{ℕ, List, [], ◌∷◌, ◌++◌, ◌≡◌, ◌≤◌, ◌⊎◌, IsPermutation, bytes_eq, refl, sym, subst, arith, inl, inr}
 use Rattle.std.proofs.lemmas.Bool.{cases_Bool}
@@ -20,6 +21,8 @@ stands P e (x ∷ row) h =
       ]
     ]
 
+-- in a rearrangement each piece stands as often as before, or is passed over and stands at least so
+-- often
 pub counts_of : (old further new : List (List ℕ)) → AllByRecursion IsPassedOver further → IsPermutation (old ++ further) new
     → (e : List ℕ) → (times e new ≡ times e old) ⊎ (IsPassedOver e × (times e old ≤ times e new))
 counts_of old further new passed p e =

@@ -72,6 +72,7 @@ pub read_or_memory : (E : Type 0) {P : Type 0} (e : DecodeError) → Refuses e P
 read_or_memory E reading.Memory h no_p = tt
 read_or_memory E _ h no_p = no_p h
 
+-- a made certificate can be read
 pub readable : (c : CertFields) → IsMade c → IsUnreadable c.signed_data → ⊥
 readable c made no_c =
     let can = made.fields_are in
@@ -92,10 +93,12 @@ not_made f MayAnswer s (Decode e) made h = of_it e h
 
 -- ---- of a result
 
+-- what an Ok has may be weakened
 pub if_ok : {T E : Type 0} (r : Result T E) (P Q : T → Type 0) → ((x : T) → P x → Q x) → IfOk r P → IfOk r Q
 if_ok (Ok x) P Q f h = f x h
 if_ok (Err e) P Q f h = tt
 
+-- what an Err has may be weakened
 pub if_err : {T E : Type 0} (r : Result T E) (P Q : E → Type 0) → ((e : E) → P e → Q e) → IfErr r P → IfErr r Q
 if_err (Ok x) P Q f h = tt
 if_err (Err e) P Q f h = f e h

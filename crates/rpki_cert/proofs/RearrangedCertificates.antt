@@ -123,11 +123,13 @@ module _ (before old new : List (List ℕ)) (behind b c : List ℕ) (p : IsBuilt
       }
 
 module _ (b c : List ℕ) (r : IsRearrangement b c) where
+  -- a certificate is still one with its fields after it was rearranged
   pub still_certificate : (f : TbsFields) (s : SignatureFields) → IsCertificateOf f s b → IsCertificateOf f s c
   still_certificate =
       let reordered = from_times IsPassedOver r.old r.new r.counts in
       carried r.before r.old r.new r.behind b c r.old_is r.new_is (weaken IsSomeExtension IsValue some_value r.old r.extensions_are) (new_give r.old r.new reordered)
 
+  -- what is a certificate after it was rearranged was one with its fields before
   pub was_certificate : (f : TbsFields) (s : SignatureFields) → IsCertificateOf f s c → IsCertificateOf f s b
   was_certificate =
       let reordered = from_times IsPassedOver r.old r.new r.counts in

@@ -10,11 +10,12 @@ use Rattle.std.proofs.lemmas.List.{length-append}
 use Rattle.rpki_der.proofs.Lists.{weaken}
 use Rattle.rpki_cert.specs.Rearranged.{times}
 
--- each member of xs is taken out of ys, and what is left has the property
+-- each member of xs is taken out of ys, and what remains has the property
 abbrev pub IsReordered : {X : Type 0} → (X → Type 0) → List X → List X → Type 0
 IsReordered Extra [] ys = AllByRecursion Extra ys
 IsReordered {X} Extra (x ∷ xs) ys = (p : List X) × (q : List X) × (ys ≡ p ++ x ∷ q) × IsReordered Extra xs (p ++ q)
 
+-- nothing is added
 abbrev pub NoMore : {X : Type 0} → X → Type 0
 NoMore x = ⊥
 
@@ -68,6 +69,7 @@ from_times Extra (x ∷ ps) qs h =
 
 -- ---- what holds of all members
 
+-- what all elements of both lists have, all of both together have
 pub all_append : {X : Type 0} (P : X → Type 0) (xs ys : List X) → AllByRecursion P xs → AllByRecursion P ys → AllByRecursion P (xs ++ ys)
 all_append P [] ys g h = h
 all_append P (x ∷ xs) ys g h = (g.0, all_append P xs ys g.1 h)
@@ -76,12 +78,14 @@ all_parts : {X : Type 0} (P : X → Type 0) (xs ys : List X) → AllByRecursion 
 all_parts P [] ys h = (tt, h)
 all_parts P (x ∷ xs) ys h = let r = all_parts P xs ys h.1 in ((h.0, r.0), r.1)
 
+-- what all elements and those added have, all have after they were reordered
 pub all_moved : {X : Type 0} (Extra P : X → Type 0) → ((x : X) → Extra x → P x) → (xs ys : List X) → IsReordered Extra xs ys → AllByRecursion P xs → AllByRecursion P ys
 all_moved Extra P f [] ys r h = weaken Extra P f ys r
 all_moved Extra P f (x ∷ xs) ys r h =
     let rest = all_parts P r.0 r.1 (all_moved Extra P f xs (r.0 ++ r.1) r.3 h.1) in
     subst (λ (zs : List _). AllByRecursion P zs) (sym r.2) (all_append P r.0 (x ∷ r.1) rest.0 (h.0, rest.1))
 
+-- what all elements have after they were reordered, all had before
 pub all_moved_back : {X : Type 0} (Extra P : X → Type 0) (xs ys : List X) → IsReordered Extra xs ys → AllByRecursion P ys → AllByRecursion P xs
 all_moved_back Extra P [] ys r h = tt
 all_moved_back Extra P (x ∷ xs) ys r h =
@@ -94,6 +98,7 @@ filter_none : {X : Type 0} (Extra : X → Type 0) (test : X → Bool) → ((x : 
 filter_none Extra test f [] h = refl
 filter_none Extra test f (x ∷ xs) h = rw (f x h.0) (filter_none Extra test f xs h.1)
 
+-- elements that pass a test which those added fail are reordered among themselves
 pub kept : {X : Type 0} (Extra : X → Type 0) (test : X → Bool) → ((x : X) → Extra x → test x ≡ false) → (xs ys : List X) → IsReordered Extra xs ys → IsReordered NoMore (filter test xs) (filter test ys)
 kept Extra test f [] ys r = subst (λ (zs : List _). AllByRecursion NoMore zs) (sym (filter_none Extra test f ys r)) tt
 kept {X} Extra test f (x ∷ xs) ys r =
@@ -113,6 +118,7 @@ kept {X} Extra test f (x ∷ xs) ys r =
           subst (λ (zs : List X). IsReordered NoMore zs (filter test ys)) (sym first) (subst (λ (zs : List X). IsReordered NoMore (filter test xs) zs) (sym whole) rest)
     ]
 
+-- reordering without additions keeps the length
 pub length_moved : {X : Type 0} (xs ys : List X) → IsReordered NoMore xs ys → length ys ≡ length xs
 length_moved [] [] r = refl
 length_moved [] (y ∷ ys) r = absurd r.0

@@ -33,6 +33,7 @@ passed_on_long {T} {U} P (Err d) e same says = λ long.
 
 -- ---- the octets of the row
 
+-- the row that is put together is the new row of the plan
 pub row_made : (order : List ℕ) (places old : List (List ℕ)) (extras : List Extra) → IsPlan (length old) order extras → length places ≡ length old + 1 → HaveAdded (length old + 1) extras places → joined order places old ≡ concat (new_row order extras old)
 row_made order places old extras plan many have =
     joined_is order places old extras 0 (omega (arith, many, plan.order_is.as_many)) (λ i below. have i (omega (arith, below, many)) ∙ ap (λ (k : ℕ). concat (added_at k extras)) (omega arith))
@@ -40,6 +41,7 @@ row_made order places old extras plan many have =
 placed_in : (order : List ℕ) (count : ℕ) (extras : List Extra) → IsPlan count order extras → ArePlaced (length order) extras
 placed_in order count extras plan = subst (λ (n : ℕ). ArePlaced n extras) (sym plan.order_is.as_many) plan.extras_are
 
+-- a new row with an added extension that is too long is too long
 pub row_too_long : (order : List ℕ) (old : List (List ℕ)) (extras : List Extra) → IsPlan (length old) order extras → HasLong extras → 2 ^ 32 ≤ length (concat (new_row order extras old))
 row_too_long order old extras plan h = long_row order extras old (placed_in order (length old) extras plan) h
 
@@ -70,9 +72,11 @@ module _ (p : Parts) (row : List (List ℕ)) (answer : List ℕ) (is : answer �
       let extensions = nested (CONTEXT_CONSTRUCTED 3 ∷ SEQUENCE ∷ []) (concat row) in
       (omega (arith, content.0, length-append (concat p.before) extensions), (AreOctets-parts (concat p.before) extensions content.1).1)
 
+  -- each piece of the new row is short
   pub row_fits : AllByRecursion Short row
   row_fits = pieces_short row (nested_short (CONTEXT_CONSTRUCTED 3 ∷ SEQUENCE ∷ []) (concat row) extensions_fit)
 
+  -- the answer is put together of its parts
   pub built : AllByRecursion IsValue p.before → IsBuiltOf p.before row p.behind answer
   built values = record {
     extensions = nested (CONTEXT_CONSTRUCTED 3 ∷ SEQUENCE ∷ []) (concat row);
@@ -109,6 +113,7 @@ each_passed piece (x ∷ extras) u o s = (
 module _ (octets : List ℕ) (order : List ℕ) (extras : List Extra) (p : Parts) (begins : BeginsWith octets p) (plan : IsPlan (length p.old) order extras) (unknown : AreUnknown extras) where
   module _ (oids : AllByRecursion (λ x. IsOid x.oid) extras) (answer : List ℕ) (is : answer ≡ enc SEQUENCE (content_with (concat (new_row order extras p.old)) p))
       (short : length (content_with (concat (new_row order extras p.old)) p) < 2 ^ 32) (are : AreOctets answer) where
+    -- the answer is the rearranged certificate
     pub rearranged : IsRearranged octets order extras answer
     rearranged = record {
       parts = p;
@@ -126,6 +131,7 @@ module _ (octets : List ℕ) (order : List ℕ) (extras : List Extra) (p : Parts
         let named : sum_by (λ n. f (get_or p.old n [])) order ≡ sum_by f p.old = order_sums (λ n. f (get_or p.old n [])) (length p.old) order plan.order_is ∙ sum_of_places f p.old [] in
         elim sums [ inl same ↦ inl (same ∙ named) | inr more ↦ inr (more.0, omega (arith, more.1, named)) ]
 
+    -- the answer is a rearrangement of a front of the octets
     pub is_rearrangement : (front : List ℕ) × (rest : List ℕ) × (octets ≡ front ++ rest) × IsRearrangement front answer
     is_rearrangement = (
       begins.front,

@@ -16,9 +16,11 @@ use Rattle.rpki_cert.proofs.Orders.{all_get, all_more, all_now}
 abbrev none : List ℕ
 none = []
 
+-- one piece more is appended to the pieces before it
 pub concat_more : (xs : List (List ℕ)) (i : ℕ) → i < length xs → concat (take (i + 1) xs) ≡ concat (take i xs) ++ get_or xs i []
 concat_more xs i inside = ap concat (take_more xs i [] inside) ∙ concat-append (take i xs) (get_or xs i [] ∷ []) ∙ ap (λ (s : List ℕ). concat (take i xs) ++ s) (append-nil (get_or xs i []))
 
+-- one more empty piece stands behind the others
 pub replicate_more : (n : ℕ) → replicate n none ++ none ∷ [] ≡ replicate (n + 1) none
 replicate_more zero = refl
 replicate_more (suc n) = rw (add-one (suc n)) (ap (λ (s : List (List ℕ)). none ∷ s) (replicate_more n ∙ rw (add-one n) refl))
@@ -31,6 +33,7 @@ pub record AreAddedSoFar (count : ℕ) (places : List (List ℕ)) (extras : List
   pub have_added : HaveAdded count (take i extras) places
   pub valid : AllByRecursion (λ x. IsOid x.oid) (take i extras)
 
+-- before the first extension nothing is added
 pub added_starts : (count : ℕ) (places : List (List ℕ)) (extras : List Extra) → places ≡ replicate count [] → AreAddedSoFar count places extras 0
 added_starts count places extras e = record {
   as_many = rw e (length-replicate count []);
@@ -52,6 +55,7 @@ added_elsewhere place xs x other =
     let none : filter (λ y. nat_eq y.at place) (x ∷ []) ≡ [] = rw other refl in
     ap (λ (ys : List Extra). concat (map written ys)) (filter-append (λ y. nat_eq y.at place) xs (x ∷ []) ∙ ap (λ (ys : List Extra). filter (λ y. nat_eq y.at place) xs ++ ys) none ∙ append-nil (filter (λ y. nat_eq y.at place) xs))
 
+-- an added extension stands at its place
 pub added_goes_on : (count : ℕ) (places : List (List ℕ)) (extras : List Extra) (i : ℕ) (x : Extra) (now : List ℕ) → i < length extras → x ≡ get_or extras i x → x.at < count → IsOid x.oid → now ≡ get_or places x.at [] ++ written x → AreAddedSoFar count places extras i → AreAddedSoFar count (set places x.at now) extras (i + 1)
 added_goes_on count places extras i x now inside at_i low oid is h =
     let more : take (i + 1) extras ≡ take i extras ++ x ∷ [] = take_more extras i x inside ∙ ap (λ (y : Extra). take i extras ++ y ∷ []) (sym at_i) in
@@ -71,12 +75,14 @@ added_goes_on count places extras i x now inside at_i low oid is h =
       valid = subst (λ (ys : List Extra). AllByRecursion (λ y. IsOid y.oid) ys) (sym more) (all_now (λ y. IsOid y.oid) (take i extras) x h.valid oid);
     }
 
+-- at the end all extensions are added
 pub added_ends : (count : ℕ) (places : List (List ℕ)) (extras : List Extra) (i : ℕ) → length extras ≤ i → AreAddedSoFar count places extras i → HaveAdded count extras places × AllByRecursion (λ x. IsOid x.oid) extras
 added_ends count places extras i all h = (
   subst (λ (ys : List Extra). HaveAdded count ys places) (take_all i extras all) h.have_added,
   subst (λ (ys : List Extra). AllByRecursion (λ x. IsOid x.oid) ys) (take_all i extras all) h.valid,
 )
 
+-- an added extension that is too long is one of those
 pub long_at : (extras : List Extra) (i : ℕ) (x : Extra) → i < length extras → x ≡ get_or extras i x → 2 ^ 32 ≤ length (written x) → HasLong extras
 long_at [] i x inside is long = absurd (omega arith)
 long_at (y ∷ extras) zero x inside is long = inl (rw (← is) long)
@@ -84,6 +90,7 @@ long_at (y ∷ extras) (suc i) x inside is long = inr (long_at extras i x (omega
 
 -- ---- the row
 
+-- the row goes on with what is added at a place, and the extension that the order names there
 pub joined_goes_on : (order : List ℕ) (places old : List (List ℕ)) (i : ℕ) (row total : List ℕ) → i < length order → length places ≡ length order + 1
     → row ++ joined (drop i order) (drop i places) old ≡ total
     → ((row ++ get_or places i []) ++ get_or old (get_or order i 0) []) ++ joined (drop (i + 1) order) (drop (i + 1) places) old ≡ total
@@ -94,6 +101,7 @@ joined_goes_on order places old i row total inside many h =
     let rest = joined (drop (suc i) order) (drop (suc i) places) old in
     rw (add-one i) (append_assoc (row ++ get_or places i []) (get_or old (get_or order i 0) []) rest ∙ append_assoc row (get_or places i []) (get_or old (get_or order i 0) [] ++ rest) ∙ ap (λ (s : List ℕ). row ++ s) (sym step) ∙ h)
 
+-- the row ends with what is added behind the last extension
 pub joined_ends : (order : List ℕ) (places old : List (List ℕ)) (i : ℕ) (row total : List ℕ) → i ≡ length order → length places ≡ length order + 1
     → row ++ joined (drop i order) (drop i places) old ≡ total → row ++ get_or places i [] ≡ total
 joined_ends order places old i row total end many h =

@@ -101,6 +101,7 @@ GiveAlike old new = (xs : List Extension) (f : ExtensionFields) → AllZip IsExt
 passed_is : (piece : List ℕ) → IsPassedOver piece → (x : Extension) × IsExtension x piece × IsPassed x
 passed_is piece h = (h.extension, h.piece_is, (h.unknown, h.not_critical))
 
+-- what extensions give, they give after they were rearranged
 pub new_give : (old new : List (List ℕ)) → IsReordered IsPassedOver old new → GiveAlike old new
 new_give old new r xs f zipped g =
     let carried = carry IsExtension IsPassedOver IsPassed passed_is xs old new zipped r in
@@ -122,6 +123,7 @@ one_row_of (x ∷ xs) (y ∷ ys) (b ∷ bs) p q =
     let first : x ≡ y = (unambiguous extension_at IsExtension extension_reads x y b b [] [] p.0 q.0 refl).0 in
     let rest = one_row_of xs ys bs p.1 q.1 in cc (first, rest)
 
+-- what rearranged extensions give, they gave before
 pub old_give : (old new : List (List ℕ)) → AllByRecursion IsSomeExtension old → IsReordered IsPassedOver old new → GiveAlike new old
 old_give old new pieces_are r ys f zipped g =
     let xs = some_row old pieces_are in

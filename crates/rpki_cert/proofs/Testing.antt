@@ -23,6 +23,7 @@ module _ {X : Type 0} (P : X → Type 0) where
       inside : i < length xs
       inside = subst (λ (ys : List X). i < length ys) same p
 
+      -- a condition that doesn't hold, behind those that do, is the first that doesn't
       pub fails : (P (get_or items i d) → ⊥) → IsFirstFalse P xs (get_or items i d)
       fails not_p =
           let x = get_or items i d in
@@ -30,6 +31,7 @@ module _ {X : Type 0} (P : X → Type 0) where
           let now : drop i xs ≡ x ∷ drop (i + 1) xs = at xs i d inside ∙ ap (λ (y : X). y ∷ drop (i + 1) xs) is in
           go (Err x) (subst (λ (ys : List X). Tests {T = Unit {0}} P ys (Err x)) (sym now) (inl (refl, not_p)))
 
+      -- a condition that holds, behind those that do, leaves the others to decide
       pub holds : P (get_or items i d) → Decides xs (i + 1)
       holds h r t =
           let x = get_or items i d in
@@ -37,6 +39,7 @@ module _ {X : Type 0} (P : X → Type 0) where
           let now : drop i xs ≡ x ∷ drop (i + 1) xs = at xs i d inside ∙ ap (λ (y : X). y ∷ drop (i + 1) xs) is in
           go r (subst (λ (ys : List X). Tests P ys r) (sym now) (first_holds x (drop (i + 1) xs) h r t))
 
+    -- at the end all conditions hold
     pub all_hold : length items ≤ i → AllByRecursion P xs
     all_hold p =
         let unit : Unit {0} = tt in

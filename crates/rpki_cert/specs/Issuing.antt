@@ -1,4 +1,5 @@
--- A certification authority issues a certificate: it is made, captured, read again and validated (RFC 6487 4).
+-- A certification authority issues a certificate: it is made, captured, read again and validated
+-- (RFC 6487 4).
 use Rattle.std.specs.Prelude.{◌≡◌, ℕ, codes, ◌^◌, ◌≤◌, ◌<◌, List, length, Result, Ok}
 use Rattle.std.specs.List.{concat}
 use Rattle.rpki_der.specs.Place.{Refuses}
@@ -14,7 +15,8 @@ use Rattle.rpki_cert.specs.declared.issue.IssueCaError.{IssueCaError}
 use Rattle.rpki_cert.specs.declared.issue.IssueCaError.TheVariants.{Signing, Encode, Decode, Validation}
 use Rattle.rpki_cert.specs.declared.validation_error.ValidationError.{ValidationError}
 
--- the signed data is made of the fields, with a signer that may give these answers, and isn't too long
+-- the signed data is made of the fields, with a signer that may give these answers, and isn't too
+-- long
 pub record IsMadeOf {E : Type 0} (f : TbsFields) (MayAnswer : Result SignatureFields (SigningError E) → Type 0) (s : SignedFields) : Type 0 where
   pub message_is : s.message ≡ spelling f
   pub signed : MayAnswer (Ok s.signature)
@@ -24,8 +26,9 @@ pub record IsMadeOf {E : Type 0} (f : TbsFields) (MayAnswer : Result SignatureFi
 abbrev pub IsUnreadable : SignedFields → Type 0
 IsUnreadable s = (c : CertFields) → Means IsCertificate c (signed_data s) → ⊥
 
--- Why nothing is read again of what is made of the fields, with a signer that may give these answers: nothing is made; memory was wanted;
--- or something is made whose octets no certificate begins.
+-- Why no certificate is read again of what is made of the fields, with a signer that may give these
+-- answers: nothing is made; it ran out of memory; or something is made whose octets no certificate
+-- begins.
 abbrev pub IsNotMade : {E : Type 0} → TbsFields → (Result SignatureFields (SigningError E) → Type 0) → IssueCaError E → Type 0
 IsNotMade f MayAnswer (Signing e) = IsRefusal (tbs_content f) MayAnswer e
 IsNotMade f MayAnswer (Encode writing.TooLong) = ⊥
@@ -33,7 +36,8 @@ IsNotMade f MayAnswer (Encode writing.Memory) = Unit {0}
 IsNotMade f MayAnswer (Decode e) = Refuses e ((s : SignedFields) × IsMadeOf f MayAnswer s × IsUnreadable s)
 IsNotMade f MayAnswer (Validation e) = ⊥
 
--- a certificate that was read again, from its own octets, of what was made of the fields, with a signer that may give these answers
+-- a certificate that was read again, from its own octets, of what was made of the fields, with a
+-- signer that may give these answers
 pub record IsReadOf {E : Type 0} (f : TbsFields) (MayAnswer : Result SignatureFields (SigningError E) → Type 0) (c : CertFields) : Type 0 where
   pub read : IsCertificate c (signed_data c.signed_data)
   pub message_is : c.signed_data.message ≡ spelling f
@@ -56,7 +60,7 @@ IsNoReadingFault (Encode writing.Memory) = Unit {0}
 IsNoReadingFault (Decode reading.Memory) = Unit {0}
 IsNoReadingFault _ = ⊥
 
--- the same of what was made already
+-- why signed data that was made already is not read again as a certificate
 abbrev pub IsNotReadAgain : {E : Type 0} → SignedFields → IssueCaError E → Type 0
 IsNotReadAgain s (Signing e) = ⊥
 IsNotReadAgain s (Encode writing.TooLong) = 2 ^ 32 ≤ length (concat (signed_pieces s))
@@ -64,6 +68,7 @@ IsNotReadAgain s (Encode writing.Memory) = Unit {0}
 IsNotReadAgain s (Decode e) = Refuses e (IsUnreadable s)
 IsNotReadAgain s (Validation e) = ⊥
 
+-- the name of the error
 abbrev pub issue_ca_error_name : {E : Type 0} → IssueCaError E → List ℕ
 issue_ca_error_name (Signing e) = codes "Signing"
 issue_ca_error_name (Encode e) = codes "Encode"

@@ -1,4 +1,5 @@
--- The profiles of certificates (RFC 6487 4, RFC 8209 3.1; the order in which the conditions are tested is own).
+-- The profiles of certificates (RFC 6487 4, RFC 8209 3.1; the order in which the conditions are
+-- tested is own).
 use Rattle.std.specs.Prelude.{List, [], ◌∷◌, ◌≡◌, ◌≢◌, Bool, false, Some, IsSome, IsNone, IfSome}
 use Rattle.std.specs.List.{AllByRecursion}
 use Rattle.rpki_blocks.specs.Resources.{missing, inherit}
@@ -19,7 +20,8 @@ use Rattle.rpki_cert.specs.declared.inspect.Kind.TheVariants.{Anchor, Authority,
 
 -- ---- what a kind asks of the parts that each certificate has
 
--- the key is an RSA key (RFC 7935 3; own: of any length and exponent), of a router a P-256 key (RFC 8608 3)
+-- the key is an RSA key (RFC 7935 3; own: of any length and exponent), of a router a P-256 key (RFC
+-- 8608 3)
 abbrev pub HasKeyFor : Kind → TbsFields → Type 0
 HasKeyFor Router f = f.key.format ≡ EcdsaP256
 HasKeyFor _ f = f.key.format ≡ Rsa
@@ -39,13 +41,15 @@ HasUsageFor _ x = x.key_usage ≡ Ee
 abbrev pub HasManifestWithin : Access → Type 0
 HasManifestWithin a = IfSome a.rpki_manifest (λ manifest. IfSome a.ca_repository (λ repository. HasParent manifest repository))
 
--- none of the four URIs is there (RFC 8209 3.1.3.3; own: an extension that gives nothing counts as absent)
+-- none of the four URIs is there (RFC 8209 3.1.3.3; own: an extension that gives nothing counts as
+-- absent)
 abbrev pub HasNoAccess : Access → Type 0
 HasNoAccess a = IsNone a.ca_repository × IsNone a.rpki_manifest × IsNone a.signed_object × IsNone a.rpki_notify
 
 -- ---- the conditions, each the absence of the fault that is named after it
 
--- IpResourcesPresent is the fault of RFC 8209 3.1.3.4; own: an extension that gives nothing counts as absent
+-- IpResourcesPresent is the fault of RFC 8209 3.1.3.4; own: an extension that gives nothing counts
+-- as absent
 abbrev pub Lacks : Kind → Bool → CertFields → InspectionError → Type 0
 Lacks kind strict c fault.AlgorithmMismatch = c.fields.algorithm ≡ c.signed_data.signature.algorithm
 Lacks kind strict c fault.Issuer = IsRpkiName strict c.fields.issuer
@@ -77,7 +81,8 @@ Lacks kind strict c fault.InheritedAsResources = c.fields.extensions.as_resource
 
 -- ---- the kinds: their faults, in the order in which they are tested
 
--- own: in the certificate of an end entity rpkiNotify may stand, and a detached one needs no signedObject (RFC 6487 4.8.8.2)
+-- own: in the certificate of an end entity rpkiNotify may stand, and a detached one needs no
+-- signedObject (RFC 6487 4.8.8.2)
 abbrev pub faults : Kind → List InspectionError
 faults Anchor =
     fault.AlgorithmMismatch ∷ fault.Issuer ∷ fault.Subject ∷ fault.KeyAlgorithm ∷ fault.SubjectKeyIdentifier

@@ -1,4 +1,5 @@
--- A certificate whose extensions stand in another order, with others among them that readers pass over (RFC 5280 4.1, 4.2).
+-- A certificate whose extensions stand in another order, with others among them that readers pass
+-- over (RFC 5280 4.1, 4.2).
 use Rattle.std.specs.Prelude.{ℕ, List, [], ◌∷◌, ◌++◌, ◌≡◌, ◌≤◌, ◌⊎◌, false, bytes_eq, count_by}
 use Rattle.std.specs.List.{AllByRecursion, concat}
 use Rattle.rpki_der.specs.Tags.{CONTEXT_CONSTRUCTED, SEQUENCE}
@@ -13,8 +14,9 @@ use Rattle.rpki_cert.specs.Certificates.{TbsFields, IsCertificate}
 abbrev pub times : List ℕ → List (List ℕ) → ℕ
 times piece pieces = count_by (bytes_eq piece) pieces
 
--- b is the SEQUENCE of a TBSCertificate and what stands behind it. The TBSCertificate is the SEQUENCE of the values that stand before its
--- extensions, and of these: the pieces, one after the other, in a SEQUENCE under the tag [3] (RFC 5280 4.1).
+-- b is the SEQUENCE of a TBSCertificate and what stands behind it. The TBSCertificate is the
+-- SEQUENCE of the values that stand before its extensions, and of these: the pieces, one after the
+-- other, in a SEQUENCE under the tag [3] (RFC 5280 4.1).
 pub record IsBuiltOf (before pieces : List (List ℕ)) (behind b : List ℕ) : Type 0 where
   pub extensions : List ℕ
   pub tbs : List ℕ
@@ -27,16 +29,17 @@ pub record IsBuiltOf (before pieces : List (List ℕ)) (behind b : List ℕ) : T
 abbrev pub IsSomeExtension : List ℕ → Type 0
 IsSomeExtension piece = (x : Extension) × IsExtension x piece
 
--- the piece is an extension of no known kind that isn't critical: readers pass over it (RFC 5280 4.2)
+-- the piece is an extension of no known kind that isn't critical: readers pass over it (RFC 5280
+-- 4.2)
 pub record IsPassedOver (piece : List ℕ) : Type 0 where
   pub extension : Extension
   pub piece_is : IsExtension extension piece
   pub unknown : is_of known extension ≡ false
   pub not_critical : extension.critical ≡ false
 
--- c is b with its extensions in any order, and with more among them that readers pass over. What stands before the extensions and behind
--- the TBSCertificate is unchanged; each piece stands among the new ones as often as among the old ones or, if it is passed over, at least as
--- often.
+-- c is b with its extensions in any order, and with more among them that readers pass over. What
+-- stands before the extensions and behind the TBSCertificate is unchanged; each piece stands among
+-- the new ones as often as among the old ones or, if it is passed over, at least as often.
 pub record IsRearrangement (b c : List ℕ) : Type 0 where
   pub before : List (List ℕ)
   pub old : List (List ℕ)
@@ -47,7 +50,8 @@ pub record IsRearrangement (b c : List ℕ) : Type 0 where
   pub extensions_are : AllByRecursion IsSomeExtension old
   pub counts : (piece : List ℕ) → (times piece new ≡ times piece old) ⊎ (IsPassedOver piece × (times piece old ≤ times piece new))
 
--- all of b is a certificate with these fields and this signature, whatever the octets that are signed
+-- all of b is a certificate with these fields and this signature, whatever the octets that are
+-- signed
 pub record IsCertificateOf (f : TbsFields) (s : SignatureFields) (b : List ℕ) : Type 0 where
   pub message : List ℕ
   pub certificate_is : IsCertificate (record { fields = f; signed_data = record { message = message; signature = s } }) b

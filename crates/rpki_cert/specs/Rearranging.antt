@@ -1,5 +1,5 @@
--- What is made of a certificate when its extensions are set in another order and others are added (RFC 5280 4.1, 4.2; what may be asked for
--- is own).
+-- What is made of a certificate when its extensions are set in another order and others are added
+-- (RFC 5280 4.1, 4.2; what may be asked for is own).
 use Rattle.std.specs.Prelude.{ℕ, List, [], ◌∷◌, ◌++◌, ◌+◌, ◌^◌, ◌≡◌, ◌<◌, ◌≤◌, Bool, true, false, length, map, filter, get_or, nat_eq, bytes_eq}
 use Rattle.std.specs.List.{AllByRecursion, IsDistinct, concat, list_any}
 use Rattle.rpki_der.specs.Tags.{CONTEXT_CONSTRUCTED, SEQUENCE}
@@ -36,6 +36,7 @@ pub record IsPlan (count : ℕ) (order : List ℕ) (extras : List Extra) : Type 
 abbrev pub is_known : Extra → Bool
 is_known x = list_any (bytes_eq x.oid) known
 
+-- no extension added is of a known kind
 abbrev pub AreUnknown : List Extra → Type 0
 AreUnknown extras = AllByRecursion (λ x. is_known x ≡ false) extras
 
@@ -49,18 +50,20 @@ written x = extension x.oid false x.value
 abbrev pub added_at : ℕ → List Extra → List (List ℕ)
 added_at place extras = map written (filter (λ x. nat_eq x.at place) extras)
 
--- The row from this place on: at each place the old extension that the order names, behind what is added there. What is added at the place
--- behind the last stands last.
+-- The row from this place on: at each place the old extension that the order names, behind what is
+-- added there. What is added at the place behind the last stands last.
 abbrev pub row_from : ℕ → List ℕ → List Extra → List (List ℕ) → List (List ℕ)
 row_from place [] extras old = added_at place extras
 row_from place (named ∷ order) extras old = added_at place extras ++ (get_or old named [] ∷ row_from (place + 1) order extras old)
 
+-- the extensions in their new order, with the added ones among them
 abbrev pub new_row : List ℕ → List Extra → List (List ℕ) → List (List ℕ)
 new_row order extras old = row_from 0 order extras old
 
 -- ---- the certificate that is made
 
--- the values that stand before the extensions of a certificate, its extensions, and what stands behind its TBSCertificate
+-- the values that stand before the extensions of a certificate, its extensions, and what stands
+-- behind its TBSCertificate
 pub record Parts : Type 0 where
   pub before : List (List ℕ)
   pub old : List (List ℕ)
@@ -84,8 +87,9 @@ tbs_content_with row p = concat p.before ++ nested (CONTEXT_CONSTRUCTED 3 ∷ SE
 abbrev pub content_with : List ℕ → Parts → List ℕ
 content_with row p = enc SEQUENCE (tbs_content_with row p) ++ p.behind
 
--- The answer is the certificate that the octets begin with, with the new row in place of its extensions: what stood before and behind them is
--- unchanged, also the signature's value. What followed the certificate is dropped.
+-- The answer is the certificate that the octets begin with, with the new row in place of its
+-- extensions: what stood before and behind them is unchanged, also the signature's value. What
+-- followed the certificate is dropped.
 pub record IsRearranged (octets : List ℕ) (order : List ℕ) (extras : List Extra) (answer : List ℕ) : Type 0 where
   pub parts : Parts
   pub begins : BeginsWith octets parts
@@ -93,7 +97,8 @@ pub record IsRearranged (octets : List ℕ) (order : List ℕ) (extras : List Ex
   pub unknown : AreUnknown extras
   pub built : IsBuiltOf parts.before (new_row order extras parts.old) parts.behind answer
 
--- Why there is none, each where no earlier one is: no certificate, no plan, an extra of a known kind, 2^32 octets or more in its SEQUENCE (own).
+-- Why there is none, each where no earlier one is: no certificate, no plan, an extra of a known
+-- kind, 2^32 octets or more in its SEQUENCE (own).
 abbrev pub IsRefused : List ℕ → List ℕ → List Extra → RearrangeError → Type 0
 IsRefused octets order extras NoCertificate = (c : CertFields) → Means IsCertificate c octets → ⊥
 IsRefused octets order extras NotAnOrder = (p : Parts) × BeginsWith octets p × (IsPlan (length p.old) order extras → ⊥)

@@ -1,5 +1,5 @@
--- What is verified of a certificate, line by line (RFC 6487 7.2, RFC 8360 4.2.4.4; own: the order of the lines, and that revocation and the
--- chaining of names are the caller's to ask).
+-- What is verified of a certificate, check by check (RFC 6487 7.2, RFC 8360 4.2.4.4; own: the order
+-- of the checks, and that revocation and the chaining of names are the caller's to ask).
 use Rattle.std.specs.Prelude.{◌≡◌, ◌≢◌, ◌↔◌, ◌⊎◌, ◌≤◌, ◌^◌, ◌-◌, ℕ, Bool, List, [], ◌∷◌, IsSome, IfSome, codes}
 use Rattle.std.specs.List.{AllByRecursion}
 use Rattle.rpki_der.specs.Times.{Moment}
@@ -26,6 +26,7 @@ pub record Held : Type 1 where
   pub v6 : ℕ → Type 0
   pub as_numbers : ℕ → Type 0
 
+-- empty sets
 abbrev pub nothing_held : Held
 nothing_held = record { v4 = λ n. ⊥; v6 = λ n. ⊥; as_numbers = λ n. ⊥ }
 
@@ -64,16 +65,19 @@ HeldLine held c OverclaimV6 = ListsOnlyHeld c.fields.extensions.overclaim (2 ^ 1
 HeldLine held c OverclaimAs = ListsOnlyHeld c.fields.extensions.overclaim (2 ^ 32 - 1) held.as_numbers c.fields.extensions.as_resources
 HeldLine held c _ = Unit {0}
 
--- under what a certificate is judged: how the verifier answers, the moment, and whether names are read strictly
+-- under what a certificate is judged: how the verifier answers, the moment, and whether names are
+-- read strictly
 pub record Context : Type 1 where
   pub verifies : Verifies
   pub now : Moment
   pub strict : Bool
 
+-- the context of these three
 abbrev pub context : Verifies → Moment → Bool → Context
 context verifies now strict = record { verifies = verifies; now = now; strict = strict }
 
--- The line is true of c, in this context, under an issuer with these sets. A line is named by the error that it gives where it isn't true.
+-- The check is true of c, in this context, under an issuer with these sets. A check is named by the
+-- error that it gives where it isn't true.
 abbrev pub Line : Context → TbsFields → Held → CertFields → VerificationError → Type 0
 Line x issuer held c NotYetValid = TimeLine x.now c NotYetValid
 Line x issuer held c Expired = TimeLine x.now c Expired
@@ -89,17 +93,21 @@ Line x issuer held c OverclaimV6 = HeldLine held c OverclaimV6
 Line x issuer held c OverclaimAs = HeldLine held c OverclaimAs
 Line x issuer held c Memory = Unit {0}
 
--- ---- the lines of each call, in their order
+-- ---- the checks of each call, in their order
 
+-- the checks of the moment
 abbrev pub validity_lines : List VerificationError
 validity_lines = NotYetValid ∷ Expired ∷ []
 
+-- the checks that the certificate claims to be issued by the issuer
 abbrev pub claim_lines : List VerificationError
 claim_lines = MissingKeyId ∷ WrongKeyId ∷ MissingIssuerUri ∷ []
 
+-- the checks that the certificate inherits nothing
 abbrev pub own_lines : List VerificationError
 own_lines = InheritedV4 ∷ InheritedV6 ∷ InheritedAs ∷ []
 
+-- the checks that the certificate doesn't overclaim
 abbrev pub held_lines : List VerificationError
 held_lines = OverclaimV4 ∷ OverclaimV6 ∷ OverclaimAs ∷ []
 
@@ -119,17 +127,18 @@ issued_lines = NotYetValid ∷ Expired ∷ MissingKeyId ∷ WrongKeyId ∷ Missi
 abbrev pub router_lines : List VerificationError
 router_lines = NotYetValid ∷ Expired ∷ MissingKeyId ∷ WrongKeyId ∷ MissingIssuerUri ∷ BadSignature ∷ OverclaimAs ∷ []
 
--- all of these lines are true
+-- all of these checks are true
 abbrev pub IsVerified : {X : Type 0} → (X → Type 0) → List X → Type 0
 IsVerified line lines = AllByRecursion line lines
 
--- the first of them that isn't true; or memory was wanted
+-- the first of them that isn't true; or it ran out of memory
 abbrev pub IsFirstFalseOrMemory : (VerificationError → Type 0) → List VerificationError → VerificationError → Type 0
 IsFirstFalseOrMemory line lines e = (e ≡ Memory) ⊎ IsFirstFalse line lines e
 
 -- ---- what a certificate that was verified has
 
--- what a contract sees of a ResourceCert: the certificate, its sets of numbers, and the name of the trust anchor locator
+-- what a contract sees of a ResourceCert: the certificate, its sets of numbers, and the name of the
+-- trust anchor locator
 pub record ResourceFields : Type 0 where
   pub cert : CertFields
   pub v4 : List Block
@@ -137,15 +146,15 @@ pub record ResourceFields : Type 0 where
   pub as_numbers : List Block
   pub tal : List ℕ
 
--- as its lines see an issuer
+-- as its checks see an issuer
 abbrev pub held_by : ResourceFields → Held
 held_by r = record { v4 = Has r.v4; v6 = Has r.v6; as_numbers = Has r.as_numbers }
 
--- the lines under an issuer that was verified
+-- the checks under an issuer that was verified
 abbrev pub LineUnder : Context → ResourceFields → CertFields → VerificationError → Type 0
 LineUnder x issuer c = Line x issuer.cert.fields (held_by issuer) c
 
--- the lines of an anchor, which issued itself
+-- the checks of an anchor, which issued itself
 abbrev pub AnchorLine : Context → CertFields → VerificationError → Type 0
 AnchorLine x c = Line x c.fields nothing_held c
 
@@ -161,7 +170,8 @@ pub record HasListed (c : CertFields) (tal : List ℕ) (r : ResourceFields) : Ty
   pub as_is : ListsNumbers c.fields.extensions.as_resources r.as_numbers
   pub tal_is : r.tal ≡ tal
 
--- below an issuer: what it lists or inherits of the issuer's, and the issuer's locator (RFC 6487 7.2, RFC 8360 4.2.4.4)
+-- below an issuer: what it lists or inherits of the issuer's, and the issuer's locator (RFC 6487
+-- 7.2, RFC 8360 4.2.4.4)
 pub record HasIssued (c : CertFields) (issuer : ResourceFields) (r : ResourceFields) : Type 0 where
   pub cert_is : r.cert ≡ c
   pub v4_is : IsIssued issuer.v4 c.fields.extensions.v4_resources r.v4
@@ -171,6 +181,7 @@ pub record HasIssued (c : CertFields) (issuer : ResourceFields) (r : ResourceFie
 
 -- ---- names
 
+-- the name of the error
 abbrev pub verification_error_name : VerificationError → List ℕ
 verification_error_name NotYetValid = codes "NotYetValid"
 verification_error_name Expired = codes "Expired"

@@ -191,6 +191,7 @@ list_is f text s =
     let row = s.content_is.extensions_is.2.0 in
     (fields_of f row, (s.content, content_is f s.content s.content_is, s.enc), some_made f row (row_again f s.content s.content_is))
 
+-- a TBSCertList is read as it is encoded
 pub tbs_reads : Reads list_at IsTbsCertList
 unfolding list_at
 tbs_reads =
@@ -226,6 +227,7 @@ is_crl_content r text (q, s, e) =
 crl_content_is : (r : CrlFields) (text : List ℕ) → IsCertificateListContent r text → Turned with_same_algorithm IsKept r text
 crl_content_is r text s = (r, (s.signed_is, s.fields_are), rw (s.same_algorithm, same_self r.signed_data.signature.algorithm) refl)
 
+-- the content of a CertificateList is read as it is encoded
 pub crl_content_reads : Reads crl_content_at IsCertificateListContent
 unfolding crl_content_at
 crl_content_reads =
@@ -233,6 +235,7 @@ crl_content_reads =
     (turned_reads with_same_algorithm kept_at IsKept kept_reads)
     is_crl_content crl_content_is
 
+-- a CertificateList is read as it is encoded
 pub crl_reads : Reads crl_at IsCertificateList
 unfolding crl_at
 crl_reads =

@@ -1,4 +1,5 @@
--- A revocation list under one bound of depth is one under a greater bound, which concerns its issuer's name alone.
+-- A revocation list under one bound of depth is one under a greater bound, which concerns its
+-- issuer's name alone.
 use Rattle.std.proofs.Common.{ℕ, ◌≤◌, List}
 use Rattle.rpki_cert.proofs.DeeperCertificates.{deeper_name}
 use Rattle.rpki_crl.specs.Lists.{CrlFields, ListFields, IsTbsCertListContentWithin, IsTbsCertListWithin, IsCertificateListWithin}
@@ -29,6 +30,7 @@ module _ (d e : ℕ) (le : d ≤ e) where
   tbs_list : (f : ListFields Revoked) (b : List ℕ) → IsTbsCertListWithin d f b → IsTbsCertListWithin e f b
   tbs_list f b h = record { content = h.content; content_is = list_content f h.content h.content_is; enc = h.enc }
 
+  -- a revocation list under one bound of depth is one under a greater bound
   pub deeper_list : (r : CrlFields) (b : List ℕ) → IsCertificateListWithin d r b → IsCertificateListWithin e r b
   deeper_list r b h =
       let inside = h.content_is in record {

@@ -1,4 +1,4 @@
--- The list that is asked, and its lines.
+-- The list that is asked, and its checks.
 use Rattle.std.specs.List.{AllByRecursion}
 use Rattle.std.specs.Prelude.{Result, Ok, Err}
 use Rattle.std.proofs.Common.{◌≡◌, ℕ, List, [], ◌∷◌, ◌++◌, Option, Some, None, refl, sym, ap, subst, ◌∙◌, inl, inr}
@@ -25,22 +25,26 @@ module _ {X : Type 0} (P : X → Type 0) where
   one_first (b ∷ bs) [] x y ds es e p q none other = let same : y ≡ b = cc e in absurd (none.0 (subst P same q))
   one_first (b ∷ bs) (c ∷ cs) x y ds es e p q none other = let same : bs ++ x ∷ ds ≡ cs ++ y ∷ es = cc e in one_first bs cs x y ds es same p q none.1 other.1
 
+  -- the first element with a property is one
   pub first_is_one : (xs : List X) (x y : X) → IsFirstWith P x xs → IsFirstWith P y xs → x ≡ y
   first_is_one xs x y f g = one_first f.before g.before x y f.after g.after (sym f.is ∙ g.is) f.has g.has f.none_before g.none_before
 
+  -- where no element has a property, none is the first with it
   pub none_is_first : (xs : List X) (x : X) → AllByRecursion (λ y. P y → ⊥) xs → IsFirstWith P x xs → ⊥
   none_is_first xs x none f = has_none f.before x f.after f.has (subst (λ (ys : List X). AllByRecursion (λ y. P y → ⊥) ys) f.is none)
 
 -- ---- the list under a URI is one
 
 module _ (pairs : List Stored) (uri : List ℕ) where
+  -- the earliest list under a URI is one
   pub one_earliest : (c d : CrlState) → IsUnderUri pairs uri c → IsUnderUri pairs uri d → c ≡ d
   one_earliest c d p q = p.2 ∙ ap (λ (s : Stored). s.1) (first_is_one (IsUnder uri) pairs p.0 q.0 p.1 q.1) ∙ sym q.2
 
+  -- where no list is the earliest under a URI, there is none
   pub no_earliest : IsEarliest uri pairs None → (c : CrlState) → IsUnderUri pairs uri c → ⊥
   no_earliest none c p = none_is_first (IsUnder uri) pairs p.0 none p.1
 
--- ---- its lines are those of the list
+-- ---- its checks are those of the list
 
 module _ (x : Context) (issuer : TbsFields) (serial : ℕ) (IsAsked : CrlState → Type 0) where
   module _ (crl : CrlState) (is : IsAsked crl) (one : (d : CrlState) → IsAsked d → d ≡ crl) where
@@ -72,6 +76,6 @@ module _ (x : Context) (issuer : TbsFields) (serial : ℕ) (IsAsked : CrlState �
     tests_of (Ok v) t = all_of revocation_lines t
     tests_of (Err e) t = first_of revocation_lines e t
 
-  -- without one the first line is false
+  -- without one the first check is false
   pub no_list : ((d : CrlState) → IsAsked d → ⊥) → IsFirstFalse (RevocationLine x issuer serial IsAsked) revocation_lines NoCrl
   no_list none = inl (refl, λ l. none l.0 l.1)

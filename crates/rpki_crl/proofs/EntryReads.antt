@@ -1,4 +1,4 @@
--- An entry that is read is spelled so, and what is spelled so is read again.
+-- An entry that is read is encoded so, and what is encoded so is read again.
 use Rattle.std.proofs.Common.{ℕ, refl}
 use Rattle.rpki_der.specs.Tags.{SEQUENCE}
 use Rattle.rpki_der.specs.Reading.{both, Both, Inside, Reads}
@@ -17,6 +17,7 @@ use Rattle.rpki_crl.specs.RevokedEntries.Reading.{entry_from, entry_at, entry_co
 abbrev parts : Entry → ℕ × Moment
 parts e = (e.serial, e.date)
 
+-- the content of an entry is read as it is encoded
 pub entry_content_reads : Reads entry_content_at IsEntryContent
 unfolding entry_content_at
 entry_content_reads =
@@ -25,6 +26,7 @@ entry_content_reads =
     (λ e text s. record { serial = s.0; date = s.1; serial_is = s.2; date_is = s.3; is = s.4 })
     (λ e text s. (s.serial, s.date, s.serial_is, s.date_is, s.is))
 
+-- an entry is read as it is encoded
 pub entry_reads : Reads entry_at IsEntry
 unfolding entry_at
 entry_reads =
@@ -33,6 +35,7 @@ entry_reads =
     (λ e text s. record { content = s.0; content_is = s.1; enc = s.2 })
     (λ e text s. (s.content, s.content_is, s.enc))
 
+-- reading an entry uses octets up
 pub entry_shrinks : Shrinks entry_at
 unfolding entry_at
 entry_shrinks = inside_shrinks SEQUENCE entry_content_at

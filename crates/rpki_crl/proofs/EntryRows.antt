@@ -13,6 +13,7 @@ use Rattle.rpki_crl.specs.RevokedEntries.Reading.{entry_at, or_none, entries_in,
 use Rattle.rpki_crl.specs.SerialTables.{looks}
 use Rattle.rpki_crl.proofs.EntryReads.{entry_reads, entry_shrinks}
 
+-- no octets are read as no entries
 pub all_read : row_of entry_at [] ≡ Some []
 unfolding row_of
 all_read = refl
@@ -24,13 +25,14 @@ entries_are octets whole =
     let row = bind_some (row_of entry_at octets) (λ entries. Some tt) tt (sym (passed entry_at octets) ∙ whole) in
     rw row.1 refl
 
--- and they are spelled so
+-- and they are encoded so
 pub kept_entries : (octets : List ℕ) (r : Revoked) → record { entries = entries_in octets; octets = octets } ≡ r → entries_pass octets ≡ Some tt → AreOctets octets → AreEntries r.entries r.octets
 kept_entries octets r view whole fits =
     subst (λ (s : Revoked). AreEntries s.entries s.octets) view (row_is entry_at IsEntry entry_reads octets (entries_in octets) fits (entries_are octets whole))
 
 -- ---- one entry after the other
 
+-- no octets have no entries
 pub no_entries_in : entries_in [] ≡ []
 no_entries_in = rw all_read refl
 
@@ -50,6 +52,7 @@ module _ (octets : List ℕ) (whole : entries_pass octets ≡ Some tt) where
     unfolding entries_pass
     others_pass = sym (goes_on entry_at pass entry_shrinks tt octets e rest was tt refl) ∙ whole
 
+    -- the first entry that is read is the first of the octets
     pub first_entry : entries_in octets ≡ e ∷ entries_in rest
     first_entry =
         let less : length rest < length octets = entry_shrinks octets e rest was in
@@ -95,10 +98,12 @@ module _ (serial : ℕ) where
 
   -- what a kept list is seen as
   module _ (octets : List ℕ) (r : Revoked) (view : record { entries = entries_in octets; octets = octets } ≡ r) (whole : entries_pass octets ≡ Some tt) where
+    -- where the walk over entries is ended by the serial, it is revoked
     pub found : spares r.octets ≡ None → IsRevoked serial r.entries
     unfolding spares over
     found = subst (λ (s : Revoked). spares s.octets ≡ None → IsRevoked serial s.entries) view (λ e. found_among (entries_in octets) (rw (entries_are octets whole) at e))
 
+    -- where the walk over entries isn't ended by the serial, it isn't revoked
     pub spared : spares r.octets ≡ Some tt → IsRevoked serial r.entries → ⊥
     unfolding spares over
     spared =
@@ -108,12 +113,15 @@ module _ (serial : ℕ) where
 -- ---- how many entries are looked at
 
 module _ (serial : ℕ) (octets : List ℕ) (whole : entries_pass octets ≡ Some tt) where
+  -- at the end of the octets no entry is looked at
   pub no_more_looks : octets ≡ [] → looks serial (entries_in octets) ≡ 0
   no_more_looks e = rw (none_left octets whole e) refl
 
   module _ (e : Entry) (rest : List ℕ) (was : entry_at octets ≡ some {A = Entry × List ℕ} (e, rest)) where
+    -- an entry with the serial is the last that is looked at
     pub last_look : e.serial ≡ serial → looks serial (entries_in octets) ≡ 1
     last_look same = rw (first_entry octets whole e rest was, eq-eqb e.serial serial same) refl
 
+    -- an entry with another serial is one look more
     pub one_look_more : (e.serial ≡ serial → ⊥) → looks serial (entries_in octets) ≡ suc (looks serial (entries_in rest))
     one_look_more other = rw (first_entry octets whole e rest was, ne_eqb e.serial serial other) refl

@@ -17,6 +17,7 @@ use Rattle.rpki_crl.specs.RevokedEntries.{Entry, IsEntry, AreEntries, FitsEntry,
 use Rattle.rpki_crl.specs.RevokedEntries.Reading.{entry_at, entries_in, entries_pass, or_none}
 use Rattle.rpki_crl.proofs.EntryReads.{entry_reads, entry_shrinks}
 
+-- a serial number that is written has at most 23 octets
 pub serial_short : (n : ℕ) → n < 2 ^ 160 → length (number n) ≤ 23
 unfolding number
 serial_short n h =
@@ -25,6 +26,7 @@ serial_short n h =
     let whole = enc_small 2 (unsigned (digits_of 256 n)) (omega arith) in
     omega (arith, whole, content, digits)
 
+-- an entry that is written has a content of at most 40 octets
 pub entry_short : (n : ℕ) (m : Moment) → n < 2 ^ 160 → length (number n ++ time m) ≤ 40
 entry_short n m h = omega (arith, length-append (number n) (time m), serial_short n h, time_short m)
 
@@ -43,13 +45,16 @@ pub row_made : (es : List Entry) → AllByRecursion FitsEntry es → AreEntries 
 row_made [] all = refl
 row_made (e ∷ es) all = (entry e, entries es, entry_made e all.0, row_made es all.1, refl)
 
+-- what is written of entries is read as them
 pub row_is_read : (es : List Entry) → AllByRecursion FitsEntry es → row_of entry_at (entries es) ≡ some es
 row_is_read es all = row_again entry_at IsEntry entry_reads entry_shrinks es (entries es) (row_made es all)
 
+-- what is written of entries passes the walk over them
 pub row_passes : (es : List Entry) → AllByRecursion FitsEntry es → entries_pass (entries es) ≡ Some tt
 unfolding entries_pass
 row_passes es all = passed entry_at (entries es) ∙ rw (row_is_read es all) refl
 
+-- what is written of entries has them
 pub row_has : (es : List Entry) → AllByRecursion FitsEntry es → entries_in (entries es) ≡ es
 row_has es all = ap or_none (row_is_read es all)
 
@@ -58,6 +63,7 @@ pub entries_more : (es : List Entry) (e : Entry) → entries (es ++ e ∷ []) �
 entries_more [] e = append-nil (entry e)
 entries_more (d ∷ es) e = ap (λ (b : List ℕ). entry d ++ b) (entries_more es e) ∙ sym (append_assoc (entry d) (entries es) (entry e))
 
+-- what fits with one entry more fits
 pub all_more : (es : List Entry) (e : Entry) → AllByRecursion FitsEntry es → FitsEntry e → AllByRecursion FitsEntry (es ++ e ∷ [])
 all_more [] e all one = (one, tt)
 all_more (d ∷ es) e all one = (all.0, all_more es e all.1 one)

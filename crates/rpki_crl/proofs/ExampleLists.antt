@@ -1,4 +1,4 @@
--- Fields of a list that have a spelling.
+-- Fields of a list that have an encoding.
 use Rattle.std.proofs.Common.{ℕ, List, [], ◌∷◌, refl, arith, ◌<◌, ◌^◌, length}
 use Rattle.rpki_der.specs.Tags.{SEQUENCE}
 use Rattle.rpki_der.specs.Primitives.{number}
@@ -22,6 +22,7 @@ no_name = SEQUENCE ∷ 0 ∷ []
 abbrev no_key : List ℕ
 no_key = 0 ∷ 0 ∷ 0 ∷ 0 ∷ 0 ∷ 0 ∷ 0 ∷ 0 ∷ 0 ∷ 0 ∷ 0 ∷ 0 ∷ 0 ∷ 0 ∷ 0 ∷ 0 ∷ 0 ∷ 0 ∷ 0 ∷ 0 ∷ []
 
+-- the fields of an example
 abbrev pub some_list : ListFields Revoked
 some_list = record {
   algorithm = with_null;
@@ -43,6 +44,7 @@ short : length (list_content some_list) < 2 ^ 32
 unfolding tagged_list_extensions enc length_octets number time
 short = omega arith
 
+-- the fields of the example have an encoding
 pub some_list_fits : ListFits some_list
 some_list_fits = record {
   issuer_is = is_name;

@@ -43,6 +43,7 @@ give xs identifier number f e (others, (identifier_given, (number_given, _))) =
 abbrev pub AreExtensions : ListExtensions → List ℕ → Type 0
 AreExtensions f row = (xs : List Extension) × IsRow IsExtension xs row × GiveListExtensions xs f
 
+-- the extensions of a revocation list are read as they are encoded
 pub list_extensions_read : ReadsWhole list_extensions_of AreExtensions
 unfolding list_extensions_of
 list_extensions_read = record {

@@ -18,6 +18,7 @@ use Rattle.rpki_crl.proofs.EntryRows.{all_read, entries_are}
 
 -- ---- a whole content
 
+-- the content is the octets of these entries
 pub record IsContent (r : Revoked) (content : List ℕ) : Type 0 where
   pub octets : r.octets ≡ content
   pub entries : AreEntries r.entries r.octets
@@ -68,6 +69,7 @@ is_list r text is = form is.sequence
     form (inl none) = (None, same_revoked no_entries r (sym (no_octets r.entries r.octets is.entries none.0)) (sym none.0), none.1)
     form (inr enc) = (Some r, refl, (r.octets, record { octets = refl; entries = is.entries }, enc))
 
+-- revokedCertificates are read as they are encoded
 pub list_reads : ReadsOrAbsent SEQUENCE revoked_at IsRevokedCertificates
 unfolding revoked_at
 list_reads =

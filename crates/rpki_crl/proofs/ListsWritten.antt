@@ -21,6 +21,7 @@ identifier_longer x =
     let pieces = concat (extension_pieces authority_key_identifier.identifier false (authority_key_identifier_content x.authority_key_identifier)) in
     omega (arith, enc_longer SEQUENCE pieces, length-append (enc SEQUENCE pieces) (extension crl_number.identifier false (number x.crl_number)))
 
+-- the extension of a CRL number isn't longer than the row
 pub number_longer : (x : ListExtensions) → length (concat (extension_pieces crl_number.identifier false (number x.crl_number))) ≤ length (list_row x)
 number_longer x =
     let pieces = concat (extension_pieces crl_number.identifier false (number x.crl_number)) in
@@ -32,6 +33,7 @@ pub row_longer : (x : ListExtensions) → length (list_row x) ≤ length (tagged
 unfolding tagged_list_extensions
 row_longer x = omega (arith, enc_longer (CONTEXT_CONSTRUCTED 0) (enc SEQUENCE (list_row x)), enc_longer SEQUENCE (list_row x))
 
+-- the SEQUENCE of extensions isn't longer than inside its tag
 pub sequence_longer : (x : ListExtensions) → length (enc SEQUENCE (list_row x)) ≤ length (tagged_list_extensions x)
 unfolding tagged_list_extensions
 sequence_longer x = enc_longer (CONTEXT_CONSTRUCTED 0) (enc SEQUENCE (list_row x))
@@ -46,6 +48,7 @@ entries_longer : (octets : List ℕ) → length octets ≤ length (revoked octet
 entries_longer [] = omega arith
 entries_longer (octet ∷ octets) = enc_longer SEQUENCE (octet ∷ octets)
 
+-- entries aren't longer than the list's data
 pub revoked_longer : (f : ListFields Revoked) → length f.revoked.octets ≤ length (list_content f)
 revoked_longer f =
     let whole : length (revoked f.revoked.octets) ≤ length (list_content f) = member_longer (version_2 ∷ algorithm f.algorithm ∷ f.issuer ∷ time f.this_update ∷ time f.next_update ∷ revoked f.revoked.octets ∷ tagged_list_extensions f.extensions ∷ []) 5 in

@@ -30,6 +30,7 @@ first_at P xs i x h e p none = record { before = take i xs; after = drop (suc i)
 
 -- ---- what was gone over
 
+-- the first i + 1 elements are the first i and the next one
 pub taken_more : {X Y : Type 0} (f : X → Y) (xs : List X) (i j : ℕ) (x : X) → j ≡ suc i → i < length xs → x ≡ get_or xs i x → map f (take j xs) ≡ map f (take i xs) ++ f x ∷ []
 taken_more f xs i j x n h e = rw n (one_more xs i h e)
   where
@@ -38,6 +39,7 @@ taken_more f xs i j x n h e = rw n (one_more xs i h e)
     one_more (y ∷ ys) zero h e = ap (λ z. f z ∷ []) (sym e)
     one_more (y ∷ ys) (suc k) h e = ap (λ (zs : List _). f y ∷ zs) (one_more ys k (omega arith) e)
 
+-- at the end all elements are taken
 pub taken_all : {X : Type 0} (xs : List X) (i : ℕ) → length xs ≤ i → take i xs ≡ xs
 taken_all [] zero h = refl
 taken_all [] (suc i) h = refl

@@ -11,12 +11,14 @@ module _ (entries : List Entry) (cache : Option (List ℕ)) (table : List ℕ) (
   shuffled : IsPermutation (serials_of entries) table
   shuffled = subst (λ (c : Option (List ℕ)). IsCacheOf entries c) there holds
 
+  -- what the table tells of a serial is what the entries tell
   pub found_in_table : (serial : ℕ) (found : Bool) → IsTrue found ↔ Contains table serial → IsTrue found ↔ IsRevoked serial entries
   found_in_table serial found same = (
     λ yes. Contains-permutation table (serials_of entries) serial (IsPermutation-sym _ _ shuffled) (same.0 yes),
     λ among. same.1 (Contains-permutation (serials_of entries) table serial shuffled among),
   )
 
+  -- few looks into the table are few for the entries
   pub few_in_table : (count : ℕ) → count ≤ digits (length table) → count ≤ digits (length entries)
   few_in_table count few =
       let same : length table ≡ length entries = length_permutation (serials_of entries) table shuffled ∙ length-map entries (λ e. e.serial) in

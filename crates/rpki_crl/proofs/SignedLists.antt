@@ -1,4 +1,4 @@
--- A list is written as it was read, and signed data round the spelling of fields is a list.
+-- A list is written as it was read, and signed data round the encoding of fields is a list.
 use Rattle.std.specs.List.{concat}
 use Rattle.std.proofs.Common.{ℕ, List, ◌≡◌, sym, ap, subst, ◌∙◌}
 use Rattle.rpki_der.specs.Tags.{SEQUENCE}
@@ -8,9 +8,11 @@ use Rattle.rpki_parts.proofs.SignedDataWritten.{content_is, signed_made, signed_
 use Rattle.rpki_crl.specs.Lists.{CrlFields, IsCertificateList, IsMadeList, IsTbsCertList, list_content}
 use Rattle.rpki_crl.proofs.SpelledLists.{data_made, list_made}
 
+-- a revocation list is the encoding of its signed data
 pub list_is : (r : CrlFields) (b : List ℕ) → IsCertificateList r b → b ≡ signed_data r.signed_data
 list_is r b h = h.enc.is ∙ ap (enc SEQUENCE) (content_is r.signed_data h.content h.content_is.signed_is)
 
+-- a made list's signed data encodes it
 pub signed_list : (r : CrlFields) → IsMadeList r → IsCertificateList r (signed_data r.signed_data)
 signed_list r is =
     let s = r.signed_data in

@@ -84,6 +84,7 @@ module _ (f : ListFields Revoked) (fits : ListFits f) where
       )
       fits.short
 
+  -- the encoding of a list's fields is a SEQUENCE of their content
   pub data_made : (b : List ℕ) → b ≡ list_spelling f → IsEnc SEQUENCE (list_content f) b
   data_made b is = record { octet = omega arith; low_tag = omega arith; octets = content_octets; short = fits.short; is = is }
 
@@ -101,6 +102,7 @@ module _ (f : ListFields Revoked) (fits : ListFits f) where
           crl_number_is = (f.extensions.crl_number, (tt, whole_means crl_number.spells f.extensions.crl_number (number f.extensions.crl_number) (crl_number_is.made f.extensions.crl_number _ fits.number_is refl two)), refl);
         }
 
+  -- the encoding of a list's fields is a TBSCertList of them
   pub list_made : IsTbsCertList f (list_spelling f)
   unfolding tagged_list_extensions
   list_made =

@@ -14,7 +14,7 @@ use Rattle.rpki_crl.specs.declared.entry.CrlEntry.{CrlEntry}
 abbrev pub AreGiven : {C It : Type 0} → (C → It → Type 0) → (It → Option CrlEntry → It → Type 0) → C → List Entry → Type 0
 AreGiven {C} {It} into_iter next c es = (it : It) × (items : List CrlEntry) × into_iter c it × Drains next it items × (es ≡ map entry_of items)
 
--- the same fields, with these entries as they are written
+-- fields with these entries, as they are written
 abbrev pub with_entries : {C : Type 0} → ListFields C → List Entry → ListFields Revoked
 with_entries f es = record {
   algorithm = f.algorithm;
@@ -25,8 +25,9 @@ with_entries f es = record {
   extensions = f.extensions;
 }
 
--- Why no list is made of the fields with the entries that are given, by a signer that may give these answers of a message: memory was
--- wanted before the entries were there, or there is no signed data.
+-- Why no list is made of the fields with the entries that are given, by a signer that may give
+-- these answers of a message: it ran out of memory before the entries were there, or there is no
+-- signed data.
 abbrev pub IsListRefusal : {C E : Type 0} → ListFields C → (List Entry → Type 0)
     → (List ℕ → Result SignatureFields (SigningError E) → Type 0) → SigningError E → Type 0
 IsListRefusal f Given MayAnswer e =

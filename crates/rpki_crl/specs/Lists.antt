@@ -28,11 +28,16 @@ pub record ListFields (C : Type 0) : Type 0 where
   pub revoked : C
   pub extensions : ListExtensions
 
--- the INTEGER 1
+-- Version ::= INTEGER { v1(0), v2(1), v3(2) }   (RFC 5280 5.1): v2
 abbrev pub version_2 : List ℕ
 version_2 = INTEGER ∷ 1 ∷ 1 ∷ []
 
--- what stands inside the SEQUENCE of a TBSCertList with these fields
+-- the content of TBSCertList ::= SEQUENCE {   (RFC 5280 5.1)
+--   version Version OPTIONAL, signature AlgorithmIdentifier, issuer Name,
+--   thisUpdate Time, nextUpdate Time OPTIONAL,
+--   revokedCertificates SEQUENCE OF SEQUENCE { .. } OPTIONAL,
+--   crlExtensions [0] EXPLICIT Extensions OPTIONAL }
+-- restricted to v2 with nextUpdate and crlExtensions (RFC 5280 5.1.2.5, RFC 6487 5)
 pub record IsTbsCertListContentWithin (depth : ℕ) (f : ListFields Revoked) (content : List ℕ) : Type 0 where
   pub algorithm : List ℕ
   pub issuer : List ℕ
@@ -52,6 +57,7 @@ pub record IsTbsCertListContentWithin (depth : ℕ) (f : ListFields Revoked) (co
   pub gives : GiveListExtensions triples f.extensions
   pub is : content ≡ concat (version_2 ∷ algorithm ∷ issuer ∷ this_update ∷ next_update ∷ revoked ∷ extensions ∷ [])
 
+-- TBSCertList, under this bound of depth
 abbrev pub IsTbsCertListWithin : ℕ → ListFields Revoked → List ℕ → Type 0
 IsTbsCertListWithin depth = IsSequenceOf (IsTbsCertListContentWithin depth)
 
@@ -60,12 +66,15 @@ pub record CrlFields : Type 0 where
   pub fields : ListFields Revoked
   pub signed_data : SignedFields
 
--- what stands inside the SEQUENCE of a list; the inner and the outer algorithm are equal (RFC 5280 5.1.1.2)
+-- the content of CertificateList ::= SEQUENCE {   (RFC 5280 5.1)
+--   tbsCertList TBSCertList, signatureAlgorithm AlgorithmIdentifier, signatureValue BIT STRING }
+-- the inner and the outer algorithm are equal (RFC 5280 5.1.1.2)
 pub record IsCertificateListContentWithin (depth : ℕ) (r : CrlFields) (content : List ℕ) : Type 0 where
   pub signed_is : IsSignedDataContent r.signed_data content
   pub fields_are : IsTbsCertListWithin depth r.fields r.signed_data.message
   pub same_algorithm : r.fields.algorithm ≡ r.signed_data.signature.algorithm
 
+-- CertificateList, under this bound of depth
 abbrev pub IsCertificateListWithin : ℕ → CrlFields → List ℕ → Type 0
 IsCertificateListWithin depth = IsSequenceOf (IsCertificateListContentWithin depth)
 
@@ -76,15 +85,21 @@ pub record CrlState : Type 0 where
 
 -- ---- under the bound of depth that readers keep
 
+-- the content of a TBSCertList
 abbrev pub IsTbsCertListContent : ListFields Revoked → List ℕ → Type 0
 IsTbsCertListContent = IsTbsCertListContentWithin levels
 
+-- TBSCertList ::= SEQUENCE { version, signature, issuer, thisUpdate, nextUpdate,
+--   revokedCertificates, crlExtensions }   (RFC 5280 5.1), restricted as its content above
 abbrev pub IsTbsCertList : ListFields Revoked → List ℕ → Type 0
 IsTbsCertList = IsTbsCertListWithin levels
 
+-- the content of a CertificateList
 abbrev pub IsCertificateListContent : CrlFields → List ℕ → Type 0
 IsCertificateListContent = IsCertificateListContentWithin levels
 
+-- CertificateList ::= SEQUENCE {
+--   tbsCertList TBSCertList, signatureAlgorithm AlgorithmIdentifier, signatureValue BIT STRING }
 abbrev pub IsCertificateList : CrlFields → List ℕ → Type 0
 IsCertificateList = IsCertificateListWithin levels
 
@@ -96,6 +111,7 @@ list_row x =
     extension authority_key_identifier.identifier false (authority_key_identifier_content x.authority_key_identifier)
     ++ extension crl_number.identifier false (number x.crl_number)
 
+-- the encodings of a list's extensions inside their two tags
 unfoldable pub tagged_list_extensions : ListExtensions → List ℕ
 tagged_list_extensions x = nested (CONTEXT_CONSTRUCTED 0 ∷ SEQUENCE ∷ []) (list_row x)
 
@@ -105,10 +121,11 @@ list_content f =
     concat (version_2 ∷ algorithm f.algorithm ∷ f.issuer ∷ time f.this_update ∷ time f.next_update
     ∷ revoked f.revoked.octets ∷ tagged_list_extensions f.extensions ∷ [])
 
+-- the one encoding that is written of a TBSCertList's fields
 abbrev pub list_spelling : ListFields Revoked → List ℕ
 list_spelling f = enc SEQUENCE (list_content f)
 
--- the fields have values that can be spelled, and what is spelled isn't too long
+-- the fields have values that can be encoded, and what is encoded isn't too long
 pub record ListFits (f : ListFields Revoked) : Type 0 where
   pub issuer_is : IsName f.issuer f.issuer
   pub this_update_is : IsMoment f.this_update
@@ -118,7 +135,8 @@ pub record ListFits (f : ListFields Revoked) : Type 0 where
   pub number_is : f.extensions.crl_number < 2 ^ 160
   pub short : length (list_content f) < 2 ^ 32
 
--- a list whose signed octets are the spelling of its fields, which was signed under the algorithm that it names, and which isn't too long
+-- a list whose signed octets are the encoding of its fields, which was signed under the algorithm
+-- that it names, and which isn't too long
 pub record IsMadeList (r : CrlFields) : Type 0 where
   pub message_is : r.signed_data.message ≡ list_spelling r.fields
   pub fields_are : ListFits r.fields

@@ -1,5 +1,5 @@
--- Whether the list of an issuer revokes a certificate, line by line (RFC 6487 7.2, RFC 5280 6.3.3; own: the order of the lines, and that the
--- earliest list under a URI is asked).
+-- Whether the list of an issuer revokes a certificate, check by check (RFC 6487 7.2, RFC 5280
+-- 6.3.3; own: the order of the checks, and that the earliest list under a URI is asked).
 use Rattle.std.specs.Prelude.{◌≡◌, ℕ, List, [], ◌∷◌, Some, codes}
 use Rattle.rpki_parts.specs.ValidAt.{IsNotAfter}
 use Rattle.rpki_cert.specs.Certificates.{TbsFields, CertFields}
@@ -14,8 +14,8 @@ use Rattle.rpki_crl.specs.declared.revocation_error.RevocationError.TheVariants.
 abbrev pub NamesIssuer : TbsFields → CrlFields → Type 0
 NamesIssuer issuer list = list.fields.extensions.authority_key_identifier ≡ issuer.extensions.subject_key_identifier
 
--- The line is true of this list, where a certificate with the serial number is asked for, in this context and below the issuer. A line is
--- named by the error that it gives where it isn't true.
+-- The check is true of this list, where a certificate with the serial number is asked for, in this
+-- context and below the issuer. A check is named by the error that it gives where it isn't true.
 abbrev pub ListLine : Context → TbsFields → ℕ → CrlFields → RevocationError → Type 0
 ListLine x issuer serial list NoCrl = Unit {0}
 ListLine x issuer serial list WrongKeyId = NamesIssuer issuer list
@@ -23,7 +23,7 @@ ListLine x issuer serial list BadSignature = IsSignedBy x.verifies issuer.key li
 ListLine x issuer serial list Stale = IsNotAfter x.now list.fields.next_update
 ListLine x issuer serial list Revoked = IsRevoked serial list.fields.revoked.entries → ⊥
 
--- the line is true where the list to be asked is one of these: there is one, and it has the line
+-- the check is true where the list to be asked is one of these: there is one, and it has the check
 abbrev pub RevocationLine : Context → TbsFields → ℕ → (CrlState → Type 0) → RevocationError → Type 0
 RevocationLine x issuer serial IsAsked NoCrl = (crl : CrlState) × IsAsked crl
 RevocationLine x issuer serial IsAsked e = (crl : CrlState) → IsAsked crl → ListLine x issuer serial crl.list e
@@ -36,20 +36,21 @@ revocation_lines = NoCrl ∷ WrongKeyId ∷ BadSignature ∷ Stale ∷ Revoked �
 abbrev pub IsUnderUri : List Stored → List ℕ → CrlState → Type 0
 IsUnderUri pairs uri crl = IsEarliest uri pairs (Some crl)
 
--- the same under the URI that the certificate names
+-- the list is the earliest one under the URI that the certificate names
 abbrev pub IsListOf : List Stored → CertFields → CrlState → Type 0
 IsListOf pairs c crl = (uri : List ℕ) × (c.fields.extensions.crl_uri ≡ Some uri) × IsUnderUri pairs uri crl
 
--- the lines of a certificate, with the lists of this store
+-- the checks of a certificate, with the lists of this store
 abbrev pub CertRevocationLine : Context → List Stored → TbsFields → CertFields → RevocationError → Type 0
 CertRevocationLine x pairs issuer c = RevocationLine x issuer c.fields.serial (IsListOf pairs c)
 
--- the certificate below the issuer isn't revoked: all of its lines are true
+-- the certificate below the issuer isn't revoked: all of its checks are true
 abbrev pub IsUnrevoked : Context → List Stored → TbsFields → CertFields → Type 0
 IsUnrevoked x pairs issuer c = IsVerified (CertRevocationLine x pairs issuer c) revocation_lines
 
 -- ---- names
 
+-- the name of the error
 abbrev pub revocation_error_name : RevocationError → List ℕ
 revocation_error_name NoCrl = codes "NoCrl"
 revocation_error_name WrongKeyId = codes "WrongKeyId"

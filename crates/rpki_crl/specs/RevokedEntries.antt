@@ -16,7 +16,10 @@ pub record Entry : Type 0 where
   pub serial : ℕ
   pub date : Moment
 
--- what stands inside the SEQUENCE of an entry; no crlEntryExtensions (RFC 6487 5)
+-- the content of an element of revokedCertificates:
+-- SEQUENCE { userCertificate CertificateSerialNumber, revocationDate Time,
+--   crlEntryExtensions Extensions OPTIONAL }   (RFC 5280 5.1)
+-- restricted to no crlEntryExtensions (RFC 6487 5)
 pub record IsEntryContent (e : Entry) (content : List ℕ) : Type 0 where
   pub serial : List ℕ
   pub date : List ℕ
@@ -24,6 +27,7 @@ pub record IsEntryContent (e : Entry) (content : List ℕ) : Type 0 where
   pub date_is : IsTime e.date date
   pub is : content ≡ serial ++ date
 
+-- an element of revokedCertificates
 abbrev pub IsEntry : Entry → List ℕ → Type 0
 IsEntry = IsSequenceOf IsEntryContent
 
@@ -40,7 +44,8 @@ pub record Revoked : Type 0 where
   pub entries : List Entry
   pub octets : List ℕ
 
--- revokedCertificates: absent, or a SEQUENCE of entries, which may be empty (own)
+-- revokedCertificates SEQUENCE OF SEQUENCE { .. } OPTIONAL (RFC 5280 5.1)
+-- a SEQUENCE without entries is read too (own)
 pub record IsRevokedCertificates (r : Revoked) (b : List ℕ) : Type 0 where
   pub entries : AreEntries r.entries r.octets
   pub sequence : ((r.octets ≡ []) × (b ≡ [])) ⊎ IsEnc SEQUENCE r.octets b
@@ -51,6 +56,7 @@ pub record IsRevokedCertificates (r : Revoked) (b : List ℕ) : Type 0 where
 abbrev pub entry_content : Entry → List ℕ
 entry_content e = number e.serial ++ time e.date
 
+-- the encoding of an entry
 abbrev pub entry : Entry → List ℕ
 entry e = enc SEQUENCE (entry_content e)
 
@@ -67,5 +73,6 @@ abbrev pub revoked : List ℕ → List ℕ
 revoked [] = []
 revoked (octet ∷ octets) = enc SEQUENCE (octet ∷ octets)
 
+-- the encoding of revokedCertificates, and what stands inside its SEQUENCE
 abbrev pub revoked_part : List ℕ → Part
 revoked_part octets = record { written = revoked octets; inside = octets }

@@ -9,7 +9,8 @@ use Rattle.rpki_crl.specs.Lists.{CrlState}
 abbrev pub Stored : Type 0
 Stored = List ℕ × CrlState
 
--- what a contract sees of a CrlStore: the pairs, the one stored first in front, and whether the serials of later ones are cached
+-- what a contract sees of a CrlStore: the pairs, the one stored first in front, and whether the
+-- serials of later ones are cached
 pub record StoreFields : Type 0 where
   pub pairs : List Stored
   pub caches : Bool

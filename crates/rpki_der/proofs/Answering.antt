@@ -10,21 +10,24 @@ use Rattle.rpki_der.specs.Place.{Place, left, Refuses, AnswersBy, AnswersOrMemor
 use Rattle.rpki_der.specs.Place.Reading.{TookBy, TookOrMemoryBy, ReturnsBy, ReturnsOrMemoryBy}
 use Rattle.rpki_der.proofs.Octets.{some, nothing}
 
--- ---- refusals that may be for want of memory
+-- ---- refusals that may mean `out of memory`
 
+-- what a refusal says may be weakened
 pub refuses : {P Q : Type 0} (d : DecodeError) → (P → Q) → Refuses d P → Refuses d Q
 refuses Memory f h = h
 refuses _ f h = f h
 
--- nothing else is left
+-- nothing else remains
 pub memory_alone : {P : Type 0} (d : DecodeError) → Refuses d P → (P → ⊥) → d ≡ Memory
 memory_alone Memory h none = refl
 memory_alone _ h none = absurd (none h)
 
+-- what is true may stand behind any error
 pub certainly : {P : Type 0} (d : DecodeError) → P → Refuses d P
 certainly Memory h = tt
 certainly _ h = h
 
+-- an error that is passed on says of a reading what it said before
 pub passed_on : {X Y : Type 0} (view : X → Y) (r : Result X DecodeError) (d : DecodeError) (o : Option Y) → r ≡ Err d → Refuses d (o ≡ None) → ReturnsOrMemoryBy view r o
 passed_on view (Ok x) d o e h = absurd cc
 passed_on view (Err f) d o e h = let same : f ≡ d = cc in rw same h
@@ -34,10 +37,12 @@ pub took_none : {X Y : Type 0} (view : X → Y) (read : List ℕ → Option (Y �
 took_none view read old (Ok x) new d same other none = absurd cc
 took_none view read old (Err f) new d same other none = let e : f ≡ d = cc in (rw e other, none)
 
+-- an error where reading gives nothing is a reader's answer, out of memory or not
 pub took_none_or_memory : {X Y : Type 0} (view : X → Y) (read : List ℕ → Option (Y × List ℕ)) (old : Place) (r : Result X DecodeError) (new : Place) (d : DecodeError) → r ≡ Err d → read (left old) ≡ None → TookOrMemoryBy view read old r new
 took_none_or_memory view read old (Ok x) new d same none = absurd cc
 took_none_or_memory view read old (Err f) new d same none = certainly f none
 
+-- an error other than Memory is a function's answer where reading gives nothing
 pub gives_none : {X Y : Type 0} (view : X → Y) (r : Result X DecodeError) (d : DecodeError) (o : Option Y) → r ≡ Err d → d ≢ Memory → o ≡ None → ReturnsBy view r o
 gives_none view (Ok x) d o same other none = absurd cc
 gives_none view (Err f) d o same other none = let e : f ≡ d = cc in (rw e other, none)
@@ -49,11 +54,13 @@ no_front {Y} read spells law octets e y rest b =
     let one : read octets ≡ some {A = Y × List ℕ} (y, rest) = rw b.parts (law.again y b.text rest b.spelled) in
     nothing {B = ⊥} (y, rest) (sym e ∙ one)
 
+-- a reader that takes what a lawful reading function gives answers both ways
 pub answers : {X Y : Type 0} (view : X → Y) (read : List ℕ → Option (Y × List ℕ)) (spells : Y → List ℕ → Type 0) → Reads read spells
     → (old : Place) (r : Result X DecodeError) (new : Place) → AreOctets (left old) → TookBy view read old r new → AnswersBy view spells old r new
 answers view read spells law old (Ok x) new fits e = law.takes (left old) (view x) (left new) fits e
 answers view read spells law old (Err d) new fits e = (e.0, no_front read spells law (left old) e.1)
 
+-- a reader that may run out of memory, and takes what such a function gives, answers both ways
 pub answers_or_memory : {X Y : Type 0} (view : X → Y) (read : List ℕ → Option (Y × List ℕ)) (spells : Y → List ℕ → Type 0) → Reads read spells
     → (old : Place) (r : Result X DecodeError) (new : Place) → AreOctets (left old) → TookOrMemoryBy view read old r new → AnswersOrMemoryBy view spells old r new
 answers_or_memory view read spells law old (Ok x) new fits e = law.takes (left old) (view x) (left new) fits e
@@ -67,6 +74,6 @@ pub front_means : {X Y : Type 0} (view : X → Y) (spells : Y → List ℕ → T
 front_means view spells old new (Ok x) octets e a = (left new, record { text = a.text; spelled = a.spelled; parts = sym e ∙ a.parts })
 front_means view spells old new (Err d) octets e a = refuses d (λ none y m. none y m.0 (record { text = m.1.text; spelled = m.1.spelled; parts = e ∙ m.1.parts })) a
 
--- what they spell they mean
+-- what they encode they mean
 pub whole_means : {V : Type 0} (spells : V → List ℕ → Type 0) (v : V) (octets : List ℕ) → spells v octets → Means spells v octets
 whole_means spells v octets s = ([], record { text = octets; spelled = s; parts = sym (append-nil octets) })

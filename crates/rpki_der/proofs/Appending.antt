@@ -5,6 +5,7 @@ use Rattle.std.specs.List.{concat}
 use Rattle.std.proofs.lemmas.List.{append-nil, length-append, take_at, take-take}
 use Rattle.rpki_der.specs.Values.{length_octets, enc}
 
+-- what was appended may be written in another form
 pub appends : {T E : Type 0} (r : Result T E) (old ds es new : List ℕ) → ds ≡ es → new ≡ (if is_ok r then old ++ ds else old) → OnOk r (new ≡ old ++ es)
 appends (Ok x) old ds es new same e = e ∙ ap (λ (s : List ℕ). old ++ s) same
 appends (Err d) old ds es new same e = tt
@@ -15,10 +16,12 @@ still_front old more mid new e h =
     let long : length mid ≡ length old + length more = ap length e ∙ length-append old more in
     sym (take-take (length old) (length mid) new (omega (arith, long))) ∙ ap (take (length old)) (h ∙ e) ∙ take_at old more (length old) refl
 
+-- what is true anyway is true after an error
 pub on_err : {T E P : Type 0} (r : Result T E) → P → OnErr r P
 on_err (Ok x) h = tt
 on_err (Err d) h = h
 
+-- the length of an encoding: the tag, the length octets and the content
 pub length-enc : (t : ℕ) (c : List ℕ) → length (enc t c) ≡ 1 + (length (length_octets (length c)) + length c)
 unfolding enc
 length-enc t c = omega (arith, length-append (length_octets (length c)) c)
@@ -28,5 +31,6 @@ pub assembled : (t : ℕ) (old a b c : List ℕ) (n : ℕ) → n ≡ length (con
 unfolding enc
 assembled t old a b c n e = rw e (simp (append_assoc, append-nil {A = ℕ}))
 
+-- the length of three pieces is the sum of theirs
 pub length-pieces : (a b c : List ℕ) → length (concat (a ∷ b ∷ c ∷ [])) ≡ length a + (length b + length c)
 length-pieces a b c = omega (arith, length-append c [], length-append b (concat (c ∷ [])), length-append a (concat (b ∷ c ∷ [])))

@@ -45,6 +45,7 @@ choice_reads t f g S T F G begin other = record {
 
 -- ---- what a function makes of a value
 
+-- a lawful reading stays lawful where a function turns what it reads
 pub turned_reads : {X Y : Type 0} (f : X → Option Y) (read : List ℕ → Option (X × List ℕ)) (S : X → List ℕ → Type 0) → Reads read S → Reads (turned f read) (Turned f S)
 turned_reads {X} {Y} f read S F = record {
   takes = λ bytes y rest fits e.
@@ -86,7 +87,7 @@ exactly_reads wanted = record {
   again = λ u octets s. rw (s, (bytes_eq-Decides wanted wanted).1 refl) refl;
 }
 
--- the same relation in other words
+-- a lawful reading of whole octets stays lawful for an equivalent relation
 pub same_whole : {X : Type 0} (f : List ℕ → Option X) (S T : X → List ℕ → Type 0) → ReadsWhole f S → ((x : X) (text : List ℕ) → S x text → T x text) → ((x : X) (text : List ℕ) → T x text → S x text) → ReadsWhole f T
 same_whole f S T F to back = record { takes = λ octets x fits e. to x octets (F.takes octets x fits e); again = λ x octets t. F.again x octets (back x octets t) }
 
@@ -97,9 +98,11 @@ pub enc_begins : (t : ℕ) → BeginWith t (IsEnc t)
 unfolding enc
 enc_begins t c text e = (length_octets (length c) ++ c, e.is)
 
+-- a value inside a tag begins with this tag
 pub inside_begins : {X : Type 0} (t : ℕ) (S : X → List ℕ → Type 0) → BeginWith t (Inside t S)
 inside_begins t S x text s = enc_begins t s.0 text s.2
 
+-- what begins with one tag doesn't begin with another
 pub other_tag : (t u : ℕ) (text rest tail : List ℕ) → text ≡ u ∷ tail → (u ≡ t → ⊥) → BeginsOther t (text ++ rest)
 other_tag t u text rest tail e h = rw e h
 
@@ -118,6 +121,7 @@ of_picked : {X : Type 0} (f : List ℕ → Option X) (g : List ℕ → Option (X
 of_picked f g None = refl
 of_picked f g (Some v) = refl
 
+-- an optional content is read as `optional` of `content` reads it
 pub optional_of_is : {X : Type 0} (t : ℕ) (f : List ℕ → Option X) (bytes : List ℕ) → optional_of t f bytes ≡ optional t (content t f) bytes
 optional_of_is t f [] = refl
 optional_of_is t f (b ∷ bytes) =
@@ -126,6 +130,7 @@ optional_of_is t f (b ∷ bytes) =
       | inr n ↦ rw n refl
     ]
 
+-- a content or another form is read as `choice` reads it
 pub content_or_is : {X : Type 0} (t : ℕ) (f : List ℕ → Option X) (g : List ℕ → Option (X × List ℕ)) (bytes : List ℕ) → content_or t f g bytes ≡ choice t (content t f) g bytes
 content_or_is t f g [] = refl
 content_or_is t f g (b ∷ bytes) =
@@ -134,6 +139,7 @@ content_or_is t f g (b ∷ bytes) =
       | inr n ↦ rw n refl
     ]
 
+-- a content or another form is read lawfully, where the other doesn't begin with the tag
 pub content_or_reads : {X : Type 0} (t : ℕ) (f : List ℕ → Option X) (g : List ℕ → Option (X × List ℕ)) (S T : X → List ℕ → Type 0)
     → ReadsWhole f S → Reads g T → ((x : X) (text rest : List ℕ) → T x text → BeginsOther t (text ++ rest)) → Reads (content_or t f g) (Either (Inside t S) T)
 content_or_reads {X} t f g S T F G other =
@@ -143,6 +149,7 @@ content_or_reads {X} t f g S T F G other =
 
 -- ---- readings of values shrink
 
+-- reading a content uses octets up
 pub content_shrinks : {X : Type 0} (t : ℕ) (f : List ℕ → Option X) → Shrinks (content t f)
 content_shrinks {X} t f = λ bytes x rest e.
     let a = bind_some (value_at t bytes) (λ v. f v.0 >>= λ y. some {A = X × List ℕ} (y, v.1)) (x, rest) e in
@@ -150,6 +157,7 @@ content_shrinks {X} t f = λ bytes x rest e.
     let same : a.0.1 ≡ rest = (both_are (b.0, a.0.1) (x, rest) b.2).1 in
     omega (arith, value_shorter t bytes a.0.0 a.0.1 a.1, ap length same)
 
+-- a reading that is turned uses octets up where the reading does
 pub turned_shrinks : {X Y : Type 0} (f : X → Option Y) (read : List ℕ → Option (X × List ℕ)) → Shrinks read → Shrinks (turned f read)
 turned_shrinks {X} {Y} f read less = λ bytes y rest e.
     let a = bind_some (read bytes) (λ x. f x.0 >>= λ z. some {A = Y × List ℕ} (z, x.1)) (y, rest) e in
@@ -157,6 +165,7 @@ turned_shrinks {X} {Y} f read less = λ bytes y rest e.
     let same : a.0.1 ≡ rest = (both_are (b.0, a.0.1) (y, rest) b.2).1 in
     omega (arith, less bytes a.0.0 a.0.1 a.1, ap length same)
 
+-- a choice of readings uses octets up where both do
 pub choice_shrinks : {X : Type 0} (t : ℕ) (f g : List ℕ → Option (X × List ℕ)) → Shrinks f → Shrinks g → Shrinks (choice t f g)
 choice_shrinks t f g F G [] x rest e = G [] x rest e
 choice_shrinks t f g F G (b ∷ bytes) x rest e =
@@ -165,5 +174,6 @@ choice_shrinks t f g F G (b ∷ bytes) x rest e =
       | inr n ↦ G (b ∷ bytes) x rest (rw n at e)
     ]
 
+-- a content or another form uses octets up where the other does
 pub content_or_shrinks : {X : Type 0} (t : ℕ) (f : List ℕ → Option X) (g : List ℕ → Option (X × List ℕ)) → Shrinks g → Shrinks (content_or t f g)
 content_or_shrinks t f g less = λ bytes x rest e. choice_shrinks t (content t f) g (content_shrinks t f) less bytes x rest (sym (content_or_is t f g bytes) ∙ e)

@@ -1,4 +1,4 @@
--- An extension is read as it is spelled.
+-- An extension is read as it is encoded.
 use Rattle.std.proofs.Common.{◌≡◌, ℕ, Bool, List, [], ◌++◌, refl, sym, ap, subst, ◌∙◌, arith}
 use Rattle.std.proofs.lemmas.List.{append-nil}
 use Rattle.rpki_der.specs.Values.{enc, IsEnc, AreOctets}
@@ -57,6 +57,7 @@ extension_is x text s =
       subst (λ (c : List ℕ). IsEnc SEQUENCE c text) all s.sequence,
     )
 
+-- an Extension is read as it is encoded
 pub extension_reads : Reads extension_at IsExtension
 unfolding extension_at
 extension_reads =
@@ -65,6 +66,7 @@ extension_reads =
     (mapped_reads (both oid_at (both bool_or_false_at (value_at OCTET_STRING))) Parts extension_made parts (λ p. refl) (λ x. refl) parts_read))
     is_extension extension_is
 
+-- reading an Extension uses octets up
 pub extension_shrinks : Shrinks extension_at
 unfolding extension_at
 extension_shrinks = inside_shrinks SEQUENCE (mapped extension_made (both oid_at (both bool_or_false_at (value_at OCTET_STRING))))
@@ -73,5 +75,6 @@ extension_shrinks = inside_shrinks SEQUENCE (mapped extension_made (both oid_at 
 abbrev pub HasOctets : Extension → Type 0
 HasOctets x = AreOctets x.content
 
+-- an encoded Extension consists of octets
 pub extension_octets : (x : Extension) (text : List ℕ) → IsExtension x text → HasOctets x
 extension_octets x text s = s.content_is.octets

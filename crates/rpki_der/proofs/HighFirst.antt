@@ -5,6 +5,7 @@ use Rattle.std.proofs.Common.{◌≡◌, ℕ, zero, suc, ◌+◌, ◌*◌, ◌/�
 use Rattle.std.proofs.Math.Arith.{mod-mul}
 use Rattle.std.proofs.Math.Nat.{pow-suc, add-mul}
 
+-- the octet at place k of a number is a digit of base 256
 pub byte_is : (k n : ℕ) → byte_at k n ≡ n / 256 ^ k % 256
 byte_is zero n = omega arith
 byte_is (suc k) n = refl
@@ -13,6 +14,7 @@ positive : (k : ℕ) → 0 < 256 ^ k
 positive zero = omega arith
 positive (suc k) = omega (arith, positive k, pow-suc 256 k)
 
+-- the number of the digits of m with the k octets of n behind them
 pub number_high_first : (k m n : ℕ) → number_from_digits_after 256 m (bytes_high_first k n) ≡ m * 256 ^ k + n % 256 ^ k
 number_high_first zero m n = omega arith
 number_high_first (suc k) m n =

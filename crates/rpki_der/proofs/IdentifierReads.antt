@@ -42,6 +42,7 @@ no_padding b (n ∷ id) (h ∷ x) y e is =
       | inr g ↦ inr (h ∷ g.0, g.1, ap (λ (t : List ℕ). h ∷ t) g.2, g.3)
     ]
 
+-- a content that passes the test is one of an OBJECT IDENTIFIER
 pub oid_takes : (id : List ℕ) → is_oid id ≡ true → IsOid id
 oid_takes [] e = absurd cc
 oid_takes (n ∷ id) e =
@@ -81,6 +82,7 @@ ends_again b (n ∷ id) (h ∷ front) last is low pad =
     later : (x : List ℕ) → Before b (n ∷ x) → Before (ltb n 128) x
     later x h = elim h [ inl g ↦ absurd cc | inr g ↦ next_before n x g ]
 
+-- the content of an OBJECT IDENTIFIER passes the test
 pub oid_again : (id : List ℕ) → IsOid id → is_oid id ≡ true
 oid_again [] o = absurd (no_last o.front o.last o.is)
 oid_again (n ∷ id) o = ends_again true (n ∷ id) o.front o.last o.is o.ends (λ x y e. inr (o.no_padding x y e))
@@ -91,6 +93,7 @@ IsOidContent id c = (c ≡ id) × IsOid id
 whole_takes : (c id : List ℕ) → oid_of c ≡ Some id → IsOidContent id c
 whole_takes c id e = let g = if_some (is_oid c) c id e in (g.1, subst IsOid g.1 (oid_takes c g.0))
 
+-- an OBJECT IDENTIFIER is read as it is encoded
 pub oid_reads : Reads oid_at IsObjectIdentifier
 unfolding oid_at
 oid_reads =

@@ -71,8 +71,10 @@ pos_cmp m n = grind (arith, ints)
 pos_eq : (m n : ℕ) → int_eq (pos m) (pos n) ≡ nat_eq m n
 pos_eq m n = grind (arith, ints)
 
+-- whole seconds are ordered as their moments are
 pub moment_cmp : (a b : DateTime) → IsWhole a → IsWhole b → int_cmp (civil_nanos a) (civil_nanos b) ≡ nat_cmp (second_number (moment_of a)) (second_number (moment_of b))
 moment_cmp a b p q = (cmp_agrees _ _ _ _ (order a b p q)).0 ∙ pos_cmp (second_number (moment_of a)) (second_number (moment_of b))
 
+-- whole seconds are equal where their moments are
 pub moment_eq : (a b : DateTime) → IsWhole a → IsWhole b → int_eq (civil_nanos a) (civil_nanos b) ≡ nat_eq (second_number (moment_of a)) (second_number (moment_of b))
 moment_eq a b p q = (cmp_agrees _ _ _ _ (order a b p q)).1 ∙ pos_eq (second_number (moment_of a)) (second_number (moment_of b))

@@ -9,6 +9,7 @@ use Rattle.rpki_der.specs.Place.Reading.{Returns}
 use Rattle.rpki_der.specs.Times.{Moment, IsMoment, days_in_month}
 use Rattle.rpki_der.specs.Times.Reading.{is_moment}
 
+-- a moment that passes the test exists
 pub moment_exists : (m : Moment) → is_moment m ≡ true → IsMoment m
 unfolding is_moment
 moment_exists m e =
@@ -28,6 +29,7 @@ moment_exists m e =
       second = ltb-true m.second 60 later.1;
     }
 
+-- a moment that exists passes the test
 pub exists_moment : (m : Moment) → IsMoment m → is_moment m ≡ true
 unfolding is_moment
 exists_moment m h =

@@ -9,6 +9,7 @@ one_digit : (base a b x y : ℕ) → x < base → y < base → a * base + x ≡ 
 one_digit base a b x y p q e =
     (sym (div-mul-add a base x p) ∙ ap (λ (n : ℕ). n / base) e ∙ div-mul-add b base y q, sym (mod-mul-add a base x p) ∙ ap (λ (n : ℕ). n % base) e ∙ mod-mul-add b base y q)
 
+-- moments with one number of seconds are one
 pub one_moment : (m n : Moment) → IsMoment m → IsMoment n → second_number m ≡ second_number n → m ≡ n
 one_moment m n p q e =
     let second = one_digit 60 _ _ m.second n.second p.second q.second e in

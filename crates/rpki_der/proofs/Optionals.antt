@@ -51,6 +51,7 @@ module _ {X : Type 0} (t : ℕ) (f : List ℕ → Option (X × List ℕ)) where
         let one : f octets ≡ some {A = X × List ℕ} (x, rest) = ap f parts ∙ F.again x text rest s in
         optional_some octets (tagged.0 ++ rest) x rest (parts ∙ ap (λ (y : List ℕ). y ++ rest) tagged.1) one
 
+    -- an optional value is read lawfully, absent or not
     pub optional_or_absent : ReadsOrAbsent t (optional t f) (Optional S)
     optional_or_absent = record { takes = optional_takes; again = λ octets o rest b. optional_again octets o rest b.text b.spelled b.parts b.absent }
 
@@ -61,6 +62,7 @@ absent_before t f S F = record {
   again = λ v text rest s other. F.again (text ++ rest) v rest (record { text = text; spelled = s; parts = refl; absent = λ none. rw none other });
 }
 
+-- an optional value is read lawfully where another tag follows
 pub optional_before : {X : Type 0} (t : ℕ) (f : List ℕ → Option (X × List ℕ)) (S : X → List ℕ → Type 0) → Reads f S → BeginWith t S → ReadsBefore (BeginsOther t) (optional t f) (Optional S)
 optional_before t f S F begin = absent_before t (optional t f) (Optional S) (optional_or_absent t f S F begin)
 
@@ -84,10 +86,12 @@ module _ {X : Type 0} (t : ℕ) (f : List ℕ → Option (X × List ℕ)) (S : X
   none_begins : (octets : List ℕ) → f octets ≡ None → (x : X) (rest : List ℕ) → BeginsOrAbsent t S octets x rest → ⊥
   none_begins octets e x rest b = nothing {B = ⊥} (x, rest) (sym e ∙ F.again octets x rest b)
 
+  -- a reader that takes such a value answers both ways
   pub answers_or_absent : (old : Place) (r : Result X DecodeError) (new : Place) → AreOctets (left old) → Took f old r new → AnswersOrAbsent t S old r new
   answers_or_absent old (Ok x) new fits e = F.takes (left old) x (left new) fits e
   answers_or_absent old (Err d) new fits e = (e.0, none_begins (left old) e.1)
 
+  -- a reader of such a value that may run out of memory answers both ways
   pub answers_or_absent_or_memory : (old : Place) (r : Result X DecodeError) (new : Place) → AreOctets (left old) → TookOrMemory f old r new → AnswersOrAbsentOrMemory t S old r new
   answers_or_absent_or_memory old (Ok x) new fits e = F.takes (left old) x (left new) fits e
   answers_or_absent_or_memory old (Err d) new fits e = refuses d (none_begins (left old)) e

@@ -1,4 +1,4 @@
--- Parts of what a cursor has left.
+-- Parts of the octets that a cursor has remaining.
 use Rattle.std.proofs.Common.{◌≡◌, ℕ, ◌+◌, ◌-◌, ◌≤◌, List, ◌++◌, length, take, drop, Some, slice_range, refl, sym, ap, ◌∙◌, arith}
 use Rattle.std.proofs.lemmas.List.{length-append, take_at, drop_at, take-take}
 use Rattle.std.proofs.lemmas.List.Edits.{length-between}
@@ -13,6 +13,7 @@ pub record IsCut (source : List ℕ) (from to : ℕ) (x y : List ℕ) : Type 0 w
   pub front : slice_range source from (from + length x) ≡ x
   pub back : slice_range source (from + length x) to ≡ y
 
+-- a part of a source that is two strings is cut between them
 pub cut : (source : List ℕ) (from to : ℕ) (x y : List ℕ) → from ≤ to → to ≤ length source → slice_range source from to ≡ x ++ y → IsCut source from to x y
 cut source from to x y a b e =
     let long : to - from ≡ length x + length y = omega (arith, length-between source from to, ap length e, length-append x y) in
@@ -29,6 +30,7 @@ pub record IsPlaced (p : Place) (c rest : List ℕ) : Type 0 where
   pub content : slice_range p.source (p.to - length rest - length c) (p.to - length rest) ≡ c
   pub after : slice_range p.source (p.to - length rest) p.to ≡ rest
 
+-- where a value that was read lies in the source
 pub placed : (t : ℕ) (p : Place) (c rest : List ℕ) → p.from ≤ p.to → p.to ≤ length p.source → value_at t (left p) ≡ Some (c, rest) → IsPlaced p c rest
 placed t p c rest a b e =
     let v = value_parts t (left p) c rest e in

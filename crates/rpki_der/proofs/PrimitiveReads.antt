@@ -20,6 +20,7 @@ use Rattle.rpki_der.proofs.Optionals.{optional_or_absent, absent_before, mapped_
 
 -- ---- OCTET STRING
 
+-- an OCTET STRING is read as it is encoded
 pub octets_reads : Reads octets_at (IsEnc OCTET_STRING)
 octets_reads = value_reads OCTET_STRING
 
@@ -40,6 +41,7 @@ is_null : (u : Unit {0}) (text : List ℕ) → IsNull u text → Inside NULL IsE
 unfolding enc length_octets
 is_null u text e = ([], refl, record { octet = omega arith; low_tag = omega arith; octets = tt; short = omega arith; is = e })
 
+-- NULL is read as it is encoded
 pub null_reads : Reads null_at IsNull
 unfolding null_at
 null_reads =
@@ -102,6 +104,7 @@ to_option : (b : Bool) (text : List ℕ) → IsBoolOrFalse b text → (o : Optio
 to_option true text s = (Some true, refl, s)
 to_option false text s = elim s [ inl e ↦ (None, refl, e) | inr e ↦ (Some false, refl, e) ]
 
+-- a BOOLEAN DEFAULT FALSE is read as it is encoded
 pub bool_or_false : ReadsOrAbsent BOOLEAN bool_or_false_at IsBoolOrFalse
 unfolding bool_or_false_at
 bool_or_false = mapped_or_absent BOOLEAN or_false (optional BOOLEAN bool_at) (Optional IsBoolean) IsBoolOrFalse (optional_or_absent BOOLEAN bool_at IsBoolean bool_reads bool_begins) from_option to_option
@@ -151,6 +154,7 @@ bits_takes (unused ∷ octets) v e =
 bits_again : (v : ℕ × List ℕ) (c : List ℕ) → AreBits v c → bits_of c ≡ Some v
 bits_again v c s = rw (s.0, are_zero_bits v.0 v.1 s.1 s.2 s.3) refl
 
+-- a BIT STRING is read as it is encoded
 pub bits_reads : Reads bits_at IsBits
 unfolding bits_at
 bits_reads =
@@ -211,6 +215,7 @@ number_is limit n (x ∷ more) text s v =
     let h = number_takes x more s.2 in
     (record { first = x; more = more; enc = v; shortest = h.0; not_negative = h.1; is = s.0 }, s.1)
 
+-- an INTEGER from 0 on, below a limit, is read as it is encoded
 pub number_reads : (limit : ℕ) → Reads (content INTEGER (number_below limit)) (λ n b. IsNumber n b × (n < limit))
 number_reads limit =
     same_reads (content INTEGER (number_below limit)) (Inside INTEGER (IsNumberContent limit)) (λ n b. IsNumber n b × (n < limit))
@@ -218,6 +223,7 @@ number_reads limit =
     (λ n text s. number_is limit n s.0 text s.1 s.2)
     (λ n text s. (s.0.first ∷ s.0.more, (s.0.is, s.1, number_again s.0.first s.0.more s.0.shortest s.0.not_negative), s.0.enc))
 
+-- an INTEGER from 0 to 2^32 - 1 is read as it is encoded
 pub u32_reads : Reads u32_at IsU32
 unfolding u32_at
 u32_reads =

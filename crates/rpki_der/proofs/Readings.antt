@@ -10,7 +10,8 @@ use Rattle.rpki_der.specs.Values.{AreOctets, length_octets, enc, IsEnc}
 use Rattle.rpki_der.proofs.Octets.{AreOctets-after, AreOctets-front, bind_some, some, some_is, both_are, nothing}
 use Rattle.rpki_der.proofs.ValueReads.{value_takes, value_again}
 
--- a reading's answer is the only one: two texts that spell values and begin the same octets are one
+-- a reading's answer is the only one: two texts that encode values and begin the same octets are
+-- one
 pub one_reading : {A : Type 0} (read : List ℕ → Option (A × List ℕ)) (spells : A → List ℕ → Type 0) → Reads read spells
     → (bytes : List ℕ) (x y : A) (p q : List ℕ) → Begins spells bytes x p → Begins spells bytes y q → (x ≡ y) × (p ≡ q)
 one_reading {A} read spells law bytes x y p q a b =
@@ -18,23 +19,25 @@ one_reading {A} read spells law bytes x y p q a b =
     let two : read bytes ≡ some {A = A × List ℕ} (y, q) = rw b.parts (law.again y b.text q b.spelled) in
     both_are (x, p) (y, q) (sym one ∙ two)
 
+-- the content of a value that octets begin with is octets
 pub AreOctets-content : {rest : List ℕ} (bytes : List ℕ) (t : ℕ) (c : List ℕ) → Begins (IsEnc t) bytes c rest → AreOctets bytes → AreOctets c
 unfolding enc
 AreOctets-content {rest} bytes t c v fits =
     let text = AreOctets-front bytes v.text rest v.parts fits in
     AreOctets-after v.text (t ∷ length_octets (length c)) c v.spelled.is text
 
+-- a reading that has ended leaves nothing and gives its value
 pub ended_some : {X : Type 0} (rest : List ℕ) (x y : X) → ended rest x ≡ some y → (rest ≡ []) × (x ≡ y)
 ended_some [] x y e = (refl, some_is x y e)
 ended_some (b ∷ rest) x y e = nothing y e
 
 -- ---- what begins some octets
 
--- the same answer
+-- equal answers begin the octets alike
 pub begins_same : {X : Type 0} (S : X → List ℕ → Type 0) (octets : List ℕ) (a b : X × List ℕ) → a ≡ b → Begins S octets a.0 a.1 → Begins S octets b.0 b.1
 begins_same {X} S octets a b e h = subst (λ (q : X × List ℕ). Begins S octets q.0 q.1) e h
 
--- where nothing is left, the octets are spelled
+-- where nothing remains, the octets are encoded
 spelled_all : {X : Type 0} (S : X → List ℕ → Type 0) (octets : List ℕ) (x y : X) (rest : List ℕ) → rest ≡ [] → x ≡ y → Begins S octets x rest → S y octets
 spelled_all {X} S octets x y rest none same b =
     let used : b.text ≡ octets = sym (append-nil b.text) ∙ ap (λ (r : List ℕ). b.text ++ r) (sym none) ∙ sym b.parts in
@@ -66,10 +69,11 @@ not_used_up {X} {c} {rest} {more} {x} {now} {ahead} t f same v e h =
 -- ---- before such octets
 
 module _ (P : List ℕ → Type 0) where
+  -- what is lawful whatever follows is lawful before such octets
   pub before : {X : Type 0} (f : List ℕ → Option (X × List ℕ)) (S : X → List ℕ → Type 0) → Reads f S → ReadsBefore P f S
   before f S F = record { takes = F.takes; again = λ v text rest s p. F.again v text rest s }
 
-  -- the same relation in other words
+  -- a lawful reading stays lawful for an equivalent relation
   pub same_before : {X : Type 0} (f : List ℕ → Option (X × List ℕ)) (S T : X → List ℕ → Type 0) → ReadsBefore P f S → ((x : X) (text : List ℕ) → S x text → T x text) → ((x : X) (text : List ℕ) → T x text → S x text) → ReadsBefore P f T
   same_before f S T F to back = record {
     takes = λ bytes x rest fits e. let one = F.takes bytes x rest fits e in record { text = one.text; spelled = to x one.text one.spelled; parts = one.parts };
@@ -88,6 +92,7 @@ module _ (P : List ℕ → Type 0) where
     again = λ y text rest t p. let x = back y text t in rw (F.again x.0 text rest x.2 p, x.1) refl;
   }
 
+  -- a lawful reading that depends on one before it is lawful before such octets
   pub followed_before : {X Y : Type 0} (f : List ℕ → Option (X × List ℕ)) (g : X → List ℕ → Option (Y × List ℕ)) (S : X → List ℕ → Type 0) (T : X → Y → List ℕ → Type 0)
       → Reads f S → ((x : X) → ReadsBefore P (g x) (T x)) → ReadsBefore P (followed f g) (Followed S T)
   followed_before f g S T F G = record {
@@ -156,6 +161,7 @@ module _ (P : List ℕ → Type 0) where
 
 -- ---- whatever follows
 
+-- what is lawful before any octets is lawful whatever follows
 pub before_anything : {X : Type 0} (f : List ℕ → Option (X × List ℕ)) (S : X → List ℕ → Type 0) → ReadsBefore Anything f S → Reads f S
 before_anything f S F = record { takes = F.takes; again = λ v text rest s. F.again v text rest s tt }
 
@@ -164,13 +170,16 @@ pub before_then : {X Y : Type 0} (P : List ℕ → Type 0) (f : List ℕ → Opt
     → ReadsBefore P f S → Reads g T → ((y : Y) (text rest : List ℕ) → T y text → P (text ++ rest)) → Reads (both f g) (Both S T)
 before_then P f g S T F G other = before_anything (both f g) (Both S T) (both_before Anything P f g S T F (before Anything g T G) (λ y text rest s follows. other y text rest s))
 
+-- two lawful readings, one after the other, are lawful
 pub both_reads : {X Y : Type 0} (f : List ℕ → Option (X × List ℕ)) (g : List ℕ → Option (Y × List ℕ)) (S : X → List ℕ → Type 0) (T : Y → List ℕ → Type 0)
     → Reads f S → Reads g T → Reads (both f g) (Both S T)
 both_reads f g S T F G = before_then Anything f g S T (before Anything f S F) G (λ y text rest s. tt)
 
+-- a lawful reading inside a tag is lawful
 pub inside_reads : {X : Type 0} (t : ℕ) (f : List ℕ → Option (X × List ℕ)) (S : X → List ℕ → Type 0) → Reads f S → Reads (inside t f) (Inside t S)
 inside_reads t f S F = inside_before Anything t f S tt (before Anything f S F)
 
+-- a lawful reading that depends on one before it is lawful
 pub followed_reads : {X Y : Type 0} (f : List ℕ → Option (X × List ℕ)) (g : X → List ℕ → Option (Y × List ℕ)) (S : X → List ℕ → Type 0) (T : X → Y → List ℕ → Type 0)
     → Reads f S → ((x : X) → Reads (g x) (T x)) → Reads (followed f g) (Followed S T)
 followed_reads f g S T F G = before_anything (followed f g) (Followed S T) (followed_before Anything f g S T F (λ x. before Anything (g x) (T x) (G x)))
@@ -179,7 +188,7 @@ followed_reads f g S T F G = before_anything (followed f g) (Followed S T) (foll
 pub whole_reads : {X : Type 0} (f : List ℕ → Option (X × List ℕ)) (S : X → List ℕ → Type 0) → Reads f S → ReadsWhole (whole f) S
 whole_reads f S F = whole_before Anything f S tt (before Anything f S F)
 
--- the same value, in another form
+-- a lawful reading stays lawful where its values take another form
 pub mapped_reads : {X Y : Type 0} (f : List ℕ → Option (X × List ℕ)) (S : X → List ℕ → Type 0) (to : X → Y) (back : Y → X)
     → ((x : X) → back (to x) ≡ x) → ((y : Y) → to (back y) ≡ y) → Reads f S → Reads (mapped to f) (λ y. S (back y))
 mapped_reads {X} {Y} f S to back bt tb F =
@@ -188,6 +197,7 @@ mapped_reads {X} {Y} f S to back bt tb F =
     (λ x text s. subst (λ (z : X). S z text) (sym (bt x)) s)
     (λ y text t. (back y, tb y, t)))
 
+-- a lawful reading of a whole content is lawful inside its tag
 pub content_reads : {X : Type 0} (t : ℕ) (f : List ℕ → Option X) (S : X → List ℕ → Type 0) → ReadsWhole f S → Reads (content t f) (Inside t S)
 content_reads {X} t f S F = record {
   takes = λ bytes p rest fits e.
@@ -204,6 +214,6 @@ content_reads {X} t f S F = record {
   again = λ p text rest s. rw (value_again t s.0 text rest s.2, F.again p s.0 s.1) refl;
 }
 
--- the same relation in other words
+-- a lawful reading stays lawful for an equivalent relation
 pub same_reads : {X : Type 0} (f : List ℕ → Option (X × List ℕ)) (S T : X → List ℕ → Type 0) → Reads f S → ((x : X) (text : List ℕ) → S x text → T x text) → ((x : X) (text : List ℕ) → T x text → S x text) → Reads f T
 same_reads f S T F to back = before_anything f T (same_before Anything f S T (before Anything f S F) to back)

@@ -15,10 +15,12 @@ use Rattle.rpki_der.proofs.ValueWritten.{number_made, time_made}
 use Rattle.rpki_der.proofs.WrittenOctets.{ok_number, ok_time}
 use Rattle.rpki_der.proofs.TimeWritten.{utc_written, generalized_written}
 
+-- a value with fewer than 128 octets of content has two octets more
 pub enc_small : (t : ℕ) (c : List ℕ) → length c < 128 → length (enc t c) ≡ 2 + length c
 unfolding enc
 enc_small t c h = rw (length_short (length c) h) (omega arith)
 
+-- an INTEGER's content has at most one octet more than the number
 pub unsigned_small : (ds : List ℕ) → length (unsigned ds) ≤ length ds + 1
 unsigned_small [] = omega arith
 unsigned_small (d ∷ ds) = elim (cases_lt d 128) [
@@ -26,6 +28,7 @@ unsigned_small (d ∷ ds) = elim (cases_lt d 128) [
   | inr high ↦ rw (le-ltb d 128 high) (omega arith)
 ]
 
+-- what is written of a serial number encodes it
 pub serial_made : (n : ℕ) → n < 2 ^ 160 → IsSerial n (number n)
 unfolding number
 serial_made n h =
@@ -48,6 +51,7 @@ time_small m =
       | inr from ↦ elim (cases_lt m.year 2050) [ inl below ↦ utc_small m from below | inr after ↦ generalized_small m (inr after) ]
     ]
 
+-- what is written of a moment encodes it
 pub moment_made : (m : Moment) → IsMoment m → IsTime m (time m)
 moment_made m h = time_made m h (time_small m, ok_time m h (time_small m))
 
@@ -55,6 +59,7 @@ moment_made m h = time_made m h (time_small m, ok_time m h (time_small m))
 pub begins : {V : Type 0} (spells : V → List ℕ → Type 0) (v : V) (text rest : List ℕ) → spells v text → Begins spells (text ++ rest) v rest
 begins spells v text rest s = record { text = text; spelled = s; parts = refl }
 
+-- octets that begin with one value begin with no other
 pub begins_one : {V : Type 0} (spells : V → List ℕ → Type 0) → IsUnambiguous spells → (v w : V) (text rest tail : List ℕ) → spells v text → Begins spells (text ++ rest) w tail → (w ≡ v) × (tail ≡ rest)
 begins_one spells one v w text rest tail s b =
     let same = one v w text b.text rest tail s b.spelled b.parts in

@@ -8,6 +8,7 @@ use Rattle.rpki_der.specs.Tags.{INTEGER}
 use Rattle.rpki_der.proofs.Readings.{same_reads}
 use Rattle.rpki_der.proofs.PrimitiveReads.{number_reads}
 
+-- a serial number is read as it is encoded
 pub serial_reads : Reads serial_at IsSerial
 unfolding serial_at
 serial_reads =

@@ -22,6 +22,7 @@ use Rattle.rpki_der.proofs.SkippingSteps.{within_shrinks}
 
 -- ---- a value of any identifier octet
 
+-- a value, seen as its identifier octet and its content
 abbrev pub IsTagged : ℕ × List ℕ → List ℕ → Type 0
 IsTagged v b = IsEnc v.0 v.1 b
 
@@ -33,6 +34,7 @@ any_takes (tag ∷ bytes) v rest fits e =
     let made : (ℕ × List ℕ) × List ℕ = ((tag, a.0.0), a.0.1) in
     begins_same IsTagged (tag ∷ bytes) made (v, rest) (some_is made (v, rest) a.2) (record { text = one.text; spelled = one.spelled; parts = one.parts })
 
+-- octets that a value begins, begin with its identifier octet
 pub begins_tag : (tag : ℕ) (content text rest : List ℕ) → IsEnc tag content text → (tail : List ℕ) × (text ++ rest ≡ tag ∷ tail)
 unfolding enc
 begins_tag tag content text rest v = (_, ap (λ (t : List ℕ). t ++ rest) v.is)
@@ -47,6 +49,7 @@ any_again v text rest s =
 
 -- ---- a value that is kept whole
 
+-- a value that is kept whole is read as it stands
 pub captured_reads : Reads captured_at IsCaptured
 unfolding captured_at
 captured_reads = record {
@@ -82,6 +85,7 @@ row_from : (P : List ℕ → Type 0) (row : List (List ℕ)) → AllByRecursion 
 row_from P [] h = ([], refl)
 row_from P (b ∷ row) h = let r = row_from P row h.1 in (tt ∷ r.0, (b, concat row, h.0, r.1, refl))
 
+-- a row of skipped values is read lawfully where one of them is
 pub row_reads : (d : ℕ) → Reads (skip_within d) (Within d) → ReadsWhole (skip_row_within d) (λ u b. (row : List (List ℕ)) × (b ≡ concat row) × AllByRecursion (IsSkippableWithin d) row)
 row_reads d R = record {
   takes = λ octets u fits e.
@@ -143,14 +147,17 @@ deeper_reads d R = record {
       ];
 }
 
+-- a value is skipped at a depth where it can be
 pub within_reads : (d : ℕ) → Reads (skip_within d) (Within d)
 within_reads zero = primitive_reads
 within_reads (suc d) = deeper_reads d (within_reads d)
 
+-- a value is skipped where it can be
 pub skip_reads : Reads skip_at IsSkipped
 unfolding skip_at
 skip_reads = within_reads levels
 
+-- a row of values is skipped where each of them can be
 pub skip_all_reads : ReadsWhole skip_all_of (λ u b. IsSkippableRow b)
 unfolding skip_all_of
 skip_all_reads = row_reads levels (within_reads levels)

@@ -7,8 +7,9 @@ use Rattle.rpki_der.specs.Skipping.Reading.{any_at, is_primitive, skip_within, s
 use Rattle.rpki_der.proofs.Octets.{bind_some, some, both_are, nothing}
 use Rattle.rpki_der.proofs.ValueReads.{value_shorter}
 
--- ---- what is left is less
+-- ---- what remains is less
 
+-- reading any value uses octets up
 pub any_shrinks : Shrinks any_at
 any_shrinks = λ octets v rest e. shorter octets v rest e
   where
@@ -38,28 +39,34 @@ within_shorter (suc d) octets u rest e =
     let same : after ≡ rest = same_rest (is_primitive tag) (row_of (skip_within d) content) after rest u last in
     omega (arith, ap length same, any_shrinks octets (tag, content) after found)
 
+-- skipping a value uses octets up
 pub within_shrinks : (d : ℕ) → Shrinks (skip_within d)
 within_shrinks d = within_shorter d
 
 -- ---- one value
 
+-- the octets begin with a value of this tag and content, and the rest follows
 abbrev pub IsNext : List ℕ → ℕ → List ℕ → List ℕ → Type 0
 IsNext octets tag content rest = any_at octets ≡ some {A = (ℕ × List ℕ) × List ℕ} ((tag, content), rest)
 
+-- where no value stands, none is skipped
 pub skips_none : (d : ℕ) (octets : List ℕ) → any_at octets ≡ None → skip_within d octets ≡ None
 unfolding skip_within
 skips_none zero octets e = rw e refl
 skips_none (suc d) octets e = rw e refl
 
+-- a primitive value is skipped at any depth
 pub skips_primitive : (d : ℕ) (octets : List ℕ) (tag : ℕ) (content rest : List ℕ) → IsNext octets tag content rest → tag / 32 % 2 ≢ 1 → skip_within d octets ≡ some {A = Unit {0} × List ℕ} (tt, rest)
 unfolding skip_within
 skips_primitive zero octets tag content rest e p = let yes = eq-eqb (tag / 32 % 2) 0 (omega arith) in rw (e, yes) refl
 skips_primitive (suc d) octets tag content rest e p = let yes = eq-eqb (tag / 32 % 2) 0 (omega arith) in rw (e, yes) refl
 
+-- a constructed value isn't skipped at the depth 0
 pub skips_too_deep : (octets : List ℕ) (tag : ℕ) (content rest : List ℕ) → IsNext octets tag content rest → tag / 32 % 2 ≡ 1 → skip_within 0 octets ≡ None
 unfolding skip_within
 skips_too_deep octets tag content rest e p = let no = ne_eqb (tag / 32 % 2) 0 (λ z. omega (arith, z)) in rw (e, no) refl
 
+-- a constructed value is skipped where its content is, one level less deep
 pub skips_constructed : (d : ℕ) (octets : List ℕ) (tag : ℕ) (content rest : List ℕ) → IsNext octets tag content rest → tag / 32 % 2 ≡ 1
     → skip_within (suc d) octets ≡ (skip_row_within d content >>= λ u. some {A = Unit {0} × List ℕ} (tt, rest))
 unfolding skip_within
@@ -71,7 +78,7 @@ skips_constructed d octets tag content rest e p =
     again (Some x) = refl
     again None = refl
 
--- the same at a number that isn't 0
+-- a constructed value is skipped as its content is, at a number of levels that isn't 0
 constructed_at : (levels : ℕ) (octets : List ℕ) (tag : ℕ) (content rest : List ℕ) → 0 < levels → IsNext octets tag content rest → tag / 32 % 2 ≡ 1
     → skip_within levels octets ≡ (skip_row_within (levels - 1) content >>= λ u. some {A = Unit {0} × List ℕ} (tt, rest))
 constructed_at zero octets tag content rest some_level e p = absurd (omega arith)
@@ -79,9 +86,11 @@ constructed_at (suc d) octets tag content rest some_level e p =
     let less : suc d - 1 ≡ d = omega arith in
     rw less (skips_constructed d octets tag content rest e p)
 
+-- a constructed value is skipped where its content was skipped
 pub skips_inside : (levels : ℕ) (octets : List ℕ) (tag : ℕ) (content rest : List ℕ) → 0 < levels → IsNext octets tag content rest → tag / 32 % 2 ≡ 1 → skip_row_within (levels - 1) content ≡ Some tt
     → skip_within levels octets ≡ some {A = Unit {0} × List ℕ} (tt, rest)
 skips_inside levels octets tag content rest some_level e p row = constructed_at levels octets tag content rest some_level e p ∙ rw row refl
 
+-- a constructed value isn't skipped where its content wasn't
 pub skips_refused : (levels : ℕ) (octets : List ℕ) (tag : ℕ) (content rest : List ℕ) → 0 < levels → IsNext octets tag content rest → tag / 32 % 2 ≡ 1 → skip_row_within (levels - 1) content ≡ None → skip_within levels octets ≡ None
 skips_refused levels octets tag content rest some_level e p row = constructed_at levels octets tag content rest some_level e p ∙ rw row refl

@@ -109,6 +109,7 @@ after_again end m h =
 
 -- ---- whole contents
 
+-- the text is the content of a moment's UTCTime
 record IsUtcText (m : Moment) (text : List ℕ) : Type 0 where
   exists : IsMoment m
   from : 1950 ≤ m.year
@@ -189,6 +190,7 @@ pub found_digits : (text : List ℕ) (r : Result Moment DecodeError) → Returns
 found_digits text (Ok m) found = moment_takes [] text m found
 found_digits text (Err e) refused = tt
 
+-- a text that isn't read as fourteen digits is that of no moment
 pub no_digits : (text : List ℕ) (r : Result Moment DecodeError) → Returns r (moment_at [] text) → IfNone (result_ok r) ((m : Moment) → IsMoment m → text ≡ fourteen_digits m → ⊥)
 no_digits text (Ok m) found = tt
 no_digits text (Err e) refused = λ m exists is.
@@ -205,6 +207,7 @@ generalized_other : (m : Moment) (text rest : List ℕ) → Inside GENERALIZED_T
 unfolding enc
 generalized_other m text rest s = rw s.2.is (λ e. omega (arith, e))
 
+-- a Time is read as it is encoded
 pub time_reads : Reads time_at IsTime
 unfolding time_at
 time_reads =

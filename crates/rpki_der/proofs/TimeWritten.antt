@@ -6,10 +6,12 @@ use Rattle.rpki_der.specs.Times.{Moment, two, after_year, time}
 use Rattle.rpki_der.specs.Values.{enc}
 use Rattle.rpki_der.specs.Tags.{GENERALIZED_TIME, UTC_TIME}
 
+-- a moment from 1950 to 2049 is written as UTCTime
 pub utc_written : (m : Moment) → 1950 ≤ m.year → m.year < 2050 → time m ≡ enc UTC_TIME (two (m.year % 100) ++ after_year m)
 unfolding time
 utc_written m p q = rw (le-leb 1950 m.year p, lt-ltb m.year 2050 q) refl
 
+-- a moment of another year is written as GeneralizedTime
 pub generalized_written : (m : Moment) → (m.year < 1950) ⊎ (2050 ≤ m.year) → time m ≡ enc GENERALIZED_TIME (two (m.year / 100) ++ (two (m.year % 100) ++ after_year m))
 unfolding time
 generalized_written m (inl before) = rw (lt-leb 1950 m.year before) refl

@@ -75,6 +75,7 @@ long_takes k bytes n rest fits e =
       ]
     ]
 
+-- a length that is read is encoded so
 pub length_takes : (bytes : List ℕ) (n : ℕ) (rest : List ℕ) → AreOctets bytes → length_at bytes ≡ Some (n, rest) → IsLength bytes n rest
 length_takes [] n rest fits e = absurd cc
 length_takes (k ∷ bytes) n rest fits e =
@@ -87,6 +88,7 @@ length_takes (k ∷ bytes) n rest fits e =
       | inr long ↦ long_takes k bytes n rest fits.1 (rw long at e)
     ]
 
+-- an encoded length is read
 pub length_again : (n : ℕ) (rest : List ℕ) → n < 2 ^ 32 → length_at (length_octets n ++ rest) ≡ Some (n, rest)
 length_again n rest lt =
     elim (cases_lt n 0x80) [
@@ -120,6 +122,7 @@ content_again c rest =
     let long : ltb (length (c ++ rest)) (length c) ≡ false = le-ltb _ _ (omega (arith, length-append c rest)) in
     rw (long, take_at c rest (length c) refl, drop_at c rest (length c) refl) refl
 
+-- a value that is read is encoded so
 pub value_takes : (t : ℕ) (bytes c rest : List ℕ) → AreOctets bytes → value_at t bytes ≡ Some (c, rest) → Begins (IsEnc t) bytes c rest
 unfolding value_at enc
 value_takes t [] c rest fits e = absurd cc
@@ -140,6 +143,7 @@ value_takes t (found ∷ bytes) c rest fits e =
       parts = rw (same, whole) refl;
     }
 
+-- an encoded value is read
 pub value_again : (t : ℕ) (c text rest : List ℕ) → IsEnc t c text → value_at t (text ++ rest) ≡ Some (c, rest)
 unfolding value_at enc
 value_again t c text rest v =
@@ -148,6 +152,7 @@ value_again t c text rest v =
     let regrouped : text ++ rest ≡ t ∷ (length_octets (length c) ++ (c ++ rest)) = rw v.is (ap (λ (x : List ℕ). t ∷ x) (append_assoc (length_octets (length c)) c rest)) in
     ap (value_at t) regrouped ∙ rw (same, low, length_again (length c) (c ++ rest) v.short, content_again c rest) refl
 
+-- a value of a tag is read as it is encoded
 pub value_reads : (t : ℕ) → Reads (value_at t) (IsEnc t)
 value_reads t = record { takes = value_takes t; again = value_again t }
 
@@ -227,6 +232,7 @@ length_parts (k ∷ bytes) n rest e =
       ]
     ]
 
+-- the parts of octets that a value was read from
 pub value_parts : (t : ℕ) (bytes c rest : List ℕ) → value_at t bytes ≡ Some (c, rest) → Parts bytes c rest
 unfolding value_at
 value_parts t [] c rest e = absurd cc
@@ -237,6 +243,7 @@ value_parts t (found ∷ bytes) c rest e =
     let k = content_takes l.0 c rest l.2 in
     record { head = found ∷ n.0; whole = ap (λ (x : List ℕ). found ∷ x) (n.1 ∙ ap (λ (x : List ℕ). n.0 ++ x) k.1); some = omega arith }
 
+-- a value's content and what follows it are fewer than the octets
 pub value_shorter : (t : ℕ) (bytes c rest : List ℕ) → value_at t bytes ≡ Some (c, rest) → length c + length rest < length bytes
 value_shorter t bytes c rest e =
     let p = value_parts t bytes c rest e in

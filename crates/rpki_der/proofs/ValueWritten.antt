@@ -1,4 +1,4 @@
--- What is written of a value spells it.
+-- What is written of a value encodes it.
 use Rattle.std.specs.List.{AllByRecursion, concat}
 use Rattle.std.specs.Prelude.{◌≢◌, nat_le, nat_lt, ◌&&◌}
 use Rattle.std.specs.Int.Digits.{number_from_digits, digits_of}
@@ -12,6 +12,7 @@ use Rattle.rpki_der.specs.Primitives.{IsInteger, IsNumber, IsOid, IsObjectIdenti
 use Rattle.rpki_der.specs.Times.{Moment, two, after_year, IsMoment, IsTime, time}
 use Rattle.rpki_der.specs.Tags.{GENERALIZED_TIME, INTEGER, OBJECT_IDENTIFIER, UTC_TIME}
 
+-- a truth value is true or false
 pub bool_cases : (b : Bool) → (b ≡ true) ⊎ (b ≡ false)
 bool_cases true = inl refl
 bool_cases false = inr refl
@@ -20,14 +21,17 @@ bool_cases false = inr refl
 abbrev pub Short : List ℕ → Type 0
 Short b = (length b < 2 ^ 32) × AreOctets b
 
+-- a value isn't shorter than its content
 pub enc_longer : (t : ℕ) (c : List ℕ) → length c ≤ length (enc t c)
 unfolding enc
 enc_longer t c = omega (arith, length-append (length_octets (length c)) c)
 
+-- a short value has a short content
 pub content_short : (t : ℕ) (c : List ℕ) → Short (enc t c) → Short c
 unfolding enc
 content_short t c h = (omega (arith, enc_longer t c, h.0), (AreOctets-parts (length_octets (length c)) c h.1.1).1)
 
+-- pieces that are short together are short each
 pub pieces_short : (ps : List (List ℕ)) → Short (concat ps) → AllByRecursion Short ps
 pieces_short [] h = tt
 pieces_short (p ∷ ps) h =
@@ -35,14 +39,17 @@ pieces_short (p ∷ ps) h =
     let octets = AreOctets-parts p (concat ps) h.1 in
     ((omega (arith, whole, h.0), octets.0), pieces_short ps (omega (arith, whole, h.0), octets.1))
 
+-- what is written of a content in a tag is a value
 pub made : (t : ℕ) (c : List ℕ) → t % 32 < 31 → Short (enc t c) → IsEnc t c (enc t c)
 unfolding enc
 made t c tag h = let inside = content_short t c h in record { octet = h.1.0; low_tag = tag; octets = inside.1; short = inside.0; is = refl }
 
+-- what is written of a content in several tags is nested so
 pub nested_made : (tags : List ℕ) (c : List ℕ) → AllByRecursion (λ t. t % 32 < 31) tags → Short (nested tags c) → IsNested tags c (nested tags c)
 nested_made [] c tags h = refl
 nested_made (t ∷ ts) c tags h = (nested ts c, made t (nested ts c) tags.0 h, nested_made ts c tags.1 (content_short t (nested ts c) h))
 
+-- a content in tags that is short with them is short
 pub nested_short : (tags : List ℕ) (c : List ℕ) → Short (nested tags c) → Short c
 nested_short [] c h = h
 nested_short (t ∷ ts) c h = nested_short ts c (content_short t (nested ts c) h)
@@ -68,11 +75,13 @@ number_from n (d ∷ ds) first value h =
     integer d [] p low = tt
     integer d (y ∷ ds) p low = ((λ e. absurd (omega arith)), λ e. absurd (omega arith))
 
+-- what is written of a number encodes it, if short
 pub number_made : (n : ℕ) → Short (number n) → IsNumber n (number n)
 unfolding number
 number_made zero h = number_from 0 [] (λ e. absurd (e refl)) refl h
 number_made (suc n) h = number_from (suc n) (digits_of 256 (suc n)) (λ e. first_digits_of 256 (suc n) (omega arith) (omega arith)) (number_digits_of 256 (suc n) (omega arith)) h
 
+-- what is written of a moment encodes it, where it is short
 pub time_made : (m : Moment) → IsMoment m → Short (time m) → IsTime m (time m)
 unfolding time
 time_made m e h =
@@ -97,14 +106,17 @@ last_of : (k : ℕ) (id : List ℕ) → Plain (k ∷ id) → (front : List ℕ) 
 last_of k [] h = ([], k, refl, h.0)
 last_of k (l ∷ id) h = let r = last_of l id h.1 in (k ∷ r.0, r.1, ap (λ (x : List ℕ). k ∷ x) r.2, r.3)
 
+-- octets below 80 are the content of an OBJECT IDENTIFIER
 pub plain_oid : (k : ℕ) (id : List ℕ) → Plain (k ∷ id) → IsOid (k ∷ id)
 plain_oid k id h =
     let r = last_of k id h in
     record { front = r.0; last = r.1; is = r.2; ends = r.3; no_padding = λ x y e. absurd (plain_apart x y (subst (λ (s : List ℕ). Plain s) e h)) }
 
+-- what is written of an identifier encodes it, if short
 pub identifier_made : (id : List ℕ) → IsOid id → Short (enc OBJECT_IDENTIFIER id) → IsObjectIdentifier id (enc OBJECT_IDENTIFIER id)
 identifier_made id oid h = record { enc = made OBJECT_IDENTIFIER id (omega arith) h; oid = oid }
 
+-- what is written of a flag encodes it
 pub flag_made : (v : Bool) → IsBoolOrFalse v (bool_or_false v)
 flag_made true = refl
 flag_made false = inl refl

@@ -17,6 +17,7 @@ use Rattle.rpki_der.proofs.ValueWritten.{bool_cases, enc_longer}
 abbrev pub IfShort : List ℕ → Type 0
 IfShort b = length b < 2 ^ 32 → AreOctets b
 
+-- whether all numbers are octets
 abbrev pub all_octets : List ℕ → Bool
 all_octets [] = true
 all_octets (x ∷ b) = nat_lt x 256 && all_octets b
@@ -26,9 +27,11 @@ pub literal : (b : List ℕ) → all_octets b ≡ true → AreOctets b
 literal [] h = tt
 literal (x ∷ b) h = let r = and_parts _ _ h in (ltb-true x 256 r.0, literal b r.1)
 
+-- what is written one after the other, if short, consists of octets
 pub ok_append : (a b : List ℕ) → IfShort a → IfShort b → IfShort (a ++ b)
 ok_append a b g h l = let whole = length-append a b in AreOctets-append a b (g (omega arith)) (h (omega arith))
 
+-- what is written in pieces, if short, consists of octets
 pub ok_concat : (ps : List (List ℕ)) → AllByRecursion IfShort ps → IfShort (concat ps)
 ok_concat [] h l = tt
 ok_concat (p ∷ ps) h l = ok_append p (concat ps) h.0 (ok_concat ps h.1) l
@@ -36,6 +39,7 @@ ok_concat (p ∷ ps) h l = ok_append p (concat ps) h.0 (ok_concat ps h.1) l
 below : (ds : List ℕ) → AllBelowBase 256 ds → AreOctets ds
 below ds h = h
 
+-- the octets of a length are octets
 pub length_octets_are : (n : ℕ) → n < 2 ^ 32 → AreOctets (length_octets n)
 unfolding length_octets
 length_octets_are n h =
@@ -44,10 +48,12 @@ length_octets_are n h =
       | inr high ↦ rw (le-ltb n 128 high) (omega (arith, length-digits_of-le 256 4 n (omega arith) (omega arith)), below _ (all_below_base_digits_of 256 n (omega arith)))
     ]
 
+-- a value of octets consists of octets
 pub octets_enc : (t : ℕ) (c : List ℕ) → t < 256 → length c < 2 ^ 32 → AreOctets c → AreOctets (enc t c)
 unfolding enc
 octets_enc t c tag l h = (tag, AreOctets-append (length_octets (length c)) c (length_octets_are (length c) l) h)
 
+-- a value, if short, consists of octets where its content does
 pub ok_enc : (t : ℕ) (c : List ℕ) → t < 256 → IfShort c → IfShort (enc t c)
 ok_enc t c tag h l = let small : length c < 2 ^ 32 = omega (arith, enc_longer t c) in octets_enc t c tag small (h small)
 
@@ -55,6 +61,7 @@ ok_enc t c tag h l = let small : length c < 2 ^ 32 = omega (arith, enc_longer t 
 pub value_octets : {t : ℕ} {c b : List ℕ} → IsEnc t c b → AreOctets b
 value_octets {t} {c} h = subst AreOctets (sym h.is) (octets_enc t c h.octet h.short h.octets)
 
+-- a value in several tags, if short, consists of octets where its content does
 pub ok_nested : (tags : List ℕ) (c : List ℕ) → AreOctets tags → IfShort c → IfShort (nested tags c)
 ok_nested [] c t h = h
 ok_nested (t ∷ ts) c tags h = ok_enc t (nested ts c) tags.0 (ok_nested ts c tags.1 h)
@@ -63,10 +70,12 @@ ok_unsigned : (ds : List ℕ) → AreOctets ds → AreOctets (unsigned ds)
 ok_unsigned [] h = (omega arith, tt)
 ok_unsigned (d ∷ ds) h = elim (bool_cases (nat_lt d 128)) [ inl t ↦ rw t h | inr f ↦ rw f (omega arith, h) ]
 
+-- what is written of a number, if short, consists of octets
 pub ok_number : (n : ℕ) → IfShort (number n)
 unfolding number
 ok_number n = ok_enc INTEGER _ (omega arith) (λ l. ok_unsigned (digits_of 256 n) (below _ (all_below_base_digits_of 256 n (omega arith))))
 
+-- what is written of a flag consists of octets
 pub ok_flag : (v : Bool) → AreOctets (bool_or_false v)
 ok_flag true = literal (BOOLEAN ∷ 1 ∷ 255 ∷ []) refl
 ok_flag false = tt
@@ -80,6 +89,7 @@ choose false x y k g h = h
 leap : (year : ℕ) → leap_day year ≤ 1
 leap year = choose (year % 400 == 0) _ _ 1 (omega arith) (choose (year % 100 == 0) _ _ 1 (omega arith) (choose (year % 4 == 0) _ _ 1 (omega arith) (omega arith)))
 
+-- a month has at most 31 days
 pub days : (year month : ℕ) → days_in_month year month ≤ 31
 days year month =
     choose (month == 2) _ _ 31 (omega (arith, leap year)) (choose (month == 4) _ _ 31 (omega arith) (choose (month == 6) _ _ 31 (omega arith) (choose (month == 9) _ _ 31 (omega arith) (choose (month == 11) _ _ 31 (omega arith) (omega arith)))))
@@ -95,6 +105,7 @@ after_octets m e =
     let d : AreOctets (two m.day ++ (two m.hour ++ (two m.minute ++ (two m.second ++ 90 ∷ [])))) = AreOctets-append (two m.day) (two m.hour ++ (two m.minute ++ (two m.second ++ 90 ∷ []))) (two_octets m.day (omega (arith, e.day.1, days m.year m.month))) h in
     AreOctets-append (two m.month) (two m.day ++ (two m.hour ++ (two m.minute ++ (two m.second ++ 90 ∷ [])))) (two_octets m.month (omega (arith, e.month.1))) d
 
+-- what is written of a moment, if short, consists of octets
 pub ok_time : (m : Moment) → IsMoment m → IfShort (time m)
 unfolding time
 ok_time m e =

@@ -11,7 +11,7 @@ abbrev pub choice : {X : Type 0} → ℕ → (List ℕ → Option X) → (List �
 choice t first second [] = second []
 choice t first second (found ∷ bytes) = if nat_eq found t then first (found ∷ bytes) else second (found ∷ bytes)
 
--- it is spelled in one of the forms
+-- it is encoded in one of the forms
 abbrev pub Either : {V : Type 0} → (V → List ℕ → Type 0) → (V → List ℕ → Type 0) → V → List ℕ → Type 0
 Either first second v text = first v text ⊎ second v text
 
@@ -20,6 +20,7 @@ abbrev pub picked : {X : Type 0} → (List ℕ → Option X) → (List ℕ → O
 picked of other (Some c) rest = of c >>= λ x. Some (x, rest)
 picked of other None rest = other rest
 
+-- reads a whole content behind this tag, or by the other before another tag
 abbrev pub content_or : {X : Type 0} → ℕ → (List ℕ → Option X) → (List ℕ → Option (X × List ℕ)) → List ℕ → Option (X × List ℕ)
 content_or tag of other bytes = do
   c ← optional tag (value_at tag) bytes
@@ -30,6 +31,7 @@ abbrev pub maybe : {X : Type 0} → (List ℕ → Option X) → Option (List ℕ
 maybe of (Some c) rest = of c >>= λ x. Some (Some x, rest)
 maybe of None rest = Some (None, rest)
 
+-- reads a whole content behind this tag, or nothing before another tag
 abbrev pub optional_of : {X : Type 0} → ℕ → (List ℕ → Option X) → List ℕ → Option (Option X × List ℕ)
 optional_of tag of bytes = do
   c ← optional tag (value_at tag) bytes
@@ -62,6 +64,7 @@ turned f read bytes = do
   y ← f x.0
   Some (y, x.1)
 
+-- what a function makes of a value that is encoded so
 abbrev pub Turned : {X Y : Type 0} → (X → Option Y) → (X → List ℕ → Type 0) → Y → List ℕ → Type 0
 Turned {X} f spells y text = (x : X) × spells x text × (f x ≡ Some y)
 
@@ -71,6 +74,7 @@ followed first second bytes = do
   x ← first bytes
   second x.0 x.1
 
+-- one value, and then one whose format depends on it
 abbrev pub Followed : {X Y : Type 0} → (X → List ℕ → Type 0) → (X → Y → List ℕ → Type 0) → Y → List ℕ → Type 0
 Followed {X} first second y text = (x : X) × (a : List ℕ) × (b : List ℕ) × first x a × second x y b × (text ≡ a ++ b)
 

@@ -5,6 +5,7 @@ use Rattle.rpki_der.specs.declared.error.DecodeError.TheVariants.{Truncated, Bad
 use Rattle.rpki_der.specs.declared.error.EncodeError.{EncodeError}
 use Rattle.rpki_der.specs.declared.error.EncodeError.TheVariants as writing
 
+-- the name of the error
 abbrev pub decode_error_name : DecodeError → List ℕ
 decode_error_name Truncated = codes "Truncated"
 decode_error_name BadLength = codes "BadLength"
@@ -22,6 +23,7 @@ decode_error_name (WrongResources field) = codes "WrongResources"
 decode_error_name AlgorithmMismatch = codes "AlgorithmMismatch"
 decode_error_name Memory = codes "Memory"
 
+-- the name of the error
 abbrev pub encode_error_name : EncodeError → List ℕ
 encode_error_name writing.TooLong = codes "TooLong"
 encode_error_name writing.Memory = codes "Memory"

@@ -5,7 +5,7 @@ use Rattle.rpki_der.specs.Tags.{BOOLEAN, INTEGER, OBJECT_IDENTIFIER, BIT_STRING,
 use Rattle.rpki_der.specs.Values.{IsEnc, enc}
 pub mod Reading
 
--- BOOLEAN with the default false (X.690 8.2, 11.1): an explicit false is read too (own)
+-- BOOLEAN DEFAULT FALSE (X.690 8.2, 11.1): an explicit FALSE is read too (own)
 abbrev pub IsBoolOrFalse : Bool → List ℕ → Type 0
 IsBoolOrFalse true b = b ≡ BOOLEAN ∷ 1 ∷ 255 ∷ []
 IsBoolOrFalse false b = (b ≡ []) ⊎ (b ≡ BOOLEAN ∷ 1 ∷ 0 ∷ [])
@@ -17,7 +17,7 @@ IsInteger [] = ⊥
 IsInteger (x ∷ []) = Unit {0}
 IsInteger (x ∷ y ∷ rest) = ((x ≡ 0 → 128 ≤ y) × (x ≡ 255 → y < 128))
 
--- an INTEGER from 0 on
+-- INTEGER (0..MAX)
 pub record IsNumber (n : ℕ) (b : List ℕ) : Type 0 where
   pub first : ℕ
   pub more : List ℕ
@@ -26,7 +26,7 @@ pub record IsNumber (n : ℕ) (b : List ℕ) : Type 0 where
   pub not_negative : first < 128
   pub is : n ≡ number_from_digits 256 (first ∷ more)
 
--- an INTEGER from 0 to 2^32 - 1
+-- INTEGER (0..4294967295)
 pub record IsU32 (n : ℕ) (b : List ℕ) : Type 0 where
   pub number : IsNumber n b
   pub small : n < 2 ^ 32
@@ -40,7 +40,7 @@ pub record IsOid (id : List ℕ) : Type 0 where
   pub ends : last < 128
   pub no_padding : (x y : List ℕ) → id ≡ x ++ 128 ∷ y → (z : List ℕ) × (k : ℕ) × (x ≡ z ++ k ∷ []) × (128 ≤ k)
 
--- an OBJECT IDENTIFIER with this content
+-- OBJECT IDENTIFIER with this content (X.690 8.19)
 pub record IsObjectIdentifier (id b : List ℕ) : Type 0 where
   pub enc : IsEnc OBJECT_IDENTIFIER id b
   pub oid : IsOid id
@@ -52,7 +52,7 @@ pub record IsBitString (unused : ℕ) (octets b : List ℕ) : Type 0 where
   pub none : octets ≡ [] → unused ≡ 0
   pub zero_bits : number_from_digits 256 octets % 2 ^ unused ≡ 0
 
--- unused bits and octets
+-- BIT STRING, as a pair of the count of unused bits and the octets
 abbrev pub IsBits : ℕ × List ℕ → List ℕ → Type 0
 IsBits v b = IsBitString v.0 v.1 b
 
@@ -60,15 +60,18 @@ IsBits v b = IsBitString v.0 v.1 b
 abbrev pub null : List ℕ
 null = NULL ∷ 0 ∷ []
 
+-- NULL (X.690 8.8)
 abbrev pub IsNull : Unit {0} → List ℕ → Type 0
 IsNull u b = b ≡ null
 
 -- ---- what is written
 
+-- the encoding of a BOOLEAN (X.690 8.2, 11.1)
 abbrev pub boolean : Bool → List ℕ
 boolean true = BOOLEAN ∷ 1 ∷ 255 ∷ []
 boolean false = BOOLEAN ∷ 1 ∷ 0 ∷ []
 
+-- the encoding of a BOOLEAN DEFAULT FALSE: none of FALSE (X.690 11.5)
 abbrev pub bool_or_false : Bool → List ℕ
 bool_or_false true = BOOLEAN ∷ 1 ∷ 255 ∷ []
 bool_or_false false = []
@@ -78,5 +81,6 @@ abbrev pub unsigned : List ℕ → List ℕ
 unsigned [] = 0 ∷ []
 unsigned (d ∷ ds) = cond (nat_lt d 128) (d ∷ ds) (0 ∷ d ∷ ds)
 
+-- the encoding of an INTEGER from 0 on
 unfoldable pub number : ℕ → List ℕ
 number n = enc INTEGER (unsigned (digits_of 256 n))

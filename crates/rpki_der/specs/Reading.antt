@@ -1,11 +1,11 @@
--- Readings made of readings, what is spelled where they read, and when a reading and a spelling say
--- the same.
+-- Readings made of readings, what is encoded where they read, and when a reading and an encoding
+-- say the same.
 use Rattle.std.specs.Prelude.{ℕ, List, [], ◌∷◌, Option, Some, None, ◌≡◌, ◌++◌, nat_eq, if◌then◌else◌}
 use Rattle.rpki_der.specs.Spelling.{Begins, BeginsOrAbsent}
 use Rattle.rpki_der.specs.Values.{IsEnc, AreOctets}
 use Rattle.rpki_der.specs.Values.Reading.{◌>>=◌, value_at}
 
--- the value, where nothing is left
+-- the value, where no octets are remaining
 abbrev pub ended : {X : Type 0} → List ℕ → X → Option X
 ended [] x = Some x
 ended (b ∷ bytes) x = None
@@ -32,7 +32,7 @@ both first second bytes = do
 abbrev pub Both : {X Y : Type 0} → (X → List ℕ → Type 0) → (Y → List ℕ → Type 0) → X × Y → List ℕ → Type 0
 Both first second v text = (a : List ℕ) × (b : List ℕ) × first v.0 a × second v.1 b × (text ≡ a ++ b)
 
--- the same value, in another form
+-- a value in another form
 abbrev pub mapped : {X Y : Type 0} → (X → Y) → (List ℕ → Option (X × List ℕ)) → List ℕ → Option (Y × List ℕ)
 mapped f read bytes = do
   x ← read bytes
@@ -55,31 +55,32 @@ abbrev pub Optional : {V : Type 0} → (V → List ℕ → Type 0) → Option V 
 Optional spells None text = text ≡ []
 Optional spells (Some v) text = spells v text
 
--- every spelling of these values begins with this tag
+-- every encoding of these values begins with this tag
 abbrev pub BeginWith : {V : Type 0} → ℕ → (V → List ℕ → Type 0) → Type 0
 BeginWith {V} tag spells = (v : V) (text : List ℕ) → spells v text → (tail : List ℕ) × (text ≡ tag ∷ tail)
 
--- ---- a reading function and a spelling
+-- ---- a reading function and an encoding
 
--- what is read is spelled so, and what is spelled so is read, where such octets follow
+-- what is read is encoded so, and what is encoded so is read, where such octets follow
 pub record ReadsBefore {V : Type 0} (follows : List ℕ → Type 0) (read : List ℕ → Option (V × List ℕ)) (spells : V → List ℕ → Type 0) : Type 0 where
   pub takes : (octets : List ℕ) (v : V) (rest : List ℕ) → AreOctets octets → read octets ≡ Some (v, rest) → Begins spells octets v rest
   pub again : (v : V) (text rest : List ℕ) → spells v text → follows rest → read (text ++ rest) ≡ Some (v, rest)
 
+-- any octets may follow
 abbrev pub Anything : List ℕ → Type 0
 Anything rest = Unit {0}
 
--- the same whatever follows
+-- what is read is encoded so, and what is encoded so is read, whatever follows
 pub record Reads {V : Type 0} (read : List ℕ → Option (V × List ℕ)) (spells : V → List ℕ → Type 0) : Type 0 where
   pub takes : (octets : List ℕ) (v : V) (rest : List ℕ) → AreOctets octets → read octets ≡ Some (v, rest) → Begins spells octets v rest
   pub again : (v : V) (text rest : List ℕ) → spells v text → read (text ++ rest) ≡ Some (v, rest)
 
--- the same of whole octets
+-- what is read of whole octets is encoded so, and what is encoded so is read
 pub record ReadsWhole {V : Type 0} (read : List ℕ → Option V) (spells : V → List ℕ → Type 0) : Type 0 where
   pub takes : (octets : List ℕ) (v : V) → AreOctets octets → read octets ≡ Some v → spells v octets
   pub again : (v : V) (octets : List ℕ) → spells v octets → read octets ≡ Some v
 
--- the same of a value that may be absent
+-- what is read of a value that may be absent is encoded so, and what is encoded so is read
 pub record ReadsOrAbsent {V : Type 0} (tag : ℕ) (read : List ℕ → Option (V × List ℕ)) (spells : V → List ℕ → Type 0) : Type 0 where
   pub takes : (octets : List ℕ) (v : V) (rest : List ℕ) → AreOctets octets → read octets ≡ Some (v, rest) → BeginsOrAbsent tag spells octets v rest
   pub again : (octets : List ℕ) (v : V) (rest : List ℕ) → BeginsOrAbsent tag spells octets v rest → read octets ≡ Some (v, rest)

@@ -3,7 +3,7 @@ use Rattle.std.specs.List.{AllByRecursion}
 use Rattle.std.specs.Prelude.{◌≡◌, ℕ, List, [], ◌∷◌, ◌++◌, Option, Some, None}
 pub mod Reading
 
--- the text is the spellings of these values, one after the other
+-- the text is the encodings of these values, one after the other
 abbrev pub IsRow : {V : Type 0} → (V → List ℕ → Type 0) → List V → List ℕ → Type 0
 IsRow spells [] text = text ≡ []
 IsRow spells (v ∷ vs) text = (a : List ℕ) × (b : List ℕ) × spells v a × IsRow spells vs b × (text ≡ a ++ b)

@@ -9,6 +9,7 @@ pub mod Reading
 abbrev pub levels : ℕ
 levels = 32
 
+-- the identifier octet is one of a primitive value: bit 6 is 0 (X.690 8.1.2.5)
 abbrev pub IsPrimitive : ℕ → Type 0
 IsPrimitive tag = (tag / 32) % 2 ≡ 0
 
@@ -19,6 +20,7 @@ IsSkippableWithin (suc depth) b =
     (v : IsValue b)
     × (IsPrimitive v.tag ⊎ ((row : List (List ℕ)) × (v.content ≡ concat row) × AllByRecursion (IsSkippableWithin depth) row))
 
+-- a value that can be skipped: ANY, well formed, at most `levels` deep
 abbrev pub IsSkippable : List ℕ → Type 0
 IsSkippable b = IsSkippableWithin levels b
 
@@ -26,7 +28,7 @@ IsSkippable b = IsSkippableWithin levels b
 abbrev pub IsSkippableRow : List ℕ → Type 0
 IsSkippableRow b = (row : List (List ℕ)) × (b ≡ concat row) × AllByRecursion IsSkippable row
 
--- the same as a spelling, of nothing that is kept
+-- a value that can be skipped, as a format of which nothing is kept
 abbrev pub IsSkipped : Unit {0} → List ℕ → Type 0
 IsSkipped u b = IsSkippable b
 

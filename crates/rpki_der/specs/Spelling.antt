@@ -1,13 +1,13 @@
--- A value that is spelled at the front of octets.
+-- A value that is encoded at the front of octets.
 use Rattle.std.specs.Prelude.{◌≡◌, ℕ, List, ◌++◌, [], ◌∷◌}
 
--- a front of the octets spells the value, and the rest follows
+-- a front of the octets encodes the value, and the rest follows
 pub record Begins {V : Type 0} (spells : V → List ℕ → Type 0) (octets : List ℕ) (v : V) (rest : List ℕ) : Type 0 where
   pub text : List ℕ
   pub spelled : spells v text
   pub parts : octets ≡ text ++ rest
 
--- some front of the octets spells the value
+-- some front of the octets encodes the value
 abbrev pub Means : {V : Type 0} → (V → List ℕ → Type 0) → V → List ℕ → Type 0
 Means spells v octets = (rest : List ℕ) × Begins spells octets v rest
 
@@ -16,8 +16,8 @@ abbrev pub BeginsOther : ℕ → List ℕ → Type 0
 BeginsOther tag [] = Unit {0}
 BeginsOther tag (b ∷ bytes) = b ≡ tag → ⊥
 
--- A front of the octets spells the value, and the rest follows. The front may be empty only at the end, or before another identifier
--- than this tag.
+-- A front of the octets encodes the value, and the rest follows. The front may be empty only at the
+-- end, or before another identifier than this tag.
 pub record BeginsOrAbsent {V : Type 0} (tag : ℕ) (spells : V → List ℕ → Type 0) (octets : List ℕ) (v : V) (rest : List ℕ) : Type 0 where
   pub text : List ℕ
   pub spelled : spells v text

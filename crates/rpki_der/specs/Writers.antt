@@ -32,7 +32,7 @@ pub record Writes {T : Type 0} (p : Part) (old : List ℕ) (r : Result T EncodeE
   pub fits : OnOk r (length p.inside < 2 ^ 32)
   pub too_long : SaysLong r p.inside
 
--- The same of a writer that answers TooLong wherever what stands inside is too long.
+-- What a writer did that answers TooLong wherever what stands inside is too long.
 pub record WritesOrTooLong {T : Type 0} (p : Part) (old : List ℕ) (r : Result T EncodeError) (new : List ℕ) : Type 0 where
   pub ok : OnOk r (new ≡ old ++ p.written)
   pub err : OnErr r (new ≡ old)

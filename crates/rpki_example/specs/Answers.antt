@@ -5,14 +5,15 @@ use Rattle.rpki.specs.PathError.{PathError}
 use Rattle.rpki.specs.Stores.{Stored}
 use Rattle.rpki.specs.Verification.{Context}
 
--- the strings are a good path, of which these lists revoke no member, and the answer tells whether its last member holds the AS number
+-- the strings are a valid path, of which these lists revoke no member, and the answer tells whether
+-- its last member holds the AS number
 pub record IsHeld (x : Context) (lists : List Stored) (anchor : List ℕ) (cas : List (List ℕ)) (asn : ℕ) (answer : Bool) : Type 0 where
   pub path : Path
   pub path_of : IsPathOf anchor (asked cas None) path
   pub good : IsGoodPath x (Some lists) path
   pub held : IsTrue answer ↔ Holds path (last path) system_numbers asn
 
--- an error, that the strings are no such path; want of memory aside
+-- an error, that the strings are no such path, unless it ran out of memory
 abbrev pub TellsHeld : Context → List Stored → List ℕ → List (List ℕ) → ℕ → Result Bool PathError → Type 0
 TellsHeld x lists anchor cas asn (Ok answer) = IsHeld x lists anchor cas asn answer
 TellsHeld x lists anchor cas asn (Err e) = UnlessMemory e.fault (IsNoGoodPath x (Some lists) anchor (asked cas None))

@@ -50,6 +50,7 @@ only_description_reads : Reads only_description_at IsOnlyDescription
 unfolding only_description_at
 only_description_reads = inside_reads SEQUENCE (value_at SEQUENCE) (IsEnc SEQUENCE) (value_reads SEQUENCE)
 
+-- an AuthorityInfoAccessSyntax is read as it is encoded
 pub authority_information_access_reads : Reads authority_information_access_at IsAuthorityInformationAccess
 unfolding authority_information_access_at
 authority_information_access_reads =
@@ -61,21 +62,26 @@ authority_information_access_reads =
 
 -- ---- what is written
 
+-- a short AccessDescription has a short method and a short URI
 pub description_pieces_short : (method uri : List ℕ) → Short (description method uri) → Short (enc OBJECT_IDENTIFIER method) × Short (uri_name uri)
 description_pieces_short method uri h = let shorts = pieces_short (enc OBJECT_IDENTIFIER method ∷ uri_name uri ∷ []) (content_short SEQUENCE _ h) in (shorts.0, shorts.1.0)
 
+-- what is written of a URI encodes it, if short
 pub authority_information_access_made : (uri : List ℕ) → IsRsync uri → Short (authority_information_access_content uri) → IsAuthorityInformationAccess uri (authority_information_access_content uri)
 authority_information_access_made uri r h =
     let inside : Short (description ca_issuers uri) = content_short SEQUENCE _ h in
     let whole = nested_made (SEQUENCE ∷ SEQUENCE ∷ []) (concat (enc OBJECT_IDENTIFIER ca_issuers ∷ uri_name uri ∷ [])) (omega arith, (omega arith, tt)) h in
     (uri_name uri, names_made uri r (description_pieces_short ca_issuers uri inside).1, subst (λ (names : List ℕ). IsNested (SEQUENCE ∷ SEQUENCE ∷ []) (enc OBJECT_IDENTIFIER ca_issuers ++ names) (authority_information_access_content uri)) (append-nil (uri_name uri)) whole)
 
+-- what is written of an AccessDescription, if short, consists of octets
 pub ok_description : (method uri : List ℕ) → AreOctets method → ArePrintable uri → IfShort (description method uri)
 ok_description method uri m p = ok_enc SEQUENCE _ (omega arith) (ok_concat (enc OBJECT_IDENTIFIER method ∷ uri_name uri ∷ []) (ok_enc OBJECT_IDENTIFIER method (omega arith) (λ l. m), (ok_uri_name uri p, tt)))
 
+-- what is written of a URI, if short, consists of octets
 pub ok_authority_information_access : (uri : List ℕ) → IsRsync uri → IfShort (authority_information_access_content uri)
 ok_authority_information_access uri r = ok_enc SEQUENCE _ (omega arith) (ok_description ca_issuers uri (literal ca_issuers refl) r.printable)
 
+-- Authority Information Access is a lawful kind
 pub authority_information_access_is : IsKind authority_information_access
 authority_information_access_is = record {
   law = authority_information_access_reads;
@@ -83,5 +89,6 @@ authority_information_access_is = record {
   octets = ok_authority_information_access;
 }
 
+-- its reader answers both ways, or runs out of memory
 pub authority_information_access_answers : AnsweringOrMemory authority_information_access
 authority_information_access_answers = answering_or_memory authority_information_access authority_information_access_is

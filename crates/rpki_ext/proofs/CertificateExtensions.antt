@@ -1,4 +1,5 @@
--- The extensions of a certificate: what a row of them gives, both ways, and what is written of their fields.
+-- The extensions of a certificate: what a row of them gives, both ways, and what is written of
+-- their fields.
 use Rattle.std.specs.List.{AllByRecursion, list_all}
 use Rattle.std.specs.Prelude.{unwrap_or, filter, IfSome, is_some}
 use Rattle.std.proofs.Common.{ℕ, Bool, List, Option, [], ◌∷◌, Some, None, ◌≡◌, true, false, cond, ap, refl, map, sym, subst, inl, inr, Result, Ok, Err, ◌⊎◌, ◌||◌, not, ◌∙◌}
@@ -54,6 +55,7 @@ use Rattle.rpki_ext.proofs.SubjectAccess.{subject_information_access_is, no_uris
 
 -- ---- the kinds
 
+-- all kinds that certificates know are lawful
 pub kinds_are : AreKinds certificate_kinds
 kinds_are = (basic_constraints_is, (subject_key_identifier_is, (authority_key_identifier_is, (key_usage_is, (extended_key_usage_is, (crl_distribution_points_is, (authority_information_access_is, (subject_information_access_is, (certificate_policies_is, ((ip_shows, ip_resources_is), ((as_shows, as_resources_is), tt)))))))))))
 
@@ -95,6 +97,7 @@ unflagged s CertificatePolicies id critical content n h = rw (n, false_from_ne_t
 unflagged s (IpResources mode) id critical content n h = absurd (h tt)
 unflagged s (AsResources mode) id critical content n h = absurd (h tt)
 
+-- an extension of a kind that was seen, or with a wrong flag, ends the walk
 pub refused : (s : Seen) (kind : Named) (id : List ℕ) (critical : Bool) (content : List ℕ) → Names id (Some kind) → (is_seen s kind ≡ true) ⊎ (HasFlag (wanted kind) critical → ⊥) → IsRefused s id critical content
 refused s kind id critical content n h = elim h [ inl seen ↦ second s kind id critical content n seen | inr flag ↦ unflagged s kind id critical content n flag ]
 
@@ -103,6 +106,7 @@ pub unread_ip : (s : Seen) (mode : Overclaim) (x : Extension) → x.identifier �
 unread_ip s Refuse x named first none = rw (named, first, none) refl
 unread_ip s Trim x named first none = rw (named, first, none) refl
 
+-- an extension of AS numbers that isn't read ends the walk
 pub unread_as : (s : Seen) (mode : Overclaim) (x : Extension) → x.identifier ≡ (as_resources mode).identifier → is_some s.as_resources ≡ false → as_identifiers_at x.content ≡ None → all_kinds.step (state_of s) x ≡ None
 unread_as s Refuse x named first none = rw (named, first, none) refl
 unread_as s Trim x named first none = rw (named, first, none) refl
@@ -180,6 +184,7 @@ seen_of xs f g =
       rw (there, i.1, n.1) (ap some (same_fields f (unwrap_or g.access no_access) _ _ _ g.access_is g.v4_is g.v6_is g.as_is)),
     )
 
+-- the extensions of a certificate are read as they are encoded
 pub extensions_read : ReadsWhole extensions_of AreExtensions
 unfolding extensions_of
 extensions_read = record {
@@ -195,6 +200,7 @@ extensions_read = record {
     going : ReadsWhole (over extension_at all_kinds.step all_kinds.start) (IsFolded IsExtension all_kinds)
     going = over_reads extension_at IsExtension HasOctets all_kinds extension_reads extension_shrinks extension_octets all_kinds_law
 
+-- a function that returns what reading gives answers both ways for whole octets
 pub row_means : (r : Result ExtensionFields DecodeError) (octets : List ℕ) → AreOctets octets → ReturnsOrMemory r (extensions_of octets) → MeansOrMemory AreExtensions r octets
 row_means (Ok f) octets low e = extensions_read.takes octets f low e
 row_means (Err d) octets low e = refuses d (λ none f a. nothing f (sym none ∙ extensions_read.again f octets a)) e
@@ -213,6 +219,7 @@ are_known : (m : Overclaim) (x : ExtensionFields) → list_all is_known (parts_u
 are_known Refuse x = refl
 are_known Trim x = refl
 
+-- what is written of fields has identifiers of known kinds
 pub known_parts : (x : ExtensionFields) → AllByRecursion IsKnown (parts x)
 known_parts x = all_known (parts x) (are_known x.overclaim x)
 
@@ -224,12 +231,14 @@ module _ (x : ExtensionFields) (fits : ExtensionsFit x) (only_v4 : AreV4 x.v4_re
   all_fit : Fit certificate_kinds (values_of x)
   all_fit = (always x.basic_ca, (fits.subject_key_identifier_is, (fits.authority_key_identifier_is, (tt, (fits.extended_key_usage_is, (fits.crl_uri_is, (fits.ca_issuer_is, (fits.access_is, (tt, ((fits.v4_is, only_v4, fits.v6_is), (fits.as_is, tt)))))))))))
 
+  -- the contents that are written of fields, if short, consist of octets
   pub ok_contents : AllByRecursion (λ p. IfSome p.content IfShort) (parts x)
   ok_contents = table_octets certificate_kinds kinds_are (values_of x) all_fit
 
   abbrev i : Ip
   i = record { v4 = x.v4_resources; v6 = x.v6_resources }
 
+  -- what is written of fields with resources gives these fields, if short
   pub fields_given : HasResources x → AllByRecursion (λ p. IfSome p.content Short) (parts x) → GiveFields (written (parts x)) x
   fields_given some s =
       let (basic, (key, (authority, (usage, (purposes, (lists, (issuer, (uris, (policies, (ips, (asns, _))))))))))) = table_given certificate_kinds kinds_are (parts x) (values_of x) all_fit (only_ones (parts x) (identifiers_by_kind certificate_kinds) (parts x) (one_each x.overclaim x) s) in

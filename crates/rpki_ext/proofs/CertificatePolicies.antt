@@ -50,6 +50,7 @@ policy_again : (overclaim : Overclaim) (c : List ℕ) → IsPolicy overclaim c �
 policy_again overclaim c s =
     rw (s.2, oid_reads.again (policy_identifier overclaim) (enc OBJECT_IDENTIFIER (policy_identifier overclaim)) s.0 (policy_spelled overclaim), named_again overclaim, skip_all_reads.again tt s.0 s.1) refl
 
+-- certificatePolicies are read as they are encoded
 pub certificate_policies_reads : Reads certificate_policies_at IsCertificatePolicies
 unfolding certificate_policies_at
 certificate_policies_reads =
@@ -62,6 +63,7 @@ certificate_policies_reads =
     })
     (λ v text s. let (row, sequence, (policy, one, is)) = s.nested in (row, (policy, (concat s.qualifiers, (s.qualifiers, refl, s.skipped), is), one), sequence))
 
+-- what is written of a policy encodes it, under any bound of depth, if short
 pub certificate_policies_made : (depth : ℕ) (overclaim : Overclaim) → Short (certificate_policies_content overclaim) → IsCertificatePoliciesWithin depth overclaim (certificate_policies_content overclaim)
 certificate_policies_made depth overclaim h =
     let identifier = enc OBJECT_IDENTIFIER (policy_identifier overclaim) in
@@ -71,6 +73,7 @@ certificate_policies_made depth overclaim h =
       nested = subst (λ (c : List ℕ). IsNested (SEQUENCE ∷ SEQUENCE ∷ []) c (certificate_policies_content overclaim)) (sym (append-nil identifier)) (nested_made (SEQUENCE ∷ SEQUENCE ∷ []) identifier (omega arith, (omega arith, tt)) h);
     }
 
+-- what is written of a policy, if short, consists of octets
 pub ok_certificate_policies : (overclaim : Overclaim) → IfShort (certificate_policies_content overclaim)
 ok_certificate_policies overclaim = ok_nested (SEQUENCE ∷ SEQUENCE ∷ []) (enc OBJECT_IDENTIFIER (policy_identifier overclaim)) (literal (SEQUENCE ∷ SEQUENCE ∷ []) refl) (ok_enc OBJECT_IDENTIFIER _ (omega arith) (λ l. policy overclaim))
   where
@@ -78,6 +81,7 @@ ok_certificate_policies overclaim = ok_nested (SEQUENCE ∷ SEQUENCE ∷ []) (en
     policy Refuse = literal (policy_identifier Refuse) refl
     policy Trim = literal (policy_identifier Trim) refl
 
+-- Certificate Policies is a lawful kind
 pub certificate_policies_is : IsKind certificate_policies
 certificate_policies_is = record {
   law = certificate_policies_reads;
@@ -85,5 +89,6 @@ certificate_policies_is = record {
   octets = λ m fits. ok_certificate_policies m;
 }
 
+-- its reader answers both ways
 pub certificate_policies_answers : Answering certificate_policies
 certificate_policies_answers = answering certificate_policies certificate_policies_is

@@ -5,6 +5,7 @@ use Rattle.rpki_der.proofs.WrittenOctets.{ok_number}
 use Rattle.rpki_ext.specs.CrlNumbers.{crl_number}
 use Rattle.rpki_ext.proofs.LawfulKinds.{IsKind, always}
 
+-- CRL Number is a lawful kind
 pub crl_number_is : IsKind crl_number
 crl_number_is = record {
   law = serial_reads;

@@ -26,6 +26,7 @@ full_name_reads =
     (inside_reads SEQUENCE (inside (CONTEXT_CONSTRUCTED 0) (value_at (CONTEXT_CONSTRUCTED 0))) (Inside (CONTEXT_CONSTRUCTED 0) (IsEnc (CONTEXT_CONSTRUCTED 0)))
     (inside_reads (CONTEXT_CONSTRUCTED 0) (value_at (CONTEXT_CONSTRUCTED 0)) (IsEnc (CONTEXT_CONSTRUCTED 0)) (value_reads (CONTEXT_CONSTRUCTED 0))))
 
+-- CRLDistributionPoints are read as they are encoded
 pub crl_distribution_points_reads : Reads crl_distribution_points_at IsCrlDistributionPoints
 unfolding crl_distribution_points_at
 crl_distribution_points_reads =
@@ -33,14 +34,17 @@ crl_distribution_points_reads =
     (λ v text (names, (points, (point, (name, full, location), one), sequence), read). (names, names_read.takes names v full.octets read, (points, sequence, (point, one, (name, location, (names, full, refl))))))
     (λ v text (names, given, (points, sequence, (point, one, (name, location, (c, full, is))))). (names, (points, (point, (name, subst (λ (t : List ℕ). IsEnc (CONTEXT_CONSTRUCTED 0) t name) is full, location), one), sequence), names_read.again v names given))
 
+-- what is written of a URI encodes it, if short
 pub crl_distribution_points_made : (uri : List ℕ) → IsRsync uri → Short (crl_distribution_points_content uri) → IsCrlDistributionPoints uri (crl_distribution_points_content uri)
 crl_distribution_points_made uri r h =
     let tags : List ℕ = SEQUENCE ∷ SEQUENCE ∷ CONTEXT_CONSTRUCTED 0 ∷ CONTEXT_CONSTRUCTED 0 ∷ [] in
     (uri_name uri, names_made uri r (nested_short tags (uri_name uri) h), nested_made tags (uri_name uri) (omega arith, (omega arith, (omega arith, (omega arith, tt)))) h)
 
+-- what is written of a URI, if short, consists of octets
 pub ok_crl_distribution_points : (uri : List ℕ) → IsRsync uri → IfShort (crl_distribution_points_content uri)
 ok_crl_distribution_points uri r = ok_nested (SEQUENCE ∷ SEQUENCE ∷ CONTEXT_CONSTRUCTED 0 ∷ CONTEXT_CONSTRUCTED 0 ∷ []) (uri_name uri) (literal (SEQUENCE ∷ SEQUENCE ∷ CONTEXT_CONSTRUCTED 0 ∷ CONTEXT_CONSTRUCTED 0 ∷ []) refl) (ok_uri_name uri r.printable)
 
+-- CRL Distribution Points is a lawful kind
 pub crl_distribution_points_is : IsKind crl_distribution_points
 crl_distribution_points_is = record {
   law = crl_distribution_points_reads;
@@ -48,5 +52,6 @@ crl_distribution_points_is = record {
   octets = ok_crl_distribution_points;
 }
 
+-- its reader answers both ways, or runs out of memory
 pub crl_distribution_points_answers : AnsweringOrMemory crl_distribution_points
 crl_distribution_points_answers = answering_or_memory crl_distribution_points crl_distribution_points_is

@@ -21,6 +21,7 @@ use Rattle.rpki_ext.proofs.Pieces.{row_pieces, pieces_row}
 use Rattle.rpki_der.proofs.ValueWritten.{made}
 use Rattle.rpki_ext.proofs.LawfulKinds.{IsKind, always, AnsweringOrMemory, answering_or_memory}
 
+-- reading an OBJECT IDENTIFIER uses octets up
 pub oid_shrinks : Shrinks oid_at
 unfolding oid_at
 oid_shrinks = content_shrinks OBJECT_IDENTIFIER oid_of
@@ -77,6 +78,7 @@ is_usage kept text s =
     let row = pieces_row IsObjectIdentifier (p.id ∷ p.more) p.pieces p.identifiers in
     (kept, (p.id, p.more, subst (λ (c : List ℕ). IsRow IsObjectIdentifier (p.id ∷ p.more) c) (sym p.is) row, refl), s.sequence)
 
+-- an ExtKeyUsageSyntax is read as it is encoded
 pub extended_key_usage_reads : Reads extended_key_usage_at IsExtendedKeyUsage
 unfolding extended_key_usage_at
 extended_key_usage_reads = same_reads (content SEQUENCE purposes_of) (Inside SEQUENCE AreSome) IsExtendedKeyUsage (content_reads SEQUENCE purposes_of AreSome identifiers_read) usage_is is_usage
@@ -103,6 +105,7 @@ row_octets (id ∷ ids) (p ∷ ps) z = AreOctets-append p (concat ps) (value_oct
 purposes_octets : (ids : List ℕ) → ArePurposes ids → AreOctets ids
 purposes_octets ids p = rw p.is (row_octets (p.id ∷ p.more) p.pieces p.identifiers)
 
+-- Extended Key Usage is a lawful kind
 pub extended_key_usage_is : IsKind extended_key_usage
 extended_key_usage_is = record {
   law = extended_key_usage_reads;
@@ -110,5 +113,6 @@ extended_key_usage_is = record {
   octets = λ ids fits. ok_enc SEQUENCE ids (omega arith) (λ l. purposes_octets ids fits);
 }
 
+-- its reader answers both ways, or runs out of memory
 pub extended_key_usage_answers : AnsweringOrMemory extended_key_usage
 extended_key_usage_answers = answering_or_memory extended_key_usage extended_key_usage_is

@@ -49,6 +49,7 @@ ascii_decides text = all_decides is_ascii (λ octet. octet < 128) (λ octet. (lt
 text_takes : (c text : List ℕ) → ascii_of c ≡ Some text → IsText text c
 text_takes c text e = let g = if_some (list_all is_ascii c) c text e in (g.1, subst AreAscii g.1 ((ascii_decides c).0 g.0))
 
+-- a uniformResourceIdentifier is read as it is encoded
 pub name_reads : Reads uri_name_at IsUniformResourceIdentifier
 unfolding uri_name_at
 name_reads =
@@ -57,6 +58,7 @@ name_reads =
     (λ text b s. (rw (← s.1.0) s.2, s.1.1))
     (λ text b s. (text, (refl, s.1), s.0))
 
+-- reading a uniformResourceIdentifier uses octets up
 pub name_shrinks : Shrinks uri_name_at
 unfolding uri_name_at
 name_shrinks = content_shrinks (CONTEXT 6) ascii_of
@@ -69,6 +71,7 @@ Kept = once_fold is_rsync (λ uri. Some uri) (λ x w. x ≡ w)
 kept_reads : ReadsWhole (over uri_name_at keep_rsync None) (IsFolded IsUniformResourceIdentifier Kept)
 kept_reads = over_reads uri_name_at IsUniformResourceIdentifier (λ x. Unit {0}) Kept name_reads name_shrinks (λ x text s. tt) (once_law is_rsync (λ uri. Some uri) (λ x w. x ≡ w) (record { takes = λ x v fits e. some_is x v e; again = λ x v e. ap some e }))
 
+-- GeneralNames are read as they are encoded
 pub names_read : ReadsWhole names_of IsGeneralNames
 names_read = record {
   takes = λ c v low e.
@@ -86,9 +89,11 @@ names_read = record {
 -- ---- texts that are URIs
 
 module _ (test : List ℕ → Bool) (P : List ℕ → Type 0) (decides : (text : List ℕ) → Decides (test text) (P text)) where
+  -- a text with the property is read as itself
   pub text_is : (text : List ℕ) → P text → cond (test text) (some text) None ≡ Some text
   text_is text p = rw ((decides text).1 p) refl
 
+  -- a text without the property isn't read
   pub text_is_not : (text : List ℕ) → (P text → ⊥) → cond (test text) (some text) None ≡ None
   text_is_not text p =
       elim (cases_Bool (test text)) [
@@ -96,6 +101,7 @@ module _ (test : List ℕ → Bool) (P : List ℕ → Type 0) (decides : (text :
         | inr n ↦ rw n refl
       ]
 
+  -- a text that was read is itself, with the property
   pub text_was : (text uri : List ℕ) → cond (test text) (some text) None ≡ Some uri → (text ≡ uri) × P uri
   text_was text uri e = let g = if_some (test text) text uri e in (g.1, subst P g.1 ((decides text).0 g.0))
 
@@ -105,9 +111,11 @@ ascii : (text : List ℕ) → ArePrintable text → AllByRecursion (λ octet. oc
 ascii [] h = tt
 ascii (x ∷ text) h = (omega (arith, h.0.1), ascii text h.1)
 
+-- what is written of a URI encodes it as a name, if short
 pub uri_name_made : (uri : List ℕ) → ArePrintable uri → Short (uri_name uri) → IsUniformResourceIdentifier uri (uri_name uri)
 uri_name_made uri p h = (made (CONTEXT 6) uri (omega arith) h, ascii uri p)
 
+-- what is written of an rsync URI encodes it as the only name, if short
 pub names_made : (uri : List ℕ) → IsRsync uri → Short (uri_name uri) → IsGeneralNames uri (uri_name uri)
 names_made uri r h = record {
   texts = uri ∷ [];
@@ -121,5 +129,6 @@ octets : (text : List ℕ) → ArePrintable text → AreOctets text
 octets [] h = tt
 octets (x ∷ text) h = (omega (arith, h.0.1), octets text h.1)
 
+-- what is written of a URI, if short, consists of octets
 pub ok_uri_name : (uri : List ℕ) → ArePrintable uri → IfShort (uri_name uri)
 ok_uri_name uri h = ok_enc (CONTEXT 6) uri (omega arith) (λ l. octets uri h)

@@ -12,6 +12,7 @@ use Rattle.rpki_parts.proofs.KeyReads.{IsTwenty, takes_twenty, key_identifier_re
 use Rattle.rpki_ext.specs.KeyIdentifiers.{IsAuthorityKeyIdentifier, authority_key_identifier_at, IsSubjectKeyIdentifier, subject_key_identifier_content, subject_key_identifier, authority_key_identifier_content, authority_key_identifier}
 use Rattle.rpki_ext.proofs.LawfulKinds.{IsKind, always, Answering, answering}
 
+-- an AuthorityKeyIdentifier is read as it is encoded
 pub authority_key_identifier_reads : Reads authority_key_identifier_at IsAuthorityKeyIdentifier
 unfolding authority_key_identifier_at
 authority_key_identifier_reads =
@@ -21,12 +22,15 @@ authority_key_identifier_reads =
     (λ id text (row, (key, (is, size), first), sequence). ((row, sequence, (key, first, is)), size))
     (λ id text ((row, sequence, (key, first, is)), size). (row, (key, (is, size), first), sequence))
 
+-- what is written of 20 octets encodes them as a SubjectKeyIdentifier, if short
 pub subject_key_identifier_made : (id : List ℕ) → length id ≡ 20 → Short (subject_key_identifier_content id) → IsSubjectKeyIdentifier id (subject_key_identifier_content id)
 subject_key_identifier_made id l h = record { enc = made OCTET_STRING id (omega arith) h; size = l }
 
+-- what is written of a SubjectKeyIdentifier, if short, consists of octets
 pub ok_subject_key_identifier : (id : List ℕ) → AreOctets id → IfShort (subject_key_identifier_content id)
 ok_subject_key_identifier id h = ok_enc OCTET_STRING id (omega arith) (λ l. h)
 
+-- Subject Key Identifier is a lawful kind
 pub subject_key_identifier_is : IsKind subject_key_identifier
 subject_key_identifier_is = record {
   law = key_identifier_reads;
@@ -34,12 +38,15 @@ subject_key_identifier_is = record {
   octets = λ id fits. ok_subject_key_identifier id fits.0;
 }
 
+-- what is written of 20 octets encodes them as an AuthorityKeyIdentifier, if short
 pub authority_key_identifier_made : (id : List ℕ) → length id ≡ 20 → Short (authority_key_identifier_content id) → IsAuthorityKeyIdentifier id (authority_key_identifier_content id)
 authority_key_identifier_made id l h = (nested_made (SEQUENCE ∷ CONTEXT 0 ∷ []) id (omega arith, (omega arith, tt)) h, l)
 
+-- what is written of an AuthorityKeyIdentifier, if short, consists of octets
 pub ok_authority_key_identifier : (id : List ℕ) → AreOctets id → IfShort (authority_key_identifier_content id)
 ok_authority_key_identifier id h = ok_nested (SEQUENCE ∷ CONTEXT 0 ∷ []) id (literal (SEQUENCE ∷ CONTEXT 0 ∷ []) refl) (λ l. h)
 
+-- Authority Key Identifier is a lawful kind
 pub authority_key_identifier_is : IsKind authority_key_identifier
 authority_key_identifier_is = record {
   law = authority_key_identifier_reads;
@@ -47,5 +54,6 @@ authority_key_identifier_is = record {
   octets = λ id fits. ok_authority_key_identifier id fits.0;
 }
 
+-- its reader answers both ways
 pub authority_key_identifier_answers : Answering authority_key_identifier
 authority_key_identifier_answers = answering authority_key_identifier authority_key_identifier_is

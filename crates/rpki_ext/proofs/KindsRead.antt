@@ -19,12 +19,14 @@ use Rattle.rpki_der.proofs.Folding.{once_law}
 -- ---- what an extension tells
 
 module _ {V : Type 0} (read : List ℕ → Option (V × List ℕ)) (spells : V → List ℕ → Type 0) (law : Reads read spells) where
+  -- what is read of a content's front is what the content means
   pub front_takes : (c : List ℕ) (v : V) → AreOctets c → front read c ≡ Some v → Means spells v c
   front_takes c v low e =
       let a = bind_some (read c) (λ x. some x.0) v e in
       let b = law.takes c a.0.0 a.0.1 low a.1 in
       subst (λ (w : V). Means spells w c) (some_is a.0.0 v a.2) (a.0.1, b)
 
+  -- what a content means is read of its front
   pub front_again : (c : List ℕ) (v : V) → Means spells v c → front read c ≡ Some v
   front_again c v m = rw (m.1.parts, law.again v m.1.text m.0 m.1.spelled) refl
 
@@ -47,9 +49,11 @@ module _ {V : Type 0} (kind : ExtensionKind V) (law : Reads kind.reads kind.spel
   flag_again (required true) x v h = rw h.0 (front_again kind.reads kind.spells law x.content v h.1)
   flag_again (required false) x v h = rw h.0 (front_again kind.reads kind.spells law x.content v h.1)
 
+  -- what is read of an extension is what it tells
   pub tells : IsGiven HasOctets (told kind) (Tells kind)
   tells = record { takes = flag_takes kind.flag; again = flag_again kind.flag }
 
+  -- the step of a kind is lawful
   pub kind_law : IsLawful HasOctets (kind_fold kind)
   kind_law = once_law (is_of (identifiers kind)) (told kind) (Tells kind) tells
 
@@ -70,6 +74,7 @@ module _ {V : Type 0} (kinds : Overclaim → ExtensionKind V) where
   abbrev pub ShowsMode : Type 0
   ShowsMode = (m : Overclaim) → mode_by kinds (kinds m).identifier ≡ Some m
 
+  -- the step of a kind with modes is lawful where the identifier shows the mode
   pub modes_law : ShowsMode → ((m : Overclaim) → Reads (kinds m).reads (kinds m).spells) → IsLawful HasOctets (modes_fold kinds)
   modes_law shows law = once_law (is_of (identifiers_by_mode kinds)) (told_with_mode kinds) (λ x v. TellsUnder kinds v.0 x v.1) (record {
     takes = λ x v low e.

@@ -24,11 +24,13 @@ abbrev extension_if : List ℕ → Bool → Option (List ℕ) → List Extension
 extension_if id critical None = []
 extension_if id critical (Some c) = record { identifier = id; critical = critical; content = c } ∷ []
 
+-- the extensions that are written of parts: those with a content
 abbrev pub written : List OptionalExtension → List Extension
 written ps = flat_map (λ (p : OptionalExtension). extension_if p.identifier p.critical p.content) ps
 
 -- ---- of one kind
 
+-- whether the part has one of these identifiers
 abbrev pub is_in : List (List ℕ) → OptionalExtension → Bool
 is_in kind p = list_any (λ id. bytes_eq p.identifier id) kind
 
@@ -48,6 +50,7 @@ pub record IsOnly (ps : List OptionalExtension) (kind : List (List ℕ)) (p : Op
   pub one : filter (is_in kind) ps ≡ p ∷ []
   pub short : IfSome p.content Short
 
+-- where each kind finds one part among all, it is the only one of the kind
 pub only_ones : (all : List OptionalExtension) (kinds : List (List (List ℕ))) (ps : List OptionalExtension) → map (λ kind. filter (is_in kind) all) kinds ≡ map (λ p. p ∷ []) ps → AllByRecursion (λ p. IfSome p.content Short) ps → AllZip (IsOnly all) kinds ps
 only_ones all [] [] e s = tt
 only_ones all [] (p ∷ ps) e s = absurd cc
@@ -71,6 +74,7 @@ pub else_kept : {V : Type 0} (d v : V) (o : Option (List ℕ)) → (o ≡ None �
 else_kept d v None none = none refl
 else_kept d v (Some c) none = refl
 
+-- a value whose content isn't None is kept
 pub kept_some : {V : Type 0} (v : V) (o : Option (List ℕ)) → (o ≡ None → ⊥) → kept (Some v) o ≢ None
 kept_some v None some_content = absurd (some_content refl)
 kept_some v (Some c) some_content = λ e. absurd cc
@@ -95,6 +99,7 @@ module _ {V : Type 0} (kind : ExtensionKind V) (is : IsKind kind) (P : Extension
 pub gives : {V : Type 0} {ps : List OptionalExtension} (kind : ExtensionKind V) → IsKind kind → (v : Option V) → IsOnly ps (identifiers kind) (extension_for kind v) → IfSome v kind.fits → (w : Option V) → kept v (extension_for kind v).content ≡ w → Gives kind (written ps) w
 gives kind is v h = told kind is (Tells kind) (λ x u id t. t) v h
 
+-- the part of a kind with modes gives its value under the mode
 pub gives_under : {V : Type 0} {ps : List OptionalExtension} (kinds : Overclaim → ExtensionKind V) (m : Overclaim) → IsKind (kinds m) → (v : Option V) → IsOnly ps (identifiers_by_mode kinds) (extension_for (kinds m) v) → IfSome v (kinds m).fits → (w : Option V) → kept v (extension_for (kinds m) v).content ≡ w → GivesUnder kinds m (written ps) w
 gives_under kinds m is v h = told (kinds m) is (TellsUnder kinds m) (λ x u id t. (id, t)) v h
 
@@ -102,6 +107,7 @@ gives_under kinds m is v h = told (kinds m) is (TellsUnder kinds m) (λ x u id t
 pub as_it_was : {V : Type 0} (xs : List Extension) (kind : ExtensionKind V) (v : Option V) → kept v (extension_for kind v).content ≡ v → Gives kind xs (kept v (extension_for kind v).content) → Gives kind xs v
 as_it_was {V} xs kind v same h = subst (λ (u : Option V). Gives kind xs u) same h
 
+-- what is written of a value that fits, if short, consists of octets
 pub ok_part : {V : Type 0} (kind : ExtensionKind V) → IsKind kind → (v : Option V) → IfSome v kind.fits → IfSome (extension_for kind v).content IfShort
 ok_part kind is None fits = tt
 ok_part kind is (Some v) fits = is.octets v fits
@@ -112,11 +118,13 @@ ok_part kind is (Some v) fits = is.octets v fits
 abbrev pub is_known : OptionalExtension → Bool
 is_known p = is_in known p && (is_oid p.identifier && all_octets p.identifier)
 
+-- the identifier is one that certificates know
 pub record IsKnown (p : OptionalExtension) : Type 0 where
   pub kind : is_in known p ≡ true
   pub oid : is_oid p.identifier ≡ true
   pub octets : all_octets p.identifier ≡ true
 
+-- parts that pass the test are known
 pub all_known : (ps : List OptionalExtension) → list_all is_known ps ≡ true → AllByRecursion IsKnown ps
 all_known [] e = tt
 all_known (p ∷ ps) e =
@@ -125,6 +133,7 @@ all_known (p ∷ ps) e =
     let c = and_parts (is_oid p.identifier) _ b.1 in
     (record { kind = b.0; oid = c.0; octets = c.1 }, all_known ps a.1)
 
+-- extensions of known parts have nothing unknown that is critical
 pub none_unknown : (ps : List OptionalExtension) → AllByRecursion IsKnown ps → AllByRecursion (λ x. is_of known x ≡ false → x.critical ≡ false) (written ps)
 none_unknown [] k = tt
 none_unknown (p ∷ ps) k = here p.content (none_unknown ps k.1)
@@ -133,6 +142,7 @@ none_unknown (p ∷ ps) k = here p.content (none_unknown ps k.1)
     here None more = more
     here (Some c) more = ((λ u. absurd cc (k.0.kind, u)), more)
 
+-- what is written of known parts is a row of their extensions
 pub row_made : (ps : List OptionalExtension) → AllByRecursion IsKnown ps → AllByRecursion Short (map text ps) → IsRow IsExtension (written ps) (concat (map text ps))
 row_made [] k h = refl
 row_made (p ∷ ps) k h = here p.content h.0 (row_made ps k.1 h.1)
@@ -141,6 +151,7 @@ row_made (p ∷ ps) k h = here p.content h.0 (row_made ps k.1 h.1)
     here None short more = more
     here (Some c) short more = (_, _, extension_made (record { identifier = p.identifier; critical = p.critical; content = c }) (oid_takes p.identifier k.0.oid) short, more, refl)
 
+-- parts that are written short have short contents
 pub contents_short : (ps : List OptionalExtension) → AllByRecursion Short (map text ps) → AllByRecursion (λ p. IfSome p.content Short) ps
 contents_short [] h = tt
 contents_short (p ∷ ps) h = (here p.content h.0, contents_short ps h.1)
@@ -149,6 +160,7 @@ contents_short (p ∷ ps) h = (here p.content h.0, contents_short ps h.1)
     here None short = tt
     here (Some c) short = extension_content_short p.identifier p.critical c short
 
+-- what is written of known parts, if short, consists of octets where their contents do
 pub ok_row : (ps : List OptionalExtension) → AllByRecursion IsKnown ps → AllByRecursion (λ p. IfSome p.content IfShort) ps → IfShort (concat (map text ps))
 ok_row [] k h = λ l. tt
 ok_row (p ∷ ps) k h = ok_append (text p) (concat (map text ps)) (here p.content h.0) (ok_row ps k.1 h.1)

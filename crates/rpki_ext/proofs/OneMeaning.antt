@@ -6,10 +6,12 @@ use Rattle.rpki_der.specs.Reading.{Reads}
 use Rattle.rpki_der.proofs.Readings.{one_reading}
 use Rattle.rpki_ext.specs.Kinds.{HasOneMeaning}
 
+-- a content that is read lawfully means one value
 pub one_meaning : {V : Type 0} (read : List ℕ → Option (V × List ℕ)) (spells : V → List ℕ → Type 0) → Reads read spells → HasOneMeaning spells
 one_meaning read spells law content v w p q =
     (one_reading read spells law content v w p.0 q.0 p.1 q.1).0
 
+-- a format that is read lawfully is unambiguous
 pub unambiguous : {V : Type 0} (read : List ℕ → Option (V × List ℕ)) (spells : V → List ℕ → Type 0) → Reads read spells → IsUnambiguous spells
 unambiguous read spells law v w a b x y p q e =
     let one = one_reading read spells law (a ++ x) v w x y (record { text = a; spelled = p; parts = refl }) (record { text = b; spelled = q; parts = e }) in

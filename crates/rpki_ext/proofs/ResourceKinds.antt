@@ -29,6 +29,7 @@ image_reads {X} {Y} f read S law = record {
 same_ip : (i : Ip) → addresses (Some (written_families i)) ≡ i
 same_ip i = λ j. record { v4 = (present_is i.v4) j; v6 = (present_is i.v6) j }
 
+-- the extension of addresses is a lawful kind in each mode
 pub ip_resources_is : (m : Overclaim) → IsKind (ip_resources m)
 ip_resources_is m = record {
   law = image_reads (λ (f : Families). addresses (Some f)) families_at IsIPAddrBlocks ip_reads;
@@ -36,13 +37,16 @@ ip_resources_is m = record {
   octets = λ i fits. ok_ip i;
 }
 
+-- the extension of AS numbers is a lawful kind in each mode
 pub as_resources_is : (m : Overclaim) → IsKind (as_resources m)
 as_resources_is m = record { law = as_reads; made = λ r c fits e short. as_resources_made r c e fits short; octets = λ r fits. ok_as_resources r }
 
+-- the identifier of addresses shows the mode
 pub ip_shows : ShowsMode ip_resources
 ip_shows Refuse = refl
 ip_shows Trim = refl
 
+-- the identifier of AS numbers shows the mode
 pub as_shows : ShowsMode as_resources
 as_shows Refuse = refl
 as_shows Trim = refl

@@ -27,12 +27,14 @@ found_in : (found : Bool) (ids : List (List ℕ)) → steps or_router found ids 
 found_in found [] = ap some (sym (or_false found))
 found_in found (id ∷ ids) = found_in (found || is_router_purpose id) ids ∙ ap some (or_first found (is_router_purpose id) (any ids))
 
+-- a search that finds the router's purpose says that it is there
 pub found_is : (kept : List ℕ) → AreOctets kept → over oid_at or_router false kept ≡ Some true → HasRouterPurpose kept
 unfolding over
 found_is kept low e =
     let a = bind_some (row_of oid_at kept) (λ ids. steps or_router false ids) true e in
     record { ids = a.0; row = row_is oid_at IsObjectIdentifier oid_reads kept a.0 low a.1; among = some_is (any a.0) true (sym (found_in false a.0) ∙ a.2) }
 
+-- the router's purpose is found where it is there
 pub is_found : (kept : List ℕ) → HasRouterPurpose kept → over oid_at or_router false kept ≡ Some true
 unfolding over
 is_found kept h = rw (row_again oid_at IsObjectIdentifier oid_reads oid_shrinks h.ids kept h.row) (found_in false h.ids ∙ ap some h.among)

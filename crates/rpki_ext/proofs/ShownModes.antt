@@ -24,6 +24,7 @@ module _ {V : Type 0} (kinds : Overclaim → ExtensionKind V) (m : Overclaim) wh
   abbrev TellsShown : Extension → Overclaim × V → Type 0
   TellsShown x p = TellsUnder kinds p.0 x p.1
 
+  -- what stands under the shown mode is given under it
   pub under_mode : (xs : List Extension) (v : Option (Overclaim × V)) (w : Option V) → under m v ≡ Some w → IsAtMostOne TellsShown xs v → IsAtMostOne (TellsUnder kinds m) xs w
   under_mode [] v w e h = sym (some_is None w (rw h at e))
   under_mode (x ∷ y ∷ xs) v w e h = elim h [ ]
@@ -34,6 +35,7 @@ module _ {V : Type 0} (kinds : Overclaim → ExtensionKind V) (m : Overclaim) wh
         | inr n ↦ nothing w (rw n at e1)
       ]
 
+  -- what is given under a mode shows it
   pub mode_under : (xs : List Extension) (w : Option V) → IsAtMostOne (TellsUnder kinds m) xs w → (v : Option (Overclaim × V)) × (under m v ≡ Some w) × IsAtMostOne TellsShown xs v
   mode_under [] w h = (None, ap some (sym h), refl)
   mode_under (x ∷ y ∷ xs) w h = elim h [ ]
@@ -43,6 +45,7 @@ module _ {V : Type 0} (kinds : Overclaim → ExtensionKind V) (m : Overclaim) wh
 
 -- a value stays where its mode is the one
 module _ {V : Type 0} (m : Overclaim) where
+  -- what was seen stays where the mode is right
   pub stays : (v : Option (Overclaim × V)) (w : Option V) → under m v ≡ Some w → is_some v ≡ true → w ≢ None
   stays None w e y = absurd cc
   stays (Some p) w e y =
@@ -51,6 +54,7 @@ module _ {V : Type 0} (m : Overclaim) where
         | inr other ↦ nothing w (rw other at e)
       ]
 
+  -- what is there under the mode was seen
   pub was : (v : Option (Overclaim × V)) (w : Option V) → under m v ≡ Some w → w ≢ None → is_some v ≡ true
   was None w e some_value = absurd (some_value (sym (some_is None w e)))
   was (Some p) w e some_value = refl

@@ -38,15 +38,18 @@ use Rattle.rpki_ext.proofs.Pieces.{row_pieces, pieces_row}
 use Rattle.rpki_ext.proofs.AuthorityAccess.{description_pieces_short, ok_description}
 use Rattle.rpki_ext.proofs.LawfulKinds.{IsKind, AnsweringOrMemory, answering_or_memory}
 
+-- what is kept of an AccessDescription: its method and URI, if the method is known
 abbrev pub Description : Type 0
 Description = Option (AccessMethod × List ℕ)
 
+-- reading an AccessDescription uses octets up
 pub description_shrinks : Shrinks description_at
 unfolding description_at
 description_shrinks = content_shrinks SEQUENCE description_of
 
 -- ---- methods
 
+-- the identifier of a method names it
 pub method_again : (m : AccessMethod) → method_of (method_identifier m) ≡ Some m
 method_again CaRepository = refl
 method_again RpkiManifest = refl
@@ -64,13 +67,16 @@ named_is id m other n later e =
       | inr k ↦ later (rw k at e)
     ]
 
+-- a method that is named has this identifier
 pub method_is : (id : List ℕ) (m : AccessMethod) → method_of id ≡ Some m → id ≡ method_identifier m
 method_is id m e =
     named_is id CaRepository _ m (named_is id RpkiManifest _ m (named_is id SignedObject _ m (named_is id RpkiNotify None m (λ n. nothing m n)))) e
 
+-- methods with one identifier are one
 pub one_method : (m n : AccessMethod) → method_identifier m ≡ method_identifier n → m ≡ n
 one_method m n e = some_is m n (sym (method_again m) ∙ ap method_of e ∙ method_again n)
 
+-- what is written of a method's identifier encodes it
 pub method_spelled : (m : AccessMethod) → IsObjectIdentifier (method_identifier m) (enc OBJECT_IDENTIFIER (method_identifier m))
 method_spelled CaRepository = spelled_oid (method_identifier CaRepository) refl refl (omega arith)
 method_spelled RpkiManifest = spelled_oid (method_identifier RpkiManifest) refl refl (omega arith)
@@ -125,6 +131,7 @@ is_described (Some (m, uri)) text s =
 is_described None text s =
     (s.method ++ concat s.row, (s.id, s.method, concat s.row, s.method_is, s.unknown, (s.row, refl, s.skipped), refl), s.sequence)
 
+-- an AccessDescription is read as it is encoded
 pub description_reads : Reads description_at (IsAccessDescriptionWithin levels)
 unfolding description_at
 description_reads =
@@ -152,6 +159,7 @@ module _ (uri_of : List ℕ → Option (List ℕ)) (IsUri : List ℕ → Type 0)
       let same : bytes_eq (method_identifier m) (method_identifier m) ≡ true = (bytes_eq-Decides (method_identifier m) (method_identifier m)).1 refl in
       rw (h.0, same) (back uri h.1)
 
+  -- the step that keeps the first URI of a method is lawful
   pub under_law : {Fits : Description → Type 0} → IsLawful Fits (first_fold (uri_under m uri_of) (HasUri m IsUri))
   under_law = first_law (uri_under m uri_of) (HasUri m IsUri) (record { takes = under_takes; again = under_again })
 
@@ -202,6 +210,7 @@ is_access : (a : Access) (text : List ℕ) → IsSubjectInformationAccess a text
 is_access a text s =
     (concat s.pieces, (s.first, s.more, pieces_row (IsAccessDescriptionWithin levels) (s.first ∷ s.more) s.pieces s.spelled, (s.repository, (s.manifest, (s.object, s.notify)))), s.sequence)
 
+-- a SubjectInfoAccessSyntax is read as it is encoded
 pub subject_information_access_reads : Reads subject_information_access_at IsSubjectInformationAccess
 unfolding subject_information_access_at
 subject_information_access_reads =
@@ -281,6 +290,7 @@ module _ (method : AccessMethod) (IsUri : List ℕ → Type 0) where
   first [] (Some uri) after b a is = (some (method, uri), record { before = []; after = values after; is = refl; has = (uri, (refl, is)); none_before = tt }, (refl, is))
   first (m ∷ before) o after b a is = after_other m.0 m.1 b.0 (values (before ++ (method, o) ∷ after)) o (first before o after b.1 a is)
 
+-- the URIs are the first ones of these descriptions
 record Firsts (a : Access) (ds : List Description) : Type 0 where
   repository : IsFirstOf (HasUri CaRepository IsRsync) a.ca_repository ds
   manifest : IsFirstOf (HasUri RpkiManifest IsRsync) a.rpki_manifest ds
@@ -318,6 +328,7 @@ sequence_made depth a ds (p ∷ ps) zipped f c e h =
     row [] zip g enc = elim zip [ ]
     row (e ∷ es) zip g enc = record { first = e; more = es; pieces = p ∷ ps; spelled = zip; sequence = enc; repository = g.repository; manifest = g.manifest; object = g.object; notify = g.notify }
 
+-- what is written of URIs encodes them, under any bound of depth
 pub subject_information_access_made : (depth : ℕ) (a : Access) → HasUris a → (c : List ℕ) → subject_information_access_content a ≡ Some c → Short c → IsSubjectInformationAccessWithin depth a c
 subject_information_access_made depth a h = rw (← texts_are a) (sequence_made depth a (values (rows a)) (texts (rows a)) (spelled depth (rows a) (printables a h)) (firsts a h))
 
@@ -327,14 +338,17 @@ all_absent [] e = tt
 all_absent ((m, None) ∷ ms) e = (refl, all_absent ms e)
 all_absent ((m, Some uri) ∷ ms) e = absurd cc
 
+-- only where there is no URI nothing is written
 pub no_uris : (a : Access) → subject_information_access_content a ≡ None → a ≡ record { ca_repository = None; rpki_manifest = None; signed_object = None; rpki_notify = None }
 no_uris a e =
     let (repository, (manifest, (object, (notify, _)))) = all_absent (rows a) (texts_are a ∙ no_pieces (descriptions a) e) in
     λ i. record { ca_repository = repository i; rpki_manifest = manifest i; signed_object = object i; rpki_notify = notify i }
 
+-- what is written of URIs, if short, consists of octets
 pub ok_subject_information_access : (a : Access) → HasUris a → IfSome (subject_information_access_content a) IfShort
 ok_subject_information_access a h = rw (← texts_are a) (ok_pieces (texts (rows a)) (ok_texts (rows a) (printables a h)))
 
+-- Subject Information Access is a lawful kind
 pub subject_information_access_is : IsKind subject_information_access
 subject_information_access_is = record {
   law = subject_information_access_reads;
@@ -342,5 +356,6 @@ subject_information_access_is = record {
   octets = ok_subject_information_access;
 }
 
+-- its reader answers both ways, or runs out of memory
 pub subject_information_access_answers : AnsweringOrMemory subject_information_access
 subject_information_access_answers = answering_or_memory subject_information_access subject_information_access_is

@@ -33,11 +33,13 @@ AllGiven no_kinds xs v = Unit {0}
 AllGiven (kind k t) xs v = Gives k xs v.0 × AllGiven t xs v.1
 AllGiven (modes ks t) xs v = GivesUnder ks v.0.0 xs v.0.1 × AllGiven t xs v.1
 
+-- what is written of a table's values gives these values
 pub table_given : (t : KindTable) → AreKinds t → (all : List OptionalExtension) (v : Values t) → Fit t v → AllZip (IsOnly all) (identifiers_by_kind t) (parts_of t v) → AllGiven t (written all) (all_kept t v)
 table_given no_kinds is all v fits h = tt
 table_given (kind k t) is all v fits h = (gives k is.0 v.0 h.0 fits.0 _ refl, table_given t is.1 all v.1 fits.1 h.1)
 table_given (modes ks t) is all v fits h = (gives_under ks v.0.0 (is.0.1 v.0.0) v.0.1 h.0 fits.0 _ refl, table_given t is.1 all v.1 fits.1 h.1)
 
+-- what is written of a table's values consists of octets
 pub table_octets : (t : KindTable) → AreKinds t → (v : Values t) → Fit t v → AllByRecursion (λ p. IfSome p.content IfShort) (parts_of t v)
 table_octets no_kinds is v fits = tt
 table_octets (kind k t) is v fits = (ok_part k is.0 v.0 fits.0, table_octets t is.1 v.1 fits.1)

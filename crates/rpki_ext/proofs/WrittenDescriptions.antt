@@ -15,6 +15,7 @@ use Rattle.rpki_ext.specs.declared.subject_access.AccessMethod.{AccessMethod}
 use Rattle.rpki_ext.specs.declared.subject_access.AccessMethod.TheVariants.{CaRepository, RpkiManifest, SignedObject, RpkiNotify}
 use Rattle.rpki_ext.proofs.WrittenLengths.{content_longer}
 
+-- the descriptions are those of each method, one after the other
 pub concat-descriptions : (a : Access) → concat (descriptions a) ≡ concat (description_if CaRepository a.ca_repository) ++ (concat (description_if RpkiManifest a.rpki_manifest) ++ (concat (description_if SignedObject a.signed_object) ++ concat (description_if RpkiNotify a.rpki_notify)))
 concat-descriptions a = simp concat-append refl
 
@@ -28,6 +29,7 @@ none_here : (method : AccessMethod) (uri : Option (List ℕ)) (rest : List (List
 none_here method None rest e = (refl, e)
 none_here method (Some uri) rest e = absurd (omega (arith, e, length-append (description (method_identifier method) uri) (concat rest), length-enc SEQUENCE (concat (enc OBJECT_IDENTIFIER (method_identifier method) ∷ uri_name uri ∷ []))))
 
+-- descriptions without octets are none
 pub none_written : (a : Access) → length (concat (descriptions a)) ≡ 0 → descriptions a ≡ []
 none_written a e =
     let repository = none_here CaRepository a.ca_repository _ e in
@@ -36,6 +38,7 @@ none_written a e =
     let notify = none_here RpkiNotify a.rpki_notify [] (rw append-nil object.1) in
     rw (repository.0, manifest.0, object.0, notify.0) refl
 
+-- descriptions aren't longer than the extension with them
 pub row_longer : (id : List ℕ) (critical : Bool) (ds : List (List ℕ)) → length (concat ds) ≤ length (content_of_some id critical (sequence_of_some ds))
 row_longer id critical [] = omega arith
 row_longer id critical (d ∷ ds) = omega (arith, enc_longer SEQUENCE (concat (d ∷ ds)), content_longer id critical (sequence (d ∷ ds)))

@@ -10,6 +10,7 @@ use Rattle.rpki_ext.specs.GeneralNames.{uri_name}
 use Rattle.rpki_ext.specs.AuthorityAccess.{description}
 use Rattle.rpki_der.proofs.ValueWritten.{enc_longer}
 
+-- a content isn't longer than inside tags
 pub nested_longer : (tags b : List ℕ) → length b ≤ length (nested tags b)
 nested_longer [] b = omega arith
 nested_longer (t ∷ tags) b = omega (arith, nested_longer tags b, enc_longer t (nested tags b))

@@ -8,7 +8,9 @@ use Rattle.rpki_der.specs.Reading.{inside}
 use Rattle.rpki_der.specs.Identifiers.{id_ce}
 use Rattle.rpki_ext.specs.Kinds.{ExtensionKind, Any, required}
 
--- Basic Constraints (RFC 6487 4.8.1): SEQUENCE of an optional BOOLEAN; a path length is refused
+-- BasicConstraints ::= SEQUENCE {   (RFC 5280 4.2.1.9)
+--   cA BOOLEAN DEFAULT FALSE, pathLenConstraint INTEGER (0..MAX) OPTIONAL }
+-- restricted to no pathLenConstraint (RFC 6487 4.8.1)
 abbrev pub IsBasicConstraints : Bool → List ℕ → Type 0
 IsBasicConstraints ca b = (flag : List ℕ) × IsBoolOrFalse ca flag × IsEnc SEQUENCE flag b
 
@@ -18,11 +20,13 @@ basic_constraints_content ca = enc SEQUENCE (bool_or_false ca)
 
 -- ---- how it is read
 
+-- reads a BasicConstraints
 unfoldable pub basic_constraints_at : List ℕ → Option (Bool × List ℕ)
 basic_constraints_at = inside SEQUENCE bool_or_false_at
 
 -- ---- the kind
 
+-- id-ce-basicConstraints, critical (RFC 6487 4.8.1)
 abbrev pub basic_constraints : ExtensionKind Bool
 basic_constraints = record {
   identifier = id_ce 0x13;

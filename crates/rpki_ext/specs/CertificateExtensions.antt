@@ -1,4 +1,5 @@
--- The extensions of a certificate (RFC 5280 4.2, RFC 6487 4.8; the order in which they are written is own).
+-- The extensions of a certificate (RFC 5280 4.2, RFC 6487 4.8; the order in which they are written
+-- is own).
 use Rattle.std.specs.Prelude.{unwrap_or, ℕ, Bool, List, Option, None, ◌≡◌, ◌≢◌, ◌⊎◌, false, Some, ◌-◌, [], ◌∷◌, map, ◌^◌, IfSome}
 use Rattle.std.specs.List.{AllByRecursion, concat}
 use Rattle.rpki_der.specs.Rows.{IsRow}
@@ -30,9 +31,11 @@ pub record ExtensionFields : Type 0 where
   pub v6_resources : Resources
   pub as_resources : Resources
 
+-- no URI of any method
 abbrev pub no_access : Access
 no_access = record { ca_repository = None; rpki_manifest = None; signed_object = None; rpki_notify = None }
 
+-- the addresses of a certificate without the extension
 abbrev pub no_addresses : Ip
 no_addresses = addresses None
 
@@ -53,10 +56,12 @@ bare identifier usage overclaim = record {
   as_resources = missing;
 }
 
--- The extensions give these fields: at most one of each known kind, whatever their order, and none of an unknown kind is
--- critical (RFC 5280 4.2, RFC 6487 4.8); an unknown one that isn't critical may stand twice (own). The subject's key identifier,
--- key usage, policy and one of the two resource extensions must be there. Resources stand under the identifiers of the
--- policy's mode (RFC 8360 4.2).
+-- Extensions ::= SEQUENCE SIZE (1..MAX) OF Extension   (RFC 5280 4.1)
+-- The extensions give these fields: at most one of each known kind, whatever their order, and none
+-- of an unknown kind is critical (RFC 5280 4.2, RFC 6487 4.8); an unknown one that isn't critical
+-- may stand twice (own). The subject's key identifier, key usage, policy and one of the two
+-- resource extensions must be there. Resources stand under the identifiers of the policy's mode
+-- (RFC 8360 4.2).
 pub record GiveFieldsWithin (depth : ℕ) (xs : List Extension) (f : ExtensionFields) : Type 0 where
   pub passed_over : AllByRecursion (λ x. is_of known x ≡ false → x.critical ≡ false) xs
   pub basic_constraints_is : Gives basic_constraints xs f.basic_ca
@@ -79,6 +84,7 @@ pub record GiveFieldsWithin (depth : ℕ) (xs : List Extension) (f : ExtensionFi
   pub as_is : f.as_resources ≡ unwrap_or numbers missing
   pub some_resources : (ip ≢ None) ⊎ (numbers ≢ None)
 
+-- the extensions give these fields, under the bound of depth that readers keep
 abbrev pub GiveFields : List Extension → ExtensionFields → Type 0
 GiveFields = GiveFieldsWithin levels
 
@@ -126,6 +132,7 @@ values_of x = (
 abbrev pub parts : ExtensionFields → List OptionalExtension
 parts x = parts_of certificate_kinds (values_of x)
 
+-- the encodings of the extensions that are written of fields, one after the other
 unfoldable pub extensions : ExtensionFields → List ℕ
 extensions x = concat (map text (parts x))
 

@@ -6,7 +6,8 @@ use Rattle.rpki_der.specs.Serials.{IsSerial}
 use Rattle.rpki_der.specs.Primitives.{number}
 use Rattle.rpki_ext.specs.Kinds.{ExtensionKind, required}
 
--- RFC 5280 5.2.3: at most 20 octets
+-- CRLNumber ::= INTEGER (0..MAX)   (RFC 5280 5.2.3)
+-- id-ce-cRLNumber, not critical; restricted to at most 20 octets (RFC 5280 5.2.3)
 abbrev pub crl_number : ExtensionKind ℕ
 crl_number = record {
   identifier = id_ce 0x14;

@@ -11,7 +11,7 @@ use Rattle.rpki_der.specs.Folding.{each, over}
 use Rattle.rpki_der.specs.Identifiers.{id_ce}
 use Rattle.rpki_ext.specs.Kinds.{ExtensionKind, required}
 
--- at least one identifier
+-- KeyPurposeId ::= OBJECT IDENTIFIER; at least one, and nothing else
 pub record ArePurposes (octets : List ℕ) : Type 0 where
   pub id : List ℕ
   pub more : List (List ℕ)
@@ -19,6 +19,7 @@ pub record ArePurposes (octets : List ℕ) : Type 0 where
   pub identifiers : AllZip IsObjectIdentifier (id ∷ more) pieces
   pub is : octets ≡ concat pieces
 
+-- ExtKeyUsageSyntax ::= SEQUENCE SIZE (1..MAX) OF KeyPurposeId   (RFC 5280 4.2.1.12)
 -- kept as the content of the SEQUENCE
 pub record IsExtendedKeyUsage (kept b : List ℕ) : Type 0 where
   pub purposes : ArePurposes kept
@@ -35,11 +36,13 @@ abbrev pub purposes_of : List ℕ → Option (List ℕ)
 purposes_of [] = None
 purposes_of (b ∷ c) = over oid_at (each (λ id. true)) tt (b ∷ c) >>= λ s. Some (b ∷ c)
 
+-- reads an ExtKeyUsageSyntax
 unfoldable pub extended_key_usage_at : List ℕ → Option (List ℕ × List ℕ)
 extended_key_usage_at = content SEQUENCE purposes_of
 
 -- ---- the kind
 
+-- id-ce-extKeyUsage, not critical
 abbrev pub extended_key_usage : ExtensionKind (List ℕ)
 extended_key_usage = record {
   identifier = id_ce 0x25;

@@ -3,6 +3,7 @@ use Rattle.std.specs.Prelude.{List, ℕ, codes}
 use Rattle.rpki_ext.specs.declared.inspection.InspectionError.{InspectionError}
 use Rattle.rpki_ext.specs.declared.inspection.InspectionError.TheVariants as fault
 
+-- the name of the error
 abbrev pub inspection_error_name : InspectionError → List ℕ
 inspection_error_name fault.AlgorithmMismatch = codes "AlgorithmMismatch"
 inspection_error_name fault.Issuer = codes "Issuer"

@@ -1,4 +1,5 @@
--- Kinds of extensions, and what a kind that stands at most once means (RFC 5280 4.1.2.9, 4.2; RFC 6487 4.8).
+-- Kinds of extensions, and what a kind that stands at most once means (RFC 5280 4.1.2.9, 4.2; RFC
+-- 6487 4.8).
 use Rattle.std.specs.Prelude.{◌<◌, ◌^◌, length, Bool, Option, Some, None, ◌≡◌, ℕ, List, bytes_eq, filter, [], ◌∷◌}
 use Rattle.std.specs.List.{list_any}
 use Rattle.rpki_der.specs.Extensions.{Extension, OptionalExtension, part_of}
@@ -12,24 +13,28 @@ pub mod Reading
 
 -- ---- kinds
 
--- the flag of a kind: the one that its extensions must have, or the one that is written where none is asked for
+-- the flag of a kind: the one that its extensions must have, or the one that is written where none
+-- is asked for
 pub data Flag : Type 0 where
   required untested : Bool → Flag
 
+-- the flag that is written
 abbrev pub flag_of : Flag → Bool
 flag_of (required critical) = critical
 flag_of (untested critical) = critical
 
+-- the flag that extensions must have, where it is tested
 abbrev pub tested : Flag → Option Bool
 tested (required wanted) = Some wanted
 tested (untested written) = None
 
+-- the flag is one that an extension of the kind may have
 abbrev pub IsFlagFor : Flag → Bool → Type 0
 IsFlagFor (required wanted) critical = critical ≡ wanted
 IsFlagFor (untested written) critical = Unit {0}
 
--- A kind of extension, of which each value is a V: the identifier that names it and its flag, how a content is spelled and read, and
--- what is written of a value that can be written, if anything.
+-- A kind of extension, of which each value is a V: the identifier that names it and its flag, how a
+-- content is encoded and read, and what is written of a value that can be written, if anything.
 pub record ExtensionKind (V : Type 0) : Type 1 where
   pub identifier : List ℕ
   pub flag : Flag
@@ -56,12 +61,13 @@ identifiers kind = kind.identifier ∷ []
 
 -- ---- what extensions mean
 
--- the extension has the flag of the kind, and its content means v: what follows a front that spells v in the OCTET STRING is ignored (own)
+-- the extension has the flag of the kind, and its content means v: what follows a front that
+-- encodes v in the OCTET STRING is ignored (own)
 abbrev pub Tells : {V : Type 0} → ExtensionKind V → Extension → V → Type 0
 Tells kind x v = IsFlagFor kind.flag x.critical × Means kind.spells v x.content
 
--- the value that extensions give for a kind: none where none is of the kind, what the only one tells, and nothing where there are
--- several (RFC 5280 4.2)
+-- the value that extensions give for a kind: none where none is of the kind, what the only one
+-- tells, and nothing where there are several (RFC 5280 4.2)
 abbrev pub Gives : {V : Type 0} → ExtensionKind V → List Extension → Option V → Type 0
 Gives kind xs v = IsAtMostOne (Tells kind) (only (identifiers kind) xs) v
 
@@ -89,9 +95,10 @@ HasOneMeaning {V} spells = (content : List ℕ) (v w : V) → Means spells v con
 abbrev pub extension_for : {V : Type 0} → ExtensionKind V → Option V → OptionalExtension
 extension_for kind v = record { identifier = kind.identifier; critical = flag_of kind.flag; content = v >>= kind.written }
 
+-- what is written of a kind's value, and what stands inside it
 abbrev pub part : {V : Type 0} → ExtensionKind V → Option V → Part
 part kind v = part_of (extension_for kind v)
 
--- what is written of a value that fits spells it, if it has fewer than 2^32 octets
+-- what is written of a value that fits encodes it, if it has fewer than 2^32 octets
 abbrev pub IsReadAgain : {V : Type 0} → ExtensionKind V → Type 0
 IsReadAgain {V} kind = (v : V) (c : List ℕ) → kind.fits v → kind.written v ≡ Some c → length c < 2 ^ 32 → kind.spells v c

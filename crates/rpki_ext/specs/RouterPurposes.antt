@@ -10,6 +10,7 @@ use Rattle.rpki_der.specs.Rows.{IsRow}
 abbrev pub router_purpose : List ℕ
 router_purpose = pkix 0x03 0x1E
 
+-- whether the identifier is id-kp-bgpsec-router
 abbrev pub is_router_purpose : List ℕ → Bool
 is_router_purpose id = bytes_eq id router_purpose
 
@@ -21,5 +22,6 @@ pub record HasRouterPurpose (kept : List ℕ) : Type 0 where
 
 -- ---- how it is searched for
 
+-- the step that remembers whether the router's purpose was seen
 abbrev pub or_router : Step (List ℕ) Bool
 or_router found id = Some (found || is_router_purpose id)

@@ -39,7 +39,10 @@ pub record IsUnknownAccessWithin (depth : ℕ) (b : List ℕ) : Type 0 where
   pub skipped : AllByRecursion (IsSkippableWithin depth) row
   pub sequence : IsSequence (method ∷ row) b
 
--- AccessDescription: a known method and one uniformResourceIdentifier, or another method, of which nothing is kept
+-- AccessDescription ::= SEQUENCE {   (RFC 5280 4.2.2.1)
+--   accessMethod OBJECT IDENTIFIER, accessLocation GeneralName }
+-- restricted to a known method with one uniformResourceIdentifier, or another method, of which
+-- nothing is kept
 abbrev pub IsAccessDescriptionWithin : ℕ → Option (AccessMethod × List ℕ) → List ℕ → Type 0
 IsAccessDescriptionWithin depth (Some (method, uri)) b =
     (name : List ℕ) × IsUniformResourceIdentifier uri name
@@ -57,8 +60,8 @@ pub record Access : Type 0 where
   pub signed_object : Option (List ℕ)
   pub rpki_notify : Option (List ℕ)
 
--- Subject Information Access (RFC 6487 4.8.8): at least one AccessDescription; of each method the URI of the first
--- description that has one (own)
+-- SubjectInfoAccessSyntax ::= SEQUENCE SIZE (1..MAX) OF AccessDescription   (RFC 5280 4.2.2.2)
+-- of each method the URI of the first description that has one (own)
 pub record IsSubjectInformationAccessWithin (depth : ℕ) (v : Access) (b : List ℕ) : Type 0 where
   pub first : Option (AccessMethod × List ℕ)
   pub more : List (Option (AccessMethod × List ℕ))
@@ -70,6 +73,7 @@ pub record IsSubjectInformationAccessWithin (depth : ℕ) (v : Access) (b : List
   pub object : IsFirstOf (HasUri SignedObject IsRsync) v.signed_object (first ∷ more)
   pub notify : IsFirstOf (HasUri RpkiNotify IsHttps) v.rpki_notify (first ∷ more)
 
+-- SubjectInfoAccessSyntax under the bound of depth that readers keep
 abbrev pub IsSubjectInformationAccess : Access → List ℕ → Type 0
 IsSubjectInformationAccess = IsSubjectInformationAccessWithin levels
 
@@ -80,13 +84,14 @@ abbrev pub description_if : AccessMethod → Option (List ℕ) → List (List �
 description_if method None = []
 description_if method (Some uri) = description (method_identifier method) uri ∷ []
 
+-- the encodings of the AccessDescriptions of the URIs that are there
 abbrev pub descriptions : Access → List (List ℕ)
 descriptions a =
     description_if CaRepository a.ca_repository
     ++ (description_if RpkiManifest a.rpki_manifest
     ++ (description_if SignedObject a.signed_object ++ description_if RpkiNotify a.rpki_notify))
 
--- Subject Information Access: none where there is no URI
+-- the encoding of a SubjectInfoAccessSyntax; none where there is no URI
 abbrev pub subject_information_access_content : Access → Option (List ℕ)
 subject_information_access_content a = sequence_of_some (descriptions a)
 
@@ -99,6 +104,7 @@ pub record HasUris (a : Access) : Type 0 where
 
 -- ---- how it is read
 
+-- the known method that an identifier names
 abbrev pub method_of : List ℕ → Option AccessMethod
 method_of id =
     if bytes_eq id (method_identifier CaRepository) then Some CaRepository
@@ -112,9 +118,11 @@ abbrev pub location_of : Option AccessMethod → List ℕ → Option (Option (Ac
 location_of (Some method) c = uri_name_at c >>= λ uri. ended uri.1 (Some (method, uri.0))
 location_of None c = skip_all_of c >>= λ u. Some None
 
+-- the method and the URI inside an AccessDescription; nothing of an unknown method
 abbrev pub description_of : List ℕ → Option (Option (AccessMethod × List ℕ))
 description_of c = oid_at c >>= λ method. location_of (method_of method.0) method.1
 
+-- reads an AccessDescription
 unfoldable pub description_at : List ℕ → Option (Option (AccessMethod × List ℕ) × List ℕ)
 description_at = content SEQUENCE description_of
 
@@ -123,9 +131,11 @@ abbrev pub uri_under : AccessMethod → (List ℕ → Option (List ℕ)) → Opt
 uri_under method uri_of None = None
 uri_under method uri_of (Some (found, text)) = if bytes_eq (method_identifier found) (method_identifier method) then uri_of text else None
 
+-- the URIs of the four methods, as the walk gathers them
 abbrev pub Uris : Type 0
 Uris = Option (List ℕ) × (Option (List ℕ) × (Option (List ℕ) × Option (List ℕ)))
 
+-- the walk over AccessDescriptions: of each method the first URI
 abbrev pub access_fold : Fold (Option (AccessMethod × List ℕ)) Uris
 access_fold =
     beside (first_fold (uri_under CaRepository rsync_of) (HasUri CaRepository IsRsync))
@@ -133,9 +143,11 @@ access_fold =
     (beside (first_fold (uri_under SignedObject rsync_of) (HasUri SignedObject IsRsync))
     (first_fold (uri_under RpkiNotify https_of) (HasUri RpkiNotify IsHttps))))
 
+-- the four URIs, in the form that the walk gathers them
 abbrev pub uris_of : Access → Uris
 uris_of a = (a.ca_repository, (a.rpki_manifest, (a.signed_object, a.rpki_notify)))
 
+-- the four URIs that the walk has gathered
 abbrev pub access_made : Uris → Access
 access_made u = record { ca_repository = u.0; rpki_manifest = u.1.0; signed_object = u.1.1.0; rpki_notify = u.1.1.1 }
 
@@ -144,12 +156,14 @@ abbrev pub access_of : List ℕ → Option Access
 access_of [] = None
 access_of (b ∷ c) = over description_at access_fold.step access_fold.start (b ∷ c) >>= λ uris. Some (access_made uris)
 
+-- reads a SubjectInfoAccessSyntax
 unfoldable pub subject_information_access_at : List ℕ → Option (Access × List ℕ)
 subject_information_access_at = content SEQUENCE access_of
 
 -- ---- the kind
 
--- what is skipped in it stands at most so deep; for other depths than `levels` only what is spelled is used
+-- what is skipped in it stands at most so deep; for other depths than `levels` only what is encoded
+-- is used
 abbrev pub subject_information_access_within : ℕ → ExtensionKind Access
 subject_information_access_within depth = record {
   identifier = pkix 0x01 0x0B;
@@ -160,6 +174,7 @@ subject_information_access_within depth = record {
   written = subject_information_access_content;
 }
 
+-- id-pe-subjectInfoAccess, not critical, under the bound of depth that readers keep
 abbrev pub subject_information_access : ExtensionKind Access
 subject_information_access = subject_information_access_within levels
 

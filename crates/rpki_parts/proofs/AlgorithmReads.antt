@@ -27,6 +27,7 @@ null_begins u text s = (0 ∷ [], s)
 abbrev pub NullOrNone : Bool → List ℕ → Type 0
 NullOrNone = Image is_some (Optional IsNull)
 
+-- NULL or nothing is read lawfully where no NULL follows
 pub null_or_none_before : ReadsBefore (BeginsOther NULL) null_or_none NullOrNone
 null_or_none_before = image_before (BeginsOther NULL) (optional NULL null_at) (Optional IsNull) is_some (optional_before NULL null_at IsNull null_reads null_begins)
 
@@ -62,6 +63,7 @@ algorithm_is a text s =
     let rest = parameters a.has_null ++ [] in
     (s.identifier ++ rest, (sha256_with_rsa, s.identifier, rest, s.identifier_is, (text_is sha256_with_rsa sha256_with_rsa refl, parameters_spelled a.has_null), refl), s.sequence)
 
+-- a signature's AlgorithmIdentifier is read as it is encoded
 pub algorithm_reads : Reads algorithm_at IsSignatureAlgorithm
 unfolding algorithm_at
 algorithm_reads =

@@ -20,10 +20,12 @@ digit_small n h =
       | inr g ↦ rw (le-ltb n 10 g) (omega arith)
     ]
 
+-- hexadecimal digits are octets
 pub digits_octets : (octets : List ℕ) → AreOctets octets → AreOctets (hexadecimal octets)
 digits_octets [] h = tt
 digits_octets (x ∷ xs) h = (digit_small (x / 16) (let l : x < 256 = h.0 in omega arith), (digit_small (x % 16) (omega arith), digits_octets xs h.1))
 
+-- there are two hexadecimal digits for each octet
 pub length-digits : (octets : List ℕ) → length (hexadecimal octets) ≡ 2 * length octets
 length-digits [] = refl
 length-digits (x ∷ xs) = let e = length-digits xs in omega arith
@@ -46,6 +48,7 @@ set_octets digits = SET ∷ 49 ∷ attribute_octets digits
 abbrev pub before_digits : List ℕ
 before_digits = SEQUENCE ∷ 51 ∷ set_octets []
 
+-- a key's name is a fixed front and the 40 digits
 pub name-digits : (digits : List ℕ) → length digits ≡ 40 → name_of_digits digits ≡ before_digits ++ digits
 name-digits digits e =
     let id : enc OBJECT_IDENTIFIER common_name ≡ OBJECT_IDENTIFIER ∷ 3 ∷ common_name = enc_short OBJECT_IDENTIFIER common_name 3 refl (omega arith) in
@@ -59,6 +62,7 @@ primitive : (content b : List ℕ) → IsEnc PRINTABLE_STRING content b → IsSk
 unfolding IsSkippableWithin
 primitive content b e = (record { tag = PRINTABLE_STRING; content = content; enc = e }, inl refl)
 
+-- a key's name is a Name
 pub is_name_of_digits : (digits : List ℕ) → length digits ≡ 40 → AreOctets digits → is_name (name_of_digits digits) ≡ true
 is_name_of_digits digits e octets =
     let whole : Short (before_digits ++ digits) = (omega (arith, length-append before_digits digits), AreOctets-append before_digits digits (omega arith) octets) in
@@ -89,6 +93,7 @@ pub record IsKeyName (id : List ℕ) : Type 0 where
   pub is : name_of_digits (hexadecimal id) ≡ before_digits ++ hexadecimal id
   pub name : is_name (name_of_digits (hexadecimal id)) ≡ true
 
+-- the name that is made of a key identifier of 20 octets is the name of a key
 pub key_name : (id : List ℕ) → length id ≡ 20 → AreOctets id → IsKeyName id
 key_name id size octets =
     let long : length (hexadecimal id) ≡ 40 = length-digits id ∙ ap (λ (n : ℕ). 2 * n) size in

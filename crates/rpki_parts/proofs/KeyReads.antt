@@ -25,12 +25,15 @@ use Rattle.rpki_parts.proofs.AlgorithmReads.{NullOrNone, null_or_none_before, id
 use Rattle.rpki_parts.proofs.Following.{Image, image_before, given_before, choose_before, always_before}
 use Rattle.rpki_parts.proofs.Texts.{text_is}
 
+-- the content is these 20 octets
 abbrev pub IsTwenty : List ℕ → List ℕ → Type 0
 IsTwenty id c = (c ≡ id) × (length id ≡ 20)
 
+-- a content that is taken as 20 octets is 20 octets
 pub takes_twenty : (c id : List ℕ) → twenty c ≡ Some id → IsTwenty id c
 takes_twenty c id e = let g = if_some (eqb (length c) 20) c id e in (g.1, subst (λ (x : List ℕ). length x ≡ 20) g.1 (eqb-true (length c) 20 g.0))
 
+-- a KeyIdentifier is read as it is encoded
 pub key_identifier_reads : Reads key_identifier_at IsKeyIdentifier
 unfolding key_identifier_at
 key_identifier_reads =
@@ -92,6 +95,7 @@ key_algorithm_is Rsa text (a, o, (inr s)) = (a ++ [], (rsa_encryption, a, [], o,
 key_algorithm_is EcdsaP256 text (a, d, o, k, s) =
     (a ++ (d ++ []), (id_ec_public_key, a, d ++ [], o, inr (refl, (text_is id_ec_public_key id_ec_public_key refl, (prime256v1, d, [], k, (text_is prime256v1 prime256v1 refl, (refl, refl)), refl))), refl), s)
 
+-- a key's AlgorithmIdentifier is read as it is encoded
 pub format_reads : Reads format_at IsKeyAlgorithm
 unfolding format_at
 format_reads =
@@ -101,6 +105,7 @@ format_reads =
 
 -- ---- bits of which none are unused
 
+-- a BIT STRING of these octets without unused bits
 abbrev pub IsWholeBits : List ℕ → List ℕ → Type 0
 IsWholeBits bits text = IsEnc BIT_STRING (0 ∷ bits) text
 
@@ -118,6 +123,7 @@ whole_bits_is : (bits text : List ℕ) → IsWholeBits bits text → Followed Is
 whole_bits_is bits text s =
     ((0, bits), text, [], record { enc = s; few = omega arith; none = λ e. refl; zero_bits = omega arith }, (refl, (refl, refl)), sym (append-nil text))
 
+-- a BIT STRING without unused bits is read as it is encoded
 pub whole_bits_reads : Reads whole_bits_at IsWholeBits
 unfolding whole_bits_at
 whole_bits_reads =
@@ -152,6 +158,7 @@ public_key_is k text s = (
   in_sequence (s.algorithm ++ (s.bits ++ [])) (s.algorithm ++ s.bits) text (ap (λ (x : List ℕ). s.algorithm ++ x) (append-nil s.bits)) s.sequence,
 )
 
+-- a SubjectPublicKeyInfo is read as it is encoded
 pub public_key_reads : Reads public_key_at IsPublicKey
 unfolding public_key_at
 public_key_reads =

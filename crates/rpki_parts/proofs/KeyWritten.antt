@@ -1,4 +1,4 @@
--- What is written of a key spells it.
+-- What is written of a key encodes it.
 use Rattle.std.proofs.Common.{[], ◌∷◌, refl, arith, inl}
 use Rattle.rpki_der.specs.Values.{AreOctets, enc}
 use Rattle.rpki_der.specs.Primitives.{null}
@@ -19,6 +19,7 @@ key_algorithm_made EcdsaP256 h =
     let shorts = pieces_short (enc OBJECT_IDENTIFIER id_ec_public_key ∷ enc OBJECT_IDENTIFIER prime256v1 ∷ []) (content_short SEQUENCE _ h) in
     (enc OBJECT_IDENTIFIER id_ec_public_key, enc OBJECT_IDENTIFIER prime256v1, identifier_made id_ec_public_key (oid_takes id_ec_public_key refl) shorts.0, identifier_made prime256v1 (oid_takes prime256v1 refl) shorts.1.0, made SEQUENCE _ (omega arith) h)
 
+-- what is written of a key encodes it, if short
 pub key_made : (k : KeyFields) → Short (key k) → IsPublicKey k (key k)
 key_made k h =
     let shorts = pieces_short (key_pieces k) (content_short SEQUENCE _ h) in
@@ -30,5 +31,6 @@ ok_key_algorithm : (v : PublicKeyFormat) → IfShort (key_algorithm v)
 ok_key_algorithm Rsa = ok_enc SEQUENCE _ (omega arith) (ok_concat (enc OBJECT_IDENTIFIER rsa_encryption ∷ null ∷ []) (ok_oid rsa_encryption (literal rsa_encryption refl), ((λ l. literal null refl), tt)))
 ok_key_algorithm EcdsaP256 = ok_enc SEQUENCE _ (omega arith) (ok_concat (enc OBJECT_IDENTIFIER id_ec_public_key ∷ enc OBJECT_IDENTIFIER prime256v1 ∷ []) (ok_oid id_ec_public_key (literal id_ec_public_key refl), (ok_oid prime256v1 (literal prime256v1 refl), tt)))
 
+-- what is written of a key, if short, consists of octets
 pub ok_key : (k : KeyFields) → AreOctets k.bits → IfShort (key k)
 ok_key k h = ok_enc SEQUENCE _ (omega arith) (ok_concat (key_pieces k) (ok_key_algorithm k.format, (ok_enc BIT_STRING _ (omega arith) (λ l. (omega arith, h)), tt)))

@@ -7,6 +7,7 @@ use Rattle.rpki_der.specs.Times.{Moment, time}
 use Rattle.rpki_der.specs.Tags.{BIT_STRING}
 use Rattle.rpki_der.proofs.ValueWritten.{bool_cases, enc_longer}
 
+-- a Time that is written has at most 17 octets
 pub time_short : (m : Moment) → length (time m) ≤ 17
 unfolding time enc length_octets
 time_short m =
@@ -19,8 +20,10 @@ time_short m =
 pub bits_too_long : (front bits : List ℕ) → 2 ^ 32 ≤ length bits + 1 → 2 ^ 32 ≤ length (front ++ (enc BIT_STRING (0 ∷ bits) ++ []))
 bits_too_long front bits h = omega (arith, length-append front (enc BIT_STRING (0 ∷ bits) ++ []), length-append (enc BIT_STRING (0 ∷ bits)) [], enc_longer BIT_STRING (0 ∷ bits))
 
+-- two Times that are written have at most 34 octets
 pub two_times_short : (m n : Moment) → length (time m ++ (time n ++ [])) ≤ 34
 two_times_short m n = omega (arith, length-append (time m) (time n ++ []), length-append (time n) [], time_short m, time_short n)
 
+-- what is too long stays so behind other octets
 pub longer_behind : (front rest : List ℕ) → 2 ^ 32 ≤ length rest → 2 ^ 32 ≤ length (front ++ rest)
 longer_behind front rest h = omega (arith, length-append front rest)

@@ -21,6 +21,7 @@ use Rattle.rpki_parts.specs.NameForms.Reading.{is_text_tag, unseen, seen_with, s
 use Rattle.rpki_parts.specs.declared.name_forms.Seen.{Seen}
 use Rattle.rpki_parts.proofs.NameReads.{IsAttribute, IsPart, AreParts, attribute_reads, attribute_shrinks}
 
+-- reading a SET uses octets up
 pub set_shrinks : Shrinks (value_at SET)
 set_shrinks octets c rest e = let h = value_shorter SET octets c rest e in omega arith
 
@@ -35,6 +36,7 @@ steps_append : {X S : Type 0} (step : Step X S) (s : S) (xs ys : List X) → ste
 steps_append step s [] ys = refl
 steps_append step s (x ∷ xs) ys = after step xs ys (λ t. steps_append step t xs ys) (step s x)
 
+-- the attributes of all parts
 abbrev pub all_of : List (List Attribute) → List Attribute
 all_of parts = flat_map (λ part. part) parts
 
@@ -47,10 +49,12 @@ module _ (strict : Bool) where
   next s text c rest part parts was is more None e = refused (value_at SET) (seen_in strict) set_shrinks s text c rest was (is ∙ e)
   next s text c rest part parts was is more (Some t) e = goes_on (value_at SET) (seen_in strict) set_shrinks s text c rest was t (is ∙ e) ∙ more t
 
+  -- the walk over a part takes a step for each of its attributes
   pub in_part : (s : Seen) (part : List Attribute) (c : List ℕ) → IsRow IsAttribute part c → seen_in strict s c ≡ steps (seen_with strict) s part
   unfolding over
   in_part s part c r = rw (row_again attribute_at IsAttribute attribute_reads attribute_shrinks part c r) refl
 
+  -- the walk over the parts takes a step for each attribute
   pub seen_in_parts : (parts : List (List Attribute)) (text : List ℕ) (s : Seen) → IsRow IsPart parts text → over (value_at SET) (seen_in strict) s text ≡ steps (seen_with strict) s (all_of parts)
   seen_in_parts [] text s r = rw r (over_end (value_at SET) (seen_in strict) s)
   seen_in_parts (part ∷ parts) text s (a, b, p, more, e) =
@@ -152,6 +156,7 @@ module _ (strict : Bool) where
 
 -- ---- a whole name
 
+-- no attribute was seen yet
 abbrev pub nothing_seen : Seen
 nothing_seen = record { name = false; number = false }
 
@@ -191,12 +196,15 @@ module _ (strict : Bool) where
         let same : s.content ≡ c = (both_are {A = List ℕ} {B = List ℕ} (s.content, []) (c, rest) (sym whole ∙ was)).0 in
         seen_in_parts strict parts c nothing_seen (subst (λ (b : List ℕ). IsRow IsPart parts b) same s.row)
 
+    -- a name that passes the walk with a CommonName has the form of the RPKI
     pub form_is : (t : Seen) → IsName name name → over (value_at SET) (seen_in strict) nothing_seen c ≡ Some t → t.name ≡ true → IsRpkiName strict name
     form_is t n e named = record { parts = n.parts; parts_are = n.parts_are; attributes_are = attributes_are (all_of n.parts) t (sym (row n.parts n.parts_are) ∙ e) named }
 
+    -- a name of the form of the RPKI passes the walk
     pub is_form : IsRpkiName strict name → (t : Seen) × (over (value_at SET) (seen_in strict) nothing_seen c ≡ Some t) × (t.name ≡ true)
     is_form h = let m = are_attributes (all_of h.parts) h.attributes_are in (m.0, row h.parts h.parts_are ∙ m.1, m.2)
 
+  -- a Name is a SEQUENCE
   pub is_sequence : (name : List ℕ) → IsName name name → value_at SEQUENCE name ≡ None → ⊥
   is_sequence name n e =
       let whole : value_at SEQUENCE name ≡ some {A = List ℕ × List ℕ} (n.parts_are.content, []) = ap (value_at SEQUENCE) (sym (append-nil name)) ∙ value_again SEQUENCE n.parts_are.content name [] n.parts_are.sequence in

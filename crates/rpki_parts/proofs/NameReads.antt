@@ -65,6 +65,7 @@ tagged_reads = record {
 
 -- ---- attributes
 
+-- an AttributeTypeAndValue under the bound of depth that readers keep
 abbrev pub IsAttribute : Attribute → List ℕ → Type 0
 IsAttribute = IsAttributeTypeAndValueWithin levels
 
@@ -92,6 +93,7 @@ attribute_is a text s = (
   subst (λ (z : List ℕ). IsEnc SEQUENCE z text) (ap (λ (z : List ℕ). s.identifier ++ z) (append-nil s.value)) s.sequence,
 )
 
+-- an AttributeTypeAndValue is read as it is encoded
 pub attribute_reads : Reads attribute_at IsAttribute
 unfolding attribute_at
 attribute_reads =
@@ -100,12 +102,14 @@ attribute_reads =
     (mapped_reads (both oid_at tagged_at) (Both IsObjectIdentifier IsTagged) attribute parts_of (λ p. refl) (λ a. refl) (both_reads oid_at tagged_at IsObjectIdentifier IsTagged oid_reads tagged_reads)))
     is_attribute attribute_is
 
+-- reading an AttributeTypeAndValue uses octets up
 pub attribute_shrinks : Shrinks attribute_at
 unfolding attribute_at
 attribute_shrinks = inside_shrinks SEQUENCE (mapped attribute (both oid_at tagged_at))
 
 -- ---- parts
 
+-- a RelativeDistinguishedName under the bound of depth that readers keep
 abbrev pub IsPart : List Attribute → List ℕ → Type 0
 IsPart = IsRelativeDistinguishedNameWithin levels
 
@@ -132,6 +136,7 @@ part_again : (xs : List Attribute) (c : List ℕ) → PartContent xs c → attri
 part_again xs [] s = absurd (some_octets xs s.0 s.1)
 part_again xs (b ∷ bytes) s = row_again attribute_at IsAttribute attribute_reads attribute_shrinks xs (b ∷ bytes) s.0
 
+-- a RelativeDistinguishedName is read as it is encoded
 pub part_reads : Reads part_at IsPart
 unfolding part_at
 part_reads =
@@ -140,15 +145,18 @@ part_reads =
     (λ xs text s. record { content = s.0; row = s.1.0; some = s.1.1; set = s.2 })
     (λ xs text s. (s.content, (s.row, s.some), s.set))
 
+-- reading a RelativeDistinguishedName uses octets up
 pub part_shrinks : Shrinks part_at
 unfolding part_at
 part_shrinks = content_shrinks SET attributes_of
 
 -- ---- names
 
+-- an RDNSequence under the bound of depth that readers keep
 abbrev pub AreParts : List (List Attribute) → List ℕ → Type 0
 AreParts = IsRdnSequenceWithin levels
 
+-- an RDNSequence is read as it is encoded
 pub parts_reads : Reads parts_at AreParts
 unfolding parts_at
 parts_reads =
@@ -160,6 +168,7 @@ parts_reads =
     (λ parts text s. record { content = s.0; row = s.1; sequence = s.2 })
     (λ parts text s. (s.content, s.row, s.sequence))
 
+-- octets that are read as a whole Name are one with these parts
 pub name_takes : (octets : List ℕ) (parts : List (List Attribute)) → AreOctets octets → name_of octets ≡ Some parts → AreParts parts octets
 unfolding name_of
 name_takes octets parts fits e =
@@ -169,6 +178,7 @@ name_takes octets parts fits e =
     let all : one.text ≡ octets = sym (append-nil one.text) ∙ sym (ap (λ (r : List ℕ). one.text ++ r) g.0) ∙ sym one.parts in
     subst (λ (ps : List (List Attribute)). AreParts ps octets) g.1 (subst (λ (x : List ℕ). AreParts a.0.0 x) all one.spelled)
 
+-- a Name is read as its parts
 pub name_again : (parts : List (List Attribute)) (octets : List ℕ) → AreParts parts octets → name_of octets ≡ Some parts
 unfolding name_of
 name_again parts octets s =
@@ -185,9 +195,11 @@ name_is octets fits e =
     let p = some_of (name_of octets) e in
     record { parts = p.0; parts_are = name_takes octets p.0 fits p.1; kept = refl }
 
+-- a Name passes the test
 pub is_name_again : (parts : List (List Attribute)) (octets : List ℕ) → AreParts parts octets → is_name octets ≡ true
 is_name_again parts octets s = ap is_some (name_again parts octets s)
 
+-- a Name is read as it is encoded
 pub name_reads : Reads name_at IsName
 unfolding name_at
 name_reads = record {
@@ -224,14 +236,17 @@ name_none bytes fits e = none_of (name_at bytes) refl
 
 -- ---- the test, step by step
 
+-- a result that is an error isn't Ok
 pub not_ok : {X E : Type 0} (r : Result X E) → IsErr r → (b : Bool) → b ≡ false → is_ok r ≡ b
 not_ok (Ok x) e b h = absurd cc
 not_ok (Err d) e b h = rw h refl
 
+-- octets without a SEQUENCE in front are no Name
 pub no_sequence : (octets : List ℕ) → value_at SEQUENCE octets ≡ None → is_name octets ≡ false
 unfolding name_of parts_at
 no_sequence octets e = rw e refl
 
+-- a SEQUENCE with nothing behind it is a Name where its content is a row of parts
 pub name_more : (octets c rest : List ℕ) → value_at SEQUENCE octets ≡ some {A = List ℕ × List ℕ} (c, rest) → rest ≡ [] → is_name octets ≡ is_some (row_of part_at c)
 unfolding name_of parts_at
 name_more octets c rest e end = rw (e, end) (is_whole (row_of part_at c))
@@ -240,6 +255,7 @@ name_more octets c rest e end = rw (e, end) (is_whole (row_of part_at c))
     is_whole (Some x) = refl
     is_whole None = refl
 
+-- a SEQUENCE with something behind it is no Name
 pub name_ends : (octets c rest : List ℕ) → value_at SEQUENCE octets ≡ some {A = List ℕ × List ℕ} (c, rest) → (rest ≡ [] → ⊥) → is_name octets ≡ false
 unfolding name_of parts_at
 name_ends octets c rest e more = rw e (is_none (row_of part_at c) rest more)

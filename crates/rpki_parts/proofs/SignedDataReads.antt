@@ -44,6 +44,7 @@ signed_is s text h = (
   h.is ∙ ap (λ (x : List ℕ). s.message ++ (h.algorithm ++ x)) (append-nil h.signature),
 )
 
+-- the content of signed data is read as it is encoded
 pub signed_content_reads : Reads signed_content_at IsSignedDataContent
 unfolding signed_content_at
 signed_content_reads =
@@ -62,10 +63,11 @@ behind s text h rest = (h.algorithm ++ (h.signature ++ [])) ++ rest
 at_front : (s : SignedFields) (text rest : List ℕ) (h : IsSignedDataContent s text) → text ++ rest ≡ s.message ++ behind s text h rest
 at_front s text rest h = ap (λ (t : List ℕ). t ++ rest) h.is ∙ append_assoc s.message (h.algorithm ++ (h.signature ++ [])) rest
 
--- signed data, of which what is signed spells the fields
+-- signed data, of which what is signed encodes the fields
 abbrev pub AreSigned : {F : Type 0} → (F → List ℕ → Type 0) → F × SignedFields → List ℕ → Type 0
 AreSigned spells p text = IsSignedDataContent p.1 text × spells p.0 p.1.message
 
+-- signed data of which the message is read lawfully is read as it is encoded
 pub signed_reads : {F : Type 0} (read : List ℕ → Option (F × List ℕ)) (spells : F → List ℕ → Type 0) → Reads read spells → ((f : F) (text : List ℕ) → spells f text → IsValue text)
     → Reads (signed_at read) (AreSigned spells)
 signed_reads {F} read spells law value = record {

@@ -1,4 +1,4 @@
--- What is written of signed data spells them, and is what was read.
+-- What is written of signed data encodes them, and is what was read.
 use Rattle.std.specs.List.{concat}
 use Rattle.std.proofs.Common.{ℕ, List, [], ◌∷◌, ◌≡◌, refl, arith, ◌<◌, ◌^◌, length, ap, ◌∙◌}
 use Rattle.rpki_der.specs.Tags.{BIT_STRING, SEQUENCE}
@@ -13,6 +13,7 @@ module _ (s : SignedFields) (message : IsValue s.message) (octets : AreOctets s.
   all : AreOctets (concat (signed_pieces s))
   all = ok_concat (signed_pieces s) ((λ l. value_octets message.enc), (ok_algorithm s.signature.algorithm, (ok_enc BIT_STRING (0 ∷ s.signature.value) (omega arith) (λ l. (omega arith, octets)), tt))) short
 
+  -- what is written inside signed data is its content
   pub signed_made : IsSignedDataContent s (concat (signed_pieces s))
   signed_made =
       let (_, (algorithm_short, (signature_short, _))) = pieces_short (signed_pieces s) (short, all) in
@@ -25,6 +26,7 @@ module _ (s : SignedFields) (message : IsValue s.message) (octets : AreOctets s.
         is = refl;
       }
 
+  -- what is written of signed data is a SEQUENCE of its content
   pub signed_enc : IsEnc SEQUENCE (concat (signed_pieces s)) (signed_data s)
   signed_enc = record { octet = omega arith; low_tag = omega arith; octets = all; short = short; is = refl }
 
@@ -33,6 +35,7 @@ module _ (s : SignedFields) (message : IsValue s.message) (octets : AreOctets s.
 algorithm_is : (a : Algorithm) (b : List ℕ) → IsSignatureAlgorithm a b → b ≡ algorithm a
 algorithm_is a b h = h.sequence.is ∙ ap (λ (id : List ℕ). enc SEQUENCE (concat (id ∷ parameters a.has_null ∷ []))) h.identifier_is.enc.is
 
+-- the content of signed data is the pieces that are written of it
 pub content_is : (s : SignedFields) (content : List ℕ) → IsSignedDataContent s content → content ≡ concat (signed_pieces s)
 content_is s content h =
     h.is

@@ -17,6 +17,7 @@ other_is x e = eqb-false x slash e
 not_slash : (x : ℕ) → x ≢ slash → is_slash x ≡ false
 not_slash x h = ne_eqb x slash h
 
+-- a text is empty where its length is 0
 pub empty_is : (t : List ℕ) → (length t == 0) ≡ is_empty t
 empty_is [] = refl
 empty_is (x ∷ t) = ne_eqb (suc (length t)) 0 (λ e. absurd (omega arith))
@@ -31,6 +32,7 @@ cut_step : (b : Bool) (x : ℕ) (t p q : List ℕ) → t ≡ p ++ q → x ∷ t 
 cut_step true x t p q e = refl
 cut_step false x t p q e = ap (λ (l : List ℕ). x ∷ l) e
 
+-- a text is what stands before its first slash and what stands from there on
 pub cut_is : (t : List ℕ) → t ≡ before_slash t ++ from_slash t
 cut_is [] = refl
 cut_is (x ∷ t) = cut_step (is_slash x) x t (before_slash t) (from_slash t) (cut_is t)
@@ -39,6 +41,7 @@ before_step : (b : Bool) (x : ℕ) (t : List ℕ) → (b ≡ false → x ≢ sla
 before_step true x t h g = tt
 before_step false x t h g = (h refl, g)
 
+-- what stands before the first slash has none
 pub before_has_none : (t : List ℕ) → HasNoSlash (before_slash t)
 before_has_none [] = tt
 before_has_none (x ∷ t) = before_step (is_slash x) x (before_slash t) (other_is x) (before_has_none t)
@@ -47,6 +50,7 @@ from_step : (b : Bool) (x : ℕ) (t r : List ℕ) → (b ≡ true → x ≡ slas
 from_step true x t r h g = inr (t, ap (λ (y : ℕ). y ∷ t) (h refl))
 from_step false x t r h g = g
 
+-- what stands from the first slash on is empty or begins with it
 pub from_begins : (t : List ℕ) → IsEmptyOrBeginsWithSlash (from_slash t)
 from_begins [] = inl refl
 from_begins (x ∷ t) = from_step (is_slash x) x t (from_slash t) (slash_is x) (from_begins t)
@@ -59,6 +63,7 @@ before_again (x ∷ a) r h o =
     let e = not_slash x h.0 in
     rw e (ap (λ (l : List ℕ). x ∷ l) (before_again a r h.1 o))
 
+-- behind a part without slash, the rest from a slash on is found
 pub from_again : (a r : List ℕ) → HasNoSlash a → IsEmptyOrBeginsWithSlash r → from_slash (a ++ r) ≡ r
 from_again [] r h (inl e) = rw e refl
 from_again [] r h (inr m) = rw m.1 refl
@@ -73,6 +78,7 @@ take_step : (b : Bool) (x n : ℕ) (t p : List ℕ) → p ≡ take n t → cond 
 take_step true x n t p e = refl
 take_step false x n t p e = rw (one_more n, e) refl
 
+-- what stands before the first slash is the octets up to its position
 pub before_is_take : (t : List ℕ) → before_slash t ≡ take (position_or_len is_slash t) t
 before_is_take [] = refl
 before_is_take (x ∷ t) = take_step (is_slash x) x (position_or_len is_slash t) t (before_slash t) (before_is_take t)
@@ -81,6 +87,7 @@ drop_step : (b : Bool) (x n : ℕ) (t p : List ℕ) → p ≡ drop n t → cond 
 drop_step true x n t p e = refl
 drop_step false x n t p e = rw (one_more n, e) refl
 
+-- what stands from the first slash on is the octets from its position
 pub from_is_drop : (t : List ℕ) → from_slash t ≡ drop (position_or_len is_slash t) t
 from_is_drop [] = refl
 from_is_drop (x ∷ t) = drop_step (is_slash x) x (position_or_len is_slash t) t (from_slash t) (from_is_drop t)
@@ -94,16 +101,19 @@ not_nothing (y ∷ f) x t e = absurd cc
 tails : (x y : ℕ) (s t : List ℕ) → x ∷ s ≡ y ∷ t → s ≡ t
 tails x y s t e = cc
 
+-- a text with a slash added is trimmed to the text
 pub trimmed-push : (t : List ℕ) → trimmed (t ++ slash ∷ []) ≡ t
 trimmed-push [] = refl
 trimmed-push (x ∷ []) = refl
 trimmed-push (x ∷ y ∷ t) = ap (λ (l : List ℕ). x ∷ l) (trimmed-push (y ∷ t))
 
+-- a text that doesn't end with a slash is trimmed to itself
 pub trimmed_same : (t : List ℕ) → ((front : List ℕ) → t ≢ front ++ slash ∷ []) → trimmed t ≡ t
 trimmed_same [] h = refl
 trimmed_same (x ∷ []) h = let e = not_slash x (λ e. h [] (ap (λ (y : ℕ). y ∷ []) e)) in rw e refl
 trimmed_same (x ∷ y ∷ t) h = ap (λ (l : List ℕ). x ∷ l) (trimmed_same (y ∷ t) (λ front e. h (x ∷ front) (ap (λ (l : List ℕ). x ∷ l) e)))
 
+-- a trimmed text is what the function gives
 pub trimmed_again : (t u : List ℕ) → IsTrimmed t u → trimmed t ≡ u
 trimmed_again t u (inl e) = rw e (trimmed-push u)
 trimmed_again t u (inr h) = trimmed_same t h.1 ∙ h.0
@@ -124,11 +134,13 @@ trimmed_more : (x y : ℕ) (t u : List ℕ) → IsTrimmed (y ∷ t) u → IsTrim
 trimmed_more x y t u (inl e) = inl (ap (λ (l : List ℕ). x ∷ l) e)
 trimmed_more x y t u (inr h) = inr (ap (λ (l : List ℕ). x ∷ l) h.0, not_later x y t h.1)
 
+-- what the function gives is the trimmed text
 pub trimmed_is : (t : List ℕ) → IsTrimmed t (trimmed t)
 trimmed_is [] = inr (refl, λ front. not_nothing front slash [])
 trimmed_is (x ∷ []) = trimmed_one (is_slash x) x (slash_is x) (other_is x)
 trimmed_is (x ∷ y ∷ t) = trimmed_more x y t (trimmed (y ∷ t)) (trimmed_is (y ∷ t))
 
+-- a text is trimmed at its end alone
 pub trimmed-append : (a : List ℕ) (x : ℕ) (b : List ℕ) → trimmed (a ++ x ∷ b) ≡ a ++ trimmed (x ∷ b)
 trimmed-append [] x b = refl
 trimmed-append (y ∷ []) x b = refl
@@ -140,6 +152,7 @@ filled : (a : List ℕ) (x : ℕ) (b : List ℕ) → is_empty (a ++ x ∷ b) ≡
 filled [] x b = refl
 filled (y ∷ a) x b = refl
 
+-- a text without slash has nothing through its last one
 pub through-none : (n : List ℕ) → HasNoSlash n → through_slash n ≡ []
 through-none [] h = refl
 through-none (x ∷ n) h =
@@ -147,6 +160,7 @@ through-none (x ∷ n) h =
     let none = through-none n h.1 in
     rw (none, e) refl
 
+-- a text is kept through its last slash
 pub through-kept : (x n : List ℕ) → HasNoSlash n → through_slash (x ++ slash ∷ n) ≡ x ++ slash ∷ []
 through-kept [] n h = let none = through-none n h in rw none refl
 through-kept (y ∷ x) n h =
@@ -157,12 +171,14 @@ through_first : (l : List ℕ) → cond (is_empty l) (slash ∷ []) (slash ∷ l
 through_first [] = refl
 through_first (x ∷ l) = refl
 
+-- a front that ends with a slash is kept whole
 pub through-front : (f t : List ℕ) → through_slash (f ++ slash ∷ t) ≡ f ++ slash ∷ through_slash t
 through-front [] t = through_first (through_slash t)
 through-front (x ∷ f) t =
     let rest = through-front f t in
     rw (rest, filled f slash (through_slash t)) refl
 
+-- an octet that is no slash at the end changes nothing
 pub through-other : (t : List ℕ) (x : ℕ) → x ≢ slash → through_slash (t ++ x ∷ []) ≡ through_slash t
 through-other [] x h = let e = not_slash x h in rw e refl
 through-other (y ∷ t) x h = let rest = through-other t x h in rw rest refl
@@ -184,12 +200,14 @@ kept_more x t (y ∷ ys) last k (inl e) none = absurd cc
 kept_more x t (y ∷ ys) last k (inr m) none =
     record { name = k.name; split = ap (λ (l : List ℕ). x ∷ l) k.split; name_is = k.name_is; kept_is = inr (x ∷ m.0, ap (λ (l : List ℕ). x ∷ l) m.1) }
 
+-- what the function keeps is the text through its last slash
 pub through_is : (t : List ℕ) → IsKept (through_slash t) t
 through_is [] = record { name = []; split = refl; name_is = tt; kept_is = inl refl }
 through_is (x ∷ t) =
     let k = through_is t in
     kept_more x t (through_slash t) (cond (is_slash x) (x ∷ []) []) k k.kept_is (λ _ none. kept_none (is_slash x) x t (slash_is x) (other_is x) none)
 
+-- a text that ends with its last slash is kept before a name
 pub through_again : (kept name : List ℕ) → HasNoSlash name → IsEmptyOrEndsWithSlash kept → through_slash (kept ++ name) ≡ kept
 through_again kept name h (inl e) = rw e (through-none name h)
 through_again kept name h (inr m) = rw (m.1, append_assoc m.0 (slash ∷ []) name) (through-kept m.0 name h)
@@ -208,6 +226,7 @@ segments_exist (x ∷ t) =
 onto-append : (x : ℕ) (a b : List (List ℕ)) (first : List ℕ) (more : List (List ℕ)) → a ≡ first ∷ more → onto_first x (a ++ b) ≡ onto_first x a ++ b
 onto-append x a b first more e = rw e refl
 
+-- texts joined by a slash have the segments of both
 pub segments-append : (a b : List ℕ) → slice_split is_slash (a ++ slash ∷ b) ≡ slice_split is_slash a ++ slice_split is_slash b
 segments-append [] b = refl
 segments-append (x ∷ a) b =

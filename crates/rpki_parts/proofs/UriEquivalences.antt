@@ -29,6 +29,7 @@ through scheme x y z eight e f =
       authorities = e.authorities ∙ (between ∙ f.authorities);
     }
 
+-- equality of rsync URIs is an equivalence
 pub rsync_equivalence : IsEquivalence IsRsync (AreEqual (codes "rsync://"))
 rsync_equivalence = record {
   reflexive = λ x u. same (codes "rsync://") u.authority (concat (codes "/" ∷ u.top ∷ u.tail ∷ [])) x u.is;
@@ -36,6 +37,7 @@ rsync_equivalence = record {
   transitive = λ x y z. through (codes "rsync://") x y z refl;
 }
 
+-- equality of https URIs is an equivalence
 pub https_equivalence : IsEquivalence IsHttps (AreEqual (codes "https://"))
 https_equivalence = record {
   reflexive = λ x u. same (codes "https://") u.authority u.rest x u.is;
@@ -46,6 +48,7 @@ https_equivalence = record {
 one_trimmed : (x t u : List ℕ) → IsTrimmed x t → IsTrimmed x u → t ≡ u
 one_trimmed x t u h g = sym (trimmed_again x t h) ∙ trimmed_again x u g
 
+-- identity of rsync URIs is an equivalence
 pub identical_equivalence : IsEquivalence IsRsync AreIdentical
 identical_equivalence = record {
   reflexive = λ x r.
@@ -63,5 +66,6 @@ identical_equivalence = record {
       };
 }
 
+-- the parent of an rsync URI is one
 pub parent_is_rsync : (uri p : List ℕ) → IsRsync uri → IsParent uri p → IsRsync p
 parent_is_rsync uri p r h = subst IsRsync (parent_again uri p h) (parent_rsync uri r (λ e. h.path_is (sym (path_found h.front h.path uri h.is) ∙ e)))

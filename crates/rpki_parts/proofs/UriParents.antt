@@ -21,10 +21,12 @@ trimmed_rest a y m uri u =
       rest_is = inr (trimmed (y ∷ m), refl);
     }
 
+-- an rsync URI without one slash at its end is a URI with the authority that it had
 pub trimmed_top : (a top tail uri : List ℕ) → top ≢ [] → IsUri (codes "rsync://") a (concat (codes "/" ∷ top ∷ tail ∷ [])) uri → (rest : List ℕ) × IsUri (codes "rsync://") a rest (trimmed uri)
 trimmed_top a [] tail uri h u = absurd (h refl)
 trimmed_top a (y ∷ top) tail uri h u = (slash ∷ trimmed (y ∷ (top ++ (tail ++ []))), trimmed_rest a y (top ++ (tail ++ [])) uri u)
 
+-- two rsync URIs are identical where they compare equal when trimmed
 pub identical_decides : (uri other : List ℕ) → IsRsync uri → IsRsync other → Decides (are_equal (trimmed uri) (trimmed other)) (AreIdentical uri other)
 identical_decides uri other r s =
     let u = trimmed_top r.authority r.top r.tail uri r.top_is.0 r.is in
@@ -53,6 +55,7 @@ before_path front path uri h =
       is = h.is.is ∙ simp (append_assoc, append-nil);
     }
 
+-- the path of an rsync URI is found
 pub path_found : (front path uri : List ℕ) → HasPath front path uri → path_of uri ≡ path
 path_found front path uri h =
     let u : IsUri (codes "rsync://") h.authority (concat (codes "/" ∷ h.top ∷ (slash ∷ path) ∷ [])) uri = h.is in
@@ -69,6 +72,7 @@ parent_kept front path uri kept name h filled split through =
     let last : through_slash (trimmed path) ≡ kept = ap through_slash split ∙ through in
     ap through_slash cut ∙ (through-front b.f (trimmed path) ∙ (ap (λ (l : List ℕ). b.f ++ slash ∷ l) last ∙ (sym (append_assoc b.f (slash ∷ []) kept) ∙ ap (λ (l : List ℕ). l ++ kept) (sym b.front_is))))
 
+-- the parent is the trimmed URI through its last slash
 pub parent_again : (uri parent : List ℕ) → IsParent uri parent → through_slash (trimmed uri) ≡ parent
 parent_again uri parent p =
     let split : trimmed p.path ≡ p.kept ++ p.name = trimmed_again p.path p.trimmed p.trimmed_is ∙ p.split in
@@ -101,6 +105,7 @@ filled_path uri r filled =
           }
     ]
 
+-- the trimmed URI through its last slash is the parent
 pub parent_takes : (uri : List ℕ) → IsRsync uri → path_of uri ≢ [] → IsParent uri (through_slash (trimmed uri))
 parent_takes uri r filled =
     let p = filled_path uri r filled in
@@ -153,6 +158,7 @@ trimmed_front : (path t : List ℕ) → IsTrimmed path t → (end : List ℕ) ×
 trimmed_front path t (inl e) = (slash ∷ [], e)
 trimmed_front path t (inr m) = ([], m.0 ∙ sym (append-nil t))
 
+-- the trimmed URI through its last slash is an rsync URI
 pub parent_rsync : (uri : List ℕ) → IsRsync uri → path_of uri ≢ [] → IsRsync (through_slash (trimmed uri))
 parent_rsync uri r filled =
     let p = filled_path uri r filled in
@@ -182,12 +188,14 @@ parent_rsync uri r filled =
       printable = subst ArePrintable (sym e) (front_of (λ octet. (0x21 ≤ octet) × (octet ≤ 0x7E)) (p.front ++ kept) (k.name ++ end.0) (subst ArePrintable whole r.printable));
     }
 
+-- a URI without path has an empty one
 pub empty_path : (uri : List ℕ) → HasNoPath uri → path_of uri ≡ []
 empty_path uri h = elim h.tail_is [
   | inl e ↦ path_again h.authority h.top h.tail uri h.is h.top_is.1 (inl e) ∙ ap (drop 1) e
   | inr e ↦ path_again h.authority h.top h.tail uri h.is h.top_is.1 (inr ([], e)) ∙ ap (drop 1) e
 ]
 
+-- a URI has no path where the path that is found is empty
 pub no_path_decides : (uri : List ℕ) → IsRsync uri → Decides (is_empty (path_of uri)) (HasNoPath uri)
 no_path_decides uri r = (
   λ e.
@@ -206,6 +214,7 @@ no_path_decides uri r = (
   λ h. (empty_decides (path_of uri)).1 (empty_path uri h),
 )
 
+-- a URI has one parent
 pub one_parent : (uri p q : List ℕ) → IsParent uri p → IsParent uri q → p ≡ q
 one_parent uri p q h g = sym (parent_again uri p h) ∙ parent_again uri q g
 
@@ -213,5 +222,6 @@ one_parent uri p q h g = sym (parent_again uri p h) ∙ parent_again uri q g
 pub never_both : (uri p : List ℕ) → HasNoPath uri → IsParent uri p → ⊥
 never_both uri p none h = h.path_is (sym (path_found h.front h.path uri h.is) ∙ empty_path uri none)
 
+-- the parent is identical to what is identical to one
 pub the_parent : (uri parent other : List ℕ) → IsParent uri parent → HasParent uri other → AreIdentical parent other
 the_parent uri parent other p h = subst (λ t. AreIdentical t other) (one_parent uri h.parent parent h.is p) h.identical

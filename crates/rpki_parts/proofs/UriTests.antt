@@ -12,6 +12,7 @@ use Rattle.rpki_parts.proofs.Slashes.{cut_is, before_has_none, from_begins, befo
 
 -- ---- each octet, each segment
 
+-- testing each element decides whether all have the property
 pub all_decides : {X : Type 0} (p : X → Bool) (P : X → Type 0) → ((x : X) → Decides (p x) (P x)) → (xs : List X) → Decides (list_all p xs) (AllByRecursion P xs)
 all_decides p P h [] = (λ _. tt, λ _. refl)
 all_decides p P h (x ∷ xs) =
@@ -22,6 +23,7 @@ octet_decides : (x : ℕ) → Decides (is_ascii_graphic x) ((0x21 ≤ x) × (x �
 octet_decides x =
     (λ e. let b = and_parts _ _ e in (leb-true 0x21 x b.0, leb-true x 0x7E b.1), λ h. and_from _ _ (le-leb 0x21 x h.0) (le-leb x 0x7E h.1))
 
+-- testing each octet decides whether all are printable
 pub printable_decides : (text : List ℕ) → Decides (list_all is_ascii_graphic text) (ArePrintable text)
 printable_decides text = all_decides is_ascii_graphic (λ octet. (0x21 ≤ octet) × (octet ≤ 0x7E)) octet_decides text
 
@@ -35,13 +37,16 @@ segment_decides s =
     let two = other_decides s (codes "..") in
     (λ e. let b = and_parts (not (bytes_eq s (codes "."))) (not (bytes_eq s (codes ".."))) e in (one.0 b.0, two.0 b.1), λ h. and_from (not (bytes_eq s (codes "."))) (not (bytes_eq s (codes ".."))) (one.1 h.0) (two.1 h.1))
 
+-- testing each segment decides whether none is . or ..
 pub dots_decide : (path : List ℕ) → Decides (list_all is_segment (slice_split is_slash path)) (HasNoDots path)
 dots_decide path = all_decides is_segment (λ s. (s ≢ codes ".") × (s ≢ codes "..")) segment_decides (slice_split is_slash path)
 
+-- the test decides whether a text is empty
 pub empty_decides : (t : List ℕ) → Decides (is_empty t) (t ≡ [])
 empty_decides [] = (λ _. refl, λ _. refl)
 empty_decides (x ∷ t) = (λ e. absurd cc, λ e. absurd cc)
 
+-- the test decides whether a text isn't empty
 pub filled_decides : (t : List ℕ) → Decides (not (is_empty t)) (t ≢ [])
 filled_decides [] = (λ e. absurd cc, λ h. absurd (h refl))
 filled_decides (x ∷ t) = (λ _ e. absurd cc, λ _. refl)
@@ -51,18 +56,22 @@ filled_decides (x ∷ t) = (λ _ e. absurd cc, λ _. refl)
 written_length : (scheme a r uri : List ℕ) → length scheme ≡ 8 → (u : IsUri scheme a r uri) → length u.written ≡ 8
 written_length scheme a r uri eight u = sym (length-map u.written to_ascii_lowercase) ∙ (ap length u.written_is ∙ eight)
 
+-- the first eight octets of a URI are its scheme
 pub written_again : (scheme a r uri : List ℕ) → length scheme ≡ 8 → (u : IsUri scheme a r uri) → take 8 uri ≡ u.written
 written_again scheme a r uri eight u = rw u.is (take_at u.written (a ++ (r ++ [])) 8 (written_length scheme a r uri eight u))
 
 after_again : (scheme a r uri : List ℕ) → length scheme ≡ 8 → (u : IsUri scheme a r uri) → drop 8 uri ≡ a ++ r
 after_again scheme a r uri eight u = rw u.is (drop_at u.written (a ++ (r ++ [])) 8 (written_length scheme a r uri eight u) ∙ ap (λ (l : List ℕ). a ++ l) (append-nil r))
 
+-- the authority of a URI is found
 pub authority_again : (scheme a r uri : List ℕ) → length scheme ≡ 8 → IsUri scheme a r uri → authority_of uri ≡ a
 authority_again scheme a r uri eight u = rw (after_again scheme a r uri eight u) (before_again a r u.authority_is.1 u.rest_is)
 
+-- what follows a URI's authority is found
 pub rest_again : (scheme a r uri : List ℕ) → length scheme ≡ 8 → IsUri scheme a r uri → rest_of uri ≡ r
 rest_again scheme a r uri eight u = rw (after_again scheme a r uri eight u) (from_again a r u.authority_is.1 u.rest_is)
 
+-- a text that passes the test is a URI of the scheme
 pub uri_takes : (scheme uri : List ℕ) → has_scheme scheme uri ≡ true → IsUri (str_to_ascii_lowercase scheme) (authority_of uri) (rest_of uri) uri
 uri_takes scheme uri e =
     let b = and_parts (str_eq_ignore_ascii_case (take 8 uri) scheme) (not (is_empty (authority_of uri))) e in
@@ -74,12 +83,14 @@ uri_takes scheme uri e =
       rest_is = from_begins (drop 8 uri);
     }
 
+-- a URI of the scheme passes the test
 pub uri_again : (scheme a r uri : List ℕ) → length scheme ≡ 8 → str_to_ascii_lowercase scheme ≡ scheme → IsUri scheme a r uri → has_scheme scheme uri ≡ true
 uri_again scheme a r uri eight low u =
     let written : str_to_ascii_lowercase (take 8 uri) ≡ str_to_ascii_lowercase scheme = rw (written_again scheme a r uri eight u) (u.written_is ∙ sym low) in
     let authority : authority_of uri ≢ [] = rw (authority_again scheme a r uri eight u) u.authority_is.0 in
     and_from (str_eq_ignore_ascii_case (take 8 uri) scheme) (not (is_empty (authority_of uri))) ((bytes_eq-Decides _ _).1 written) ((filled_decides (authority_of uri)).1 authority)
 
+-- the test decides whether a text is an https URI
 pub https_decides : (uri : List ℕ) → Decides (is_https uri) (IsHttps uri)
 https_decides uri =
     let scheme = codes "https://" in (
@@ -102,10 +113,12 @@ tail_splits : (tail : List ℕ) → IsEmptyOrBeginsWithSlash tail → HasNoDots 
 tail_splits tail (inl e) h = inl e
 tail_splits tail (inr m) h = inr (m.0, m.1, subst (λ t. HasNoDots (drop 1 t)) m.1 h)
 
+-- what follows the module is empty or begins with a slash
 pub tail_begins : (tail : List ℕ) → (tail ≡ []) ⊎ ((path : List ℕ) × (tail ≡ slash ∷ path) × HasNoDots path) → IsEmptyOrBeginsWithSlash tail
 tail_begins tail (inl e) = inl e
 tail_begins tail (inr m) = inr (m.0, m.1)
 
+-- an empty path has no dot segments
 pub nothing_dotted : HasNoDots []
 nothing_dotted = ((λ e. absurd cc, λ e. absurd cc), tt)
 
@@ -117,6 +130,7 @@ tail_dots tail (inr m) = subst (λ t. HasNoDots (drop 1 t)) (sym m.1) m.2
 pub module_again : (a top tail uri : List ℕ) → IsUri (codes "rsync://") a (concat (codes "/" ∷ top ∷ tail ∷ [])) uri → HasNoSlash top → IsEmptyOrBeginsWithSlash tail → module_of uri ≡ top
 module_again a top tail uri u name begins = rw (rest_again (codes "rsync://") a (concat (codes "/" ∷ top ∷ tail ∷ [])) uri refl u, append-nil tail) (before_again top tail name begins)
 
+-- the path of an rsync URI is found
 pub path_again : (a top tail uri : List ℕ) → IsUri (codes "rsync://") a (concat (codes "/" ∷ top ∷ tail ∷ [])) uri → HasNoSlash top → IsEmptyOrBeginsWithSlash tail → path_of uri ≡ drop 1 tail
 path_again a top tail uri u name begins = rw (rest_again (codes "rsync://") a (concat (codes "/" ∷ top ∷ tail ∷ [])) uri refl u, append-nil tail) (ap (drop 1) (from_again top tail name begins))
 
@@ -147,11 +161,13 @@ rsync_again uri u =
     and_from (is_uri (codes "rsync://") uri) (has_module_and_path uri) (and_from (has_scheme (codes "rsync://") uri) (list_all is_ascii_graphic uri) scheme ((printable_decides uri).1 u.printable))
     (and_from (not (is_empty (module_of uri))) (list_all is_segment (slice_split is_slash (path_of uri))) ((filled_decides (module_of uri)).1 top) ((dots_decide (path_of uri)).1 dots))
 
+-- the test decides whether a text is an rsync URI
 pub rsync_decides : (uri : List ℕ) → Decides (is_rsync uri) (IsRsync uri)
 rsync_decides uri = (rsync_takes uri, rsync_again uri)
 
 -- ---- equality
 
+-- the test decides whether two URIs are equal
 pub equal_decides : (scheme a r uri b s other : List ℕ) → length scheme ≡ 8 → IsUri scheme a r uri → IsUri scheme b s other → Decides (are_equal uri other) (AreEqual scheme uri other)
 equal_decides scheme a r uri b s other eight u v =
     let same_names = bytes_eq-Decides (str_to_ascii_lowercase (authority_of uri)) (str_to_ascii_lowercase (authority_of other)) in

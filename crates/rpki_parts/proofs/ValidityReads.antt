@@ -28,6 +28,7 @@ validity_is v text s = (
   subst (λ (x : List ℕ). IsEnc SEQUENCE x text) (ap (λ (x : List ℕ). s.before ++ x) (append-nil s.after)) s.sequence,
 )
 
+-- a Validity is read as it is encoded
 pub validity_reads : Reads validity_at IsValidity
 unfolding validity_at
 validity_reads =

@@ -2,7 +2,8 @@
 use Rattle.std.specs.Prelude.{◌≡◌, ◌⊎◌, List, [], ◌∷◌, Result, Ok, Err}
 use Rattle.std.specs.List.{AllByRecursion}
 
--- x is the first of the list of which P doesn't hold: it is the one in front, or that one holds and x is the first of the others
+-- x is the first of the list of which P doesn't hold: it is the one in front, or that one holds and
+-- x is the first of the others
 abbrev pub IsFirstFalse : {X : Type 0} → (X → Type 0) → List X → X → Type 0
 IsFirstFalse P [] x = ⊥
 IsFirstFalse P (y ∷ ys) x = ((x ≡ y) × (P y → ⊥)) ⊎ (P y × IsFirstFalse P ys x)

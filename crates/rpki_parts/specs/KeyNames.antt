@@ -10,6 +10,7 @@ use Rattle.rpki_parts.specs.Names.{common_name}
 abbrev pub digit : ℕ → ℕ
 digit n = if nat_lt n 10 then 48 + n else 55 + n
 
+-- two upper-case hexadecimal digits of each octet
 abbrev pub hexadecimal : List ℕ → List ℕ
 hexadecimal octets = flat_map (λ octet. digit (octet / 16) ∷ digit (octet % 16) ∷ []) octets
 

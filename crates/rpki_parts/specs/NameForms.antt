@@ -1,4 +1,5 @@
--- The names that certificates of the RPKI have (RFC 6487 4.4, 4.5, RFC 8209 3.1.1; which strings may stand is own).
+-- The names that certificates of the RPKI have (RFC 6487 4.4, 4.5, RFC 8209 3.1.1; which strings
+-- may stand is own).
 use Rattle.std.specs.Prelude.{◌≡◌, ◌≤◌, ◌⊎◌, ℕ, Bool, true, false, List, [], ◌∷◌, length, filter, flat_map, bytes_eq}
 use Rattle.std.specs.List.{AllByRecursion}
 use Rattle.rpki_der.specs.Skipping.{levels}
@@ -6,10 +7,12 @@ use Rattle.rpki_der.specs.Tags.{PRINTABLE_STRING, UTF8_STRING}
 use Rattle.rpki_parts.specs.Names.{common_name, serial_number, Attribute, IsRdnSequenceWithin}
 pub mod Reading
 
+-- the attributes of this type
 abbrev pub of_type : List ℕ → List Attribute → List Attribute
 of_type id attributes = filter (λ a. bytes_eq a.type_id id) attributes
 
--- PrintableString; or, where inspection isn't strict, UTF8String too. Characters aren't tested (own)
+-- PrintableString; or, where inspection isn't strict, UTF8String too. Characters aren't tested
+-- (own)
 abbrev pub IsTextTag : Bool → ℕ → Type 0
 IsTextTag true tag = tag ≡ PRINTABLE_STRING
 IsTextTag false tag = (tag ≡ PRINTABLE_STRING) ⊎ (tag ≡ UTF8_STRING)

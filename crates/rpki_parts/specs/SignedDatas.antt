@@ -13,8 +13,10 @@ pub record SignedFields : Type 0 where
   pub message : List ℕ
   pub signature : SignatureFields
 
--- what stands inside the SEQUENCE; of the value that is signed nothing is read but its identifier
--- and length, and the BIT STRING has no unused bits (own)
+-- the content of SEQUENCE { tbsCertificate TBSCertificate or tbsCertList TBSCertList,
+--   signatureAlgorithm AlgorithmIdentifier, signatureValue BIT STRING }   (RFC 5280 4.1, 5.1)
+-- of the value that is signed nothing is read but its identifier and length, and the BIT STRING has
+-- no unused bits (own)
 pub record IsSignedDataContent (s : SignedFields) (content : List ℕ) : Type 0 where
   pub algorithm : List ℕ
   pub signature : List ℕ
@@ -25,11 +27,14 @@ pub record IsSignedDataContent (s : SignedFields) (content : List ℕ) : Type 0 
 
 -- ---- what is written
 
+-- the values inside the SEQUENCE of signed data
 abbrev pub signed_pieces : SignedFields → List (List ℕ)
 signed_pieces s = s.message ∷ algorithm s.signature.algorithm ∷ enc BIT_STRING (0 ∷ s.signature.value) ∷ []
 
+-- the encoding of signed data
 abbrev pub signed_data : SignedFields → List ℕ
 signed_data s = sequence (signed_pieces s)
 
+-- the encoding of signed data, and what stands inside its SEQUENCE
 abbrev pub signed_part : SignedFields → Part
 signed_part s = value SEQUENCE (concat (signed_pieces s))

@@ -5,6 +5,7 @@ use Rattle.rpki_der.specs.declared.error.EncodeError.TheVariants as writing
 use Rattle.rpki_parts.specs.declared.signature.SigningError.{SigningError}
 use Rattle.rpki_parts.specs.declared.signature.SigningError.TheVariants.{Signer, TooLong, Memory}
 
+-- the name of the error
 abbrev pub signing_error_name : {E : Type 0} → SigningError E → List ℕ
 signing_error_name (Signer e) = codes "Signer"
 signing_error_name TooLong = codes "TooLong"

@@ -1,17 +1,20 @@
 -- Rsync and https URIs as octets (RFC 3986 3, RFC 5781 2, RFC 9110 4.2.2). Own is that an authority
--- isn't empty and ends at a slash alone, that any octet from 21 to 7E may stand, that a path with dot
--- segments is refused (RFC 3986 5.2.4 removes them), and how URIs are compared.
+-- isn't empty and ends at a slash alone, that any octet from 21 to 7E may stand, that a path with
+-- dot segments is refused (RFC 3986 5.2.4 removes them), and how URIs are compared.
 use Rattle.std.specs.Prelude.{ℕ, ◌≤◌, List, [], ◌∷◌, ◌++◌, codes, ◌≡◌, ◌≢◌, ◌==◌, ◌⊎◌}
 use Rattle.std.specs.List.{AllByRecursion, concat, slice_split}
 use Rattle.std.specs.Str.{str_to_ascii_lowercase}
 pub mod Tests
 
+-- the octet of /
 abbrev pub slash : ℕ
 slash = 47
 
+-- each octet is from 21 to 7E
 abbrev pub ArePrintable : List ℕ → Type 0
 ArePrintable text = AllByRecursion (λ octet. (0x21 ≤ octet) × (octet ≤ 0x7E)) text
 
+-- no octet is a slash
 abbrev pub HasNoSlash : List ℕ → Type 0
 HasNoSlash text = AllByRecursion (λ octet. octet ≢ slash) text
 
@@ -19,9 +22,11 @@ HasNoSlash text = AllByRecursion (λ octet. octet ≢ slash) text
 abbrev pub IsUriPart : List ℕ → Type 0
 IsUriPart text = (text ≢ []) × HasNoSlash text
 
+-- the text is empty or begins with a slash
 abbrev pub IsEmptyOrBeginsWithSlash : List ℕ → Type 0
 IsEmptyOrBeginsWithSlash text = (text ≡ []) ⊎ ((rest : List ℕ) × (text ≡ slash ∷ rest))
 
+-- the text is empty or ends with a slash
 abbrev pub IsEmptyOrEndsWithSlash : List ℕ → Type 0
 IsEmptyOrEndsWithSlash text = (text ≡ []) ⊎ ((front : List ℕ) × (text ≡ front ++ slash ∷ []))
 
@@ -34,6 +39,7 @@ pub record IsUri (scheme authority rest uri : List ℕ) : Type 0 where
   pub authority_is : IsUriPart authority
   pub rest_is : IsEmptyOrBeginsWithSlash rest
 
+-- uri is an https URI (RFC 9110 4.2.2)
 pub record IsHttps (uri : List ℕ) : Type 0 where
   pub authority : List ℕ
   pub rest : List ℕ
@@ -94,7 +100,7 @@ pub record HasNoPath (uri : List ℕ) : Type 0 where
   pub top_is : IsUriPart top
   pub tail_is : (tail ≡ []) ⊎ (tail ≡ slash ∷ [])
 
--- The path isn't empty. It loses one slash at its end, and what is left is kept through its last
+-- The path isn't empty. It loses one slash at its end, and what remains is kept through its last
 -- slash, if it has one.
 pub record IsParent (uri parent : List ℕ) : Type 0 where
   pub front : List ℕ

@@ -5,6 +5,7 @@ use Rattle.rpki_parts.specs.Validities.{ValidityFields}
 use Rattle.rpki_parts.specs.declared.valid_at.ValidityError.{ValidityError}
 use Rattle.rpki_parts.specs.declared.valid_at.ValidityError.TheVariants.{NotYetValid, Expired}
 
+-- the first moment is the second one or before it
 abbrev pub IsNotAfter : Moment → Moment → Type 0
 IsNotAfter m n = second_number m ≤ second_number n
 
@@ -17,6 +18,7 @@ IsInTime v now Expired = IsNotAfter now v.not_after
 abbrev pub validity_faults : List ValidityError
 validity_faults = NotYetValid ∷ Expired ∷ []
 
+-- the name of the error
 abbrev pub validity_error_name : ValidityError → List ℕ
 validity_error_name NotYetValid = codes "NotYetValid"
 validity_error_name Expired = codes "Expired"

@@ -12,6 +12,7 @@ pub record ValidityFields : Type 0 where
   pub not_before : Moment
   pub not_after : Moment
 
+-- Validity ::= SEQUENCE { notBefore Time, notAfter Time }   (RFC 5280 4.1)
 pub record IsValidity (v : ValidityFields) (b : List ℕ) : Type 0 where
   pub before : List ℕ
   pub after : List ℕ
@@ -21,11 +22,14 @@ pub record IsValidity (v : ValidityFields) (b : List ℕ) : Type 0 where
 
 -- ---- what is written
 
+-- the values inside the SEQUENCE of a Validity
 abbrev pub validity_pieces : ValidityFields → List (List ℕ)
 validity_pieces v = time v.not_before ∷ time v.not_after ∷ []
 
+-- the encoding of a Validity
 abbrev pub validity : ValidityFields → List ℕ
 validity v = sequence (validity_pieces v)
 
+-- the encoding of a Validity, and what stands inside its SEQUENCE
 abbrev pub validity_part : ValidityFields → Part
 validity_part v = value SEQUENCE (concat (validity_pieces v))

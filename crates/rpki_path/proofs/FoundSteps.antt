@@ -27,11 +27,13 @@ use Rattle.rpki_path.specs.Paths.{Demand, AskedLine, Finds}
 use Rattle.rpki_path.specs.Paths.Steps.{IsUnread, IsBelow, IsIssuedBy, demand_under}
 use Rattle.rpki_path.proofs.GoodPaths.{all_map, first_map}
 
+-- an error of reading says that no certificate begins the string
 pub not_decoded : (octets : List ℕ) (e : DecodeError) → Refuses e ((c : CertFields) → Means IsCertificate c octets → ⊥) → IsUnread octets (of_decoding e)
 not_decoded octets decoding.Memory h = tt
 not_decoded octets e h = ((λ same. absurd (cc same)), h)
 
 module _ (x : Context) (d : Demand) (octets : List ℕ) where
+  -- a string of which no certificate was read is found so
   pub unread : (e : PathFault) → IsUnread octets e → Finds x d octets e
   unread (Decode e) h = h
   unread (Inspect e) h = absurd h
@@ -49,6 +51,7 @@ module _ (x : Context) (d : Demand) (octets : List ℕ) where
     not_verified e (meets, inl same) = absurd (cc same)
     not_verified e (meets, inr h) = first_false e (meets, h)
 
+    -- a certificate that isn't valid is found so
     pub not_valid : (e : ValidationError) → IsInvalid d.kind x.strict c (IsFirstFalseOrMemory (d.line c) d.lines) e → Finds x d octets (of_validation e)
     not_valid (Inspection e) h = (c, begins, h)
     not_valid (Verification e) h = not_verified e h
@@ -56,6 +59,7 @@ module _ (x : Context) (d : Demand) (octets : List ℕ) where
 -- ---- a member below an issuer
 
 module _ (x : Context) (issuer : ResourceFields) (k : Kind) (c : CertFields) where
+  -- a certificate that was validated is a member below the issuer
   pub below_of : (r : Result ResourceFields ValidationError) → OnOk r (MeetsProfile k x.strict c) → OnOk r (IsVerified (LineUnder x issuer c) issued_lines) → IfOk r (HasIssued c issuer) → IfOk r (IsBelow x issuer k c)
   below_of (Ok r) meets lines issued = record { meets = meets; lines = lines; issued = issued }
   below_of (Err e) meets lines issued = tt
@@ -63,6 +67,7 @@ module _ (x : Context) (issuer : ResourceFields) (k : Kind) (c : CertFields) whe
 -- ---- a member, from the certificate that is decoded
 
 module _ (x : Context) (lists : Option (List Stored)) (issuer : ResourceFields) (k : Kind) (octets : List ℕ) (c : CertFields) (r : ResourceFields) (begins : Means IsCertificate c octets) (below : IsBelow x issuer k c r) where
+  -- a member that isn't revoked is one that the issuer issued
   pub issued_by : IsVerified (AskedLine x lists issuer.cert.fields r.cert) revocation_lines → IsIssuedBy x lists issuer k octets r
   issued_by free =
       let same : c ≡ r.cert = sym below.issued.cert_is in
@@ -72,6 +77,7 @@ module _ (x : Context) (lists : Option (List Stored)) (issuer : ResourceFields) 
         unrevoked = free;
       }
 
+  -- a member that is revoked is found so
   pub revoked_below : (e : RevocationError) → IsFirstFalse (AskedLine x lists issuer.cert.fields r.cert) revocation_lines e → Finds x (demand_under x lists issuer k) octets (Revocation e)
   revoked_below e first = record {
     cert = c;
@@ -89,6 +95,7 @@ module _ (x : Context) (pairs : List Stored) (issuer : TbsFields) (c : CertField
   no_uri none = inl (refl, λ l. let (uri, is, under) = l.1 in absurd (cc (none, is)))
 
   module _ (uri : List ℕ) (is : c.fields.extensions.crl_uri ≡ Some uri) where
+    -- a check of the list under the certificate's URI
     abbrev pub UnderUri : RevocationError → Type 0
     UnderUri = RevocationLine x issuer c.fields.serial (IsUnderUri pairs uri)
 

@@ -1,4 +1,4 @@
--- A good path gets a further member.
+-- A valid path gets a further member.
 use Rattle.std.specs.List.{AllByRecursion}
 use Rattle.std.specs.Prelude.{Option}
 use Rattle.std.proofs.Common.{◌≡◌, ◌⊎◌, ◌↔◌, ◌+◌, ◌<◌, ◌≤◌, ℕ, List, [], ◌∷◌, ◌++◌, refl, sym, ap, subst, ◌∙◌, inl, inr, arith}
@@ -21,22 +21,26 @@ use Rattle.rpki_path.proofs.LongerPaths.{extended, above, there, last_extended, 
 -- ---- conditions
 
 module _ {X : Type 0} (P : X → Type 0) (Q : X → Type 0) where
+  -- what all elements have may be weakened
   pub all_map : (xs : List X) → ((x : X) → P x → Q x) → AllByRecursion P xs → AllByRecursion Q xs
   all_map [] f all = tt
   all_map (x ∷ xs) f all = (f x all.0, all_map xs f all.1)
 
+  -- the first false condition is the first of equivalent ones
   pub first_map : (xs : List X) (x : X) → ((y : X) → P y ↔ Q y) → IsFirstFalse P xs x → IsFirstFalse Q xs x
   first_map [] x f h = absurd h
   first_map (y ∷ xs) x f (inl h) = inl (h.0, λ q. h.1 ((f y).1 q))
   first_map (y ∷ xs) x f (inr h) = inr ((f y).0 h.0, first_map xs x f h.1)
 
+-- where there is a first condition that is false, not all are true
 pub first_not_all : {X : Type 0} (P : X → Type 0) (xs : List X) (x : X) → IsFirstFalse P xs x → AllByRecursion P xs → ⊥
 first_not_all P [] x h all = h
 first_not_all P (y ∷ xs) x (inl h) all = h.1 all.0
 first_not_all P (y ∷ xs) x (inr h) all = first_not_all P xs x h.1 all.1
 
--- ---- lines
+-- ---- checks
 
+-- both have the same numbers
 record SameHeld (h g : Held) : Type 0 where
   v4_same : (n : ℕ) → h.v4 n ↔ g.v4 n
   v6_same : (n : ℕ) → h.v6 n ↔ g.v6 n
@@ -71,7 +75,7 @@ module _ (x : Context) where
     (λ l. line_kept f g h (turned same) c e (subst (λ (y : TbsFields). Line x y g c e) (sym is) l)),
   )
 
-  -- the lines under the last member, as it was validated, are those of the path
+  -- the checks under the last member, as it was validated, are those of the path
   pub line_last : (p : Path) (tal : List ℕ) (issuer : ResourceFields) → HasHeld p tal issuer → (c : CertFields) (e : VerificationError) → LineUnder x issuer c e ↔ LineBelow x p (last p) c e
   line_last p tal issuer held c e =
       line_same issuer.cert.fields (certificate_at p (last p)).fields (ap (λ (c : CertFields). c.fields) held.cert_is) (held_by issuer) (HeldAt p (last p))
@@ -146,7 +150,7 @@ module _ (x : Context) where
             subst (λ (c : CertFields). IsVerified (LineBelow x longer i c) issued_lines) (sym (above p member [] (i + 1) next))
             (all_map (LineBelow x p i c) (LineBelow x longer i c) issued_lines (λ l. (line_above p member [] i low c l).0) (good.members_verified i h))
 
-        -- the lines that lists are asked for a certificate below another
+        -- the checks that lists are asked for a certificate below another
         abbrev Free : CertFields → CertFields → Type 0
         Free above c = IsVerified (AskedLine x lists above.fields c) revocation_lines
 

@@ -85,6 +85,7 @@ pairs_read i (x ∷ []) (o ∷ octets) d = elim d [ ]
 pairs_read i (x ∷ y ∷ text) [] d = elim d [ ]
 pairs_read i (x ∷ y ∷ text) (o ∷ octets) d = rw (pair_reads o x y i d.0, pairs_read (i + 2) text octets d.1) refl
 
+-- there are two hexadecimal digits for each octet
 pub two_digits_each : (octets text : List ℕ) → AreHexDigits octets text → length text ≡ 2 * length octets
 two_digits_each [] [] d = refl
 two_digits_each [] (x ∷ text) d = elim d [ ]
@@ -98,16 +99,18 @@ decoded : (odd : Bool) (r : Result (List ℕ) FromHexError) (octets : List ℕ) 
 decoded true r octets e = absurd cc
 decoded false r octets e = e
 
+-- a text that is decoded is the digits of the octets
 pub digits_are : (text octets : List ℕ) → decode_of text ≡ Ok octets → AreHexDigits octets text
 digits_are text octets e = pairs_are 0 text octets (decoded (length text % 2 == 1) (decode_pairs 0 text) octets e)
 
+-- the digits of octets are decoded as them
 pub digits_read : (text octets : List ℕ) → AreHexDigits octets text → decode_of text ≡ Ok octets
 digits_read text octets d =
     let len = two_digits_each octets text d in
     let even : (length text % 2 == 1) ≡ false = ne_eqb (length text % 2) 1 (λ odd. absurd (omega arith)) in
     rw even (pairs_read 0 text octets d)
 
--- no octets are spelled by digits that aren't decoded
+-- no octets are encoded by digits that aren't decoded
 pub none_spelled : (text : List ℕ) (f : FromHexError) → decode_of text ≡ Err f → (octets : List ℕ) → AreHexDigits octets text → ⊥
 none_spelled text f e octets d = let read = digits_read text octets d in absurd cc
 
@@ -116,6 +119,7 @@ pub word_digits : (octets word : List ℕ) → (word ≡ codes "-" → ⊥) → 
 word_digits [] word some h = absurd (some h)
 word_digits (o ∷ octets) word some h = h
 
+-- a word that compares different from - is another word
 pub other_word : (word : List ℕ) → false ≡ pointwise nat_eq word (codes "-") → word ≡ codes "-" → ⊥
 other_word word e same = false≢true (e ∙ rw same refl)
 

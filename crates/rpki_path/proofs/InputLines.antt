@@ -32,6 +32,7 @@ first_octet x text false e (line ∷ lines) are =
       ),
     )
 
+-- a text is some lines
 pub some_lines : (text : List ℕ) → (lines : List (List ℕ)) × AreLines lines text
 some_lines [] = ([], refl)
 some_lines (x ∷ text) = let more = some_lines text in first_octet x text (x == line_end) refl more.0 more.1
@@ -47,6 +48,7 @@ no_lines [] are = refl
 no_lines (line ∷ lines) are =
     absurd (elim are.1 [ inl only ↦ only.1 (sym only.2) | inr more ↦ some_there line more.0 more.1 ])
 
+-- a first line before the lines of the rest is a line more
 pub one_more : (line rest text : List ℕ) (lines : List (List ℕ)) → IsFirstLine line rest text → AreLines lines rest → AreLines (line ∷ lines) text
 one_more line rest text lines first are = (
   first.0,
@@ -76,6 +78,7 @@ module _ (before : List (List ℕ)) (fit : BeginInput before) (number : ℕ) (e 
   bad_of_lines [] are some unfit = absurd (some are)
   bad_of_lines (line ∷ more) are some unfit = (line ∷ more, are, record { before = before; others = line ∷ more; lines_are = refl; number_is = e; before_fit = fit; next_unfit = unfit line })
 
+  -- a line with which no input begins is the first that doesn't fit
   pub bad_after : (text ≡ [] → ⊥) → ((line : List ℕ) → BeginInput (before ++ line ∷ []) → ⊥) → IsReadBehind before text (Bad number)
   bad_after = bad_of_lines (some_lines text).0 (some_lines text).1
 
@@ -102,6 +105,7 @@ other_name (DetachedEe o) octets line l a = let same : 100 ≡ 99 = ap head (sym
 no_octets : (name : List ℕ) → IsOctetsLine name [] (name ++ codes "-")
 no_octets name = record { word = codes "-"; word_is = refl; is = refl }
 
+-- no lines are the beginning of an input
 pub nothing_begins : BeginInput []
 nothing_begins = (
   codes "revoked - -" ∷ [],
@@ -123,19 +127,23 @@ nothing_begins = (
   ),
 )
 
+-- no lines are no input
 pub no_empty_input : AreInput [] → ⊥
 no_empty_input a = elim a.0 as (λ (q : Question). Ask q [] → ⊥) [ is_revoked list serial ↦ λ h. h | is_good_path q ↦ λ h. h ] a.1
 
+-- the lines of an input are the beginning of one
 pub whole_begins : (lines : List (List ℕ)) → AreInput lines → BeginInput lines
 whole_begins lines a = ([], subst (λ (l : List (List ℕ)). AreInput l) (sym (append-nil lines)) a)
 
 -- ---- the first line
 
+-- the first line of an input is one of a list of revoked certificates or of a moment
 pub first_tells : (q : Question) (line : List ℕ) (more : List (List ℕ)) → Ask q (line ∷ more)
     → ((list : List ℕ) × (serial : ℕ) × IsRevokedLine list serial line) ⊎ ((now : Moment) × IsMomentLine now line)
 first_tells (is_revoked list serial) line more h = inl (list, serial, h.0)
 first_tells (is_good_path q) line more h = inr (q.now, h.0)
 
+-- a first line of neither form begins no input
 pub first_unfit : (line : List ℕ) → ((list : List ℕ) (serial : ℕ) → IsRevokedLine list serial line → ⊥) → ((now : Moment) → IsMomentLine now line → ⊥) → BeginInput (line ∷ []) → ⊥
 first_unfit line no_list no_moment (more, (q, asked)) =
     elim (first_tells q line more asked) [ inl l ↦ no_list l.0 l.1 l.2 | inr m ↦ no_moment m.0 m.1 ]
@@ -146,9 +154,11 @@ list_alone list serial (is_revoked list' serial') line next more is h = h.1
 list_alone list serial (is_good_path q) line next more is h = not_both q.now list serial line h.0 is
 
 module _ (list : List ℕ) (serial : ℕ) (line : List ℕ) (is : IsRevokedLine list serial line) where
+  -- the line of a list of revoked certificates begins an input
   pub list_begins : BeginInput (line ∷ [])
   list_begins = whole_begins (line ∷ []) (is_revoked list serial, (is, tt))
 
+  -- no second line follows that of a list
   pub second_of_list : (next : List ℕ) → BeginInput ((line ∷ []) ++ next ∷ []) → ⊥
   second_of_list next (more, (q, asked)) = list_alone list serial q line next more is asked
 
@@ -191,9 +201,11 @@ module _ (now : Moment) where
   second_needed (m ∷ s ∷ more) is a = elim is.1 [ ]
 
   module _ (before : List (List ℕ)) (is : Moments now before) (text : List ℕ) where
+    -- where the text ends, the second line is missing
     pub no_second : text ≡ [] → IsReadBehind before text (Bad 2)
     no_second none = line_missing before (moment_begins before is) 2 (one_so_far before is) text none (second_needed before is)
 
+    -- a second line that tells no mode doesn't fit
     pub bad_second : (line rest : List ℕ) → IsFirstLine line rest text → ((strict : Bool) → IsLine (strictness strict) line → ⊥) → IsReadBehind before text (Bad 2)
     bad_second line rest first none = bad_line before (moment_begins before is) 2 (one_so_far before is) text line rest first (second_unfit before is line none)
 
@@ -236,18 +248,22 @@ module _ (now : Moment) (strict : Bool) where
   third_needed (m ∷ s ∷ t ∷ more) (_, (_, none)) a = elim none [ ]
 
   module _ (before : List (List ℕ)) (is : Pairs now strict before) (text : List ℕ) where
+    -- where the text ends, the third line is missing
     pub no_third : text ≡ [] → IsReadBehind before text (Bad 3)
     no_third none = line_missing before (pair_begins before is) 3 (two_so_far before is) text none (third_needed before is)
 
+    -- a third line that tells no trust anchor doesn't fit
     pub bad_third : (line rest : List ℕ) → IsFirstLine line rest text → ((octets : List ℕ) → IsLine (anchor octets) line → ⊥) → IsReadBehind before text (Bad 3)
     bad_third line rest first none = bad_line before (pair_begins before is) 3 (two_so_far before is) text line rest first (third_unfit before is line none)
 
 -- ---- what holds of an answer
 
+-- what an Ok has may be weakened
 pub if_ok : {X E : Type 0} {P Q : X → Type 0} (r : Result X E) → ((x : X) → P x → Q x) → IfOk r P → IfOk r Q
 if_ok (Ok x) f h = f x h
 if_ok (Err e) f h = h
 
+-- a list whose length isn't 0 isn't empty
 pub some_left : (xs : List ℕ) → false ≡ (length xs == 0) → xs ≡ [] → ⊥
 some_left xs e none = false≢true (e ∙ rw none refl)
 
@@ -255,5 +271,6 @@ no_length : (xs : List ℕ) → length xs ≡ 0 → xs ≡ []
 no_length [] e = refl
 no_length (x ∷ xs) e = absurd (omega arith)
 
+-- a list whose length is 0 is empty
 pub none_left : (xs : List ℕ) → true ≡ (length xs == 0) → xs ≡ []
 none_left xs e = no_length xs (eqb-true (length xs) 0 (sym e))

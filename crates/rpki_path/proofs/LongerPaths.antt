@@ -12,6 +12,7 @@ use Rattle.rpki_path.specs.Paths.{Member, Path, last, certificate_at, NumberKind
 
 -- ---- places
 
+-- the path with one member more, and those behind it
 abbrev pub extended : Path → Member → List Member → Path
 extended p m more = record { anchor = p.anchor; below = p.below ++ m ∷ more }
 
@@ -39,12 +40,14 @@ module _ (p : Path) (m : Member) (more : List Member) where
       ∙ ap (λ (i : ℕ). get_or (certs p ++ m.cert ∷ map (λ (x : Member). x.cert) more) i p.anchor) (sym long)
       ∙ get_or-append_seam (certs p) m.cert (map (λ (x : Member). x.cert) more) p.anchor
 
+-- the last place of the longer path is one further
 pub last_extended : (p : Path) (m : Member) → last (extended p m []) ≡ last p + 1
 last_extended p m = length-append p.below (m ∷ [])
 
 -- ---- numbers
 
 module _ (p : Path) (m : Member) (more : List Member) (k : NumberKind) (n : ℕ) where
+  -- what a member holds doesn't depend on members behind it
   pub holds_above : (i : ℕ) → i ≤ last p → Holds p i k n ↔ Holds (extended p m more) i k n
   holds_above i h = (
     (λ held. record {
@@ -85,6 +88,7 @@ gets_passed held (blocks chain) n = ((λ h. (h.1, inl h.0)), (λ h. elim h.1 [ i
 -- ---- lists
 
 module _ {A B : Type 0} (R : A → B → Type 0) where
+  -- pairs that are related go on with one that is
   pub zip_more : (xs : List A) (ys : List B) (x : A) (y : B) → AllZip R xs ys → R x y → AllZip R (xs ++ x ∷ []) (ys ++ y ∷ [])
   zip_more [] [] x y all r = (r, tt)
   zip_more [] (b ∷ ys) x y all r = absurd all
@@ -100,6 +104,7 @@ module _ {A B : Type 0} (R : A → B → Type 0) where
     pub fronts : AllZip R front before
     pub items : R item y
 
+  -- what is related to a list that is cut is cut too
   pub parted : (xs : List A) (before : List B) (y : B) (after : List B) → AllZip R xs (before ++ y ∷ after) → Parted xs before y
   parted [] [] y after all = absurd all
   parted [] (b ∷ before) y after all = absurd all
@@ -126,10 +131,12 @@ module _ {A B : Type 0} (R : A → B → Type 0) where
   zip_one one (x ∷ xs) (y ∷ ys) (b ∷ bs) p q = ap (λ (z : A). z ∷ xs) (one x y b p.0 q.0) ∙ ap (λ (l : List A). y ∷ l) (zip_one one xs ys bs p.1 q.1)
 
 module _ {X : Type 0} (P : X → Type 0) where
+  -- what all elements and one more have, the longer list's elements have
   pub all_more : (xs : List X) (x : X) → AllByRecursion P xs → P x → AllByRecursion P (xs ++ x ∷ [])
   all_more [] x all h = (h, tt)
   all_more (y ∷ xs) x all h = (all.0, all_more xs x all.1 h)
 
+  -- what all elements have, one of them has
   pub all_at : (xs : List X) (x : X) (more : List X) → AllByRecursion P (xs ++ x ∷ more) → P x
   all_at [] x more all = all.0
   all_at (y ∷ xs) x more all = all_at xs x more all.1

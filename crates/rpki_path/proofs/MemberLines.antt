@@ -61,6 +61,7 @@ leaf_is_last leaf e line is [] None (b ∷ before) more h = h
 leaf_is_last leaf e line is [] (Some other) (b ∷ before) more h = none_behind IsLine before e (line ∷ more) h.1
 leaf_is_last leaf e line is (c ∷ cas) other (b ∷ before) more h = leaf_is_last leaf e line is cas other before more h.1
 
+-- the lines before the members tell the moment, the mode and the trust anchor
 abbrev pub Heads : Moment → Bool → List ℕ → List (List ℕ) → Type 0
 Heads now strict octets before = AllZip IsLine (at_moment now ∷ strictness strict ∷ anchor octets ∷ []) before
 
@@ -83,6 +84,7 @@ module _ (now : Moment) (strict : Bool) (octets : List ℕ) where
   three_so_far (m ∷ s ∷ t ∷ []) is = refl
   three_so_far (m ∷ s ∷ t ∷ u ∷ more) (_, (_, (_, none))) = elim none [ ]
 
+  -- the question of these CAs and this leaf
   abbrev pub question : List (List ℕ) → Option Leaf → PathQuestion
   question cas leaf = record { now = now; strict = strict; anchor_octets = octets; authorities = cas; leaf = leaf }
 
@@ -113,6 +115,7 @@ module _ (now : Moment) (strict : Bool) (octets : List ℕ) where
       count : length cas + 4 ≡ length (before ++ lines) + 1
       count = omega (arith, length-append before lines, three_so_far before is, as_many cas lines spelled)
 
+      -- a line that tells of no member doesn't fit
       pub bad_member : (line others : List ℕ) → IsFirstLine line others rest → ((member : Member) → IsLine (member_line member) line → ⊥) → IsReadBehind before text (Bad (length cas + 4))
       bad_member line others first none =
           regrouped (length cas + 4)
@@ -142,6 +145,7 @@ module _ (now : Moment) (strict : Bool) (octets : List ℕ) where
             let (others, other, below) = tells_below before is q (lines ++ line ∷ next ∷ more) (subst (λ (l : List (List ℕ)). Ask q l) parts asked) in
             leaf_is_last leaf line next tells others other lines more below
 
+        -- a line behind that of a leaf doesn't fit
         pub line_after_leaf : (others ≡ [] → ⊥) → IsReadBehind before text (Bad (length cas + 5))
         line_after_leaf some =
             let fits : BeginInput (before ++ (lines ++ line ∷ [])) = whole_begins (before ++ (lines ++ line ∷ [])) (is_good_path (question cas (Some leaf)), asks (Some leaf) (line ∷ []) (tells, tt)) in
@@ -154,9 +158,11 @@ module _ (now : Moment) (strict : Bool) (octets : List ℕ) where
 
 -- ---- a further authority
 
+-- one line of a CA more is read
 pub authority_more : (lines : List (List ℕ)) (text rest : List ℕ) → ((more : List (List ℕ)) → AreLines more rest → AreLines (lines ++ more) text) → (line others : List ℕ) → IsFirstLine line others rest → (more : List (List ℕ)) → AreLines more others → AreLines ((lines ++ line ∷ []) ++ more) text
 authority_more lines text rest so_far line others first more are = subst (λ (l : List (List ℕ)). AreLines l text) (sym (append_assoc lines (line ∷ []) more)) (so_far (line ∷ more) (one_more line others rest more first are))
 
+-- the lines of the CAs with one more are lines of them
 pub authority_spelled : (cas lines : List (List ℕ)) → AllZip IsLine (map authority cas) lines → (octets line : List ℕ) → IsLine (authority octets) line → AllZip IsLine (map authority (cas ++ octets ∷ [])) (lines ++ line ∷ [])
 authority_spelled cas lines spelled octets line is =
     subst (λ (l : List InputLine). AllZip IsLine l (lines ++ line ∷ [])) (sym (map_push authority cas octets))

@@ -7,12 +7,14 @@ use Rattle.rpki_cert.specs.declared.verification_error.VerificationError.TheVari
 use Rattle.rpki_path.specs.Paths.{Path, last, NumberKind, v4_addresses, v6_addresses, system_numbers, greatest_number, Holds, HeldAt, PassesMore}
 
 module _ (p q : Path) (more : PassesMore p q) (i : ℕ) (short : i ≤ last p) where
+  -- who lists or hands on more holds more
   pub holds_more : (k : NumberKind) (n : ℕ) → n ≤ greatest_number k → Holds p i k n → Holds q i k n
   holds_more k n small held = record {
     listed = more.anchor_lists k n small held.listed;
     passed_on = λ j low high. let within : j ≤ last p = omega arith in more.later_pass j low within k n small (held.passed_on j low high);
   }
 
+  -- a check of overclaiming that is true under fewer numbers is true under more
   pub lines_kept : (c : CertFields) (e : VerificationError) → HeldLine (HeldAt p i) c e → HeldLine (HeldAt q i) c e
   lines_kept c NotYetValid l = l
   lines_kept c Expired l = l

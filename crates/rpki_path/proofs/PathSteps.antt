@@ -20,6 +20,7 @@ module _ (x : Context) (lists : Option (List Stored)) (anchor tal : List ℕ) wh
   -- ---- an authority
 
   module _ (cas : List (List ℕ)) (i : ℕ) (h : i < length cas) (octets : List ℕ) (there : octets ≡ get_or cas i octets) (issuer : ResourceFields) (a : IsAccepted x lists anchor (map (ask Authority) (take i cas)) tal issuer) where
+    -- an accepted path goes on with a CA that its last member issued
     pub next_authority : (r : ResourceFields) → IsIssuedBy x lists issuer Authority octets r → IsAccepted x lists anchor (map (ask Authority) (take (i + 1) cas)) tal r
     next_authority r is =
         let more = one_more x lists anchor (map (ask Authority) (take i cas)) tal issuer Authority octets r a is in
@@ -27,6 +28,7 @@ module _ (x : Context) (lists : Option (List Stored)) (anchor tal : List ℕ) wh
         let same : map (ask Authority) (take (i + 1) cas) ≡ map (ask Authority) (take i cas) ++ ask Authority octets ∷ [] = ap (λ (l : List (List ℕ)). map (ask Authority) l) longer ∙ map-append (ask Authority) (take i cas) (octets ∷ []) in
         subst (λ (l : List Asked). IsAccepted x lists anchor l tal r) (sym same) more
 
+    -- a fault of the next CA is one of the path
     pub wrong_authority : (e : PathError) → e.index ≡ i + 1 → Finds x (demand_under x lists issuer Authority) octets e.fault → IsFault x lists anchor (map (ask Authority) cas) e
     wrong_authority e at found =
         let before = map (ask Authority) (take i cas) in
@@ -44,10 +46,12 @@ module _ (x : Context) (lists : Option (List Stored)) (anchor tal : List ℕ) wh
   -- ---- a leaf
 
   module _ (below : List Asked) (issuer : ResourceFields) (a : IsAccepted x lists anchor below tal issuer) (kind : Kind) (octets : List ℕ) where
+    -- an accepted path goes on with a leaf that its last member issued
     pub leaf_accepted : (r : Result ResourceFields PathError) → IfOk r (IsIssuedBy x lists issuer kind octets) → IfOk r (IsAccepted x lists anchor (below ++ ask kind octets ∷ []) tal)
     leaf_accepted (Ok r) h = one_more x lists anchor below tal issuer kind octets r a h
     leaf_accepted (Err e) h = tt
 
+    -- a fault of the leaf is one of the path
     pub leaf_wrong : (n : ℕ) → n ≡ length below + 1 → (r : Result ResourceFields PathError) → IfErr r (λ e. e.index ≡ n) → IfErr r (λ e. Finds x (demand_under x lists issuer kind) octets e.fault) → IfErr r (IsFault x lists anchor (below ++ ask kind octets ∷ []))
     leaf_wrong n is (Ok r) at h = tt
     leaf_wrong n is (Err e) at h = fault_there x lists anchor below kind octets [] tal issuer a e (at ∙ is) h

@@ -1,4 +1,4 @@
--- Strings that begin with other members than a good path has.
+-- Strings that begin with other members than a valid path has.
 use Rattle.std.specs.List.{AllByRecursion, AllZip}
 use Rattle.std.specs.Prelude.{Option, None}
 use Rattle.std.proofs.Common.{◌≡◌, ◌+◌, ◌<◌, ◌≤◌, ◌↔◌, ℕ, List, [], ◌∷◌, ◌++◌, length, refl, sym, ap, subst, ◌∙◌, inl, inr, arith}
@@ -37,6 +37,7 @@ module _ (law : IsUnambiguous IsCertificate) where
       let second : record { kind = n.kind; cert = m.cert } ≡ n = ap (λ (c : CertFields). let x : Member = record { kind = n.kind; cert = c } in x) certs in
       first ∙ second
 
+  -- strings begin with the members of one path at most
   pub one_path : (anchor : List ℕ) (below : List Asked) (p q : Path) → IsPathOf anchor below p → IsPathOf anchor below q → p ≡ q
   one_path anchor below p q of other =
       let anchors : p.anchor ≡ q.anchor = one_certificate p.anchor q.anchor anchor of.anchor_begins other.anchor_begins in
@@ -46,7 +47,7 @@ module _ (law : IsUnambiguous IsCertificate) where
 
 -- ---- what a step finds
 
--- by equivalent lines the same is found
+-- by equivalent checks the same is found
 finds_map : (x : Context) (kind : Kind) (line other : CertFields → VerificationError → Type 0) (lines : List VerificationError) (asked next : CertFields → RevocationError → Type 0) (octets : List ℕ) (e : PathFault)
     → ((c : CertFields) (l : VerificationError) → line c l ↔ other c l) → ((c : CertFields) (l : RevocationError) → asked c l ↔ next c l)
     → Finds x (record { kind = kind; line = line; lines = lines; asked_line = asked }) octets e → Finds x (record { kind = kind; line = other; lines = lines; asked_line = next }) octets e
@@ -62,7 +63,7 @@ finds_map x kind line other lines asked next octets (Revocation e) same free h =
 }
 finds_map x kind line other lines asked next octets Memory same free h = h
 
--- lines that ask nothing are true
+-- checks that ask nothing are true
 unasked_lines : (es : List RevocationError) → AllByRecursion (λ e. Unit {0}) es
 unasked_lines [] = tt
 unasked_lines (e ∷ es) = (tt, unasked_lines es)
@@ -76,6 +77,7 @@ module _ (x : Context) where
   unasked_demand d all octets (Revocation e) h = first_not_all (d.asked_line h.cert) revocation_lines e h.first (all h.cert)
   unasked_demand d all octets Memory h = tt
 
+  -- without revocation lists no fault is one of revocation
   pub unasked : (anchor : List ℕ) (below : List Asked) (e : PathError) → IsFault x None anchor below e → IsUnasked e.fault
   unasked anchor below e (inl h) = unasked_demand (anchor_demand x) (λ c. unasked_lines revocation_lines) anchor e.fault h.fault_is
   unasked anchor below e (inr h) = unasked_demand (demand_below x None h.path (last h.path) h.there.kind) (λ c. unasked_lines revocation_lines) h.there.octets e.fault h.fault_is
@@ -116,7 +118,7 @@ module _ (x : Context) (lists : Option (List Stored)) where
     fault_is = h.fault_is;
   })
 
-  -- ---- an error says that no good path has these members
+  -- ---- an error says that no valid path has these members
 
   module _ (law : IsUnambiguous IsCertificate) where
     -- what is found of a string doesn't fit a certificate that it begins with
@@ -173,6 +175,7 @@ module _ (x : Context) (lists : Option (List Stored)) where
           let kind_is : m.kind ≡ h.there.kind = split.items.kind_is in
           found_against (demand_below x lists q (last q) h.there.kind) h.there.octets e.fault h.fault_is m.cert split.items.begins (subst (λ (k : Kind). MeetsProfile k x.strict m.cert) kind_is meets) lines free
 
+    -- a fault says that the strings are no valid path, unless it ran out of memory
     pub no_good_path : (anchor : List ℕ) (below : List Asked) (e : PathError) → IsFault x lists anchor below e → UnlessMemory e.fault (IsNoGoodPath x lists anchor below)
     no_good_path anchor below e (inl h) = for_each e.fault anchor below (no_anchor anchor below e h)
     no_good_path anchor below e (inr h) = for_each e.fault anchor below (no_member anchor below e h)

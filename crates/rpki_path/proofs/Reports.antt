@@ -24,6 +24,7 @@ other_fault : {P : Type 0} (e : DecodeError) → (e ≡ Memory → ⊥) → Refu
 other_fault Memory other h = absurd (other refl)
 other_fault _ other h = h
 
+-- the name of an error of reading other than Memory is one of the names
 pub fault_name : (e : DecodeError) → (e ≡ Memory → ⊥) → Contains decode_faults (decode_error_name e)
 fault_name Truncated other = (0, omega arith, refl)
 fault_name BadLength other = (1, omega arith, refl)
@@ -43,15 +44,18 @@ fault_name Memory other = absurd (other refl)
 
 -- ---- a report of this text and status
 
+-- what a status and a text say, a report with them says
 pub says_with : (P : List ℕ → Status → Type 0) (report : Report) (s : Status) (t : List ℕ) → report.status ≡ s → string_bytes report.text ≡ t → P t s → P (string_bytes report.text) report.status
 says_with P report s t e f h = subst (λ (x : Status). P (string_bytes report.text) x) (sym e) (subst (λ (y : List ℕ). P y s) (sym f) h)
 
+-- what a status and a text say, an Ok report with them says
 pub answered : {E : Type 0} (P : List ℕ → Status → Type 0) (r : Result Report E) (s : Status) (t : List ℕ) → IfOk r (λ report. report.status ≡ s) → IfOk r (λ report. string_bytes report.text ≡ t) → P t s → IfOk r (λ report. P (string_bytes report.text) report.status)
 answered P (Ok report) s t e f h = says_with P report s t e f h
 answered P (Err x) s t e f h = tt
 
 -- ---- lists
 
+-- a report of what was found in a list says whether the serial is revoked
 pub found_says : (list : List ℕ) (serial : ℕ) (r : Revoked) (found : Bool) → IsRevokedCertificates r list → IsTrue found ↔ IsRevoked serial r.entries
     → SaysOfList list serial (printed (cond found (codes "yes") (codes "no") ∷ [])) status.Done
 found_says list serial r true is same = (r, is, inl (same.0 refl, refl))
@@ -60,6 +64,7 @@ found_says list serial r false is same = (r, is, inr ((λ found. false≢true (s
 abbrev NamesFault : List ℕ → Type 0
 NamesFault text = (name : List ℕ) × Contains decode_faults name × (text ≡ printed (codes "refused decode " ∷ name ∷ []))
 
+-- a report of a list that wasn't read says that it is none
 pub refused_says : {E : Type 0} (list : List ℕ) (serial : ℕ) (e : DecodeError) (r : Result Report E) → Refuses e ((r : Revoked) → IsRevokedCertificates r list → ⊥) → OnOk r (e ≡ Memory → ⊥)
     → IfOk r (λ report. report.status ≡ status.Refused) → IfOk r (λ report. NamesFault (string_bytes report.text)) → IfOk r (λ report. SaysOfList list serial (string_bytes report.text) report.status)
 refused_says list serial e (Ok report) none other s named =
@@ -84,12 +89,13 @@ accepted_says q tal r a sorted = (
   },
 )
 
+-- a report of an accepted path says what its last member holds
 pub path_accepted : {E : Type 0} (q : PathQuestion) (tal : List ℕ) (cert : ResourceFields) (r : Result Report E) → IsAccepted (question_context q) None q.anchor_octets (asked_below q) tal cert
     → IfOk r (λ report. report.status ≡ status.Done) → IfOk r (λ report. string_bytes report.text ≡ accepted_text cert) → OnOk r (HasSortedSets cert) → IfOk r (λ report. SaysOfPath q (string_bytes report.text) report.status)
 path_accepted q tal cert (Ok report) a s t sorted = says_with (SaysOfPath q) report status.Done (accepted_text cert) s t (accepted_says q tal cert a sorted)
 path_accepted q tal cert (Err x) a s t sorted = tt
 
--- what is told of a fault is not want of memory
+-- what is told of a fault is none of being out of memory
 not_memory : {P : Type 0} (f : PathFault) (stage name : List ℕ) → IsToldBy f stage name → paths.UnlessMemory f P → P
 not_memory (fault.Decode e) stage name t h = h
 not_memory (fault.Inspect e) stage name t h = h
@@ -97,6 +103,7 @@ not_memory (fault.Verify e) stage name t h = h
 not_memory (fault.Revocation e) stage name t h = h
 not_memory fault.Memory stage name t h = absurd t
 
+-- a report that prints the fault of a rejected path says what the program has to say
 pub path_wrong : {E : Type 0} (q : PathQuestion) (e : PathError) (r : Result Report E) → paths.UnlessMemory e.fault (IsNoGoodPath (question_context q) None q.anchor_octets (asked_below q)) → IsFault (question_context q) None q.anchor_octets (asked_below q) e
     → IfOk r (λ report. report.status ≡ status.Refused) → IfOk r (λ report. PrintsFault e (string_bytes report.text)) → IfOk r (λ report. SaysOfPath q (string_bytes report.text) report.status)
 path_wrong q e (Ok report) none is s prints =

@@ -27,6 +27,7 @@ word_no_space (o ∷ octets) word h = digits_no_space (o ∷ octets) word h
 no_dash : (o : ℕ) (octets word : List ℕ) → word ≡ codes "-" → AreHexDigits (o ∷ octets) word → ⊥
 no_dash o octets word e d = let h : AreHexDigits (o ∷ octets) (codes "-") = subst (λ (w : List ℕ). AreHexDigits (o ∷ octets) w) e d in elim h [ ]
 
+-- a word is the digits of one string
 pub one_value : (a b word : List ℕ) → IsHexWord a word → IsHexWord b word → a ≡ b
 one_value [] [] word p q = refl
 one_value [] (o ∷ b) word p q = absurd (no_dash o b word p q)
@@ -36,6 +37,7 @@ one_value (o ∷ a) (r ∷ b) word p q =
     let second = digits_read word (r ∷ b) q in
     cc
 
+-- the two words are those of this list and of these octets
 pub record SameWords (list octets lw sw : List ℕ) : Type 0 where
   pub list_is : IsHexWord list lw
   pub octets_are : IsHexWord octets sw
@@ -51,5 +53,6 @@ same_words line lw sw list serial e without h =
       octets_are = subst (λ (w : List ℕ). IsHexWord h.serial_octets w) second h.octets_are;
     }
 
+-- a line that isn't "revoked" and two words tells of no list
 pub no_words : (line : List ℕ) → ((lw sw : List ℕ) → IsWithout 32 lw → line ≡ revoked_line lw sw → ⊥) → (list : List ℕ) (serial : ℕ) → IsRevokedLine list serial line → ⊥
 no_words line none list serial h = none h.list_word h.serial_word (word_no_space list h.list_word h.list_is) h.is

@@ -13,6 +13,7 @@ use Rattle.rpki_path.specs.TextLines.{IsWithout}
 use Rattle.rpki_path.specs.InputLines.{revoked_line, IsOctetsLine}
 use Rattle.rpki_path.specs.HexWords.{IsHexWord}
 
+-- whether the octet is this one
 abbrev pub is : ℕ → ℕ → Bool
 is octet = λ other. other == octet
 
@@ -63,10 +64,12 @@ one_split octet (c ∷ a) (d ∷ b) x y p q e =
     let first : c ≡ d = cc in
     (cc (first, rest.0), rest.1)
 
+-- an octet that stands in a text isn't absent from it
 pub stands_in : (octet : ℕ) (a x : List ℕ) → IsWithout octet (a ++ octet ∷ x) → ⊥
 stands_in octet [] x w = w.0 refl
 stands_in octet (c ∷ a) x w = stands_in octet a x w.1
 
+-- what a None has may be weakened
 pub none_where : {X : Type 0} {P Q : Type 0} (o : Option X) → (P → Q) → IfNone o P → IfNone o Q
 none_where (Some x) f h = h
 none_where None f h = f h
@@ -77,10 +80,12 @@ one_word : IsWithout 32 (codes "revoked")
 one_word = let differ : (x : ℕ) → 32 < x → x ≢ 32 = λ x more e. omega arith in
     (differ 114 (omega arith), (differ 101 (omega arith), (differ 118 (omega arith), (differ 111 (omega arith), (differ 107 (omega arith), (differ 101 (omega arith), (differ 100 (omega arith), tt)))))))
 
+-- "revoked" is the first word of such a line, and its other words follow
 pub words_of : (line form words list serial : List ℕ) → IsWithout 32 form → line ≡ form ++ 32 ∷ words → line ≡ revoked_line list serial → (form ≡ codes "revoked") × (words ≡ list ++ 32 ∷ (serial ++ []))
 words_of line form words list serial without is e =
     one_split 32 form (codes "revoked") words (list ++ 32 ∷ (serial ++ [])) without one_word (sym is ∙ e)
 
+-- a word that compares different from revoked is another word
 pub other_form : (form : List ℕ) → true ≡ not (pointwise nat_eq form (codes "revoked")) → form ≡ codes "revoked" → ⊥
 other_form form differs same = false≢true (sym (differs ∙ rw same refl))
 
@@ -92,6 +97,7 @@ module _ {X : Type 0} (now : X → List ℕ) (beginning line : List ℕ) where
       MatchOption o (bytes_eq (take (length beginning) line) beginning ≡ false)
       (λ x. (bytes_eq (take (length beginning) line) beginning ≡ true) × (now x ≡ drop (length beginning) line) × (length (now x) + length beginning ≡ length line))
 
+  -- what is stripped off a line is its beginning
   pub stripped : (o : Option X) → Strips o → IfSome o (λ x. line ≡ beginning ++ now x)
   stripped None h = tt
   stripped (Some x) h =
@@ -102,6 +108,7 @@ module _ {X : Type 0} (now : X → List ℕ) (beginning line : List ℕ) where
   front_of [] b = refl
   front_of (x ∷ a) b = ap (λ (l : List ℕ). x ∷ l) (front_of a b)
 
+  -- a line that nothing is stripped off doesn't begin so
   pub not_stripped : (o : Option X) → Strips o → IfNone o ((rest : List ℕ) → line ≡ beginning ++ rest → ⊥)
   not_stripped (Some x) h = tt
   not_stripped None h = λ rest e.

@@ -15,6 +15,7 @@ Begins = BeginsOrAbsent SEQUENCE IsRevokedCertificates
 whole_begins : (octets : List ℕ) (r : Revoked) → IsRevokedCertificates r octets → Begins octets r []
 whole_begins octets r is = record { text = octets; spelled = is; parts = sym (append-nil octets); absent = λ none. rw none tt }
 
+-- an error where no list begins the octets is a true answer on the whole of them
 pub list_refused : (octets : List ℕ) (result : Result Revoked DecodeError) (d : DecodeError) → result ≡ Err d
     → Refuses d ((r : Revoked) (rest : List ℕ) → Begins octets r rest → ⊥) → MeansOrMemory IsRevokedCertificates result octets
 list_refused octets (Ok x) d e none = absurd cc
@@ -26,6 +27,7 @@ list_refused octets (Err f) d e none =
 abbrev pub IsOneList : Type 0
 IsOneList = (r s : Revoked) (b rest tail : List ℕ) → Begins b r rest → Begins b s tail → (r ≡ s) × (rest ≡ tail)
 
+-- an error where octets follow a list is a true answer on the whole of them
 pub list_left : (octets : List ℕ) (result : Result Revoked DecodeError) (r : Revoked) (rest : List ℕ) → IsOneList → IsErr result
     → Begins octets r rest → (rest ≡ [] → ⊥) → MeansOrMemory IsRevokedCertificates result octets
 list_left octets (Ok x) r rest one err begins some = absurd cc

@@ -9,6 +9,7 @@ use Rattle.rpki_path.specs.declared.validating.Leaf.TheVariants.{Ee, DetachedEe}
 
 -- ---- `revoked LIST SERIAL`
 
+-- the line of a list of revoked certificates and a serial number
 abbrev pub revoked_line : List ℕ → List ℕ → List ℕ
 revoked_line list serial = concat (codes "revoked " ∷ list ∷ codes " " ∷ serial ∷ [])
 

@@ -1,5 +1,6 @@
--- Good paths: what they are, and which numbers their members hold (RFC 6487 7.2, RFC 8360 4.2.4.4; own: revocation lists are asked where they
--- are given, and the chaining of names is the caller's to ask).
+-- Valid paths: what they are, and which numbers their members hold (RFC 6487 7.2, RFC 8360 4.2.4.4;
+-- own: revocation lists are asked where they are given, and the chaining of names is the caller's
+-- to ask).
 use Rattle.std.specs.Prelude.{◌≡◌, ◌≢◌, ◌↔◌, ◌⊎◌, ◌+◌, ◌-◌, ◌^◌, ◌<◌, ◌≤◌, ℕ, List, [], ◌∷◌, ◌++◌, length, map, slice_index_or, Option, Some, None, Result, Ok, Err}
 use Rattle.std.specs.List.{AllByRecursion, AllZip}
 use Rattle.rpki_der.specs.declared.error.DecodeError.TheVariants as decoding
@@ -49,17 +50,21 @@ certificate_at p i = slice_index_or (p.anchor ∷ map (λ m. m.cert) p.below) i 
 
 -- ---- what they hold
 
+-- which numbers are asked for: IPv4 addresses, IPv6 addresses or AS numbers
 pub data NumberKind : Type 0 where
   v4_addresses v6_addresses system_numbers : NumberKind
 
+-- the certificate's resources of this kind of numbers
 abbrev pub kind_resources : NumberKind → CertFields → Resources
 kind_resources v4_addresses c = c.fields.extensions.v4_resources
 kind_resources v6_addresses c = c.fields.extensions.v6_resources
 kind_resources system_numbers c = c.fields.extensions.as_resources
 
+-- the certificate lists the number itself
 abbrev pub Lists : CertFields → NumberKind → ℕ → Type 0
 Lists c k n = IsListed n (kind_resources k c)
 
+-- the certificate inherits its numbers of this kind
 abbrev pub Inherits : CertFields → NumberKind → Type 0
 Inherits c k = kind_resources k c ≡ inherit
 
@@ -76,23 +81,25 @@ pub record Holds (p : Path) (i : ℕ) (k : NumberKind) (n : ℕ) : Type 0 where
 abbrev pub HeldAt : Path → ℕ → Held
 HeldAt p i = record { v4 = Holds p i v4_addresses; v6 = Holds p i v6_addresses; as_numbers = Holds p i system_numbers }
 
--- ---- good paths
+-- ---- valid paths
 
--- the lines of a certificate that the member at place i issued
+-- the checks of a certificate that the member at place i issued
 abbrev pub LineBelow : Context → Path → ℕ → CertFields → VerificationError → Type 0
 LineBelow x p i c = Line x (certificate_at p i).fields (HeldAt p i) c
 
--- where lists are given, the lines that they are asked for a certificate below this issuer
+-- where lists are given, the checks that they are asked for a certificate below this issuer
 abbrev pub AskedLine : Context → Option (List Stored) → TbsFields → CertFields → RevocationError → Type 0
 AskedLine x None issuer c e = Unit {0}
 AskedLine x (Some lists) issuer c e = CertRevocationLine x lists issuer c e
 
--- the same below the member at place i
+-- where lists are given, the checks that they are asked for a certificate below the member at place
+-- i
 abbrev pub AskedBelow : Context → Option (List Stored) → Path → ℕ → CertFields → RevocationError → Type 0
 AskedBelow x lists p i c = AskedLine x lists (certificate_at p i).fields c
 
--- every member meets the profile of its kind, the anchor's lines are true of itself, and those of each later member under the one above it;
--- where lists are given, none of the later members is revoked
+-- every member meets the profile of its kind, the trust anchor's checks are true of itself, and
+-- those of each later member under the one above it; where lists are given, none of the later
+-- members is revoked
 pub record IsGoodPath (x : Context) (lists : Option (List Stored)) (p : Path) : Type 0 where
   pub anchor_meets : MeetsProfile Anchor x.strict p.anchor
   pub members_meet : AllByRecursion (λ m. MeetsProfile m.kind x.strict m.cert) p.below
@@ -107,9 +114,11 @@ pub record Asked : Type 0 where
   pub kind : Kind
   pub octets : List ℕ
 
+-- the string of a member of this kind
 abbrev pub ask : Kind → List ℕ → Asked
 ask kind octets = record { kind = kind; octets = octets }
 
+-- the string of the leaf, if there is one
 abbrev pub ask_leaf : Option Leaf → List Asked
 ask_leaf None = []
 ask_leaf (Some (Ee octets)) = ask EndEntity octets ∷ []
@@ -119,7 +128,8 @@ ask_leaf (Some (DetachedEe octets)) = ask Detached octets ∷ []
 abbrev pub asked : List (List ℕ) → Option Leaf → List Asked
 asked authorities leaf = map (ask Authority) authorities ++ ask_leaf leaf
 
--- the string begins with the member, which is of the kind that is asked for; what follows it is ignored
+-- the string begins with the member, which is of the kind that is asked for; what follows it is
+-- ignored
 pub record IsMember (m : Member) (s : Asked) : Type 0 where
   pub kind_is : m.kind ≡ s.kind
   pub begins : Means IsCertificate m.cert s.octets
@@ -139,7 +149,7 @@ pub record HasHeld (p : Path) (tal : List ℕ) (r : ResourceFields) : Type 0 whe
   pub as_is : (n : ℕ) → Has r.as_numbers n ↔ Holds p (last p) system_numbers n
   pub tal_is : r.tal ≡ tal
 
--- the strings are a good path, and the result is what its last member holds
+-- the strings are a valid path, and the result is what its last member holds
 pub record IsAccepted (x : Context) (lists : Option (List Stored)) (anchor : List ℕ) (below : List Asked) (tal : List ℕ) (r : ResourceFields) : Type 0 where
   pub path : Path
   pub path_of : IsPathOf anchor below path
@@ -150,17 +160,19 @@ pub record IsAccepted (x : Context) (lists : Option (List Stored)) (anchor : Lis
 abbrev pub IsNoGoodPath : Context → Option (List Stored) → List ℕ → List Asked → Type 0
 IsNoGoodPath x lists anchor below = (p : Path) → IsPathOf anchor below p → IsGoodPath x lists p → ⊥
 
--- what want of memory may stand in place of
+-- what `out of memory` may stand in place of
 abbrev pub UnlessMemory : PathFault → Type 0 → Type 0
 UnlessMemory Memory P = Unit {0}
 UnlessMemory _ P = P
 
--- Ok exactly where the strings are a good path, with what its last member holds; want of memory aside
+-- Ok exactly where the strings are a valid path, with what its last member holds, unless it runs
+-- out of memory
 abbrev pub Validates : Context → Option (List Stored) → List ℕ → List Asked → List ℕ → Result ResourceFields PathError → Type 0
 Validates x lists anchor below tal (Ok r) = IsAccepted x lists anchor below tal r
 Validates x lists anchor below tal (Err e) = UnlessMemory e.fault (IsNoGoodPath x lists anchor below)
 
--- what is asked of a certificate: its kind, with the profile, the lines that are verified, and then those of revocation lists
+-- what is asked of a certificate: its kind, with the profile, the checks that are verified, and
+-- then those of revocation lists
 pub record Demand : Type 1 where
   pub kind : Kind
   pub line : CertFields → VerificationError → Type 0
@@ -180,7 +192,8 @@ abbrev pub BeginsInvalid : Context → Demand → List ℕ → ValidationError �
 BeginsInvalid x d octets e =
     (c : CertFields) × Means IsCertificate c octets × IsInvalid d.kind x.strict c (IsFirstFalse (d.line c) d.lines) e
 
--- the string begins with a certificate, which is valid, and this is the first of its lines of revocation lists that isn't true
+-- the string begins with a certificate, which is valid, and this is the first of its checks of
+-- revocation lists that isn't true
 pub record BeginsRevoked (x : Context) (d : Demand) (octets : List ℕ) (e : RevocationError) : Type 0 where
   pub cert : CertFields
   pub begins : Means IsCertificate cert octets
@@ -201,7 +214,7 @@ pub record IsFaultOfAnchor (x : Context) (anchor : List ℕ) (e : PathError) : T
   pub index_is : e.index ≡ 0
   pub fault_is : Finds x (anchor_demand x) anchor e.fault
 
--- the members before the index are a good path, and the error is one of the string there
+-- the members before the index are a valid path, and the error is one of the string there
 pub record IsFaultBelow (x : Context) (lists : Option (List Stored)) (anchor : List ℕ) (below : List Asked) (e : PathError) : Type 0 where
   pub before : List Asked
   pub there : Asked
@@ -213,6 +226,7 @@ pub record IsFaultBelow (x : Context) (lists : Option (List Stored)) (anchor : L
   pub index_is : e.index ≡ length before + 1
   pub fault_is : Finds x (demand_below x lists path (last path) there.kind) there.octets e.fault
 
+-- the error says what is wrong of the string at its index
 abbrev pub IsFault : Context → Option (List Stored) → List ℕ → List Asked → PathError → Type 0
 IsFault x lists anchor below e = IsFaultOfAnchor x anchor e ⊎ IsFaultBelow x lists anchor below e
 
@@ -223,13 +237,15 @@ IsUnasked _ = Unit {0}
 
 -- ---- more numbers
 
+-- the greatest number of this kind
 abbrev pub greatest_number : NumberKind → ℕ
 greatest_number v4_addresses = 2 ^ 128 - 1
 greatest_number v6_addresses = 2 ^ 128 - 1
 greatest_number system_numbers = 2 ^ 32 - 1
 
--- of two paths of one length the anchor of the second lists what that of the first lists, and each later member of the second lists or
--- inherits what the one of the first at its place lists or inherits
+-- of two paths of one length the anchor of the second lists what that of the first lists, and each
+-- later member of the second lists or inherits what the one of the first at its place lists or
+-- inherits
 pub record PassesMore (p q : Path) : Type 0 where
   pub same_length : last p ≡ last q
   pub anchor_lists : (k : NumberKind) (n : ℕ) → n ≤ greatest_number k → Lists p.anchor k n → Lists q.anchor k n

@@ -27,7 +27,8 @@ ranges end_of (b ∷ bs) = map (range end_of) (b ∷ bs)
 abbrev pub worded : List ℕ → List (List ℕ) → List ℕ
 worded name words = name ++ concat (map (λ word. space ∷ word) words)
 
--- the line has the numbers that are held, in ranges that ascend, with a number that isn't held between any two
+-- the line has the numbers that are held, in ranges that ascend, with a number that isn't held
+-- between any two
 pub record IsSetLine (name : List ℕ) (end_of : ℕ → List ℕ) (held : ℕ → Type 0) (line : List ℕ) : Type 0 where
   pub blocks : List Block
   pub sorted : IsChain blocks

@@ -21,7 +21,7 @@ use Rattle.rpki_path.specs.TextLines.{line_end, AreLines}
 
 -- ---- the input
 
--- whether the strings of an anchor, of authorities below it and of a leaf are a good path
+-- whether the strings of an anchor, of authorities below it and of a leaf are a valid path
 pub record PathQuestion : Type 0 where
   pub now : Moment
   pub strict : Bool
@@ -29,11 +29,13 @@ pub record PathQuestion : Type 0 where
   pub authorities : List (List ℕ)
   pub leaf : Option Leaf
 
--- the two forms: whether a list of revoked certificates has a serial number, and whether strings are a good path
+-- the two forms: whether a list of revoked certificates has a serial number, and whether strings
+-- are a valid path
 pub data Question : Type 0 where
   is_revoked : List ℕ → ℕ → Question
   is_good_path : PathQuestion → Question
 
+-- what the line of the leaf tells, if there is one
 abbrev pub leaf_lines : Option Leaf → List InputLine
 leaf_lines None = []
 leaf_lines (Some leaf) = end_entity leaf ∷ []
@@ -56,7 +58,8 @@ AreInput lines = (q : Question) × Ask q lines
 abbrev pub BeginInput : List (List ℕ) → Type 0
 BeginInput lines = (more : List (List ℕ)) × AreInput (lines ++ more)
 
--- these lines, followed by the others, fit no more: they are the last, and no input, or with the next they begin none
+-- these lines, followed by the others, fit no more: they are the last, and no input, or with the
+-- next they begin none
 abbrev pub FitNoMore : List (List ℕ) → List (List ℕ) → Type 0
 FitNoMore lines [] = AreInput lines → ⊥
 FitNoMore lines (next ∷ others) = BeginInput (lines ++ next ∷ []) → ⊥
@@ -72,6 +75,7 @@ pub record IsBadLine (number : ℕ) (lines : List (List ℕ)) : Type 0 where
 
 -- ---- the output
 
+-- the names of the errors of reading
 abbrev pub decode_faults : List (List ℕ)
 decode_faults =
     codes "Truncated" ∷ codes "BadLength" ∷ codes "BadTag" ∷ codes "BadValue" ∷ codes "Trailing" ∷ codes "TooDeep"
@@ -107,7 +111,8 @@ pub record PrintsHeld (p : Path) (output : List ℕ) : Type 0 where
   pub as_is : IsSetLine (codes "as") decimal (Holds p (paths.last p) system_numbers) as_line
   pub is : output ≡ stand_in ++ concat (printed (codes "accepted" ∷ []) ∷ printed (v4_line ∷ []) ∷ printed (v6_line ∷ []) ∷ printed (as_line ∷ []) ∷ [])
 
--- where a fault was met, and its name; which of its faults a reader names is free, and no lists are asked
+-- where a fault was met, and its name; which of its faults a reader names is free, and no lists are
+-- asked
 abbrev pub IsToldBy : PathFault → List ℕ → List ℕ → Type 0
 IsToldBy (Decode e) stage name = (stage ≡ codes "decode") × Contains decode_faults name
 IsToldBy (Inspect e) stage name = (stage ≡ codes "inspect") × (name ≡ inspection_error_name e)
@@ -130,7 +135,8 @@ asked_below q = asked q.authorities q.leaf
 abbrev pub question_context : PathQuestion → Context
 question_context q = context IsStandInSignature q.now q.strict
 
--- that the strings are a good path, and what its last member holds; or that they are none, and the first fault
+-- that the strings are a valid path, and what its last member holds; or that they are none, and the
+-- first fault
 abbrev pub SaysOfPath : PathQuestion → List ℕ → Status → Type 0
 SaysOfPath q output Done =
     (p : Path) × IsPathOf q.anchor_octets (asked_below q) p × IsGoodPath (question_context q) None p × PrintsHeld p output

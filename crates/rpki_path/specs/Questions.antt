@@ -22,9 +22,11 @@ abbrev pub member_line : Member → InputLine
 member_line (Authority octets) = authority octets
 member_line (Last leaf) = end_entity leaf
 
+-- what the lines of this question ask
 abbrev pub revoked_question : RevokedQuestion → Question
 revoked_question q = is_revoked q.list q.serial
 
+-- what the lines of this question ask
 abbrev pub path_question : PathQuestion → program.PathQuestion
 path_question q = record { now = q.now; strict = q.strict; anchor_octets = q.anchor; authorities = q.cas.items; leaf = q.leaf }
 

@@ -6,6 +6,7 @@ use Rattle.rpki_cert.specs.Verification.{ResourceFields}
 use Rattle.rpki_path.specs.PrintedSets.{v4_end, v6_end, ranges, worded}
 use Rattle.rpki_path.specs.Program.{printed, stand_in}
 
+-- the text that is printed of a valid path whose last member holds these resources
 abbrev pub accepted_text : ResourceFields → List ℕ
 accepted_text r =
     stand_in ++ concat (printed (codes "accepted" ∷ []) ∷ printed (worded (codes "v4") (ranges v4_end r.v4) ∷ [])

@@ -16,9 +16,11 @@ use Rattle.rpki_rsa.specs.RsaKeys.{IsRpkiSize, IsRpkiRsaKey, IsRpkiKey}
 use Rattle.rpki_rsa.specs.Moduli.{IsOnlyModulus}
 use Rattle.rpki_rsa.proofs.OctetNumbers.{length-i2osp, os2ip-i2osp, i2osp-os2ip, i2osp-wider, os2ip-below, os2ip-digits, pow-256, first-high, first-low, last-parity}
 
+-- the octets of a key of the RPKI before its modulus
 abbrev pub head : List ℕ
 head = 0x30 ∷ 0x82 ∷ 0x01 ∷ 0x0a ∷ 0x02 ∷ 0x82 ∷ 0x01 ∷ 0x01 ∷ 0x00 ∷ []
 
+-- the octets of a key of the RPKI behind its modulus
 abbrev pub tail : List ℕ
 tail = 0x02 ∷ 0x03 ∷ 0x01 ∷ 0x00 ∷ 0x01 ∷ []
 
@@ -145,6 +147,7 @@ key-octets bits o n e b k =
 size-number : (n e : ℕ) → IsRpkiSize n e → os2ip (i2osp n 256) ≡ n
 size-number n e t = os2ip-i2osp n 256 ∙ mod-eq_of_lt t.high
 
+-- the modulus of a key in this frame is the number of its octets
 pub key-modulus : (bits o : List ℕ) (n e : ℕ) → bits ≡ head ++ (o ++ tail) → IsRpkiRsaKey n e bits → n ≡ os2ip o
 key-modulus bits o n e b k =
     sym (size-number n e k.size) ∙ sym (ap os2ip (key-octets bits o n e b k))
@@ -153,12 +156,14 @@ key-modulus bits o n e b k =
 pub key-long : (bits o : List ℕ) (n e : ℕ) → bits ≡ head ++ (o ++ tail) → IsRpkiRsaKey n e bits → length o ≡ 256
 key-long bits o n e b k = ap length (key-octets bits o n e b k) ∙ length-i2osp n 256
 
+-- a modulus whose top bit is 0 is none of a key of the RPKI
 pub key-high : (bits o : List ℕ) (n e : ℕ) → bits ≡ head ++ (o ++ tail) → AreOctets o → length o ≡ 256 → get_or o 0 0 < 128 → IsRpkiRsaKey n e bits → ⊥
 key-high bits o n e b a l h k =
     let below : os2ip o < 2 ^ 2047 = first-low o 255 a l h in
     let low : 2 ^ 2047 ≤ os2ip o = rw (← key-modulus bits o n e b k) k.size.low in
     lt_irrefl (os2ip o) (le_trans below low)
 
+-- an even modulus is none of a key of the RPKI
 pub key-odd : (bits o : List ℕ) (n e : ℕ) → bits ≡ head ++ (o ++ tail) → length o ≡ 256 → get_or o 255 0 % 2 ≡ 0 → IsRpkiRsaKey n e bits → ⊥
 key-odd bits o n e b l h k =
     let one : os2ip o % 2 ≡ 1 = rw (← key-modulus bits o n e b k) k.size.odd in

@@ -3,7 +3,8 @@ use Rattle.std.specs.Prelude.{◌≡◌, ℕ, ◌%◌, ◌^◌, ◌<◌, ◌≤�
 use Rattle.rpki_der.specs.Primitives.{IsNumber}
 use Rattle.rpki_der.specs.Values.{IsSequence}
 
--- RSAPublicKey ::= SEQUENCE { modulus INTEGER, publicExponent INTEGER }, in DER
+-- RSAPublicKey ::= SEQUENCE {
+--   modulus INTEGER, publicExponent INTEGER }   (RFC 8017 A.1.1)
 pub record IsRsaPublicKey (n e : ℕ) (bits : List ℕ) : Type 0 where
   pub modulus : List ℕ
   pub exponent : List ℕ

@@ -29,9 +29,11 @@ merged (b ∷ bs) = if nat_lt b.max b.min then merged bs else added b (merged bs
 abbrev pub union_of : (List ℕ → Option (Block × List ℕ)) → List ℕ → Option Resources
 union_of element c = row_of element c >>= λ bs. Some (listed (merged bs))
 
+-- reads inherit NULL
 abbrev pub inherit_at : List ℕ → Option (Resources × List ℕ)
 inherit_at = turned (λ _. Some inherit) null_at
 
+-- reads an IPAddressChoice or an ASIdentifierChoice with these elements
 unfoldable pub choice_at : (List ℕ → Option (Block × List ℕ)) → List ℕ → Option (Resources × List ℕ)
 choice_at element = content_or SEQUENCE (union_of element) inherit_at
 

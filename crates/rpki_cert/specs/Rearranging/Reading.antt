@@ -10,6 +10,7 @@ abbrev pub with_front : {X : Type 0} → X → Option (List X × X) → List X �
 with_front x None = ([], x)
 with_front x (Some (front, last)) = (x ∷ front, last)
 
+-- a list without its last element, and this element; nothing of an empty list
 abbrev pub split_last : {X : Type 0} → List X → Option (List X × X)
 split_last [] = None
 split_last (x ∷ xs) = Some (with_front x (split_last xs))

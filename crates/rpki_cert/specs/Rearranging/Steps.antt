@@ -13,7 +13,8 @@ abbrev pub HasLong : List Extra → Type 0
 HasLong [] = ⊥
 HasLong (x ∷ extras) = (2 ^ 32 ≤ length (written x)) ⊎ HasLong extras
 
--- the octets of each place, before the old extension that the order names there; at the end those of the place behind the last
+-- the octets of each place, before the old extension that the order names there; at the end those
+-- of the place behind the last
 abbrev pub joined : List ℕ → List (List ℕ) → List (List ℕ) → List ℕ
 joined order [] old = []
 joined [] (added ∷ places) old = added

@@ -16,6 +16,7 @@ ListSights = Unit {0} × Sights list_kinds_with_any_flag
 abbrev pub list_fold : Fold Extension ListSights
 list_fold = beside (each_fold (is_of (identifiers_of list_kinds_with_any_flag))) (table_fold list_kinds_with_any_flag)
 
+-- the fields of a key identifier and a CRL number
 abbrev pub list_extensions : List ℕ → ℕ → ListExtensions
 list_extensions identifier number = record { authority_key_identifier = identifier; crl_number = number }
 
@@ -26,5 +27,6 @@ both_seen (_, (identifier, (number, _))) = do
   n ← number
   Some (list_extensions i n)
 
+-- reads the extensions of a revocation list as the fields that they give
 unfoldable pub list_extensions_of : List ℕ → Option ListExtensions
 list_extensions_of octets = over extension_at list_fold.step list_fold.start octets >>= both_seen

@@ -18,8 +18,10 @@ NamesListKind id (Some AuthorityKeyIdentifier) = id ≡ authority_key_identifier
 NamesListKind id (Some CrlNumber) = id ≡ crl_number.identifier
 NamesListKind id None = AllByRecursion (λ a. bytes_eq id a ≡ false) (identifiers_of list_kinds)
 
+-- what was seen of each kind, as the table has it
 abbrev pub sights_of : Seen → ListSights
 sights_of s = (tt, (s.authority_key_identifier, (s.crl_number, tt)))
 
+-- the fields that the code keeps of a list's extensions
 abbrev pub extensions_view : Extensions → ListExtensions
 extensions_view x = list_extensions x.authority_key_identifier x.crl_number

@@ -3,5 +3,6 @@ use Rattle.rpki_der.specs.Place.{Place, left}
 use Rattle.rpki_crl.specs.Lists.Reading.{ListParts}
 use Rattle.rpki_crl.specs.declared.tbs.Head.{Head}
 
+-- the fields before the extensions, and the octets of the extensions
 abbrev pub parts_view : Head × Place → ListParts
 parts_view (h, row) = (tt, (h.signature, (h.issuer, (h.this_update, (h.next_update, (h.revoked_certs, left row))))))

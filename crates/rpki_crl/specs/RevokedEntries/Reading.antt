@@ -11,12 +11,15 @@ use Rattle.rpki_der.specs.Tags.{SEQUENCE}
 use Rattle.rpki_der.specs.Times.{Moment}
 use Rattle.rpki_crl.specs.RevokedEntries.{Entry, Revoked}
 
+-- the entry of a serial number and a date
 abbrev pub entry_from : ℕ × Moment → Entry
 entry_from parts = record { serial = parts.0; date = parts.1 }
 
+-- reads the content of an entry
 unfoldable pub entry_content_at : List ℕ → Option (Entry × List ℕ)
 entry_content_at = mapped entry_from (both serial_at time_at)
 
+-- reads an entry
 unfoldable pub entry_at : List ℕ → Option (Entry × List ℕ)
 entry_at = inside SEQUENCE entry_content_at
 
@@ -25,6 +28,7 @@ abbrev pub or_none : Option (List Entry) → List Entry
 or_none (Some entries) = entries
 or_none None = []
 
+-- the entries of a row; none where the octets are no row of entries
 abbrev pub entries_in : List ℕ → List Entry
 entries_in octets = or_none (row_of entry_at octets)
 
@@ -32,6 +36,7 @@ entries_in octets = or_none (row_of entry_at octets)
 unfoldable pub entries_pass : List ℕ → Option (Unit {0})
 entries_pass = over entry_at pass tt
 
+-- no entries and no octets
 abbrev pub no_entries : Revoked
 no_entries = record { entries = []; octets = [] }
 
@@ -39,6 +44,7 @@ no_entries = record { entries = []; octets = [] }
 unfoldable pub revoked_of : List ℕ → Option Revoked
 revoked_of content = entries_pass content >>= λ row. Some (record { entries = entries_in content; octets = content })
 
+-- the entries that are read, or none where revokedCertificates is absent
 abbrev pub or_no_entries : Option Revoked → Revoked
 or_no_entries (Some revoked) = revoked
 or_no_entries None = no_entries

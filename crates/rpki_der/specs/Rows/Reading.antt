@@ -15,6 +15,6 @@ row_at read (suc n) (b ∷ bytes) = do
 unfoldable pub row_of : {V : Type 0} → (List ℕ → Option (V × List ℕ)) → List ℕ → Option (List V)
 row_of read octets = row_at read (length octets) octets
 
--- what is left after a value is less
+-- what remains after a value is less
 abbrev pub Shrinks : {V : Type 0} → (List ℕ → Option (V × List ℕ)) → Type 0
 Shrinks {V} read = (octets : List ℕ) (v : V) (rest : List ℕ) → read octets ≡ Some (v, rest) → length rest < length octets

@@ -17,6 +17,7 @@ captured_at bytes = do
   v ← any_at bytes
   Some (take (length bytes - length v.1) bytes, v.1)
 
+-- whether the identifier octet is one of a primitive value
 abbrev pub is_primitive : ℕ → Bool
 is_primitive tag = nat_eq ((tag / 32) % 2) 0
 
@@ -29,6 +30,7 @@ skip_within (suc depth) bytes = do
   v ← any_at bytes
   if is_primitive v.0.0 then Some (tt, v.1) else (row_of (skip_within depth) v.0.1 >>= λ row. Some (tt, v.1))
 
+-- skips a value
 unfoldable pub skip_at : List ℕ → Option (Unit {0} × List ℕ)
 skip_at = skip_within levels
 
@@ -36,5 +38,6 @@ skip_at = skip_within levels
 abbrev pub skip_row_within : ℕ → List ℕ → Option (Unit {0})
 skip_row_within depth bytes = row_of (skip_within depth) bytes >>= λ row. Some tt
 
+-- skips values to the end of the octets
 unfoldable pub skip_all_of : List ℕ → Option (Unit {0})
 skip_all_of = skip_row_within levels

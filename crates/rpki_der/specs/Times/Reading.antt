@@ -13,6 +13,7 @@ is_moment m =
     && (nat_le 1 m.day && nat_le m.day (days_in_month m.year m.month))
     && (nat_lt m.hour 24 && (nat_lt m.minute 60 && nat_lt m.second 60))
 
+-- whether the octet is a decimal digit
 abbrev pub is_digit : ℕ → Bool
 is_digit n = nat_le 48 n && nat_le n 57
 
@@ -22,7 +23,7 @@ two_at [] = None
 two_at (a ∷ []) = None
 two_at (a ∷ b ∷ text) = if is_digit a && is_digit b then Some ((a - 48) * 10 + (b - 48), text) else None
 
--- the moment, where it exists and this alone is left of the text
+-- the moment, where it exists and this alone remains of the text
 abbrev pub existing : List ℕ → List ℕ → Moment → Option Moment
 existing end text m = if bytes_eq text end && is_moment m then Some m else None
 
@@ -53,5 +54,6 @@ moment_at end text = do
 abbrev pub generalized_of : List ℕ → Option Moment
 generalized_of = moment_at (90 ∷ [])
 
+-- reads a Time
 unfoldable pub time_at : List ℕ → Option (Moment × List ℕ)
 time_at = choice UTC_TIME (content UTC_TIME utc_of) (content GENERALIZED_TIME generalized_of)

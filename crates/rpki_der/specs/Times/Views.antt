@@ -22,20 +22,26 @@ pub record IsWhole (t : DateTime) : Type 0 where
   pub year : pos 0 ≤ℤ t.date.year
   pub second : t.time.subsec_nanosecond ≡ 0
 
--- ---- the date and the time that show a moment; a part that none has is moved to the nearest that one has
+-- ---- the date and the time that show a moment; a part that none has is moved to the nearest that
+-- one has
 
+-- the number from 1 to the greatest that is nearest
 abbrev pub within : ℕ → ℕ → ℕ
 within high n = max 1 (min n high)
 
+-- such a year is one that dates have
 pub year_in : (n : ℕ) → IsYear (pos (min n 9999))
 year_in n = (omega (arith, signed_arith), omega (arith, signed_arith))
 
+-- the nearest number is in range
 pub within_is : (high n : ℕ) → 1 ≤ high → IsInRange 1 high (within high n)
 within_is high n some = (omega arith, omega arith)
 
+-- each month has a day
 pub month_has_days : (y : ℤ) (m : ℕ) → 1 ≤ days_in_month y m
 month_has_days y m = omega (arith, days_in_month_bounds y m)
 
+-- the date that shows a moment's date
 abbrev pub date_of : Moment → Date
 date_of m = record {
   year = pos (min m.year 9999);
@@ -46,12 +52,15 @@ date_of m = record {
   day_in = within_is (days_in_month (pos (min m.year 9999)) (within 12 m.month)) m.day (month_has_days (pos (min m.year 9999)) (within 12 m.month));
 }
 
+-- the smaller number is at most the greatest
 pub below_is : (high n : ℕ) → min n high < high + 1
 below_is high n = omega arith
 
+-- no fraction of a second is one that times have
 pub no_fraction : 0 < 1_000_000_000
 no_fraction = omega arith
 
+-- the time of day that shows a moment's time
 abbrev pub clock_of : Moment → Clock
 clock_of m = record {
   hour = min m.hour 23;
@@ -64,6 +73,7 @@ clock_of m = record {
   subsec_in = no_fraction;
 }
 
+-- the date and time that show a moment
 abbrev pub datetime_of : Moment → DateTime
 datetime_of m = record { date = date_of m; time = clock_of m }
 
@@ -113,5 +123,6 @@ clock_is t h =
     let second : min c.second 59 ≡ c.second = omega (arith, c.second_in) in
     same_clock (clock_of (moment_of t)) c hour minute second (sym h)
 
+-- a date and time of whole seconds, from the year 0 on, is the one that shows its moment
 pub datetime_is : (t : DateTime) → IsWhole t → datetime_of (moment_of t) ≡ t
 datetime_is t h = λ i. record { date = date_is t h.year i; time = clock_is t h.second i }

@@ -10,21 +10,25 @@ None >>= f = None
 abbrev pub at_least : ℕ → ℕ → List ℕ → Option (ℕ × List ℕ)
 at_least least n rest = if nat_lt n least then None else Some (n, rest)
 
+-- a length in one octet behind 81, at least 80
 abbrev pub long1 : List ℕ → Option (ℕ × List ℕ)
 long1 (a ∷ rest) = at_least 0x80 a rest
 long1 [] = None
 
+-- a length in two octets behind 82, at least 100
 abbrev pub long2 : List ℕ → Option (ℕ × List ℕ)
 long2 (a ∷ b ∷ rest) = at_least 0x100 (a * 0x100 + b) rest
 long2 (a ∷ []) = None
 long2 [] = None
 
+-- a length in three octets behind 83, at least 10000
 abbrev pub long3 : List ℕ → Option (ℕ × List ℕ)
 long3 (a ∷ b ∷ c ∷ rest) = at_least 0x10000 (a * 0x10000 + b * 0x100 + c) rest
 long3 (a ∷ b ∷ []) = None
 long3 (a ∷ []) = None
 long3 [] = None
 
+-- a length in four octets behind 84, at least 1000000
 abbrev pub long4 : List ℕ → Option (ℕ × List ℕ)
 long4 (a ∷ b ∷ c ∷ d ∷ rest) = at_least 0x1000000 (a * 0x1000000 + b * 0x10000 + c * 0x100 + d) rest
 long4 (a ∷ b ∷ c ∷ []) = None

@@ -1,5 +1,5 @@
--- How the extensions of a certificate are read: the kind that an identifier names, what was seen of each kind, and the fields that
--- this gives.
+-- How the extensions of a certificate are read: the kind that an identifier names, what was seen of
+-- each kind, and the fields that this gives.
 use Rattle.std.specs.Prelude.{unwrap_or, Bool, ◌||◌, not, true, false, if◌then◌else◌, Option, Some, None, is_some, ℕ, List, ◌≡◌, bytes_eq}
 use Rattle.std.specs.List.{AllByRecursion}
 use Rattle.rpki_der.specs.Extensions.{Extension}
@@ -33,6 +33,7 @@ pub record Heading : Type 0 where
 abbrev heading : {V : Type 0} → ExtensionKind V → Heading
 heading kind = record { identifier = kind.identifier; flag = kind.flag }
 
+-- what the kind has, whatever its values
 abbrev pub heading_of : Named → Heading
 heading_of BasicConstraints = heading basic_constraints
 heading_of SubjectKeyIdentifier = heading subject_key_identifier
@@ -55,6 +56,7 @@ Names id None = AllByRecursion (λ a. bytes_eq id a ≡ false) known
 abbrev pub wanted : Named → Option Bool
 wanted kind = tested (heading_of kind).flag
 
+-- the flag is the one that is wanted, where it is tested
 abbrev pub HasFlag : Option Bool → Bool → Type 0
 HasFlag None critical = Unit {0}
 HasFlag (Some wanted) critical = critical ≡ wanted
@@ -87,6 +89,7 @@ State = Unit {0} × Sights certificate_kinds
 abbrev pub all_kinds : Fold Extension State
 all_kinds = beside (each_fold may_stand) (table_fold certificate_kinds)
 
+-- what was seen so far, as the walk has it
 abbrev pub state_of : Seen → State
 state_of s = (tt, (s.basic_ca, (s.subject_key_identifier, (s.authority_key_identifier, (s.key_usage, (s.extended_key_usage, (s.crl_uri, (s.ca_issuer, (s.access, (s.overclaim, (ip_of s.ip_resources, (s.as_resources, tt))))))))))))
 
@@ -106,6 +109,7 @@ is_seen s (AsResources mode) = is_some s.as_resources
 
 -- ---- what that gives
 
+-- whether two modes are equal
 abbrev pub same_mode : Overclaim → Overclaim → Bool
 same_mode Refuse Refuse = true
 same_mode Refuse Trim = false
@@ -124,6 +128,7 @@ pub record ListedFields : Type 0 where
   pub v6_resources : Resources
   pub as_resources : Resources
 
+-- the resources of a certificate under this mode
 abbrev pub listed_under : Overclaim → Option Ip → Option Resources → ListedFields
 listed_under mode ip numbers = record {
   overclaim = mode;
@@ -167,5 +172,6 @@ completed (_, (basic_ca, (subject, (authority, (usage, (purposes, (crl_uri, (ca_
     as_resources = l.as_resources;
   })
 
+-- reads the extensions of a certificate as the fields that they give
 unfoldable pub extensions_of : List ℕ → Option ExtensionFields
 extensions_of octets = over extension_at all_kinds.step all_kinds.start octets >>= completed

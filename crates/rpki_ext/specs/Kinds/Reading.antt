@@ -13,6 +13,7 @@ use Rattle.rpki_ext.specs.Kinds.{Flag, ExtensionKind, is_of, identifiers, Tells,
 abbrev pub front : {V : Type 0} → (List ℕ → Option (V × List ℕ)) → List ℕ → Option V
 front read content = read content >>= λ v. Some v.0
 
+-- the value, where the flag is one that the kind may have
 abbrev pub if_flagged : {V : Type 0} → Flag → Bool → Option V → Option V
 if_flagged (required true) critical v = if critical then v else None
 if_flagged (required false) critical v = if critical then None else v
@@ -32,6 +33,7 @@ kind_fold kind = once_fold (is_of (identifiers kind)) (told kind) (Tells kind)
 abbrev pub mode_by : {V : Type 0} → (Overclaim → ExtensionKind V) → List ℕ → Option Overclaim
 mode_by kinds id = if bytes_eq id (kinds Refuse).identifier then Some Refuse else if bytes_eq id (kinds Trim).identifier then Some Trim else None
 
+-- the mode that the identifier shows, and the value that the extension tells
 abbrev pub told_with_mode : {V : Type 0} → (Overclaim → ExtensionKind V) → Extension → Option (Overclaim × V)
 told_with_mode kinds x = mode_by kinds x.identifier >>= λ mode. told (kinds mode) x >>= λ v. Some (mode, v)
 

@@ -10,8 +10,10 @@ use Rattle.rpki_parts.specs.Algorithms.{Algorithm, sha256_with_rsa}
 abbrev pub null_or_none : List ℕ → Option (Bool × List ℕ)
 null_or_none = mapped is_some (optional NULL null_at)
 
+-- the algorithm, with or without NULL as its parameters
 abbrev pub algorithm_with : Bool → Algorithm
 algorithm_with has_null = record { has_null = has_null }
 
+-- reads a signature's AlgorithmIdentifier
 unfoldable pub algorithm_at : List ℕ → Option (Algorithm × List ℕ)
 algorithm_at = mapped algorithm_with (inside SEQUENCE (followed oid_at (λ id. given (bytes_eq id sha256_with_rsa) null_or_none)))

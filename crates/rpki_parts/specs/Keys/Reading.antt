@@ -9,18 +9,23 @@ use Rattle.rpki_parts.specs.Keys.{KeyFields, rsa_encryption, id_ec_public_key, p
 use Rattle.rpki_parts.specs.declared.key.PublicKeyFormat.{PublicKeyFormat}
 use Rattle.rpki_parts.specs.declared.key.PublicKeyFormat.TheVariants.{Rsa, EcdsaP256}
 
+-- the octets, where they are 20
 abbrev pub twenty : List ℕ → Option (List ℕ)
 twenty c = if nat_eq (length c) 20 then Some c else None
 
+-- reads a KeyIdentifier of 20 octets
 unfoldable pub key_identifier_at : List ℕ → Option (List ℕ × List ℕ)
 key_identifier_at = content OCTET_STRING twenty
 
+-- reads the namedCurve P-256
 abbrev pub curve_at : List ℕ → Option (PublicKeyFormat × List ℕ)
 curve_at = followed oid_at (λ id. given (bytes_eq id prime256v1) (always EcdsaP256))
 
+-- reads the parameters behind a key's algorithm
 abbrev pub parameters_at : List ℕ → List ℕ → Option (PublicKeyFormat × List ℕ)
 parameters_at id = choose (bytes_eq id rsa_encryption) (mapped (λ _. Rsa) null_or_none) (given (bytes_eq id id_ec_public_key) curve_at)
 
+-- reads a key's AlgorithmIdentifier
 unfoldable pub format_at : List ℕ → Option (PublicKeyFormat × List ℕ)
 format_at = inside SEQUENCE (followed oid_at parameters_at)
 
@@ -28,5 +33,6 @@ format_at = inside SEQUENCE (followed oid_at parameters_at)
 unfoldable pub whole_bits_at : List ℕ → Option (List ℕ × List ℕ)
 whole_bits_at = followed bits_at (λ v. given (nat_eq v.0 0) (always v.1))
 
+-- reads a SubjectPublicKeyInfo
 unfoldable pub public_key_at : List ℕ → Option (KeyFields × List ℕ)
 public_key_at = inside SEQUENCE (followed format_at (λ format. mapped (λ bits. record { format = format; bits = bits }) whole_bits_at))

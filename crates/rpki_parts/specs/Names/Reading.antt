@@ -15,19 +15,24 @@ tagged_at (tag ∷ bytes) = do
   v ← skip_at (tag ∷ bytes)
   Some (tag, v.1)
 
+-- the attribute of its type and the identifier octet of its value
 abbrev pub attribute : List ℕ × ℕ → Attribute
 attribute p = record { type_id = p.0; value_tag = p.1 }
 
+-- reads an AttributeTypeAndValue
 unfoldable pub attribute_at : List ℕ → Option (Attribute × List ℕ)
 attribute_at = inside SEQUENCE (mapped attribute (both oid_at tagged_at))
 
+-- reads what stands inside a RelativeDistinguishedName
 abbrev pub attributes_of : List ℕ → Option (List Attribute)
 attributes_of [] = None
 attributes_of (b ∷ bytes) = row_of attribute_at (b ∷ bytes)
 
+-- reads a RelativeDistinguishedName
 unfoldable pub part_at : List ℕ → Option (List Attribute × List ℕ)
 part_at = content SET attributes_of
 
+-- reads an RDNSequence
 unfoldable pub parts_at : List ℕ → Option (List (List Attribute) × List ℕ)
 parts_at = content SEQUENCE (row_of part_at)
 
@@ -35,8 +40,10 @@ parts_at = content SEQUENCE (row_of part_at)
 unfoldable pub name_of : List ℕ → Option (List (List Attribute))
 name_of octets = parts_at octets >>= λ p. ended p.1 p.0
 
+-- whether the octets are a Name and nothing else
 abbrev pub is_name : List ℕ → Bool
 is_name octets = is_some (name_of octets)
 
+-- reads a Name, kept as it stands
 unfoldable pub name_at : List ℕ → Option (List ℕ × List ℕ)
 name_at bytes = captured_at bytes >>= λ v. if is_name v.0 then Some v else None

@@ -8,9 +8,11 @@ use Rattle.rpki_parts.specs.Algorithms.Reading.{algorithm_at}
 use Rattle.rpki_parts.specs.Keys.Reading.{whole_bits_at}
 use Rattle.rpki_parts.specs.SignedDatas.{SignedFields}
 
+-- signed data of the message, the algorithm and the octets of the signature
 abbrev pub signed : List ℕ × (Algorithm × List ℕ) → SignedFields
 signed p = record { message = p.0; signature = record { algorithm = p.1.0; value = p.1.1 } }
 
+-- reads the content of signed data
 unfoldable pub signed_content_at : List ℕ → Option (SignedFields × List ℕ)
 signed_content_at = mapped signed (both captured_at (both algorithm_at whole_bits_at))
 

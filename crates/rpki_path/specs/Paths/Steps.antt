@@ -34,7 +34,8 @@ pub record IsAnchor (x : Context) (octets tal : List ℕ) (r : ResourceFields) :
   pub lines : IsVerified (AnchorLine x r.cert) anchor_lines
   pub listed : HasListed r.cert tal r
 
--- a certificate of this kind that is valid below the issuer, with what it gets of the issuer's numbers
+-- a certificate of this kind that is valid below the issuer, with what it gets of the issuer's
+-- numbers
 pub record IsBelow (x : Context) (issuer : ResourceFields) (k : Kind) (c : CertFields) (r : ResourceFields) : Type 0 where
   pub meets : MeetsProfile k x.strict c
   pub lines : IsVerified (LineUnder x issuer c) issued_lines
