@@ -404,12 +404,12 @@ def pairs_of(word):
             for uri, octets in pairs]
 
 
-def revocation(words):
+def revocation(words, verifier=ref.stand_in):
     now, members = show.moment_of(words.at(1)), members_of(words, 4)
     if now is None or not members or members[0][0] != ref.TA:
         return 'unfit'
     store = ref.CrlStore(pairs_of(words.at(3)))
-    answer = path_line(members, words.at(2) == 'strict', now,
+    answer = path_line(members, words.at(2) == 'strict', now, verifier,
                        store=store)
     return line(answer, ('cached', 'same'))
 
@@ -421,6 +421,7 @@ WORDS = {
     'list': revocation_list, 'shared': lambda words: 'same', 'cut': cut,
     'path': path, 'run': run, 'run-unnamed': run_unnamed,
     'rearrange': rearrange, 'revocation': revocation, 'real-path': real_path,
+    'real-revocation': lambda w: revocation(w, rsa.verifier),
     'rsa': lambda w: show.yes(rsa.verify(*map(w.octets, (1, 2, 3)))),
     'rsa-key': lambda w: show.yes(rsa.is_rpki_key(w.octets(1))),
     **PARTS, **URIS, **RESOURCES, **DER,

@@ -34,6 +34,8 @@
 //! - `rsa KEY HEX SIGNATURE`: whether a signature is one of a message, by the bits of a key.
 //! - `rsa-key KEY`: whether bits are a key of the RPKI.
 //! - `real-path YYYYMMDDhhmmss MODE ta:HEX ca:HEX .. ee:HEX`: a path as above, with RSA signatures.
+//! - `real-revocation YYYYMMDDhhmmss MODE STORE ta:HEX ca:HEX .. ee:HEX`: the same, where the lists
+//!   of a store are asked, as `revocation` does.
 //!
 //! Revocation lists:
 //! - `list HEX SERIALS`: a list, by each of the calls that read one, and of each serial number
@@ -169,6 +171,8 @@ fn of_several(words: &Words<'_>, out: &mut Answer) -> bool {
         revocation::revocation(words, out);
     } else if words.is(0, "real-path") {
         signatures::real_path(words, out);
+    } else if words.is(0, "real-revocation") {
+        signatures::real_revocation(words, out);
     } else if words.is(0, "rsa") {
         signatures::rsa(words, out);
     } else if words.is(0, "rsa-key") {

@@ -1,4 +1,4 @@
-//! Whole paths whose members are looked for on revocation lists, with the stand-in for signatures.
+//! Whole paths whose members are looked for on revocation lists.
 use crate::answer::Answer;
 use crate::paths::{authorities, leaf, named, validated};
 use crate::validating::tal;
@@ -6,7 +6,7 @@ use crate::words::{Words, bytes, moment, octets};
 use bytes::Bytes;
 use rpki_crl::{Crl, CrlStore};
 use rpki_der::Time;
-use rpki_parts::{Rsync, StandIn};
+use rpki_parts::{Rsync, StandIn, Verifier};
 use rpki_path::validate_path_with;
 
 // Stores the list `URI:LIST`, both in hexadecimal.
@@ -50,12 +50,13 @@ fn store_of(out: &mut Answer, word: &str, is_cached: bool) -> Option<CrlStore> {
     }
 }
 
-fn asked(
+fn asked<V: Verifier>(
     out: &mut Answer,
     words: &Words<'_>,
     anchor: &Bytes,
     now: Time,
     is_cached: bool,
+    verifier: &V,
 ) -> Option<()> {
     let alloc = out.alloc();
     let cas = authorities(out, words, 5);
@@ -64,20 +65,20 @@ fn asked(
     let strict = words.is(2, "strict");
     let store = store_of(out, words.at(3), is_cached)?;
     let answer = validate_path_with(
-        alloc, &store, anchor, &cas, leaf, tal, strict, now, &StandIn,
+        alloc, &store, anchor, &cas, leaf, tal, strict, now, verifier,
     );
     drop(store);
     validated(out, answer);
     Some(())
 }
 
-fn answered(out: &mut Answer, words: &Words<'_>) -> Option<()> {
+fn answered<V: Verifier>(out: &mut Answer, words: &Words<'_>, verifier: &V) -> Option<()> {
     let now = moment(words.at(1))?;
     let anchor = named(out, words.at(4), "ta")?;
     let mut plain = out.beside();
-    asked(&mut plain, words, &anchor, now, false)?;
+    asked(&mut plain, words, &anchor, now, false, verifier)?;
     let mut cached = out.beside();
-    asked(&mut cached, words, &anchor, now, true)?;
+    asked(&mut cached, words, &anchor, now, true, verifier)?;
     if plain.has_failed() {
         out.fail();
     }
@@ -87,10 +88,15 @@ fn answered(out: &mut Answer, words: &Words<'_>) -> Option<()> {
     Some(())
 }
 
-/// What the last member of a path holds, or which member is refused, and why, where the lists of a
-/// store are asked; and whether the answer is the same where serial numbers are cached.
-pub fn revocation(words: &Words<'_>, out: &mut Answer) {
-    if answered(out, words).is_none() {
+/// What the path of the words behind the fourth answers, by a verifier, where the lists of a store are asked; and whether the answer
+/// is the same where serial numbers are cached.
+pub fn judged<V: Verifier>(words: &Words<'_>, out: &mut Answer, verifier: &V) {
+    if answered(out, words, verifier).is_none() {
         out.text("unfit");
     }
+}
+
+/// What the last member of a path holds, or which member is refused, and why, under the stand-in.
+pub fn revocation(words: &Words<'_>, out: &mut Answer) {
+    judged(words, out, &StandIn);
 }

@@ -1,7 +1,7 @@
 //! Signatures by RSA keys, and whole paths with them.
 use crate::answer::Answer;
-use crate::paths;
 use crate::words::Words;
+use crate::{paths, revocation};
 use rpki_rsa::{RsaVerifier, is_rpki_key, verify};
 
 /// Whether bits are a key of the RPKI.
@@ -21,4 +21,9 @@ pub fn rsa(words: &Words<'_>, out: &mut Answer) {
 /// What the last member of a path with RSA signatures holds, or which member is refused, and why.
 pub fn real_path(words: &Words<'_>, out: &mut Answer) {
     paths::judged(words, out, words.at(2), words.at(1), &RsaVerifier);
+}
+
+/// What such a path answers where the lists of a store are asked.
+pub fn real_revocation(words: &Words<'_>, out: &mut Answer) {
+    revocation::judged(words, out, &RsaVerifier);
 }

@@ -1,8 +1,8 @@
-//! The names and the texts of all errors.
+//! The names and the texts of all errors but the faults of inspection.
 
 use bytes::Bytes;
 use rpki_blocks::{Inherited, IssueError};
-use rpki_cert::{IssueCaError, ValidationError, VerificationError};
+use rpki_cert::{IssueCaError, RearrangeError, ValidationError, VerificationError};
 use rpki_crl::{InvalidExtension, RevocationError};
 use rpki_der::{DecodeError, EncodeError, Field, Oid};
 use rpki_ext::InspectionError;
@@ -157,15 +157,6 @@ fn of_periods(rt: HostRuntime) {
     assert_shown(&rt, format!(in rt.alloc(); "{late}"), "expired");
 }
 
-#[test]
-fn of_inspection(rt: HostRuntime) {
-    let (issuer, subject) = (InspectionError::Issuer, InspectionError::Subject);
-    assert_eq!(rt; issuer.name(), "Issuer");
-    assert_eq!(rt; subject.name(), "Subject");
-    assert_shown(&rt, format!(in rt.alloc(); "{issuer}"), "invalid issuer");
-    assert_shown(&rt, format!(in rt.alloc(); "{subject}"), "invalid subject");
-}
-
 fn assert_line(rt: &impl Abort, alloc: Global, error: &VerificationError, name: &str, text: &str) {
     assert_eq!(rt; error.name(), name);
     assert_shown(rt, format!(in alloc; "{error}"), text);
@@ -283,6 +274,29 @@ fn of_issuing(rt: HostRuntime) {
     assert_unissued(&rt, alloc, reading, "Decode", text);
     let text = "issued certificate not valid: invalid issuer";
     assert_unissued(&rt, alloc, validity, "Validation", text);
+}
+
+fn assert_unordered(rt: &impl Abort, alloc: Global, error: RearrangeError, name: &str, text: &str) {
+    assert_eq!(rt; error.name(), name);
+    assert_shown(rt, format!(in alloc; "{error}"), text);
+    drop(error);
+}
+
+#[test]
+fn of_rearranging(rt: HostRuntime) {
+    let alloc = rt.alloc();
+    let none = RearrangeError::from(DecodeError::BadTag);
+    assert_unordered(&rt, alloc, none, "NoCertificate", "no certificate");
+    let order = RearrangeError::NotAnOrder;
+    let text = "not an order of the extensions";
+    assert_unordered(&rt, alloc, order, "NotAnOrder", text);
+    let known = RearrangeError::KnownExtra;
+    let text = "added extension of a known kind";
+    assert_unordered(&rt, alloc, known, "KnownExtra", text);
+    let long = RearrangeError::from(EncodeError::TooLong);
+    assert_unordered(&rt, alloc, long, "TooLong", "content too long");
+    let memory = RearrangeError::from(AllocError);
+    assert_unordered(&rt, alloc, memory, "Memory", "out of memory");
 }
 
 fn assert_wrong(rt: &impl Abort, alloc: Global, fault: PathFault, name: &str, text: &str) {

@@ -9,6 +9,8 @@ mod devices;
 #[cfg(test)]
 mod errors;
 #[cfg(test)]
+mod inspection;
+#[cfg(test)]
 mod issuing;
 #[cfg(test)]
 mod lists;

@@ -1,0 +1,137 @@
+//! Signatures, certificates, paths, the program: what the facade's calls answer is what the layer says.
+ghost use Rattle.std.specs.Prelude.{◌≡◌, ◌↔◌, ◌^◌, ◌+◌, IsTrue, IfOk, IfErr, None, Some};
+ghost use Rattle.std.proofs.Common.{rc_value};
+ghost use Rattle.rpki_rsa.specs.RsaKeys.{IsRpkiKey};
+ghost use Rattle.rpki_rsa.specs.RsaSignatures.{IsRsaSignature};
+ghost use Rattle.rpki_cert.specs.Certificates.{spelling};
+ghost use Rattle.rpki_cert.specs.Rearranging.{IsRefused};
+ghost use Rattle.rpki_cert.specs.Verification.{context};
+ghost use Rattle.rpki_path.specs.Paths.{asked, Validates};
+ghost use Rattle.rpki_path.specs.Watching.{device, HasFailed, TakesAtMost};
+
+use bytes::Bytes;
+use rpki::crypto::{Signer, Verifier, rsa};
+use rpki::program::{MAX_INPUT, RunFault, Status, Watched, program, run};
+use rpki::repository::cert::{
+    Extra, IssueCaError, RearrangeError, ResourceCert, TbsCert, issue_ca, rearrange,
+};
+use rpki::repository::crl::CrlStore;
+use rpki::repository::path::{Leaf, PathError, validate_path, validate_path_with};
+use rpki::repository::tal::TalInfo;
+use rpki::repository::x509::Time;
+use std::alloc::Global;
+use std::io::{Read, Write};
+use std::process::ExitCode;
+use std::rc::Rc;
+
+/// Tells whether bits are a key of the RPKI.
+pub fn is_key(bits: &[u8]) -> bool
+    ensures { IsTrue result ↔ IsRpkiKey bits.now }
+{
+    rsa::is_rpki_key(bits)
+}
+
+/// Tells whether a signature is one of a message.
+pub fn is_signature(bits: &[u8], message: &[u8], signature: &[u8]) -> bool
+    ensures { IsTrue result ↔ IsRsaSignature bits.now message.now signature.now }
+{
+    rsa::verify(bits, message, signature)
+}
+
+/// Issues a certificate below an issuer.
+pub fn issued<S: Signer, V: Verifier>(
+    alloc: Global,
+    tbs: TbsCert,
+    signer: &S,
+    key: &S::KeyId,
+    issuer: &ResourceCert,
+    now: Time,
+    verifier: &V,
+) -> Result<ResourceCert, IssueCaError<S::Error>>
+    ensures { IfOk result (λ r. r.cert.signed_data.message ≡ spelling tbs) }
+{
+    issue_ca(alloc, tbs, signer, key, issuer, true, now, verifier)
+}
+
+/// Sets extensions in another order.
+pub fn rearranged(
+    alloc: Global,
+    octets: &[u8],
+    order: &[usize],
+    extras: &[Extra],
+) -> Result<Vec<u8>, RearrangeError>
+    ensures { IfErr result (IsRefused octets.now order.now extras.now) }
+{
+    rearrange(alloc, octets, order, extras)
+}
+
+/// Validates a path.
+pub fn validated<V: Verifier>(
+    alloc: Global,
+    anchor: &Bytes,
+    cas: &[Bytes],
+    leaf: Option<Leaf>,
+    tal: Rc<TalInfo>,
+    strict: bool,
+    now: Time,
+    verifier: &V,
+) -> Result<ResourceCert, PathError>
+    ensures { let x = context (V.verifies verifier.now) now strict in
+        Validates x None anchor.now (asked cas.now leaf) (rc_value tal) result }
+{
+    validate_path(alloc, anchor, cas, leaf, tal, strict, now, verifier)
+}
+
+/// Validates a path whose members are looked for on lists.
+pub fn validated_with<V: Verifier>(
+    alloc: Global,
+    store: &CrlStore,
+    anchor: &Bytes,
+    cas: &[Bytes],
+    leaf: Option<Leaf>,
+    tal: Rc<TalInfo>,
+    strict: bool,
+    now: Time,
+    verifier: &V,
+) -> Result<ResourceCert, PathError>
+    ensures { let x = context (V.verifies verifier.now) now strict in
+        let pairs = Some store.now.pairs in
+        Validates x pairs anchor.now (asked cas.now leaf) (rc_value tal) result }
+{
+    validate_path_with(alloc, store, anchor, cas, leaf, tal, strict, now, verifier)
+}
+
+/// Tells how many octets an input may have.
+pub fn longest_input() -> usize
+    ensures { result ≡ 2 ^ 24 }
+{
+    MAX_INPUT
+}
+
+/// Answers an input, and tells how it ended.
+pub fn answered<R: Read, W: Write>(
+    alloc: Global,
+    reader: &mut Watched<R>,
+    writer: &mut Watched<W>,
+) -> Result<Status, RunFault>
+    requires reader { HasFailed reader.old → ⊥ }
+    requires writer { HasFailed writer.old → ⊥ }
+    ensures { TakesAtMost (2 ^ 24 + 1)
+        (R.remaining (device reader.old)) (R.remaining (device reader.new)) }
+{
+    run(alloc, reader, writer)
+}
+
+/// Answers an input, and tells the exit status.
+pub fn ended<R: Read, W: Write>(
+    alloc: Global,
+    reader: &mut Watched<R>,
+    writer: &mut Watched<W>,
+) -> ExitCode
+    requires reader { HasFailed reader.old → ⊥ }
+    requires writer { HasFailed writer.old → ⊥ }
+    ensures { TakesAtMost (2 ^ 24 + 1)
+        (R.remaining (device reader.old)) (R.remaining (device reader.new)) }
+{
+    program(alloc, reader, writer)
+}

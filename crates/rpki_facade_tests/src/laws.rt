@@ -1,0 +1,114 @@
+//! Laws and comparisons: each of the facade's modules has those of the layer of its name.
+ghost use Rattle.std.specs.Prelude.{◌≡◌, ◌↔◌, IsTrue, ℕ, List, Bool};
+ghost use Rattle.rpki_blocks.specs.Addresses.{IsIPAddrBlocks};
+ghost use Rattle.rpki_blocks.specs.Sets.{AreIn};
+ghost use Rattle.rpki_der.specs.Extensions.{IsExtension};
+ghost use Rattle.rpki_der.specs.Serials.{IsSerial};
+ghost use Rattle.rpki_der.specs.Values.{IsUnambiguous};
+ghost use Rattle.rpki_parts.specs.Uris.{IsParent};
+ghost use Rattle.rpki_cert.specs.Certificates.{CertFields, IsCertificate};
+ghost use Rattle.rpki_cert.specs.Profiles.{MeetsProfile, group};
+ghost use Rattle.rpki_cert.specs.Verification.{ResourceFields, HasIssued};
+ghost use Rattle.rpki_cert.specs.declared.inspect.Kind.{Kind};
+ghost use Rattle.rpki_crl.specs.Lists.{IsCertificateList};
+ghost use Rattle.rpki_path.specs.Paths.{Path, Asked, IsPathOf};
+
+use rpki::crypto::RpkiSignatureAlgorithm;
+use rpki::repository::cert::KeyUsage;
+use rpki::repository::resources::Addr;
+use rpki::repository::x509::Serial;
+use rpki::{comparing, laws};
+
+/// Tells that serial numbers are unambiguous.
+pub fn of_values()
+    ensures { IsUnambiguous IsSerial }
+{
+    laws::der::one_field();
+}
+
+/// Tells that contents of IP resources are unambiguous.
+pub fn of_resources()
+    ensures { IsUnambiguous IsIPAddrBlocks }
+{
+    laws::resources::unambiguous();
+}
+
+/// Tells that a URI has one parent.
+pub fn of_uris()
+    ensures { (uri p q : List ℕ) → IsParent uri p → IsParent uri q → p ≡ q }
+{
+    laws::uris::one_parent();
+}
+
+/// Tells that extensions are unambiguous.
+pub fn of_extensions()
+    ensures { IsUnambiguous IsExtension }
+{
+    laws::extensions::one_extension();
+}
+
+/// Tells that certificates are unambiguous.
+pub fn of_certificates()
+    ensures { IsUnambiguous IsCertificate }
+{
+    laws::certificates::unambiguous();
+}
+
+/// Tells that a certificate is of one group of kinds.
+pub fn of_profiles()
+    ensures { (k l : Kind) (strict other : Bool) (c : CertFields)
+        → MeetsProfile k strict c → MeetsProfile l other c → group k ≡ group l }
+{
+    laws::profiles::one_kind();
+}
+
+/// Tells that issued addresses are the issuer's.
+pub fn of_verification()
+    ensures { (c : CertFields) (issuer r : ResourceFields)
+        → HasIssued c issuer r → AreIn r.v4 issuer.v4 }
+{
+    laws::verification::issued_are_held();
+}
+
+/// Tells that revocation lists are unambiguous.
+pub fn of_lists()
+    ensures { IsUnambiguous IsCertificateList }
+{
+    laws::lists::unambiguous();
+}
+
+/// Tells that strings are at most one path.
+pub fn of_paths()
+    ensures { (anchor : List ℕ) (below : List Asked) (p q : Path)
+        → IsPathOf anchor below p → IsPathOf anchor below q → p ≡ q }
+{
+    laws::paths::one_path();
+}
+
+/// Compares serial numbers.
+pub fn equal_serials(one: &Serial, other: &Serial) -> bool
+    ensures { IsTrue result ↔ one.now ≡ other.now }
+{
+    comparing::der::equal_serials(one, other)
+}
+
+/// Compares addresses.
+pub fn equal_addresses(one: &Addr, other: &Addr) -> bool
+    ensures { IsTrue result ↔ one.now ≡ other.now }
+{
+    comparing::resources::equal_addresses(one, other)
+}
+
+/// Compares usages of keys.
+pub fn equal_key_usages(one: &KeyUsage, other: &KeyUsage) -> bool
+    ensures { IsTrue result ↔ one.now ≡ other.now }
+{
+    comparing::extensions::equal_key_usages(one, other)
+}
+
+/// Compares algorithms.
+pub fn equal_algorithms(one: &RpkiSignatureAlgorithm, other: &RpkiSignatureAlgorithm) -> bool
+    ensures { IsTrue result ↔ one.now ≡ other.now }
+{
+    comparing::parts::equal_algorithms(one, other)
+}
