@@ -11,6 +11,8 @@ mod errors;
 #[cfg(test)]
 mod issuing;
 #[cfg(test)]
+mod list_parts;
+#[cfg(test)]
 mod lists;
 #[cfg(test)]
 mod paths;
