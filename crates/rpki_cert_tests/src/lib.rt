@@ -12,6 +12,8 @@ mod copies;
 #[cfg(test)]
 mod cursors;
 #[cfg(test)]
+mod extensions;
+#[cfg(test)]
 mod making;
 #[cfg(test)]
 mod refusals;
@@ -21,6 +23,8 @@ mod sets;
 mod signing;
 #[cfg(test)]
 mod uris;
+#[cfg(test)]
+mod verified;
 #[cfg(test)]
 mod verifying;
 #[cfg(test)]

@@ -1,11 +1,11 @@
 //! Readers and writers that are slow, fail, never end, or count their calls.
 ghost use Rattle.std.specs.Prelude.{◌≡◌, IfOk};
 
-use rpki_path::{MAX_INPUT, RunFault, Status, Watched, run};
+use rpki_path::{MAX_INPUT, RunFault, Status, Watched, program, run};
 use std::alloc::Global;
 use std::io;
 use std::io::{Error, ErrorKind, Read, Write};
-use std::process::Abort;
+use std::process::{Abort, ExitCode};
 use std::test::Fail;
 
 // An entry of serial 12, revoked on 2019-05-01.
@@ -110,6 +110,30 @@ fn a_reader_that_fails_is_told(rt: HostRuntime) -> Result<(), Fail> {
     Ok(())
 }
 
+// How the run ends that reads these octets, and whether nothing was written.
+fn fault_of(alloc: Global, octets: &[u8], after: After) -> (&'static str, bool) {
+    let mut reader = Watched::new(OneByOne { octets, after });
+    let mut output = Vec::new(alloc);
+    let mut writer = Watched::new(&mut output);
+    let name = match run(alloc, &mut reader, &mut writer) {
+        Ok(_) => "ok",
+        Err(fault) => fault.name(),
+    };
+    (name, output.is_empty())
+}
+
+#[test]
+fn a_reader_may_fail_at_each_read(rt: HostRuntime) {
+    for (reads, _) in YES.iter().enumerate() {
+        let octets = YES.get(..reads).expect(&rt, "a front");
+        let (name, is_unwritten) = fault_of(rt.alloc(), octets, After::Fail);
+        assert_eq!(rt; name, "Read", "at {reads}");
+        assert!(rt; is_unwritten, "at {reads}");
+    }
+    assert_eq!(rt; fault_of(rt.alloc(), YES, After::Fail), ("Read", true));
+    assert_eq!(rt; fault_of(rt.alloc(), YES, After::Zeros), ("TooLong", true));
+}
+
 #[test]
 fn a_reader_without_end_is_left(rt: HostRuntime) -> Result<(), Fail> {
     let mut reader = Watched::new(OneByOne {
@@ -164,6 +188,51 @@ fn a_writer_that_fails_is_told(rt: HostRuntime) -> Result<(), Fail> {
         assert!(rt; !reader.failed());
     }
     Ok(())
+}
+
+// How the run ends whose writer takes so many octets, one a write, and then fails.
+fn fault_behind(alloc: Global, room: usize) -> &'static str {
+    let mut reader = Watched::new(YES);
+    let mut output = Narrow {
+        octets: Vec::new(alloc),
+        room,
+        fails: true,
+    };
+    let mut writer = Watched::new(&mut output);
+    match run(alloc, &mut reader, &mut writer) {
+        Ok(_) => "ok",
+        Err(fault) => fault.name(),
+    }
+}
+
+#[test]
+fn a_writer_may_fail_at_each_write(rt: HostRuntime) {
+    // Four octets are written.
+    for room in 0..4 {
+        assert_eq!(rt; fault_behind(rt.alloc(), room), "Write", "at {room}");
+    }
+    assert_eq!(rt; fault_behind(rt.alloc(), 4), "ok");
+}
+
+// The status of the program with this reader, and a writer of so much room.
+fn status_of(alloc: Global, after: After, room: usize) -> ExitCode {
+    let mut reader = Watched::new(OneByOne { octets: YES, after });
+    let mut output = Narrow {
+        octets: Vec::new(alloc),
+        room,
+        fails: true,
+    };
+    let mut writer = Watched::new(&mut output);
+    program(alloc, &mut reader, &mut writer)
+}
+
+#[test]
+fn the_program_tells_of_a_fault(rt: HostRuntime) {
+    let told = ExitCode::from(3);
+    assert!(rt; status_of(rt.alloc(), After::End, 4) == ExitCode::SUCCESS);
+    assert!(rt; status_of(rt.alloc(), After::End, 3) == told);
+    assert!(rt; status_of(rt.alloc(), After::Fail, 4) == told);
+    assert!(rt; status_of(rt.alloc(), After::Zeros, 4) == told);
 }
 
 #[test]

@@ -13,6 +13,8 @@ mod inspection;
 #[cfg(test)]
 mod issuing;
 #[cfg(test)]
+mod list_parts;
+#[cfg(test)]
 mod lists;
 #[cfg(test)]
 mod paths;

@@ -4,7 +4,7 @@ use rpki_crl::{Crl, CrlEntry, CrlStore, TbsCertList, round_trip};
 use rpki_der::Serial;
 use rpki_parts::{RpkiSignatureAlgorithm, StandIn};
 use rpki_samples::uri;
-use std::alloc::Global;
+use std::alloc::{AllocError, Global};
 use std::process::Abort;
 
 /// The SHA-1 hash of the list that is made below.
@@ -86,6 +86,20 @@ fn the_first_list_under_a_uri_is_found(rt: HostRuntime) {
             .get(&uri(rt.alloc(), "rsync://h/m/A.crl").expect(&rt, "a URI"))
             .is_none()
     );
+    drop(store);
+}
+
+fn assert_copied(rt: &impl Abort, alloc: Global, copy: Result<CrlStore, AllocError>) {
+    let copy = copy.expect(rt, "memory");
+    assert_stored(rt, alloc, &copy, "RSYNC://h/m/a.crl", TWO);
+    drop(copy);
+}
+
+#[test]
+fn a_store_is_copied(rt: HostRuntime) {
+    let mut store = CrlStore::new(rt.alloc());
+    push(&rt, rt.alloc(), &mut store, "rsync://h/m/a.crl", TWO);
+    assert_copied(&rt, rt.alloc(), store.try_clone(rt.alloc()));
     drop(store);
 }
 
