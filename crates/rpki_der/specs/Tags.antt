@@ -26,9 +26,6 @@ UTF8_STRING = 0x0C
 abbrev pub PRINTABLE_STRING : ℕ
 PRINTABLE_STRING = 0x13
 
-abbrev pub IA5_STRING : ℕ
-IA5_STRING = 0x16
-
 abbrev pub UTC_TIME : ℕ
 UTC_TIME = 0x17
 
