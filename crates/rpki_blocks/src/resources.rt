@@ -22,8 +22,9 @@ pub enum IssueError {
 }
 
 impl IssueError {
-    ghost use Rattle.std.specs.Prelude.{◌≡◌};
+    ghost use Rattle.std.specs.Prelude.{◌≡◌, ◌↔◌, IsTrue};
     ghost use Rattle.rpki_blocks.specs.IssueErrorNames.{issue_error_name};
+    ghost use Rattle.rpki_blocks.specs.declared.resources.IssueError.TheVariants as error;
 
     /// The variant's name.
     pub fn name(&self) -> &'static str
@@ -32,6 +33,16 @@ impl IssueError {
         match self {
             IssueError::Overclaimed => "Overclaimed",
             IssueError::Memory => "Memory",
+        }
+    }
+
+    /// Tells whether memory ran out.
+    pub fn is_memory(&self) -> bool
+        ensures { IsTrue result ↔ self.now ≡ error.Memory }
+    {
+        match self {
+            IssueError::Overclaimed => false,
+            IssueError::Memory => true,
         }
     }
 }

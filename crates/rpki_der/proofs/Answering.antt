@@ -9,6 +9,7 @@ use Rattle.rpki_der.specs.Reading.{Reads}
 use Rattle.rpki_der.specs.Place.{Place, left, Refuses, AnswersBy, AnswersOrMemoryBy, MeansOrMemoryBy}
 use Rattle.rpki_der.specs.Place.Reading.{TookBy, TookOrMemoryBy, ReturnsBy, ReturnsOrMemoryBy}
 use Rattle.rpki_der.proofs.Octets.{some, nothing}
+use Rattle.rpki_der.proofs.Readings.{one_reading}
 
 -- ---- refusals that may mean `out of memory`
 
@@ -77,3 +78,17 @@ front_means view spells old new (Err d) octets e a = refuses d (λ none y m. non
 -- what they encode they mean
 pub whole_means : {V : Type 0} (spells : V → List ℕ → Type 0) (v : V) (octets : List ℕ) → spells v octets → Means spells v octets
 whole_means spells v octets s = ([], record { text = octets; spelled = s; parts = sym (append-nil octets) })
+
+-- where something stands behind a value at their front, they spell none
+pub none_spelled : {V : Type 0} (read : List ℕ → Option (V × List ℕ)) (spells : V → List ℕ → Type 0) → Reads read spells
+    → (v w : V) (found octets rest : List ℕ) → found ≡ octets → rest ≢ [] → Begins spells found v rest → spells w octets → ⊥
+none_spelled read spells law v w found octets rest same behind b s =
+    behind (one_reading read spells law found v w rest [] b (record { text = octets; spelled = s; parts = same ∙ sym (append-nil octets) })).1
+
+-- where a reader at their beginning refuses, and that is passed on, they spell none
+pub all_refused : {X Y : Type 0} (view : X → Y) (spells : Y → List ℕ → Type 0) (r : Result X DecodeError) (d : DecodeError) (found octets : List ℕ)
+    → found ≡ octets → r ≡ Err d → Refuses d ((y : Y) (rest : List ℕ) → Begins spells found y rest → ⊥) → MeansOrMemoryBy view spells r octets
+all_refused view spells (Ok x) d found octets same passed none = absurd cc
+all_refused view spells (Err e) d found octets same passed none =
+    let is : e ≡ d = cc in
+    rw is (refuses d (λ not y s. not y [] (record { text = octets; spelled = s; parts = same ∙ sym (append-nil octets) })) none)

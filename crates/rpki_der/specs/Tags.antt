@@ -34,10 +34,6 @@ UTF8_STRING = 0x0C
 abbrev pub PRINTABLE_STRING : ℕ
 PRINTABLE_STRING = 0x13
 
--- [UNIVERSAL 22]
-abbrev pub IA5_STRING : ℕ
-IA5_STRING = 0x16
-
 -- [UNIVERSAL 23]
 abbrev pub UTC_TIME : ℕ
 UTC_TIME = 0x17

@@ -128,8 +128,9 @@ pub enum EncodeError {
 }
 
 impl EncodeError {
-    ghost use Rattle.std.specs.Prelude.{◌≡◌};
+    ghost use Rattle.std.specs.Prelude.{◌≡◌, ◌↔◌, IsTrue};
     ghost use Rattle.rpki_der.specs.ErrorNames.{encode_error_name};
+    ghost use Rattle.rpki_der.specs.declared.error.EncodeError.TheVariants as error;
 
     /// The variant's name.
     pub fn name(&self) -> &'static str
@@ -138,6 +139,16 @@ impl EncodeError {
         match self {
             EncodeError::TooLong => "TooLong",
             EncodeError::Memory => "Memory",
+        }
+    }
+
+    /// Tells whether memory ran out.
+    pub fn is_memory(&self) -> bool
+        ensures { IsTrue result ↔ self.now ≡ error.Memory }
+    {
+        match self {
+            EncodeError::TooLong => false,
+            EncodeError::Memory => true,
         }
     }
 }

@@ -4,6 +4,7 @@ ghost use Rattle.std.specs.Prelude.{◌≡◌, ◌↔◌, IsTrue, IsOkAnd};
 
 use crate::algorithm::RpkiSignatureAlgorithm;
 use crate::key::{KeyIdentifier, PublicKeyFormat};
+use crate::valid_at::ValidityError;
 use crate::validity::Validity;
 use std::alloc::AllocError;
 
@@ -56,4 +57,11 @@ pub fn copied_validity(validity: &Validity) -> Result<Validity, AllocError>
     ensures { IsOkAnd result (λ copy. copy ≡ validity.now) }
 {
     validity.clone()
+}
+
+/// Reasons why a moment is outside a period are equal where they are the same.
+pub fn equal_validity_errors(one: &ValidityError, other: &ValidityError) -> bool
+    ensures { IsTrue result ↔ one.now ≡ other.now }
+{
+    one == other
 }

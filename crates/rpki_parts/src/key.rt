@@ -1,9 +1,9 @@
 //! Public keys and their identifiers.
-ghost use Rattle.std.specs.Prelude.{◌≡◌, ◌↔◌, ◌%◌, ◌^◌, ◌<◌, ◌≤◌, length, IfOk, IfErr, IsTrue};
+ghost use Rattle.std.specs.Prelude.{◌≡◌, ◌↔◌, ◌%◌, ◌^◌, ◌<◌, ◌≤◌, length, IfOk, IfErr, IfSome, IsSome, IsTrue};
 ghost use Rattle.rpki_der.specs.Values.{AreOctets};
 ghost use Rattle.rpki_der.specs.Tags.{OCTET_STRING};
 ghost use Rattle.rpki_der.specs.Writers.{Writes, value};
-ghost use Rattle.rpki_der.specs.Place.{Place, left, IsWithin, Keeps, Answers, AnswersOrMemory};
+ghost use Rattle.rpki_der.specs.Place.{Place, left, IsWithin, Keeps, Answers, AnswersOrMemory, MeansOrMemory};
 ghost use Rattle.rpki_der.specs.Place.Reading.{Took, TookBy, TookOrMemory};
 ghost use Rattle.rpki_parts.specs.Keys.{KeyFields, IsPublicKey, key_identifier, IsKeyIdentifier, key_algorithm, key_part};
 ghost use Rattle.rpki_parts.specs.Keys.Reading.{key_identifier_at, format_at, whole_bits_at, public_key_at};
@@ -58,6 +58,17 @@ impl KeyIdentifier {
         ensures { result ≡ octets }
     {
         KeyIdentifier { octets }
+    }
+
+    /// Makes the identifier with these octets. Answers `None` where they aren't 20.
+    pub fn from_slice(octets: &[u8]) -> Option<KeyIdentifier>
+        ensures twenty { IsSome result ↔ length octets.now ≡ 20 }
+        ensures same { IfSome result (λ k. k ≡ octets.now) }
+    {
+        match <[u8; 20]>::try_from(octets) {
+            Ok(octets) => Some(KeyIdentifier { octets }),
+            Err(_) => None,
+        }
     }
 
     /// Its 20 octets.
@@ -252,6 +263,20 @@ impl PublicKey {
         ensures keeps { Keeps result cursor.old cursor.new }
     {
         PublicKey::read(alloc, cursor)
+    }
+
+    /// Reads the SubjectPublicKeyInfo that all of the octets are. Errs with a fault where they are
+    /// none, also where one is only their beginning. The key shares the buffer.
+    pub fn from_bytes(alloc: Global, octets: Bytes) -> Result<PublicKey, DecodeError>
+        ensures { MeansOrMemory IsPublicKey result octets }
+    {
+        let mut cursor = Cursor::new(&octets);
+        let key = PublicKey::take_from(alloc, &mut cursor)?;
+        if !cursor.is_empty() {
+            drop(key);
+            return Err(DecodeError::Trailing);
+        }
+        Ok(key)
     }
 
     /// Appends the SubjectPublicKeyInfo, with NULL behind rsaEncryption. Answers `TooLong` where

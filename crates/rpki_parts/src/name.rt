@@ -1,7 +1,7 @@
 //! Names, kept as they stand.
 ghost use Rattle.rpki_parts.specs.KeyNames.{digit, hexadecimal, name_of_digits};
 ghost use Rattle.std.specs.Prelude.{◌≡◌, ◌≢◌, ◌<◌, ◌++◌, IfOk, IfErr, OnOk, is_ok, is_some};
-ghost use Rattle.rpki_der.specs.Place.{Place, left, Keeps, AnswersOrMemory};
+ghost use Rattle.rpki_der.specs.Place.{Place, left, Keeps, AnswersOrMemory, MeansOrMemory};
 ghost use Rattle.rpki_der.specs.Place.Reading.{Took, TookBy, TookOrMemory};
 ghost use Rattle.rpki_der.specs.Reading.{mapped};
 ghost use Rattle.rpki_der.specs.Rows.Reading.{row_of};
@@ -174,6 +174,20 @@ impl Name {
         ensures keeps { Keeps result cursor.old cursor.new }
     {
         Name::read(alloc, cursor)
+    }
+
+    /// Reads the name that all of the octets are, as [`Name::take_from`] says. Errs with a fault
+    /// where they are none, also where one is only their beginning. The name shares the buffer.
+    pub fn from_bytes(alloc: Global, octets: Bytes) -> Result<Name, DecodeError>
+        ensures { MeansOrMemory IsName result octets }
+    {
+        let mut cursor = Cursor::new(&octets);
+        let name = Name::take_from(alloc, &mut cursor)?;
+        if !cursor.is_empty() {
+            drop(name);
+            return Err(DecodeError::Trailing);
+        }
+        Ok(name)
     }
 
     /// The octets of the SEQUENCE.

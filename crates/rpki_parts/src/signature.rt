@@ -139,7 +139,9 @@ pub enum SigningError<E> {
 }
 
 impl<E> SigningError<E> {
+    ghost use Rattle.std.specs.Prelude.{◌≡◌, ◌↔◌, IsTrue};
     ghost use Rattle.rpki_parts.specs.SigningErrors.{signing_error_name};
+    ghost use Rattle.rpki_parts.specs.declared.signature.SigningError.TheVariants as error;
 
     /// The variant's name.
     pub fn name(&self) -> &'static str
@@ -149,6 +151,16 @@ impl<E> SigningError<E> {
             SigningError::Signer(_) => "Signer",
             SigningError::TooLong => "TooLong",
             SigningError::Memory => "Memory",
+        }
+    }
+
+    /// Tells whether memory ran out.
+    pub fn is_memory(&self) -> bool
+        ensures { IsTrue result ↔ self.now ≡ error.Memory }
+    {
+        match self {
+            SigningError::Signer(_) | SigningError::TooLong => false,
+            SigningError::Memory => true,
         }
     }
 }

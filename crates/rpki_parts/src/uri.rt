@@ -35,8 +35,9 @@ pub enum UriError {
 }
 
 impl UriError {
-    ghost use Rattle.std.specs.Prelude.{◌≡◌};
+    ghost use Rattle.std.specs.Prelude.{◌≡◌, ◌↔◌, IsTrue};
     ghost use Rattle.rpki_parts.specs.UriErrors.{uri_error_name};
+    ghost use Rattle.rpki_parts.specs.declared.uri.UriError.TheVariants as error;
 
     /// The variant's name.
     pub fn name(&self) -> &'static str
@@ -45,6 +46,16 @@ impl UriError {
         match self {
             UriError::BadUri => "BadUri",
             UriError::Memory => "Memory",
+        }
+    }
+
+    /// Tells whether memory ran out.
+    pub fn is_memory(&self) -> bool
+        ensures { IsTrue result ↔ self.now ≡ error.Memory }
+    {
+        match self {
+            UriError::BadUri => false,
+            UriError::Memory => true,
         }
     }
 }
