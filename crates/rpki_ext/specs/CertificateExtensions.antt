@@ -5,6 +5,7 @@ use Rattle.std.specs.List.{AllByRecursion, concat}
 use Rattle.rpki_der.specs.Rows.{IsRow}
 use Rattle.rpki_der.specs.Extensions.{IsExtension, Extension, OptionalExtension, text}
 use Rattle.rpki_der.specs.Skipping.{levels}
+use Rattle.rpki_der.specs.Writers.{Part}
 use Rattle.rpki_blocks.specs.declared.overclaim.Overclaim.{Overclaim}
 use Rattle.rpki_blocks.specs.Resources.{Resources, missing, IsResources}
 use Rattle.rpki_blocks.specs.Addresses.{Ip, addresses}
@@ -135,6 +136,10 @@ parts x = parts_of certificate_kinds (values_of x)
 -- the encodings of the extensions that are written of fields, one after the other
 unfoldable pub extensions : ExtensionFields → List ℕ
 extensions x = concat (map text (parts x))
+
+-- the row, which stands in one SEQUENCE as its content
+abbrev pub row_part : ExtensionFields → Part
+row_part x = record { written = extensions x; inside = extensions x }
 
 -- the values can be written
 pub record ExtensionsFit (x : ExtensionFields) : Type 0 where

@@ -7,7 +7,7 @@ use Rattle.rpki_der.specs.Primitives.{number}
 use Rattle.rpki_ext.specs.Kinds.{ExtensionKind, required}
 
 -- CRLNumber ::= INTEGER (0..MAX)   (RFC 5280 5.2.3)
--- id-ce-cRLNumber, not critical; restricted to at most 20 octets (RFC 5280 5.2.3)
+-- id-ce-cRLNumber, not critical; at most 20 octets (own: below 2^160, so 21 octets from 2^159 on)
 abbrev pub crl_number : ExtensionKind ℕ
 crl_number = record {
   identifier = id_ce 0x14;

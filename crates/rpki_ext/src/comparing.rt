@@ -2,6 +2,7 @@
 
 ghost use Rattle.std.specs.Prelude.{◌≡◌, ◌↔◌, IsTrue, IsOkAnd};
 
+use crate::inspection::InspectionError;
 use crate::key_usage::KeyUsage;
 use std::alloc::AllocError;
 
@@ -14,6 +15,20 @@ pub fn copied_key_usage(usage: &KeyUsage) -> Result<KeyUsage, AllocError>
 
 /// Usages of keys are equal where they are the same.
 pub fn equal_key_usages(one: &KeyUsage, other: &KeyUsage) -> bool
+    ensures { IsTrue result ↔ one.now ≡ other.now }
+{
+    one == other
+}
+
+/// A copy of a fault of inspection is the same fault.
+pub fn copied_inspection_error(error: &InspectionError) -> Result<InspectionError, AllocError>
+    ensures { IsOkAnd result (λ copy. copy ≡ error.now) }
+{
+    error.clone()
+}
+
+/// Faults of inspection are equal where they are the same.
+pub fn equal_inspection_errors(one: &InspectionError, other: &InspectionError) -> bool
     ensures { IsTrue result ↔ one.now ≡ other.now }
 {
     one == other

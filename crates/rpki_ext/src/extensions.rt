@@ -1,10 +1,11 @@
 //! What the extensions of a certificate give, and how they are written.
-ghost use Rattle.std.specs.Prelude.{◌≡◌, ◌^◌, ◌≤◌, ◌++◌, length, OnOk, IsErrOf, IfOk, IfSome};
+ghost use Rattle.std.specs.Prelude.{◌≡◌, ◌++◌, OnOk, IfOk, IfSome};
 ghost use Rattle.std.specs.Fn.{FnOnceReturnsAt};
+ghost use Rattle.rpki_der.specs.Writers.{SaysLong, Writes};
 ghost use Rattle.rpki_parts.specs.Uris.{IsRsync, IsHttps};
 ghost use Rattle.rpki_ext.specs.KeyIdentifiers.{HasTwentyOctets};
 ghost use Rattle.rpki_ext.specs.ExtendedKeyUsages.{ArePurposes};
-ghost use Rattle.rpki_ext.specs.CertificateExtensions.{bare, ExtensionsFit, extensions};
+ghost use Rattle.rpki_ext.specs.CertificateExtensions.{bare, ExtensionsFit, extensions, row_part};
 
 use crate::authority_access::put_authority_information_access;
 use crate::basic_constraints::put_basic_constraints;
@@ -16,7 +17,7 @@ use crate::letting_go::beside;
 use crate::policies::encode_certificate_policies;
 use crate::subject_access::encode_subject_information_access;
 use rpki_blocks::{AsResources, IpResources, Overclaim};
-use rpki_der::EncodeError;
+use rpki_der::{EncodeError, MAX_LEN};
 use rpki_parts::{Https, KeyIdentifier, Rsync};
 use std::alloc::{AllocError, Global};
 use std::marker::Model;
@@ -251,12 +252,10 @@ impl Extensions {
         })
     }
 
-    /// Appends the extensions, one after the other, in one fixed order and each with the flag that it must have (RFC 6487 4.8). After an error a
-    /// front of the row may stand there.
-    pub fn encode_row(&self, alloc: Global, out: &mut Vec<u8>) -> Result<(), EncodeError>
+    // Appends the extensions, or a front of them where it errs.
+    fn append_row(&self, alloc: Global, out: &mut Vec<u8>) -> Result<(), EncodeError>
         ensures ok { OnOk result (out.new.items ≡ out.old.items ++ extensions self.now) }
-        ensures too_long { IsErrOf result EncodeError.TooLong
-            → 2 ^ 32 ≤ length (extensions self.now) }
+        ensures too_long { SaysLong result (extensions self.now) }
     {
         let mode = self.overclaim;
         put_basic_constraints(alloc, out, self.basic_ca)?;
@@ -277,5 +276,19 @@ impl Extensions {
         encode_certificate_policies(alloc, out, mode)?;
         IpResources::encode_extension(alloc, out, mode, &self.v4_resources, &self.v6_resources)?;
         self.as_resources.encode_extension(alloc, out, mode)
+    }
+
+    /// Appends the extensions, one after the other, in one fixed order and each with the flag that it must have (RFC 6487 4.8). Answers
+    /// `TooLong` where they would have 2^32 octets or more.
+    pub fn encode_row(&self, alloc: Global, out: &mut Vec<u8>) -> Result<(), EncodeError>
+        ensures { Writes (row_part self.now) out.old.items result out.new.items }
+    {
+        let mut row = Vec::new(alloc);
+        self.append_row(alloc, &mut row)?;
+        if row.len() > MAX_LEN {
+            return Err(EncodeError::TooLong);
+        }
+        out.extend_from_slice(&row)?;
+        Ok(())
     }
 }

@@ -3,7 +3,7 @@ use Rattle.std.proofs.lemmas.List.{append-nil}
 use Rattle.rpki_blocks.proofs.Lengths.{passed_long}
 use Rattle.rpki_ext.specs.CertificateExtensions.{ExtensionFields, extensions}
 use Rattle.rpki_ext.proofs.WritingSteps.{row_longer, still_long, written_before, grown, grown_on_ok}
-use Rattle.rpki_ext.proofs.extensions.Extensions.encode_row.Goals as goal
+use Rattle.rpki_ext.proofs.extensions.Extensions.append_row.Goals as goal
 
 pub returns-in_err-put_basic_constraints-clause-too_long : goal.returns-in_err-put_basic_constraints-clause-too_long
 returns-in_err-put_basic_constraints-clause-too_long c = passed_long c.from_residual.result _ _ _ c.from_residual.ensures.1 c.in_err-put_basic_constraints.ensures.too_long (rw (← c.self.view_is) (row_longer _ 0))
