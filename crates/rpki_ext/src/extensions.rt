@@ -132,7 +132,7 @@ fn known_identifier(identifier: &Option<KeyIdentifier>)
 }
 
 impl Extensions {
-    /// Nothing that may be left out, and no resources.
+    /// Makes what extensions give without any that may be left out, and without resources.
     pub fn bare(
         subject_key_identifier: KeyIdentifier,
         key_usage: KeyUsage,
@@ -178,7 +178,7 @@ impl Extensions {
         let _numbers = self.as_resources.is_present();
     }
 
-    // The URIs of Subject Information Access, once more.
+    // Clones the URIs of Subject Information Access.
     fn try_clone_access(
         &self,
         alloc: Global,
@@ -207,7 +207,7 @@ impl Extensions {
         )
     }
 
-    // The resources, once more.
+    // Clones the resources.
     fn try_clone_resources(
         &self,
         alloc: Global,
@@ -220,7 +220,7 @@ impl Extensions {
         beside(v6, self.as_resources.try_clone(alloc))
     }
 
-    /// The same once more.
+    /// Clones what the extensions give.
     pub fn try_clone(&self, alloc: Global) -> Result<Extensions, AllocError>
         ensures { IfOk result (λ copy. copy ≡ self.now) }
     {
@@ -251,8 +251,8 @@ impl Extensions {
         })
     }
 
-    /// Appends the extensions, one after the other, in one fixed order and each with the flag that it must have (RFC 6487 4.8). After an error a
-    /// front of the row may stand there.
+    /// Appends the extensions, one after the other, in one fixed order and each with the flag that
+    /// it must have (RFC 6487 4.8). After an error a front of them may stand there.
     pub fn encode_row(&self, alloc: Global, out: &mut Vec<u8>) -> Result<(), EncodeError>
         ensures ok { OnOk result (out.new.items ≡ out.old.items ++ extensions self.now) }
         ensures too_long { IsErrOf result EncodeError.TooLong
