@@ -80,9 +80,11 @@ impl Cert {
         Ok(joined(cert, kept))
     }
 
-    /// The certification authority that the certificate is of, below this issuer: it is valid at this moment, names the issuer's key and where the
-    /// issuer's certificate is, the issuer's key signed it, and it overclaims nothing (RFC 6487 7.2). It has what it lists or inherits of the issuer's
-    /// numbers. Errs with the first of these lines that isn't true.
+    /// Uses the certificate up, also where it is rejected, and verifies it as one of a CA below
+    /// this issuer: it is valid at this moment, names the issuer's key and where the issuer's
+    /// certificate is, the issuer's key signed it, and it overclaims nothing (RFC 6487 7.2). The
+    /// result has what the certificate lists or inherits of the issuer's numbers. Errs with the
+    /// first of these checks that fails.
     pub fn verify_ca_at<V: Verifier>(
         self,
         alloc: Global,
@@ -100,7 +102,8 @@ impl Cert {
         self.verify_issued_at(alloc, issuer, strict, now, verifier)
     }
 
-    /// The end entity that the certificate is of, below this issuer; the lines are those of a certification authority.
+    /// Uses the certificate up, also where it is rejected, and verifies it as one of an end entity
+    /// below this issuer. The checks are those of [`Cert::verify_ca_at`].
     pub fn verify_ee_at<V: Verifier>(
         self,
         alloc: Global,
@@ -141,8 +144,10 @@ impl Cert {
         Ok(self.listed_sets(alloc)?)
     }
 
-    /// The trust anchor that the certificate is of, which a locator names: it is valid at this moment, inherits nothing, and its own key signed it
-    /// (RFC 6487 7.2). It has what it lists. Errs with the first of these lines that isn't true.
+    /// Uses the certificate up, also where it is rejected, and verifies it as one of a trust anchor
+    /// that a locator names: it is valid at this moment, inherits nothing, and its own key signed
+    /// it (RFC 6487 7.2). The result has what the certificate lists. Errs with the first of these
+    /// checks that fails. [`Cert::verify_ta_ref_at`] borrows.
     pub fn verify_ta_at<V: Verifier>(
         self,
         alloc: Global,
