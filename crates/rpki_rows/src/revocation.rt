@@ -87,8 +87,8 @@ fn answered(out: &mut Answer, words: &Words<'_>) -> Option<()> {
     Some(())
 }
 
-/// What the last member of a path holds, or which member is refused, and why, where the lists of a
-/// store are asked; and whether the answer is the same where serial numbers are cached.
+/// Tells what the last member of a path holds, or which member is rejected, and why, where the
+/// lists of a store are asked; and whether the answer stays where serial numbers are cached.
 pub fn revocation(words: &Words<'_>, out: &mut Answer) {
     if answered(out, words).is_none() {
         out.text("unfit");
