@@ -84,7 +84,8 @@ impl Cert {
     /// this issuer: it is valid at this moment, names the issuer's key and where the issuer's
     /// certificate is, the issuer's key signed it, and it overclaims nothing (RFC 6487 7.2). The
     /// result has what the certificate lists or inherits of the issuer's numbers. Errs with the
-    /// first of these checks that fails.
+    /// first of these checks that fails. [`Cert::inspect_ca`] and its siblings borrow, so that
+    /// several kinds can be asked for first.
     pub fn verify_ca_at<V: Verifier>(
         self,
         alloc: Global,
@@ -103,7 +104,8 @@ impl Cert {
     }
 
     /// Uses the certificate up, also where it is rejected, and verifies it as one of an end entity
-    /// below this issuer. The checks are those of [`Cert::verify_ca_at`].
+    /// below this issuer. The checks are those of [`Cert::verify_ca_at`]. [`Cert::inspect_ee`] and
+    /// its siblings borrow, so that several kinds can be asked for first.
     pub fn verify_ee_at<V: Verifier>(
         self,
         alloc: Global,
@@ -147,7 +149,8 @@ impl Cert {
     /// Uses the certificate up, also where it is rejected, and verifies it as one of a trust anchor
     /// that a locator names: it is valid at this moment, inherits nothing, and its own key signed
     /// it (RFC 6487 7.2). The result has what the certificate lists. Errs with the first of these
-    /// checks that fails. [`Cert::verify_ta_ref_at`] borrows.
+    /// checks that fails. [`Cert::verify_ta_ref_at`] borrows. [`Cert::inspect_ta`] and its siblings
+    /// borrow, so that several kinds can be asked for first.
     pub fn verify_ta_at<V: Verifier>(
         self,
         alloc: Global,
