@@ -21,7 +21,7 @@ impl Model for Addr {
 }
 
 impl Addr {
-    /// Its number.
+    /// Returns its number.
     pub fn to_bits(self) -> u128
         ensures { result ≡ self }
     {

@@ -84,7 +84,7 @@ impl AsResources {
         Ok(resources)
     }
 
-    /// What stands next of AS numbers: ASIdentifiers (RFC 3779 3.2.3). An empty list is missing.
+    /// Reads the ASIdentifiers that stand next (RFC 3779 3.2.3). An empty list counts as missing.
     /// Elements may stand in any order, overlap and touch. Errs where a lower end is above its
     /// upper one, and where routing domain identifiers stand (RFC 6487 4.8.11).
     pub fn take_from(alloc: Global, cursor: &mut Cursor<'_>) -> Result<AsResources, DecodeError>

@@ -27,7 +27,7 @@ impl Asn {
     /// The number 2^32 - 1.
     pub const MAX: Asn = Asn(u32::MAX);
 
-    /// Its number.
+    /// Returns its number.
     pub fn into_u32(self) -> u32
         ensures { result ≡ self }
     {

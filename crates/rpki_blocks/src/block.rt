@@ -42,14 +42,14 @@ impl<B: Bound> Model for Block<B> {
 impl<B: Bound> Block<B> {
     ghost use Rattle.rpki_blocks.specs.Pairs.{IsMeet, AreApart, IsJoin};
 
-    /// The lower end.
+    /// Returns the lower end.
     pub fn min(self) -> B
         ensures { B.number result ≡ self.min }
     {
         self.min
     }
 
-    /// The upper end.
+    /// Returns the upper end.
     pub fn max(self) -> B
         ensures { B.number result ≡ self.max }
     {
@@ -161,7 +161,7 @@ impl<B: Bound> Clone for Block<B> {
     }
 }
 
-/// The numbers between the two ends, in either order.
+/// Makes the block of the numbers between the two ends, which come in either order.
 impl<B: Bound> From<(B, B)> for Block<B> {
     ghost use Rattle.std.specs.Prelude.{◌≡◌, min, max};
 

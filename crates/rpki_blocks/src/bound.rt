@@ -22,7 +22,7 @@ pub trait Bound: Copy + Ord {
     fn known(self)
         ensures { number self ≤ greatest };
 
-    /// The value with the next number; `None` at the greatest.
+    /// Returns the value with the next number, or `None` at the greatest.
     fn next(self) -> Option<Self>
         ensures last { IsNone result ↔ number self ≡ greatest }
         ensures more { IfSome result (λ after. number after ≡ number self + 1) };
@@ -31,28 +31,28 @@ pub trait Bound: Copy + Ord {
     ghost ordered: { (x y : Self) → Self.cmp x y ≡ nat_cmp (number x) (number y) };
 }
 
-/// Whether the first number is below the second.
+/// Returns whether the first number is below the second.
 pub fn is_below<B: Bound>(x: B, y: B) -> bool
     ensures { IsTrue result ↔ B.number x < B.number y }
 {
     x.cmp(&y).is_lt()
 }
 
-/// How the numbers compare.
+/// Compares the numbers.
 pub fn order<B: Bound>(x: B, y: B) -> Ordering
     ensures { result ≡ nat_cmp (B.number x) (B.number y) }
 {
     x.cmp(&y)
 }
 
-/// The one with the lesser number.
+/// Returns the one with the lesser number.
 pub fn lesser<B: Bound>(x: B, y: B) -> B
     ensures { B.number result ≡ min (B.number x) (B.number y) }
 {
     if is_below(y, x) { y } else { x }
 }
 
-/// The one with the greater number.
+/// Returns the one with the greater number.
 pub fn greater<B: Bound>(x: B, y: B) -> B
     ensures { B.number result ≡ max (B.number x) (B.number y) }
 {

@@ -33,7 +33,7 @@ impl<B: Bound> Model for BlocksBuilder<B> {
 }
 
 impl<B: Bound> BlocksBuilder<B> {
-    /// No block. The builder keeps the allocator for what is pushed.
+    /// Makes a builder without blocks. It keeps the allocator for what is pushed.
     pub fn new(alloc: Global) -> BlocksBuilder<B>
         ensures { result ≡ [] }
     {
@@ -42,8 +42,8 @@ impl<B: Bound> BlocksBuilder<B> {
         }
     }
 
-    /// One block more: a block, its two ends in either order, or a prefix. After an error the
-    /// builder is as it was.
+    /// Adds a block: a block, its two ends in either order, or a prefix. After an error the builder
+    /// is as it was.
     pub fn push<T: Into<Block<B>>>(&mut self, block: T) -> Result<(), AllocError>
         ensures ok { OnOk result
             ((b : Span) × T.converts block b × (self.new ≡ self.old ++ b ∷ [])) }
@@ -53,8 +53,8 @@ impl<B: Bound> BlocksBuilder<B> {
         Ok(())
     }
 
-    /// The set of the numbers of the blocks that were pushed. It is made in place, in time n log n
-    /// of the number of blocks, and never errs.
+    /// Makes the set of the numbers of the blocks that were pushed. It works in place, in time n
+    /// log n of the number of blocks, and never errs.
     pub fn finalize(self) -> Result<Chain<B>, AllocError>
         ensures ok { IsOk result }
         ensures union { IfOk result (λ chain. HaveSameNumbers chain self) }

@@ -37,7 +37,7 @@ impl<B: Bound> Model for Chain<B> {
 }
 
 impl<B: Bound> Chain<B> {
-    /// The empty set.
+    /// Makes the empty set.
     pub fn empty(alloc: Global) -> Chain<B>
         ensures { result ≡ [] }
     {
@@ -46,7 +46,7 @@ impl<B: Bound> Chain<B> {
         }
     }
 
-    /// The set of the numbers of some blocks, given in any order, which may overlap.
+    /// Makes the set of the numbers of some blocks, given in any order, which may overlap.
     pub fn from_iter<I: IntoIterator<Item = Block<B>>>(
         alloc: Global,
         blocks: I,
@@ -62,7 +62,7 @@ impl<B: Bound> Chain<B> {
         Ok(Chain::from_blocks(all))
     }
 
-    // The same for blocks in a vector, which is sorted and merged in place.
+    // Makes the set of blocks in a vector, which is sorted and merged in place.
     pub(crate) fn from_blocks(mut blocks: Vec<Block<B>>) -> Chain<B>
         ensures union { HaveSameNumbers result blocks.items }
         ensures set { IsSet B.greatest result }
@@ -91,7 +91,7 @@ impl<B: Bound> Chain<B> {
         Chain { blocks }
     }
 
-    /// An equal set.
+    /// Clones the set. The copy is equal.
     pub fn try_clone(&self, alloc: Global) -> Result<Chain<B>, AllocError>
         ensures same { IfOk result (λ copy. copy ≡ self.now) }
         ensures set { IfOk result (IsSet B.greatest) }
@@ -101,14 +101,14 @@ impl<B: Bound> Chain<B> {
         Ok(Chain { blocks })
     }
 
-    /// Whether the set has no number.
+    /// Returns whether the set has no number.
     pub fn is_empty(&self) -> bool
         ensures { IsTrue result ↔ self.now ≡ [] }
     {
         self.blocks.is_empty()
     }
 
-    /// The blocks of the set: ascending, disjoint and not adjacent.
+    /// Iterates over the blocks of the set: ascending, disjoint and not adjacent.
     pub fn iter(&self) -> Iter<'_, Block<B>>
         ensures all { iter_rest result ≡ self.now }
         ensures set { IsSet B.greatest self.now }
@@ -116,7 +116,7 @@ impl<B: Bound> Chain<B> {
         self.blocks.iter()
     }
 
-    /// Whether a number is in the set.
+    /// Returns whether a number is in the set.
     pub fn contains(&self, at: B) -> bool
         ensures { result ≡ is_in (B.number at) self.now }
     {
@@ -126,7 +126,7 @@ impl<B: Bound> Chain<B> {
         k < self.blocks.len() && !is_below(at, self.blocks[k].min())
     }
 
-    /// Whether each number of the set is in the other.
+    /// Returns whether each number of the set is in the other.
     pub fn is_encompassed(&self, other: &Chain<B>) -> bool
         ensures inside { IsTrue result ↔ AreIn self.now other.now }
         ensures outside { IsFalse result ↔ Escapes B.greatest self.now other.now }
@@ -151,7 +151,7 @@ impl<B: Bound> Chain<B> {
         true
     }
 
-    /// The numbers that are in both sets.
+    /// Returns the numbers that are in both sets.
     pub fn intersection(&self, alloc: Global, other: &Chain<B>) -> Result<Chain<B>, AllocError>
         ensures both { IfOk result (IsIntersection self.now other.now) }
         ensures set { IfOk result (IsSet B.greatest) }

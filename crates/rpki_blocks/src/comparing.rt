@@ -13,91 +13,91 @@ use std::alloc::AllocError;
 use std::cmp::Ordering;
 use std::hash::{Hash, Hasher};
 
-/// A copy of an address has its number.
+/// Clones an address. The copy has its number.
 pub fn copied_address(address: &Addr) -> Result<Addr, AllocError>
     ensures { IsOkAnd result (λ copy. copy ≡ address.now) }
 {
     address.clone()
 }
 
-/// Addresses are equal where their numbers are.
+/// Compares addresses: they are equal where their numbers are.
 pub fn equal_addresses(one: &Addr, other: &Addr) -> bool
     ensures { IsTrue result ↔ one.now ≡ other.now }
 {
     one == other
 }
 
-/// Addresses stand in the order of their numbers.
+/// Orders addresses by their numbers.
 pub fn ordered_addresses(one: &Addr, other: &Addr) -> Ordering
     ensures { result ≡ nat_cmp one.now other.now }
 {
     one.cmp(other)
 }
 
-/// The least AS number is 0.
+/// Returns the least AS number, which is 0.
 pub fn least_as_number() -> Asn
     ensures { result ≡ 0 }
 {
     Asn::MIN
 }
 
-/// The greatest AS number is 2^32 - 1.
+/// Returns the greatest AS number, which is 2^32 - 1.
 pub fn greatest_as_number() -> Asn
     ensures { result ≡ 2 ^ 32 - 1 }
 {
     Asn::MAX
 }
 
-/// A copy of an AS number is the same number.
+/// Clones an AS number. The copy is the same number.
 pub fn copied_as_number(number: &Asn) -> Result<Asn, AllocError>
     ensures { IsOkAnd result (λ copy. copy ≡ number.now) }
 {
     number.clone()
 }
 
-/// AS numbers are equal where they are the same.
+/// Compares AS numbers: they are equal where they are the same.
 pub fn equal_as_numbers(one: &Asn, other: &Asn) -> bool
     ensures { IsTrue result ↔ one.now ≡ other.now }
 {
     one == other
 }
 
-/// AS numbers stand in their order.
+/// Orders AS numbers.
 pub fn ordered_as_numbers(one: &Asn, other: &Asn) -> Ordering
     ensures { result ≡ nat_cmp one.now other.now }
 {
     one.cmp(other)
 }
 
-/// A copy of a block has its ends.
+/// Clones a block. The copy has its ends.
 pub fn copied_block<B: Bound>(block: &Block<B>) -> Result<Block<B>, AllocError>
     ensures { IsOkAnd result (λ copy. copy ≡ block.now) }
 {
     block.clone()
 }
 
-/// A copy of a prefix is the same prefix.
+/// Clones a prefix. The copy is the same prefix.
 pub fn copied_prefix(prefix: &Prefix) -> Result<Prefix, AllocError>
     ensures { IsOkAnd result (λ copy. copy ≡ prefix.now) }
 {
     prefix.clone()
 }
 
-/// A copy of a mode is the same mode.
+/// Clones a mode. The copy is the same mode.
 pub fn copied_overclaim(mode: &Overclaim) -> Result<Overclaim, AllocError>
     ensures { IsOkAnd result (λ copy. copy ≡ mode.now) }
 {
     mode.clone()
 }
 
-/// Modes are equal where they are the same.
+/// Compares modes: they are equal where they are the same.
 pub fn equal_overclaims(one: &Overclaim, other: &Overclaim) -> bool
     ensures { IsTrue result ↔ one.now ≡ other.now }
 {
     one == other
 }
 
-/// Equal modes feed a hash function alike.
+/// Hashes two modes. Equal ones feed a hash function alike.
 pub fn hashed_overclaims<H: Hasher>(
     one: &Overclaim,
     other: &Overclaim,

@@ -67,8 +67,8 @@ fn union_in<K: Elements>(
     Ok(Resources::blocks(Chain::from_blocks(blocks)))
 }
 
-/// An IPAddressChoice or an ASIdentifierChoice: NULL for what the issuer has, or a SEQUENCE of
-/// elements.
+/// Reads an IPAddressChoice or an ASIdentifierChoice: NULL for what the issuer has, or a SEQUENCE
+/// of elements.
 #[tactic(auto, unfolding(crate::specs::Unions::Reading::choice_at))]
 pub(crate) fn take_choice<K: Elements>(
     alloc: Global,

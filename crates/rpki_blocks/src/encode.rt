@@ -174,7 +174,7 @@ fn put_critical(out: &mut Vec<u8>, id: &[u8], content: Option<Vec<u8>>) -> Resul
 
 impl IpResources {
     /// Appends the critical extension with what a certificate lists of IPv4 and of IPv6 (RFC 3779
-    /// 2.2), under the identifier of the mode; nothing where both are missing. Answers `TooLong`
+    /// 2.2), under the identifier of the mode; nothing where both are missing. Errs with `TooLong`
     /// where a content would have 2^32 octets or more.
     pub fn encode_extension(
         alloc: Global,
@@ -192,8 +192,8 @@ impl IpResources {
 
 impl AsResources {
     /// Appends the critical extension with what a certificate lists of AS numbers (RFC 3779 3.2),
-    /// under the identifier of the mode; nothing where they are missing. Answers `TooLong` where a
-    /// content would have 2^32 octets or more.
+    /// under the identifier of the mode; nothing where they are missing. Errs with `TooLong` where
+    /// a content would have 2^32 octets or more.
     pub fn encode_extension(
         &self,
         alloc: Global,

@@ -207,10 +207,11 @@ impl IpResources {
         Ok(families)
     }
 
-    /// What stands next of IPv4 and of IPv6: IPAddrBlocks (RFC 3779 2.2.3). `None` where a family
-    /// isn't there; an empty list of it is missing. Elements may stand in any order, overlap and
-    /// touch. Errs where a family stands twice, where none or another one stands, where there are
-    /// more bits than an address has, and where a lower end is above its upper one.
+    /// Reads the IPAddrBlocks that stand next (RFC 3779 2.2.3), and returns what they list of IPv4
+    /// and of IPv6. A family that isn't there is `None`; an empty list of it counts as missing.
+    /// Elements may stand in any order, overlap and touch. Errs where a family stands twice, where
+    /// none or another one stands, where there are more bits than an address has, and where a lower
+    /// end is above its upper one.
     pub fn take_families_from(
         alloc: Global,
         cursor: &mut Cursor<'_>,

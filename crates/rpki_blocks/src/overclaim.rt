@@ -16,8 +16,8 @@ pub enum Overclaim {
 }
 
 impl Overclaim {
-    /// The content of the OBJECT IDENTIFIER of the certificate policy (RFC 6484 1.2, RFC 8360
-    /// 4.2.1).
+    /// Returns the content of the OBJECT IDENTIFIER of the certificate policy (RFC 6484 1.2, RFC
+    /// 8360 4.2.1).
     pub fn policy_id(self) -> &'static [u8]
         ensures identifier { result.now ≡ policy_identifier self }
         ensures valid { IsOid result.now }
@@ -28,8 +28,8 @@ impl Overclaim {
         }
     }
 
-    /// The content of the OBJECT IDENTIFIER of the extension with IP resources (RFC 3779 2.2.1, RFC
-    /// 8360 4.2.2.1).
+    /// Returns the content of the OBJECT IDENTIFIER of the extension with IP resources (RFC 3779
+    /// 2.2.1, RFC 8360 4.2.2.1).
     pub fn ip_res_id(self) -> &'static [u8]
         ensures identifier { result.now ≡ ip_identifier self }
         ensures valid { IsOid result.now }
@@ -40,8 +40,8 @@ impl Overclaim {
         }
     }
 
-    /// The content of the OBJECT IDENTIFIER of the extension with AS resources (RFC 3779 3.2.1, RFC
-    /// 8360 4.2.2.3).
+    /// Returns the content of the OBJECT IDENTIFIER of the extension with AS resources (RFC 3779
+    /// 3.2.1, RFC 8360 4.2.2.3).
     pub fn as_res_id(self) -> &'static [u8]
         ensures identifier { result.now ≡ as_identifier self }
         ensures valid { IsOid result.now }
@@ -52,7 +52,8 @@ impl Overclaim {
         }
     }
 
-    /// What the identifier of a certificate policy says, if it is [`Overclaim::policy_id`] of one.
+    /// Returns the mode that the identifier of a certificate policy names, if it is
+    /// [`Overclaim::policy_id`] of one.
     pub fn from_policy(identifier: &[u8]) -> Option<Overclaim>
         ensures named { IsNamed policy_identifier identifier.now result }
         ensures reads { result ≡ named policy_identifier identifier.now }
@@ -64,7 +65,7 @@ impl Overclaim {
         )
     }
 
-    /// What the identifier of an extension with IP resources says, if it is
+    /// Returns the mode that the identifier of an extension with IP resources names, if it is
     /// [`Overclaim::ip_res_id`] of one.
     pub fn from_ip_res(identifier: &[u8]) -> Option<Overclaim>
         ensures named { IsNamed ip_identifier identifier.now result }
@@ -73,7 +74,7 @@ impl Overclaim {
         which(identifier, oid::PE_IP_ADDR_BLOCK, oid::PE_IP_ADDR_BLOCK_V2)
     }
 
-    /// What the identifier of an extension with AS resources says, if it is
+    /// Returns the mode that the identifier of an extension with AS resources names, if it is
     /// [`Overclaim::as_res_id`] of one.
     pub fn from_as_res(identifier: &[u8]) -> Option<Overclaim>
         ensures named { IsNamed as_identifier identifier.now result }

@@ -29,8 +29,8 @@ impl Model for Prefix {
 }
 
 impl Prefix {
-    /// The prefix of `len` bits, at most 128. The bits of `addr` past them count as zero. An IPv4
-    /// address stands in the upper 32 bits: 10.0.0.0/8 is `Prefix::new(0x0A00_0000 << 96, 8)`.
+    /// Makes the prefix of `len` bits, at most 128. The bits of `addr` past them count as zero. An
+    /// IPv4 address stands in the upper 32 bits: 10.0.0.0/8 is `Prefix::new(0x0A00_0000 << 96, 8)`.
     pub fn new(addr: u128, len: u8) -> Prefix
         requires { len ≤ 128 }
         ensures address { result.addr ≡ addr }
@@ -40,7 +40,7 @@ impl Prefix {
     }
 }
 
-/// The addresses with the prefix.
+/// Makes the block of the addresses with the prefix.
 impl From<Prefix> for IpBlock {
     ghost use Rattle.rpki_blocks.specs.Prefixes.{IsPrefixBlock};
 
@@ -67,8 +67,8 @@ fn ends(addr: u128, len: u8) -> (u128, u128)
 }
 
 impl IpBlocks {
-    /// Whether the set is one of whole IPv4 addresses, which stand in the upper 32 bits: every
-    /// lower end has 96 zero bits and every upper end 96 one bits at its foot.
+    /// Returns whether the set is one of whole IPv4 addresses, which stand in the upper 32 bits:
+    /// every lower end has 96 zero bits and every upper end 96 one bits at its foot.
     pub fn is_v4(&self) -> bool
         ensures { result ≡ list_all is_v4_block self.now }
     {

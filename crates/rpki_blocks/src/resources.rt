@@ -26,7 +26,7 @@ impl IssueError {
     ghost use Rattle.rpki_blocks.specs.IssueErrorNames.{issue_error_name};
     ghost use Rattle.rpki_blocks.specs.declared.resources.IssueError.TheVariants as error;
 
-    /// The variant's name.
+    /// Returns the variant's name.
     pub fn name(&self) -> &'static str
         ensures { result.now ≡ issue_error_name self.now }
     {
@@ -66,7 +66,7 @@ pub struct Inherited;
 impl Inherited {
     ghost use Rattle.std.specs.Prelude.{◌≡◌, codes};
 
-    /// The type's name.
+    /// Returns the type's name.
     pub fn name(&self) -> &'static str
         ensures { result.now ≡ codes "Inherited" }
     {
@@ -109,7 +109,7 @@ impl<B: Bound> Model for Resources<B> {
 impl<B: Bound> Resources<B> {
     ghost use Rattle.rpki_blocks.specs.Resources.{missing, inherit, blocks as listed_blocks, listed, IsResources, HasNoBlocks};
 
-    /// Nothing of the kind.
+    /// Makes resources that list nothing of the kind.
     pub fn missing() -> Resources<B>
         ensures { result ≡ missing }
     {
@@ -118,7 +118,7 @@ impl<B: Bound> Resources<B> {
         }
     }
 
-    /// What the issuer has.
+    /// Makes resources that mean what the issuer has.
     pub fn inherit() -> Resources<B>
         ensures { result ≡ inherit }
     {
@@ -127,7 +127,7 @@ impl<B: Bound> Resources<B> {
         }
     }
 
-    /// A set; the empty one is missing.
+    /// Makes resources that list a set. The empty set counts as missing.
     pub fn blocks(chain: Chain<B>) -> Resources<B>
         ensures { result ≡ listed chain }
     {
@@ -140,7 +140,7 @@ impl<B: Bound> Resources<B> {
         }
     }
 
-    /// Equal resources.
+    /// Clones the resources. The copy is equal.
     pub fn try_clone(&self, alloc: Global) -> Result<Resources<B>, AllocError>
         ensures same { IfOk result (λ copy. copy ≡ self.now) }
     {
@@ -152,7 +152,7 @@ impl<B: Bound> Resources<B> {
         Ok(Resources { choice })
     }
 
-    /// Whether there is something of the kind: a set, or the issuer's.
+    /// Returns whether there is something of the kind: a set, or the issuer's.
     pub fn is_present(&self) -> bool
         ensures present { IsTrue result ↔ self.now ≢ missing }
         ensures fits { IsResources B.greatest self.now }
@@ -160,14 +160,14 @@ impl<B: Bound> Resources<B> {
         !matches!(&self.choice, Choice::Missing)
     }
 
-    /// Whether the issuer's set is meant.
+    /// Returns whether the issuer's set is meant.
     pub fn is_inherited(&self) -> bool
         ensures { IsTrue result ↔ self.now ≡ inherit }
     {
         matches!(&self.choice, Choice::Inherit)
     }
 
-    /// The set, where one is listed.
+    /// Returns the set, where one is listed.
     pub fn as_blocks(&self) -> Option<&Chain<B>>
         ensures { MatchOption result (HasNoBlocks self.now)
             (λ chain. self.now ≡ listed_blocks chain.now) }
@@ -183,7 +183,8 @@ impl<B: Bound> Chain<B> {
     ghost use Rattle.rpki_blocks.specs.Resources.{inherit, ListsSet};
     ghost use Rattle.rpki_blocks.specs.IssuedSets.{IsIssued, IsListed, IsOverclaim};
 
-    /// The set that resources list; missing ones list the empty set.
+    /// Returns the set that resources list. Missing ones list the empty set. Errs where the
+    /// issuer's set is meant.
     pub fn from_resources(alloc: Global, resources: Resources<B>) -> Result<Chain<B>, Inherited>
         ensures listed { MatchResult result (ListsSet resources) (λ _. resources ≡ inherit) }
         ensures set { IfOk result (IsSet B.greatest) }
@@ -195,7 +196,7 @@ impl<B: Bound> Chain<B> {
         }
     }
 
-    /// The set that a certificate gets which lists resources, under an issuer with this set:
+    /// Resolves the resources that a certificate lists, under an issuer with this set. Returns
     /// nothing where they are missing, the issuer's set where they are inherited, else the listed
     /// numbers. Listed numbers that the issuer doesn't have are an error or left out, as `mode`
     /// says.

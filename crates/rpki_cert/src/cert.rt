@@ -20,8 +20,8 @@ use rpki_parts::SignedData;
 use std::alloc::{AllocError, Global};
 use std::marker::Model;
 
-/// A resource certificate: what is signed, as it was read or made, with its signature, and the fields that it has (RFC 5280 4.1,
-/// RFC 6487 4).
+/// A resource certificate: what is signed, as it was read or made, with its signature, and the
+/// fields that it has (RFC 5280 4.1, RFC 6487 4).
 #[derive(Drop)]
 pub struct Cert {
     pub(crate) tbs: TbsCert,
@@ -70,16 +70,17 @@ impl Cert {
         Ok(cert)
     }
 
-    /// The certificate that a front of the octets is; what follows it is left unread. Errs with a fault where no front is one; which of
-    /// several isn't promised.
+    /// Decodes the certificate at the start of `octets` and ignores what follows. Fails if there is
+    /// none; which error is returned is unspecified.
     pub fn decode(alloc: Global, octets: &[u8]) -> Result<Cert, DecodeError>
         ensures { MeansOrMemory (Means IsCertificate) result octets.now }
     {
         Cert::decode_shared(alloc, Bytes::copy_from_slice(alloc, octets)?)
     }
 
-    /// The same of octets that are shared (own): what is kept shares the buffer and keeps all of it alive; a copy ([`Cert::try_clone`])
-    /// copies no octets.
+    /// Decodes the certificate at the start of shared octets and ignores what follows (own). What
+    /// is kept shares the buffer and keeps all of it alive; a copy ([`Cert::try_clone`]) copies no
+    /// octets. Fails as [`Cert::decode`] does.
     pub fn decode_shared(alloc: Global, octets: Bytes) -> Result<Cert, DecodeError>
         ensures { MeansOrMemory (Means IsCertificate) result octets }
     {
@@ -87,8 +88,8 @@ impl Cert {
         Cert::take_from(alloc, &mut cursor)
     }
 
-    /// The certificate that stands next, one SEQUENCE (RFC 5280 4.1). Errs with a fault where no front of what is left is one; which of
-    /// several isn't promised.
+    /// Reads the certificate that stands next, one SEQUENCE (RFC 5280 4.1). Fails if no front of
+    /// the remaining octets is one; which error is returned is unspecified.
     pub fn take_from(alloc: Global, cursor: &mut Cursor<'_>) -> Result<Cert, DecodeError>
         ensures answers { AnswersOrMemory IsCertificate cursor.old result cursor.new }
         ensures keeps { Keeps result cursor.old cursor.new }
@@ -96,7 +97,8 @@ impl Cert {
         Cert::read(alloc, cursor)
     }
 
-    /// The same where a SEQUENCE stands next, else `None`.
+    /// Reads the certificate where a SEQUENCE stands next. Returns `None` at the end and before
+    /// another identifier octet.
     pub fn take_opt_from(
         alloc: Global,
         cursor: &mut Cursor<'_>,
@@ -111,7 +113,7 @@ impl Cert {
         }
     }
 
-    /// What stands inside the SEQUENCE of a certificate, without its identifier and length.
+    /// Reads what stands inside the SEQUENCE of a certificate, without its identifier and length.
     pub fn from_constructed(alloc: Global, content: &mut Cursor<'_>) -> Result<Cert, DecodeError>
         ensures answers { AnswersOrMemory IsCertificateContent content.old result content.new }
         ensures keeps { Keeps result content.old content.new }
@@ -119,29 +121,30 @@ impl Cert {
         Cert::read_content(alloc, content)
     }
 
-    /// The fields of what is signed.
+    /// Returns the fields of what is signed.
     pub fn as_tbs(&self) -> &TbsCert
         ensures { result.now ≡ self.now.fields }
     {
         &self.tbs
     }
 
-    /// What is signed, as it was read or made, and its signature.
+    /// Returns what is signed, as it was read or made, and its signature.
     pub fn signed_data(&self) -> &SignedData
         ensures { result.now ≡ self.now.signed_data }
     {
         &self.signed_data
     }
 
-    /// Appends the certificate: the SEQUENCE of what is signed, as it was read or made, the algorithm and the signature. Of a
-    /// certificate that was read these are its own octets. Answers `TooLong` where the content would have 2^32 octets or more.
+    /// Appends the certificate: the SEQUENCE of what is signed, as it was read or made, the
+    /// algorithm and the signature. For a certificate that was read these are its own octets. Errs
+    /// with `TooLong` where the content would have 2^32 octets or more.
     pub fn encode_ref(&self, alloc: Global, out: &mut Vec<u8>) -> Result<(), EncodeError>
         ensures { Writes (signed_part self.now.signed_data) out.old.items result out.new.items }
     {
         self.signed_data.encode_ref(alloc, out)
     }
 
-    /// The same octets, on their own.
+    /// Writes the certificate's octets, as [`Cert::encode_ref`] does, into a buffer of their own.
     pub fn to_captured(&self, alloc: Global) -> Result<Bytes, EncodeError>
         ensures ok { IfOk result (λ octets. octets ≡ signed_data self.now.signed_data) }
         ensures too_long { SaysLong result (concat (signed_pieces self.now.signed_data)) }
@@ -152,7 +155,7 @@ impl Cert {
         Ok(Bytes::from_vec(octets).map_err(AllocError::from)?)
     }
 
-    /// The same certificate once more.
+    /// Clones the certificate.
     pub fn try_clone(&self, alloc: Global) -> Result<Cert, AllocError>
         ensures { IfOk result (λ c. c ≡ self.now) }
     {

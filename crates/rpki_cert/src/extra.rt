@@ -10,7 +10,8 @@ use rpki_der::{Oid, oid};
 /// An extension that is added to those of a certificate, without the critical flag (RFC 5280 4.1).
 #[derive(Drop)]
 pub struct Extra {
-    /// The place that it stands just before, from 0 on; behind the last where this is the number of places.
+    /// The place that it stands just before, from 0 on; behind the last where this is the number of
+    /// places.
     pub at: usize,
     /// Its identifier.
     pub oid: Oid,
@@ -49,7 +50,7 @@ fn is_known(identifier: &[u8]) -> bool
     is_one_of(identifier, &KNOWN)
 }
 
-/// Whether readers know none of the kinds.
+/// Returns whether readers know none of the kinds.
 pub(crate) fn are_unknown(extras: &[Extra]) -> bool
     ensures { IsTrue result ↔ AreUnknown extras.now }
 {
@@ -61,7 +62,7 @@ pub(crate) fn are_unknown(extras: &[Extra]) -> bool
     true
 }
 
-/// Whether each is to stand before one of so many places, or behind the last.
+/// Returns whether each is to stand before one of so many places, or behind the last.
 pub(crate) fn are_placed(extras: &[Extra], count: usize) -> bool
     ensures { IsTrue result ↔ ArePlaced count extras.now }
 {

@@ -21,8 +21,8 @@ use rpki_der::{Cursor, DecodeError, EncodeError, Piece, put_value, tag};
 use std::alloc::{AllocError, Global};
 use std::marker::Model;
 
-/// What a certificate is built of: the values before its extensions, the extensions, each as it stands, and what stands behind its
-/// TBSCertificate (RFC 5280 4.1).
+/// What a certificate is built of: the values before its extensions, the extensions, each as it
+/// stands, and what stands behind its TBSCertificate (RFC 5280 4.1).
 #[derive(Drop)]
 pub(crate) struct Frame {
     pub(crate) before: Vec<Piece>,
@@ -107,7 +107,8 @@ fn certificate_frame(alloc: Global, octets: &Bytes) -> Result<Frame, DecodeError
     read(alloc, octets)
 }
 
-/// What the certificate that the octets begin with is built of. Errs with `NoCertificate` where they begin with none, or with `Memory`.
+/// Reads what the certificate that the octets begin with is built of. Errs with `NoCertificate`
+/// where they begin with none, or with `Memory`.
 pub(crate) fn frame_of(alloc: Global, octets: &[u8]) -> Result<Frame, RearrangeError>
     ensures ok { IfOk result (λ frame. BeginsWith octets.now frame) }
     ensures refused { IfErr result (λ e. (order : List ℕ) (extras : List Extra)
@@ -141,7 +142,7 @@ fn put_row(alloc: Global, row: &[u8], out: &mut Vec<u8>) -> Result<(), EncodeErr
 }
 
 impl Frame {
-    /// How many extensions there are.
+    /// Returns how many extensions there are.
     pub(crate) fn count(&self) -> usize
         ensures { result ≡ length self.now.old }
     {
@@ -170,7 +171,8 @@ impl Frame {
         Ok(content)
     }
 
-    /// The certificate with the octets of another row of extensions. Answers `TooLong` where its content would have 2^32 octets or more.
+    /// Writes the certificate with the octets of other extensions. Errs with `TooLong` where its
+    /// content would have 2^32 octets or more.
     pub(crate) fn with_row(&self, alloc: Global, row: &[u8]) -> Result<Vec<u8>, EncodeError>
         ensures ok { IfOk result
             (λ answer. answer.items ≡ enc SEQUENCE (content_with row.now self.now)) }

@@ -16,7 +16,7 @@ use rpki_ext::{InspectionError, KeyUsage};
 pub enum Kind {
     /// A trust anchor, which signs itself.
     Anchor,
-    /// A certification authority below another one.
+    /// A CA below another one.
     Authority,
     /// An end entity, which signs an object that its certificate names.
     EndEntity,
@@ -263,8 +263,9 @@ impl Cert {
         Ok(())
     }
 
-    /// Whether the certificate meets the profile of a trust anchor (RFC 6487 4): a CA that names no other key as the one that signs. Errs
-    /// with the first of its faults, in the order of the profile. Wants no memory.
+    /// Checks that the certificate meets the profile of a trust anchor (RFC 6487 4): a CA that
+    /// names no other key as the one that signs. Borrows the certificate, so that several kinds can
+    /// be asked for. Errs with the first fault, in the order of the profile. Takes no memory.
     pub fn inspect_ta(&self, strict: bool) -> Result<(), InspectionError>
         ensures ok { OnOk result (MeetsProfile Anchor strict self.now) }
         ensures fault { IfErr result (IsFirstFault Anchor strict self.now) }
@@ -272,8 +273,9 @@ impl Cert {
         self.inspect(Kind::Anchor, strict)
     }
 
-    /// Whether the certificate meets the profile of a certification authority below another one (RFC 6487 4). Errs with the first of its faults, in the
-    /// order of the profile. Wants no memory.
+    /// Checks that the certificate meets the profile of a CA below another one (RFC 6487 4).
+    /// Borrows the certificate, so that several kinds can be asked for. Errs with the first fault,
+    /// in the order of the profile. Takes no memory.
     pub fn inspect_ca(&self, strict: bool) -> Result<(), InspectionError>
         ensures ok { OnOk result (MeetsProfile Authority strict self.now) }
         ensures fault { IfErr result (IsFirstFault Authority strict self.now) }
@@ -281,8 +283,9 @@ impl Cert {
         self.inspect(Kind::Authority, strict)
     }
 
-    /// Whether the certificate meets the profile of an end entity whose object the certificate names (RFC 6487 4). Errs with the first of its faults, in the
-    /// order of the profile. Wants no memory.
+    /// Checks that the certificate meets the profile of an end entity whose object the certificate
+    /// names (RFC 6487 4). Borrows the certificate, so that several kinds can be asked for. Errs
+    /// with the first fault, in the order of the profile. Takes no memory.
     pub fn inspect_ee(&self, strict: bool) -> Result<(), InspectionError>
         ensures ok { OnOk result (MeetsProfile EndEntity strict self.now) }
         ensures fault { IfErr result (IsFirstFault EndEntity strict self.now) }
@@ -290,8 +293,9 @@ impl Cert {
         self.inspect(Kind::EndEntity, strict)
     }
 
-    /// Whether the certificate meets the profile of an end entity, of which no object needs to be named (RFC 6487 4). Errs with the first of its faults, in the
-    /// order of the profile. Wants no memory.
+    /// Checks that the certificate meets the profile of an end entity, of which no object needs to
+    /// be named (RFC 6487 4). Borrows the certificate, so that several kinds can be asked for. Errs
+    /// with the first fault, in the order of the profile. Takes no memory.
     pub fn inspect_detached_ee(&self, strict: bool) -> Result<(), InspectionError>
         ensures ok { OnOk result (MeetsProfile Detached strict self.now) }
         ensures fault { IfErr result (IsFirstFault Detached strict self.now) }
@@ -299,8 +303,9 @@ impl Cert {
         self.inspect(Kind::Detached, strict)
     }
 
-    /// Whether the certificate meets the profile of a BGPsec router (RFC 8209 3.1). Errs with the first of its faults, in the
-    /// order of the profile. Wants no memory.
+    /// Checks that the certificate meets the profile of a BGPsec router (RFC 8209 3.1). Borrows the
+    /// certificate, so that several kinds can be asked for. Errs with the first fault, in the order
+    /// of the profile. Takes no memory.
     pub fn inspect_router(&self, strict: bool) -> Result<(), InspectionError>
         ensures ok { OnOk result (MeetsProfile Router strict self.now) }
         ensures fault { IfErr result (IsFirstFault Router strict self.now) }

@@ -1,4 +1,4 @@
-//! Certification authorities issue certificates.
+//! CAs issue certificates.
 ghost use Rattle.std.specs.Prelude.{◌≡◌, Ok, IfOk, IfErr};
 ghost use Rattle.rpki_parts.specs.SignedDatas.{signed_data};
 ghost use Rattle.rpki_cert.specs.Certificates.{TbsFields, CanBeWritten, IsCertificate, IsMade, spelling};
@@ -17,7 +17,7 @@ use rpki_parts::{Signer, SigningError, Verifier};
 use std::alloc::Global;
 use thiserror::Error;
 
-/// Why no certificate was issued: which of the steps refused.
+/// Why no certificate was issued: which of the steps failed.
 #[derive(Debug, Drop, Error)]
 pub enum IssueCaError<E> {
     /// None was made.
@@ -37,7 +37,7 @@ pub enum IssueCaError<E> {
 impl<E> IssueCaError<E> {
     ghost use Rattle.rpki_cert.specs.Issuing.{issue_ca_error_name};
 
-    /// The variant's name.
+    /// Returns the variant's name.
     pub fn name(&self) -> &'static str
         ensures { result.now ≡ issue_ca_error_name self.now }
     {
@@ -100,8 +100,10 @@ fn make_and_read<S: Signer>(
     }
 }
 
-/// The certification authority with these fields, below this issuer: the certificate is made and signed, captured, read again from its octets, and validated
-/// as [`Cert::validate_ca_at`] says. Errs with what the first of these steps answers that refuses. Fields that can be written are read again as they are.
+/// Issues the certificate of a CA with these fields, below this issuer. It makes the certificate
+/// and signs it, captures it, reads it again from its octets, and validates it as
+/// [`Cert::validate_ca_at`] does. Errs with the error of the first of these steps that fails.
+/// Fields that can be written are read again as they are.
 pub fn issue_ca<S: Signer, V: Verifier>(
     alloc: Global,
     tbs: TbsCert,

@@ -35,8 +35,9 @@ fn subject_or_own(
 }
 
 impl TbsCert {
-    /// The data of a certificate with these fields, the default algorithm, and nothing that may be left out. Without a subject it
-    /// is named after its key (RFC 6487 4.5). The only error is `Memory`.
+    /// Makes the data of a certificate with these fields, the default algorithm, and nothing that
+    /// may be left out. Without a subject it is named after its key (RFC 6487 4.5). The only error
+    /// is `Memory`.
     pub fn new(
         alloc: Global,
         serial_number: Serial,
@@ -87,9 +88,10 @@ impl TbsCert {
         SignedData::sign(alloc, signer, key, self.signature(), octets)
     }
 
-    /// The certificate with these fields: the signer signs exactly the octets that `encode_ref` writes, with the key that `key` names.
-    /// Whether there are resources isn't tested. What the signer refuses is passed on as it stands; answers `TooLong` also where the data or the
-    /// whole certificate would have a content of 2^32 octets or more.
+    /// Makes the certificate with these fields. The signer signs exactly the octets that
+    /// `encode_ref` writes, with the key that `key` names. Whether there are resources isn't
+    /// checked. The signer's error is passed on as it stands. Errs with `TooLong` also where the
+    /// data or the whole certificate would have a content of 2^32 octets or more.
     pub fn into_cert<S: Signer>(
         self,
         alloc: Global,

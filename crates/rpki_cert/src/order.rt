@@ -4,7 +4,8 @@ ghost use Rattle.rpki_cert.specs.Rearranging.{IsOrder};
 
 use std::alloc::{AllocError, Global};
 
-/// Whether the order names each of so many places once. It is looked at once, with a table of the places seen.
+/// Returns whether the order names each of so many places once. It looks at the order once, with a
+/// table of the places seen.
 pub(crate) fn is_order(alloc: Global, order: &[usize], count: usize) -> Result<bool, AllocError>
     ensures { IfOk result (λ yes. IsTrue yes ↔ IsOrder count order.now) }
 {

@@ -11,7 +11,8 @@ pub enum RearrangeError {
     /// No beginning of the octets is a certificate.
     #[error("no certificate")]
     NoCertificate,
-    /// The order doesn't name each extension once, or an extension is to be added behind a place that isn't there.
+    /// The order doesn't name each extension once, or an extension is to be added behind a place
+    /// that isn't there.
     #[error("not an order of the extensions")]
     NotAnOrder,
     /// An extension to be added is of a kind that readers know.
@@ -27,7 +28,7 @@ pub enum RearrangeError {
 impl RearrangeError {
     ghost use Rattle.rpki_cert.specs.RearrangeErrors.{rearrange_error_name};
 
-    /// Gives the variant's name.
+    /// Returns the variant's name.
     pub fn name(&self) -> &'static str
         ensures { result.now ≡ rearrange_error_name self.now }
     {

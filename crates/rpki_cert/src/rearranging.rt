@@ -78,11 +78,14 @@ fn make(
     Ok(answer)
 }
 
-/// Sets the extensions of the certificate that the octets begin with in another order, and adds others among them: at each place stands the old extension
-/// that the order names, just before it those that are added there, and last those that are added behind the last. Enclosing lengths are restated, the
-/// signature's value stays, and what followed the certificate is dropped (own). Errs with the first of these that holds: `NoCertificate` where no beginning of
-/// the octets is a certificate, `NotAnOrder` where the order doesn't name each extension once or an added one is to stand behind a place that isn't there,
-/// `KnownExtra` where an added one is of a kind that readers know, `TooLong` where a content would have 2^32 octets or more; or with `Memory`.
+/// Rearranges the extensions of the certificate that the octets begin with, and adds others among
+/// them: at each place stands the old extension that the order names, just before it those that are
+/// added there, and last those that are added behind the last. Enclosing lengths are restated, the
+/// signature's value stays, and what followed the certificate is dropped (own). Errs with the first
+/// of these that holds: `NoCertificate` where no beginning of the octets is a certificate,
+/// `NotAnOrder` where the order doesn't name each extension once or an added one is to stand behind
+/// a place that isn't there, `KnownExtra` where an added one is of a kind that readers know,
+/// `TooLong` where a content would have 2^32 octets or more; or with `Memory`.
 pub fn rearrange(
     alloc: Global,
     octets: &[u8],

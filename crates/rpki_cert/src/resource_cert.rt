@@ -20,7 +20,7 @@ pub(crate) struct Sets {
 }
 
 impl Sets {
-    // The same once more.
+    // Clones the sets.
     fn try_clone(&self, alloc: Global) -> Result<Sets, AllocError>
         ensures { IfOk result (λ s. s ≡ self.now) }
     {
@@ -31,7 +31,8 @@ impl Sets {
     }
 }
 
-/// A certificate that was verified, with the numbers that it has once what it inherits is resolved (RFC 6487 7.2).
+/// A certificate that was verified, with the numbers that it has once what it inherits is resolved
+/// (RFC 6487 7.2).
 #[derive(Drop)]
 pub struct ResourceCert {
     pub(crate) cert: Cert,
@@ -55,42 +56,42 @@ impl Model for ResourceCert {
 }
 
 impl ResourceCert {
-    /// The certificate.
+    /// Returns the certificate.
     pub fn as_cert(&self) -> &Cert
         ensures { result.now ≡ self.now.cert }
     {
         &self.cert
     }
 
-    /// The IPv4 addresses.
+    /// Returns the IPv4 addresses.
     pub fn v4_resources(&self) -> &IpBlocks
         ensures { result.now ≡ self.now.v4 }
     {
         &self.sets.v4
     }
 
-    /// The IPv6 addresses.
+    /// Returns the IPv6 addresses.
     pub fn v6_resources(&self) -> &IpBlocks
         ensures { result.now ≡ self.now.v6 }
     {
         &self.sets.v6
     }
 
-    /// The AS numbers.
+    /// Returns the AS numbers.
     pub fn as_resources(&self) -> &AsBlocks
         ensures { result.now ≡ self.now.as_numbers }
     {
         &self.sets.as_numbers
     }
 
-    /// The trust anchor locator by which the path begins.
+    /// Returns the trust anchor locator by which the path begins.
     pub fn tal(&self) -> &Rc<TalInfo>
         ensures { rc_value result.now ≡ self.now.tal }
     {
         &self.tal
     }
 
-    /// The locator; certificate and sets are let go.
+    /// Returns the locator, and lets certificate and sets go.
     pub fn into_tal(self) -> Rc<TalInfo>
         ensures { rc_value result ≡ self.tal }
     {
@@ -100,7 +101,7 @@ impl ResourceCert {
         tal
     }
 
-    // What is kept beside the certificate, once more.
+    // Clones what is kept with the certificate.
     fn try_clone_kept(&self, alloc: Global) -> Result<Kept, AllocError>
         ensures v4 { IfOk result (λ k. k.sets.v4 ≡ self.now.v4) }
         ensures v6 { IfOk result (λ k. k.sets.v6 ≡ self.now.v6) }
@@ -112,7 +113,7 @@ impl ResourceCert {
         Ok(Kept { sets, tal })
     }
 
-    /// The same once more; the locator is shared.
+    /// Clones the certificate and its numbers. The locator is shared.
     pub fn try_clone(&self, alloc: Global) -> Result<ResourceCert, AllocError>
         ensures { IfOk result (λ r. r ≡ self.now) }
     {

@@ -74,7 +74,8 @@ fn empty_places(alloc: Global, count: usize) -> Result<Vec<Added>, AllocError>
     Ok(places)
 }
 
-/// The octets of what is added at each of so many places, and behind the last. Each extension is looked at once.
+/// Gathers the octets of what is added at each of so many places, and behind the last. It looks at
+/// each extension once.
 pub(crate) fn gathered(
     alloc: Global,
     extras: &[Extra],
@@ -94,7 +95,8 @@ pub(crate) fn gathered(
     Ok(places)
 }
 
-/// The octets of the new row: at each place what is added there, and the old extension that the order names.
+/// Writes the octets of the new extensions: at each place what is added there, and the old
+/// extension that the order names.
 pub(crate) fn row_octets(
     alloc: Global,
     order: &[usize],

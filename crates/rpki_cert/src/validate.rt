@@ -30,7 +30,7 @@ impl Cert {
         Ok(cert)
     }
 
-    // The same of one that another one issued, and then verified.
+    // Verifies an inspected certificate that an issuer issued.
     fn validate_issued_at<V: Verifier>(
         self,
         alloc: Global,
@@ -52,8 +52,9 @@ impl Cert {
         Ok(cert.verify_issued_at(alloc, issuer, strict, now, verifier)?)
     }
 
-    /// The trust anchor that the certificate is of: it is inspected as one, then verified as
-    /// [`Cert::verify_ta_at`] says.
+    /// Uses the certificate up, also where it is rejected, and validates it as one of a trust
+    /// anchor: inspects it as one, then verifies it as [`Cert::verify_ta_at`] does.
+    /// [`Cert::inspect_ta`] and its siblings borrow, so that several kinds can be asked for first.
     pub fn validate_ta_at<V: Verifier>(
         self,
         alloc: Global,
@@ -74,8 +75,9 @@ impl Cert {
         Ok(cert.verify_ta_at(alloc, tal, strict, now, verifier)?)
     }
 
-    /// The certification authority that the certificate is of, below this issuer: it is
-    /// inspected as one, then verified as [`Cert::verify_ca_at`] says.
+    /// Uses the certificate up, also where it is rejected, and validates it as one of a CA below
+    /// this issuer: inspects it as one, then verifies it as [`Cert::verify_ca_at`] does.
+    /// [`Cert::inspect_ca`] and its siblings borrow, so that several kinds can be asked for first.
     pub fn validate_ca_at<V: Verifier>(
         self,
         alloc: Global,
@@ -95,8 +97,10 @@ impl Cert {
         self.validate_issued_at(alloc, issuer, Kind::Authority, strict, now, verifier)
     }
 
-    /// The end entity whose object is named that the certificate is of, below this issuer: it is
-    /// inspected as one, then verified as [`Cert::verify_ee_at`] says.
+    /// Uses the certificate up, also where it is rejected, and validates it as one of an end entity
+    /// whose object is named, below this issuer: inspects it as one, then verifies it as
+    /// [`Cert::verify_ee_at`] does. [`Cert::inspect_ee`] and its siblings borrow, so that several
+    /// kinds can be asked for first.
     pub fn validate_ee_at<V: Verifier>(
         self,
         alloc: Global,
@@ -116,8 +120,10 @@ impl Cert {
         self.validate_issued_at(alloc, issuer, Kind::EndEntity, strict, now, verifier)
     }
 
-    /// The end entity, of which no object needs to be named, that the certificate is of, below this issuer: it is
-    /// inspected as one, then verified as [`Cert::verify_ee_at`] says.
+    /// Uses the certificate up, also where it is rejected, and validates it as one of an end
+    /// entity, of which no object needs to be named, below this issuer: inspects it as one, then
+    /// verifies it as [`Cert::verify_ee_at`] does. [`Cert::inspect_detached_ee`] and its siblings
+    /// borrow, so that several kinds can be asked for first.
     pub fn validate_detached_ee_at<V: Verifier>(
         self,
         alloc: Global,
@@ -137,8 +143,8 @@ impl Cert {
         self.validate_issued_at(alloc, issuer, Kind::Detached, strict, now, verifier)
     }
 
-    /// Whether the certificate is valid as one of a router below this issuer: it is inspected as
-    /// one, then verified as [`Cert::verify_router_at`] says. Wants no memory.
+    /// Validates the certificate as one of a router below this issuer: inspects it as one, then
+    /// verifies it as [`Cert::verify_router_at`] does. Takes no memory.
     pub fn validate_router_at<V: Verifier>(
         &self,
         issuer: &ResourceCert,

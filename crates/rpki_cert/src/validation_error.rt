@@ -19,7 +19,7 @@ pub enum ValidationError {
 impl ValidationError {
     ghost use Rattle.rpki_cert.specs.Validation.{validation_error_name};
 
-    /// The variant's name.
+    /// Returns the variant's name.
     pub fn name(&self) -> &'static str
         ensures { result.now ≡ validation_error_name self.now }
     {

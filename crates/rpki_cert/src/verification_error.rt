@@ -46,7 +46,7 @@ pub enum VerificationError {
 impl VerificationError {
     ghost use Rattle.rpki_cert.specs.Verification.{verification_error_name};
 
-    /// The variant's name.
+    /// Returns the variant's name.
     pub fn name(&self) -> &'static str
         ensures { result.now ≡ verification_error_name self.now }
     {

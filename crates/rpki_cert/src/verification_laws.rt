@@ -3,7 +3,7 @@ ghost use Rattle.rpki_blocks.specs.Sets.{AreIn};
 ghost use Rattle.rpki_cert.specs.Certificates.{CertFields};
 ghost use Rattle.rpki_cert.specs.Verification.{ResourceFields, HasIssued};
 
-/// Below an issuer a certificate has only numbers that the issuer has (RFC 6487 7.2).
+/// Says that below an issuer a certificate has only numbers that the issuer has (RFC 6487 7.2).
 pub fn issued_are_held()
     ensures v4 { (c : CertFields) (issuer r : ResourceFields)
         → HasIssued c issuer r → AreIn r.v4 issuer.v4 }

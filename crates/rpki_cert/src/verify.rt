@@ -155,8 +155,9 @@ impl Cert {
         Ok(())
     }
 
-    /// Whether the certificate is one of a trust anchor: it is valid at this moment, inherits nothing, and its own key signed it. Wants no
-    /// memory. Errs with the first of these lines that isn't true.
+    /// Checks that the certificate is one of a trust anchor: it is valid at this moment, inherits
+    /// nothing, and its own key signed it. Errs with the first of these checks that fails. Takes no
+    /// memory.
     pub fn verify_ta_ref_at<V: Verifier>(
         &self,
         strict: bool,
@@ -174,9 +175,10 @@ impl Cert {
         Ok(())
     }
 
-    /// Whether the certificate is one of a router below this issuer: it is valid at this moment, names the issuer's key and where the
-    /// issuer's certificate is, the issuer's key signed it, and it doesn't overclaim AS numbers. Wants no memory. Errs with the first of
-    /// these lines that isn't true.
+    /// Checks that the certificate is one of a router below this issuer: it is valid at this
+    /// moment, names the issuer's key and where the issuer's certificate is, the issuer's key
+    /// signed it, and it doesn't overclaim AS numbers. Errs with the first of these checks that
+    /// fails. Takes no memory.
     pub fn verify_router_at<V: Verifier>(
         &self,
         issuer: &ResourceCert,
@@ -198,7 +200,7 @@ impl Cert {
         }
     }
 
-    /// Whether the certificate is valid at this moment. Wants no memory.
+    /// Checks that the certificate is valid at this moment. Takes no memory.
     pub fn verify_validity(&self, now: Time) -> Result<(), VerificationError>
         ensures { Tests (TimeLine now self.now) validity_lines result }
     {
@@ -206,8 +208,8 @@ impl Cert {
         Ok(())
     }
 
-    /// Whether the certificate names the issuer's key as the one that signs it, and where the issuer's certificate is. The mode changes
-    /// nothing. Wants no memory.
+    /// Checks that the certificate names the issuer's key as the one that signs it, and where the
+    /// issuer's certificate is. The mode changes nothing. Takes no memory.
     pub fn verify_issuer_claim(
         &self,
         issuer: &ResourceCert,
@@ -228,8 +230,8 @@ impl Cert {
         Ok(())
     }
 
-    /// Whether the issuer's key signed the certificate, as the verifier answers of the octets that are kept. The mode changes nothing.
-    /// Wants no memory.
+    /// Checks that the issuer's key signed the certificate, as the verifier answers of the octets
+    /// that are kept. The mode changes nothing. Takes no memory.
     pub fn verify_signature<V: Verifier>(
         &self,
         issuer: &Cert,

@@ -80,9 +80,12 @@ impl Cert {
         Ok(joined(cert, kept))
     }
 
-    /// The certification authority that the certificate is of, below this issuer: it is valid at this moment, names the issuer's key and where the
-    /// issuer's certificate is, the issuer's key signed it, and it overclaims nothing (RFC 6487 7.2). It has what it lists or inherits of the issuer's
-    /// numbers. Errs with the first of these lines that isn't true.
+    /// Uses the certificate up, also where it is rejected, and verifies it as one of a CA below
+    /// this issuer: it is valid at this moment, names the issuer's key and where the issuer's
+    /// certificate is, the issuer's key signed it, and it overclaims nothing (RFC 6487 7.2). The
+    /// result has what the certificate lists or inherits of the issuer's numbers. Errs with the
+    /// first of these checks that fails. [`Cert::inspect_ca`] and its siblings borrow, so that
+    /// several kinds can be asked for first.
     pub fn verify_ca_at<V: Verifier>(
         self,
         alloc: Global,
@@ -100,7 +103,9 @@ impl Cert {
         self.verify_issued_at(alloc, issuer, strict, now, verifier)
     }
 
-    /// The end entity that the certificate is of, below this issuer; the lines are those of a certification authority.
+    /// Uses the certificate up, also where it is rejected, and verifies it as one of an end entity
+    /// below this issuer. The checks are those of [`Cert::verify_ca_at`]. [`Cert::inspect_ee`] and
+    /// its siblings borrow, so that several kinds can be asked for first.
     pub fn verify_ee_at<V: Verifier>(
         self,
         alloc: Global,
@@ -141,8 +146,11 @@ impl Cert {
         Ok(self.listed_sets(alloc)?)
     }
 
-    /// The trust anchor that the certificate is of, which a locator names: it is valid at this moment, inherits nothing, and its own key signed it
-    /// (RFC 6487 7.2). It has what it lists. Errs with the first of these lines that isn't true.
+    /// Uses the certificate up, also where it is rejected, and verifies it as one of a trust anchor
+    /// that a locator names: it is valid at this moment, inherits nothing, and its own key signed
+    /// it (RFC 6487 7.2). The result has what the certificate lists. Errs with the first of these
+    /// checks that fails. [`Cert::verify_ta_ref_at`] borrows. [`Cert::inspect_ta`] and its siblings
+    /// borrow, so that several kinds can be asked for first.
     pub fn verify_ta_at<V: Verifier>(
         self,
         alloc: Global,

@@ -9,7 +9,7 @@ use rpki::repository::error::InspectionError;
 use rpki::repository::x509::{Serial, Time, Validity};
 use rpki::uri::{Https, Rsync};
 
-/// The serial number in hexadecimal, without zeros before it but in whole octets.
+/// Prints the serial number in hexadecimal, without zeros before it but in whole octets.
 pub fn serial(page: &mut Page, it: Serial) {
     let octets = it.octets();
     let mut has_begun = false;
@@ -24,12 +24,12 @@ pub fn serial(page: &mut Page, it: Serial) {
     }
 }
 
-/// The identifier of a key.
+/// Prints the identifier of a key.
 pub fn key_identifier(page: &mut Page, it: &KeyIdentifier) {
     page.colons(it.as_octets().as_slice());
 }
 
-/// How many days a moment is away, or that it has passed.
+/// Prints how many days a moment is away, or that it has passed.
 pub fn until(page: &mut Page, end: Time, now: Time) {
     let left = days(end).wrapping_sub(days(now));
     match u64::try_from(left) {
@@ -166,7 +166,8 @@ fn profiles(page: &mut Page, cert: &Cert, strict: bool) {
     judged(page, "router", cert.inspect_router(strict));
 }
 
-/// The kind whose profile the certificate meets; no two are met at once but the two of end entities.
+/// Returns the kind whose profile the certificate meets; no two are met at once but the two of end
+/// entities.
 pub fn kind_of(cert: &Cert, strict: bool) -> &'static str {
     if cert.inspect_ta(strict).is_ok() {
         "trust anchor"
@@ -183,7 +184,7 @@ pub fn kind_of(cert: &Cert, strict: bool) -> &'static str {
     }
 }
 
-/// All of a certificate.
+/// Prints all of a certificate.
 pub fn certificate(page: &mut Page, cert: &Cert, now: Time, strict: bool) {
     page.line("Kind", kind_of(cert, strict));
     let data = cert.as_tbs();

@@ -262,7 +262,7 @@ fn word(cert: &Cert, strict: bool) -> &'static str {
     }
 }
 
-/// A certificate.
+/// Makes the value of a certificate.
 pub fn certificate(
     alloc: Global,
     file: &str,
@@ -295,7 +295,7 @@ fn entry(alloc: Global, it: &CrlEntry) -> Result<Value, AllocError> {
     Ok(Value::Object(out))
 }
 
-/// A list.
+/// Makes the value of a list.
 pub fn list(alloc: Global, file: &str, whole: &[u8], it: &Crl) -> Result<Value, AllocError> {
     let mut out = Map::new(alloc);
     text(&mut out, alloc, "file", file)?;
@@ -317,7 +317,8 @@ pub fn list(alloc: Global, file: &str, whole: &[u8], it: &Crl) -> Result<Value, 
     Ok(Value::Object(out))
 }
 
-/// A file that is neither: why, the field at which reading stops, and the octet at which that begins.
+/// Makes the value of a file that is neither: why, the field at which reading stops, and the octet
+/// at which that begins.
 pub fn refused(
     alloc: Global,
     file: &str,
@@ -368,7 +369,7 @@ fn fault_of(
     Ok(Value::Object(out))
 }
 
-/// A verdict on a path.
+/// Makes the value of a verdict on a path.
 pub fn path(
     alloc: Global,
     question: &Question<'_, '_>,

@@ -124,10 +124,10 @@ fn run(rt: &HostRuntime, words: &[String]) -> Result<u8> {
     Ok(if well { 0 } else { 1 })
 }
 
-/// Runs the command on the words of the command line: reads the files, and prints what they hold, or the
-/// verdict on their path. The exit status is 0 where all files were shown or the path is accepted, 1 where a
-/// file is neither a certificate nor a list or the path is rejected, 2 where the command line has another form,
-/// and 3 where a file, the clock, memory or an output failed.
+/// Runs the command on the words of the command line: reads the files, and prints what they hold,
+/// or the verdict on their path. The exit status is 0 where all files were shown or the path is
+/// accepted, 1 where a file is neither a certificate nor a list or the path is rejected, 2 where
+/// the command line has another form, and 3 where a file, the clock, memory or an output failed.
 pub fn command(rt: &HostRuntime, words: &[String]) -> Result<ExitCode> {
     match run(rt, words) {
         Ok(status) => Ok(ExitCode::from(status)),

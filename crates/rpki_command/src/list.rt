@@ -34,7 +34,7 @@ fn entries(page: &mut Page, revoked: &RevokedCertificates, all: bool) {
     }
 }
 
-/// All of a list but its later entries.
+/// Prints all of a list but its later entries.
 pub fn list(page: &mut Page, it: &Crl, now: Time, all: bool) {
     let data = it.as_cert_list();
     page.label("Issuer");

@@ -13,7 +13,8 @@ use rpki::repository::tal::TalInfo;
 use rpki::repository::x509::Time;
 use std::alloc::{AllocError, Global};
 
-/// What is asked of a path: its files from the trust anchor down, the revocation lists, the mode and the moment.
+/// What is asked of a path: its files from the trust anchor down, the revocation lists, the mode
+/// and the moment.
 #[derive(Clone, Copy)]
 pub struct Question<'q, 'n> {
     pub members: &'q [Object<'n>],
@@ -197,7 +198,7 @@ fn validated_path(
     }))
 }
 
-// What refuses a router's certificate under the CA above it.
+// What rejects a router's certificate under the CA above it.
 fn router_fault(
     router: &Cert,
     issuer: &ResourceCert,
@@ -248,7 +249,7 @@ fn of_validation(fault: &ValidationError, index: usize) -> Fault {
     }
 }
 
-// What refuses the router's file.
+// What rejects the router's file.
 fn router_file_fault(
     alloc: Global,
     object: &Object<'_>,
@@ -315,8 +316,8 @@ fn with_router(
     }
 }
 
-/// Validates a path of files with real signatures, and with the revocation lists where some are given. Gives
-/// `None` where there is no file.
+/// Validates a path of files with real signatures, and with the revocation lists where some are
+/// given. Gives `None` where there is no file.
 pub fn judge(alloc: Global, question: &Question<'_, '_>) -> Result<Option<Verdict>, AllocError> {
     let store = store_of(alloc, question)?;
     let (path, router) = without_router(alloc, question.members, question.strict);

@@ -159,8 +159,8 @@ fn fields(alloc: Global, octets: &Bytes, is_list: bool) -> Result<(), Place> {
     }
 }
 
-/// Tells where the reading of a file stops that is neither a certificate nor a list: the first field that has
-/// not the form that it must have.
+/// Tells where the reading of a file stops that is neither a certificate nor a list: the first
+/// field that has not the form that it must have.
 pub fn place_of(alloc: Global, octets: &Bytes, is_list: bool) -> Place {
     match fields(alloc, octets, is_list) {
         Err(place) => place,

@@ -124,12 +124,12 @@ fn of_leaves(fault: InspectionError) -> Rule {
     }
 }
 
-/// What a fault of inspection means.
+/// Tells what a fault of inspection means.
 pub fn of_inspection(fault: InspectionError) -> Rule {
     common(fault)
 }
 
-/// What a fault of verification means.
+/// Tells what a fault of verification means.
 pub fn of_verification(fault: &VerificationError) -> Rule {
     match fault {
         VerificationError::NotYetValid => meaning("it isn't valid yet", "RFC 6487 4.6"),
@@ -180,7 +180,7 @@ pub fn of_verification(fault: &VerificationError) -> Rule {
     }
 }
 
-/// What a fault of revocation means.
+/// Tells what a fault of revocation means.
 pub fn of_revocation(fault: &RevocationError) -> Rule {
     match fault {
         RevocationError::NoCrl => meaning(

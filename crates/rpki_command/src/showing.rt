@@ -180,7 +180,7 @@ pub fn show(page: &mut Page, object: &Object<'_>, options: &Options) -> bool {
     }
 }
 
-/// The text of the objects, and whether each of them is a certificate or a list.
+/// Writes the text of the objects, and tells whether each of them is a certificate or a list.
 pub fn shown(
     alloc: Global,
     objects: &[Object<'_>],

@@ -42,10 +42,12 @@ impl Crl {
 }
 
 impl CrlStore {
-    /// Looks whether the certificate with this serial number below the issuer is revoked: the list that was pushed first under the URI is
-    /// there (`NoCrl`), it names the issuer's key (`WrongKeyId`), the issuer's key signed it (`BadSignature`), its next update isn't
-    /// before the moment (`Stale`), and it doesn't have the serial number (`Revoked`; RFC 6487 7.2, RFC 5280 6.3.3). Errs with the first of
-    /// these that isn't so. The mode changes nothing. Takes no memory.
+    /// Checks that the certificate with this serial number below the issuer isn't revoked: the list
+    /// that was pushed first under the URI is there (`NoCrl`), it names the issuer's key
+    /// (`WrongKeyId`), the issuer's key signed it (`BadSignature`), its next update isn't before
+    /// the moment (`Stale`), and it doesn't have the serial number (`Revoked`; RFC 6487 7.2, RFC
+    /// 5280 6.3.3). Errs with the first of these checks that fails. The mode changes nothing. Takes
+    /// no memory.
     pub fn check<V: Verifier>(
         &self,
         crl_uri: &Rsync,

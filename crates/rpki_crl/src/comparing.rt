@@ -5,7 +5,7 @@ ghost use Rattle.std.specs.Prelude.{◌≡◌, IsOkAnd};
 use crate::entry::CrlEntry;
 use std::alloc::AllocError;
 
-/// A copy of an entry has its serial number and its moment.
+/// Clones an entry. The copy has its serial number and its moment.
 pub fn copied_entry(entry: &CrlEntry) -> Result<CrlEntry, AllocError>
     ensures { IsOkAnd result (λ copy. copy ≡ entry.now) }
 {

@@ -23,8 +23,9 @@ use rpki_parts::SignedData;
 use std::alloc::{AllocError, Global};
 use std::marker::Model;
 
-/// A revocation list: what is signed, as it was read or made, with its signature, and the fields that it has (RFC 5280 5.1, RFC 6487 5).
-/// Its serials may stand in a table too, which answers sooner.
+/// A revocation list: what is signed, as it was read or made, with its signature, and the fields
+/// that it has (RFC 5280 5.1, RFC 6487 5). Its serials may stand in a table too, which answers
+/// sooner.
 #[derive(Drop)]
 pub struct Crl {
     list: TbsCertList<RevokedCertificates>,
@@ -48,7 +49,7 @@ impl Model for Crl {
 }
 
 impl Crl {
-    /// The list with these fields and this signed data, without a table.
+    /// Makes the list with these fields and this signed data, without a table.
     pub(crate) fn from_parts(list: TbsCertList<RevokedCertificates>, signed_data: SignedData) -> Crl
         ensures { result ≡ record {
           list = record { fields = list; signed_data = signed_data };
@@ -105,8 +106,8 @@ impl Crl {
         Ok(crl)
     }
 
-    /// The list that a front of the octets is; what follows it is left unread. Errs with a fault where no front is one; which of several
-    /// isn't promised.
+    /// Decodes the list at the start of `octets` and ignores what follows. Fails if there is none;
+    /// which error is returned is unspecified.
     pub fn decode(alloc: Global, octets: &[u8]) -> Result<Crl, DecodeError>
         ensures means { let front = Means IsCertificateList in
             MeansOrMemoryBy (λ c. c.list) front result octets.now }
@@ -115,8 +116,9 @@ impl Crl {
         Crl::decode_shared(alloc, Bytes::copy_from_slice(alloc, octets)?)
     }
 
-    /// The same of octets that are shared (own): what is kept shares the buffer and keeps all of it alive; a copy ([`Crl::try_clone`])
-    /// copies no octets.
+    /// Decodes the list at the start of shared octets and ignores what follows (own). What is kept
+    /// shares the buffer and keeps all of it alive; a copy ([`Crl::try_clone`]) copies no octets.
+    /// Fails as [`Crl::decode`] does.
     pub fn decode_shared(alloc: Global, octets: Bytes) -> Result<Crl, DecodeError>
         ensures means { let front = Means IsCertificateList in
             MeansOrMemoryBy (λ c. c.list) front result octets }
@@ -126,8 +128,8 @@ impl Crl {
         Crl::take_from(alloc, &mut cursor)
     }
 
-    /// The list that stands next, one SEQUENCE (RFC 5280 5.1, RFC 6487 5). Errs with a fault where no front of what is left is one;
-    /// which of several isn't promised.
+    /// Reads the list that stands next, one SEQUENCE (RFC 5280 5.1, RFC 6487 5). Fails if no front
+    /// of the remaining octets is one; which error is returned is unspecified.
     pub fn take_from(alloc: Global, cursor: &mut Cursor<'_>) -> Result<Crl, DecodeError>
         ensures answers { let spells = IsCertificateList in
             AnswersOrMemoryBy (λ c. c.list) spells cursor.old result cursor.new }
@@ -137,7 +139,8 @@ impl Crl {
         Crl::read(alloc, cursor)
     }
 
-    /// The same where a SEQUENCE stands next, else `None`.
+    /// Reads the list where a SEQUENCE stands next. Returns `None` at the end and before another
+    /// identifier octet.
     pub fn take_opt_from(alloc: Global, cursor: &mut Cursor<'_>) -> Result<Option<Crl>, DecodeError>
         ensures answers { let spells = IsCertificateList in
             AnswersOptionalOrMemoryBy (λ c. c.list) SEQUENCE spells cursor.old result cursor.new }
@@ -150,7 +153,7 @@ impl Crl {
         }
     }
 
-    /// What stands inside the SEQUENCE of a list, without its identifier and length.
+    /// Reads what stands inside the SEQUENCE of a list, without its identifier and length.
     pub fn from_constructed(alloc: Global, content: &mut Cursor<'_>) -> Result<Crl, DecodeError>
         ensures answers { let spells = IsCertificateListContent in
             AnswersOrMemoryBy (λ c. c.list) spells content.old result content.new }
@@ -160,21 +163,22 @@ impl Crl {
         Crl::read_content(alloc, content)
     }
 
-    /// The fields of what is signed.
+    /// Returns the fields of what is signed.
     pub fn as_cert_list(&self) -> &TbsCertList<RevokedCertificates>
         ensures { result.now ≡ self.now.list.fields }
     {
         &self.list
     }
 
-    /// What is signed, as it was read or made, and its signature.
+    /// Returns what is signed, as it was read or made, and its signature.
     pub fn signed_data(&self) -> &SignedData
         ensures { result.now ≡ self.now.list.signed_data }
     {
         &self.signed_data
     }
 
-    /// Sorts the serials into a table, from which later questions are answered. After want of memory the list is as it was.
+    /// Sorts the serials into a table, from which later questions are answered. When out of memory
+    /// it leaves the list as it was.
     pub fn cache_serials(&mut self, alloc: Global) -> Result<(), AllocError>
         ensures list { self.new.list ≡ self.old.list }
         ensures cached { OnOk result (self.new.is_cached ≡ true) }
@@ -185,16 +189,17 @@ impl Crl {
         Ok(())
     }
 
-    /// Whether the list revokes this serial number. Takes no memory.
+    /// Returns whether the list revokes this serial number. Takes no memory.
     pub fn contains(&self, serial: Serial) -> bool
         ensures { IsTrue result ↔ IsRevoked serial self.now.list.fields.revoked.entries }
     {
         self.contains_counted(serial).0
     }
 
-    /// The same, and how many serials were looked at to tell: without a table those of the entries up to the first that has the
-    /// serial, or of all; with one at most as many as the number of entries has binary digits, and at least one where the list has
-    /// the serial. Takes no memory.
+    /// Returns whether the list revokes this serial number, and how many serials were looked at to
+    /// tell: without a table those of the entries up to the first that has the serial, or of all;
+    /// with one at most as many as the number of entries has binary digits, and at least one where
+    /// the list has the serial. Takes no memory.
     pub fn contains_counted(&self, serial: Serial) -> (bool, usize)
         ensures revoked { IsTrue result.0 ↔ IsRevoked serial self.now.list.fields.revoked.entries }
         ensures walked { self.now.is_cached ≡ false
@@ -212,8 +217,9 @@ impl Crl {
         }
     }
 
-    /// Appends the list: the SEQUENCE of what is signed, as it was read or made, the algorithm and the signature. Of a list that was
-    /// read these are its own octets. Answers `TooLong` where the content would have 2^32 octets or more.
+    /// Appends the list: the SEQUENCE of what is signed, as it was read or made, the algorithm and
+    /// the signature. For a list that was read these are its own octets. Errs with `TooLong` where
+    /// the content would have 2^32 octets or more.
     pub fn encode_ref(&self, alloc: Global, out: &mut Vec<u8>) -> Result<(), EncodeError>
         ensures { let pieces = signed_pieces self.now.list.signed_data in
             Writes (value SEQUENCE (concat pieces)) out.old.items result out.new.items }
@@ -221,7 +227,7 @@ impl Crl {
         self.signed_data.encode_ref(alloc, out)
     }
 
-    /// The same octets, on their own.
+    /// Writes the list's octets, as [`Crl::encode_ref`] does, into a buffer of their own.
     pub fn to_captured(&self, alloc: Global) -> Result<Bytes, EncodeError>
         ensures ok { IfOk result (λ octets. octets ≡ signed_data self.now.list.signed_data) }
         ensures too_long { IsErrOf result EncodeError.TooLong
@@ -234,7 +240,7 @@ impl Crl {
         Ok(Bytes::from_vec(octets).map_err(AllocError::from)?)
     }
 
-    /// The same list once more, with a table where this one has one.
+    /// Clones the list, with a table where this one has one.
     pub fn try_clone(&self, alloc: Global) -> Result<Crl, AllocError>
         ensures { IfOk result (λ c. c ≡ self.now) }
     {

@@ -22,7 +22,7 @@ pub struct CrlEntry {
 }
 
 impl CrlEntry {
-    /// The entry with this serial number and moment.
+    /// Makes the entry with this serial number and moment.
     pub fn new(user_certificate: Serial, revocation_date: Time) -> CrlEntry
         ensures serial { result.user_certificate ≡ user_certificate }
         ensures date { result.revocation_date ≡ revocation_date }
@@ -67,7 +67,7 @@ impl CrlEntry {
         Ok(entry)
     }
 
-    /// The SEQUENCE of a serial number and a time that must stand next (RFC 5280 5.1).
+    /// Reads the SEQUENCE of a serial number and a time that must stand next (RFC 5280 5.1).
     #[inline(always)]
     pub fn take_from(cursor: &mut Cursor<'_>) -> Result<CrlEntry, DecodeError>
         ensures answers { AnswersBy entry_of IsEntry cursor.old result cursor.new }
@@ -77,7 +77,8 @@ impl CrlEntry {
         CrlEntry::take_entry(cursor)
     }
 
-    /// The same where a SEQUENCE stands next, else `None`.
+    /// Reads the entry where a SEQUENCE stands next. Returns `None` at the end and before another
+    /// identifier octet.
     pub fn take_opt_from(cursor: &mut Cursor<'_>) -> Result<Option<CrlEntry>, DecodeError>
         ensures answers { AnswersOptionalBy entry_of SEQUENCE IsEntry cursor.old result cursor.new }
         ensures keeps { Keeps result cursor.old cursor.new }
@@ -88,7 +89,7 @@ impl CrlEntry {
         }
     }
 
-    /// What stands inside the SEQUENCE of an entry, without its identifier and length.
+    /// Reads what stands inside the SEQUENCE of an entry, without its identifier and length.
     pub fn from_constructed(content: &mut Cursor<'_>) -> Result<CrlEntry, DecodeError>
         ensures answers { AnswersBy entry_of IsEntryContent content.old result content.new }
         ensures keeps { Keeps result content.old content.new }
@@ -96,7 +97,8 @@ impl CrlEntry {
         CrlEntry::take_content(content)
     }
 
-    /// Appends the entry: the SEQUENCE of its serial number and its time (RFC 5280 5.1). The only error is `Memory`.
+    /// Appends the entry: the SEQUENCE of its serial number and its time (RFC 5280 5.1). The only
+    /// error is `Memory`.
     pub fn encode(self, alloc: Global, out: &mut Vec<u8>) -> Result<(), EncodeError>
         ensures ok { OnOk result (out.new.items ≡ out.old.items ++ entry (entry_of self)) }
         ensures err { OnErr result (out.new.items ≡ out.old.items) }

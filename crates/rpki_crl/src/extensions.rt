@@ -42,7 +42,8 @@ pub(crate) struct Extensions {
     pub(crate) crl_number: Serial,
 }
 
-// An extension of no known kind is refused under its own identifier, critical or not.
+// Makes the error of an extension of no known kind, which is rejected under its own identifier,
+// critical or not.
 fn refuse(alloc: Global, identifier: &[u8]) -> DecodeError
     ensures { IsOid identifier.now
         → (result ≡ DecodeError.InvalidExtension identifier.now) ⊎ (result ≡ DecodeError.Memory) }
@@ -148,7 +149,7 @@ impl Extensions {
         })
     }
 
-    /// What a row of extensions gives (RFC 6487 5).
+    /// Reads all extensions of a list, and returns what they give (RFC 6487 5).
     #[tactic(auto, unfolding(crate::specs::ListExtensions::Reading::list_extensions_of))]
     pub(crate) fn from_row(alloc: Global, row: &Cursor<'_>) -> Result<Extensions, DecodeError>
         ensures reads { ReturnsOrMemoryBy extensions_view result

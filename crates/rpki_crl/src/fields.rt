@@ -62,7 +62,7 @@ impl<C: Drop> TbsCertList<C> {
 }
 
 impl<C> TbsCertList<C> {
-    /// Whether the next list was to be made before this moment.
+    /// Returns whether the next list was to be made before this moment.
     pub fn is_stale(&self, now: Time) -> bool
         ensures { IsTrue result ↔ (second_number self.now.next_update < second_number now) }
     {

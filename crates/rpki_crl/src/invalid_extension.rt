@@ -22,28 +22,28 @@ impl Model for InvalidExtension {
 }
 
 impl InvalidExtension {
-    /// An extension under this identifier.
+    /// Makes the error of an extension under this identifier.
     pub fn new(oid: Oid) -> InvalidExtension
         ensures { result ≡ oid }
     {
         InvalidExtension { oid }
     }
 
-    /// The identifier of the extension.
+    /// Returns the identifier of the extension.
     pub fn oid(&self) -> &Oid
         ensures { result.now ≡ self.now }
     {
         &self.oid
     }
 
-    /// The type's name.
+    /// Returns the type's name.
     pub fn name(&self) -> &'static str
         ensures { result.now ≡ codes "InvalidExtension" }
     {
         "InvalidExtension"
     }
 
-    /// The same once more.
+    /// Clones the error.
     pub fn try_clone(&self, alloc: Global) -> Result<InvalidExtension, AllocError>
         ensures { IfOk result (λ e. e ≡ self.now) }
     {

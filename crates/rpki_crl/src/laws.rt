@@ -9,8 +9,9 @@ ghost use Rattle.rpki_crl.specs.Lists.{CrlFields, ListFields, ListFits, IsTbsCer
 ghost use Rattle.rpki_crl.specs.Lists.{IsMadeList, list_spelling};
 ghost use Rattle.rpki_crl.specs.RevokedEntries.{Entry, Revoked, AreEntries, IsRevokedCertificates, FitsEntry, entries};
 
-/// A string begins with at most one revocation list, with its fields and entries, and no list's octets are a proper beginning of
-/// another's. The same holds of what is signed in it, and of the list of entries, present or absent.
+/// Says that a string begins with at most one revocation list, with its fields and entries, and
+/// that no list's octets are a proper beginning of another's. This holds also of what is signed in
+/// it, and of the list of entries, present or absent.
 pub fn unambiguous()
     ensures list { IsUnambiguous IsCertificateList }
     ensures data { IsUnambiguous IsTbsCertList }
@@ -19,21 +20,22 @@ pub fn unambiguous()
         → BeginsOrAbsent SEQUENCE IsRevokedCertificates b s tail → (r ≡ s) × (rest ≡ tail) }
 {}
 
-/// A row of octets is at most one list of entries.
+/// Says that a row of octets is at most one list of entries.
 pub fn one_row()
     ensures { (ds es : List Entry) (b : List ℕ) → AreEntries ds b → AreEntries es b → ds ≡ es }
 {}
 
-/// A list's octets are the SEQUENCE of what is signed, its algorithm and its signature as they are kept. So what is written of a list that
-/// was read are the octets that were read.
+/// Says that a list's octets are the SEQUENCE of what is signed, its algorithm and its signature as
+/// they are kept. So what is written of a list that was read are the octets that were read.
 pub fn octets_are_kept()
     ensures { (r : CrlFields) (b : List ℕ) → IsCertificateList r b → b ≡ signed_data r.signed_data }
 {}
 
-/// What is written of fields is a TBSCertList of these fields, through every form of length, where the fields have a spelling. A list whose
-/// signed octets are that spelling is read from its own octets, where its signature names the algorithm that was asked for, and they fit.
-/// What is made of entries is read as these entries, where their serial numbers have at most 20 octets and their moments exist. There are
-/// such fields.
+/// Says that what is written of fields is a TBSCertList of these fields, through every form of
+/// length, where the fields have an encoding. A list whose signed octets are that encoding is read
+/// from its own octets, where its signature names the algorithm that was asked for, and they fit.
+/// What is made of entries is read as these entries, where their serial numbers have at most 20
+/// octets and their moments exist. There are such fields.
 pub fn written_is_read()
     ensures data { (f : ListFields Revoked) → ListFits f → IsTbsCertList f (list_spelling f) }
     ensures list { (r : CrlFields) → IsMadeList r
@@ -42,9 +44,10 @@ pub fn written_is_read()
     ensures premises { (f : ListFields Revoked) × ListFits f }
 {}
 
-/// Says that a revocation list under one bound of depth is one under a greater bound, with the octets, fields and entries that it has: the
-/// bound concerns its issuer's name alone. So what readers took when skipped values might stand 16 deep is read under today's 32, at the front
-/// of whatever octets, with the rest that it had.
+/// Says that a revocation list under one bound of depth is one under a greater bound, with the
+/// octets, fields and entries that it has: the bound concerns its issuer's name alone. So what
+/// readers took when skipped values might stand 16 deep is read under today's 32, at the front of
+/// whatever octets, with the rest that it had.
 pub fn still_read()
     ensures general { (d e : ℕ) (r : CrlFields) (b : List ℕ) → d ≤ e
         → IsCertificateListWithin d r b → IsCertificateListWithin e r b }

@@ -67,7 +67,8 @@ impl TbsCertList<RevokedCertificates> {
 }
 
 impl<C: IntoIterator<Item = CrlEntry>> TbsCertList<C> {
-    /// The same data, with the entries as octets, in their order. The only error is `Memory`.
+    /// Writes the entries as octets, in their order, and keeps the other data. The only error is
+    /// `Memory`.
     pub fn to_revoked(self, alloc: Global) -> Result<TbsCertList<RevokedCertificates>, EncodeError>
         requires { (it : C.IntoIter) → C.into_iter_gives self.revoked it →
             C.IntoIter.can_next it × IsFinite (C.IntoIter.remaining it) }
@@ -96,9 +97,10 @@ impl<C: IntoIterator<Item = CrlEntry>> TbsCertList<C> {
         })
     }
 
-    /// The list with these fields: the signer signs exactly the octets that are kept, with the key that `key` names, and the entries are
-    /// those of the iterator, in their order. What the signer refuses is passed on; answers `TooLong` also where the data or the whole
-    /// list would have a content of 2^32 octets or more.
+    /// Makes the list with these fields. The signer signs exactly the octets that are kept, with
+    /// the key that `key` names, and the entries are those of the iterator, in their order. The
+    /// signer's error is passed on. Errs with `TooLong` also where the data or the whole list would
+    /// have a content of 2^32 octets or more.
     pub fn into_crl<S: Signer>(
         self,
         alloc: Global,

@@ -26,7 +26,7 @@ pub enum RevocationError {
 impl RevocationError {
     ghost use Rattle.rpki_crl.specs.Revocation.{revocation_error_name};
 
-    /// Tells the variant's name.
+    /// Returns the variant's name.
     pub fn name(&self) -> &'static str
         ensures { result.now ≡ revocation_error_name self.now }
     {

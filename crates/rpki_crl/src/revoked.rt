@@ -17,7 +17,8 @@ use rpki_der::{Cursor, DecodeError, EncodeError, Piece, Serial, put_value, tag};
 use std::alloc::{AllocError, Global};
 use std::marker::Model;
 
-/// The revoked certificates of a list, kept as the octets that spell them: always a row of entries.
+/// The revoked certificates of a list, kept as the octets that encode them: always a SEQUENCE OF
+/// entries, without identifier and length.
 #[derive(Drop)]
 pub struct RevokedCertificates {
     octets: Piece,
@@ -75,7 +76,7 @@ impl<'a> Iterator for RevokedCertificatesIter<'a> {
     }
 }
 
-// Whether what is left is a row of entries.
+// Checks that the remaining octets are a sequence of entries.
 fn check(cursor: &Cursor<'_>) -> Result<(), DecodeError>
     ensures { Returns result (entries_pass (left cursor.now)) }
 {
@@ -106,14 +107,14 @@ impl RevokedCertificates {
         }
     }
 
-    /// No entries.
+    /// Makes a list of no entries.
     pub fn empty(_alloc: Global) -> RevokedCertificates
         ensures { result ≡ no_entries }
     {
         RevokedCertificates::none()
     }
 
-    /// The entries of a slice, in their order. The only error is `Memory`.
+    /// Makes the list of the entries of a slice, in their order. The only error is `Memory`.
     pub(crate) fn from_entries(
         alloc: Global,
         row: &[CrlEntry],
@@ -151,7 +152,8 @@ impl RevokedCertificates {
         Ok(list)
     }
 
-    /// The SEQUENCE of entries that stands next (RFC 5280 5.1), or none where no SEQUENCE does.
+    /// Reads the SEQUENCE of entries that stands next (RFC 5280 5.1). Where no SEQUENCE stands next
+    /// there are none.
     pub fn take_from(
         alloc: Global,
         cursor: &mut Cursor<'_>,
@@ -163,7 +165,7 @@ impl RevokedCertificates {
         RevokedCertificates::read(alloc, cursor)
     }
 
-    /// The entries, in their order. Takes no memory.
+    /// Iterates over the entries, in their order. Takes no memory.
     pub fn iter(&self) -> RevokedCertificatesIter<'_>
         ensures all { result ≡ self.now.entries }
         ensures entries { AreEntries self.now.entries self.now.octets }
@@ -173,7 +175,7 @@ impl RevokedCertificates {
         }
     }
 
-    /// Whether some entry has this serial number. Takes no memory.
+    /// Returns whether some entry has this serial number. Takes no memory.
     pub fn contains(&self, serial: Serial) -> bool
         ensures entries { AreEntries self.now.entries self.now.octets }
         ensures revoked { IsTrue result ↔ IsRevoked serial self.now.entries }
@@ -181,7 +183,8 @@ impl RevokedCertificates {
         self.contains_counted(serial).0
     }
 
-    /// The same, and how many entries were looked at to tell.
+    /// Returns whether some entry has this serial number, and how many entries were looked at to
+    /// tell.
     pub(crate) fn contains_counted(&self, serial: Serial) -> (bool, usize)
         ensures entries { AreEntries self.now.entries self.now.octets }
         ensures revoked { IsTrue result.0 ↔ IsRevoked serial self.now.entries }
@@ -203,8 +206,8 @@ impl RevokedCertificates {
         (false, count)
     }
 
-    /// Appends the SEQUENCE of the entries, as they were read or made; nothing where there are none (RFC 5280 5.1.2.6). Answers
-    /// `TooLong` where they have 2^32 octets or more.
+    /// Appends the SEQUENCE of the entries, as they were read or made; nothing where there are none
+    /// (RFC 5280 5.1.2.6). Errs with `TooLong` where they have 2^32 octets or more.
     pub fn encode_ref(&self, _alloc: Global, out: &mut Vec<u8>) -> Result<(), EncodeError>
         ensures { Writes (revoked_part self.now.octets) out.old.items result out.new.items }
     {
@@ -215,7 +218,7 @@ impl RevokedCertificates {
         put_value(out, tag::SEQUENCE, octets)
     }
 
-    /// The same entries once more.
+    /// Clones the entries.
     pub fn try_clone(&self, alloc: Global) -> Result<RevokedCertificates, AllocError>
         ensures { IfOk result (λ r. r ≡ self.now) }
     {

@@ -10,8 +10,9 @@ use crate::laws;
 use rpki_der::EncodeError;
 use std::alloc::Global;
 
-/// Writes a list that `into_crl` made, and reads it again: it is the same, its entries too, where its signature names the algorithm that
-/// was asked for. Its serials are in no table. The only error is `Memory`.
+/// Writes a list that `into_crl` made, and reads it again: it is the same, its entries too, where
+/// its signature names the algorithm that was asked for. Its serials are in no table. The only
+/// error is `Memory`.
 pub fn read_again(alloc: Global, made: &Crl) -> Result<Crl, EncodeError>
     requires written { ListFits made.now.list.fields }
     requires message { made.now.list.signed_data.message ≡ list_spelling made.now.list.fields }

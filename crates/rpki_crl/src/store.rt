@@ -35,7 +35,7 @@ fn with_table(alloc: Global, caches: bool, mut crl: Crl) -> Result<Crl, Crl>
 }
 
 impl CrlStore {
-    /// A store without lists, which grows by this allocator.
+    /// Makes a store without lists, which grows by this allocator.
     pub fn new(alloc: Global) -> CrlStore
         ensures { result ≡ record { pairs = []; caches = false } }
     {
@@ -46,14 +46,15 @@ impl CrlStore {
         }
     }
 
-    /// From now on the serials of each list that is pushed are sorted into a table.
+    /// Turns the table on: from now on the serials of each list that is pushed are sorted into one.
     pub fn enable_serial_caching(&mut self)
         ensures { self.new ≡ record self.old { caches = true } }
     {
         self.caches = true;
     }
 
-    /// Stores a list under its URI. After want of memory the very pair is handed back, and the store is as it was.
+    /// Stores a list under its URI. When out of memory it hands back the very pair, and the store
+    /// is as it was.
     pub fn push(&mut self, uri: Rsync, crl: Crl) -> Result<(), (Rsync, Crl)>
         ensures stored { let pair = stored self.old.caches uri crl in
             OnOk result (self.new ≡ record self.old { pairs = self.old.pairs ++ pair ∷ [] }) }
@@ -73,7 +74,7 @@ impl CrlStore {
         }
     }
 
-    /// The list that was pushed first under an equal URI. Takes no memory.
+    /// Returns the list that was pushed first under an equal URI. Takes no memory.
     pub fn get(&self, uri: &Rsync) -> Option<&Crl>
         ensures { IsEarliest uri.now self.now.pairs (option_map (λ crl. crl.now) result) }
     {
@@ -85,7 +86,7 @@ impl CrlStore {
         None
     }
 
-    /// The same store once more.
+    /// Clones the store.
     pub fn try_clone(&self, alloc: Global) -> Result<CrlStore, AllocError>
         ensures { IfOk result (λ s. s ≡ self.now) }
     {

@@ -31,7 +31,7 @@ impl Count {
         Count { looks: 0 }
     }
 
-    /// How many there were.
+    /// Returns how many there were.
     pub(crate) fn get(&self) -> usize
         ensures { result ≡ self.now }
     {
@@ -57,7 +57,7 @@ impl Model for SerialTable {
 }
 
 impl SerialTable {
-    /// The serials of the entries of a list.
+    /// Sorts the serials of the entries of a list into a table.
     pub(crate) fn of(alloc: Global, list: &RevokedCertificates) -> Result<SerialTable, AllocError>
         ensures { IfOk result (λ table. IsPermutation (serials_of list.now.entries) table) }
     {
@@ -81,7 +81,8 @@ impl SerialTable {
         self.serials[place].cmp(&serial)
     }
 
-    /// Whether the table has this serial, and how many of the stored ones were looked at to tell.
+    /// Returns whether the table has this serial, and how many of the stored ones were looked at to
+    /// tell.
     pub(crate) fn contains(&self, serial: Serial) -> (bool, Count)
         ensures found { IsTrue result.0 ↔ Contains self.now serial }
         ensures few { result.1 ≤ digits (length self.now) }
@@ -101,7 +102,7 @@ impl SerialTable {
         (false, count)
     }
 
-    /// The same table once more.
+    /// Clones the table.
     pub(crate) fn try_clone(&self, alloc: Global) -> Result<SerialTable, AllocError>
         ensures { IfOk result (λ table. table ≡ self.now) }
     {

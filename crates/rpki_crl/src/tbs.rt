@@ -20,7 +20,8 @@ use rpki_parts::{KeyIdentifier, Name, RpkiSignatureAlgorithm};
 use std::alloc::{AllocError, Global};
 use std::marker::Model;
 
-/// The data of a revocation list: all but its signature, with the revoked certificates in the form of `C` (RFC 5280 5.1.2, RFC 6487 5).
+/// The data of a revocation list: all but its signature, with the revoked certificates in the form
+/// of `C` (RFC 5280 5.1.2, RFC 6487 5).
 #[derive(Drop)]
 pub struct TbsCertList<C> {
     pub(crate) signature: RpkiSignatureAlgorithm,
@@ -115,7 +116,7 @@ fn take_in_order<'a>(
     Ok((head, row))
 }
 
-// The same inside the SEQUENCE.
+// Reads what stands inside the SEQUENCE.
 #[tactic(auto, unfolding(crate::specs::Lists::Reading::list_parts_at))]
 fn take_fields<'a>(
     alloc: Global,
@@ -136,7 +137,7 @@ fn take_fields<'a>(
 }
 
 impl TbsCertList<RevokedCertificates> {
-    /// The data, by the reading function.
+    /// Reads the data, by the reading function.
     #[tactic(auto, unfolding(crate::specs::Lists::Reading::list_at))]
     pub(crate) fn read(
         alloc: Global,
@@ -167,8 +168,9 @@ impl TbsCertList<RevokedCertificates> {
         })
     }
 
-    /// The TBSCertList that stands next, one SEQUENCE (RFC 5280 5.1.2, RFC 6487 5), whatever order its extensions stand in. Errs with a
-    /// fault where no front of what is left is one; which of several isn't promised.
+    /// Reads the TBSCertList that stands next, one SEQUENCE (RFC 5280 5.1.2, RFC 6487 5), whatever
+    /// order its extensions stand in. Fails if no front of the remaining octets is one; which error
+    /// is returned is unspecified.
     pub fn take_from(
         alloc: Global,
         cursor: &mut Cursor<'_>,
@@ -179,7 +181,7 @@ impl TbsCertList<RevokedCertificates> {
         TbsCertList::read(alloc, cursor)
     }
 
-    /// The same data once more.
+    /// Clones the data.
     pub fn try_clone(&self, alloc: Global) -> Result<TbsCertList<RevokedCertificates>, AllocError>
         ensures { IfOk result (λ t. t ≡ self.now) }
     {
@@ -197,7 +199,7 @@ impl TbsCertList<RevokedCertificates> {
 }
 
 impl<C> TbsCertList<C> {
-    /// The data with these fields.
+    /// Makes the data with these fields.
     pub fn new(
         signature: RpkiSignatureAlgorithm,
         issuer: Name,
@@ -232,42 +234,43 @@ impl<C> TbsCertList<C> {
         }
     }
 
-    /// The algorithm that stands inside the signed data (RFC 5280 5.1.2.2).
+    /// Returns the algorithm that stands inside the signed data (RFC 5280 5.1.2.2).
     pub fn signature(&self) -> RpkiSignatureAlgorithm
         ensures { result ≡ self.now.algorithm }
     {
         self.signature
     }
 
-    /// The name of the issuer (RFC 5280 5.1.2.3).
+    /// Returns the name of the issuer (RFC 5280 5.1.2.3).
     pub fn issuer(&self) -> &Name
         ensures { result.now ≡ self.now.issuer }
     {
         &self.issuer
     }
 
-    /// The moment at which the list was made (RFC 5280 5.1.2.4).
+    /// Returns the moment at which the list was made (RFC 5280 5.1.2.4).
     pub fn this_update(&self) -> Time
         ensures { result ≡ self.now.this_update }
     {
         self.this_update
     }
 
-    /// The moment by which the next list is to be made (RFC 5280 5.1.2.5).
+    /// Returns the moment by which the next list is to be made (RFC 5280 5.1.2.5).
     pub fn next_update(&self) -> Time
         ensures { result ≡ self.now.next_update }
     {
         self.next_update
     }
 
-    /// The revoked certificates (RFC 5280 5.1.2.6).
+    /// Returns the revoked certificates (RFC 5280 5.1.2.6).
     pub fn revoked_certs(&self) -> &C
         ensures { result.now ≡ self.now.revoked }
     {
         &self.revoked_certs
     }
 
-    /// The same to be changed in place. When the borrow ends, the list has the revoked certificates that were left there.
+    /// Lends the revoked certificates to be changed in place. When the borrow ends, the list has
+    /// the revoked certificates that were left there.
     pub fn revoked_certs_mut(&mut self) -> &mut C
         ensures* lends { sem 𝓛 (LendsRevoked C.row self.entry result) }
         ensures value { result.now ≡ self.old.revoked }
@@ -275,14 +278,14 @@ impl<C> TbsCertList<C> {
         &mut self.revoked_certs
     }
 
-    /// The identifier of the issuer's key (RFC 5280 5.2.1).
+    /// Returns the identifier of the issuer's key (RFC 5280 5.2.1).
     pub fn authority_key_identifier(&self) -> &KeyIdentifier
         ensures { result.now ≡ self.now.extensions.authority_key_identifier }
     {
         &self.extensions.authority_key_identifier
     }
 
-    /// The number of the list (RFC 5280 5.2.3).
+    /// Returns the number of the list (RFC 5280 5.2.3).
     pub fn crl_number(&self) -> Serial
         ensures { result ≡ self.now.extensions.crl_number }
     {

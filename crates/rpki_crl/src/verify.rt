@@ -9,8 +9,8 @@ use rpki_cert::{ResourceCert, VerificationError};
 use rpki_parts::{PublicKey, Verifier};
 
 impl Crl {
-    /// Whether the list names the key of this issuer as the one that signs it (RFC 5280 5.2.1). The mode changes nothing. Errs
-    /// with `WrongKeyId` alone; wants no memory.
+    /// Checks that the list names the key of this issuer as the one that signs it (RFC 5280 5.2.1).
+    /// The mode changes nothing. The only error is `WrongKeyId`. Takes no memory.
     pub fn verify_issuer_claim(
         &self,
         issuer: &ResourceCert,
@@ -27,8 +27,8 @@ impl Crl {
         }
     }
 
-    /// Whether the key signed the list, as the verifier answers of the octets that are kept (RFC 5280 6.3.3). Errs with `BadSignature` alone; wants no
-    /// memory.
+    /// Checks that the key signed the list, as the verifier answers of the octets that are kept
+    /// (RFC 5280 6.3.3). The only error is `BadSignature`. Takes no memory.
     pub fn verify_signature<V: Verifier>(
         &self,
         key: &PublicKey,

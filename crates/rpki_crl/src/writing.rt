@@ -84,8 +84,9 @@ impl TbsCertList<RevokedCertificates> {
         Ok(content)
     }
 
-    /// Appends the TBSCertList with these fields (RFC 5280 5.1.2, RFC 6487 5): the entries as they are kept, and both extensions in
-    /// one fixed order, without flags. Answers `TooLong` where its content would have 2^32 octets or more.
+    /// Appends the TBSCertList with these fields (RFC 5280 5.1.2, RFC 6487 5): the entries as they
+    /// are kept, and both extensions in one fixed order, without flags. Errs with `TooLong` where
+    /// its content would have 2^32 octets or more.
     pub fn encode_ref(&self, alloc: Global, out: &mut Vec<u8>) -> Result<(), EncodeError>
         ensures writes { Writes (value SEQUENCE (list_content self.now))
             out.old.items result out.new.items }

@@ -43,8 +43,8 @@ impl<'a> Cursor<'a> {
         Ok((unused, octets))
     }
 
-    /// How many bits are unused at the end of the BIT STRING that must stand next, and a cursor
-    /// over its octets (X.690 8.6). The unused bits are 0 (X.690 11.2.1).
+    /// Reads the BIT STRING that must stand next (X.690 8.6). Returns how many bits are unused at
+    /// its end, and a cursor over its octets. The unused bits are 0 (X.690 11.2.1).
     #[inline(always)]
     pub fn take_bits(&mut self) -> Result<(u8, Cursor<'a>), DecodeError>
         ensures answers { AnswersBy (λ x. (x.0, left x.1)) IsBits self.old result self.new }

@@ -53,8 +53,8 @@ impl<'a> Cursor<'a> {
         }
     }
 
-    /// The BOOLEAN that stands next, else false: at the end, or before another identifier (X.690
-    /// 8.2, 11.1). An explicit false is read too (own).
+    /// Reads the BOOLEAN that stands next (X.690 8.2, 11.1). Returns false at the end and before
+    /// another identifier. An explicit false is read too (own).
     #[inline(always)]
     pub fn take_bool_or_false(&mut self) -> Result<bool, DecodeError>
         ensures answers { AnswersOrAbsent BOOLEAN IsBoolOrFalse self.old result self.new }

@@ -13,28 +13,28 @@ use std::alloc::AllocError;
 use std::cmp::Ordering;
 use std::hash::{Hash, Hasher};
 
-/// A copy of a serial has its number.
+/// Clones a serial. The copy has its number.
 pub fn copied_serial(serial: &Serial) -> Result<Serial, AllocError>
     ensures { IsOkAnd result (λ copy. copy ≡ serial.now) }
 {
     serial.clone()
 }
 
-/// Serials are equal where their numbers are.
+/// Compares serials: they are equal where their numbers are.
 pub fn equal_serials(one: &Serial, other: &Serial) -> bool
     ensures { IsTrue result ↔ one.now ≡ other.now }
 {
     one == other
 }
 
-/// Serials stand in the order of their numbers.
+/// Orders serials by their numbers.
 pub fn ordered_serials(one: &Serial, other: &Serial) -> Ordering
     ensures { result ≡ nat_cmp one.now other.now }
 {
     one.cmp(other)
 }
 
-/// Equal serials feed a hash function alike.
+/// Hashes two serials. Equal ones feed a hash function alike.
 pub fn hashed_serials<H: Hasher>(one: &Serial, other: &Serial, first: &mut H, second: &mut H)
     ensures { one.now ≡ other.now → first.old ≡ second.old → first.new ≡ second.new }
 {
@@ -42,14 +42,14 @@ pub fn hashed_serials<H: Hasher>(one: &Serial, other: &Serial, first: &mut H, se
     other.hash(second);
 }
 
-/// A copy of a time is the same time.
+/// Clones a time. The copy is the same time.
 pub fn copied_time(time: &Time) -> Result<Time, AllocError>
     ensures { IsOkAnd result (λ copy. copy ≡ time.now) }
 {
     time.clone()
 }
 
-/// Times are equal where they are the same.
+/// Compares times: they are equal where they are the same.
 #[tactic(auto, using(crate::proofs::OneMoment::one_moment))]
 pub fn equal_times(one: &Time, other: &Time) -> bool
     ensures { IsTrue result ↔ one.now ≡ other.now }
@@ -60,35 +60,35 @@ pub fn equal_times(one: &Time, other: &Time) -> bool
     one == other
 }
 
-/// Times stand in the order of their numbers of seconds.
+/// Orders times by their numbers of seconds.
 pub fn ordered_times(one: &Time, other: &Time) -> Ordering
     ensures { result ≡ nat_cmp (second_number one.now) (second_number other.now) }
 {
     one.cmp(other)
 }
 
-/// A copy of a field is the same field.
+/// Clones a field. The copy is the same field.
 pub fn copied_field(field: &Field) -> Result<Field, AllocError>
     ensures { IsOkAnd result (λ copy. copy ≡ field.now) }
 {
     field.clone()
 }
 
-/// Fields are equal where they are the same.
+/// Compares fields: they are equal where they are the same.
 pub fn equal_fields(one: &Field, other: &Field) -> bool
     ensures { IsTrue result ↔ one.now ≡ other.now }
 {
     one == other
 }
 
-/// Identifiers are equal where their octets are.
+/// Compares identifiers: they are equal where their octets are.
 pub fn equal_identifiers(one: &Oid, other: &Oid) -> bool
     ensures { IsTrue result ↔ one.now ≡ other.now }
 {
     one == other
 }
 
-/// Kept octets are equal where they are the same.
+/// Compares kept octets: they are equal where they are the same.
 pub fn equal_pieces(one: &Piece, other: &Piece) -> bool
     ensures { IsTrue result ↔ one.now ≡ other.now }
 {

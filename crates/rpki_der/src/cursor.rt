@@ -34,7 +34,7 @@ impl<'a> Model for Cursor<'a> {
 }
 
 impl<'a> Cursor<'a> {
-    /// A cursor over all of the source.
+    /// Makes a cursor over all of the source.
     #[inline(always)]
     pub fn new(source: &'a Bytes) -> Cursor<'a>
         ensures whole { result
@@ -48,13 +48,13 @@ impl<'a> Cursor<'a> {
         }
     }
 
-    /// Another cursor at this place. What it reads moves only itself.
+    /// Returns another cursor at this place. What it reads moves only itself.
     #[inline(always)]
     pub fn fork(&self) -> Cursor<'a>
         ensures same { result ≡ self.now }
         ensures octets { AreOctets (left self.now) }
     {
-        // For the proof only: what is left are octets.
+        // For the proof only: what remains are octets.
         let _octets = self.rest();
         Cursor {
             source: self.source,
@@ -63,7 +63,7 @@ impl<'a> Cursor<'a> {
         }
     }
 
-    /// Where in the source the octets that are left begin and end.
+    /// Returns where in the source the remaining octets begin and end.
     #[inline(always)]
     pub fn span(&self) -> (usize, usize)
         ensures span { result ≡ (self.now.from, self.now.to) }
@@ -73,7 +73,7 @@ impl<'a> Cursor<'a> {
         (self.from, self.to)
     }
 
-    /// The octets that are left.
+    /// Returns the remaining octets.
     #[inline(always)]
     pub fn rest(&self) -> &'a [u8]
         ensures left { result.now ≡ left self.now }
@@ -84,7 +84,7 @@ impl<'a> Cursor<'a> {
         rest
     }
 
-    /// Whether no octet is left.
+    /// Returns whether no octet remains.
     #[inline(always)]
     pub fn is_empty(&self) -> bool
         ensures { IsTrue result ↔ (left self.now ≡ []) }
@@ -92,7 +92,7 @@ impl<'a> Cursor<'a> {
         self.from == self.to
     }
 
-    /// Ends the reading of these octets. Answers `Trailing` where some are left.
+    /// Ends the reading of these octets. Errs with `Trailing` where some remain.
     #[inline(always)]
     pub fn finish(self) -> Result<(), DecodeError>
         ensures end { IsOk result ↔ (left self.entry ≡ []) }
@@ -106,7 +106,7 @@ impl<'a> Cursor<'a> {
         }
     }
 
-    // Passes over octets that are left.
+    // Passes over remaining octets.
     #[inline(always)]
     pub(crate) fn advance(&mut self, count: usize)
         requires { count ≤ length (left self.old) }
@@ -151,8 +151,8 @@ impl<'a> Cursor<'a> {
         Ok(inner)
     }
 
-    /// A cursor over the content of the next value, which must have this identifier octet (X.690
-    /// 8.1, 10.1).
+    /// Reads the next value, which must have this identifier octet (X.690 8.1, 10.1). Returns a
+    /// cursor over its content.
     #[inline(always)]
     pub fn take_value(&mut self, tag: u8) -> Result<Cursor<'a>, DecodeError>
         ensures answers { AnswersBy left (IsEnc tag) self.old result self.new }
@@ -164,8 +164,8 @@ impl<'a> Cursor<'a> {
         self.next_value(tag)
     }
 
-    /// The same where the next value has this identifier octet, else `None`: at the end, or before
-    /// another one.
+    /// Reads the next value where it has this identifier octet, and returns a cursor over its
+    /// content. Returns `None` at the end and before another identifier octet.
     #[inline(always)]
     pub fn take_opt_value(&mut self, tag: u8) -> Result<Option<Cursor<'a>>, DecodeError>
         ensures answers { AnswersOptionalBy left tag (IsEnc tag) self.old result self.new }
@@ -181,7 +181,7 @@ impl<'a> Cursor<'a> {
         }
     }
 
-    /// A cursor over the content of the SEQUENCE that must stand next.
+    /// Reads the SEQUENCE that must stand next. Returns a cursor over its content.
     #[inline(always)]
     pub fn take_sequence(&mut self) -> Result<Cursor<'a>, DecodeError>
         ensures answers { AnswersBy left (IsEnc SEQUENCE) self.old result self.new }
@@ -193,7 +193,8 @@ impl<'a> Cursor<'a> {
         self.take_value(tag::SEQUENCE)
     }
 
-    /// The same where a SEQUENCE stands next, else `None`.
+    /// Reads the SEQUENCE that stands next, and returns a cursor over its content. Returns `None`
+    /// at the end and before another identifier octet.
     #[inline(always)]
     pub fn take_opt_sequence(&mut self) -> Result<Option<Cursor<'a>>, DecodeError>
         ensures answers { let spells = IsEnc SEQUENCE in
@@ -207,7 +208,7 @@ impl<'a> Cursor<'a> {
         self.take_opt_value(tag::SEQUENCE)
     }
 
-    /// All that is left, kept. The cursor then stands at the end; the only error is `Memory`.
+    /// Keeps all remaining octets. The cursor then stands at the end; the only error is `Memory`.
     #[inline(always)]
     pub fn capture_rest(&mut self, _alloc: Global) -> Result<Piece, DecodeError>
         ensures ok { IfOk result (λ p. (p ≡ left self.old) × (left self.new ≡ [])) }

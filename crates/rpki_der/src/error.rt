@@ -37,7 +37,7 @@ pub enum DecodeError {
     /// A content that its type does not allow.
     #[error("bad value")]
     BadValue,
-    /// Octets left over inside a value.
+    /// Octets remain inside a value.
     #[error("trailing octets")]
     Trailing,
     /// Values that stand one inside the other too deep.
@@ -57,7 +57,7 @@ pub enum DecodeError {
     UnexpectedCritical(Oid),
     #[error("invalid extension {0}")]
     InvalidExtension(Oid),
-    /// The resources are under another identifier than the policy asks for.
+    /// The resources stand under another identifier than the policy asks for.
     #[error("wrong identifier of {0:?}")]
     WrongResources(Field),
     /// The algorithm inside the signed data is not the one outside.
@@ -72,7 +72,7 @@ impl DecodeError {
     ghost use Rattle.rpki_der.specs.ErrorNames.{decode_error_name};
     ghost use Rattle.rpki_der.specs.declared.error.DecodeError.TheVariants as error;
 
-    /// The variant's name.
+    /// Returns the variant's name.
     pub fn name(&self) -> &'static str
         ensures { result.now ≡ decode_error_name self.now }
     {
@@ -95,7 +95,7 @@ impl DecodeError {
         }
     }
 
-    /// Whether memory was wanted.
+    /// Returns whether memory ran out.
     pub fn is_memory(&self) -> bool
         ensures { IsTrue result ↔ self.now ≡ error.Memory }
     {
@@ -132,7 +132,7 @@ impl EncodeError {
     ghost use Rattle.rpki_der.specs.ErrorNames.{encode_error_name};
     ghost use Rattle.rpki_der.specs.declared.error.EncodeError.TheVariants as error;
 
-    /// The variant's name.
+    /// Returns the variant's name.
     pub fn name(&self) -> &'static str
         ensures { result.now ≡ encode_error_name self.now }
     {

@@ -82,7 +82,7 @@ fn append_extension(
 }
 
 /// Appends the extension with this identifier, flag and content (RFC 5280 4.1): the flag only where
-/// it is true (X.690 11.5). Answers `TooLong` where that makes a content of 2^32 octets or more.
+/// it is true (X.690 11.5). Errs with `TooLong` where that makes a content of 2^32 octets or more.
 pub fn put_extension(
     out: &mut Vec<u8>,
     id: &[u8],
@@ -125,8 +125,8 @@ fn read<'a>(cursor: &mut Cursor<'a>) -> Result<(&'a [u8], bool, Cursor<'a>), Dec
     Ok((identifier, critical, content))
 }
 
-/// The identifier, the critical flag and the content of the extension that stands next (RFC 5280
-/// 4.1.2.9).
+/// Reads the extension that stands next. Returns its identifier, critical flag and content (RFC
+/// 5280 4.1.2.9).
 #[inline(always)]
 pub fn take_extension<'a>(
     cursor: &mut Cursor<'a>,

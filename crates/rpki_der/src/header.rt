@@ -5,7 +5,7 @@ ghost use Rattle.rpki_der.specs.Values.Reading.{length_at, value_at};
 
 use crate::error::DecodeError;
 
-/// The length that stands at the front, and what follows it.
+/// Reads the length at the front. Returns it and what follows it.
 #[inline(always)]
 fn length_of(bytes: &[u8]) -> Result<(usize, &[u8]), DecodeError>
     ensures { ReturnsBy (λ x. (x.0, x.1.now)) result (length_at bytes.now) }
@@ -49,7 +49,7 @@ fn length_of(bytes: &[u8]) -> Result<(usize, &[u8]), DecodeError>
     }
 }
 
-/// The content of the value that stands at the front, if it has this tag, and what follows it.
+/// Reads the value at the front, if it has this tag. Returns its content and what follows it.
 #[tactic(auto, unfolding(crate::specs::Values::Reading::value_at))]
 #[inline(always)]
 pub fn value_of(tag: u8, bytes: &[u8]) -> Result<(&[u8], &[u8]), DecodeError>

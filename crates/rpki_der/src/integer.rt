@@ -78,7 +78,7 @@ impl<'a> Cursor<'a> {
         Ok(number)
     }
 
-    /// The INTEGER from 0 to 2^32 - 1 that must stand next (X.690 8.3).
+    /// Reads the INTEGER from 0 to 2^32 - 1 that must stand next (X.690 8.3).
     #[inline(always)]
     pub fn take_u32(&mut self) -> Result<u32, DecodeError>
         ensures answers { Answers IsU32 self.old result self.new }

@@ -9,14 +9,14 @@ ghost use Rattle.rpki_der.specs.Skipping.{IsSkippableWithin};
 ghost use Rattle.rpki_der.specs.Spelling.{Begins};
 ghost use Rattle.rpki_der.specs.Times.{Moment, IsMoment, IsTime, second_number, time};
 
-/// No value is a proper beginning of another (X.690 8.1, 10.1).
+/// Says that no value is a proper beginning of another (X.690 8.1, 10.1).
 pub fn one_value()
     ensures { (a b x y : List ℕ) → IsValue a → IsValue b
         → a ++ x ≡ b ++ y → (a ≡ b) × (x ≡ y) }
 {}
 
-/// A value with an identifier octet and a content is read as these and no others, whatever follows
-/// it.
+/// Says that a value with an identifier octet and a content is read as these and no others,
+/// whatever follows it.
 pub fn value_again()
     ensures read { (t : ℕ) (c rest : List ℕ) → t < 256 → t % 32 < 31 → AreOctets c
         → length c < 2 ^ 32 → Begins (IsEnc t) (enc t c ++ rest) c rest }
@@ -24,20 +24,21 @@ pub fn value_again()
         → Begins (IsEnc u) (enc t c ++ rest) d tail → (u ≡ t) × (d ≡ c) × (tail ≡ rest) }
 {}
 
-/// A row of values splits in one way.
+/// Says that a sequence of values splits in one way.
 pub fn one_row()
     ensures { (vs ws : List (List ℕ)) → AllByRecursion IsValue vs → AllByRecursion IsValue ws
         → concat vs ≡ concat ws → vs ≡ ws }
 {}
 
-/// A string begins with at most one serial, time or identifier, and each spelling is of one.
+/// Says that a string begins with at most one serial, time or identifier, and that each encoding is
+/// of one.
 pub fn one_field()
     ensures serial { IsUnambiguous IsSerial }
     ensures time { IsUnambiguous IsTime }
     ensures identifier { IsUnambiguous IsObjectIdentifier }
 {}
 
-/// What is written of a serial is read as that serial and no other, whatever follows it.
+/// Says that what is written of a serial is read as that serial and no other, whatever follows it.
 pub fn serial_again()
     ensures read { (n : ℕ) (rest : List ℕ) → n < 2 ^ 160
         → Begins IsSerial (number n ++ rest) n rest }
@@ -45,7 +46,7 @@ pub fn serial_again()
         → Begins IsSerial (number n ++ rest) m tail → (m ≡ n) × (tail ≡ rest) }
 {}
 
-/// What is written of a time is read as that time and no other, whatever follows it.
+/// Says that what is written of a time is read as that time and no other, whatever follows it.
 pub fn time_again()
     ensures read { (m : Moment) (rest : List ℕ) → IsMoment m
         → Begins IsTime (time m ++ rest) m rest }
@@ -53,14 +54,14 @@ pub fn time_again()
         → Begins IsTime (time m ++ rest) n tail → (n ≡ m) × (tail ≡ rest) }
 {}
 
-/// Times that are equal, so with one number of seconds, are one.
+/// Says that times that are equal, so with one number of seconds, are one.
 pub fn one_moment()
     ensures { (m n : Moment) → IsMoment m → IsMoment n
         → second_number m ≡ second_number n → m ≡ n }
 {}
 
-/// What may be skipped under one bound of depth may be skipped under a greater one: so what was
-/// skipped when the bound was 16 is skipped under today's 32.
+/// Says that what may be skipped under one bound of depth may be skipped under a greater one: so
+/// what was skipped when the bound was 16 is skipped under today's 32.
 pub fn deeper()
     ensures general { (d e : ℕ) (b : List ℕ) → d ≤ e
         → IsSkippableWithin d b → IsSkippableWithin e b }

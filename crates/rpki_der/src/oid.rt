@@ -42,9 +42,9 @@ pub const CE_EXTENDED_KEY_USAGE: &[u8] = &[0x55, 0x1D, 0x25];
 pub const PE_AUTHORITY_INFO_ACCESS: &[u8] = &[0x2B, 0x06, 0x01, 0x05, 0x05, 0x07, 0x01, 0x01];
 /// id-pe-subjectInfoAccess (RFC 5280 4.2.2.2)
 pub const PE_SUBJECT_INFO_ACCESS: &[u8] = &[0x2B, 0x06, 0x01, 0x05, 0x05, 0x07, 0x01, 0x0B];
-/// id-pe-ipAddrBlocks (RFC 3779 2.2.1): a certificate that overclaims is refused.
+/// id-pe-ipAddrBlocks (RFC 3779 2.2.1): a certificate that overclaims is rejected.
 pub const PE_IP_ADDR_BLOCK: &[u8] = &[0x2B, 0x06, 0x01, 0x05, 0x05, 0x07, 0x01, 0x07];
-/// id-pe-autonomousSysIds (RFC 3779 3.2.1): a certificate that overclaims is refused.
+/// id-pe-autonomousSysIds (RFC 3779 3.2.1): a certificate that overclaims is rejected.
 pub const PE_AUTONOMOUS_SYS_IDS: &[u8] = &[0x2B, 0x06, 0x01, 0x05, 0x05, 0x07, 0x01, 0x08];
 /// id-pe-ipAddrBlocks-v2 (RFC 8360 4.2.2.1): the resources of a certificate that overclaims are
 /// trimmed.
@@ -64,7 +64,7 @@ pub const AD_SIGNED_OBJECT: &[u8] = &[0x2B, 0x06, 0x01, 0x05, 0x05, 0x07, 0x30, 
 /// id-ad-rpkiNotify (RFC 8182 3.2)
 pub const AD_RPKI_NOTIFY: &[u8] = &[0x2B, 0x06, 0x01, 0x05, 0x05, 0x07, 0x30, 0x0D];
 
-/// id-cp-ipAddr-asNumber (RFC 6484 1.2): a certificate that overclaims is refused.
+/// id-cp-ipAddr-asNumber (RFC 6484 1.2): a certificate that overclaims is rejected.
 pub const CP_IPADDR_ASNUMBER: &[u8] = &[0x2B, 0x06, 0x01, 0x05, 0x05, 0x07, 0x0E, 0x02];
 /// id-cp-ipAddr-asNumber-v2 (RFC 8360 4.2.1): the resources of a certificate that overclaims are
 /// trimmed.
@@ -73,7 +73,7 @@ pub const CP_IPADDR_ASNUMBER_V2: &[u8] = &[0x2B, 0x06, 0x01, 0x05, 0x05, 0x07, 0
 /// id-kp-bgpsec-router (RFC 8209 3.1.3.2)
 pub const KP_BGPSEC_ROUTER: &[u8] = &[0x2B, 0x06, 0x01, 0x05, 0x05, 0x07, 0x03, 0x1E];
 
-/// The identifiers of extensions have these octets (RFC 5280 4.2, 5.2).
+/// Says that the identifiers of extensions have these octets (RFC 5280 4.2, 5.2).
 pub fn extension_identifiers()
     ensures subject_key_identifier { CE_SUBJECT_KEY_IDENTIFIER.now ≡ id_ce 0x0E }
     ensures key_usage { CE_KEY_USAGE.now ≡ id_ce 0x0F }
@@ -85,8 +85,8 @@ pub fn extension_identifiers()
     ensures extended_key_usage { CE_EXTENDED_KEY_USAGE.now ≡ id_ce 0x25 }
 {}
 
-/// The identifiers under PKIX have these octets (RFC 3779, RFC 5280 4.2.2, RFC 6484, RFC 6487
-/// 4.8.8, RFC 8182, RFC 8209, RFC 8360).
+/// Says that the identifiers under PKIX have these octets (RFC 3779, RFC 5280 4.2.2, RFC 6484, RFC
+/// 6487 4.8.8, RFC 8182, RFC 8209, RFC 8360).
 pub fn pkix_identifiers()
     ensures authority_info_access { PE_AUTHORITY_INFO_ACCESS.now ≡ pkix 0x01 0x01 }
     ensures subject_info_access { PE_SUBJECT_INFO_ACCESS.now ≡ pkix 0x01 0x0B }
@@ -123,7 +123,7 @@ impl Model for Oid {
     ghost inverse = { λ b. record { content = b } };
 }
 
-/// Whether these are whole subidentifiers, each without a leading `80`.
+/// Returns whether these are whole subidentifiers, each without a leading `80`.
 #[inline(always)]
 pub(crate) fn is_oid(content: &[u8]) -> bool
     ensures { result ≡ is_oid content.now }
@@ -139,8 +139,8 @@ pub(crate) fn is_oid(content: &[u8]) -> bool
 }
 
 impl Oid {
-    /// The identifier with these content octets. Answers `BadValue` where they are no content of an
-    /// OBJECT IDENTIFIER; wants no memory.
+    /// Makes the identifier with these content octets. Errs with `BadValue` where they are no
+    /// content of an OBJECT IDENTIFIER. Takes no memory.
     pub fn new(content: Bytes) -> Result<Oid, DecodeError>
         ensures ok { IfOk result (λ o. o ≡ content) }
         ensures accepted { IsOk result ↔ IsOid content }
@@ -149,7 +149,7 @@ impl Oid {
         Oid::from_piece(Piece::from(content))
     }
 
-    /// The identifier with these content octets, as [`Oid::new`] says.
+    /// Makes the identifier with these content octets, as [`Oid::new`] does.
     pub fn from_piece(content: Piece) -> Result<Oid, DecodeError>
         ensures ok { IfOk result (λ o. o ≡ content) }
         ensures accepted { IsOk result ↔ IsOid content }
@@ -162,7 +162,7 @@ impl Oid {
         }
     }
 
-    /// The content octets.
+    /// Returns the content octets.
     pub fn as_bytes(&self) -> &[u8]
         ensures octets { result.now ≡ self.now }
         ensures valid { IsOid self.now }
@@ -170,7 +170,7 @@ impl Oid {
         self.content.as_bytes()
     }
 
-    /// The same identifier once more.
+    /// Clones the identifier.
     pub fn try_clone(&self, alloc: Global) -> Result<Oid, AllocError>
         ensures { IfOk result (λ o. o ≡ self.now) }
     {
@@ -197,7 +197,7 @@ impl<'a> Cursor<'a> {
         Ok(content)
     }
 
-    /// The content octets of the OBJECT IDENTIFIER that must stand next (X.690 8.19).
+    /// Reads the OBJECT IDENTIFIER that must stand next. Returns its content octets (X.690 8.19).
     #[inline(always)]
     pub fn take_oid(&mut self) -> Result<&'a [u8], DecodeError>
         ensures answers { AnswersBy (λ id. id.now) IsObjectIdentifier self.old result self.new }
@@ -222,7 +222,7 @@ impl Eq for Oid {
     ghost laws = { Prim.search (comparing, rules) };
 }
 
-/// The content octets in lower-case hexadecimal digits.
+/// Writes the content octets in lower-case hexadecimal digits.
 impl fmt::Display for Oid {
     fn fmt<W: fmt::Write>(&self, f: &mut fmt::Formatter<W>) -> fmt::Result {
         for octet in self.content.as_bytes() {

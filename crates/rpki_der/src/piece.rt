@@ -10,7 +10,8 @@ use bytes::Bytes;
 use std::alloc::{AllocError, Global};
 use std::marker::Model;
 
-/// Octets that are kept. They share the buffer that they were cut out of, and keep all of it alive; a copy copies no octets.
+/// Octets that are kept. They share the buffer that they were cut out of, and keep all of it alive;
+/// a copy copies no octets.
 #[derive(Drop)]
 pub struct Piece {
     octets: Bytes,
@@ -33,25 +34,25 @@ impl From<Bytes> for Piece {
 }
 
 impl Piece {
-    /// The octets.
+    /// Returns the octets.
     pub fn as_bytes(&self) -> &[u8]
         ensures { result.now ≡ self.now }
     {
         self.octets.as_slice()
     }
 
-    /// A cursor over all of the octets.
+    /// Returns a cursor over all of the octets.
     pub fn cursor(&self) -> Cursor<'_>
         ensures all { left result ≡ self.now }
         ensures octets { AreOctets self.now }
     {
         let cursor = Cursor::new(&self.octets);
-        // For the proof only: what is left are octets.
+        // For the proof only: what remains are octets.
         let _octets = cursor.rest();
         cursor
     }
 
-    /// The same octets once more.
+    /// Clones the piece. The copy has the same octets.
     pub fn try_clone(&self, _alloc: Global) -> Result<Piece, AllocError>
         ensures { IfOk result (λ p. p ≡ self.now) }
     {

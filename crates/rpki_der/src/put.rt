@@ -11,7 +11,7 @@ use crate::integer::{sign, significant};
 use crate::tag;
 use std::alloc::AllocError;
 
-/// The greatest length of a content (own).
+/// The greatest length of a content, in octets (own).
 pub const MAX_LEN: usize = 0xFFFF_FFFF;
 
 // The shortest length octets.
@@ -53,7 +53,7 @@ pub(crate) fn append_value(
 }
 
 /// Appends the value with this identifier octet whose content is the head and the tail, one after
-/// the other. Answers `TooLong` where they have 2^32 octets or more together.
+/// the other. Errs with `TooLong` where they have 2^32 octets or more together.
 pub fn put_parts(out: &mut Vec<u8>, tag: u8, head: &[u8], tail: &[u8]) -> Result<(), EncodeError>
     requires { tag % 32 < 31 }
     ensures { WritesOrTooLong (value tag (head.now ++ tail.now))
@@ -70,7 +70,7 @@ pub fn put_parts(out: &mut Vec<u8>, tag: u8, head: &[u8], tail: &[u8]) -> Result
     Ok(())
 }
 
-/// Appends the value with this identifier octet and content (X.690 8.1, 10.1). Answers `TooLong`
+/// Appends the value with this identifier octet and content (X.690 8.1, 10.1). Errs with `TooLong`
 /// where the content has 2^32 octets or more.
 pub fn put_value(out: &mut Vec<u8>, tag: u8, content: &[u8]) -> Result<(), EncodeError>
     requires { tag % 32 < 31 }
@@ -91,7 +91,7 @@ pub fn put_bool(out: &mut Vec<u8>, value: bool) -> Result<(), EncodeError>
 }
 
 /// Appends the number of these octets, the greatest first and none for 0, as the shortest INTEGER
-/// (X.690 8.3). Answers `TooLong` where its content would have 2^32 octets or more.
+/// (X.690 8.3). Errs with `TooLong` where its content would have 2^32 octets or more.
 #[tactic(auto, unfolding(crate::specs::Primitives::number))]
 pub fn put_unsigned(out: &mut Vec<u8>, octets: &[u8]) -> Result<(), EncodeError>
     ensures { WritesOrTooLong (number_part (number_from_digits 256 octets.now))
@@ -102,7 +102,7 @@ pub fn put_unsigned(out: &mut Vec<u8>, octets: &[u8]) -> Result<(), EncodeError>
 }
 
 /// Appends a BIT STRING of these octets, at whose end so many bits are unused (X.690 8.6, 11.2.1).
-/// Answers `TooLong` where there are 2^32 - 1 octets or more.
+/// Errs with `TooLong` where there are 2^32 - 1 octets or more.
 pub fn put_bits(out: &mut Vec<u8>, unused: u8, octets: &[u8]) -> Result<(), EncodeError>
     requires few { unused < 8 }
     requires none { octets.now ≡ [] → unused ≡ 0 }
@@ -115,7 +115,7 @@ pub fn put_bits(out: &mut Vec<u8>, unused: u8, octets: &[u8]) -> Result<(), Enco
     put_parts(out, tag::BIT_STRING, &[unused], octets)
 }
 
-/// Appends the OBJECT IDENTIFIER with this content (X.690 8.19). Answers `TooLong` where it has
+/// Appends the OBJECT IDENTIFIER with this content (X.690 8.19). Errs with `TooLong` where it has
 /// 2^32 octets or more.
 pub fn put_oid(out: &mut Vec<u8>, id: &[u8]) -> Result<(), EncodeError>
     requires { IsOid id.now }

@@ -25,7 +25,8 @@ use std::marker::Model;
 // What the highest octet of the low half counts: 2^120.
 const HIGH_OCTET: u128 = 0x100_0000_0000_0000_0000_0000_0000_0000;
 
-/// A serial number: a whole number below 2^160 (RFC 5280 4.1.2.2; own: 0 is one too, and so are the numbers from 2^159 on, whose INTEGER has 21 octets).
+/// A serial number: a whole number below 2^160 (RFC 5280 4.1.2.2; own: 0 is one too, and so are the
+/// numbers from 2^159 on, whose INTEGER has 21 octets).
 #[derive(Clone, Copy, Hash)]
 pub struct Serial {
     high: u32,
@@ -67,7 +68,8 @@ impl From<u128> for Serial {
 }
 
 impl Serial {
-    /// The number of these octets, the greatest first, if it is below 2^160. No octets are 0.
+    /// Returns the number of these octets, the greatest first, or `None` where it is 2^160 or more.
+    /// No octets are 0.
     #[inline(always)]
     pub fn from_slice(octets: &[u8]) -> Option<Serial>
         ensures some { IsSome result ↔ (number_from_digits 256 octets.now < 2 ^ 160) }
@@ -85,7 +87,7 @@ impl Serial {
         Some(Serial { high, low })
     }
 
-    /// The number in 20 octets, the greatest first.
+    /// Returns the number in 20 octets, the greatest first.
     pub fn octets(&self) -> [u8; 20]
         ensures number { number_from_digits 256 result ≡ self.now }
         ensures below { self.now < 2 ^ 160 }
@@ -122,7 +124,7 @@ impl Serial {
         Ok(serial)
     }
 
-    /// The INTEGER that must stand next, from 0 to 2^160 - 1 (RFC 5280 4.1.2.2).
+    /// Reads the INTEGER that must stand next, from 0 to 2^160 - 1 (RFC 5280 4.1.2.2).
     #[inline(always)]
     pub fn take_from(cursor: &mut Cursor<'_>) -> Result<Serial, DecodeError>
         ensures answers { Answers IsSerial cursor.old result cursor.new }

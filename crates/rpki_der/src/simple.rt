@@ -12,7 +12,7 @@ use crate::error::DecodeError;
 use crate::tag;
 
 impl<'a> Cursor<'a> {
-    /// A cursor over the octets of the OCTET STRING that must stand next (X.690 8.7).
+    /// Reads the OCTET STRING that must stand next. Returns a cursor over its octets (X.690 8.7).
     #[inline(always)]
     pub fn take_octets(&mut self) -> Result<Cursor<'a>, DecodeError>
         ensures answers { AnswersBy left (IsEnc OCTET_STRING) self.old result self.new }
@@ -40,7 +40,8 @@ impl<'a> Cursor<'a> {
         Ok(())
     }
 
-    /// The NULL that must stand next (X.690 8.8). Answers `BadValue` where it has a content.
+    /// Reads the NULL that must stand next (X.690 8.8). Errs with `BadValue` where it has a
+    /// content.
     #[inline(always)]
     pub fn take_null(&mut self) -> Result<(), DecodeError>
         ensures answers { Answers IsNull self.old result self.new }

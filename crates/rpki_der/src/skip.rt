@@ -48,7 +48,7 @@ impl<'a> Cursor<'a> {
         Ok(())
     }
 
-    // Past all values that are left, each with at most so many levels.
+    // Passes over all remaining values, each with at most so many levels.
     #[cycle(skipping)]
     fn skip_row_within(mut self, levels: u8) -> Result<(), DecodeError>
         ensures { Returns result (skip_row_within levels (left self.entry)) }
@@ -66,14 +66,14 @@ impl<'a> Cursor<'a> {
         ensures keeps { Keeps result self.old self.new }
         ensures octets { AreOctets (left self.old) }
     {
-        // For the proof only: what is left are octets.
+        // For the proof only: the remaining octets are octets.
         let _here = self.fork();
         self.skip_within(LEVELS)
     }
 
     /// Passes over one well-formed value (X.690 8.1, 10.1) in which constructed values stand at
-    /// most 32 deep, this one counted as the first (own). Answers `TooDeep` at a constructed value
-    /// below the last level. Takes no memory.
+    /// most 32 deep, this one counted as the first (own). Errs with `TooDeep` at a constructed
+    /// value below the last level. Takes no memory.
     pub fn skip_one(&mut self) -> Result<(), DecodeError>
         ensures answers { Answers IsSkipped self.old result self.new }
         ensures reads { Took skip_at self.old result self.new }
@@ -82,7 +82,7 @@ impl<'a> Cursor<'a> {
         self.next_skippable()
     }
 
-    // Past all values that are left, by the reading function.
+    // Passes over all remaining values, by the reading function.
     #[tactic(auto, unfolding(crate::specs::Skipping::Reading::skip_at, crate::specs::Skipping::Reading::skip_all_of))]
     fn rest_skippable(&mut self) -> Result<(), DecodeError>
         ensures reads { Returns result (skip_all_of (left self.old)) }
@@ -95,8 +95,8 @@ impl<'a> Cursor<'a> {
         Ok(())
     }
 
-    /// Passes over all values that are left, each as [`Cursor::skip_one`] says. The cursor then
-    /// stands at the end.
+    /// Passes over all remaining values, each as [`Cursor::skip_one`] does. The cursor then stands
+    /// at the end.
     pub fn skip_all(&mut self) -> Result<(), DecodeError>
         ensures skippable { IsOk result ↔ IsSkippableRow (left self.old) }
         ensures reads { Returns result (skip_all_of (left self.old)) }

@@ -86,8 +86,8 @@ fn civil(
 }
 
 impl Time {
-    /// The second with these parts, where the calendar has the day, in the years 0 to 9999, and a
-    /// clock the time.
+    /// Makes the second with these parts. Returns `None` where the year isn't from 0 to 9999, the
+    /// calendar hasn't the day or a clock hasn't the time.
     pub fn utc(year: i32, month: u32, day: u32, hour: u32, minute: u32, second: u32) -> Option<Time>
         ensures exists { IsSome result
             ↔ ((pos 0 ≤ℤ year)
@@ -101,7 +101,7 @@ impl Time {
         Time::at(year.unsigned_abs(), month, day, hour, minute, second)
     }
 
-    // The same from a year that is not negative.
+    // Makes the second with these parts, from a year that is not negative.
     #[inline(always)]
     fn at(year: u32, month: u32, day: u32, hour: u32, minute: u32, second: u32) -> Option<Time>
         ensures exists { IsSome result
@@ -126,7 +126,8 @@ impl Time {
         }
     }
 
-    /// The moment YYYYMMDDhhmmss in decimal digits, where there is one.
+    /// Reads YYYYMMDDhhmmss in decimal digits as a moment. Returns `None` where there is no such
+    /// moment.
     pub fn from_digits(text: &[u8]) -> Option<Time>
         ensures some { IfSome result (λ t. IsMoment t × (text.now ≡ fourteen_digits t)) }
         ensures none { IfNone result
@@ -152,8 +153,8 @@ impl Time {
         Ok(time)
     }
 
-    /// The UTCTime or GeneralizedTime that must stand next, in the form that ends in seconds and Z
-    /// (RFC 5280 4.1.2.5).
+    /// Reads the UTCTime or GeneralizedTime that must stand next, in the form that ends in seconds
+    /// and Z (RFC 5280 4.1.2.5).
     #[inline(always)]
     pub fn take_from(cursor: &mut Cursor<'_>) -> Result<Time, DecodeError>
         ensures answers { Answers IsTime cursor.old result cursor.new }
@@ -170,7 +171,7 @@ impl Time {
         let _parts = self.inner;
     }
 
-    /// The year, from 0 to 9999.
+    /// Returns the year, from 0 to 9999.
     pub fn year(&self) -> u16
         ensures year { result ≡ self.now.year }
         ensures small { result < 10000 }
@@ -178,35 +179,35 @@ impl Time {
         self.inner.date.year as u16
     }
 
-    /// The month, from 1 to 12.
+    /// Returns the month, from 1 to 12.
     pub fn month(&self) -> u8
         ensures { result ≡ self.now.month }
     {
         self.inner.date.month
     }
 
-    /// The day of the month, from 1.
+    /// Returns the day of the month, from 1.
     pub fn day(&self) -> u8
         ensures { result ≡ self.now.day }
     {
         self.inner.date.day
     }
 
-    /// The hour, from 0 to 23.
+    /// Returns the hour, from 0 to 23.
     pub fn hour(&self) -> u8
         ensures { result ≡ self.now.hour }
     {
         self.inner.time.hour
     }
 
-    /// The minute, from 0 to 59.
+    /// Returns the minute, from 0 to 59.
     pub fn minute(&self) -> u8
         ensures { result ≡ self.now.minute }
     {
         self.inner.time.minute
     }
 
-    /// The second, from 0 to 59.
+    /// Returns the second, from 0 to 59.
     pub fn second(&self) -> u8
         ensures { result ≡ self.now.second }
     {

@@ -16,9 +16,9 @@ use rpki::repository::x509::Time;
 use std::alloc::Global;
 use std::rc::Rc;
 
-/// Tells whether the last of these certificates, from the anchor down, holds the AS number at this
-/// moment. Errs where they are no valid path, and where the lists of the store revoke one of them or
-/// don't tell.
+/// Tells whether the last of these certificates, from the trust anchor down, holds the AS number at
+/// this moment. Errs where they aren't a valid path, and where the lists of the store revoke one of
+/// them or don't tell.
 pub fn holds_as(
     alloc: Global,
     store: &CrlStore,

@@ -37,7 +37,7 @@ fn issuer_in(alloc: Global, mut description: Cursor<'_>) -> Result<Rsync, Decode
     only_rsync(alloc, &description)
 }
 
-// The same as `take_authority_information_access`, by the reading function.
+// Reads as `take_authority_information_access` does, by the reading function.
 #[tactic(auto, unfolding(crate::specs::AuthorityAccess::authority_information_access_at))]
 fn read(alloc: Global, cursor: &mut Cursor<'_>) -> Result<Rsync, DecodeError>
     ensures reads { TookOrMemory authority_information_access.reads cursor.old result cursor.new }
@@ -51,8 +51,8 @@ fn read(alloc: Global, cursor: &mut Cursor<'_>) -> Result<Rsync, DecodeError>
     Ok(uri)
 }
 
-/// The content of Authority Information Access: the only rsync URI among the names of one description, which says where the
-/// issuer's certificate is (RFC 6487 4.8.7).
+/// Reads the content of Authority Information Access. Returns the only rsync URI among the names of
+/// one description, which says where the issuer's certificate is (RFC 6487 4.8.7).
 #[tactic(auto, using(crate::proofs::AuthorityAccess::authority_information_access_answers))]
 pub fn take_authority_information_access(
     alloc: Global,
@@ -66,8 +66,8 @@ pub fn take_authority_information_access(
     read(alloc, cursor)
 }
 
-/// Appends the extension with one description, which says that the issuer's certificate is at this URI. Answers `TooLong` where a
-/// content would have 2^32 octets or more.
+/// Appends the extension with one description, which says that the issuer's certificate is at this
+/// URI. Errs with `TooLong` where a content would have 2^32 octets or more.
 pub fn encode_authority_information_access(
     alloc: Global,
     out: &mut Vec<u8>,
@@ -87,7 +87,7 @@ pub fn encode_authority_information_access(
     )
 }
 
-// The same, where there is a URI.
+// Appends the extension, where there is a URI.
 pub(crate) fn put_authority_information_access(
     alloc: Global,
     out: &mut Vec<u8>,

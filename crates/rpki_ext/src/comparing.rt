@@ -6,14 +6,14 @@ use crate::inspection::InspectionError;
 use crate::key_usage::KeyUsage;
 use std::alloc::AllocError;
 
-/// A copy of a usage of keys is the same usage.
+/// Clones a usage of keys. The copy is the same usage.
 pub fn copied_key_usage(usage: &KeyUsage) -> Result<KeyUsage, AllocError>
     ensures { IsOkAnd result (λ copy. copy ≡ usage.now) }
 {
     usage.clone()
 }
 
-/// Usages of keys are equal where they are the same.
+/// Compares usages of keys: they are equal where they are the same.
 pub fn equal_key_usages(one: &KeyUsage, other: &KeyUsage) -> bool
     ensures { IsTrue result ↔ one.now ≡ other.now }
 {

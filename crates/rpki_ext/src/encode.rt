@@ -29,8 +29,8 @@ fn put_nested(out: &mut Vec<u8>, tags: &[u8], octets: &[u8]) -> Result<(), Encod
     }
 }
 
-/// Appends the extension whose content is a value with the first of these identifier octets, which has one with the next, and so
-/// on; the last one has these octets.
+/// Appends the extension whose content is a value with the first of these identifier octets, which
+/// has one with the next, and so on; the last one has these octets.
 pub(crate) fn put_nested_extension(
     out: &mut Vec<u8>,
     id: &[u8],

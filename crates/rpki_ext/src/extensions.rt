@@ -133,7 +133,7 @@ fn known_identifier(identifier: &Option<KeyIdentifier>)
 }
 
 impl Extensions {
-    /// Nothing that may be left out, and no resources.
+    /// Makes what extensions give without any that may be left out, and without resources.
     pub fn bare(
         subject_key_identifier: KeyIdentifier,
         key_usage: KeyUsage,
@@ -179,7 +179,7 @@ impl Extensions {
         let _numbers = self.as_resources.is_present();
     }
 
-    // The URIs of Subject Information Access, once more.
+    // Clones the URIs of Subject Information Access.
     fn try_clone_access(
         &self,
         alloc: Global,
@@ -208,7 +208,7 @@ impl Extensions {
         )
     }
 
-    // The resources, once more.
+    // Clones the resources.
     fn try_clone_resources(
         &self,
         alloc: Global,
@@ -221,7 +221,7 @@ impl Extensions {
         beside(v6, self.as_resources.try_clone(alloc))
     }
 
-    /// The same once more.
+    /// Clones what the extensions give.
     pub fn try_clone(&self, alloc: Global) -> Result<Extensions, AllocError>
         ensures { IfOk result (λ copy. copy ≡ self.now) }
     {

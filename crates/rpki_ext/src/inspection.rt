@@ -5,7 +5,8 @@ ghost use Rattle.rpki_ext.specs.Inspection.{inspection_error_name};
 use std::error::Error;
 use std::fmt;
 
-/// What is wrong with a certificate, or with a part of it, as its kind asks (RFC 6487 4, RFC 8209 3.1).
+/// What is wrong with a certificate, or with a part of it, as its kind asks (RFC 6487 4, RFC 8209
+/// 3.1).
 #[derive(Debug, Clone, Copy, PartialEq, Eq)]
 pub enum InspectionError {
     /// The algorithm inside what is signed is not the one of the signature.
@@ -20,7 +21,7 @@ pub enum InspectionError {
     SubjectKeyIdentifier,
     /// There is an Extended Key Usage, and must not be.
     ExtendedKeyUsagePresent,
-    /// Basic Constraints say that it is no CA.
+    /// Basic Constraints say that the subject is not a CA.
     CaFlagFalse,
     /// There are no Basic Constraints.
     MissingBasicConstraints,
@@ -65,7 +66,7 @@ pub enum InspectionError {
 }
 
 impl InspectionError {
-    /// The variant's name.
+    /// Returns the variant's name.
     pub fn name(&self) -> &'static str
         ensures { result.now ≡ inspection_error_name self.now }
     {

@@ -1,7 +1,7 @@
 //! What is owned at an early exit is let go by a call of one small function, which is proved once.
 ghost use Rattle.std.specs.Prelude.{◌≡◌, Ok, Err, IfOk, IfErr};
 
-/// A value beside what a step after it gave; the error alone where that step refused.
+/// Returns a value with what a step after it gave, or the error alone where that step failed.
 #[inline(always)]
 pub fn beside<T: Drop, S, E>(value: T, step: Result<S, E>) -> Result<(T, S), E>
     ensures ok { IfOk result (λ r. (r.0 ≡ value) × (step ≡ Ok r.1)) }

@@ -28,7 +28,8 @@ use rpki_der::{Cursor, DecodeError, Field, Oid, oid, take_extension};
 use rpki_parts::{Https, KeyIdentifier, Rsync};
 use std::alloc::Global;
 
-/// The kinds of extensions that certificates know (RFC 6487 4.8). Resources have an identifier for each mode (RFC 8360 4.2).
+/// The kinds of extensions that certificates know (RFC 6487 4.8). Resources have an identifier for
+/// each mode (RFC 8360 4.2).
 #[derive(Clone, Copy)]
 pub(crate) enum Named {
     BasicConstraints,
@@ -45,7 +46,7 @@ pub(crate) enum Named {
 }
 
 impl Named {
-    /// The kind that an identifier names; `None` where it isn't known.
+    /// Returns the kind that an identifier names, or `None` where it isn't known.
     pub(crate) fn of(identifier: &[u8]) -> Option<Named>
         ensures { Names identifier.now result }
     {
@@ -80,7 +81,8 @@ impl Named {
         }
     }
 
-    /// Whether it must be critical or must not be; `None` where the flag isn't tested (RFC 6487 4.8).
+    /// Returns whether it must be critical or must not be, or `None` where the flag isn't tested
+    /// (RFC 6487 4.8).
     pub(crate) fn must_be_critical(self) -> Option<bool>
         ensures { result ≡ wanted self }
     {
@@ -96,7 +98,7 @@ impl Named {
         }
     }
 
-    /// What errors call it.
+    /// Returns what errors call it.
     pub(crate) fn field(self) -> Field
         ensures { result ≡ field_of self }
     {
@@ -116,7 +118,8 @@ impl Named {
     }
 }
 
-// An extension of no known kind: unread where it isn't critical, else refused (RFC 5280 4.2).
+// Passes over an extension of no known kind where it isn't critical, else rejects it (RFC 5280
+// 4.2).
 fn pass_over(alloc: Global, identifier: &[u8], critical: bool) -> Result<(), DecodeError>
     ensures ok { OnOk result (critical ≡ false) }
     ensures err { IfErr result (λ e. Refuses e (critical ≡ true)) }
@@ -191,7 +194,7 @@ impl Seen {
         }
     }
 
-    // Refuses a second extension of a kind, and one with another flag than its kind's.
+    // Rejects a second extension of a kind, and one with another flag than its kind's.
     fn check(&self, kind: Named, critical: bool) -> Result<(), DecodeError>
         ensures first { OnOk result (is_seen self.now kind ≡ false) }
         ensures flag { OnOk result (HasFlag (wanted kind) critical) }
@@ -363,7 +366,7 @@ impl Extensions {
         })
     }
 
-    // The same as `from_row`, by the reading function.
+    // Reads as `from_row` does, by the reading function.
     #[tactic(auto, unfolding(crate::specs::CertificateExtensions::Reading::extensions_of))]
     fn read(alloc: Global, row: &Cursor<'_>) -> Result<Extensions, DecodeError>
         ensures { ReturnsOrMemory result (extensions_of (left row.now)) }
@@ -371,7 +374,8 @@ impl Extensions {
         Extensions::complete(Seen::from_row(alloc, row)?)
     }
 
-    /// What a whole row of extensions gives (RFC 6487 4.8). Errs with a fault where it gives no fields; which of several isn't promised.
+    /// Reads all extensions of a certificate, and returns what they give (RFC 6487 4.8). Errs with
+    /// a fault where they give no fields; which of several is unspecified.
     #[tactic(auto, using(crate::proofs::CertificateExtensions::row_means))]
     pub fn from_row(alloc: Global, row: &Cursor<'_>) -> Result<Extensions, DecodeError>
         ensures means { MeansOrMemory AreExtensions result (left row.now) }

@@ -34,7 +34,8 @@ fn find_router(identifiers: &Cursor<'_>) -> Option<bool>
 }
 
 impl ExtendedKeyUsage {
-    /// Whether the router's purpose is among the purposes. The only error is `MissingRouterPurpose`.
+    /// Checks whether the router's purpose is among the purposes. The only error is
+    /// `MissingRouterPurpose`.
     pub fn inspect_router(&self) -> Result<(), InspectionError>
         ensures ok { IsOk result ↔ HasRouterPurpose self.now }
         ensures missing { IfErr result (λ e. e ≡ MissingRouterPurpose) }

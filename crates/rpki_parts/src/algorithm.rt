@@ -57,7 +57,7 @@ impl Model for RpkiSignatureAlgorithm {
 }
 
 impl RpkiSignatureAlgorithm {
-    /// The algorithm with NULL as its parameters.
+    /// Returns the algorithm with NULL as its parameters.
     pub fn default() -> RpkiSignatureAlgorithm
         ensures { result ≡ with_null }
     {
@@ -66,7 +66,7 @@ impl RpkiSignatureAlgorithm {
         }
     }
 
-    /// The algorithm whose parameters are left out.
+    /// Returns the algorithm whose parameters are left out.
     pub fn without_parameter() -> RpkiSignatureAlgorithm
         ensures { result ≡ without_null }
     {
@@ -93,7 +93,7 @@ impl RpkiSignatureAlgorithm {
         Ok(RpkiSignatureAlgorithm { has_parameter })
     }
 
-    /// The AlgorithmIdentifier that stands next. Answers `BadValue` at another algorithm.
+    /// Reads the AlgorithmIdentifier that stands next. Errs with `BadValue` at another algorithm.
     pub fn x509_take_from(cursor: &mut Cursor<'_>) -> Result<RpkiSignatureAlgorithm, DecodeError>
         ensures answers { Answers IsSignatureAlgorithm cursor.old result cursor.new }
         ensures reads { Took algorithm_at cursor.old result cursor.new }

@@ -8,7 +8,7 @@ use crate::valid_at::ValidityError;
 use crate::validity::Validity;
 use std::alloc::AllocError;
 
-/// A copy of an algorithm is the same, with NULL where it has one.
+/// Clones an algorithm. The copy is the same, with NULL where it has one.
 pub fn copied_algorithm(
     algorithm: &RpkiSignatureAlgorithm,
 ) -> Result<RpkiSignatureAlgorithm, AllocError>
@@ -17,42 +17,43 @@ pub fn copied_algorithm(
     algorithm.clone()
 }
 
-/// Algorithms are equal where they are the same: two that differ in their NULL are unequal.
+/// Compares algorithms: they are equal where they are the same. Two that differ in their NULL are
+/// unequal.
 pub fn equal_algorithms(one: &RpkiSignatureAlgorithm, other: &RpkiSignatureAlgorithm) -> bool
     ensures { IsTrue result ↔ one.now ≡ other.now }
 {
     one == other
 }
 
-/// A copy of a format of keys is the same format.
+/// Clones a format of keys. The copy is the same format.
 pub fn copied_format(format: &PublicKeyFormat) -> Result<PublicKeyFormat, AllocError>
     ensures { IsOkAnd result (λ copy. copy ≡ format.now) }
 {
     format.clone()
 }
 
-/// Formats of keys are equal where they are the same.
+/// Compares formats of keys: they are equal where they are the same.
 pub fn equal_formats(one: &PublicKeyFormat, other: &PublicKeyFormat) -> bool
     ensures { IsTrue result ↔ one.now ≡ other.now }
 {
     one == other
 }
 
-/// A copy of a key identifier has its octets.
+/// Clones a key identifier. The copy has its octets.
 pub fn copied_key_identifier(identifier: &KeyIdentifier) -> Result<KeyIdentifier, AllocError>
     ensures { IsOkAnd result (λ copy. copy ≡ identifier.now) }
 {
     identifier.clone()
 }
 
-/// Key identifiers are equal where their octets are.
+/// Compares key identifiers: they are equal where their octets are.
 pub fn equal_key_identifiers(one: &KeyIdentifier, other: &KeyIdentifier) -> bool
     ensures { IsTrue result ↔ one.now ≡ other.now }
 {
     one == other
 }
 
-/// A copy of a period has its two times.
+/// Clones a period. The copy has its two times.
 pub fn copied_validity(validity: &Validity) -> Result<Validity, AllocError>
     ensures { IsOkAnd result (λ copy. copy ≡ validity.now) }
 {

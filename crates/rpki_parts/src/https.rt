@@ -32,8 +32,8 @@ impl Model for Https {
 }
 
 impl Https {
-    /// The URI of these octets, which must be `21` to `7E`: `https://` in any case, an authority
-    /// that is not empty, and then nothing, or `/` and any more. Wants no memory.
+    /// Makes the URI of these octets, which must be `21` to `7E`: `https://` in any case, an
+    /// authority that is not empty, and then nothing, or `/` and any more. Takes no memory.
     pub fn from_bytes(octets: Bytes) -> Result<Https, BadUri>
         ensures accepted { IsOk result ↔ IsHttps octets }
         ensures ok { IfOk result (λ u. u ≡ octets) }
@@ -41,7 +41,7 @@ impl Https {
         Https::from_piece(Piece::from(octets))
     }
 
-    /// The URI of these octets, as [`Https::from_bytes`] says.
+    /// Makes the URI of these octets, as [`Https::from_bytes`] does.
     pub fn from_piece(octets: Piece) -> Result<Https, BadUri>
         ensures accepted { IsOk result ↔ IsHttps octets }
         ensures ok { IfOk result (λ u. u ≡ octets) }
@@ -53,7 +53,8 @@ impl Https {
         }
     }
 
-    /// The URI of this text, copied. Answers `BadUri` where [`Https::from_bytes`] does.
+    /// Makes the URI of this text, which is copied. Errs with `BadUri` where [`Https::from_bytes`]
+    /// errs.
     pub fn from_text(alloc: Global, text: &str) -> Result<Https, UriError>
         ensures ok { IfOk result (λ u. u ≡ text.now) }
         ensures accepted { OnOk result (IsHttps text.now) }
@@ -68,7 +69,7 @@ impl Https {
         })
     }
 
-    /// The octets.
+    /// Returns the octets.
     pub fn as_bytes(&self) -> &[u8]
         ensures octets { result.now ≡ self.now }
         ensures valid { IsHttps self.now }
@@ -76,7 +77,7 @@ impl Https {
         self.octets.as_bytes()
     }
 
-    /// The same URI once more.
+    /// Clones the URI.
     pub fn try_clone(&self, alloc: Global) -> Result<Https, AllocError>
         ensures { IfOk result (λ u. u ≡ self.now) }
     {
@@ -85,7 +86,7 @@ impl Https {
     }
 }
 
-/// Authorities are compared without ASCII case, and what follows them by octets.
+/// Compares authorities without ASCII case, and what follows them by octets.
 impl PartialEq for Https {
     ghost eq = { parts.are_equal };
 

@@ -53,7 +53,7 @@ impl Model for KeyIdentifier {
 }
 
 impl KeyIdentifier {
-    /// The identifier with these 20 octets.
+    /// Makes the identifier with these 20 octets.
     pub fn from_octets(octets: [u8; 20]) -> KeyIdentifier
         ensures { result ≡ octets }
     {
@@ -71,7 +71,7 @@ impl KeyIdentifier {
         }
     }
 
-    /// Its 20 octets.
+    /// Returns its 20 octets.
     pub fn as_octets(&self) -> &[u8; 20]
         ensures same { result.now ≡ self.now }
         ensures size { length self.now ≡ 20 }
@@ -99,7 +99,7 @@ impl KeyIdentifier {
         Ok(KeyIdentifier { octets })
     }
 
-    /// The identifier that stands next, an OCTET STRING of 20 octets.
+    /// Reads the identifier that stands next, an OCTET STRING of 20 octets.
     pub fn take_from(cursor: &mut Cursor<'_>) -> Result<KeyIdentifier, DecodeError>
         ensures answers { Answers IsKeyIdentifier cursor.old result cursor.new }
         ensures reads { Took key_identifier_at cursor.old result cursor.new }
@@ -116,7 +116,8 @@ impl KeyIdentifier {
         self.encode_ref_as(alloc, out, tag::OCTET_STRING)
     }
 
-    /// The same under another identifier octet, the low five bits of which aren't all ones.
+    /// Appends the identifier under another identifier octet, the low five bits of which aren't all
+    /// ones.
     pub fn encode_ref_as(
         &self,
         _alloc: Global,
@@ -229,7 +230,8 @@ impl Model for PublicKey {
 impl PublicKey {
     ghost use Rattle.rpki_parts.specs.declared.key.PublicKeyFormat.TheVariants.{Rsa, EcdsaP256};
 
-    /// The key with these bits: the octets of the BIT STRING without the count of unused bits.
+    /// Makes the key with these bits: the octets of the BIT STRING without the count of unused
+    /// bits.
     pub fn new(format: PublicKeyFormat, bits: Bytes) -> PublicKey
         ensures { result ≡ record { format = format; bits = bits } }
     {
@@ -255,8 +257,8 @@ impl PublicKey {
         Ok(PublicKey { format, bits })
     }
 
-    /// The SubjectPublicKeyInfo that stands next (RFC 5280 4.1.2.7). Answers `BadValue` at another
-    /// algorithm or curve and where bits are unused.
+    /// Reads the SubjectPublicKeyInfo that stands next (RFC 5280 4.1.2.7). Errs with `BadValue` at
+    /// another algorithm or curve and where bits are unused.
     pub fn take_from(alloc: Global, cursor: &mut Cursor<'_>) -> Result<PublicKey, DecodeError>
         ensures answers { AnswersOrMemory IsPublicKey cursor.old result cursor.new }
         ensures reads { TookOrMemory public_key_at cursor.old result cursor.new }
@@ -279,7 +281,7 @@ impl PublicKey {
         Ok(key)
     }
 
-    /// Appends the SubjectPublicKeyInfo, with NULL behind rsaEncryption. Answers `TooLong` where
+    /// Appends the SubjectPublicKeyInfo, with NULL behind rsaEncryption. Errs with `TooLong` where
     /// its content would have 2^32 octets or more.
     pub fn encode_ref(&self, alloc: Global, out: &mut Vec<u8>) -> Result<(), EncodeError>
         ensures { Writes (key_part self.now) out.old.items result out.new.items }
@@ -289,14 +291,14 @@ impl PublicKey {
         put_parts(out, tag::SEQUENCE, self.format.algorithm(), &bits)
     }
 
-    /// Which kind of key it is.
+    /// Returns which kind of key it is.
     pub fn algorithm(&self) -> PublicKeyFormat
         ensures { result ≡ self.now.format }
     {
         self.format
     }
 
-    /// The key's bits, as octets.
+    /// Returns the key's bits, as octets.
     pub fn bits(&self) -> &[u8]
         ensures same { result.now ≡ self.now.bits }
         ensures octets { AreOctets self.now.bits }
@@ -306,15 +308,16 @@ impl PublicKey {
         self.bits.as_bytes()
     }
 
-    /// The SHA-1 hash of the bits.
+    /// Returns the SHA-1 hash of the bits.
     pub fn key_identifier(&self) -> KeyIdentifier
         ensures { result ≡ key_identifier self.now }
     {
         KeyIdentifier::from_octets(Sha1::digest(self.bits()))
     }
 
-    /// The name that a certificate of this key has as its subject (RFC 6487 4.5): one CommonName,
-    /// the 40 upper-case hexadecimal digits of the key identifier. The only error is `Memory`.
+    /// Makes the name that a certificate of this key has as its subject (RFC 6487 4.5): one
+    /// CommonName, the 40 upper-case hexadecimal digits of the key identifier. The only error is
+    /// `Memory`.
     pub fn to_subject_name(&self, alloc: Global) -> Result<Name, EncodeError>
         ensures ok { IfOk result (λ n. n ≡ subject_name self.now) }
         ensures memory { IfErr result (λ e. e ≡ Memory) }
@@ -322,21 +325,23 @@ impl PublicKey {
         Ok(Name::of_key(alloc, &self.key_identifier())?)
     }
 
-    /// Whether a certificate of the RPKI may hold the key: whether it is an RSA key (RFC 7935 3).
+    /// Returns whether a certificate of the RPKI may hold the key, which is whether it is an RSA
+    /// key (RFC 7935 3).
     pub fn allow_rpki_cert(&self) -> bool
         ensures { IsTrue result ↔ (self.now.format ≡ Rsa) }
     {
         self.format == PublicKeyFormat::Rsa
     }
 
-    /// Whether a router's certificate may hold the key: whether it is a P-256 key (RFC 8608 3).
+    /// Returns whether a router's certificate may hold the key, which is whether it is a P-256 key
+    /// (RFC 8608 3).
     pub fn allow_router_cert(&self) -> bool
         ensures { IsTrue result ↔ (self.now.format ≡ EcdsaP256) }
     {
         self.format == PublicKeyFormat::EcdsaP256
     }
 
-    /// The same key once more.
+    /// Clones the key.
     pub fn try_clone(&self, alloc: Global) -> Result<PublicKey, AllocError>
         ensures { IfOk result (λ k. k ≡ self.now) }
     {

@@ -157,7 +157,7 @@ impl Name {
         ensures octets { AreOctets (left cursor.old) }
     {
         let mut ahead = cursor.fork();
-        // Another identifier is refused as such, before its length is read.
+        // Another identifier is rejected as such, before its length is read.
         ahead.fork().take_sequence()?;
         let octets = ahead.capture_one(alloc)?;
         check_name(octets.cursor())?;
@@ -165,9 +165,9 @@ impl Name {
         Ok(Name { octets })
     }
 
-    /// The name that stands next: a SEQUENCE of SETs, each of at least one SEQUENCE of an
-    /// identifier and a value. Of the values no more is tested than that they can be skipped, and
-    /// the order in a SET isn't tested.
+    /// Reads the name that stands next: a SEQUENCE of SETs, each of at least one SEQUENCE of an
+    /// identifier and a value. It checks of the values only that they can be skipped, and doesn't
+    /// check the order in a SET.
     pub fn take_from(alloc: Global, cursor: &mut Cursor<'_>) -> Result<Name, DecodeError>
         ensures answers { AnswersOrMemory IsName cursor.old result cursor.new }
         ensures reads { TookOrMemory name_at cursor.old result cursor.new }
@@ -190,7 +190,7 @@ impl Name {
         Ok(name)
     }
 
-    /// The octets of the SEQUENCE.
+    /// Returns the octets of the SEQUENCE.
     pub fn as_bytes(&self) -> &[u8]
         ensures octets { result.now ≡ self.now }
         ensures valid { IsName self.now self.now }
@@ -209,7 +209,7 @@ impl Name {
         Ok(())
     }
 
-    /// The same name once more.
+    /// Clones the name.
     pub fn try_clone(&self, alloc: Global) -> Result<Name, AllocError>
         ensures { IfOk result (λ n. n ≡ self.now) }
     {
@@ -226,7 +226,7 @@ pub struct InvalidName;
 impl InvalidName {
     ghost use Rattle.std.specs.Prelude.{codes};
 
-    /// The type's name.
+    /// Returns the type's name.
     pub fn name(&self) -> &'static str
         ensures { result.now ≡ codes "InvalidName" }
     {

@@ -30,7 +30,7 @@ fn is_text_tag(strict: bool, octet: u8) -> bool
 }
 
 impl Seen {
-    // The same with one attribute more, unless it may not stand.
+    // Adds one attribute. Returns `None` where it may not stand.
     fn with(self, strict: bool, type_id: &[u8], tag: u8) -> Option<Seen>
         ensures { result ≡ seen_with strict self
             (record { type_id = type_id.now; value_tag = tag }) }
@@ -58,7 +58,7 @@ impl Seen {
         }
     }
 
-    // The same with the attributes of a part more.
+    // Adds the attributes of a part.
     fn with_part(self, strict: bool, part: &Cursor<'_>) -> Option<Seen>
         ensures { result ≡ seen_in strict self (left part.now) }
     {
@@ -96,8 +96,9 @@ impl Seen {
 }
 
 impl Name {
-    /// Whether the name has the form that certificates of the RPKI ask for (RFC 6487 4.4, 4.5): one CommonName, at most one serialNumber
-    /// and nothing else, as PrintableString, or where inspection isn't strict, also as UTF8String.
+    /// Checks whether the name has the form that certificates of the RPKI ask for (RFC 6487 4.4,
+    /// 4.5): one CommonName, at most one serialNumber and nothing else, as PrintableString, or
+    /// where inspection isn't strict, also as UTF8String.
     pub fn inspect_rpki(&self, strict: bool) -> Result<(), InvalidName>
         ensures { IsOk result ↔ IsRpkiName strict self.now }
     {
@@ -114,8 +115,8 @@ impl Name {
         }
     }
 
-    /// Whether the name has the form that routers' certificates ask for (RFC 8209 3.1.1), which is the same in both modes: strings of both
-    /// kinds may stand.
+    /// Checks whether the name has the form that routers' certificates ask for (RFC 8209 3.1.1).
+    /// Both modes ask for one form: strings of both kinds may stand.
     pub fn inspect_router(&self, _strict: bool) -> Result<(), InvalidName>
         ensures { IsOk result ↔ IsRouterName self.now }
     {

@@ -32,9 +32,9 @@ impl Model for Rsync {
 }
 
 impl Rsync {
-    /// The URI of these octets, which must be `21` to `7E`: `rsync://` in any case, an authority,
-    /// `/`, a module, and then nothing, or `/` and a path none of whose segments is `.` or `..`.
-    /// Authority and module are not empty. Wants no memory.
+    /// Makes the URI of these octets, which must be `21` to `7E`: `rsync://` in any case, an
+    /// authority, `/`, a module, and then nothing, or `/` and a path none of whose segments is `.`
+    /// or `..`. Authority and module are not empty. Takes no memory.
     pub fn from_bytes(octets: Bytes) -> Result<Rsync, BadUri>
         ensures accepted { IsOk result ↔ IsRsync octets }
         ensures ok { IfOk result (λ u. u ≡ octets) }
@@ -42,7 +42,7 @@ impl Rsync {
         Rsync::from_piece(Piece::from(octets))
     }
 
-    /// The URI of these octets, as [`Rsync::from_bytes`] says.
+    /// Makes the URI of these octets, as [`Rsync::from_bytes`] does.
     pub fn from_piece(octets: Piece) -> Result<Rsync, BadUri>
         ensures accepted { IsOk result ↔ IsRsync octets }
         ensures ok { IfOk result (λ u. u ≡ octets) }
@@ -54,7 +54,8 @@ impl Rsync {
         }
     }
 
-    /// The URI of this text, copied. Answers `BadUri` where [`Rsync::from_bytes`] does.
+    /// Makes the URI of this text, which is copied. Errs with `BadUri` where [`Rsync::from_bytes`]
+    /// errs.
     pub fn from_text(alloc: Global, text: &str) -> Result<Rsync, UriError>
         ensures ok { IfOk result (λ u. u ≡ text.now) }
         ensures accepted { OnOk result (IsRsync text.now) }
@@ -69,7 +70,7 @@ impl Rsync {
         })
     }
 
-    /// The octets.
+    /// Returns the octets.
     pub fn as_bytes(&self) -> &[u8]
         ensures octets { result.now ≡ self.now }
         ensures valid { IsRsync self.now }
@@ -77,8 +78,8 @@ impl Rsync {
         self.octets.as_bytes()
     }
 
-    /// The parent, where the path is not empty: without one slash at the end, the URI through its
-    /// last slash.
+    /// Returns the parent where the path is not empty: without one slash at the end, the URI
+    /// through its last slash.
     pub fn parent(&self, alloc: Global) -> Result<Option<Rsync>, AllocError>
         ensures none { IfOk result (λ p. IsNone p ↔ HasNoPath self.now) }
         ensures some { IfOk result (λ p. IfSome p (IsParent self.now)) }
@@ -94,14 +95,14 @@ impl Rsync {
         }
     }
 
-    /// Whether the two are equal after each lost one slash at its end.
+    /// Returns whether the two are equal after each lost one slash at its end.
     pub fn is_identical_to(&self, other: &Rsync) -> bool
         ensures { IsTrue result ↔ AreIdentical self.now other.now }
     {
         are_identical(self.as_bytes(), other.as_bytes())
     }
 
-    /// Whether there is a parent, and it is identical to the other one. Wants no memory.
+    /// Returns whether there is a parent, and it is identical to the other one. Takes no memory.
     pub fn parent_is(&self, other: &Rsync) -> bool
         ensures { IsTrue result ↔ HasParent self.now other.now }
     {
@@ -111,7 +112,7 @@ impl Rsync {
         }
     }
 
-    /// The same URI once more.
+    /// Clones the URI.
     pub fn try_clone(&self, alloc: Global) -> Result<Rsync, AllocError>
         ensures { IfOk result (λ u. u ≡ self.now) }
     {
@@ -120,7 +121,7 @@ impl Rsync {
     }
 }
 
-/// Authorities are compared without ASCII case, and what follows them by octets.
+/// Compares authorities without ASCII case, and what follows them by octets.
 impl PartialEq for Rsync {
     ghost eq = { parts.are_equal };
 

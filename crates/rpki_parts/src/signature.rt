@@ -27,7 +27,7 @@ impl Model for Signature {
 }
 
 impl Signature {
-    /// The signature with these octets, made by this algorithm.
+    /// Makes the signature with these octets, made by this algorithm.
     pub fn new(algorithm: RpkiSignatureAlgorithm, value: Bytes) -> Signature
         ensures { result ≡ record { algorithm = algorithm; value = value } }
     {
@@ -43,14 +43,14 @@ impl Signature {
         Signature { algorithm, value }
     }
 
-    /// The algorithm that made it.
+    /// Returns the algorithm that made it.
     pub fn algorithm(&self) -> &RpkiSignatureAlgorithm
         ensures { result.now ≡ self.now.algorithm }
     {
         &self.algorithm
     }
 
-    /// The octets of the signature.
+    /// Returns the octets of the signature.
     pub fn value(&self) -> &[u8]
         ensures same { result.now ≡ self.now.value }
         ensures octets { AreOctets self.now.value }
@@ -60,7 +60,7 @@ impl Signature {
         self.value.as_bytes()
     }
 
-    /// The same signature once more.
+    /// Clones the signature.
     pub fn try_clone(&self, alloc: Global) -> Result<Signature, AllocError>
         ensures { IfOk result (λ s. s ≡ self.now) }
     {
@@ -73,17 +73,17 @@ impl Signature {
 }
 
 /// Tells whether a signature belongs to a message and a key. The message is the whole value that is
-/// signed, its identifier and length included. The bits of the key are the content of the BIT STRING,
-/// without the count of unused bits ([`PublicKey::bits`]). The algorithm is the one that the signature
-/// names. The relation `verifies` is stated by who implements this; where the answer comes from
-/// foreign code, that statement is what is trusted of it.
+/// signed, its identifier and length included. The bits of the key are the content of the BIT
+/// STRING, without the count of unused bits ([`PublicKey::bits`]). The algorithm is the one that
+/// the signature names. The relation `verifies` is stated by who implements this; where the answer
+/// comes from foreign code, that statement is what is trusted of it.
 pub trait Verifier {
     ghost use Rattle.rpki_parts.specs.Signatures.{Verifies};
 
     /// The relation that the answer tells.
     ghost verifies: { Self → Verifies };
 
-    /// Whether the relation of key, algorithm, message and signature holds.
+    /// Returns whether the relation of key, algorithm, message and signature holds.
     fn verify(
         &self,
         key: &PublicKey,
@@ -107,15 +107,15 @@ pub trait Signer {
     /// What can keep it from signing.
     type Error;
 
-    /// The relation of key, algorithm, message and answer that each answer meets, a refusal too.
+    /// The relation of key, algorithm, message and answer that each answer meets, also an error.
     ghost signs: { Self → Self.KeyId → Algorithm → List ℕ
         → Result SignatureFields (Refusal Self.Error) → Type 0 };
 
-    /// A signature of the message by the key that is named. The message is the whole value that is to
-    /// be signed, its identifier and length included. [`Signature::algorithm`] should be the algorithm
-    /// that is asked for: a certificate or list that names another one beside its signature is refused
-    /// (RFC 5280 4.1.1.2, 5.1.1.2). Errs with [`SigningError::Memory`] for want of memory, and with
-    /// [`SigningError::Signer`] for what else keeps the signer from signing.
+    /// Signs the message by the key that is named. The message is the whole value that is to be
+    /// signed, its identifier and length included. [`Signature::algorithm`] should be the algorithm
+    /// that is asked for: readers reject a certificate or list that names another one beside its
+    /// signature (RFC 5280 4.1.1.2, 5.1.1.2). Errs with [`SigningError::Memory`] when out of
+    /// memory, and with [`SigningError::Signer`] for what else keeps the signer from signing.
     fn sign(
         &self,
         alloc: Global,
@@ -143,7 +143,7 @@ impl<E> SigningError<E> {
     ghost use Rattle.rpki_parts.specs.SigningErrors.{signing_error_name};
     ghost use Rattle.rpki_parts.specs.declared.signature.SigningError.TheVariants as error;
 
-    /// The variant's name.
+    /// Returns the variant's name.
     pub fn name(&self) -> &'static str
         ensures { result.now ≡ signing_error_name self.now }
     {
@@ -197,7 +197,7 @@ pub struct SignatureVerificationError;
 impl SignatureVerificationError {
     ghost use Rattle.std.specs.Prelude.{codes};
 
-    /// The type's name.
+    /// Returns the type's name.
     pub fn name(&self) -> &'static str
         ensures { result.now ≡ codes "SignatureVerificationError" }
     {

@@ -33,7 +33,7 @@ impl Model for SignedData {
 }
 
 impl SignedData {
-    /// These octets, with a signature that is said to be theirs.
+    /// Makes the signed data of these octets, with a signature that is said to be theirs.
     pub fn new(data: Bytes, signature: Signature) -> SignedData
         ensures { result ≡ record { message = «data»; signature = signature } }
     {
@@ -61,8 +61,8 @@ impl SignedData {
         })
     }
 
-    /// What stands in the SEQUENCE: a value, which is kept as it stands, the algorithm, and the BIT
-    /// STRING of the signature, of which no bits are unused.
+    /// Reads what stands in the SEQUENCE: a value, which is kept as it stands, the algorithm, and
+    /// the BIT STRING of the signature, of which no bits are unused.
     pub fn from_constructed(
         alloc: Global,
         content: &mut Cursor<'_>,
@@ -74,14 +74,14 @@ impl SignedData {
         SignedData::read(alloc, content)
     }
 
-    /// The octets that are signed.
+    /// Returns the octets that are signed.
     pub fn data(&self) -> &[u8]
         ensures { result.now ≡ self.now.message }
     {
         self.data.as_bytes()
     }
 
-    /// The signature that is said to be theirs.
+    /// Returns the signature that is said to be theirs.
     pub fn signature(&self) -> &Signature
         ensures { result.now ≡ self.now.signature }
     {
@@ -89,7 +89,7 @@ impl SignedData {
     }
 
     /// Asks the verifier whether the signature belongs to the key and to the octets as they are
-    /// kept. It wants no memory.
+    /// kept. Takes no memory.
     pub fn verify_signature<V: Verifier>(
         &self,
         key: &PublicKey,
@@ -130,8 +130,9 @@ impl SignedData {
         Ok(())
     }
 
-    /// These octets, with the signature of them that the signer gives by the key that `key` names (own). What the signer refuses is
-    /// passed on as it stands; answers `TooLong` also where the whole would have a content of 2^32 octets or more.
+    /// Signs these octets by the key that `key` names, and keeps them with the signature (own). The
+    /// signer's error is passed on as it stands. Errs with `TooLong` also where the whole would
+    /// have a content of 2^32 octets or more.
     pub fn sign<S: Signer>(
         alloc: Global,
         signer: &S,
@@ -152,8 +153,8 @@ impl SignedData {
         Ok(signed_data)
     }
 
-    /// Appends the SEQUENCE of the octets as they are kept, the algorithm and the signature.
-    /// Answers `TooLong` where its content would have 2^32 octets or more.
+    /// Appends the SEQUENCE of the octets as they are kept, the algorithm and the signature. Errs
+    /// with `TooLong` where its content would have 2^32 octets or more.
     pub fn encode_ref(&self, alloc: Global, out: &mut Vec<u8>) -> Result<(), EncodeError>
         ensures { Writes (signed_part self.now) out.old.items result out.new.items }
     {
@@ -161,7 +162,7 @@ impl SignedData {
         put_parts(out, tag::SEQUENCE, self.data(), &tail)
     }
 
-    /// The same once more.
+    /// Clones the signed data.
     pub fn try_clone(&self, alloc: Global) -> Result<SignedData, AllocError>
         ensures { IfOk result (λ s. s ≡ self.now) }
     {

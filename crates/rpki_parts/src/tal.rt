@@ -22,21 +22,21 @@ impl Model for TalInfo {
 }
 
 impl TalInfo {
-    /// The locator of this name.
+    /// Makes the locator of this name.
     pub fn from_name(name: String) -> TalInfo
         ensures { result ≡ string_bytes name }
     {
         TalInfo { name }
     }
 
-    /// The name, as it was given.
+    /// Returns the name, as it was given.
     pub fn name(&self) -> &str
         ensures { result.now ≡ self.now }
     {
         self.name.as_str()
     }
 
-    /// The same, shared.
+    /// Shares the locator.
     pub fn into_rc(self, alloc: Global) -> Result<Rc<TalInfo>, AllocError>
         ensures { IfOk result (λ t. rc_value t ≡ self) }
     {

@@ -8,7 +8,7 @@ ghost use Rattle.rpki_parts.specs.Uris.{IsHttps, IsRsync, AreIdentical, HasNoPat
 use std::alloc::AllocError;
 use thiserror::Error;
 
-/// The octets are no URI of the kind that was asked for.
+/// The octets are not a URI of the kind that was asked for.
 #[derive(Debug, Clone, Copy, PartialEq, Eq, Error)]
 #[error("bad URI")]
 pub struct BadUri;
@@ -16,7 +16,7 @@ pub struct BadUri;
 impl BadUri {
     ghost use Rattle.std.specs.Prelude.{◌≡◌, codes};
 
-    /// The type's name.
+    /// Returns the type's name.
     pub fn name(&self) -> &'static str
         ensures { result.now ≡ codes "BadUri" }
     {
@@ -27,7 +27,7 @@ impl BadUri {
 /// Why a text gave no URI.
 #[derive(Debug, Drop, Error)]
 pub enum UriError {
-    /// The text is no URI of the kind that was asked for.
+    /// The text is not a URI of the kind that was asked for.
     #[error("bad URI")]
     BadUri,
     #[error("out of memory")]
@@ -39,7 +39,7 @@ impl UriError {
     ghost use Rattle.rpki_parts.specs.UriErrors.{uri_error_name};
     ghost use Rattle.rpki_parts.specs.declared.uri.UriError.TheVariants as error;
 
-    /// The variant's name.
+    /// Returns the variant's name.
     pub fn name(&self) -> &'static str
         ensures { result.now ≡ uri_error_name self.now }
     {
@@ -82,7 +82,7 @@ impl From<AllocError> for UriError {
     }
 }
 
-/// How many octets `rsync://` and `https://` have.
+/// The number of octets of `rsync://` and of `https://`.
 const SCHEME_LENGTH: usize = 8;
 
 // Where the first slash stands, or the length where there is none.

@@ -21,7 +21,7 @@ impl ValidityError {
     ghost use Rattle.std.specs.Prelude.{◌≡◌};
     ghost use Rattle.rpki_parts.specs.ValidAt.{validity_error_name};
 
-    /// The variant's name.
+    /// Returns the variant's name.
     pub fn name(&self) -> &'static str
         ensures { result.now ≡ validity_error_name self.now }
     {
@@ -33,7 +33,7 @@ impl ValidityError {
 }
 
 impl Validity {
-    /// Whether the moment lies in the period, to which both ends belong. Wants no memory.
+    /// Checks whether the moment lies in the period, to which both ends belong. Takes no memory.
     pub fn verify_at(self, now: Time) -> Result<(), ValidityError>
         ensures { Tests (IsInTime self now) validity_faults result }
     {

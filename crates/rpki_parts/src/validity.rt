@@ -31,8 +31,8 @@ impl Model for Validity {
 }
 
 impl Validity {
-    /// The period from `not_before` to `not_after`, both included. Whether the first is the earlier
-    /// isn't tested.
+    /// Makes the period from `not_before` to `not_after`, both included. It doesn't check which of
+    /// them is earlier.
     pub fn new(not_before: Time, not_after: Time) -> Validity
         ensures { result ≡ record { not_before = not_before; not_after = not_after } }
     {
@@ -42,14 +42,14 @@ impl Validity {
         }
     }
 
-    /// The first moment at which it is valid.
+    /// Returns the first moment at which it is valid.
     pub fn not_before(self) -> Time
         ensures { result ≡ self.not_before }
     {
         self.not_before
     }
 
-    /// The last moment at which it is valid.
+    /// Returns the last moment at which it is valid.
     pub fn not_after(self) -> Time
         ensures { result ≡ self.not_after }
     {
@@ -72,7 +72,7 @@ impl Validity {
         Ok(Validity::new(not_before, not_after))
     }
 
-    /// The SEQUENCE of two times that stands next.
+    /// Reads the SEQUENCE of two times that stands next.
     pub fn take_from(cursor: &mut Cursor<'_>) -> Result<Validity, DecodeError>
         ensures answers { Answers IsValidity cursor.old result cursor.new }
         ensures reads { Took validity_at cursor.old result cursor.new }

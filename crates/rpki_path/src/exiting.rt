@@ -10,8 +10,8 @@ use std::alloc::Global;
 use std::io::{Read, Write};
 use std::process::ExitCode;
 
-// 0 where the question was answered, 1 where octets were refused, 2 where the input doesn't have its form, 3 after a fault, of which this
-// status alone tells.
+// 0 where the question was answered, 1 where octets were rejected, 2 where the input doesn't have
+// its form, 3 after a fault, of which this status alone tells.
 fn status_of(answer: Result<Status, RunFault>) -> u8
     ensures done { result ≡ 0 ↔ answer ≡ Ok Status.Done }
     ensures refused { result ≡ 1 ↔ answer ≡ Ok Status.Refused }
@@ -27,8 +27,9 @@ fn status_of(answer: Result<Status, RunFault>) -> u8
     }
 }
 
-/// Reads the input to its end and writes the answer to the output, as [`run`] says. The exit status is 0 where the question was answered, 1
-/// where octets were refused, 2 where the input doesn't have its form, and 3 after a fault, of which this status alone tells.
+/// Reads the input to its end and writes the answer to the output, as [`run`] does. The exit status
+/// is 0 where the question was answered, 1 where octets were rejected, 2 where the input doesn't
+/// have its form, and 3 after a fault, of which this status alone tells.
 ///
 /// What became of the input and the output shows in the two that are lent.
 pub fn program<R: Read, W: Write>(
@@ -51,7 +52,7 @@ pub fn program<R: Read, W: Write>(
         (W.contents (device writer.old)) (W.contents (device writer.new)) Status.BadInput }
     ensures no_other { exit_status result ≤ 3 }
 
-    // Which failures end with 3, and what is left alone then.
+    // Which failures end with 3, and what stays as it was then.
     ensures read { HasFailed reader.new → exit_status result ≡ 3 }
     ensures written { HasFailed writer.new → exit_status result ≡ 3 }
     ensures unwritten { exit_status result ≡ 3

@@ -11,7 +11,7 @@ use std::alloc::{AllocError, Global};
 pub(crate) enum Input {
     /// Whether a list of revoked certificates has a serial number.
     Revoked(RevokedQuestion),
-    /// Whether strings are a good path.
+    /// Whether strings are a valid path.
     Path(PathQuestion),
     /// The number, from 1, of the first line that doesn't fit, or that is missing.
     Bad(usize),

@@ -7,7 +7,7 @@ ghost use Rattle.rpki_path.specs.Paths.{Path, last, NumberKind, greatest_number,
 
 use rpki_cert::laws;
 
-/// Strings begin with the members of at most one path.
+/// Says that strings begin with the members of at most one path.
 pub fn one_path()
     ensures { (anchor : List ℕ) (below : List Asked) (p q : Path)
         → IsPathOf anchor below p → IsPathOf anchor below q → p ≡ q }
@@ -15,8 +15,8 @@ pub fn one_path()
     laws::unambiguous();
 }
 
-/// Where the members of a path pass on more, those below them hold more: a number that is held stays held, and what overclaims nothing
-/// stays so.
+/// Says that where the members of a path pass on more, those below them hold more: a number that is
+/// held stays held, and what overclaims nothing stays so.
 pub fn monotone()
     ensures holds { (p q : Path) → PassesMore p q → (i : ℕ) → i ≤ last p
         → (k : NumberKind) (n : ℕ) → n ≤ greatest_number k → Holds p i k n → Holds q i k n }

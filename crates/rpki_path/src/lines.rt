@@ -32,7 +32,7 @@ fn split_once(separator: u8, text: &[u8]) -> Option<(&[u8], &[u8])>
     Some((&text[..at], &text[at + 1..]))
 }
 
-/// The first line of a text, and what follows its end.
+/// Splits a text. Returns its first line, and what follows that line's end.
 pub(crate) fn split_line(text: &[u8]) -> Option<(&[u8], &[u8])>
     ensures line { IfSome result (λ parts. IsFirstLine parts.0.now parts.1.now text.now) }
     ensures shorter { IfSome result (λ parts. length parts.1.now < length text.now) }
@@ -47,7 +47,7 @@ pub(crate) fn split_line(text: &[u8]) -> Option<(&[u8], &[u8])>
     }
 }
 
-/// What stands behind this beginning of a line.
+/// Returns what stands behind this beginning of a line.
 pub(crate) fn behind<'a>(beginning: &[u8], line: &'a [u8]) -> Option<&'a [u8]>
     ensures some { IfSome result (λ rest. line.now ≡ beginning.now ++ rest.now) }
     ensures none { IfNone result ((rest : List ℕ) → line.now ≡ beginning.now ++ rest → ⊥) }
@@ -69,7 +69,7 @@ fn split_words(line: &[u8]) -> Option<(&[u8], &[u8])>
     split_once(b' ', words)
 }
 
-// The octets that hexadecimal digits spell.
+// The octets that hexadecimal digits encode.
 fn from_digits(alloc: Global, digits: &[u8]) -> Result<Option<Vec<u8>>, AllocError>
     ensures spelled { IfOk result (λ found.
         IfSome found (λ octets. AreHexDigits octets.items digits.now)) }
@@ -85,7 +85,7 @@ fn from_digits(alloc: Global, digits: &[u8]) -> Result<Option<Vec<u8>>, AllocErr
     }
 }
 
-// The octets that a word spells.
+// The octets that a word encodes.
 fn from_word(alloc: Global, word: &[u8]) -> Result<Option<Vec<u8>>, AllocError>
     ensures spelled { IfOk result (λ found.
         IfSome found (λ octets. IsHexWord octets.items word.now)) }
@@ -101,7 +101,8 @@ fn from_word(alloc: Global, word: &[u8]) -> Result<Option<Vec<u8>>, AllocError>
     from_digits(alloc, word)
 }
 
-/// The octets of a line that has this name, with its space, and then a word.
+/// Reads a line that has this name, with its space, and then a word. Returns the octets of the
+/// word.
 pub(crate) fn octets_behind(
     alloc: Global,
     name: &[u8],
@@ -128,7 +129,7 @@ pub(crate) struct RevokedQuestion {
     pub(crate) serial: Serial,
 }
 
-/// The question of a line `revoked LIST SERIAL`.
+/// Reads the question of a line `revoked LIST SERIAL`.
 pub(crate) fn revoked_from(
     alloc: Global,
     line: &[u8],

@@ -30,7 +30,7 @@ pub enum PathFault {
 impl PathFault {
     ghost use Rattle.rpki_path.specs.FaultNames.{path_fault_name};
 
-    /// The variant's name.
+    /// Returns the variant's name.
     pub fn name(&self) -> &'static str
         ensures { result.now ≡ path_fault_name self.now }
     {
@@ -126,7 +126,7 @@ pub struct PathError {
 impl PathError {
     ghost use Rattle.std.specs.Prelude.{codes};
 
-    /// The type's name.
+    /// Returns the type's name.
     pub fn name(&self) -> &'static str
         ensures { result.now ≡ codes "PathError" }
     {

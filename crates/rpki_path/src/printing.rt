@@ -18,7 +18,7 @@ pub(crate) trait Ends {
     /// What is printed of a number.
     ghost text: { ℕ → List ℕ };
 
-    /// The number, as it is printed.
+    /// Writes the number as it is printed.
     fn end(alloc: Global, at: Self::Number) -> Result<String, AllocError>
         ensures { IfOk result (λ end. string_bytes end ≡ text (Self.Number.number at)) };
 }
@@ -121,7 +121,7 @@ fn put_words<E: Ends>(
     put_ranges::<E>(alloc, out, chain)
 }
 
-/// The line of a set: its name, and its ranges or `none`.
+/// Writes the line of a set: its name, and its ranges or `none`.
 #[tactic(auto, using(crate::proofs::PrintedRanges::whole_line))]
 pub(crate) fn set_line<E: Ends>(
     alloc: Global,

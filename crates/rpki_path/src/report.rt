@@ -39,7 +39,7 @@ fn read_list(alloc: Global, octets: &Bytes) -> Result<RevokedCertificates, Decod
     Ok(list)
 }
 
-// The name of a reader's fault; want of memory is none.
+// The name of a reader's fault; running out of memory is none.
 fn decode_fault(error: &DecodeError) -> Result<&'static str, AllocError>
     ensures named { IfOk result (λ name. Contains decode_faults name.now) }
     ensures other { OnOk result (error.now ≢ DecodeError.Memory) }
@@ -92,7 +92,7 @@ fn of_list(alloc: Global, question: &RevokedQuestion) -> Result<Report, AllocErr
     }
 }
 
-// The numbers that the last member of a good path holds.
+// The numbers that the last member of a valid path holds.
 fn accepted(alloc: Global, cert: &ResourceCert) -> Result<Report, AllocError>
     ensures status { IfOk result (λ report. report.status ≡ Status.Done) }
     ensures text { IfOk result (λ report. string_bytes report.text ≡ accepted_text cert.now) }
@@ -108,7 +108,7 @@ fn accepted(alloc: Global, cert: &ResourceCert) -> Result<Report, AllocError>
     })
 }
 
-// At which stage a fault was met, and its name; want of memory is none. No lists were asked.
+// At which stage a fault was met, and its name; running out of memory is none. No lists were asked.
 fn told(fault: &PathFault) -> Result<(&'static str, &'static str), AllocError>
     requires { IsUnasked fault.now }
     ensures { IfOk result (λ words. IsToldBy fault.now words.0.now words.1.now) }
@@ -137,7 +137,7 @@ fn wrong(alloc: Global, error: &PathError) -> Result<Report, AllocError>
     })
 }
 
-// Whether the strings are a good path, where signatures are those of the stand-in.
+// Whether the strings are a valid path, where signatures are those of the stand-in.
 fn of_path(alloc: Global, question: PathQuestion) -> Result<Report, AllocError>
     ensures { IfOk result (λ report.
         SaysOfPath (path_question question) (string_bytes report.text) report.status) }
@@ -177,7 +177,7 @@ fn bad_input(alloc: Global, number: usize) -> Result<Report, AllocError>
 }
 
 impl Report {
-    /// The answer to an input.
+    /// Answers an input.
     pub(crate) fn of(alloc: Global, input: Input) -> Result<Report, AllocError>
         ensures { (text : List ℕ) → IsInput input text
             → IfOk result (λ report. Says text (string_bytes report.text) report.status) }

@@ -46,7 +46,7 @@ impl RunFault {
     ghost use Rattle.std.specs.Prelude.{◌≡◌};
     ghost use Rattle.rpki_path.specs.FaultNames.{run_fault_name};
 
-    /// The variant's name.
+    /// Returns the variant's name.
     pub fn name(&self) -> &'static str
         ensures { result.now ≡ run_fault_name self.now }
     {
@@ -70,17 +70,22 @@ impl From<AllocError> for RunFault {
     }
 }
 
-/// Reads the whole input, and then writes what answers it. The last line's end may be absent. Octets are in hexadecimal digits, or `-` for none.
+/// Reads the whole input, and then writes what answers it. The last line's end may be absent.
+/// Octets are in hexadecimal digits, or `-` for none.
 ///
-/// A line `revoked LIST SERIAL` asks whether a list of revoked certificates (RFC 5280 5.1) has a serial number, which is below 2^160. The answer
-/// is `yes` or `no`, or `refused decode` and a fault's name, where the octets are no list.
+/// A line `revoked LIST SERIAL` asks whether a list of revoked certificates (RFC 5280 5.1) has a
+/// serial number, which is below 2^160. The answer is `yes` or `no`, or `refused decode` and a
+/// fault's name, where the octets aren't a list.
 ///
-/// The lines `at YYYYMMDDhhmmss`, `strict` or `lenient`, `ta HEX`, any number of `ca HEX`, and at most one `ee HEX` or `detached HEX` ask whether
-/// these strings are a good path at that moment, where signatures are those of the stand-in. The answer is `stand-in signatures`, and then
-/// `accepted` and the lines `v4`, `v6` and `as` with the ranges that the last member holds, or `none`; or `refused`, the place of the first
-/// wrong member (the anchor's is 0), `decode`, `inspect` or `verify`, and the fault's name.
+/// The lines `at YYYYMMDDhhmmss`, `strict` or `lenient`, `ta HEX`, any number of `ca HEX`, and at
+/// most one `ee HEX` or `detached HEX` ask whether these strings are a valid path at that moment,
+/// where signatures are those of the stand-in. The answer is `stand-in signatures`, and then
+/// `accepted` and the lines `v4`, `v6` and `as` with the ranges that the last member holds, or
+/// `none`; or `refused`, the place of the first wrong member (the trust anchor's is 0), `decode`,
+/// `inspect` or `verify`, and the fault's name.
 ///
-/// To any other input it writes `bad input` and the number of the first line that doesn't fit, or that is missing.
+/// To any other input it writes `bad input` and the number of the first line that doesn't fit, or
+/// that is missing.
 pub fn run<R: Read, W: Write>(
     alloc: Global,
     reader: &mut Watched<R>,
@@ -100,7 +105,7 @@ pub fn run<R: Read, W: Write>(
     ensures too_long { IsErrOf result RunFault.TooLong
         → Takes (2 ^ 24 + 1) (R.remaining (device reader.old)) (R.remaining (device reader.new)) }
 
-    // What is left alone.
+    // What stays as it was.
     ensures unwritten { IsErr result
         → IsErrOf result RunFault.Write ⊎ (writer.new ≡ writer.old) }
     ensures taken { TakesAtMost (2 ^ 24 + 1)

@@ -20,7 +20,7 @@ use rpki_parts::{TalInfo, Verifier};
 use std::alloc::Global;
 use std::rc::Rc;
 
-/// The last certificate of a path, where it is no authority.
+/// The last certificate of a path, where it isn't a CA's.
 #[derive(Drop)]
 pub enum Leaf {
     /// An end entity, which signs an object that its certificate names.
@@ -189,7 +189,7 @@ fn validate_next<V: Verifier>(
     placed(index, without(issuer, next))
 }
 
-// The anchor and the authorities below it.
+// The trust anchor and the CAs below it.
 fn validate_authorities<V: Verifier>(
     alloc: Global,
     anchor: &Bytes,
@@ -225,7 +225,7 @@ fn validate_authorities<V: Verifier>(
     Ok(issuer)
 }
 
-// The same, and the leaf below them, if there is one.
+// The trust anchor, the CAs below it, and the leaf below them, if there is one.
 fn validate_members<V: Verifier>(
     alloc: Global,
     anchor: &Bytes,
@@ -273,14 +273,17 @@ fn validate_members<V: Verifier>(
     }
 }
 
-/// Validates a path: the anchor's string, those of the authorities below it from the top down, and that of a leaf, if there is one. Each
-/// string has to begin with a certificate, and what follows that is ignored. A member is decoded, inspected as its kind and verified before
-/// the next: the anchor at this moment and by its own key, each later one under the member above it (RFC 6487 7.2). The answer is the last
-/// member, with the numbers that the anchor lists and every later member lists or inherits, and with the locator. Errs with the place of the
-/// first member that is wrong, and what is wrong with it; never with `Revocation`.
+/// Validates a path: the trust anchor's string, those of the CAs below it from the top down, and
+/// that of a leaf, if there is one. Each string has to begin with a certificate, and what follows
+/// that is ignored. A member is decoded, inspected as its kind and verified before the next: the
+/// trust anchor at this moment and by its own key, each later one under the member above it (RFC
+/// 6487 7.2). Returns the last member, with the numbers that the trust anchor lists and every later
+/// member lists or inherits, and with the locator. Errs with the place of the first member that is
+/// wrong, and what is wrong with it; never with `Revocation`.
 ///
-/// Not asked (own): whether a member is revoked by its issuer ([`validate_path_with`] asks that), and whether names chain. `strict` affects
-/// only which string types may stand in names. The leaf is consumed.
+/// Not asked (own): whether a member is revoked by its issuer ([`validate_path_with`] asks that),
+/// and whether names chain. `strict` affects only which string types may stand in names. The leaf
+/// is used up, also where the path is rejected.
 pub fn validate_path<V: Verifier>(
     alloc: Global,
     anchor: &Bytes,
@@ -291,10 +294,10 @@ pub fn validate_path<V: Verifier>(
     now: Time,
     verifier: &V,
 ) -> Result<ResourceCert, PathError>
-    // Ok exactly where each string begins with a member of a good path: the headline.
+    // Ok exactly where each string begins with a member of a valid path: the headline.
     ensures validates { let x = context (V.verifies verifier.now) now strict in
         Validates x None anchor.now (asked cas.now leaf) (rc_value tal) result }
-    // The members before the index are a good path, and the fault is that of the string there.
+    // The members before the index are a valid path, and the fault is that of the string there.
     ensures named { let x = context (V.verifies verifier.now) now strict in
         IfErr result (IsFault x None anchor.now (asked cas.now leaf)) }
     ensures unasked { IfErr result (λ e. IsUnasked e.fault) }
@@ -303,10 +306,11 @@ pub fn validate_path<V: Verifier>(
     validate_members(alloc, anchor, cas, &leaf, tal, None, strict, now, verifier)
 }
 
-/// Validates a path as [`validate_path`] does, and asks the lists of this store whether a member is revoked: each member below the anchor,
-/// once it is verified and before the next is decoded ([`CrlStore::check`], with the URI and the serial number of the member's certificate
-/// and the member above it as the issuer; RFC 6487 7.2). The anchor isn't asked for. Errs with the place of the first member that is wrong or
-/// isn't found unrevoked, and why.
+/// Validates a path as [`validate_path`] does, and asks the lists of this store whether a member is
+/// revoked: each member below the trust anchor, once it is verified and before the next is decoded
+/// ([`CrlStore::check`], with the URI and the serial number of the member's certificate and the
+/// member above it as the issuer; RFC 6487 7.2). The trust anchor isn't asked for. Errs with the
+/// place of the first member that is wrong or isn't found unrevoked, and why.
 ///
 /// Not asked (own): whether a list is the newest of its issuer, and whether names chain.
 pub fn validate_path_with<V: Verifier>(
@@ -320,11 +324,12 @@ pub fn validate_path_with<V: Verifier>(
     now: Time,
     verifier: &V,
 ) -> Result<ResourceCert, PathError>
-    // Ok exactly where each string begins with a member of a good path, none of which is revoked.
+    // Ok exactly where each string begins with a member of a valid path, none of which is revoked.
     ensures validates { let x = context (V.verifies verifier.now) now strict in
         let pairs = Some store.now.pairs in
         Validates x pairs anchor.now (asked cas.now leaf) (rc_value tal) result }
-    // The members before the index are a good path, unrevoked, and the fault is that of the string there.
+    // The members before the index are a valid path, unrevoked, and the fault is that of the string
+    // there.
     ensures named { let x = context (V.verifies verifier.now) now strict in
         let pairs = Some store.now.pairs in
         IfErr result (IsFault x pairs anchor.now (asked cas.now leaf)) }

@@ -26,7 +26,7 @@ impl<T> Watched<T> {
         Watched { inner, works: true }
     }
 
-    /// Whether a call of it has failed.
+    /// Returns whether a call of it has failed.
     pub fn failed(&self) -> bool
         ensures { IsTrue result ↔ HasFailed self.now }
     {
@@ -35,7 +35,7 @@ impl<T> Watched<T> {
 }
 
 impl<T: Read> Watched<T> {
-    /// Reads into the slice, and answers how many octets were read: none at the end.
+    /// Reads into the slice. Returns how many octets were read: none at the end.
     pub fn read(&mut self, buf: &mut [u8]) -> io::Result<usize>
         ensures bound { ReadsAtMost result buf.new }
         ensures bytes { ReadConsumes
@@ -51,7 +51,7 @@ impl<T: Read> Watched<T> {
 }
 
 impl<T: Write> Watched<T> {
-    /// Writes a front of the slice, and answers how many octets were written.
+    /// Writes a front of the slice. Returns how many octets were written.
     pub fn write(&mut self, buf: &[u8]) -> io::Result<usize>
         ensures bound { WritesAtMost result buf.now }
         ensures bytes { WriteAppends

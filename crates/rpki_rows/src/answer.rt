@@ -6,7 +6,7 @@ const DIGITS: [&str; 16] = [
     "0", "1", "2", "3", "4", "5", "6", "7", "8", "9", "a", "b", "c", "d", "e", "f",
 ];
 
-/// A line of answers. It remembers that memory was refused, so that printing needs no exit.
+/// A line of answers. It remembers that memory ran out, so that printing needs no exit.
 #[derive(Drop)]
 pub struct Answer {
     alloc: Global,
@@ -16,7 +16,7 @@ pub struct Answer {
 }
 
 impl Answer {
-    /// An empty line.
+    /// Returns an empty line.
     pub fn new(alloc: Global) -> Answer {
         Answer {
             alloc,
@@ -26,7 +26,7 @@ impl Answer {
         }
     }
 
-    /// The octets that the question is of.
+    /// Remembers the octets that the question is of.
     pub fn ask(&mut self, octets: &[u8]) {
         self.asked.clear();
         if self.asked.extend_from_slice(octets).is_err() {
@@ -34,48 +34,48 @@ impl Answer {
         }
     }
 
-    /// An empty line for the same question.
+    /// Returns an empty line for the same question.
     pub fn beside(&self) -> Answer {
         let mut other = Answer::new(self.alloc);
         other.ask(&self.asked);
         other
     }
 
-    /// Where its memory comes from.
+    /// Returns where its memory comes from.
     pub fn alloc(&self) -> Global {
         self.alloc
     }
 
-    /// The text so far.
+    /// Returns the text so far.
     pub fn line(&self) -> &str {
         self.line.as_str()
     }
 
-    /// Whether memory was refused.
+    /// Returns whether memory ran out.
     pub fn has_failed(&self) -> bool {
         self.has_failed
     }
 
-    /// Memory was refused.
+    /// Remembers that memory ran out.
     pub fn fail(&mut self) {
         self.has_failed = true;
     }
 
-    /// The text as it stands.
+    /// Appends the text as it stands.
     pub fn text(&mut self, text: &str) {
         if self.line.push_str(text).is_err() {
             self.has_failed = true;
         }
     }
 
-    /// ` NAME=`, before a value.
+    /// Appends ` NAME=`, before a value.
     pub fn field(&mut self, name: &str) {
         self.text(" ");
         self.text(name);
         self.text("=");
     }
 
-    /// `yes` or `no`.
+    /// Appends `yes` or `no`.
     pub fn yes(&mut self, holds: bool) {
         self.text(if holds { "yes" } else { "no" });
     }
@@ -87,7 +87,7 @@ impl Answer {
         }
     }
 
-    /// The octets in hexadecimal; `-` for none.
+    /// Appends the octets in hexadecimal; `-` for none.
     pub fn octets(&mut self, octets: &[u8]) {
         if octets.is_empty() {
             self.text("-");
@@ -98,7 +98,7 @@ impl Answer {
         }
     }
 
-    /// The octets as text, or in hexadecimal where they are none.
+    /// Appends the octets as text, or in hexadecimal where they are none.
     pub fn characters(&mut self, octets: &[u8]) {
         match str::from_utf8(octets) {
             Ok(text) => self.text(text),
@@ -113,19 +113,19 @@ impl Answer {
         }
     }
 
-    /// The number in decimal digits.
+    /// Appends the number in decimal digits.
     pub fn count(&mut self, n: usize) {
         let made = format!(in self.alloc; "{n}");
         self.formed(made);
     }
 
-    /// The number in decimal digits.
+    /// Appends the number in decimal digits.
     pub fn number(&mut self, n: u32) {
         let made = format!(in self.alloc; "{n}");
         self.formed(made);
     }
 
-    /// The number in hexadecimal digits, shortest.
+    /// Appends the number in hexadecimal digits, shortest.
     pub fn address(&mut self, n: u128) {
         let made = format!(in self.alloc; "{n:x}");
         self.formed(made);
@@ -136,14 +136,14 @@ impl Answer {
         self.formed(made);
     }
 
-    // The identifier of an extension that was refused.
+    // The identifier of an extension that was rejected.
     fn about_identifier(&mut self, octets: &[u8]) {
         self.text("(");
         self.octets(octets);
         self.text(")");
     }
 
-    /// Why octets were refused, and what that speaks of.
+    /// Appends why octets were rejected, and what that speaks of.
     pub fn fault(&mut self, error: &DecodeError) {
         self.text(error.name());
         match error {
@@ -159,7 +159,7 @@ impl Answer {
         }
     }
 
-    /// `refused` and why.
+    /// Appends `refused` and why.
     pub fn refused(&mut self, error: &DecodeError) {
         self.text("refused ");
         self.fault(error);
@@ -174,14 +174,14 @@ impl Answer {
         }
     }
 
-    /// `FROM-TO`.
+    /// Appends `FROM-TO`.
     pub fn range(&mut self, from: usize, to: usize) {
         self.count(from);
         self.text("-");
         self.count(to);
     }
 
-    /// What was written, or why it was not.
+    /// Appends what was written, or why it was not.
     pub fn written(&mut self, answer: Result<(), EncodeError>, octets: &[u8]) {
         match answer {
             Ok(()) => self.octets(octets),
@@ -189,7 +189,7 @@ impl Answer {
         }
     }
 
-    /// What was written of a value that was read; `same` where the question begins so.
+    /// Appends what was written of a value that was read; `same` where the question begins so.
     pub fn again(&mut self, answer: Result<(), EncodeError>, octets: &[u8]) {
         self.field("written");
         match answer {
@@ -198,19 +198,19 @@ impl Answer {
         }
     }
 
-    /// `FROM-TO`, where a cursor stands and its end.
+    /// Appends `FROM-TO`, where a cursor stands and its end.
     pub fn span(&mut self, cursor: &Cursor<'_>) {
         let (from, to) = cursor.span();
         self.range(from, to);
     }
 
-    /// What is left of the octets.
+    /// Appends which of the octets remain.
     pub fn left(&mut self, cursor: &Cursor<'_>) {
         self.field("left");
         self.span(cursor);
     }
 
-    /// `same` where another answer is the one that was given first, else that answer.
+    /// Appends `same` where another answer is the one that was given first, else that answer.
     pub fn compared(&mut self, first: &Answer, other: &Answer) {
         if other.has_failed {
             self.fail();

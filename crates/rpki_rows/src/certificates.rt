@@ -84,7 +84,7 @@ fn tests(out: &mut Answer, data: &TbsCert) {
     out.yes(data.has_ip_resources());
 }
 
-/// All fields, by their getters.
+/// Appends all fields, by their getters.
 pub fn fields(out: &mut Answer, data: &TbsCert) {
     head(out, data);
     holder(out, data);
@@ -166,7 +166,7 @@ fn signature(out: &mut Answer, signed: &SignedData, whole: &[u8]) {
     last_in(out, whole, signed.signature().value());
 }
 
-/// What is captured; `same` where it is what was written.
+/// Appends what is captured; `same` where it is what was written.
 pub fn captured(out: &mut Answer, found: Result<Bytes, EncodeError>, octets: &[u8]) {
     out.field("captured");
     match found {
@@ -175,7 +175,7 @@ pub fn captured(out: &mut Answer, found: Result<Bytes, EncodeError>, octets: &[u
     }
 }
 
-/// The certificate as it is written, and its parts by their places in it.
+/// Appends the certificate as it is written, and its parts by their places in it.
 pub fn written(out: &mut Answer, cert: &Cert) {
     let mut octets: Vec<u8> = Vec::new(out.alloc());
     let answer = cert.encode_ref(out.alloc(), &mut octets);
@@ -248,7 +248,7 @@ fn taken_inside(out: &mut Answer, first: &Answer, found: Result<Cursor<'_>, Deco
     }
 }
 
-/// A certificate by each of the ways to read one.
+/// Answers about a certificate by each of the ways to read one.
 pub fn certificate(words: &Words<'_>, out: &mut Answer) {
     let octets = words.asked(out, 1);
     let mut first = out.beside();
@@ -262,7 +262,7 @@ pub fn certificate(words: &Words<'_>, out: &mut Answer) {
     taken_inside(out, &first, Cursor::new(&octets).take_sequence());
 }
 
-/// What is signed of a certificate.
+/// Appends what is signed of a certificate.
 pub fn data(words: &Words<'_>, out: &mut Answer) {
     let octets = words.asked(out, 1);
     let mut cursor = Cursor::new(&octets);
@@ -271,7 +271,7 @@ pub fn data(words: &Words<'_>, out: &mut Answer) {
     out.left(&cursor);
 }
 
-/// Whether octets that are shared are answered as octets that are copied.
+/// Answers whether octets that are shared are answered as octets that are copied.
 pub fn shared(words: &Words<'_>, out: &mut Answer) {
     let octets = words.asked(out, 2);
     let mut first = out.beside();

@@ -191,8 +191,8 @@ fn untagged(words: &Words<'_>, out: &mut Answer) -> bool {
     known
 }
 
-/// One call of a cursor over the octets, and where the cursor then stands. It answers whether the
-/// question is one of these.
+/// Answers one call of a cursor over the octets, and where the cursor then stands. Returns whether
+/// the question is one of these.
 pub fn value(words: &Words<'_>, out: &mut Answer) -> bool {
     if words.is(0, "identifier") {
         let content = words.bytes(out, 1);

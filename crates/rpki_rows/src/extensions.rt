@@ -20,7 +20,7 @@ use rpki_ext::{
 use rpki_parts::{KeyIdentifier, Rsync};
 use std::alloc::{AllocError, Global};
 
-/// What was written of a value.
+/// Appends what was written of a value.
 pub fn written(out: &mut Answer, answer: Result<(), EncodeError>, octets: &[u8]) {
     out.field("written");
     behind(out, answer, octets);
@@ -85,7 +85,7 @@ fn authority_key_identifier(out: &mut Answer, found: Result<KeyIdentifier, Decod
     }
 }
 
-/// The usage's name.
+/// Returns the usage's name.
 pub fn usage(it: KeyUsage) -> &'static str {
     match it {
         KeyUsage::Ca => "Ca",
@@ -115,7 +115,7 @@ fn key_usage(out: &mut Answer, found: Result<KeyUsage, DecodeError>) {
     }
 }
 
-/// The purposes as they are written, or `none`.
+/// Appends the purposes as they are written, or `none`.
 pub fn purposes(out: &mut Answer, it: Option<&ExtendedKeyUsage>) {
     match it {
         Some(it) => {
@@ -220,7 +220,7 @@ fn certificate_policies(out: &mut Answer, found: Result<Overclaim, DecodeError>)
     }
 }
 
-// The same by the call of the type.
+// Reads the usage by the call of the type.
 fn usage_by_type(out: &mut Answer, cursor: &mut Cursor<'_>) {
     out.field("by-type");
     let found = ExtendedKeyUsage::take_from(out.alloc(), cursor);
@@ -293,7 +293,7 @@ fn content(words: &Words<'_>, out: &mut Answer) -> bool {
     known
 }
 
-/// The content of an extension of a kind, or else a whole extension.
+/// Appends the content of an extension of a kind, or else a whole extension.
 pub fn extension(words: &Words<'_>, out: &mut Answer) {
     if !content(words, out) {
         let octets = words.bytes(out, 1);

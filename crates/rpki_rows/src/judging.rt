@@ -9,7 +9,7 @@ use rpki_der::DecodeError;
 pub enum Role {
     /// A trust anchor.
     Anchor,
-    /// A certification authority.
+    /// A CA.
     Ca,
     /// An end entity whose object is named.
     Ee,
@@ -19,7 +19,7 @@ pub enum Role {
     Router,
 }
 
-/// The kind that a word names.
+/// Returns the kind that a word names.
 pub fn role_of(words: &Words<'_>, place: usize) -> Role {
     match words.at(place) {
         "ta" => Role::Anchor,
@@ -68,13 +68,14 @@ fn inspected_as_all(out: &mut Answer, cert: &Cert) {
     inspected_as(out, cert, Role::Router);
 }
 
-/// The certificate of a word in hexadecimal.
+/// Returns the certificate of a word in hexadecimal.
 pub fn decoded(out: &mut Answer, words: &Words<'_>, place: usize) -> Result<Cert, DecodeError> {
     let octets = bytes(out, words.at(place));
     Cert::decode(out.alloc(), octets.as_slice())
 }
 
-/// The first fault of a certificate, strictly and leniently: as a kind, or as each of the five.
+/// Appends the first fault of a certificate, strictly and leniently: as a kind, or as each of the
+/// five.
 pub fn inspect(words: &Words<'_>, out: &mut Answer) {
     let is_of_all = words.at(2) == "-";
     match decoded(out, words, if is_of_all { 1 } else { 2 }) {

@@ -99,7 +99,8 @@ fn digits(n: usize) -> usize {
     usize::try_from(usize::BITS.wrapping_sub(n.leading_zeros())).unwrap_or(0)
 }
 
-// The same answer from the table, and no more looks than the number of entries has binary digits.
+// Whether the table gives the plain answer, with no more looks than the number of entries has
+// binary digits.
 fn is_same(plain: &Crl, cached: &Crl, number: Serial, most: usize) -> bool {
     let (is_revoked, looks) = cached.contains_counted(number);
     is_revoked == plain.contains(number) && cached.contains(number) == is_revoked && looks <= most
@@ -179,7 +180,7 @@ fn found(out: &mut Answer, crl: &Crl, words: &Words<'_>, octets: &Bytes) {
     }
 }
 
-// Why it is none, what that speaks of, and what is left.
+// Why it is none, what that speaks of, and which octets remain.
 fn refused(out: &mut Answer, error: &DecodeError, octets: &Bytes) {
     out.refused(error);
     let mut cursor = Cursor::new(octets);
@@ -190,7 +191,8 @@ fn refused(out: &mut Answer, error: &DecodeError, octets: &Bytes) {
     out.left(&cursor);
 }
 
-/// A revocation list by each of the ways to read one, and what it answers of some serial numbers.
+/// Answers about a revocation list by each of the ways to read one, and what it answers of some
+/// serial numbers.
 pub fn list(words: &Words<'_>, out: &mut Answer) {
     let octets = words.asked(out, 1);
     match Crl::decode(out.alloc(), octets.as_slice()) {
@@ -212,7 +214,8 @@ fn fault(front: &[u8], out: &Answer) -> &'static str {
     }
 }
 
-/// What each front of a list answers, but the whole: lengths that answer alike stand together.
+/// Appends what each front of a list answers, but the whole: lengths that answer alike stand
+/// together.
 pub fn cut(words: &Words<'_>, out: &mut Answer) {
     let octets = words.octets(out, 1);
     let mut from = 0;
@@ -236,7 +239,7 @@ pub fn cut(words: &Words<'_>, out: &mut Answer) {
     out.range(from, octets.len().wrapping_sub(1));
 }
 
-/// Whether octets that are shared are answered as octets that are copied.
+/// Answers whether octets that are shared are answered as octets that are copied.
 pub fn shared(words: &Words<'_>, out: &mut Answer) {
     let octets = words.asked(out, 2);
     let mut first = out.beside();

@@ -199,7 +199,7 @@ fn answered(words: &Words<'_>, out: &mut Answer) {
     }
 }
 
-/// The answer to a question.
+/// Returns the answer to a question.
 pub fn line_for(alloc: Global, question: &str) -> Result<Answer, AllocError> {
     let mut out = Answer::new(alloc);
     let words = Words::of(alloc, question)?;

@@ -341,7 +341,7 @@ fn signed_by(words: &Words<'_>, out: &mut Answer, signer: &PublicKey) {
     }
 }
 
-/// A certificate that is made from fields, set field by field, and signed by the stand-in.
+/// Makes a certificate from fields, set field by field, and signed by the stand-in.
 pub fn make(words: &Words<'_>, out: &mut Answer) {
     match key(words, out, "signer") {
         Ok(signer) => signed_by(words, out, &signer),

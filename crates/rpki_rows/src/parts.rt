@@ -10,7 +10,7 @@ use rpki_parts::{
 use std::alloc::{AllocError, Global};
 use std::cmp::Ordering;
 
-/// The serial number as it is written.
+/// Appends the serial number as it is written.
 pub fn serial(out: &mut Answer, it: Serial) {
     let mut octets: Vec<u8> = Vec::new(out.alloc());
     let answer = it.encode(out.alloc(), &mut octets);
@@ -25,7 +25,7 @@ fn characters(out: &mut Answer, octets: &[u8]) {
     }
 }
 
-/// The time as it is written.
+/// Appends the time as it is written.
 pub fn time(out: &mut Answer, it: Time) {
     let mut octets: Vec<u8> = Vec::new(out.alloc());
     match it.encode_varied(out.alloc(), &mut octets) {
@@ -34,14 +34,14 @@ pub fn time(out: &mut Answer, it: Time) {
     }
 }
 
-/// The algorithm as it is written.
+/// Appends the algorithm as it is written.
 pub fn algorithm(out: &mut Answer, it: &RpkiSignatureAlgorithm) {
     let mut octets: Vec<u8> = Vec::new(out.alloc());
     let answer = it.x509_encode(out.alloc(), &mut octets);
     out.written(answer, &octets);
 }
 
-/// What the key may be used for, and its bits.
+/// Appends what the key may be used for, and its bits.
 pub fn public_key(out: &mut Answer, it: &PublicKey) {
     if it.allow_rpki_cert() {
         out.text("rpki:");
@@ -52,7 +52,7 @@ pub fn public_key(out: &mut Answer, it: &PublicKey) {
     out.octets(it.bits());
 }
 
-/// The identifier, or `none`.
+/// Appends the identifier, or `none`.
 pub fn key_identifier(out: &mut Answer, it: Option<KeyIdentifier>) {
     match it {
         Some(it) => out.octets(it.as_octets().as_slice()),
@@ -280,7 +280,7 @@ fn given(words: &Words<'_>, out: &mut Answer) -> bool {
     true
 }
 
-/// A part of a certificate. It answers whether the question is of one.
+/// Answers a question of a part of a certificate. Returns whether the question is of one.
 pub fn part(words: &Words<'_>, out: &mut Answer) -> bool {
     given(words, out) || taken(words, out)
 }
@@ -322,7 +322,7 @@ fn times(words: &Words<'_>, out: &mut Answer) {
     ordered(out, first, second);
 }
 
-/// Two values of a kind.
+/// Compares two values of a kind.
 pub fn compare(words: &Words<'_>, out: &mut Answer) {
     if words.is(1, "serials") {
         serials(words, out);

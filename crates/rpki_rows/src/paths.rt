@@ -8,7 +8,7 @@ use rpki_der::Time;
 use rpki_parts::{StandIn, Verifier};
 use rpki_path::{Leaf, PathError, PathFault, validate_path};
 
-/// The octets behind `NAME:` of a word.
+/// Returns the octets behind `NAME:` of a word.
 pub fn named(out: &mut Answer, word: &str, name: &str) -> Option<Bytes> {
     let (before, digits) = word.split_once(':')?;
     if before == name {
@@ -18,7 +18,7 @@ pub fn named(out: &mut Answer, word: &str, name: &str) -> Option<Bytes> {
     }
 }
 
-/// The authorities among the words from a place on.
+/// Returns the CAs among the words from a place on.
 pub fn authorities(out: &mut Answer, words: &Words<'_>, from: usize) -> Vec<Bytes> {
     let mut found: Vec<Bytes> = Vec::new(out.alloc());
     for place in from..words.count() {
@@ -31,7 +31,7 @@ pub fn authorities(out: &mut Answer, words: &Words<'_>, from: usize) -> Vec<Byte
     found
 }
 
-/// The leaf, where the last word is one.
+/// Returns the leaf, where the last word is one.
 pub fn leaf(out: &mut Answer, words: &Words<'_>) -> Option<Leaf> {
     let last = words.at(words.count().wrapping_sub(1));
     if let Some(octets) = named(out, last, "ee") {
@@ -61,7 +61,7 @@ fn refused(out: &mut Answer, error: &PathError) {
     }
 }
 
-/// What was answered of a path.
+/// Appends what was answered of a path.
 pub fn validated(out: &mut Answer, answer: Result<ResourceCert, PathError>) {
     match answer {
         Ok(cert) => {
@@ -89,7 +89,8 @@ fn answered<V: Verifier>(
     Some(())
 }
 
-/// What the path of the words behind the third answers, in a mode, at a moment and by a verifier.
+/// Appends what the path of the words behind the third answers, in a mode, at a moment and by a
+/// verifier.
 pub fn judged<V: Verifier>(
     words: &Words<'_>,
     out: &mut Answer,
@@ -106,7 +107,8 @@ pub fn judged<V: Verifier>(
     }
 }
 
-/// What the last member of a path holds, or which member is refused, and why, under the stand-in.
+/// Tells what the last member of a path holds, or which member is rejected, and why, under the
+/// stand-in.
 pub fn path(words: &Words<'_>, out: &mut Answer) {
     judged(words, out, words.at(1), words.at(2), &StandIn);
 }

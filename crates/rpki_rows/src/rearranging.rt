@@ -57,7 +57,7 @@ fn extras(out: &mut Answer, word: &str) -> Vec<Extra> {
     extras
 }
 
-/// A certificate with its extensions in another order and others among them.
+/// Rearranges the extensions of a certificate, and adds others among them.
 pub fn rearrange(words: &Words<'_>, out: &mut Answer) {
     let octets = words.octets(out, 1);
     let order = places(out, words.at(2));

@@ -88,8 +88,8 @@ fn answered<V: Verifier>(out: &mut Answer, words: &Words<'_>, verifier: &V) -> O
     Some(())
 }
 
-/// What the path of the words behind the fourth answers, by a verifier, where the lists of a store are asked; and whether the answer
-/// is the same where serial numbers are cached.
+/// Tells what the path of the words behind the fourth answers, by a verifier, where the lists of a
+/// store are asked; and whether the answer stays where serial numbers are cached.
 pub fn judged<V: Verifier>(words: &Words<'_>, out: &mut Answer, verifier: &V) {
     if answered(out, words, verifier).is_none() {
         out.text("unfit");

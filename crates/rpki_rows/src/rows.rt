@@ -46,7 +46,7 @@ fn end_block<'a>(blocks: &mut Vec<Block<'a>>, lines: &mut Vec<&'a str>) -> Resul
     Ok(())
 }
 
-/// The rows of a file's text, in their order.
+/// Returns the rows of a file's text, in their order.
 pub fn blocks_of<'a>(alloc: Global, text: &'a str) -> Result<Vec<Block<'a>>, AllocError> {
     let mut blocks: Vec<Block<'a>> = Vec::new(alloc);
     let mut lines: Vec<&'a str> = Vec::new(alloc);
@@ -110,7 +110,7 @@ fn put_named(
     Ok(())
 }
 
-/// The folder that a file lies in.
+/// Returns the folder that a file lies in.
 pub fn folder_of(file: &str) -> &str {
     match file.rsplit_once('/') {
         Some((folder, _)) => folder,
@@ -118,7 +118,7 @@ pub fn folder_of(file: &str) -> &str {
     }
 }
 
-/// The question, with the octets of each file of the folder that it names.
+/// Returns the question, with the octets of each file of the folder that it names.
 pub fn with_octets(
     rt: &(impl Files + AllocGlobal),
     folder: &str,

@@ -14,12 +14,12 @@ pub struct Tally {
 }
 
 impl Tally {
-    /// No row.
+    /// Makes an empty tally.
     pub fn new() -> Tally {
         Tally { rows: 0, passed: 0 }
     }
 
-    /// A row more.
+    /// Adds a row.
     pub fn count(&mut self, passes: bool) {
         self.rows = self.rows.saturating_add(1);
         if passes {
@@ -27,13 +27,13 @@ impl Tally {
         }
     }
 
-    /// The rows of another tally more.
+    /// Adds the rows of another tally.
     pub fn add(&mut self, other: Tally) {
         self.rows = self.rows.saturating_add(other.rows);
         self.passed = self.passed.saturating_add(other.passed);
     }
 
-    /// Whether there are rows, and each was answered as it says.
+    /// Returns whether there are rows, and each was answered as it says.
     pub fn is_clean(&self) -> bool {
         self.rows != 0 && self.rows == self.passed
     }

@@ -66,12 +66,13 @@ fn answered(words: &Words<'_>, out: &mut Answer, is_named: bool) {
     show(out, ended, &printed, is_named);
 }
 
-/// The input is the rest of the line, with a bar for each end of a line, and so is what is printed.
+/// Answers a run of the program. The input is the rest of the line, with a bar for each end of a
+/// line, and so is what is printed.
 pub fn answer(words: &Words<'_>, out: &mut Answer) {
     answered(words, out, true);
 }
 
-/// The same, with a star for the name of a decoder's fault.
+/// Answers a run of the program, with a star for the name of a decoder's fault.
 pub fn answer_unnamed(words: &Words<'_>, out: &mut Answer) {
     answered(words, out, false);
 }

@@ -12,16 +12,16 @@ use std::alloc::{AllocError, Global};
 
 /// A kind of numbers that sets are made of.
 pub trait Kind: Bound {
-    /// The number of a word; the greatest where it is too great.
+    /// Returns the number of a word; the greatest where it is too great.
     fn of(word: &str) -> Self;
 
-    /// The number.
+    /// Appends the number.
     fn print(self, out: &mut Answer);
 
-    /// What only sets of this kind have.
+    /// Appends what only sets of this kind have.
     fn print_more(out: &mut Answer, set: &Chain<Self>);
 
-    /// The extension of what is listed.
+    /// Appends the extension of what is listed.
     fn print_extension(
         out: &mut Answer,
         set: &Chain<Self>,
@@ -80,7 +80,7 @@ impl Kind for Asn {
     }
 }
 
-/// The blocks of a set; `-` for none.
+/// Appends the blocks of a set; `-` for none.
 pub fn set<B: Kind>(out: &mut Answer, blocks: &Chain<B>) {
     let mut is_first = true;
     for block in blocks.iter() {
@@ -97,7 +97,7 @@ pub fn set<B: Kind>(out: &mut Answer, blocks: &Chain<B>) {
     }
 }
 
-/// `missing`, `inherited`, or the blocks of the set.
+/// Appends `missing`, `inherited`, or the blocks of the set.
 pub fn listed<B: Kind>(out: &mut Answer, resources: &Resources<B>) {
     if !resources.is_present() {
         out.text("missing");
@@ -118,7 +118,7 @@ fn ends<B: Kind>(word: &str) -> (B, B) {
     }
 }
 
-/// The blocks `LOW-HIGH,..` of a word; `-` for none.
+/// Returns the blocks `LOW-HIGH,..` of a word; `-` for none.
 pub fn blocks<B: Kind>(alloc: Global, word: &str) -> Result<Vec<Block<B>>, AllocError> {
     let mut all: Vec<Block<B>> = Vec::new(alloc);
     if word != "-" && word != "none" {
@@ -148,7 +148,7 @@ fn known<B: Kind>(out: &mut Answer, word: &str) -> Chain<B> {
     or_empty(out, found)
 }
 
-/// What a word lists: `inherit`, or blocks.
+/// Returns what a word lists: `inherit`, or blocks.
 pub fn resources_of<B: Kind>(out: &mut Answer, word: &str) -> Resources<B> {
     if word == "inherit" {
         Resources::inherit()
@@ -256,7 +256,7 @@ fn pair<B: Kind>(words: &Words<'_>, out: &mut Answer) {
     beside(out, &one, found);
 }
 
-/// Two sets of a kind.
+/// Answers about two sets of a kind.
 pub fn sets(words: &Words<'_>, out: &mut Answer) {
     if words.is(1, "addresses") {
         pair::<Addr>(words, out);
@@ -287,7 +287,7 @@ fn prefix(out: &mut Answer, address: u128, len: u8) {
     }
 }
 
-/// The mode's name.
+/// Returns the mode's name.
 pub fn mode(it: Overclaim) -> &'static str {
     match it {
         Overclaim::Refuse => "Refuse",
@@ -311,7 +311,7 @@ fn overclaim(words: &Words<'_>, out: &mut Answer) {
     mode_of(out, "as-resources", Overclaim::from_as_res(&octets));
 }
 
-/// The mode of a word.
+/// Returns the mode of a word.
 pub fn named_mode(word: &str) -> Overclaim {
     if word == "Trim" {
         Overclaim::Trim
@@ -399,7 +399,7 @@ fn read_asns(words: &Words<'_>, out: &mut Answer) {
     out.left(&cursor);
 }
 
-/// Resources, a prefix or a mode. It answers whether the question is of one.
+/// Answers a question of sets, a prefix or a mode. Returns whether the question is of one.
 pub fn resources(words: &Words<'_>, out: &mut Answer) -> bool {
     if words.is(0, "addresses") {
         read_addresses(words, out);

@@ -5,13 +5,13 @@ use std::alloc::{AllocError, Global};
 
 /// A value of which an answer shows what its getters give.
 pub trait Show {
-    /// A field for each of them.
+    /// Appends a field for each of them.
     fn show(&self, out: &mut Answer);
 }
 
 /// A value that can be copied.
 pub trait Twin: Show + Drop {
-    /// The copy.
+    /// Returns the copy.
     fn twin(&self, alloc: Global) -> Result<Self, AllocError>;
 }
 
@@ -34,14 +34,14 @@ fn copied<T: Twin>(out: &mut Answer, value: &T) {
     }
 }
 
-/// A value that was found, and its copy.
+/// Appends a value that was found, and its copy.
 pub fn found<T: Twin>(out: &mut Answer, value: &T) {
     out.text("ok");
     value.show(out);
     copied(out, value);
 }
 
-/// What was read, or why it was refused.
+/// Appends what was read, or why it was rejected.
 pub fn read<T: Twin>(out: &mut Answer, answer: Result<T, DecodeError>) {
     match answer {
         Ok(value) => found(out, &value),
@@ -49,7 +49,7 @@ pub fn read<T: Twin>(out: &mut Answer, answer: Result<T, DecodeError>) {
     }
 }
 
-/// The same, where nothing may be there.
+/// Appends what was read, if anything was, or why it was rejected.
 pub fn read_optional<T: Twin>(out: &mut Answer, answer: Result<Option<T>, DecodeError>) {
     match answer {
         Ok(Some(value)) => found(out, &value),
@@ -58,7 +58,7 @@ pub fn read_optional<T: Twin>(out: &mut Answer, answer: Result<Option<T>, Decode
     }
 }
 
-/// What was read of a value that is copied as it stands.
+/// Appends what was read of a value that is copied as it stands.
 pub fn read_plain<T: Show + Copy>(out: &mut Answer, answer: Result<T, DecodeError>) {
     match answer {
         Ok(value) => {
@@ -69,7 +69,7 @@ pub fn read_plain<T: Show + Copy>(out: &mut Answer, answer: Result<T, DecodeErro
     }
 }
 
-/// What was made, if anything was.
+/// Appends what was made, if anything was.
 pub fn made<T: Show + Copy>(out: &mut Answer, answer: Option<T>) {
     match answer {
         Some(value) => {

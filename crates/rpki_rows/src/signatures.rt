@@ -4,13 +4,13 @@ use crate::words::Words;
 use crate::{paths, revocation};
 use rpki_rsa::{RsaVerifier, is_rpki_key, verify};
 
-/// Whether bits are a key of the RPKI.
+/// Answers whether bits are a key of the RPKI.
 pub fn rsa_key(words: &Words<'_>, out: &mut Answer) {
     let bits = words.octets(out, 1);
     out.yes(is_rpki_key(&bits));
 }
 
-/// Whether a signature is one of a message, by the bits of a key.
+/// Answers whether a signature is one of a message, by the bits of a key.
 pub fn rsa(words: &Words<'_>, out: &mut Answer) {
     let bits = words.octets(out, 1);
     let message = words.octets(out, 2);
@@ -18,7 +18,8 @@ pub fn rsa(words: &Words<'_>, out: &mut Answer) {
     out.yes(verify(&bits, &message, &signature));
 }
 
-/// What the last member of a path with RSA signatures holds, or which member is refused, and why.
+/// Tells what the last member of a path with RSA signatures holds, or which member is rejected, and
+/// why.
 pub fn real_path(words: &Words<'_>, out: &mut Answer) {
     paths::judged(words, out, words.at(2), words.at(1), &RsaVerifier);
 }

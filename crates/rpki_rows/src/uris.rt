@@ -6,7 +6,7 @@ use rpki_der::Piece;
 use rpki_parts::{BadUri, Https, Rsync, UriError};
 use std::alloc::{AllocError, Global};
 
-/// The URI, or `none`.
+/// Appends the URI, or `none`.
 pub fn rsync(out: &mut Answer, uri: Option<&Rsync>) {
     match uri {
         Some(uri) => out.characters(uri.as_bytes()),
@@ -14,7 +14,7 @@ pub fn rsync(out: &mut Answer, uri: Option<&Rsync>) {
     }
 }
 
-/// The URI, or `none`.
+/// Appends the URI, or `none`.
 pub fn https(out: &mut Answer, uri: Option<&Https>) {
     match uri {
         Some(uri) => out.characters(uri.as_bytes()),
@@ -80,7 +80,7 @@ fn of_text<T: Twin>(out: &mut Answer, answer: Result<T, UriError>) {
     }
 }
 
-// The same from text, where the octets are text.
+// Reads the URI from text, where the octets are text.
 fn rsync_text(out: &mut Answer, first: &Answer, octets: &[u8]) {
     if let Ok(text) = str::from_utf8(octets) {
         let mut other = out.beside();
@@ -99,7 +99,7 @@ fn https_text(out: &mut Answer, first: &Answer, octets: &[u8]) {
     }
 }
 
-// The same from a piece.
+// Reads the URI from a piece.
 fn rsync_piece(words: &Words<'_>, out: &mut Answer, first: &Answer) {
     let mut other = out.beside();
     let piece = Piece::from(shared_characters(out, words.at(1)));
@@ -169,7 +169,7 @@ fn parent_of(out: &mut Answer, answer: Result<Rsync, BadUri>) {
     }
 }
 
-/// A URI or a parent. It answers whether the question is of one.
+/// Answers a question of a URI or a parent. Returns whether the question is of one.
 pub fn uri(words: &Words<'_>, out: &mut Answer) -> bool {
     if words.is(0, "rsync") {
         rsync_read(words, out);
@@ -212,7 +212,7 @@ fn https_pair(out: &mut Answer, one: Result<Https, BadUri>, other: Result<Https,
     }
 }
 
-/// Two URIs.
+/// Compares two URIs.
 pub fn compare(words: &Words<'_>, out: &mut Answer) {
     let one = shared_characters(out, words.at(2));
     let other = shared_characters(out, words.at(3));

@@ -38,7 +38,7 @@ fn refused(out: &mut Answer, error: &ValidationError) {
     }
 }
 
-/// The sets of a certificate that was verified.
+/// Appends the sets of a certificate that was verified.
 pub fn held(out: &mut Answer, cert: &ResourceCert) {
     out.text("ok");
     out.field("v4");
@@ -66,7 +66,7 @@ fn verdict_of_router(out: &mut Answer, answer: Result<(), ValidationError>) {
     }
 }
 
-/// A locator without a name.
+/// Returns a locator without a name.
 pub fn tal(alloc: Global) -> Result<Rc<TalInfo>, AllocError> {
     TalInfo::from_name(String::new(alloc)).into_rc(alloc)
 }
@@ -220,7 +220,7 @@ fn judged_by(out: &mut Answer, words: &Words<'_>) -> Option<()> {
     }
 }
 
-/// Whether a certificate is valid, an anchor or below others, and what it holds.
+/// Answers whether a certificate is valid, a trust anchor or below others, and what it holds.
 pub fn validate(words: &Words<'_>, out: &mut Answer) {
     if judged_by(out, words).is_none() {
         out.text("unfit");
@@ -234,7 +234,8 @@ fn verified_by(out: &mut Answer, words: &Words<'_>) -> Option<()> {
     Some(())
 }
 
-/// Whether a certificate is verified as an anchor, or its validity, whatever inspection says.
+/// Answers whether a certificate is verified as a trust anchor, or its validity, whatever
+/// inspection says.
 pub fn verify(words: &Words<'_>, out: &mut Answer) {
     if verified_by(out, words).is_none() {
         out.text("unfit");

@@ -12,7 +12,7 @@ pub struct Words<'a> {
 }
 
 impl<'a> Words<'a> {
-    /// The words between spaces.
+    /// Returns the words between spaces.
     pub fn of(alloc: Global, line: &'a str) -> Result<Words<'a>, AllocError> {
         let mut words: Vec<&'a str> = Vec::new(alloc);
         for word in line.split_whitespace() {
@@ -21,7 +21,7 @@ impl<'a> Words<'a> {
         Ok(Words { line, words })
     }
 
-    /// What stands behind the first space, as it stands; nothing where there is none.
+    /// Returns what stands behind the first space, as it stands; nothing where there is none.
     pub fn rest(&self) -> &'a str {
         match self.line.split_once(' ') {
             Some((_, rest)) => rest,
@@ -29,12 +29,12 @@ impl<'a> Words<'a> {
         }
     }
 
-    /// How many words there are.
+    /// Returns how many words there are.
     pub fn count(&self) -> usize {
         self.words.len()
     }
 
-    /// The word at a place, from 0; `-` where there is none.
+    /// Returns the word at a place, from 0; `-` where there is none.
     pub fn at(&self, place: usize) -> &'a str {
         match self.words.get(place) {
             Some(word) => word,
@@ -42,12 +42,12 @@ impl<'a> Words<'a> {
         }
     }
 
-    /// Whether the word at a place is this one.
+    /// Returns whether the word at a place is this one.
     pub fn is(&self, place: usize, word: &str) -> bool {
         self.at(place) == word
     }
 
-    /// What stands behind `NAME=`; `none` where no word begins so.
+    /// Returns what stands behind `NAME=`; `none` where no word begins so.
     pub fn named(&self, name: &str) -> &'a str {
         for word in self.words.iter() {
             if let Some((before, after)) = word.split_once('=') {
@@ -59,39 +59,39 @@ impl<'a> Words<'a> {
         "none"
     }
 
-    /// The octets of a word in hexadecimal; `-` for none.
+    /// Returns the octets of a word in hexadecimal; `-` for none.
     pub fn octets(&self, out: &mut Answer, place: usize) -> Vec<u8> {
         octets(out, self.at(place))
     }
 
-    /// The same, to be shared.
+    /// Returns the octets of a word in hexadecimal, to be shared; `-` for none.
     pub fn bytes(&self, out: &mut Answer, place: usize) -> Bytes {
         bytes(out, self.at(place))
     }
 
-    /// The octets that the question is of.
+    /// Returns the octets that the question is of.
     pub fn asked(&self, out: &mut Answer, place: usize) -> Bytes {
         let octets = self.bytes(out, place);
         out.ask(octets.as_slice());
         octets
     }
 
-    /// The octets of a word as they stand.
+    /// Returns the octets of a word as they stand.
     pub fn characters(&self, out: &mut Answer, place: usize) -> Vec<u8> {
         characters(out, self.at(place))
     }
 
-    /// The number of a word in decimal digits; 0 where it is too great.
+    /// Returns the number of a word in decimal digits; 0 where it is too great.
     pub fn number(&self, place: usize) -> u32 {
         u32::try_from(decimal(self.at(place))).unwrap_or(0)
     }
 
-    /// The same, below 256.
+    /// Returns the number of a word in decimal digits; 0 where it is 256 or more.
     pub fn small(&self, place: usize) -> u8 {
         u8::try_from(decimal(self.at(place))).unwrap_or(0)
     }
 
-    /// The same, which may have a minus sign.
+    /// Returns the number of a word in decimal digits, which may have a minus sign.
     pub fn signed(&self, place: usize) -> i32 {
         let n = i32::try_from(decimal(self.at(place))).unwrap_or(0);
         if self.at(place).starts_with('-') {
@@ -101,7 +101,7 @@ impl<'a> Words<'a> {
         }
     }
 
-    /// An octet in hexadecimal.
+    /// Returns an octet in hexadecimal.
     pub fn octet(&self, place: usize) -> u8 {
         u8::try_from(hexadecimal(self.at(place)) & 255).unwrap_or(0)
     }
@@ -127,19 +127,19 @@ fn shared(out: &mut Answer, octets: Vec<u8>) -> Bytes {
     }
 }
 
-/// The octets of a word in hexadecimal; `-` for none.
+/// Returns the octets of a word in hexadecimal; `-` for none.
 pub fn octets(out: &mut Answer, word: &str) -> Vec<u8> {
     let found = octets_of(out.alloc(), word);
     filled(out, found)
 }
 
-/// The same, to be shared.
+/// Returns the octets of a word in hexadecimal, to be shared; `-` for none.
 pub fn bytes(out: &mut Answer, word: &str) -> Bytes {
     let found = octets(out, word);
     shared(out, found)
 }
 
-/// The octets of a text; those in hexadecimal of a word that begins with `octets:`.
+/// Returns the octets of a text; those in hexadecimal of a word that begins with `octets:`.
 pub fn characters(out: &mut Answer, word: &str) -> Vec<u8> {
     let found = match word.strip_prefix("octets:") {
         Some(rest) => octets_of(out.alloc(), rest),
@@ -148,13 +148,14 @@ pub fn characters(out: &mut Answer, word: &str) -> Vec<u8> {
     filled(out, found)
 }
 
-/// The same, to be shared.
+/// Returns the octets of a text, to be shared; those in hexadecimal of a word that begins with
+/// `octets:`.
 pub fn shared_characters(out: &mut Answer, word: &str) -> Bytes {
     let found = characters(out, word);
     shared(out, found)
 }
 
-/// The number of the decimal digits of a word, whatever sign it has.
+/// Returns the number of the decimal digits of a word, whatever sign it has.
 pub fn decimal(word: &str) -> u128 {
     let mut n = 0u128;
     for c in word.as_bytes() {
@@ -165,7 +166,7 @@ pub fn decimal(word: &str) -> u128 {
     n
 }
 
-/// The number of hexadecimal digits, at most 32.
+/// Returns the number of hexadecimal digits, at most 32.
 pub fn hexadecimal(word: &str) -> u128 {
     let mut n = 0u128;
     for c in word.as_bytes() {
@@ -206,7 +207,7 @@ fn part(word: &str, from: usize, to: usize) -> u32 {
     }
 }
 
-/// The moment `YYYYMMDDhhmmss`, if there is one.
+/// Returns the moment `YYYYMMDDhhmmss`, if there is one.
 pub fn moment(word: &str) -> Option<Time> {
     let year = i32::try_from(part(word, 0, 4)).unwrap_or(-1);
     Time::utc(

@@ -6,7 +6,7 @@ use rpki_der::{
     put_value,
 };
 
-/// A vector with an octet in it, behind which something is written.
+/// Returns a vector with an octet in it, behind which something is written.
 pub fn started(out: &mut Answer) -> Vec<u8> {
     let mut octets: Vec<u8> = Vec::new(out.alloc());
     if octets.push(0x55).is_err() {
@@ -15,7 +15,7 @@ pub fn started(out: &mut Answer) -> Vec<u8> {
     octets
 }
 
-/// What was written behind that octet, or why nothing was.
+/// Appends what was written behind that octet, or why nothing was.
 pub fn behind(out: &mut Answer, answer: Result<(), EncodeError>, octets: &[u8]) {
     match octets {
         [0x55, rest @ ..] => out.written(answer, rest),
@@ -106,7 +106,7 @@ fn unsigned(words: &Words<'_>, out: &mut Answer) {
     done(out, answer, &octets);
 }
 
-/// What one writer appends.
+/// Appends what one writer appends.
 pub fn write(words: &Words<'_>, out: &mut Answer) {
     if words.is(1, "value") || words.is(1, "parts") {
         tagged(words, out, words.octet(2));

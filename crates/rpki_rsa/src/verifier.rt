@@ -4,8 +4,9 @@ ghost use Rattle.std.specs.Prelude.{◌≡◌};
 use crate::verifying::verify;
 use rpki_parts::{PublicKey, PublicKeyFormat, RpkiSignatureAlgorithm, Verifier};
 
-/// Verifies signatures as the RPKI has them: RSASSA-PKCS1-v1_5 with SHA-256, by RSA keys of 2048 bits
-/// and the exponent 65537 (RFC 7935 2, 3). Any other key has no valid signature. It takes no memory.
+/// Verifies signatures as the RPKI has them: RSASSA-PKCS1-v1_5 with SHA-256, by RSA keys of 2048
+/// bits and the exponent 65537 (RFC 7935 2, 3). Any other key has no valid signature. It takes no
+/// memory.
 #[derive(Clone, Copy)]
 pub struct RsaVerifier;
 

@@ -1,5 +1,5 @@
-//! Keys, URIs, and the data of three certificates that another program made too. What may want
-//! memory gives none where it does.
+//! Keys, URIs, and the data of three certificates that another program made too. What may run out
+//! of memory gives none where it does.
 
 use bytes::Bytes;
 use rpki_blocks::{Addr, AsBlock, Asn, IpBlock};
@@ -8,23 +8,23 @@ use rpki_der::{Serial, Time};
 use rpki_parts::{PublicKey, PublicKeyFormat, Rsync, StandIn, Validity};
 use std::alloc::Global;
 
-/// The RSA key of these bits.
+/// Makes the RSA key of these bits.
 pub fn rsa(bits: &'static [u8]) -> PublicKey {
     PublicKey::new(PublicKeyFormat::Rsa, Bytes::from_static(bits))
 }
 
-/// The rsync URI that the text is.
+/// Makes the rsync URI that the text is.
 pub fn uri(alloc: Global, text: &str) -> Option<Rsync> {
     Rsync::from_text(alloc, text).ok()
 }
 
-/// The first of May of the year.
+/// Returns the first of May of the year.
 pub fn day(year: i32) -> Option<Time> {
     Time::utc(year, 5, 1, 0, 0, 0)
 }
 
-/// Certificate data for ten years, named after its key, with nothing that may be left out. The
-/// issuer is named after the key `abc`.
+/// Makes certificate data for ten years, named after its key, with nothing that may be left out.
+/// The issuer is named after the key `abc`.
 pub fn bare(alloc: Global, serial: u64, key: PublicKey, usage: KeyUsage) -> Option<TbsCert> {
     let validity = Validity::new(day(2019)?, day(2029)?);
     let issuer = rsa(b"abc").to_subject_name(alloc).ok()?;
@@ -33,7 +33,7 @@ pub fn bare(alloc: Global, serial: u64, key: PublicKey, usage: KeyUsage) -> Opti
     TbsCert::new(alloc, serial, issuer, validity, None, key, usage, mode).ok()
 }
 
-/// Sets where an authority publishes.
+/// Sets where a CA publishes.
 pub fn set_places(alloc: Global, tbs: &mut TbsCert) -> Option<()> {
     tbs.set_ca_repository(Some(uri(alloc, "rsync://example.com/m/p")?));
     tbs.set_rpki_manifest(Some(uri(alloc, "rsync://example.com/m/p/mft.mft")?));
@@ -54,7 +54,7 @@ fn set_anchor(alloc: Global, tbs: &mut TbsCert) -> Option<()> {
     set_all_resources(alloc, tbs)
 }
 
-/// The data of a trust anchor with the key `abc`, serial 12 and all resources.
+/// Makes the data of a trust anchor with the key `abc`, serial 12 and all resources.
 pub fn anchor(alloc: Global) -> Option<TbsCert> {
     let mut tbs = bare(alloc, 12, rsa(b"abc"), KeyUsage::Ca)?;
     let set = set_anchor(alloc, &mut tbs);
@@ -69,7 +69,8 @@ pub fn set_issuer(alloc: Global, tbs: &mut TbsCert) -> Option<()> {
     Some(())
 }
 
-/// That of an end entity under the anchor, with the key `a`, serial 9 and inherited resources.
+/// Makes the data of an end entity under the trust anchor, with the key `a`, serial 9 and inherited
+/// resources.
 pub fn end_entity(alloc: Global) -> Option<TbsCert> {
     let mut tbs = bare(alloc, 9, rsa(b"a"), KeyUsage::Ee)?;
     tbs.set_v4_resources_inherit();
@@ -92,7 +93,7 @@ fn set_issued_router(alloc: Global, tbs: &mut TbsCert) -> Option<()> {
     set_router(alloc, tbs)
 }
 
-/// That of a router under the anchor, with the key `a`, serial 10 and AS number 50.
+/// Makes the data of a router under the trust anchor, with the key `a`, serial 10 and AS number 50.
 pub fn router(alloc: Global) -> Option<TbsCert> {
     let key = PublicKey::new(PublicKeyFormat::EcdsaP256, Bytes::from_static(b"a"));
     let mut tbs = bare(alloc, 10, key, KeyUsage::Ee)?;
@@ -100,7 +101,7 @@ pub fn router(alloc: Global) -> Option<TbsCert> {
     set.and(Some(tbs))
 }
 
-/// The octets of the certificate that the anchor's key signs.
+/// Makes the octets of the certificate that the trust anchor's key signs.
 pub fn signed(alloc: Global, tbs: TbsCert) -> Option<Bytes> {
     let made = tbs.into_cert(alloc, &StandIn, &rsa(b"abc")).ok()?;
     let octets = made.to_captured(alloc).ok();
@@ -108,12 +109,12 @@ pub fn signed(alloc: Global, tbs: TbsCert) -> Option<Bytes> {
     octets
 }
 
-/// The octets of the anchor's certificate.
+/// Makes the octets of the trust anchor's certificate.
 pub fn anchor_octets(alloc: Global) -> Option<Bytes> {
     signed(alloc, anchor(alloc)?)
 }
 
-/// The octets that are written of the data.
+/// Writes the octets of the data.
 pub fn written(alloc: Global, tbs: &TbsCert) -> Option<Vec<u8>> {
     let mut out = Vec::new(alloc);
     tbs.encode_ref(alloc, &mut out).ok()?;

@@ -1,5 +1,5 @@
 //! What tests are made of: keys, URIs, three certificates that another program made too, their
-//! hashes, and a signer that refuses.
+//! hashes, and a signer that rejects.
 #![tactic(auto)]
 
 mod data;

@@ -28,7 +28,7 @@ impl Refusing {
         }
     }
 
-    /// How often it was asked.
+    /// Returns how often it was asked.
     pub fn calls(&self) -> usize {
         self.calls.get()
     }
