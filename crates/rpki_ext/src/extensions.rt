@@ -278,8 +278,8 @@ impl Extensions {
         self.as_resources.encode_extension(alloc, out, mode)
     }
 
-    /// Appends the extensions, one after the other, in one fixed order and each with the flag that it must have (RFC 6487 4.8). Answers
-    /// `TooLong` where they would have 2^32 octets or more.
+    /// Appends the extensions, one after the other, in one fixed order and each with the flag that
+    /// it must have (RFC 6487 4.8). Errs with `TooLong` where they would have 2^32 octets or more.
     pub fn encode_row(&self, alloc: Global, out: &mut Vec<u8>) -> Result<(), EncodeError>
         ensures { Writes (row_part self.now) out.old.items result out.new.items }
     {

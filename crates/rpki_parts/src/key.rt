@@ -60,7 +60,7 @@ impl KeyIdentifier {
         KeyIdentifier { octets }
     }
 
-    /// Makes the identifier with these octets. Answers `None` where they aren't 20.
+    /// Makes the identifier with these octets. Returns `None` where they aren't 20.
     pub fn from_slice(octets: &[u8]) -> Option<KeyIdentifier>
         ensures twenty { IsSome result ↔ length octets.now ≡ 20 }
         ensures same { IfSome result (λ k. k ≡ octets.now) }
