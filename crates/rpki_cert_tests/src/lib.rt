@@ -8,6 +8,8 @@ mod builders;
 #[cfg(test)]
 mod certificates;
 #[cfg(test)]
+mod comparing;
+#[cfg(test)]
 mod copies;
 #[cfg(test)]
 mod cursors;
@@ -23,5 +25,7 @@ mod signing;
 mod uris;
 #[cfg(test)]
 mod verifying;
+#[cfg(test)]
+mod whole;
 #[cfg(test)]
 mod writing;
