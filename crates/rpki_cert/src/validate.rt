@@ -52,6 +52,9 @@ impl Cert {
         Ok(cert.verify_issued_at(alloc, issuer, strict, now, verifier)?)
     }
 
+    /// Uses the certificate up, also where it refuses: to ask for several kinds, call `inspect_ta`
+    /// and its kin first, which borrow it.
+    ///
     /// The trust anchor that the certificate is of: it is inspected as one, then verified as
     /// [`Cert::verify_ta_at`] says.
     pub fn validate_ta_at<V: Verifier>(
@@ -74,6 +77,9 @@ impl Cert {
         Ok(cert.verify_ta_at(alloc, tal, strict, now, verifier)?)
     }
 
+    /// Uses the certificate up, also where it refuses: to ask for several kinds, call `inspect_ta`
+    /// and its kin first, which borrow it.
+    ///
     /// The certification authority that the certificate is of, below this issuer: it is
     /// inspected as one, then verified as [`Cert::verify_ca_at`] says.
     pub fn validate_ca_at<V: Verifier>(
@@ -95,6 +101,9 @@ impl Cert {
         self.validate_issued_at(alloc, issuer, Kind::Authority, strict, now, verifier)
     }
 
+    /// Uses the certificate up, also where it refuses: to ask for several kinds, call `inspect_ta`
+    /// and its kin first, which borrow it.
+    ///
     /// The end entity whose object is named that the certificate is of, below this issuer: it is
     /// inspected as one, then verified as [`Cert::verify_ee_at`] says.
     pub fn validate_ee_at<V: Verifier>(
@@ -116,6 +125,9 @@ impl Cert {
         self.validate_issued_at(alloc, issuer, Kind::EndEntity, strict, now, verifier)
     }
 
+    /// Uses the certificate up, also where it refuses: to ask for several kinds, call `inspect_ta`
+    /// and its kin first, which borrow it.
+    ///
     /// The end entity, of which no object needs to be named, that the certificate is of, below this issuer: it is
     /// inspected as one, then verified as [`Cert::verify_ee_at`] says.
     pub fn validate_detached_ee_at<V: Verifier>(

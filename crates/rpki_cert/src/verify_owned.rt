@@ -80,6 +80,8 @@ impl Cert {
         Ok(joined(cert, kept))
     }
 
+    /// Uses the certificate up, also where it refuses; the `inspect_` calls borrow it.
+    ///
     /// The certification authority that the certificate is of, below this issuer: it is valid at this moment, names the issuer's key and where the
     /// issuer's certificate is, the issuer's key signed it, and it overclaims nothing (RFC 6487 7.2). It has what it lists or inherits of the issuer's
     /// numbers. Errs with the first of these lines that isn't true.
@@ -100,6 +102,8 @@ impl Cert {
         self.verify_issued_at(alloc, issuer, strict, now, verifier)
     }
 
+    /// Uses the certificate up, also where it refuses; the `inspect_` calls borrow it.
+    ///
     /// The end entity that the certificate is of, below this issuer; the lines are those of a certification authority.
     pub fn verify_ee_at<V: Verifier>(
         self,
@@ -141,6 +145,8 @@ impl Cert {
         Ok(self.listed_sets(alloc)?)
     }
 
+    /// Uses the certificate up, also where it refuses; [`Cert::verify_ta_ref_at`] borrows it.
+    ///
     /// The trust anchor that the certificate is of, which a locator names: it is valid at this moment, inherits nothing, and its own key signed it
     /// (RFC 6487 7.2). It has what it lists. Errs with the first of these lines that isn't true.
     pub fn verify_ta_at<V: Verifier>(
