@@ -35,7 +35,14 @@ pub enum IssueCaError<E> {
 }
 
 impl<E> IssueCaError<E> {
+    ghost use Rattle.std.specs.Prelude.{◌↔◌, ◌⊎◌, IsTrue};
+    ghost use Rattle.rpki_der.specs.declared.error.DecodeError.TheVariants as reading;
+    ghost use Rattle.rpki_der.specs.declared.error.EncodeError.TheVariants as writing;
+    ghost use Rattle.rpki_parts.specs.declared.signature.SigningError.TheVariants as signing;
     ghost use Rattle.rpki_cert.specs.Issuing.{issue_ca_error_name};
+    ghost use Rattle.rpki_cert.specs.declared.issue.IssueCaError.TheVariants.{Signing, Encode, Decode, Validation};
+    ghost use Rattle.rpki_cert.specs.declared.validation_error.ValidationError.TheVariants.{Verification};
+    ghost use Rattle.rpki_cert.specs.declared.verification_error.VerificationError.TheVariants as verifying;
 
     /// Returns the variant's name.
     pub fn name(&self) -> &'static str
@@ -46,6 +53,21 @@ impl<E> IssueCaError<E> {
             IssueCaError::Encode(_) => "Encode",
             IssueCaError::Decode(_) => "Decode",
             IssueCaError::Validation(_) => "Validation",
+        }
+    }
+
+    /// Tells whether memory ran out, in whichever step.
+    pub fn is_memory(&self) -> bool
+        ensures { IsTrue result ↔ self.now ≡ Signing signing.Memory
+            ⊎ self.now ≡ Encode writing.Memory
+            ⊎ self.now ≡ Decode reading.Memory
+            ⊎ self.now ≡ Validation (Verification verifying.Memory) }
+    {
+        match self {
+            IssueCaError::Signing(error) => error.is_memory(),
+            IssueCaError::Encode(error) => error.is_memory(),
+            IssueCaError::Decode(error) => error.is_memory(),
+            IssueCaError::Validation(error) => error.is_memory(),
         }
     }
 }

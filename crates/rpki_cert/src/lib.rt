@@ -2,6 +2,7 @@
 #![tactic(auto)]
 
 mod cert;
+pub mod comparing;
 mod extra;
 mod fields;
 mod frame;

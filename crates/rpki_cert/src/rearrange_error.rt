@@ -26,7 +26,9 @@ pub enum RearrangeError {
 }
 
 impl RearrangeError {
+    ghost use Rattle.std.specs.Prelude.{◌↔◌, IsTrue};
     ghost use Rattle.rpki_cert.specs.RearrangeErrors.{rearrange_error_name};
+    ghost use Rattle.rpki_cert.specs.declared.rearrange_error.RearrangeError.TheVariants as error;
 
     /// Returns the variant's name.
     pub fn name(&self) -> &'static str
@@ -38,6 +40,16 @@ impl RearrangeError {
             RearrangeError::KnownExtra => "KnownExtra",
             RearrangeError::TooLong => "TooLong",
             RearrangeError::Memory => "Memory",
+        }
+    }
+
+    /// Tells whether memory ran out.
+    pub fn is_memory(&self) -> bool
+        ensures { IsTrue result ↔ self.now ≡ error.Memory }
+    {
+        match self {
+            RearrangeError::Memory => true,
+            _ => false,
         }
     }
 }

@@ -17,7 +17,10 @@ pub enum ValidationError {
 }
 
 impl ValidationError {
+    ghost use Rattle.std.specs.Prelude.{◌↔◌, IsTrue};
     ghost use Rattle.rpki_cert.specs.Validation.{validation_error_name};
+    ghost use Rattle.rpki_cert.specs.declared.validation_error.ValidationError.TheVariants.{Verification};
+    ghost use Rattle.rpki_cert.specs.declared.verification_error.VerificationError.TheVariants.{Memory};
 
     /// Returns the variant's name.
     pub fn name(&self) -> &'static str
@@ -26,6 +29,16 @@ impl ValidationError {
         match self {
             ValidationError::Inspection(_) => "Inspection",
             ValidationError::Verification(_) => "Verification",
+        }
+    }
+
+    /// Tells whether memory ran out.
+    pub fn is_memory(&self) -> bool
+        ensures { IsTrue result ↔ self.now ≡ Verification Memory }
+    {
+        match self {
+            ValidationError::Inspection(_) => false,
+            ValidationError::Verification(error) => error.is_memory(),
         }
     }
 }

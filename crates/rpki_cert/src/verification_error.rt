@@ -44,7 +44,9 @@ pub enum VerificationError {
 }
 
 impl VerificationError {
+    ghost use Rattle.std.specs.Prelude.{◌↔◌, IsTrue};
     ghost use Rattle.rpki_cert.specs.Verification.{verification_error_name};
+    ghost use Rattle.rpki_cert.specs.declared.verification_error.VerificationError.TheVariants as error;
 
     /// Returns the variant's name.
     pub fn name(&self) -> &'static str
@@ -64,6 +66,16 @@ impl VerificationError {
             VerificationError::OverclaimV6 => "OverclaimV6",
             VerificationError::OverclaimAs => "OverclaimAs",
             VerificationError::Memory => "Memory",
+        }
+    }
+
+    /// Tells whether memory ran out.
+    pub fn is_memory(&self) -> bool
+        ensures { IsTrue result ↔ self.now ≡ error.Memory }
+    {
+        match self {
+            VerificationError::Memory => true,
+            _ => false,
         }
     }
 }

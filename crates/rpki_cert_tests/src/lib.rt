@@ -8,6 +8,8 @@ mod builders;
 #[cfg(test)]
 mod certificates;
 #[cfg(test)]
+mod comparing;
+#[cfg(test)]
 mod copies;
 #[cfg(test)]
 mod cursors;
@@ -27,5 +29,7 @@ mod uris;
 mod verified;
 #[cfg(test)]
 mod verifying;
+#[cfg(test)]
+mod whole;
 #[cfg(test)]
 mod writing;

@@ -64,7 +64,7 @@ entry e = enc SEQUENCE (entry_content e)
 abbrev pub entries : List Entry → List ℕ
 entries es = concat (map entry es)
 
--- the serial has at most 20 octets (RFC 5280 4.1.2.2), and the moment exists
+-- the serial is below 2^160 (RFC 5280 4.1.2.2; its INTEGER has 21 octets from 2^159 on), and the moment exists
 abbrev pub FitsEntry : Entry → Type 0
 FitsEntry e = (e.serial < 2 ^ 160) × IsMoment e.date
 

@@ -34,8 +34,8 @@ pub fn octets_are_kept()
 /// Says that what is written of fields is a TBSCertList of these fields, through every form of
 /// length, where the fields have an encoding. A list whose signed octets are that encoding is read
 /// from its own octets, where its signature names the algorithm that was asked for, and they fit.
-/// What is made of entries is read as these entries, where their serial numbers have at most 20
-/// octets and their moments exist. There are such fields.
+/// What is made of entries is read as these entries, where their serial numbers are below 2^160
+/// and their moments exist. There are such fields.
 pub fn written_is_read()
     ensures data { (f : ListFields Revoked) → ListFits f → IsTbsCertList f (list_spelling f) }
     ensures list { (r : CrlFields) → IsMadeList r

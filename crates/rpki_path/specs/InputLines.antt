@@ -13,7 +13,7 @@ use Rattle.rpki_path.specs.declared.validating.Leaf.TheVariants.{Ee, DetachedEe}
 abbrev pub revoked_line : List ℕ → List ℕ → List ℕ
 revoked_line list serial = concat (codes "revoked " ∷ list ∷ codes " " ∷ serial ∷ [])
 
--- the serial is a number of at most 20 octets (RFC 5280 4.1.2.2)
+-- the serial is a number below 2^160 (RFC 5280 4.1.2.2)
 pub record IsRevokedLine (list : List ℕ) (serial : ℕ) (line : List ℕ) : Type 0 where
   pub list_word : List ℕ
   pub serial_word : List ℕ

@@ -1,6 +1,7 @@
 //! Whole paths, and the program.
 #![tactic(auto)]
 
+pub mod comparing;
 mod exiting;
 mod input;
 pub mod laws;

@@ -28,7 +28,9 @@ pub enum PathFault {
 }
 
 impl PathFault {
+    ghost use Rattle.std.specs.Prelude.{◌↔◌, IsTrue};
     ghost use Rattle.rpki_path.specs.FaultNames.{path_fault_name};
+    ghost use Rattle.rpki_path.specs.declared.path_fault.PathFault.TheVariants.{Memory};
 
     /// Returns the variant's name.
     pub fn name(&self) -> &'static str
@@ -40,6 +42,16 @@ impl PathFault {
             PathFault::Verify(_) => "Verify",
             PathFault::Revocation(_) => "Revocation",
             PathFault::Memory => "Memory",
+        }
+    }
+
+    /// Tells whether memory ran out.
+    pub fn is_memory(&self) -> bool
+        ensures { IsTrue result ↔ self.now ≡ Memory }
+    {
+        match self {
+            PathFault::Memory => true,
+            _ => false,
         }
     }
 }
@@ -124,12 +136,20 @@ pub struct PathError {
 }
 
 impl PathError {
-    ghost use Rattle.std.specs.Prelude.{codes};
+    ghost use Rattle.std.specs.Prelude.{codes, ◌↔◌, IsTrue};
+    ghost use Rattle.rpki_path.specs.declared.path_fault.PathFault.TheVariants.{Memory};
 
     /// Returns the type's name.
     pub fn name(&self) -> &'static str
         ensures { result.now ≡ codes "PathError" }
     {
         "PathError"
+    }
+
+    /// Tells whether memory ran out.
+    pub fn is_memory(&self) -> bool
+        ensures { IsTrue result ↔ self.now.fault ≡ Memory }
+    {
+        self.fault.is_memory()
     }
 }

@@ -43,8 +43,9 @@ pub enum RunFault {
 }
 
 impl RunFault {
-    ghost use Rattle.std.specs.Prelude.{◌≡◌};
+    ghost use Rattle.std.specs.Prelude.{◌≡◌, ◌↔◌, IsTrue};
     ghost use Rattle.rpki_path.specs.FaultNames.{run_fault_name};
+    ghost use Rattle.rpki_path.specs.declared.running.RunFault.TheVariants as fault;
 
     /// Returns the variant's name.
     pub fn name(&self) -> &'static str
@@ -55,6 +56,16 @@ impl RunFault {
             RunFault::Write => "Write",
             RunFault::Memory => "Memory",
             RunFault::TooLong => "TooLong",
+        }
+    }
+
+    /// Tells whether memory ran out.
+    pub fn is_memory(&self) -> bool
+        ensures { IsTrue result ↔ self.now ≡ fault.Memory }
+    {
+        match self {
+            RunFault::Memory => true,
+            _ => false,
         }
     }
 }

@@ -1,5 +1,5 @@
 //! The line that answers a question.
-use rpki_der::{Cursor, DecodeError, EncodeError, Field};
+use rpki_der::{Cursor, DecodeError, EncodeError, Field, Oid};
 use std::alloc::{AllocError, Global};
 
 const DIGITS: [&str; 16] = [
@@ -136,11 +136,10 @@ impl Answer {
         self.formed(made);
     }
 
-    // The identifier of an extension that was rejected.
-    fn about_identifier(&mut self, octets: &[u8]) {
-        self.text("(");
-        self.octets(octets);
-        self.text(")");
+    // The text of the identifier of an extension that was rejected.
+    fn about_identifier(&mut self, id: &Oid) {
+        let made = format!(in self.alloc; "({id})");
+        self.formed(made);
     }
 
     /// Appends why octets were rejected, and what that speaks of.
@@ -153,7 +152,7 @@ impl Answer {
             | DecodeError::NotCritical(field)
             | DecodeError::WrongResources(field) => self.about(*field),
             DecodeError::UnexpectedCritical(id) | DecodeError::InvalidExtension(id) => {
-                self.about_identifier(id.as_bytes());
+                self.about_identifier(id);
             }
             _ => {}
         }
