@@ -69,7 +69,7 @@ fn rounds_of(
     rounds
 }
 
-// The same under an issuer, where `validates` says so.
+// Reads the certificate so many times, and validates it under the issuer where `validates` says so.
 fn rounds_under(
     alloc: Global,
     octets: &Bytes,

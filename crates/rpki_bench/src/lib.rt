@@ -14,7 +14,7 @@ use rpki_cert::Cert;
 use rpki_der::DecodeError;
 use std::alloc::Global;
 
-/// Whether the octets begin with a certificate: 1 if they do, 0 if they don't, 2 if memory was wanted.
+/// Decodes the certificate at the start of the octets: 1 if there is one, 0 if not, 2 if out of memory.
 #[unsafe(no_mangle)]
 pub extern "C" fn rpki_decode(alloc: Global, octets: &[u8]) -> u32
     ensures { result ≤ 2 }

@@ -41,7 +41,7 @@ fn assert_copy(rt: &impl Abort, alloc: Global, copy: Result<Cert, AllocError>, o
     drop(copy);
 }
 
-// The same of the certificate and of its copy.
+// Compares the answers for a certificate with those for its copy.
 fn assert_both(rt: &impl Abort, alloc: Global, cert: &Cert, octets: &[u8]) {
     assert_same(rt, alloc, cert, octets);
     assert_copy(rt, alloc, cert.try_clone(alloc), octets);

@@ -1,4 +1,4 @@
-//! The program once more, for a stored run with another exit status.
+//! The program, for a stored run with another exit status.
 #![tactic(auto)]
 
 use rpki_path::{Watched, program};

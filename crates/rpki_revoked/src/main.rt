@@ -1,4 +1,4 @@
-//! The program once more, for a stored run of its other question: whether a list has a serial number.
+//! The program, for a stored run of its other question: whether a list has a serial number.
 #![tactic(auto)]
 
 use rpki_path::{Watched, program};

@@ -71,7 +71,7 @@ fn a_certificate_outlives_its_octets(rt: HostRuntime) {
     assert_anchor_found(&rt, rt.alloc(), found);
 }
 
-// The same of a list.
+// The list, when the first handle on its octets was dropped.
 fn outliving_list(rt: &impl Abort, alloc: Global, octets: Bytes) -> Result<Crl, DecodeError> {
     let list = Crl::decode_shared(alloc, second(rt, &octets));
     drop(octets);

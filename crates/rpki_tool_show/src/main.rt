@@ -1,4 +1,4 @@
-//! The command once more, for a stored run of its own.
+//! The command, for a stored run of `show`.
 #![tactic(auto)]
 
 use anyhow::Result;
