@@ -10,4 +10,4 @@ pub mod Addresses
 pub mod Systems
 pub mod ResourceExtensions
 pub mod IssueErrorNames
-pub mod Texts
+pub mod ResourceTexts

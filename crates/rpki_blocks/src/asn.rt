@@ -1,6 +1,6 @@
 //! AS numbers.
 ghost use Rattle.std.specs.Prelude.{◌≡◌, ◌-◌, ◌^◌, refl, Some};
-ghost use Rattle.rpki_blocks.specs.Texts.{as_text};
+ghost use Rattle.rpki_blocks.specs.ResourceTexts.{as_text};
 
 use crate::bound::Bound;
 use std::fmt;
