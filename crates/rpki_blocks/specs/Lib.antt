@@ -10,3 +10,4 @@ pub mod Addresses
 pub mod Systems
 pub mod ResourceExtensions
 pub mod IssueErrorNames
+pub mod ResourceTexts

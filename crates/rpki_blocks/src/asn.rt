@@ -1,7 +1,9 @@
 //! AS numbers.
-ghost use Rattle.std.specs.Prelude.{◌≡◌, ◌-◌, ◌^◌, refl};
+ghost use Rattle.std.specs.Prelude.{◌≡◌, ◌-◌, ◌^◌, refl, Some};
+ghost use Rattle.rpki_blocks.specs.ResourceTexts.{as_text};
 
 use crate::bound::Bound;
+use std::fmt;
 use std::marker::Model;
 
 /// The number of an autonomous system, of 32 bits (RFC 6793).
@@ -42,6 +44,16 @@ impl From<u32> for Asn {
 
     fn from(number: u32) -> Asn {
         Asn(number)
+    }
+}
+
+/// `AS` and the number in decimal digits, as `AS64496` (RFC 5396).
+impl fmt::Display for Asn {
+    ghost output = { λ a. Some (as_text a) };
+
+    fn fmt<W: fmt::Write>(&self, f: &mut fmt::Formatter<W>) -> fmt::Result {
+        let number = self.0;
+        write!(f, "AS{number}")
     }
 }
 

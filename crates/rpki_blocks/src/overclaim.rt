@@ -1,10 +1,12 @@
 //! Whether a certificate may list more than its issuer has.
-ghost use Rattle.std.specs.Prelude.{◌≡◌};
+ghost use Rattle.std.specs.Prelude.{◌≡◌, Some};
 ghost use Rattle.rpki_der.specs.Primitives.{IsOid};
 ghost use Rattle.rpki_blocks.specs.Overclaims.{ip_identifier, as_identifier, policy_identifier, IsNamed};
+ghost use Rattle.rpki_blocks.specs.ResourceTexts.{overclaim_text};
 ghost use Rattle.rpki_blocks.specs.Overclaims.Reading.{which, named};
 
 use rpki_der::oid;
+use std::fmt;
 
 /// What becomes of a certificate that lists more than its issuer has.
 #[derive(Debug, Clone, Copy, PartialEq, Eq, Hash)]
@@ -85,6 +87,18 @@ impl Overclaim {
             oid::PE_AUTONOMOUS_SYS_IDS,
             oid::PE_AUTONOMOUS_SYS_IDS_V2,
         )
+    }
+}
+
+/// `refuse` or `trim`.
+impl fmt::Display for Overclaim {
+    ghost output = { λ it. Some (overclaim_text it) };
+
+    fn fmt<W: fmt::Write>(&self, f: &mut fmt::Formatter<W>) -> fmt::Result {
+        f.write_str(match self {
+            Overclaim::Refuse => "refuse",
+            Overclaim::Trim => "trim",
+        })
     }
 }
 

@@ -17,6 +17,7 @@ mod serial;
 mod simple;
 mod skip;
 pub mod tag;
+mod text;
 mod time;
 
 pub use cursor::Cursor;
@@ -26,4 +27,5 @@ pub use oid::Oid;
 pub use piece::Piece;
 pub use put::{MAX_LEN, put_bits, put_bool, put_oid, put_parts, put_unsigned, put_value};
 pub use serial::Serial;
+pub use text::write_hexadecimal;
 pub use time::Time;

@@ -1,13 +1,14 @@
 //! Serial numbers.
 ghost use Rattle.std.specs.Prelude.{◌≡◌, ◌↔◌, ◌+◌, ◌*◌, ◌^◌, ◌<◌, ◌≤◌, ◌++◌, ℕ, true, OnOk, OnErr, length, slice_index, IsSome, IfSome, IfErr, Some, nat_eq};
 ghost use Rattle.std.specs.Ordering.{nat_cmp};
-ghost use Rattle.std.specs.Int.Digits.{number_from_digits};
+ghost use Rattle.std.specs.Int.Digits.{digits_of, number_from_digits};
 ghost use Rattle.std.proofs.Common.{rules};
 ghost use Rattle.std.specs.Cmp.Rules.{comparing};
 ghost use Rattle.rpki_der.specs.Place.{Place, left, Keeps, Answers};
 ghost use Rattle.rpki_der.specs.Place.Reading.{Took, Returns};
 ghost use Rattle.rpki_der.specs.Values.{AreOctets};
 ghost use Rattle.rpki_der.specs.Serials.{IsSerial};
+ghost use Rattle.rpki_der.specs.Texts.{serial_text, at_least_one};
 ghost use Rattle.rpki_der.specs.Primitives.{number};
 ghost use Rattle.rpki_der.specs.Serials.Reading.{serial_of, serial_at};
 ghost use Rattle.rpki_der.specs.Primitives.Reading.{is_unsigned};
@@ -15,11 +16,13 @@ ghost use Rattle.rpki_der.specs.declared.error.EncodeError.TheVariants.{Memory};
 
 use crate::cursor::Cursor;
 use crate::error::{DecodeError, EncodeError};
-use crate::integer::is_unsigned;
+use crate::integer::{is_unsigned, significant};
 use crate::put::put_unsigned;
 use crate::tag;
+use crate::text::write_hexadecimal;
 use std::alloc::Global;
 use std::cmp::Ordering;
+use std::fmt;
 use std::marker::Model;
 
 // What the highest octet of the low half counts: 2^120.
@@ -144,6 +147,23 @@ fn serial_in(content: &[u8]) -> Result<Serial, DecodeError>
         return Err(DecodeError::BadValue);
     }
     Serial::from_slice(content).ok_or(DecodeError::BadValue)
+}
+
+// The octets that count, at least one.
+fn shown(octets: &[u8]) -> &[u8]
+    ensures { result.now ≡ at_least_one (digits_of 256 (number_from_digits 256 octets.now)) }
+{
+    let digits = significant(octets);
+    if digits.is_empty() { &[0] } else { digits }
+}
+
+/// The octets that the number has, at least one, in upper-case hexadecimal digits, as `01F4`.
+impl fmt::Display for Serial {
+    ghost output = { λ n. Some (serial_text n) };
+
+    fn fmt<W: fmt::Write>(&self, f: &mut fmt::Formatter<W>) -> fmt::Result {
+        write_hexadecimal(f, shown(&self.octets()))
+    }
 }
 
 impl PartialEq for Serial {

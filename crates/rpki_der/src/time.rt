@@ -1,5 +1,5 @@
 //! Times.
-ghost use Rattle.std.specs.Prelude.{◌≡◌, ◌↔◌, ◌++◌, ◌/◌, ◌%◌, ◌<◌, ◌≤◌, List, pos, ◌≤ℤ◌, unsigned_abs, nat_eq, OnOk, OnErr, IsSome, IfSome, IfNone, IsOk, IfOk, IfErr};
+ghost use Rattle.std.specs.Prelude.{◌≡◌, ◌↔◌, ◌++◌, ◌/◌, ◌%◌, ◌<◌, ◌≤◌, List, pos, ◌≤ℤ◌, unsigned_abs, nat_eq, OnOk, OnErr, IsSome, IfSome, IfNone, Some, IsOk, IfOk, IfErr};
 ghost use Rattle.std.specs.Ordering.{nat_cmp, on, as_partial_cmp};
 ghost use Rattle.std.specs.Cmp.{partial_order_from_own_ties};
 ghost use Rattle.std.proofs.Common.{rules};
@@ -12,6 +12,8 @@ ghost use Rattle.rpki_der.specs.Place.{Place, left, Keeps, Answers};
 ghost use Rattle.rpki_der.specs.Place.Reading.{Took, Returns, ReturnsBy};
 ghost use Rattle.rpki_der.specs.Values.{AreOctets};
 ghost use Rattle.rpki_der.specs.Times.{Moment, moment, IsMoment, IsTime, second_number, two, after_year, fourteen_digits, time};
+ghost use Rattle.std.specs.Fmt.{WritesOnOk};
+ghost use Rattle.rpki_der.specs.Texts.{date_text, clock_text, time_text};
 ghost use Rattle.rpki_der.specs.declared.error.EncodeError.TheVariants.{Memory};
 ghost use Rattle.rpki_der.specs.Times.Reading.{two_at, after_year_of, utc_of, moment_at, generalized_of, time_at};
 
@@ -19,9 +21,11 @@ use crate::cursor::Cursor;
 use crate::error::{DecodeError, EncodeError};
 use crate::put::put_value;
 use crate::tag;
+use crate::text::write_two;
 use jiff_core::civil::{Date, DateTime, Time as Clock};
 use std::alloc::Global;
 use std::cmp::Ordering;
+use std::fmt;
 use std::marker::Model;
 
 // What ends the text of a time of DER.
@@ -248,6 +252,30 @@ impl Time {
         ]
     }
 
+    fn write_date<W: fmt::Write>(&self, f: &mut fmt::Formatter<W>) -> fmt::Result
+        ensures { WritesOnOk W.write_str_gives f.old result (date_text self.now) f.new }
+    {
+        let year = self.year();
+        let date = self.inner.date;
+        write_two(f, (year / 100) as u8)?;
+        write_two(f, (year % 100) as u8)?;
+        f.write_str("-")?;
+        write_two(f, date.month)?;
+        f.write_str("-")?;
+        write_two(f, date.day)
+    }
+
+    fn write_clock<W: fmt::Write>(&self, f: &mut fmt::Formatter<W>) -> fmt::Result
+        ensures { WritesOnOk W.write_str_gives f.old result (clock_text self.now) f.new }
+    {
+        let time = self.inner.time;
+        write_two(f, time.hour)?;
+        f.write_str(":")?;
+        write_two(f, time.minute)?;
+        f.write_str(":")?;
+        write_two(f, time.second)
+    }
+
     /// Appends the time: as UTCTime in the years 1950 to 2049, else as GeneralizedTime (RFC 5280
     /// 4.1.2.5). The only error is `Memory`.
     pub fn encode_varied(&self, _alloc: Global, out: &mut Vec<u8>) -> Result<(), EncodeError>
@@ -337,6 +365,18 @@ fn generalized_time(text: &[u8]) -> Result<Time, DecodeError>
     ensures { Returns result (generalized_of text.now) }
 {
     four_digit_year(text, END)
+}
+
+/// The date and the time of day in UTC, as `2026-11-25T06:00:00Z` (ISO 8601).
+impl fmt::Display for Time {
+    ghost output = { λ m. Some (time_text m) };
+
+    fn fmt<W: fmt::Write>(&self, f: &mut fmt::Formatter<W>) -> fmt::Result {
+        self.write_date(f)?;
+        f.write_str("T")?;
+        self.write_clock(f)?;
+        f.write_str("Z")
+    }
 }
 
 impl PartialEq for Time {
