@@ -1,6 +1,6 @@
 -- What is verified of a certificate, line by line (RFC 6487 7.2, RFC 8360 4.2.4.4; own: the order of the lines, and that revocation and the
 -- chaining of names are the caller's to ask).
-use Rattle.std.specs.Prelude.{◌≡◌, ◌≢◌, ◌↔◌, ◌⊎◌, ◌≤◌, ◌^◌, ◌-◌, ℕ, Bool, List, [], ◌∷◌, IsSome, IfSome, codes}
+use Rattle.std.specs.Prelude.{◌≡◌, ◌≢◌, ◌↔◌, ◌⊎◌, ◌≤◌, ◌^◌, ◌-◌, ℕ, Bool, List, [], ◌∷◌, IsSome, IfSome, Result, Ok, Err, codes}
 use Rattle.std.specs.List.{AllByRecursion}
 use Rattle.rpki_der.specs.Times.{Moment}
 use Rattle.rpki_blocks.specs.Sets.{Block, Has}
@@ -126,6 +126,11 @@ IsVerified line lines = AllByRecursion line lines
 -- the first of them that isn't true; or memory was wanted
 abbrev pub IsFirstFalseOrMemory : (VerificationError → Type 0) → List VerificationError → VerificationError → Type 0
 IsFirstFalseOrMemory line lines e = (e ≡ Memory) ⊎ IsFirstFalse line lines e
+
+-- what a test of these lines answers that may want memory: Ok where all are true, else the first that isn't, or that memory was wanted
+abbrev pub TestsOrMemory : {T : Type 0} → (VerificationError → Type 0) → List VerificationError → Result T VerificationError → Type 0
+TestsOrMemory line lines (Ok v) = IsVerified line lines
+TestsOrMemory line lines (Err e) = IsFirstFalseOrMemory line lines e
 
 -- ---- what a certificate that was verified has
 
