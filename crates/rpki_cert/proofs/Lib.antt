@@ -6,6 +6,7 @@ pub mod Exclusive
 pub mod Testing
 pub mod Lines
 pub mod IssuedNumbers
+pub mod Verdicts
 pub mod ReadAgain
 pub mod Reordering
 pub mod Permutations

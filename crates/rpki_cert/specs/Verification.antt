@@ -3,7 +3,7 @@
 use Rattle.std.specs.Prelude.{◌≡◌, ◌≢◌, ◌↔◌, ◌⊎◌, ◌≤◌, ◌^◌, ◌-◌, ℕ, Bool, List, [], ◌∷◌, IsSome, IfSome, Result, Ok, Err, codes}
 use Rattle.std.specs.List.{AllByRecursion}
 use Rattle.rpki_der.specs.Times.{Moment}
-use Rattle.rpki_blocks.specs.Sets.{Block, Has}
+use Rattle.rpki_blocks.specs.Sets.{Block, Has, IsSet}
 use Rattle.rpki_blocks.specs.Resources.{Resources, inherit}
 use Rattle.rpki_blocks.specs.IssuedSets.{IsListed, IsIssued}
 use Rattle.rpki_blocks.specs.declared.overclaim.Overclaim.{Overclaim}
@@ -132,6 +132,20 @@ abbrev pub TestsOrMemory : {T : Type 0} → (VerificationError → Type 0) → L
 TestsOrMemory line lines (Ok v) = IsVerified line lines
 TestsOrMemory line lines (Err e) = IsFirstFalseOrMemory line lines e
 
+-- two answers are alike, out of memory aside: both are Ok, or both are Err with one error
+abbrev pub AreAlike : {S T : Type 0} → Result S VerificationError → Result T VerificationError → Type 0
+AreAlike (Ok v) (Ok w) = Unit {0}
+AreAlike (Ok v) (Err e) = e ≡ Memory
+AreAlike (Err e) (Ok v) = e ≡ Memory
+AreAlike (Err e) (Err f) = (e ≡ f) ⊎ ((e ≡ Memory) ⊎ (f ≡ Memory))
+
+-- the second answer is the first, or that memory was wanted
+abbrev pub IsAnswerOrMemory : {S T : Type 0} → Result S VerificationError → Result T VerificationError → Type 0
+IsAnswerOrMemory (Ok v) (Ok w) = Unit {0}
+IsAnswerOrMemory (Ok v) (Err e) = e ≡ Memory
+IsAnswerOrMemory (Err e) (Ok v) = ⊥
+IsAnswerOrMemory (Err e) (Err f) = (f ≡ e) ⊎ (f ≡ Memory)
+
 -- ---- what a certificate that was verified has
 
 -- what a contract sees of a ResourceCert: the certificate, its sets of numbers, and the name of the trust anchor locator
@@ -173,6 +187,12 @@ pub record HasIssued (c : CertFields) (issuer : ResourceFields) (r : ResourceFie
   pub v6_is : IsIssued issuer.v6 c.fields.extensions.v6_resources r.v6
   pub as_is : IsIssued issuer.as_numbers c.fields.extensions.as_resources r.as_numbers
   pub tal_is : r.tal ≡ issuer.tal
+
+-- its sets are lists of blocks as a ResourceCert keeps them: one list for each set
+pub record HasSets (r : ResourceFields) : Type 0 where
+  pub v4_is : IsSet (2 ^ 128 - 1) r.v4
+  pub v6_is : IsSet (2 ^ 128 - 1) r.v6
+  pub as_is : IsSet (2 ^ 32 - 1) r.as_numbers
 
 -- ---- names
 
