@@ -8,6 +8,7 @@ pub mod Lines
 pub mod IssuedNumbers
 pub mod Verdicts
 pub mod ReadAgain
+pub mod SurelyIssued
 pub mod Reordering
 pub mod Permutations
 pub mod SameExtensions

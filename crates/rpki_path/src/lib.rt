@@ -3,6 +3,7 @@
 
 mod exiting;
 mod input;
+pub mod issuing;
 pub mod laws;
 mod lines;
 mod path_fault;
