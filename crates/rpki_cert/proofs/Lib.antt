@@ -6,7 +6,9 @@ pub mod Exclusive
 pub mod Testing
 pub mod Lines
 pub mod IssuedNumbers
+pub mod Verdicts
 pub mod ReadAgain
+pub mod SurelyIssued
 pub mod Reordering
 pub mod Permutations
 pub mod SameExtensions

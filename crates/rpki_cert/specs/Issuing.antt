@@ -9,11 +9,14 @@ use Rattle.rpki_parts.specs.Signatures.{SignatureFields}
 use Rattle.rpki_parts.specs.SignedDatas.{SignedFields, signed_data, signed_pieces}
 use Rattle.rpki_parts.specs.Signing.{IsRefusal}
 use Rattle.rpki_parts.specs.declared.signature.SigningError.{SigningError}
+use Rattle.rpki_parts.specs.declared.signature.SigningError.TheVariants as signing
 use Rattle.rpki_ext.specs.Kinds.{Means}
 use Rattle.rpki_cert.specs.Certificates.{TbsFields, CertFields, CanBeWritten, IsCertificate, tbs_content, spelling}
 use Rattle.rpki_cert.specs.declared.issue.IssueCaError.{IssueCaError}
 use Rattle.rpki_cert.specs.declared.issue.IssueCaError.TheVariants.{Signing, Encode, Decode, Validation}
 use Rattle.rpki_cert.specs.declared.validation_error.ValidationError.{ValidationError}
+use Rattle.rpki_cert.specs.declared.validation_error.ValidationError.TheVariants.{Verification}
+use Rattle.rpki_cert.specs.declared.verification_error.VerificationError.TheVariants as verifying
 
 -- the signed data is made of the fields, with a signer that may give these answers, and isn't too
 -- long
@@ -68,7 +71,20 @@ IsNotReadAgain s (Encode writing.Memory) = Unit {0}
 IsNotReadAgain s (Decode e) = Refuses e (IsUnreadable s)
 IsNotReadAgain s (Validation e) = ⊥
 
--- the name of the error
+-- what is made of the fields with this signature
+abbrev pub made_with : TbsFields → SignatureFields → CertFields
+made_with f s = record { fields = f; signed_data = record { message = spelling f; signature = s } }
+
+-- memory was wanted, in whichever of the steps
+abbrev pub IsMemory : {E : Type 0} → IssueCaError E → Type 0
+IsMemory (Signing signing.Memory) = Unit {0}
+IsMemory (Encode writing.Memory) = Unit {0}
+IsMemory (Decode reading.Memory) = Unit {0}
+IsMemory (Validation (Verification verifying.Memory)) = Unit {0}
+IsMemory _ = ⊥
+
+-- ---- names
+
 abbrev pub issue_ca_error_name : {E : Type 0} → IssueCaError E → List ℕ
 issue_ca_error_name (Signing e) = codes "Signing"
 issue_ca_error_name (Encode e) = codes "Encode"

@@ -1,9 +1,9 @@
--- What is verified of a certificate, check by check (RFC 6487 7.2, RFC 8360 4.2.4.4; own: the order
--- of the checks, and that revocation and the chaining of names are the caller's to ask).
-use Rattle.std.specs.Prelude.{◌≡◌, ◌≢◌, ◌↔◌, ◌⊎◌, ◌≤◌, ◌^◌, ◌-◌, ℕ, Bool, List, [], ◌∷◌, IsSome, IfSome, codes}
+-- What is verified of a certificate, line by line (RFC 6487 7.2, RFC 8360 4.2.4.4; own: the order of the lines, and that revocation and the
+-- chaining of names are the caller's to ask).
+use Rattle.std.specs.Prelude.{◌≡◌, ◌≢◌, ◌↔◌, ◌⊎◌, ◌≤◌, ◌^◌, ◌-◌, ℕ, Bool, List, [], ◌∷◌, IsSome, IfSome, Result, Ok, Err, codes}
 use Rattle.std.specs.List.{AllByRecursion}
 use Rattle.rpki_der.specs.Times.{Moment}
-use Rattle.rpki_blocks.specs.Sets.{Block, Has}
+use Rattle.rpki_blocks.specs.Sets.{Block, Has, IsSet}
 use Rattle.rpki_blocks.specs.Resources.{Resources, inherit}
 use Rattle.rpki_blocks.specs.IssuedSets.{IsListed, IsIssued}
 use Rattle.rpki_blocks.specs.declared.overclaim.Overclaim.{Overclaim}
@@ -135,6 +135,25 @@ IsVerified line lines = AllByRecursion line lines
 abbrev pub IsFirstFalseOrMemory : (VerificationError → Type 0) → List VerificationError → VerificationError → Type 0
 IsFirstFalseOrMemory line lines e = (e ≡ Memory) ⊎ IsFirstFalse line lines e
 
+-- what a test of these lines answers that may want memory: Ok where all are true, else the first that isn't, or that memory was wanted
+abbrev pub TestsOrMemory : {T : Type 0} → (VerificationError → Type 0) → List VerificationError → Result T VerificationError → Type 0
+TestsOrMemory line lines (Ok v) = IsVerified line lines
+TestsOrMemory line lines (Err e) = IsFirstFalseOrMemory line lines e
+
+-- two answers are alike, out of memory aside: both are Ok, or both are Err with one error
+abbrev pub AreAlike : {S T : Type 0} → Result S VerificationError → Result T VerificationError → Type 0
+AreAlike (Ok v) (Ok w) = Unit {0}
+AreAlike (Ok v) (Err e) = e ≡ Memory
+AreAlike (Err e) (Ok v) = e ≡ Memory
+AreAlike (Err e) (Err f) = (e ≡ f) ⊎ ((e ≡ Memory) ⊎ (f ≡ Memory))
+
+-- the second answer is the first, or that memory was wanted
+abbrev pub IsAnswerOrMemory : {S T : Type 0} → Result S VerificationError → Result T VerificationError → Type 0
+IsAnswerOrMemory (Ok v) (Ok w) = Unit {0}
+IsAnswerOrMemory (Ok v) (Err e) = e ≡ Memory
+IsAnswerOrMemory (Err e) (Ok v) = ⊥
+IsAnswerOrMemory (Err e) (Err f) = (f ≡ e) ⊎ (f ≡ Memory)
+
 -- ---- what a certificate that was verified has
 
 -- what a contract sees of a ResourceCert: the certificate, its sets of numbers, and the name of the
@@ -178,6 +197,12 @@ pub record HasIssued (c : CertFields) (issuer : ResourceFields) (r : ResourceFie
   pub v6_is : IsIssued issuer.v6 c.fields.extensions.v6_resources r.v6
   pub as_is : IsIssued issuer.as_numbers c.fields.extensions.as_resources r.as_numbers
   pub tal_is : r.tal ≡ issuer.tal
+
+-- its sets are lists of blocks as a ResourceCert keeps them: one list for each set
+pub record HasSets (r : ResourceFields) : Type 0 where
+  pub v4_is : IsSet (2 ^ 128 - 1) r.v4
+  pub v6_is : IsSet (2 ^ 128 - 1) r.v6
+  pub as_is : IsSet (2 ^ 32 - 1) r.as_numbers
 
 -- ---- names
 

@@ -3,9 +3,8 @@ ghost use Rattle.std.specs.Prelude.{◌≡◌, Ok, IfOk, IfErr};
 ghost use Rattle.rpki_parts.specs.SignedDatas.{signed_data};
 ghost use Rattle.rpki_cert.specs.Certificates.{TbsFields, CanBeWritten, IsCertificate, IsMade, spelling};
 ghost use Rattle.rpki_cert.specs.Issuing.{IsNotMade, IsNotReadAgain, IsNotIssued, IsNoReadingFault};
-ghost use Rattle.rpki_cert.specs.Profiles.{MeetsProfile};
-ghost use Rattle.rpki_cert.specs.Validation.{IsInvalid};
-ghost use Rattle.rpki_cert.specs.Verification.{context, LineUnder, IsVerified, IsFirstFalseOrMemory, HasIssued, issued_lines};
+ghost use Rattle.rpki_cert.specs.Validation.{IsValidBelow, IsInvalidBelow};
+ghost use Rattle.rpki_cert.specs.Verification.{context};
 ghost use Rattle.rpki_cert.specs.declared.inspect.Kind.TheVariants.{Authority};
 
 use crate::cert::Cert;
@@ -142,14 +141,11 @@ pub fn issue_ca<S: Signer, V: Verifier>(
     ensures signed { CanBeWritten tbs → IfOk result
         (λ r. S.signs signer.now key.now tbs.algorithm (spelling tbs)
         (Ok r.cert.signed_data.signature)) }
-    ensures profile { IfOk result (λ r. MeetsProfile Authority strict r.cert) }
-    ensures lines { let x = context (V.verifies verifier.now) now strict in
-        IfOk result (λ r. IsVerified (LineUnder x issuer.now r.cert) issued_lines) }
-    ensures gives { IfOk result (λ r. HasIssued r.cert issuer.now r) }
+    ensures valid { let x = context (V.verifies verifier.now) now strict in
+        IfOk result (λ r. IsValidBelow x issuer.now Authority r.cert r) }
     ensures refused { let x = context (V.verifies verifier.now) now strict in
         IfErr result (IsNotIssued tbs (S.signs signer.now key.now tbs.algorithm (spelling tbs))
-        (λ c. IsInvalid Authority strict c
-        (IsFirstFalseOrMemory (LineUnder x issuer.now c) issued_lines))) }
+        (IsInvalidBelow x issuer.now Authority)) }
     ensures readable { CanBeWritten tbs → IfErr result IsNoReadingFault }
 {
     match make_and_read(alloc, tbs, signer, key) {

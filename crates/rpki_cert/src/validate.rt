@@ -4,8 +4,8 @@ ghost use Rattle.std.specs.Prelude.{◌≡◌, OnOk, IfOk, IfErr};
 ghost use Rattle.std.proofs.Common.{rc_value};
 ghost use Rattle.rpki_parts.specs.Conditions.{IsFirstFalse};
 ghost use Rattle.rpki_cert.specs.Profiles.{MeetsProfile, IsFirstFault};
-ghost use Rattle.rpki_cert.specs.Verification.{context, LineUnder, AnchorLine, IsVerified, IsFirstFalseOrMemory, HasListed, HasIssued, issued_lines, anchor_lines, router_lines};
-ghost use Rattle.rpki_cert.specs.Validation.{IsInvalid};
+ghost use Rattle.rpki_cert.specs.Verification.{context, LineUnder, IsVerified, router_lines};
+ghost use Rattle.rpki_cert.specs.Validation.{IsInvalid, IsValidAnchor, IsInvalidAnchor, IsValidBelow, IsInvalidBelow};
 ghost use Rattle.rpki_cert.specs.declared.inspect.Kind.TheVariants.{Anchor, Authority, EndEntity, Detached, Router};
 
 use crate::cert::Cert;
@@ -40,16 +40,13 @@ impl Cert {
         now: Time,
         verifier: &V,
     ) -> Result<ResourceCert, ValidationError>
-        ensures profile { OnOk result (MeetsProfile kind strict self) }
-        ensures lines { let x = context (V.verifies verifier.now) now strict in
-            OnOk result (IsVerified (LineUnder x issuer.now self) issued_lines) }
-        ensures gives { IfOk result (HasIssued self issuer.now) }
+        ensures ok { let x = context (V.verifies verifier.now) now strict in
+            IfOk result (IsValidBelow x issuer.now kind self) }
         ensures fault { let x = context (V.verifies verifier.now) now strict in
-            IfErr result (IsInvalid kind strict self
-            (IsFirstFalseOrMemory (LineUnder x issuer.now self) issued_lines)) }
+            IfErr result (IsInvalidBelow x issuer.now kind self) }
     {
         let cert = self.inspected(kind, strict)?;
-        Ok(cert.verify_issued_at(alloc, issuer, strict, now, verifier)?)
+        Ok(cert.verify_ca_at(alloc, issuer, strict, now, verifier)?)
     }
 
     /// Uses the certificate up, also where it is rejected, and validates it as one of a trust
@@ -63,13 +60,10 @@ impl Cert {
         now: Time,
         verifier: &V,
     ) -> Result<ResourceCert, ValidationError>
-        ensures profile { OnOk result (MeetsProfile Anchor strict self) }
-        ensures lines { let x = context (V.verifies verifier.now) now strict in
-            OnOk result (IsVerified (AnchorLine x self) anchor_lines) }
-        ensures gives { IfOk result (HasListed self (rc_value tal)) }
+        ensures ok { let x = context (V.verifies verifier.now) now strict in
+            IfOk result (IsValidAnchor x (rc_value tal) self) }
         ensures fault { let x = context (V.verifies verifier.now) now strict in
-            IfErr result (IsInvalid Anchor strict self
-            (IsFirstFalseOrMemory (AnchorLine x self) anchor_lines)) }
+            IfErr result (IsInvalidAnchor x self) }
     {
         let cert = self.inspected(Kind::Anchor, strict)?;
         Ok(cert.verify_ta_at(alloc, tal, strict, now, verifier)?)
@@ -86,13 +80,10 @@ impl Cert {
         now: Time,
         verifier: &V,
     ) -> Result<ResourceCert, ValidationError>
-        ensures profile { OnOk result (MeetsProfile Authority strict self) }
-        ensures lines { let x = context (V.verifies verifier.now) now strict in
-            OnOk result (IsVerified (LineUnder x issuer.now self) issued_lines) }
-        ensures gives { IfOk result (HasIssued self issuer.now) }
+        ensures ok { let x = context (V.verifies verifier.now) now strict in
+            IfOk result (IsValidBelow x issuer.now Authority self) }
         ensures fault { let x = context (V.verifies verifier.now) now strict in
-            IfErr result (IsInvalid Authority strict self
-            (IsFirstFalseOrMemory (LineUnder x issuer.now self) issued_lines)) }
+            IfErr result (IsInvalidBelow x issuer.now Authority self) }
     {
         self.validate_issued_at(alloc, issuer, Kind::Authority, strict, now, verifier)
     }
@@ -109,13 +100,10 @@ impl Cert {
         now: Time,
         verifier: &V,
     ) -> Result<ResourceCert, ValidationError>
-        ensures profile { OnOk result (MeetsProfile EndEntity strict self) }
-        ensures lines { let x = context (V.verifies verifier.now) now strict in
-            OnOk result (IsVerified (LineUnder x issuer.now self) issued_lines) }
-        ensures gives { IfOk result (HasIssued self issuer.now) }
+        ensures ok { let x = context (V.verifies verifier.now) now strict in
+            IfOk result (IsValidBelow x issuer.now EndEntity self) }
         ensures fault { let x = context (V.verifies verifier.now) now strict in
-            IfErr result (IsInvalid EndEntity strict self
-            (IsFirstFalseOrMemory (LineUnder x issuer.now self) issued_lines)) }
+            IfErr result (IsInvalidBelow x issuer.now EndEntity self) }
     {
         self.validate_issued_at(alloc, issuer, Kind::EndEntity, strict, now, verifier)
     }
@@ -132,13 +120,10 @@ impl Cert {
         now: Time,
         verifier: &V,
     ) -> Result<ResourceCert, ValidationError>
-        ensures profile { OnOk result (MeetsProfile Detached strict self) }
-        ensures lines { let x = context (V.verifies verifier.now) now strict in
-            OnOk result (IsVerified (LineUnder x issuer.now self) issued_lines) }
-        ensures gives { IfOk result (HasIssued self issuer.now) }
+        ensures ok { let x = context (V.verifies verifier.now) now strict in
+            IfOk result (IsValidBelow x issuer.now Detached self) }
         ensures fault { let x = context (V.verifies verifier.now) now strict in
-            IfErr result (IsInvalid Detached strict self
-            (IsFirstFalseOrMemory (LineUnder x issuer.now self) issued_lines)) }
+            IfErr result (IsInvalidBelow x issuer.now Detached self) }
     {
         self.validate_issued_at(alloc, issuer, Kind::Detached, strict, now, verifier)
     }

@@ -1,7 +1,15 @@
 //! Laws about certificates that were verified. Each is the contract of a function with no parameters and an empty body.
+ghost use Rattle.std.specs.Prelude.{◌≡◌, ℕ, Bool, Result, List};
+ghost use Rattle.rpki_der.specs.Times.{Moment};
 ghost use Rattle.rpki_blocks.specs.Sets.{AreIn};
+ghost use Rattle.rpki_parts.specs.Conditions.{Tests};
 ghost use Rattle.rpki_cert.specs.Certificates.{CertFields};
-ghost use Rattle.rpki_cert.specs.Verification.{ResourceFields, HasIssued};
+ghost use Rattle.rpki_cert.specs.Verification.{context, LineUnder, AnchorLine, TestsOrMemory, issued_lines, anchor_lines};
+ghost use Rattle.rpki_cert.specs.Verification.{AreAlike, IsAnswerOrMemory};
+ghost use Rattle.rpki_cert.specs.Verification.{ResourceFields, HasListed, HasIssued, HasSets};
+ghost use Rattle.rpki_cert.specs.declared.verification_error.VerificationError.{VerificationError};
+
+use rpki_parts::Verifier;
 
 /// Says that below an issuer a certificate has only numbers that the issuer has (RFC 6487 7.2).
 pub fn issued_are_held()
@@ -11,4 +19,29 @@ pub fn issued_are_held()
         → HasIssued c issuer r → AreIn r.v6 issuer.v6 }
     ensures as_numbers { (c : CertFields) (issuer r : ResourceFields)
         → HasIssued c issuer r → AreIn r.as_numbers issuer.as_numbers }
+{}
+
+/// Says that two calls answer alike of one certificate in one context, out of memory aside: `Cert::verify_ca_at` and `Cert::verify_ee_at` below
+/// one issuer are both Ok, or both Err with one error (`issued`), and `Cert::verify_ta_at` accepts an anchor exactly where
+/// `Cert::verify_ta_ref_at` does, else with its error (`anchors`). The premises are what the calls promise of their lines.
+pub fn one_verdict<V: Verifier>()
+    ensures issued { (verifier : V) (now : Moment) (strict : Bool) (issuer : ResourceFields)
+        (c : CertFields) (r s : Result ResourceFields VerificationError)
+        → let x = context (V.verifies verifier) now strict in
+        TestsOrMemory (LineUnder x issuer c) issued_lines r
+        → TestsOrMemory (LineUnder x issuer c) issued_lines s → AreAlike r s }
+    ensures anchors { (verifier : V) (now : Moment) (strict : Bool) (c : CertFields)
+        (r : Result (Unit {0}) VerificationError) (s : Result ResourceFields VerificationError)
+        → let x = context (V.verifies verifier) now strict in
+        Tests (AnchorLine x c) anchor_lines r
+        → TestsOrMemory (AnchorLine x c) anchor_lines s → IsAnswerOrMemory r s }
+{}
+
+/// Says that what is verified has one result: two that are issued of one issuer for one certificate are equal, and so are two of one anchor
+/// with one locator. The premises are the clauses `gives` of the calls, and that of `Chain::iter` on each set (`HasSets`).
+pub fn one_result()
+    ensures issued { (c : CertFields) (issuer r s : ResourceFields)
+        → HasIssued c issuer r → HasIssued c issuer s → HasSets r → HasSets s → r ≡ s }
+    ensures listed { (c : CertFields) (tal : List ℕ) (r s : ResourceFields)
+        → HasListed c tal r → HasListed c tal s → HasSets r → HasSets s → r ≡ s }
 {}

@@ -2,7 +2,7 @@
 //! caller's to ask).
 ghost use Rattle.std.specs.Prelude.{◌≡◌, ◌↔◌, ◌⊎◌, IsTrue, IsOk, OnOk, IfOk, IfErr};
 ghost use Rattle.rpki_blocks.specs.Sets.{Has};
-ghost use Rattle.rpki_parts.specs.Conditions.{IsFirstFalse, Tests};
+ghost use Rattle.rpki_parts.specs.Conditions.{Tests};
 ghost use Rattle.rpki_blocks.specs.IssuedSets.{IsIssued};
 ghost use Rattle.rpki_cert.specs.Verification.{IsSignedBy, ListsOnlyHeld, ListsNumbers, held_by, IsVerified, IsFirstFalseOrMemory};
 ghost use Rattle.rpki_cert.specs.Verification.{context, TimeLine, ClaimLine, OwnLine, HeldLine, LineUnder, AnchorLine};
@@ -164,10 +164,8 @@ impl Cert {
         now: Time,
         verifier: &V,
     ) -> Result<(), VerificationError>
-        ensures ok { let x = context (V.verifies verifier.now) now strict in
-            OnOk result (IsVerified (AnchorLine x self.now) anchor_lines) }
-        ensures fault { let x = context (V.verifies verifier.now) now strict in
-            IfErr result (IsFirstFalse (AnchorLine x self.now) anchor_lines) }
+        ensures { let x = context (V.verifies verifier.now) now strict in
+            Tests (AnchorLine x self.now) anchor_lines result }
     {
         self.verify_validity(now)?;
         self.verify_inherits_nothing()?;
@@ -186,10 +184,8 @@ impl Cert {
         now: Time,
         verifier: &V,
     ) -> Result<(), VerificationError>
-        ensures ok { let x = context (V.verifies verifier.now) now strict in
-            OnOk result (IsVerified (LineUnder x issuer.now self.now) router_lines) }
-        ensures fault { let x = context (V.verifies verifier.now) now strict in
-            IfErr result (IsFirstFalse (LineUnder x issuer.now self.now) router_lines) }
+        ensures { let x = context (V.verifies verifier.now) now strict in
+            Tests (LineUnder x issuer.now self.now) router_lines result }
     {
         self.verify_basis(issuer, strict, now, verifier)?;
         let tbs = self.as_tbs();

@@ -1,8 +1,8 @@
 //! Certificates that are verified become resource certificates (RFC 6487 7.2).
-ghost use Rattle.std.specs.Prelude.{◌≡◌, OnOk, IfOk, IfErr};
+ghost use Rattle.std.specs.Prelude.{◌≡◌, IfOk};
 ghost use Rattle.std.proofs.Common.{rc_value};
 ghost use Rattle.rpki_blocks.specs.IssuedSets.{IsIssued};
-ghost use Rattle.rpki_cert.specs.Verification.{context, LineUnder, AnchorLine, IsVerified, IsFirstFalseOrMemory, ListsNumbers, HasListed, HasIssued, issued_lines, anchor_lines};
+ghost use Rattle.rpki_cert.specs.Verification.{context, LineUnder, AnchorLine, TestsOrMemory, ListsNumbers, HasListed, HasIssued, issued_lines, anchor_lines};
 
 use crate::cert::Cert;
 use crate::resource_cert::{ResourceCert, Sets};
@@ -43,9 +43,7 @@ impl Cert {
         verifier: &V,
     ) -> Result<Kept, VerificationError>
         ensures lines { let x = context (V.verifies verifier.now) now strict in
-            OnOk result (IsVerified (LineUnder x issuer.now self.now) issued_lines) }
-        ensures fault { let x = context (V.verifies verifier.now) now strict in
-            IfErr result (IsFirstFalseOrMemory (LineUnder x issuer.now self.now) issued_lines) }
+            TestsOrMemory (LineUnder x issuer.now self.now) issued_lines result }
         ensures v4 { IfOk result
             (λ k. IsIssued issuer.now.v4 self.now.fields.extensions.v4_resources k.sets.v4) }
         ensures v6 { IfOk result
@@ -58,26 +56,6 @@ impl Cert {
         let sets = self.issued_sets(alloc, issuer)?;
         let (sets, tal) = beside(sets, issuer.tal().clone())?;
         Ok(Kept { sets, tal })
-    }
-
-    // A certificate that another one issued, with its sets.
-    pub(crate) fn verify_issued_at<V: Verifier>(
-        self,
-        alloc: Global,
-        issuer: &ResourceCert,
-        strict: bool,
-        now: Time,
-        verifier: &V,
-    ) -> Result<ResourceCert, VerificationError>
-        ensures lines { let x = context (V.verifies verifier.now) now strict in
-            OnOk result (IsVerified (LineUnder x issuer.now self) issued_lines) }
-        ensures fault { let x = context (V.verifies verifier.now) now strict in
-            IfErr result (IsFirstFalseOrMemory (LineUnder x issuer.now self) issued_lines) }
-        ensures gives { IfOk result (HasIssued self issuer.now) }
-    {
-        let tested = self.kept_below(alloc, issuer, strict, now, verifier);
-        let (cert, kept) = beside(self, tested)?;
-        Ok(joined(cert, kept))
     }
 
     /// Uses the certificate up, also where it is rejected, and verifies it as one of a CA below
@@ -95,12 +73,12 @@ impl Cert {
         verifier: &V,
     ) -> Result<ResourceCert, VerificationError>
         ensures lines { let x = context (V.verifies verifier.now) now strict in
-            OnOk result (IsVerified (LineUnder x issuer.now self) issued_lines) }
-        ensures fault { let x = context (V.verifies verifier.now) now strict in
-            IfErr result (IsFirstFalseOrMemory (LineUnder x issuer.now self) issued_lines) }
+            TestsOrMemory (LineUnder x issuer.now self) issued_lines result }
         ensures gives { IfOk result (HasIssued self issuer.now) }
     {
-        self.verify_issued_at(alloc, issuer, strict, now, verifier)
+        let tested = self.kept_below(alloc, issuer, strict, now, verifier);
+        let (cert, kept) = beside(self, tested)?;
+        Ok(joined(cert, kept))
     }
 
     /// Uses the certificate up, also where it is rejected, and verifies it as one of an end entity
@@ -115,12 +93,10 @@ impl Cert {
         verifier: &V,
     ) -> Result<ResourceCert, VerificationError>
         ensures lines { let x = context (V.verifies verifier.now) now strict in
-            OnOk result (IsVerified (LineUnder x issuer.now self) issued_lines) }
-        ensures fault { let x = context (V.verifies verifier.now) now strict in
-            IfErr result (IsFirstFalseOrMemory (LineUnder x issuer.now self) issued_lines) }
+            TestsOrMemory (LineUnder x issuer.now self) issued_lines result }
         ensures gives { IfOk result (HasIssued self issuer.now) }
     {
-        self.verify_issued_at(alloc, issuer, strict, now, verifier)
+        self.verify_ca_at(alloc, issuer, strict, now, verifier)
     }
 
     // What a trust anchor lists.
@@ -132,9 +108,7 @@ impl Cert {
         verifier: &V,
     ) -> Result<Sets, VerificationError>
         ensures lines { let x = context (V.verifies verifier.now) now strict in
-            OnOk result (IsVerified (AnchorLine x self.now) anchor_lines) }
-        ensures fault { let x = context (V.verifies verifier.now) now strict in
-            IfErr result (IsFirstFalseOrMemory (AnchorLine x self.now) anchor_lines) }
+            TestsOrMemory (AnchorLine x self.now) anchor_lines result }
         ensures v4 { IfOk result
             (λ s. ListsNumbers self.now.fields.extensions.v4_resources s.v4) }
         ensures v6 { IfOk result
@@ -160,9 +134,7 @@ impl Cert {
         verifier: &V,
     ) -> Result<ResourceCert, VerificationError>
         ensures lines { let x = context (V.verifies verifier.now) now strict in
-            OnOk result (IsVerified (AnchorLine x self) anchor_lines) }
-        ensures fault { let x = context (V.verifies verifier.now) now strict in
-            IfErr result (IsFirstFalseOrMemory (AnchorLine x self) anchor_lines) }
+            TestsOrMemory (AnchorLine x self) anchor_lines result }
         ensures gives { IfOk result (HasListed self (rc_value tal)) }
     {
         let tested = self.kept_of_anchor(alloc, strict, now, verifier);

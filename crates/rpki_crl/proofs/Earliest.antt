@@ -1,11 +1,12 @@
 -- The list that is asked, and its checks.
 use Rattle.std.specs.List.{AllByRecursion}
-use Rattle.std.specs.Prelude.{Result, Ok, Err}
-use Rattle.std.proofs.Common.{◌≡◌, ℕ, List, [], ◌∷◌, ◌++◌, Option, Some, None, refl, sym, ap, subst, ◌∙◌, inl, inr}
+use Rattle.std.specs.Prelude.{Result}
+use Rattle.std.proofs.Common.{◌≡◌, ℕ, List, [], ◌∷◌, ◌++◌, None, refl, sym, ap, subst, ◌∙◌, inl}
 use Rattle.rpki_der.specs.Rows.{IsFirstWith}
 use Rattle.rpki_parts.specs.Conditions.{IsFirstFalse, Tests}
 use Rattle.rpki_cert.specs.Certificates.{TbsFields}
 use Rattle.rpki_cert.specs.Verification.{Context}
+use Rattle.rpki_cert.proofs.Lines.{tests_map}
 use Rattle.rpki_crl.specs.Lists.{CrlState}
 use Rattle.rpki_crl.specs.Stores.{Stored, IsUnder, IsEarliest}
 use Rattle.rpki_crl.specs.Revocation.{ListLine, RevocationLine, IsUnderUri, revocation_lines}
@@ -62,19 +63,9 @@ module _ (x : Context) (issuer : TbsFields) (serial : ℕ) (IsAsked : CrlState �
     list_of Stale l = l crl is
     list_of Revoked l = l crl is
 
-    all_of : (es : List RevocationError) → AllByRecursion (ListLine x issuer serial crl.list) es → AllByRecursion (RevocationLine x issuer serial IsAsked) es
-    all_of [] all = tt
-    all_of (e ∷ es) all = (line_of e all.0, all_of es all.1)
-
-    first_of : (es : List RevocationError) (e : RevocationError) → IsFirstFalse (ListLine x issuer serial crl.list) es e → IsFirstFalse (RevocationLine x issuer serial IsAsked) es e
-    first_of [] e h = absurd h
-    first_of (d ∷ es) e (inl h) = inl (h.0, λ l. h.1 (list_of d l))
-    first_of (d ∷ es) e (inr h) = inr (line_of d h.0, first_of es e h.1)
-
     -- what is tested of the list is what is tested
     pub tests_of : (r : Result (Unit {0}) RevocationError) → Tests (ListLine x issuer serial crl.list) revocation_lines r → Tests (RevocationLine x issuer serial IsAsked) revocation_lines r
-    tests_of (Ok v) t = all_of revocation_lines t
-    tests_of (Err e) t = first_of revocation_lines e t
+    tests_of r = tests_map (ListLine x issuer serial crl.list) (RevocationLine x issuer serial IsAsked) revocation_lines r (λ e. (line_of e, list_of e))
 
   -- without one the first check is false
   pub no_list : ((d : CrlState) → IsAsked d → ⊥) → IsFirstFalse (RevocationLine x issuer serial IsAsked) revocation_lines NoCrl

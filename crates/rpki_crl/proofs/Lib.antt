@@ -14,3 +14,4 @@ pub mod GivenEntries
 pub mod SpelledLists
 pub mod DeeperLists
 pub mod Earliest
+pub mod NamedLists

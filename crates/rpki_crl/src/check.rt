@@ -1,7 +1,9 @@
 //! Certificates are looked for on the list of their issuer (RFC 6487 7.2, RFC 5280 6.3.3).
+ghost use Rattle.std.specs.Prelude.{◌≡◌, ◌↔◌, Some, IsOk};
 ghost use Rattle.rpki_parts.specs.Conditions.{Tests};
+ghost use Rattle.rpki_cert.specs.Certificates.{CertFields};
 ghost use Rattle.rpki_cert.specs.Verification.{context};
-ghost use Rattle.rpki_crl.specs.Revocation.{ListLine, RevocationLine, IsUnderUri, revocation_lines};
+ghost use Rattle.rpki_crl.specs.Revocation.{ListLine, RevocationLine, IsUnderUri, IsUnrevoked, revocation_lines};
 
 use crate::crl::Crl;
 use crate::revocation_error::RevocationError;
@@ -57,9 +59,14 @@ impl CrlStore {
         now: Time,
         verifier: &V,
     ) -> Result<(), RevocationError>
-        ensures { let x = context (V.verifies verifier.now) now strict in
+        ensures lines { let x = context (V.verifies verifier.now) now strict in
             Tests (RevocationLine x issuer.now.cert.fields serial
             (IsUnderUri self.now.pairs crl_uri.now)) revocation_lines result }
+        // Ok exactly where a certificate with this number that names this URI is unrevoked.
+        ensures unrevoked { let x = context (V.verifies verifier.now) now strict in
+            (c : CertFields) → c.fields.serial ≡ serial
+            → c.fields.extensions.crl_uri ≡ Some crl_uri.now
+            → (IsOk result ↔ IsUnrevoked x self.now.pairs issuer.now.cert.fields c) }
     {
         match self.get(crl_uri) {
             Some(crl) => crl.check(serial, issuer, strict, now, verifier),

@@ -1,42 +1,36 @@
 -- A valid path gets a further member.
 use Rattle.std.specs.List.{AllByRecursion}
-use Rattle.std.specs.Prelude.{Option}
+use Rattle.std.specs.Prelude.{Option, None, Some}
 use Rattle.std.proofs.Common.{◌≡◌, ◌⊎◌, ◌↔◌, ◌+◌, ◌<◌, ◌≤◌, ℕ, List, [], ◌∷◌, ◌++◌, refl, sym, ap, subst, ◌∙◌, inl, inr, arith}
 use Rattle.std.proofs.Math.Nat.{eq-or-lt_of_le}
 use Rattle.rpki_blocks.specs.Sets.{Has, Block}
 use Rattle.rpki_blocks.specs.IssuedSets.{IsIssued}
-use Rattle.rpki_parts.specs.Conditions.{IsFirstFalse}
 use Rattle.rpki_cert.specs.Certificates.{TbsFields, CertFields}
 use Rattle.rpki_cert.specs.Profiles.{MeetsProfile}
-use Rattle.rpki_cert.specs.Verification.{Context, Held, Line, LineUnder, issued_lines, IsVerified, ResourceFields, held_by}
+use Rattle.rpki_cert.specs.Validation.{IsValidBelow}
+use Rattle.rpki_cert.specs.Verification.{Context, Held, Line, LineUnder, issued_lines, IsVerified, ResourceFields, HasIssued, held_by}
 use Rattle.rpki_cert.specs.declared.inspect.Kind.{Kind}
 use Rattle.rpki_cert.specs.declared.verification_error.VerificationError.{VerificationError}
 use Rattle.rpki_cert.specs.declared.verification_error.VerificationError.TheVariants.{NotYetValid, Expired, InheritedV4, InheritedV6, InheritedAs, MissingKeyId, WrongKeyId, MissingIssuerUri, BadSignature, OverclaimV4, OverclaimV6, OverclaimAs, Memory}
 use Rattle.rpki_crl.specs.Revocation.{revocation_lines}
 use Rattle.rpki_crl.specs.Stores.{Stored}
-use Rattle.rpki_path.specs.Paths.{Member, Path, last, certificate_at, NumberKind, v4_addresses, v6_addresses, system_numbers, kind_resources, Holds, HeldAt, LineBelow, AskedLine, IsGoodPath, Asked, ask, IsMember, HasHeld, IsAccepted}
-use Rattle.rpki_path.specs.Paths.Steps.{IsAnchor, IsBelow, IsIssuedBy}
+use Rattle.rpki_crl.specs.declared.revocation_error.RevocationError.{RevocationError}
+use Rattle.rpki_cert.proofs.Lines.{all_map}
+use Rattle.rpki_path.specs.Paths.{Member, Path, member, longer, last, certificate_at, NumberKind, v4_addresses, v6_addresses, system_numbers, kind_resources, Holds, HeldAt, LineBelow, AskedLine, IsUnrevokedIfAsked, IsGoodPath, Asked, ask, IsMember, HasHeld, IsAccepted}
+use Rattle.rpki_path.specs.Paths.Steps.{IsAnchor, IsIssuedBy}
 use Rattle.rpki_path.proofs.LongerPaths.{extended, above, there, last_extended, holds_above, holds_there, gets_passed, zip_more, all_more}
 
--- ---- conditions
+-- ---- lists
 
-module _ {X : Type 0} (P : X → Type 0) (Q : X → Type 0) where
-  -- what all elements have may be weakened
-  pub all_map : (xs : List X) → ((x : X) → P x → Q x) → AllByRecursion P xs → AllByRecursion Q xs
-  all_map [] f all = tt
-  all_map (x ∷ xs) f all = (f x all.0, all_map xs f all.1)
+-- lines that ask nothing are true
+pub unasked_lines : (es : List RevocationError) → AllByRecursion (λ e. Unit {0}) es
+unasked_lines [] = tt
+unasked_lines (e ∷ es) = (tt, unasked_lines es)
 
-  -- the first false condition is the first of equivalent ones
-  pub first_map : (xs : List X) (x : X) → ((y : X) → P y ↔ Q y) → IsFirstFalse P xs x → IsFirstFalse Q xs x
-  first_map [] x f h = absurd h
-  first_map (y ∷ xs) x f (inl h) = inl (h.0, λ q. h.1 ((f y).1 q))
-  first_map (y ∷ xs) x f (inr h) = inr ((f y).0 h.0, first_map xs x f h.1)
-
--- where there is a first condition that is false, not all are true
-pub first_not_all : {X : Type 0} (P : X → Type 0) (xs : List X) (x : X) → IsFirstFalse P xs x → AllByRecursion P xs → ⊥
-first_not_all P [] x h all = h
-first_not_all P (y ∷ xs) x (inl h) all = h.1 all.0
-first_not_all P (y ∷ xs) x (inr h) all = first_not_all P xs x h.1 all.1
+-- all that is asked is true where lists, if they are given, leave the certificate unrevoked
+pub unrevoked_asked : (x : Context) (lists : Option (List Stored)) (issuer : TbsFields) (c : CertFields) → IsVerified (AskedLine x lists issuer c) revocation_lines ↔ IsUnrevokedIfAsked x lists issuer c
+unrevoked_asked x None issuer c = ((λ h. tt), (λ h. unasked_lines revocation_lines))
+unrevoked_asked x (Some lists) issuer c = ((λ h. h), (λ h. h))
 
 -- ---- checks
 
@@ -103,97 +97,98 @@ module _ (x : Context) where
           path = p;
           path_of = record { anchor_begins = is.begins; members = tt };
           good = record {
-            anchor_meets = is.meets;
+            anchor_meets = is.valid.meets;
             members_meet = tt;
-            anchor_verified = is.lines;
+            anchor_verified = is.valid.lines;
             members_verified = λ i h. absurd (omega arith);
             members_unrevoked = λ i h. absurd (omega arith);
           };
           held = record {
             cert_is = refl;
-            v4_is = λ n. ((λ h. (holds v4_addresses n).0 ((is.listed.v4_is n).0 h)), (λ h. (is.listed.v4_is n).1 ((holds v4_addresses n).1 h)));
-            v6_is = λ n. ((λ h. (holds v6_addresses n).0 ((is.listed.v6_is n).0 h)), (λ h. (is.listed.v6_is n).1 ((holds v6_addresses n).1 h)));
-            as_is = λ n. ((λ h. (holds system_numbers n).0 ((is.listed.as_is n).0 h)), (λ h. (is.listed.as_is n).1 ((holds system_numbers n).1 h)));
-            tal_is = is.listed.tal_is;
+            v4_is = λ n. ((λ h. (holds v4_addresses n).0 ((is.valid.listed.v4_is n).0 h)), (λ h. (is.valid.listed.v4_is n).1 ((holds v4_addresses n).1 h)));
+            v6_is = λ n. ((λ h. (holds v6_addresses n).0 ((is.valid.listed.v6_is n).0 h)), (λ h. (is.valid.listed.v6_is n).1 ((holds v6_addresses n).1 h)));
+            as_is = λ n. ((λ h. (holds system_numbers n).0 ((is.valid.listed.as_is n).0 h)), (λ h. (is.valid.listed.as_is n).1 ((holds system_numbers n).1 h)));
+            tal_is = is.valid.listed.tal_is;
           };
         }
 
     module _ (p : Path) (tal : List ℕ) (issuer : ResourceFields) (held : HasHeld p tal issuer) (k : Kind) (r : ResourceFields) where
-      abbrev member : Member
-      member = record { kind = k; cert = r.cert }
+      abbrev m : Member
+      m = member k r.cert
 
-      abbrev longer : Path
-      longer = extended p member []
+      abbrev more : Path
+      more = longer p m
 
       -- what is issued is what the path holds
-      held_then : (n_kind : NumberKind) (has : List Block) (set : List Block) → ((n : ℕ) → Has has n ↔ Holds p (last p) n_kind n) → IsIssued has (kind_resources n_kind r.cert) set → (n : ℕ) → Has set n ↔ Holds longer (last longer) n_kind n
-      held_then n_kind has set is issued n =
-          let at : last longer ≡ last p + 1 = last_extended p member in
+      same_held : (n_kind : NumberKind) (has : List Block) (set : List Block) → ((n : ℕ) → Has has n ↔ Holds p (last p) n_kind n) → IsIssued has (kind_resources n_kind r.cert) set → (n : ℕ) → Has set n ↔ Holds more (last more) n_kind n
+      same_held n_kind has set is issued n =
+          let at : last more ≡ last p + 1 = last_extended p m in
           let gets = gets_passed (Has has) (kind_resources n_kind r.cert) n in
-          let holds = holds_there p member [] n_kind n in (
-            (λ h. let got = gets.0 ((issued n).0 h) in subst (λ (i : ℕ). Holds longer i n_kind n) (sym at) (holds.1 ((is n).0 got.0, got.1))),
-            (λ h. let both = holds.0 (subst (λ (i : ℕ). Holds longer i n_kind n) at h) in (issued n).1 (gets.1 ((is n).1 both.0, both.1))),
+          let holds = holds_there p m [] n_kind n in (
+            (λ h. let got = gets.0 ((issued n).0 h) in subst (λ (i : ℕ). Holds more i n_kind n) (sym at) (holds.1 ((is n).0 got.0, got.1))),
+            (λ h. let both = holds.0 (subst (λ (i : ℕ). Holds more i n_kind n) at h) in (issued n).1 (gets.1 ((is n).1 both.0, both.1))),
           )
 
-      module _ (good : IsGoodPath x lists p) (is : IsBelow x issuer k r.cert r) (free : IsVerified (AskedLine x lists issuer.cert.fields r.cert) revocation_lines) where
-        verified : (i : ℕ) → (i ≡ last p) ⊎ (i < last p) → IsVerified (LineBelow x longer i (certificate_at longer (i + 1))) issued_lines
+      pub held_then : HasIssued r.cert issuer r → HasHeld more tal r
+      held_then issued = record {
+        cert_is = sym (there p m []) ∙ ap (λ (i : ℕ). certificate_at more i) (sym (last_extended p m));
+        v4_is = same_held v4_addresses issuer.v4 r.v4 held.v4_is issued.v4_is;
+        v6_is = same_held v6_addresses issuer.v6 r.v6 held.v6_is issued.v6_is;
+        as_is = same_held system_numbers issuer.as_numbers r.as_numbers held.as_is issued.as_is;
+        tal_is = issued.tal_is ∙ held.tal_is;
+      }
+
+      module _ (good : IsGoodPath x lists p) (is : IsValidBelow x issuer k r.cert r) (free : IsUnrevokedIfAsked x lists issuer.cert.fields r.cert) where
+        verified : (i : ℕ) → (i ≡ last p) ⊎ (i < last p) → IsVerified (LineBelow x more i (certificate_at more (i + 1))) issued_lines
         verified i (inl e) =
             let h : last p ≤ last p = omega arith in
             let under = all_map (LineUnder x issuer r.cert) (LineBelow x p (last p) r.cert) issued_lines (λ l. (line_last p tal issuer held r.cert l).0) is.lines in
-            let below = all_map (LineBelow x p (last p) r.cert) (LineBelow x longer (last p) r.cert) issued_lines (λ l. (line_above p member [] (last p) h r.cert l).0) under in
-            subst (λ (j : ℕ). IsVerified (LineBelow x longer j (certificate_at longer (j + 1))) issued_lines) (sym e)
-            (subst (λ (c : CertFields). IsVerified (LineBelow x longer (last p) c) issued_lines) (sym (there p member [])) below)
+            let below = all_map (LineBelow x p (last p) r.cert) (LineBelow x more (last p) r.cert) issued_lines (λ l. (line_above p m [] (last p) h r.cert l).0) under in
+            subst (λ (j : ℕ). IsVerified (LineBelow x more j (certificate_at more (j + 1))) issued_lines) (sym e)
+            (subst (λ (c : CertFields). IsVerified (LineBelow x more (last p) c) issued_lines) (sym (there p m [])) below)
         verified i (inr h) =
             let low : i ≤ last p = omega arith in
             let next : i + 1 ≤ last p = omega arith in
             let c = certificate_at p (i + 1) in
-            subst (λ (c : CertFields). IsVerified (LineBelow x longer i c) issued_lines) (sym (above p member [] (i + 1) next))
-            (all_map (LineBelow x p i c) (LineBelow x longer i c) issued_lines (λ l. (line_above p member [] i low c l).0) (good.members_verified i h))
+            subst (λ (c : CertFields). IsVerified (LineBelow x more i c) issued_lines) (sym (above p m [] (i + 1) next))
+            (all_map (LineBelow x p i c) (LineBelow x more i c) issued_lines (λ l. (line_above p m [] i low c l).0) (good.members_verified i h))
 
-        -- the checks that lists are asked for a certificate below another
+        -- a certificate that isn't revoked below another
         abbrev Free : CertFields → CertFields → Type 0
-        Free above c = IsVerified (AskedLine x lists above.fields c) revocation_lines
+        Free above c = IsUnrevokedIfAsked x lists above.fields c
 
-        unrevoked : (i : ℕ) → (i ≡ last p) ⊎ (i < last p) → Free (certificate_at longer i) (certificate_at longer (i + 1))
+        unrevoked : (i : ℕ) → (i ≡ last p) ⊎ (i < last p) → Free (certificate_at more i) (certificate_at more (i + 1))
         unrevoked i (inl e) =
             let h : last p ≤ last p = omega arith in
-            let issuer_is : certificate_at longer (last p) ≡ issuer.cert = above p member [] (last p) h ∙ sym held.cert_is in
-            subst (λ (j : ℕ). Free (certificate_at longer j) (certificate_at longer (j + 1))) (sym e)
-            (subst (λ (c : CertFields). Free (certificate_at longer (last p)) c) (sym (there p member []))
+            let issuer_is : certificate_at more (last p) ≡ issuer.cert = above p m [] (last p) h ∙ sym held.cert_is in
+            subst (λ (j : ℕ). Free (certificate_at more j) (certificate_at more (j + 1))) (sym e)
+            (subst (λ (c : CertFields). Free (certificate_at more (last p)) c) (sym (there p m []))
             (subst (λ (c : CertFields). Free c r.cert) (sym issuer_is) free))
         unrevoked i (inr h) =
             let low : i ≤ last p = omega arith in
             let next : i + 1 ≤ last p = omega arith in
-            subst (λ (c : CertFields). Free (certificate_at longer i) c) (sym (above p member [] (i + 1) next))
-            (subst (λ (c : CertFields). Free c (certificate_at p (i + 1))) (sym (above p member [] i low)) (good.members_unrevoked i h))
+            subst (λ (c : CertFields). Free (certificate_at more i) c) (sym (above p m [] (i + 1) next))
+            (subst (λ (c : CertFields). Free c (certificate_at p (i + 1))) (sym (above p m [] i low)) (good.members_unrevoked i h))
 
-        good_then : IsGoodPath x lists longer
+        pub good_then : IsGoodPath x lists more
         good_then = record {
           anchor_meets = good.anchor_meets;
-          members_meet = all_more (λ (m : Member). MeetsProfile m.kind x.strict m.cert) p.below member good.members_meet is.meets;
+          members_meet = all_more (λ (m : Member). MeetsProfile m.kind x.strict m.cert) p.below m good.members_meet is.meets;
           anchor_verified = good.anchor_verified;
-          members_verified = λ i h. let low : i ≤ last p = omega (arith, last_extended p member) in verified i (eq-or-lt_of_le low);
-          members_unrevoked = λ i h. let low : i ≤ last p = omega (arith, last_extended p member) in unrevoked i (eq-or-lt_of_le low);
+          members_verified = λ i h. let low : i ≤ last p = omega (arith, last_extended p m) in verified i (eq-or-lt_of_le low);
+          members_unrevoked = λ i h. let low : i ≤ last p = omega (arith, last_extended p m) in unrevoked i (eq-or-lt_of_le low);
         }
 
     -- the path with one member more
     pub one_more : (anchor : List ℕ) (below : List Asked) (tal : List ℕ) (issuer : ResourceFields) (k : Kind) (octets : List ℕ) (r : ResourceFields) → IsAccepted x lists anchor below tal issuer → IsIssuedBy x lists issuer k octets r → IsAccepted x lists anchor (below ++ ask k octets ∷ []) tal r
     one_more anchor below tal issuer k octets r a is =
         let p = a.path in
-        let m : Member = record { kind = k; cert = r.cert } in
-        let issued = is.below.issued in
         record {
-          path = extended p m [];
+          path = longer p (member k r.cert);
           path_of = record {
             anchor_begins = a.path_of.anchor_begins;
-            members = zip_more IsMember p.below below m (ask k octets) a.path_of.members (record { kind_is = refl; begins = is.begins });
+            members = zip_more IsMember p.below below (member k r.cert) (ask k octets) a.path_of.members (record { kind_is = refl; begins = is.begins });
           };
           good = good_then p tal issuer a.held k r a.good is.below is.unrevoked;
-          held = record {
-            cert_is = sym (there p m []) ∙ ap (λ (i : ℕ). certificate_at (extended p m []) i) (sym (last_extended p m));
-            v4_is = held_then p tal issuer a.held k r v4_addresses issuer.v4 r.v4 a.held.v4_is issued.v4_is;
-            v6_is = held_then p tal issuer a.held k r v6_addresses issuer.v6 r.v6 a.held.v6_is issued.v6_is;
-            as_is = held_then p tal issuer a.held k r system_numbers issuer.as_numbers r.as_numbers a.held.as_is issued.as_is;
-            tal_is = issued.tal_is ∙ a.held.tal_is;
-          };
+          held = held_then p tal issuer a.held k r is.below.issued;
         }

@@ -1,7 +1,7 @@
--- Strings that begin with other members than a valid path has.
-use Rattle.std.specs.List.{AllByRecursion, AllZip}
+-- Strings that begin with other members than a good path has.
+use Rattle.std.specs.List.{AllZip}
 use Rattle.std.specs.Prelude.{Option, None}
-use Rattle.std.proofs.Common.{◌≡◌, ◌+◌, ◌<◌, ◌≤◌, ◌↔◌, ℕ, List, [], ◌∷◌, ◌++◌, length, refl, sym, ap, subst, ◌∙◌, inl, inr, arith}
+use Rattle.std.proofs.Common.{◌≡◌, ◌+◌, ◌<◌, ◌≤◌, ◌↔◌, ℕ, List, ◌∷◌, ◌++◌, length, refl, sym, ap, subst, ◌∙◌, inl, inr, arith}
 use Rattle.std.proofs.lemmas.List.{append_assoc, length-append}
 use Rattle.rpki_der.specs.Values.{IsUnambiguous}
 use Rattle.rpki_parts.specs.Conditions.{IsFirstFalse}
@@ -9,6 +9,7 @@ use Rattle.rpki_ext.specs.Kinds.{Means}
 use Rattle.rpki_cert.specs.Certificates.{CertFields, IsCertificate}
 use Rattle.rpki_cert.specs.Profiles.{MeetsProfile, Lacks, faults}
 use Rattle.rpki_cert.specs.Verification.{Context, LineUnder, issued_lines, IsVerified, ResourceFields}
+use Rattle.rpki_cert.proofs.Lines.{all_map, first_map, first_not_all}
 use Rattle.rpki_cert.specs.declared.inspect.Kind.{Kind}
 use Rattle.rpki_cert.specs.declared.verification_error.VerificationError.{VerificationError}
 use Rattle.rpki_crl.specs.Revocation.{revocation_lines}
@@ -18,10 +19,10 @@ use Rattle.rpki_der.proofs.Formats.{one_meant}
 use Rattle.rpki_path.specs.declared.path_fault.PathFault.{PathFault}
 use Rattle.rpki_path.specs.declared.path_fault.PathFault.TheVariants.{Decode, Inspect, Verify, Revocation, Memory}
 use Rattle.rpki_path.specs.declared.path_fault.PathError.{PathError}
-use Rattle.rpki_path.specs.Paths.{Member, Path, last, LineBelow, AskedLine, AskedBelow, IsGoodPath, Asked, ask, IsMember, IsPathOf, IsAccepted, IsNoGoodPath, UnlessMemory, Demand, anchor_demand, demand_below, Finds, IsFaultOfAnchor, IsFaultBelow, IsFault, IsUnasked}
+use Rattle.rpki_path.specs.Paths.{Member, Path, last, certificate_at, LineBelow, AskedLine, AskedBelow, IsUnrevokedIfAsked, IsGoodPath, Asked, ask, IsMember, IsPathOf, IsAccepted, IsNoGoodPath, UnlessMemory, Demand, anchor_demand, demand_below, Finds, IsFaultOfAnchor, IsFaultBelow, IsFault, IsUnasked}
 use Rattle.rpki_path.specs.Paths.Steps.{demand_under}
 use Rattle.rpki_path.proofs.LongerPaths.{extended, above, there, Parted, parted, zip_one, all_at}
-use Rattle.rpki_path.proofs.GoodPaths.{all_map, first_map, first_not_all, line_last, line_above}
+use Rattle.rpki_path.proofs.GoodPaths.{unasked_lines, unrevoked_asked, line_last, line_above}
 
 -- ---- the members that strings begin with
 
@@ -62,11 +63,6 @@ finds_map x kind line other lines asked next octets (Revocation e) same free h =
   first = first_map (asked h.cert) (next h.cert) revocation_lines e (free h.cert) h.first;
 }
 finds_map x kind line other lines asked next octets Memory same free h = h
-
--- checks that ask nothing are true
-unasked_lines : (es : List RevocationError) → AllByRecursion (λ e. Unit {0}) es
-unasked_lines [] = tt
-unasked_lines (e ∷ es) = (tt, unasked_lines es)
 
 module _ (x : Context) where
   -- where no lists are given, no fault is one of revocation
@@ -170,8 +166,9 @@ module _ (x : Context) (lists : Option (List Stored)) where
           let meets : MeetsProfile m.kind x.strict m.cert = all_at (λ (y : Member). MeetsProfile y.kind x.strict y.cert) q.below m split.more longer.members_meet in
           let verified : IsVerified (LineBelow x all (last q) m.cert) issued_lines = subst (λ (c : CertFields). IsVerified (LineBelow x all (last q) c) issued_lines) (there q m split.more) (longer.members_verified (last q) low) in
           let lines : IsVerified (LineBelow x q (last q) m.cert) issued_lines = all_map (LineBelow x all (last q) m.cert) (LineBelow x q (last q) m.cert) issued_lines (λ l. (line_above x q m split.more (last q) same m.cert l).1) verified in
-          let unrevoked : IsVerified (AskedBelow x lists all (last q) m.cert) revocation_lines = subst (λ (c : CertFields). IsVerified (AskedBelow x lists all (last q) c) revocation_lines) (there q m split.more) (longer.members_unrevoked (last q) low) in
-          let free : IsVerified (AskedBelow x lists q (last q) m.cert) revocation_lines = subst (λ (c : CertFields). IsVerified (AskedLine x lists c.fields m.cert) revocation_lines) (above q m split.more (last q) same) unrevoked in
+          let unrevoked : IsUnrevokedIfAsked x lists (certificate_at all (last q)).fields m.cert = subst (λ (c : CertFields). IsUnrevokedIfAsked x lists (certificate_at all (last q)).fields c) (there q m split.more) (longer.members_unrevoked (last q) low) in
+          let under : IsUnrevokedIfAsked x lists (certificate_at q (last q)).fields m.cert = subst (λ (c : CertFields). IsUnrevokedIfAsked x lists c.fields m.cert) (above q m split.more (last q) same) unrevoked in
+          let free : IsVerified (AskedBelow x lists q (last q) m.cert) revocation_lines = (unrevoked_asked x lists (certificate_at q (last q)).fields m.cert).1 under in
           let kind_is : m.kind ≡ h.there.kind = split.items.kind_is in
           found_against (demand_below x lists q (last q) h.there.kind) h.there.octets e.fault h.fault_is m.cert split.items.begins (subst (λ (k : Kind). MeetsProfile k x.strict m.cert) kind_is meets) lines free
 

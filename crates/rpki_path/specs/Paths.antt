@@ -18,7 +18,7 @@ use Rattle.rpki_cert.specs.declared.inspect.Kind.TheVariants.{Anchor, Authority,
 use Rattle.rpki_cert.specs.declared.validation_error.ValidationError.{ValidationError}
 use Rattle.rpki_cert.specs.declared.validation_error.ValidationError.TheVariants.{Inspection, Verification}
 use Rattle.rpki_cert.specs.declared.verification_error.VerificationError.{VerificationError}
-use Rattle.rpki_crl.specs.Revocation.{CertRevocationLine, revocation_lines}
+use Rattle.rpki_crl.specs.Revocation.{CertRevocationLine, IsUnrevoked, revocation_lines}
 use Rattle.rpki_crl.specs.Stores.{Stored}
 use Rattle.rpki_crl.specs.declared.revocation_error.RevocationError.{RevocationError}
 use Rattle.rpki_path.specs.declared.path_fault.PathFault.{PathFault}
@@ -39,6 +39,13 @@ pub record Member : Type 0 where
 pub record Path : Type 0 where
   pub anchor : CertFields
   pub below : List Member
+
+abbrev pub member : Kind → CertFields → Member
+member kind cert = record { kind = kind; cert = cert }
+
+-- the path with this member below its last
+abbrev pub longer : Path → Member → Path
+longer p m = record { anchor = p.anchor; below = p.below ++ m ∷ [] }
 
 -- the place of the last member; the anchor is at place 0
 abbrev pub last : Path → ℕ
@@ -97,15 +104,19 @@ AskedLine x (Some lists) issuer c e = CertRevocationLine x lists issuer c e
 abbrev pub AskedBelow : Context → Option (List Stored) → Path → ℕ → CertFields → RevocationError → Type 0
 AskedBelow x lists p i c = AskedLine x lists (certificate_at p i).fields c
 
--- every member meets the profile of its kind, the trust anchor's checks are true of itself, and
--- those of each later member under the one above it; where lists are given, none of the later
--- members is revoked
+-- where lists are given, they leave the certificate unrevoked below this issuer
+abbrev pub IsUnrevokedIfAsked : Context → Option (List Stored) → TbsFields → CertFields → Type 0
+IsUnrevokedIfAsked x None issuer c = Unit {0}
+IsUnrevokedIfAsked x (Some lists) issuer c = IsUnrevoked x lists issuer c
+
+-- every member meets the profile of its kind, the anchor's lines are true of itself, and those of each later member under the one above it;
+-- where lists are given, none of the later members is revoked
 pub record IsGoodPath (x : Context) (lists : Option (List Stored)) (p : Path) : Type 0 where
   pub anchor_meets : MeetsProfile Anchor x.strict p.anchor
   pub members_meet : AllByRecursion (λ m. MeetsProfile m.kind x.strict m.cert) p.below
   pub anchor_verified : IsVerified (AnchorLine x p.anchor) anchor_lines
   pub members_verified : (i : ℕ) → i < last p → IsVerified (LineBelow x p i (certificate_at p (i + 1))) issued_lines
-  pub members_unrevoked : (i : ℕ) → i < last p → IsVerified (AskedBelow x lists p i (certificate_at p (i + 1))) revocation_lines
+  pub members_unrevoked : (i : ℕ) → i < last p → IsUnrevokedIfAsked x lists (certificate_at p i).fields (certificate_at p (i + 1))
 
 -- ---- strings
 

@@ -4,6 +4,7 @@
 pub mod comparing;
 mod exiting;
 mod input;
+pub mod issuing;
 pub mod laws;
 mod lines;
 mod path_fault;

@@ -4,12 +4,12 @@ ghost use Rattle.std.proofs.Common.{rc_value};
 ghost use Rattle.rpki_ext.specs.Kinds.{Means};
 ghost use Rattle.rpki_parts.specs.Conditions.{Tests};
 ghost use Rattle.rpki_cert.specs.Certificates.{IsCertificate};
-ghost use Rattle.rpki_cert.specs.Validation.{IsInvalid};
-ghost use Rattle.rpki_cert.specs.Verification.{context, LineUnder, IsFirstFalseOrMemory, issued_lines};
+ghost use Rattle.rpki_cert.specs.Validation.{IsValidBelow, IsInvalidBelow};
+ghost use Rattle.rpki_cert.specs.Verification.{context};
 ghost use Rattle.rpki_cert.specs.declared.inspect.Kind.TheVariants.{Authority as authority};
 ghost use Rattle.rpki_crl.specs.Revocation.{revocation_lines};
 ghost use Rattle.rpki_path.specs.Paths.{ask, asked, anchor_demand, AskedLine, Finds, IsFault, IsAccepted, IsUnasked, Validates};
-ghost use Rattle.rpki_path.specs.Paths.Steps.{kind_of, IsUnread, IsAnchor, IsBelow, IsIssuedBy, demand_under};
+ghost use Rattle.rpki_path.specs.Paths.Steps.{kind_of, IsUnread, IsAnchor, IsIssuedBy, demand_under};
 
 use crate::path_fault::{PathError, PathFault};
 use bytes::Bytes;
@@ -98,10 +98,9 @@ fn validate_below<V: Verifier>(
     verifier: &V,
 ) -> Result<ResourceCert, ValidationError>
     ensures ok { let x = context (V.verifies verifier.now) now strict in
-        IfOk result (IsBelow x issuer.now (kind_of role) cert) }
+        IfOk result (IsValidBelow x issuer.now (kind_of role) cert) }
     ensures fault { let x = context (V.verifies verifier.now) now strict in
-        IfErr result (IsInvalid (kind_of role) strict cert
-        (IsFirstFalseOrMemory (LineUnder x issuer.now cert) issued_lines)) }
+        IfErr result (IsInvalidBelow x issuer.now (kind_of role) cert) }
 {
     match role {
         Role::Authority => cert.validate_ca_at(alloc, issuer, strict, now, verifier),

@@ -1,22 +1,23 @@
 use Rattle.std.proofs.Common.{Ok, sym, ap, subst, ◌∙◌}
 use Rattle.rpki_parts.specs.SignedDatas.{signed_data}
 use Rattle.rpki_cert.specs.Certificates.{CertFields, IsCertificate, spelling}
-use Rattle.rpki_cert.specs.Profiles.{MeetsProfile}
-use Rattle.rpki_cert.specs.Verification.{context, LineUnder, IsVerified, issued_lines}
+use Rattle.rpki_cert.specs.Validation.{IsValidBelow}
+use Rattle.rpki_cert.specs.Verification.{context}
 use Rattle.rpki_cert.specs.declared.inspect.Kind.TheVariants.{Authority}
 use Rattle.rpki_cert.proofs.issue.issue_ca.Goals as goal
 
 pub returns-in-Ok-validate_ca_at-clause-read : goal.returns-in-Ok-validate_ca_at-clause-read
-returns-in-Ok-validate_ca_at-clause-read g c = subst (λ (x : CertFields). IsCertificate x (signed_data x.signed_data)) (sym c.in-Ok-validate_ca_at.ensures.gives.cert_is) c.in-Ok.ensures.read
+returns-in-Ok-validate_ca_at-clause-read g c = subst (λ (x : CertFields). IsCertificate x (signed_data x.signed_data)) (sym c.in-Ok-validate_ca_at.ensures.ok.issued.cert_is) c.in-Ok.ensures.read
 
 pub returns-in-Ok-validate_ca_at-clause-fields : goal.returns-in-Ok-validate_ca_at-clause-fields
-returns-in-Ok-validate_ca_at-clause-fields g c can = ap (λ (x : CertFields). x.fields) c.in-Ok-validate_ca_at.ensures.gives.cert_is ∙ c.in-Ok.ensures.fields can
+returns-in-Ok-validate_ca_at-clause-fields g c can = ap (λ (x : CertFields). x.fields) c.in-Ok-validate_ca_at.ensures.ok.issued.cert_is ∙ c.in-Ok.ensures.fields can
 
 pub returns-in-Ok-validate_ca_at-clause-signed : goal.returns-in-Ok-validate_ca_at-clause-signed
-returns-in-Ok-validate_ca_at-clause-signed g c can = subst (λ (x : CertFields). g.S.Signer.signs c.args.signer.now c.args.key.now c.args.tbs.algorithm (spelling c.args.tbs) (Ok x.signed_data.signature)) (sym c.in-Ok-validate_ca_at.ensures.gives.cert_is) (c.in-Ok.ensures.signed can)
+returns-in-Ok-validate_ca_at-clause-signed g c can = subst (λ (x : CertFields). g.S.Signer.signs c.args.signer.now c.args.key.now c.args.tbs.algorithm (spelling c.args.tbs) (Ok x.signed_data.signature)) (sym c.in-Ok-validate_ca_at.ensures.ok.issued.cert_is) (c.in-Ok.ensures.signed can)
 
-pub returns-in-Ok-validate_ca_at-clause-profile : goal.returns-in-Ok-validate_ca_at-clause-profile
-returns-in-Ok-validate_ca_at-clause-profile g c = subst (λ (x : CertFields). MeetsProfile Authority c.args.strict x) (sym c.in-Ok-validate_ca_at.ensures.gives.cert_is) c.in-Ok-validate_ca_at.ensures.profile
-
-pub returns-in-Ok-validate_ca_at-clause-lines : goal.returns-in-Ok-validate_ca_at-clause-lines
-returns-in-Ok-validate_ca_at-clause-lines g c = subst (λ (x : CertFields). IsVerified (LineUnder (context (g.V.Verifier.verifies c.args.verifier.now) c.args.now c.args.strict) c.args.issuer.now x) issued_lines) (sym c.in-Ok-validate_ca_at.ensures.gives.cert_is) c.in-Ok-validate_ca_at.ensures.lines
+pub returns-in-Ok-validate_ca_at-clause-valid : goal.returns-in-Ok-validate_ca_at-clause-valid
+returns-in-Ok-validate_ca_at-clause-valid g c =
+    let x = context (g.V.Verifier.verifies c.args.verifier.now) c.args.now c.args.strict in
+    let r = c.in-Ok-validate_ca_at.issued in
+    let valid = c.in-Ok-validate_ca_at.ensures.ok in
+    subst (λ (d : CertFields). IsValidBelow x c.args.issuer.now Authority d r) (sym valid.issued.cert_is) valid

@@ -1,9 +1,7 @@
-use Rattle.std.proofs.Common.{◌≡◌, ℕ, Some, sym, ap, subst, ◌∙◌}
-use Rattle.rpki_parts.specs.Conditions.{Tests}
+use Rattle.std.proofs.Common.{◌≡◌, Some, sym, ap, ◌∙◌}
 use Rattle.rpki_cert.specs.Certificates.{TbsFields}
 use Rattle.rpki_cert.specs.Verification.{context}
-use Rattle.rpki_crl.specs.Revocation.{RevocationLine, IsUnderUri, revocation_lines}
-use Rattle.rpki_path.proofs.FoundSteps.{tests_named}
+use Rattle.rpki_crl.proofs.NamedLists.{tests_named}
 use Rattle.rpki_path.proofs.validating.ask_lists.Goals as goal
 
 pub returns-in-Some-crl_uri : goal.returns-in-Some-crl_uri
@@ -15,5 +13,4 @@ returns-in-Some-crl_uri g c =
     let uri = c.in-Some-crl_uri.uri.now in
     let named : cert.fields.extensions.crl_uri ≡ Some uri = ap (λ (f : TbsFields). f.extensions.crl_uri) (sym c.as_tbs-tbs.ensures) ∙ sym c.in-Some-crl_uri.ensures in
     let serial : c.serial_number.result ≡ cert.fields.serial = c.serial_number.ensures ∙ ap (λ (f : TbsFields). f.serial) c.as_tbs-tbs.ensures in
-    let tests = subst (λ (n : ℕ). Tests (RevocationLine x issuer n (IsUnderUri pairs uri)) revocation_lines c.check.result) serial c.check.ensures in
-    rw c.in-Some.is (tests_named x pairs issuer cert uri named c.check.result tests)
+    rw c.in-Some.is (tests_named x pairs issuer cert uri named c.serial_number.result (sym serial) c.check.result c.check.ensures.lines)

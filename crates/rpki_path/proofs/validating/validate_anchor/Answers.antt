@@ -1,6 +1,8 @@
 use Rattle.std.proofs.Common.{rules, ◌≡◌, Err, subst, sym, rc_value}
-use Rattle.rpki_cert.specs.Certificates.{CertFields}
-use Rattle.rpki_cert.specs.Verification.{context, HasListed}
+use Rattle.rpki_ext.specs.Kinds.{Means}
+use Rattle.rpki_cert.specs.Certificates.{CertFields, IsCertificate}
+use Rattle.rpki_cert.specs.Validation.{IsValidAnchor}
+use Rattle.rpki_cert.specs.Verification.{context}
 use Rattle.rpki_path.specs.FaultNames.{of_validation}
 use Rattle.rpki_path.specs.Paths.{anchor_demand}
 use Rattle.rpki_path.proofs.FoundSteps.{unread, not_valid}
@@ -22,10 +24,11 @@ returns-in_err-validate_ta_at-clause-fault g c =
 
 pub returns-clause-ok : goal.returns-clause-ok
 returns-clause-ok g c =
-    let gives = c.in_ok-validate_ta_at.ensures.gives in
+    let x = context (g.V.Verifier.verifies c.args.verifier.now) c.args.now c.args.strict in
+    let r = c.in_ok-validate_ta_at.field-0 in
+    let valid = c.in_ok-validate_ta_at.ensures.ok in
+    let same = sym valid.listed.cert_is in
     record {
-      begins = rw gives.cert_is c.in_ok-cert.ensures.ok;
-      meets = rw gives.cert_is c.in_ok-validate_ta_at.ensures.profile;
-      lines = rw gives.cert_is c.in_ok-validate_ta_at.ensures.lines;
-      listed = subst (λ (d : CertFields). HasListed d (rc_value c.args.tal) c.in_ok-validate_ta_at.field-0) (sym gives.cert_is) gives;
+      begins = subst (λ (d : CertFields). Means IsCertificate d c.args.octets.now) same c.in_ok-cert.ensures.ok;
+      valid = subst (λ (d : CertFields). IsValidAnchor x (rc_value c.args.tal) d r) same valid;
     }
