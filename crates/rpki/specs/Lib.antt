@@ -19,6 +19,7 @@ pub use Rattle.rpki_der.specs.Skipping
 pub use Rattle.rpki_der.specs.Writers
 pub use Rattle.rpki_der.specs.Extensions
 pub use Rattle.rpki_der.specs.ErrorNames
+pub use Rattle.rpki_der.specs.Texts
 pub use Rattle.rpki_der.specs.declared.error.DecodeError
 pub use Rattle.rpki_der.specs.declared.error.EncodeError
 pub use Rattle.rpki_der.specs.declared.error.Field
@@ -35,6 +36,7 @@ pub use Rattle.rpki_blocks.specs.Addresses
 pub use Rattle.rpki_blocks.specs.Systems
 pub use Rattle.rpki_blocks.specs.ResourceExtensions
 pub use Rattle.rpki_blocks.specs.IssueErrorNames
+pub use Rattle.rpki_blocks.specs.ResourceTexts
 pub use Rattle.rpki_blocks.specs.declared.overclaim.Overclaim
 pub use Rattle.rpki_blocks.specs.declared.resources.IssueError
 -- ---- keys, names, URIs, signed data
