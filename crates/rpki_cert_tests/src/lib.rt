@@ -24,6 +24,8 @@ mod sets;
 #[cfg(test)]
 mod signing;
 #[cfg(test)]
+mod texts;
+#[cfg(test)]
 mod uris;
 #[cfg(test)]
 mod verified;
