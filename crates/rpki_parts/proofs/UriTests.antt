@@ -1,11 +1,11 @@
 -- The tests of URIs are the relations.
-use Rattle.std.proofs.Common.{◌≡◌, ◌≢◌, ◌⊎◌, inl, inr, ℕ, ◌≤◌, Bool, true, not, List, [], ◌∷◌, ◌++◌, length, take, drop, codes, refl, sym, ap, ◌∙◌, subst, append-nil, Decides, bytes_eq}
+use Rattle.std.proofs.Common.{◌≡◌, ◌≢◌, ◌⊎◌, inl, inr, ℕ, zero, suc, arith, ◌≤◌, Bool, true, not, List, [], ◌∷◌, ◌++◌, length, take, drop, codes, refl, sym, ap, ◌∙◌, subst, append-nil, Decides, bytes_eq}
 use Rattle.std.proofs.lemmas.Bool.{and_parts, and_from, both_ways, not-true, not_from_false, false_from_ne_true, leb-true, le-leb}
 use Rattle.std.proofs.lemmas.List.{length-map, take_at, drop_at, take-append-drop}
 use Rattle.std.proofs.lemmas.Slice.Eq.{bytes_eq-Decides}
 use Rattle.std.specs.Char.{is_ascii_graphic, to_ascii_lowercase}
 use Rattle.std.specs.List.{AllByRecursion, concat, list_all, slice_split}
-use Rattle.std.specs.Str.{str_to_ascii_lowercase, str_eq_ignore_ascii_case}
+use Rattle.std.specs.Str.{IsAscii, str_to_ascii_lowercase, str_eq_ignore_ascii_case}
 use Rattle.rpki_parts.specs.Uris.{slash, HasNoSlash, IsEmptyOrBeginsWithSlash, ArePrintable, IsUri, IsHttps, HasNoDots, IsRsync, AreEqual}
 use Rattle.rpki_parts.specs.Uris.Tests.{is_slash, is_empty, is_segment, before_slash, from_slash, authority_of, rest_of, module_of, path_of, has_scheme, is_uri, is_https, has_module_and_path, is_rsync, are_equal}
 use Rattle.rpki_parts.proofs.Slashes.{cut_is, before_has_none, from_begins, before_again, from_again}
@@ -26,6 +26,11 @@ octet_decides x =
 -- testing each octet decides whether all are printable
 pub printable_decides : (text : List ℕ) → Decides (list_all is_ascii_graphic text) (ArePrintable text)
 printable_decides text = all_decides is_ascii_graphic (λ octet. (0x21 ≤ octet) × (octet ≤ 0x7E)) octet_decides text
+
+pub printable_ascii : (text : List ℕ) → ArePrintable text → IsAscii text
+printable_ascii [] h i = omega arith
+printable_ascii (x ∷ xs) h zero = let small : x ≤ 0x7E = h.0.1 in omega arith
+printable_ascii (x ∷ xs) h (suc i) = printable_ascii xs h.1 i
 
 other_decides : (a b : List ℕ) → Decides (not (bytes_eq a b)) (a ≢ b)
 other_decides a b =

@@ -1,15 +1,16 @@
 //! URIs of the scheme https.
-ghost use Rattle.std.specs.Prelude.{◌≡◌, IfOk, IsOk, OnOk, Err, IsTrue, ◌↔◌, codes};
+ghost use Rattle.std.specs.Prelude.{◌≡◌, IfOk, Some, IsOk, OnOk, Err, IsTrue, ◌↔◌, codes};
 ghost use Rattle.std.proofs.Common.{rules};
 ghost use Rattle.std.specs.Cmp.Rules.{comparing};
 ghost use Rattle.rpki_parts.specs.Uris.{IsHttps, AreEqual};
 ghost use Rattle.rpki_parts.specs.Uris.Tests as parts;
 ghost use Rattle.rpki_parts.specs.declared.uri.UriError.TheVariants as error;
 
-use crate::uri::{BadUri, UriError, are_equal, is_https};
+use crate::uri::{BadUri, UriError, are_equal, is_https, text_of};
 use bytes::Bytes;
 use rpki_der::Piece;
 use std::alloc::{AllocError, Global};
+use std::fmt;
 use std::marker::Model;
 
 /// An https URI (RFC 9110 4.2.2), as its octets.
@@ -77,12 +78,28 @@ impl Https {
         self.octets.as_bytes()
     }
 
+    /// Returns the text.
+    pub fn as_str(&self) -> &str
+        ensures { result.now ≡ self.now }
+    {
+        text_of(self.as_bytes())
+    }
+
     /// Clones the URI.
     pub fn try_clone(&self, alloc: Global) -> Result<Https, AllocError>
         ensures { IfOk result (λ u. u ≡ self.now) }
     {
         let octets = self.octets.try_clone(alloc)?;
         Ok(Https { octets })
+    }
+}
+
+/// The URI as it stands.
+impl fmt::Display for Https {
+    ghost output = { λ u. Some u };
+
+    fn fmt<W: fmt::Write>(&self, f: &mut fmt::Formatter<W>) -> fmt::Result {
+        f.write_str(self.as_str())
     }
 }
 

@@ -1,5 +1,5 @@
 //! Public keys and their identifiers.
-ghost use Rattle.std.specs.Prelude.{◌≡◌, ◌↔◌, ◌%◌, ◌^◌, ◌<◌, ◌≤◌, length, IfOk, IfErr, IfSome, IsSome, IsTrue};
+ghost use Rattle.std.specs.Prelude.{◌≡◌, ◌↔◌, ◌%◌, ◌^◌, ◌<◌, ◌≤◌, length, IfOk, IfErr, IfSome, IsSome, IsTrue, Some};
 ghost use Rattle.rpki_der.specs.Values.{AreOctets};
 ghost use Rattle.rpki_der.specs.Tags.{OCTET_STRING};
 ghost use Rattle.rpki_der.specs.Writers.{Writes, value};
@@ -7,15 +7,18 @@ ghost use Rattle.rpki_der.specs.Place.{Place, left, IsWithin, Keeps, Answers, An
 ghost use Rattle.rpki_der.specs.Place.Reading.{Took, TookBy, TookOrMemory};
 ghost use Rattle.rpki_parts.specs.Keys.{KeyFields, IsPublicKey, key_identifier, IsKeyIdentifier, key_algorithm, key_part};
 ghost use Rattle.rpki_parts.specs.Keys.Reading.{key_identifier_at, format_at, whole_bits_at, public_key_at};
-ghost use Rattle.rpki_parts.specs.KeyNames.{subject_name};
+ghost use Rattle.rpki_parts.specs.KeyNames.{hexadecimal, subject_name};
 ghost use Rattle.rpki_der.specs.declared.error.EncodeError.TheVariants.{Memory};
 
 use crate::algorithm::take_opt_null;
 use crate::name::Name;
 use bytes::Bytes;
-use rpki_der::{Cursor, DecodeError, EncodeError, Piece, put_bits, put_parts, put_value, tag};
+use rpki_der::{
+    Cursor, DecodeError, EncodeError, Piece, put_bits, put_parts, put_value, tag, write_hexadecimal,
+};
 use sha1::Sha1;
 use std::alloc::{AllocError, Global};
+use std::fmt;
 use std::marker::Model;
 
 // The contents of identifiers.
@@ -50,6 +53,15 @@ impl Model for KeyIdentifier {
     ghost view = { λ k. k.octets };
 
     ghost inverse = { λ b. record { octets = b } };
+}
+
+/// The 40 upper-case hexadecimal digits of its octets.
+impl fmt::Display for KeyIdentifier {
+    ghost output = { λ k. Some (hexadecimal k) };
+
+    fn fmt<W: fmt::Write>(&self, f: &mut fmt::Formatter<W>) -> fmt::Result {
+        write_hexadecimal(f, &self.octets)
+    }
 }
 
 impl KeyIdentifier {

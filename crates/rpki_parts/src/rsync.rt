@@ -1,15 +1,16 @@
 //! URIs of the scheme rsync.
-ghost use Rattle.std.specs.Prelude.{◌≡◌, IfOk, IfSome, IsOk, IsNone, OnOk, Err, IsTrue, ◌↔◌, codes};
+ghost use Rattle.std.specs.Prelude.{◌≡◌, IfOk, Some, IfSome, IsOk, IsNone, OnOk, Err, IsTrue, ◌↔◌, codes};
 ghost use Rattle.std.proofs.Common.{rules};
 ghost use Rattle.std.specs.Cmp.Rules.{comparing};
 ghost use Rattle.rpki_parts.specs.Uris.{IsRsync, AreEqual, AreIdentical, HasNoPath, IsParent, HasParent};
 ghost use Rattle.rpki_parts.specs.Uris.Tests as parts;
 ghost use Rattle.rpki_parts.specs.declared.uri.UriError.TheVariants as error;
 
-use crate::uri::{BadUri, UriError, are_equal, are_identical, is_rsync, parent_of};
+use crate::uri::{BadUri, UriError, are_equal, are_identical, is_rsync, parent_of, text_of};
 use bytes::Bytes;
 use rpki_der::Piece;
 use std::alloc::{AllocError, Global};
+use std::fmt;
 use std::marker::Model;
 
 /// An rsync URI (RFC 5781), as its octets.
@@ -78,6 +79,13 @@ impl Rsync {
         self.octets.as_bytes()
     }
 
+    /// Returns the text.
+    pub fn as_str(&self) -> &str
+        ensures { result.now ≡ self.now }
+    {
+        text_of(self.as_bytes())
+    }
+
     /// Returns the parent where the path is not empty: without one slash at the end, the URI
     /// through its last slash.
     pub fn parent(&self, alloc: Global) -> Result<Option<Rsync>, AllocError>
@@ -118,6 +126,15 @@ impl Rsync {
     {
         let octets = self.octets.try_clone(alloc)?;
         Ok(Rsync { octets })
+    }
+}
+
+/// The URI as it stands.
+impl fmt::Display for Rsync {
+    ghost output = { λ u. Some u };
+
+    fn fmt<W: fmt::Write>(&self, f: &mut fmt::Formatter<W>) -> fmt::Result {
+        f.write_str(self.as_str())
     }
 }
 

@@ -3,9 +3,10 @@ ghost use Rattle.std.specs.Prelude.{◌≡◌, ◌≤◌, ◌↔◌, IsTrue, IsN
 ghost use Rattle.std.specs.Char.{is_ascii_graphic};
 ghost use Rattle.std.specs.List.{list_all, position_or_len, slice_split};
 ghost use Rattle.rpki_parts.specs.Uris.Tests as parts;
-ghost use Rattle.rpki_parts.specs.Uris.{IsHttps, IsRsync, AreIdentical, HasNoPath, IsParent};
+ghost use Rattle.rpki_parts.specs.Uris.{ArePrintable, IsHttps, IsRsync, AreIdentical, HasNoPath, IsParent};
 
 use std::alloc::AllocError;
+use std::str;
 use thiserror::Error;
 
 /// The octets are not a URI of the kind that was asked for.
@@ -84,6 +85,17 @@ impl From<AllocError> for UriError {
 
 /// The number of octets of `rsync://` and of `https://`.
 const SCHEME_LENGTH: usize = 8;
+
+// The text of a URI, which is ASCII.
+pub(crate) fn text_of(octets: &[u8]) -> &str
+    requires { ArePrintable octets.now }
+    ensures { result.now ≡ octets.now }
+{
+    match str::from_utf8(octets) {
+        Ok(text) => text,
+        Err(_) => unreachable!(),
+    }
+}
 
 // Where the first slash stands, or the length where there is none.
 fn first_slash(text: &[u8]) -> usize
