@@ -1,6 +1,6 @@
 -- The profiles of certificates (RFC 6487 4, RFC 8209 3.1; the order in which the conditions are
 -- tested is own).
-use Rattle.std.specs.Prelude.{List, [], ◌∷◌, ◌≡◌, ◌≢◌, Bool, false, Some, IsSome, IsNone, IfSome}
+use Rattle.std.specs.Prelude.{ℕ, List, [], codes, ◌∷◌, ◌≡◌, ◌≢◌, Bool, false, Some, IsSome, IsNone, IfSome}
 use Rattle.std.specs.List.{AllByRecursion}
 use Rattle.rpki_blocks.specs.Resources.{missing, inherit}
 use Rattle.rpki_parts.specs.Conditions.{IsFirstFalse}
@@ -120,3 +120,11 @@ IsFirstFault kind strict c f = IsFirstFalse (Lacks kind strict c) (faults kind) 
 abbrev pub group : Kind → Kind
 group EndEntity = Detached
 group kind = kind
+
+-- what is printed of a kind
+abbrev pub kind_text : Kind → List ℕ
+kind_text Anchor = codes "trust anchor"
+kind_text Authority = codes "certification authority"
+kind_text EndEntity = codes "end entity"
+kind_text Detached = codes "detached end entity"
+kind_text Router = codes "router"

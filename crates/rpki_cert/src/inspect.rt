@@ -1,15 +1,16 @@
 //! Certificates are inspected: whether one meets the profile of its kind (RFC 6487 4, RFC 8209 3.1).
-ghost use Rattle.std.specs.Prelude.{◌≡◌, ◌↔◌, IsTrue, IfSome, OnOk, IfErr};
+ghost use Rattle.std.specs.Prelude.{◌≡◌, ◌↔◌, IsTrue, IfSome, OnOk, IfErr, Some};
 ghost use Rattle.rpki_parts.specs.Conditions.{Tests};
 ghost use Rattle.rpki_blocks.specs.Resources.{missing};
 ghost use Rattle.rpki_parts.specs.Keys.{key_identifier};
 ghost use Rattle.rpki_ext.specs.RouterPurposes.{HasRouterPurpose};
-ghost use Rattle.rpki_cert.specs.Profiles.{HasKeyFor, HasSubjectFor, HasUsageFor, HasManifestWithin, HasNoAccess, Lacks, faults, MeetsProfile, IsFirstFault};
+ghost use Rattle.rpki_cert.specs.Profiles.{HasKeyFor, HasSubjectFor, HasUsageFor, HasManifestWithin, HasNoAccess, Lacks, faults, MeetsProfile, IsFirstFault, kind_text};
 ghost use Rattle.rpki_cert.specs.declared.inspect.Kind.TheVariants.{Anchor, Authority, EndEntity, Detached, Router};
 
 use crate::cert::Cert;
 use crate::tbs::TbsCert;
 use rpki_ext::{InspectionError, KeyUsage};
+use std::fmt;
 
 /// The kinds of certificates that are told apart in inspection.
 #[derive(Debug, Clone, Copy, PartialEq, Eq)]
@@ -24,6 +25,21 @@ pub enum Kind {
     Detached,
     /// A BGPsec router.
     Router,
+}
+
+/// The kind in words, as `trust anchor`.
+impl fmt::Display for Kind {
+    ghost output = { λ kind. Some (kind_text kind) };
+
+    fn fmt<W: fmt::Write>(&self, f: &mut fmt::Formatter<W>) -> fmt::Result {
+        f.write_str(match self {
+            Kind::Anchor => "trust anchor",
+            Kind::Authority => "certification authority",
+            Kind::EndEntity => "end entity",
+            Kind::Detached => "detached end entity",
+            Kind::Router => "router",
+        })
+    }
 }
 
 // What is tested of each kind, in this order.
