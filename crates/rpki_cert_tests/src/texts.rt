@@ -1,6 +1,10 @@
 //! What values print.
+
 use rpki_blocks::{Asn, Overclaim};
+use rpki_cert::Kind;
 use rpki_der::{Serial, Time};
+use rpki_ext::KeyUsage;
+use rpki_parts::{Https, KeyIdentifier, Rsync};
 
 #[test]
 fn numbers_print(rt: HostRuntime) {
@@ -17,10 +21,31 @@ fn numbers_print(rt: HostRuntime) {
 }
 
 #[test]
-fn times_and_modes_print(rt: HostRuntime) {
+fn times_and_keys_print(rt: HostRuntime) {
     let time = Time::utc(2026, 11, 5, 6, 0, 59).expect(&rt, "a time");
     let time = time.to_string(rt.alloc()).expect(&rt, "memory");
     assert_eq!(rt; time.as_str(), "2026-11-05T06:00:59Z");
-    let mode = Overclaim::Trim.to_string(rt.alloc()).expect(&rt, "memory");
-    assert_eq!(rt; mode.as_str(), "trim");
+    let key = KeyIdentifier::from_octets([0xA9; 20]);
+    let key = key.to_string(rt.alloc()).expect(&rt, "memory");
+    assert_eq!(rt; key.as_str(), "A9A9A9A9A9A9A9A9A9A9A9A9A9A9A9A9A9A9A9A9");
+}
+
+#[test]
+fn uris_print(rt: HostRuntime) {
+    let uri = Rsync::from_text(rt.alloc(), "rsync://h/m/x").expect(&rt, "a URI");
+    let text = uri.to_string(rt.alloc()).expect(&rt, "memory");
+    assert_eq!(rt; text.as_str(), "rsync://h/m/x");
+    let uri = Https::from_text(rt.alloc(), "https://h/x").expect(&rt, "a URI");
+    let text = uri.to_string(rt.alloc()).expect(&rt, "memory");
+    assert_eq!(rt; text.as_str(), "https://h/x");
+}
+
+#[test]
+fn names_print(rt: HostRuntime) {
+    let text = Overclaim::Trim.to_string(rt.alloc()).expect(&rt, "memory");
+    assert_eq!(rt; text.as_str(), "trim");
+    let text = KeyUsage::Ca.to_string(rt.alloc()).expect(&rt, "memory");
+    assert_eq!(rt; text.as_str(), "keyCertSign, cRLSign");
+    let text = Kind::Anchor.to_string(rt.alloc()).expect(&rt, "memory");
+    assert_eq!(rt; text.as_str(), "trust anchor");
 }

@@ -1,5 +1,5 @@
 //! Laws and comparisons: each of the facade's modules has those of the layer of its name.
-ghost use Rattle.std.specs.Prelude.{◌≡◌, ◌↔◌, IsTrue, ℕ, List, Bool};
+ghost use Rattle.std.specs.Prelude.{◌≡◌, ◌↔◌, IsOkAnd, IsTrue, ℕ, List, Bool};
 ghost use Rattle.rpki_blocks.specs.Addresses.{IsIPAddrBlocks};
 ghost use Rattle.rpki_blocks.specs.Sets.{AreIn};
 ghost use Rattle.rpki_der.specs.Extensions.{IsExtension};
@@ -14,10 +14,13 @@ ghost use Rattle.rpki_crl.specs.Lists.{IsCertificateList};
 ghost use Rattle.rpki_path.specs.Paths.{Path, Asked, IsPathOf};
 
 use rpki::crypto::RpkiSignatureAlgorithm;
-use rpki::repository::cert::KeyUsage;
+use rpki::program::Status;
+use rpki::repository::cert::{KeyUsage, Kind};
+use rpki::repository::crl::CrlEntry;
 use rpki::repository::resources::Addr;
 use rpki::repository::x509::Serial;
 use rpki::{comparing, laws};
+use std::alloc::AllocError;
 
 /// Tells that serial numbers are unambiguous.
 pub fn of_values()
@@ -111,4 +114,25 @@ pub fn equal_algorithms(one: &RpkiSignatureAlgorithm, other: &RpkiSignatureAlgor
     ensures { IsTrue result ↔ one.now ≡ other.now }
 {
     comparing::parts::equal_algorithms(one, other)
+}
+
+/// Compares kinds of certificates.
+pub fn equal_kinds(one: &Kind, other: &Kind) -> bool
+    ensures { IsTrue result ↔ one.now ≡ other.now }
+{
+    comparing::certificates::equal_kinds(one, other)
+}
+
+/// Copies an entry of a list.
+pub fn copied_entry(entry: &CrlEntry) -> Result<CrlEntry, AllocError>
+    ensures { IsOkAnd result (λ copy. copy ≡ entry.now) }
+{
+    comparing::lists::copied_entry(entry)
+}
+
+/// Compares statuses of the program.
+pub fn equal_statuses(one: &Status, other: &Status) -> bool
+    ensures { IsTrue result ↔ one.now ≡ other.now }
+{
+    comparing::program::equal_statuses(one, other)
 }

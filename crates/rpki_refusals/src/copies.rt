@@ -2,10 +2,12 @@
 
 use crate::asking::{Asked, Told, begin, plain};
 use rpki_blocks::{Addr, AsBlock, Asn, Overclaim, Prefix};
+use rpki_cert::Kind;
 use rpki_crl::CrlEntry;
 use rpki_der::{Field, Serial};
-use rpki_ext::KeyUsage;
+use rpki_ext::{InspectionError, KeyUsage};
 use rpki_parts::{PublicKeyFormat, RpkiSignatureAlgorithm, Validity};
+use rpki_path::Status;
 use rpki_samples::{day, rsa};
 use std::alloc::Global;
 
@@ -95,6 +97,22 @@ fn entry(alloc: Global) -> Option<Told> {
     plain(alloc, rpki_crl::comparing::copied_entry(&entry))
 }
 
+fn fault(alloc: Global) -> Option<Told> {
+    let fault = InspectionError::Issuer;
+    begin(alloc);
+    plain(alloc, rpki_ext::comparing::copied_inspection_error(&fault))
+}
+
+fn kind(alloc: Global) -> Option<Told> {
+    begin(alloc);
+    plain(alloc, rpki_cert::comparing::copied_kind(&Kind::Anchor))
+}
+
+fn status(alloc: Global) -> Option<Told> {
+    begin(alloc);
+    plain(alloc, rpki_path::comparing::copied_status(&Status::Done))
+}
+
 fn of_numbers(alloc: Global, asked: &mut Asked<'_>) -> Option<Told> {
     if asked.is("rpki_der::comparing::copied_serial") {
         serial(alloc)
@@ -128,8 +146,20 @@ fn of_parts(alloc: Global, asked: &mut Asked<'_>) -> Option<Told> {
         validity(alloc)
     } else if asked.is("rpki_ext::comparing::copied_key_usage") {
         usage(alloc)
+    } else {
+        None
+    }
+}
+
+fn of_judging(alloc: Global, asked: &mut Asked<'_>) -> Option<Told> {
+    if asked.is("rpki_ext::comparing::copied_inspection_error") {
+        fault(alloc)
+    } else if asked.is("rpki_cert::comparing::copied_kind") {
+        kind(alloc)
     } else if asked.is("rpki_crl::comparing::copied_entry") {
         entry(alloc)
+    } else if asked.is("rpki_path::comparing::copied_status") {
+        status(alloc)
     } else {
         None
     }
@@ -137,5 +167,7 @@ fn of_parts(alloc: Global, asked: &mut Asked<'_>) -> Option<Told> {
 
 /// The copies.
 pub fn told(alloc: Global, asked: &mut Asked<'_>) -> Option<Told> {
-    of_numbers(alloc, asked).or(of_parts(alloc, asked))
+    of_numbers(alloc, asked)
+        .or(of_parts(alloc, asked))
+        .or(of_judging(alloc, asked))
 }

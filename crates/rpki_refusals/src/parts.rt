@@ -105,6 +105,13 @@ fn key_written(alloc: Global) -> Option<Told> {
     written_digits(alloc, answer, &out, KEY)
 }
 
+fn key_whole(alloc: Global) -> Option<Told> {
+    let octets = rpki_samples::shared(alloc, KEY)?;
+    begin(alloc);
+    let answer = PublicKey::from_bytes(alloc, octets);
+    plain(alloc, answer)
+}
+
 fn name_of_key(alloc: Global) -> Option<Told> {
     let key = key(alloc)?;
     begin(alloc);
@@ -125,6 +132,13 @@ fn name_read(alloc: Global) -> Option<Told> {
     begin(alloc);
     let answer = Name::take_from(alloc, &mut cursor);
     read(alloc, answer, &cursor)
+}
+
+fn name_whole(alloc: Global) -> Option<Told> {
+    let octets = rpki_samples::shared(alloc, NAME)?;
+    begin(alloc);
+    let answer = Name::from_bytes(alloc, octets);
+    plain(alloc, answer)
 }
 
 fn name_written(alloc: Global) -> Option<Told> {
@@ -223,6 +237,8 @@ fn of_keys(alloc: Global, asked: &mut Asked<'_>) -> Option<Told> {
         identifier_as(alloc)
     } else if asked.is("rpki_parts::PublicKey::take_from") {
         key_read(alloc)
+    } else if asked.is("rpki_parts::PublicKey::from_bytes") {
+        key_whole(alloc)
     } else if asked.is("rpki_parts::PublicKey::encode_ref") {
         key_written(alloc)
     } else if asked.is("rpki_parts::PublicKey::to_subject_name") {
@@ -231,6 +247,8 @@ fn of_keys(alloc: Global, asked: &mut Asked<'_>) -> Option<Told> {
         key_copied(alloc)
     } else if asked.is("rpki_parts::Name::take_from") {
         name_read(alloc)
+    } else if asked.is("rpki_parts::Name::from_bytes") {
+        name_whole(alloc)
     } else if asked.is("rpki_parts::Name::encode_ref") {
         name_written(alloc)
     } else if asked.is("rpki_parts::Name::try_clone") {
