@@ -2,7 +2,7 @@
  *
  * What is proved: every function ends for all octets, lengths and numbers, without any undefined behaviour, as long as
  * the caller keeps what stands below. What it judges by is the proved library: a path is accepted exactly where the
- * members are a good path by the definitions of crates/rpki_path/specs/Paths.antt (running out of memory aside), and
+ * members are a valid path by the definitions of crates/rpki_path/specs/Paths.antt (running out of memory aside), and
  * octets are read as a certificate or a list exactly where they begin with one. Only tested: that what is written
  * into the caller's memory are those fields, ranges and numbers.
  *

@@ -13,7 +13,7 @@ pub use Rattle.rpki_der.specs.Serials
 pub use Rattle.rpki_der.specs.Times
 pub use Rattle.rpki_der.specs.Rows
 pub use Rattle.rpki_der.specs.Folding
-pub use Rattle.rpki_der.specs.Spelling
+pub use Rattle.rpki_der.specs.Encoding
 pub use Rattle.rpki_der.specs.Place
 pub use Rattle.rpki_der.specs.Skipping
 pub use Rattle.rpki_der.specs.Writers

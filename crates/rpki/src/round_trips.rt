@@ -1,4 +1,4 @@
-//! What was made is written and read again as it was, and an authority below a good path is issued: calls whose contracts are proved from those
+//! What was made is written and read again as it was, and an authority below a valid path is issued: calls whose contracts are proved from those
 //! of the public calls alone.
 pub use rpki_cert::round_trip as certificates;
 pub use rpki_crl::round_trip as lists;

@@ -9,7 +9,7 @@ use Rattle.rpki_der.specs.Primitives.Reading.{bits_at, octets_at}
 use Rattle.rpki_der.specs.Reading.{both, content, optional, Reads, ReadsWhole, Both, Inside, Optional, ReadsBefore, Anything}
 use Rattle.rpki_der.specs.Values.Reading.{◌>>=◌}
 use Rattle.rpki_der.specs.Rows.Reading.{Shrinks}
-use Rattle.rpki_der.specs.Spelling.{BeginsOther}
+use Rattle.rpki_der.specs.Encoding.{BeginsOther}
 use Rattle.rpki_der.specs.Choices.{Either}
 use Rattle.rpki_der.specs.Choices.{turned, Turned, followed, Followed, whole, content_or, optional_of}
 use Rattle.rpki_der.specs.Tags.{BIT_STRING, OCTET_STRING, SEQUENCE}
@@ -34,10 +34,10 @@ use Rattle.rpki_blocks.proofs.UnionReads.{choice_reads, ordered_is, is_ordered, 
 address_is : (bits : ℕ) (r : Block) (b : List ℕ) → Turned (prefix_of bits) IsBits r b → IsIPAddress bits r b
 address_is bits r b s =
     let g = unless_some (ltb bits (8 * length s.0.1)) (record { min = lower s.0.1; max = upper s.0.0 s.0.1 }) r s.2 in
-    record { unused = s.0.0; octets = s.0.1; spelled = s.1; fits = ltb-false _ _ g.0; is = sym g.1 }
+    record { unused = s.0.0; octets = s.0.1; encoded = s.1; fits = ltb-false _ _ g.0; is = sym g.1 }
 
 is_address : (bits : ℕ) (r : Block) (b : List ℕ) → IsIPAddress bits r b → Turned (prefix_of bits) IsBits r b
-is_address bits r b s = ((s.unused, s.octets), s.spelled, rw (le-ltb bits (8 * length s.octets) s.fits, s.is) refl)
+is_address bits r b s = ((s.unused, s.octets), s.encoded, rw (le-ltb bits (8 * length s.octets) s.fits, s.is) refl)
 
 -- an IPAddress is read as it is encoded
 pub address_reads : (family : Family) → Reads (address_at family) (IsIPAddress (family_bits family))
@@ -78,7 +78,7 @@ ip_element_reads family =
     (whole_reads (turned spanned (both (address_at family) (address_at family))) R
     (turned_reads spanned (both (address_at family) (address_at family)) (Both A A) (both_reads (address_at family) (address_at family) A A (address_reads family) (address_reads family))))
     (address_reads family)
-    (λ r text rest s. let b = enc_begins BIT_STRING _ text s.spelled.enc in other_tag SEQUENCE BIT_STRING text rest b.0 b.1 (λ e. absurd (omega arith))))
+    (λ r text rest s. let b = enc_begins BIT_STRING _ text s.encoded.enc in other_tag SEQUENCE BIT_STRING text rest b.0 b.1 (λ e. absurd (omega arith))))
     (λ r text h. elim h [ inl s ↦ range_is (family_bits family) r text s | inr s ↦ inr s ])
     (λ r text h. is_element (family_bits family) r text h)
 

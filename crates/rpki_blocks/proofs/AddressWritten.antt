@@ -56,7 +56,7 @@ module _ (last address : ℕ) (l : last ≤ 128) (h : address < 2 ^ 128) where
   without_made width wide whole short = record {
     unused = unused_of last;
     octets = octets_of (count_of last) (address / 2 ^ last * 2 ^ unused_of last);
-    spelled = record {
+    encoded = record {
       enc = made BIT_STRING (unused_of last ∷ octets_of (count_of last) (address / 2 ^ last * 2 ^ unused_of last)) (omega arith) short;
       few = omega arith;
       none = no_octets;
@@ -95,9 +95,9 @@ ip_block_made width whole P wide b p order small short =
           let tests = and_parts _ _ t in
           let zeros = zeros_are b.min (prefix_bits b) (eqb-true _ _ tests.0) in
           let size : b.max + 1 ≡ b.min + 2 ^ prefix_bits b = eqb-true _ _ tests.1 in
-          let spelled = without_made (prefix_bits b) b.min (greatest_le (is_prefix b) 128) (omega arith) width ((wide b p).2 t) whole (subst Short is short) in
+          let encoded = without_made (prefix_bits b) b.min (greatest_le (is_prefix b) 128) (omega arith) width ((wide b p).2 t) whole (subst Short is short) in
           let same : around (prefix_bits b) b.min ≡ b = same_block _ _ zeros (omega (arith, zeros, size)) in
-          inr (subst (λ (s : List ℕ). IsIPAddress width b s) (sym is) (subst (λ (r : Block). IsIPAddress width r (without (prefix_bits b) b.min)) same spelled))
+          inr (subst (λ (s : List ℕ). IsIPAddress width b s) (sym is) (subst (λ (r : Block). IsIPAddress width r (without (prefix_bits b) b.min)) same encoded))
       | inr f ↦
           let is : ip_block b ≡ sequence (without (zero_bits b.min) b.min ∷ without (one_bits b.max) b.max ∷ []) = rw f in
           let short' : Short (sequence (without (zero_bits b.min) b.min ∷ without (one_bits b.max) b.max ∷ [])) = subst Short is short in

@@ -1,7 +1,7 @@
 -- The formats of resources are unambiguous, by what is read.
 use Rattle.std.proofs.Common.{List, [], ℕ, sym}
 use Rattle.std.proofs.lemmas.List.{append-nil}
-use Rattle.rpki_der.specs.Spelling.{Begins}
+use Rattle.rpki_der.specs.Encoding.{Begins}
 use Rattle.rpki_der.proofs.Formats.{of_enc, IsFormat}
 use Rattle.rpki_der.proofs.Readings.{one_reading}
 use Rattle.rpki_blocks.specs.Addresses.{IsIPAddrBlocks}
@@ -11,8 +11,8 @@ use Rattle.rpki_blocks.specs.Systems.Reading.{as_identifiers_at}
 use Rattle.rpki_blocks.proofs.AddressReads.{ip_reads}
 use Rattle.rpki_blocks.proofs.SystemReads.{as_reads}
 
-whole : {V : Type 0} (spells : V → List ℕ → Type 0) (v : V) (b : List ℕ) → spells v b → Begins spells b v []
-whole spells v b h = record { text = b; spelled = h; parts = sym (append-nil b) }
+whole : {V : Type 0} (encodes : V → List ℕ → Type 0) (v : V) (b : List ℕ) → encodes v b → Begins encodes b v []
+whole encodes v b h = record { text = b; encoded = h; parts = sym (append-nil b) }
 
 -- IPAddrBlocks are a format
 pub ip_format : IsFormat IsIPAddrBlocks

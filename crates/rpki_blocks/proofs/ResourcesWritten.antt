@@ -108,7 +108,7 @@ choice_made P write element w (blocks (b ∷ bs)) c e f s =
     let row = elements_made P write element w (b ∷ bs) f.2 (pieces_short (map write (b ∷ bs)) (content_short SEQUENCE _ short)) in
     subst (λ (x : List ℕ). IsResourceChoice element (blocks (b ∷ bs)) x) is (inl (record {
       elements = b ∷ bs;
-      spelled = record { content = concat (map write (b ∷ bs)); content_is = row; enc = made SEQUENCE _ (omega arith) short };
+      encoded = record { content = concat (map write (b ∷ bs)); content_is = row; enc = made SEQUENCE _ (omega arith) short };
       union = record { chain = b ∷ bs; is_chain = f.1; same = λ n. refl; is = refl };
     }))
 

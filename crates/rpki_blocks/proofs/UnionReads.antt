@@ -35,7 +35,7 @@ module _ (element : List ℕ → Option (Block × List ℕ)) (S : Block → List
       elim h [
         | inl s ↦ inl (record {
           elements = s.1.0;
-          spelled = record { content = s.0; content_is = s.1.1; enc = s.2 };
+          encoded = record { content = s.0; content_is = s.1.1; enc = s.2 };
           union = subst (λ (q : Resources). IsUnion s.1.0 q) (some_is (listed (merged s.1.0)) r s.1.2) (is_union s.1.0);
         })
         | inr s ↦ inr (sym (some_is inherit r s.2), s.1)
@@ -44,7 +44,7 @@ module _ (element : List ℕ → Option (Block × List ℕ)) (S : Block → List
   is_choice : (r : Resources) (b : List ℕ) → IsResourceChoice S r b → Either (Inside SEQUENCE (Turned listed_of (IsRow S))) (Turned inherited IsNull) r b
   is_choice r b h =
       elim h [
-        | inl s ↦ inl (s.spelled.content, (s.elements, s.spelled.content_is, ap some (sym (union_is s.elements r s.union))), s.spelled.enc)
+        | inl s ↦ inl (s.encoded.content, (s.elements, s.encoded.content_is, ap some (sym (union_is s.elements r s.union))), s.encoded.enc)
         | inr s ↦ inr (tt, s.1, ap some (sym s.0))
       ]
 

@@ -26,7 +26,7 @@ upper unused octets = lower octets + 2 ^ (128 - 8 * length octets + unused) - 1
 pub record IsIPAddress (bits : ℕ) (r : Block) (b : List ℕ) : Type 0 where
   pub unused : ℕ
   pub octets : List ℕ
-  pub spelled : IsBitString unused octets b
+  pub encoded : IsBitString unused octets b
   pub fits : 8 * length octets ≤ bits
   pub is : r ≡ record { min = lower octets; max = upper unused octets }
 
@@ -72,7 +72,7 @@ pub record Families : Type 0 where
 
 -- the family is there, and b encodes it
 abbrev pub IsSomeOf : (Resources → List ℕ → Type 0) → Option Resources → List ℕ → Type 0
-IsSomeOf spells family b = (r : Resources) × spells r b × (family ≡ Some r)
+IsSomeOf encodes family b = (r : Resources) × encodes r b × (family ≡ Some r)
 
 -- one or two families, in either order
 abbrev pub AreFamilies : Families → List (List ℕ) → Type 0

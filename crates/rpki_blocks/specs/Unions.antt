@@ -21,7 +21,7 @@ IsInherit r b = (r ≡ inherit) × (b ≡ null)
 -- addressesOrRanges SEQUENCE OF IPAddressOrRange, or asIdsOrRanges SEQUENCE OF ASIdOrRange
 pub record IsUnionOf (element : Block → List ℕ → Type 0) (r : Resources) (b : List ℕ) : Type 0 where
   pub elements : List Block
-  pub spelled : IsSequenceOf (IsRow element) elements b
+  pub encoded : IsSequenceOf (IsRow element) elements b
   pub union : IsUnion elements r
 
 -- IPAddressChoice ::= CHOICE {   (RFC 3779 2.2.3.4)

@@ -1,6 +1,6 @@
 -- Paths that a caller of C's asks about (own): strings, of which the first begins with the anchor, and the kind of the last.
 use Rattle.std.specs.Prelude.{◌≡◌, ℕ, List, [], ◌∷◌, ◌++◌, Option, Some, None, Result, Ok, Err}
-use Rattle.rpki_der.specs.Spelling.{Means}
+use Rattle.rpki_der.specs.Encoding.{Means}
 use Rattle.rpki_cert.specs.Certificates.{CertFields, IsCertificate}
 use Rattle.rpki_cert.specs.Profiles.{MeetsProfile}
 use Rattle.rpki_cert.specs.Verification.{Context, ResourceFields, LineUnder, IsVerified, router_lines}

@@ -1,7 +1,7 @@
 //! Certificates for C.
 ghost use Rattle.std.specs.Prelude.{◌≡◌};
 ghost use Rattle.rpki_der.specs.Place.{MeansOrMemory};
-ghost use Rattle.rpki_der.specs.Spelling.{Means};
+ghost use Rattle.rpki_der.specs.Encoding.{Means};
 ghost use Rattle.rpki_cert.specs.Certificates.{IsCertificate};
 
 use crate::copying::{RpkiAsRange, RpkiIpRange, put_addresses, put_as_numbers, put_octets};

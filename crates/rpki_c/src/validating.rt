@@ -51,7 +51,7 @@ pub(crate) fn validate<V: Verifier>(
     now: Time,
     verifier: &V,
 ) -> Result<ResourceCert, PathError>
-    // Ok exactly where each string begins with a member of a good path, none of which is revoked where lists are given.
+    // Ok exactly where each string begins with a member of a valid path, none of which is revoked where lists are given.
     ensures validates { let x = context (V.verifies verifier.now) now strict in
         let pairs = option_map (λ store. store.now.pairs) lists.entry in
         Validates x pairs anchor.now (asked cas.now leaf) [] result }

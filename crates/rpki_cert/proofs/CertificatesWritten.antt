@@ -18,7 +18,7 @@ use Rattle.rpki_parts.proofs.SignedDataWritten.{signed_made, signed_enc, content
 use Rattle.rpki_parts.proofs.ValidityWritten.{validity_made, ok_validity}
 use Rattle.rpki_parts.proofs.KeyWritten.{key_made, ok_key}
 use Rattle.rpki_parts.proofs.AlgorithmWritten.{algorithm_made, ok_algorithm}
-use Rattle.rpki_cert.specs.Certificates.{TbsFields, version_3, IsTbsCertificate, tagged_extensions, tbs_content, spelling, Fits, CertFields, IsCertificate}
+use Rattle.rpki_cert.specs.Certificates.{TbsFields, version_3, IsTbsCertificate, tagged_extensions, tbs_content, encoding, Fits, CertFields, IsCertificate}
 use Rattle.rpki_ext.specs.CertificateExtensions.{extensions, parts, HasResources}
 use Rattle.rpki_ext.proofs.CertificateExtensions.{known_parts, ok_contents, fields_given}
 use Rattle.rpki_ext.proofs.KindsWritten.{written, row_made, contents_short, ok_row}
@@ -54,11 +54,11 @@ module _ (f : TbsFields) (fits : Fits f) (only_v4 : AreV4 f.extensions.v4_resour
       )
       fits.short
 
-  enc_made : (b : List ℕ) → b ≡ spelling f → IsEnc SEQUENCE (tbs_content f) b
+  enc_made : (b : List ℕ) → b ≡ encoding f → IsEnc SEQUENCE (tbs_content f) b
   enc_made b is = record { octet = omega arith; low_tag = omega arith; octets = content_octets; short = fits.short; is = is }
 
   -- the encoding of fields with resources is a TBSCertificate of them
-  pub tbs_made : (b : List ℕ) → b ≡ spelling f → HasResources f.extensions → IsTbsCertificate f b
+  pub tbs_made : (b : List ℕ) → b ≡ encoding f → HasResources f.extensions → IsTbsCertificate f b
   unfolding extensions
   tbs_made b is some =
       let (_, (serial_short, (algorithm_short, (_, (validity_short, (_, (key_short, (last, _)))))))) = pieces_short (pieces f) (fits.short, content_octets) in
@@ -90,7 +90,7 @@ module _ (f : TbsFields) (fits : Fits f) (only_v4 : AreV4 f.extensions.v4_resour
       }
 
 -- signed data of the encoding of fields is a certificate with these fields
-pub certificate_made : (c : CertFields) → Fits c.fields → c.signed_data.message ≡ spelling c.fields → AreOctets c.signed_data.signature.value → length (concat (signed_pieces c.signed_data)) < 2 ^ 32 → HasResources c.fields.extensions → AreV4 c.fields.extensions.v4_resources → IsCertificate c (signed_data c.signed_data)
+pub certificate_made : (c : CertFields) → Fits c.fields → c.signed_data.message ≡ encoding c.fields → AreOctets c.signed_data.signature.value → length (concat (signed_pieces c.signed_data)) < 2 ^ 32 → HasResources c.fields.extensions → AreV4 c.fields.extensions.v4_resources → IsCertificate c (signed_data c.signed_data)
 certificate_made c fits is octets short some only_v4 =
     let s = c.signed_data in
     let message = of_enc (enc_made c.fields fits only_v4 s.message is) in

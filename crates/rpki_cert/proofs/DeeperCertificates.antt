@@ -73,7 +73,7 @@ module _ (d e : ℕ) (le : d ≤ e) where
     first = h.first;
     more = h.more;
     pieces = h.pieces;
-    spelled = more_pieces _ _ description (h.first ∷ h.more) h.pieces h.spelled;
+    encoded = more_pieces _ _ description (h.first ∷ h.more) h.pieces h.encoded;
     sequence = h.sequence;
     repository = h.repository;
     manifest = h.manifest;
@@ -87,13 +87,13 @@ module _ (d e : ℕ) (le : d ≤ e) where
   gives_access : (xs : List Extension) (v : Option Access) → Gives (subject_information_access_within d) xs v → Gives (subject_information_access_within e) xs v
   gives_access xs v h =
       more_of_one (Tells (subject_information_access_within d)) (Tells (subject_information_access_within e))
-      (λ x w t. (t.0, (t.1.0, record { text = t.1.1.text; spelled = access w t.1.1.text t.1.1.spelled; parts = t.1.1.parts })))
+      (λ x w t. (t.0, (t.1.0, record { text = t.1.1.text; encoded = access w t.1.1.text t.1.1.encoded; parts = t.1.1.parts })))
       (only (identifiers (subject_information_access_within d)) xs) v h
 
   gives_policies : (xs : List Extension) (v : Option Overclaim) → Gives (certificate_policies_within d) xs v → Gives (certificate_policies_within e) xs v
   gives_policies xs v h =
       more_of_one (Tells (certificate_policies_within d)) (Tells (certificate_policies_within e))
-      (λ x w t. (t.0, (t.1.0, record { text = t.1.1.text; spelled = policies w t.1.1.text t.1.1.spelled; parts = t.1.1.parts })))
+      (λ x w t. (t.0, (t.1.0, record { text = t.1.1.text; encoded = policies w t.1.1.text t.1.1.encoded; parts = t.1.1.parts })))
       (only (identifiers (certificate_policies_within d)) xs) v h
 
   gives : (xs : List Extension) (f : ExtensionFields) → GiveFieldsWithin d xs f → GiveFieldsWithin e xs f

@@ -11,7 +11,7 @@ use Rattle.rpki_der.specs.Rows.{IsRow}
 use Rattle.rpki_der.specs.Rows.Reading.{row_of, Shrinks}
 use Rattle.rpki_der.specs.Skipping.{IsCaptured}
 use Rattle.rpki_der.specs.Skipping.Reading.{any_at, captured_at}
-use Rattle.rpki_der.specs.Spelling.{Means}
+use Rattle.rpki_der.specs.Encoding.{Means}
 use Rattle.rpki_der.specs.Tags.{CONTEXT_CONSTRUCTED, SEQUENCE}
 use Rattle.rpki_der.specs.Values.{enc, length_octets, IsEnc, IsValue, IsNested}
 use Rattle.rpki_der.specs.Values.Reading.{value_at}
@@ -162,13 +162,13 @@ same_parts p q e = let same : view p ≡ view q = some_is (view p) (view q) e in
 
 begins : (octets : List ℕ) (c : CertFields) (m : Means IsCertificate c octets) (p : Parts) → parts_at octets ≡ Some (view p) → BeginsWith octets p
 begins octets c m p e =
-    let found = certificate_parts c octets m.1.text m.0 m.1.parts m.1.spelled in
+    let found = certificate_parts c octets m.1.text m.0 m.1.parts m.1.encoded in
     let same : found.parts ≡ p = same_parts found.parts p (sym found.read ∙ e) in
     subst (λ (q : Parts). BeginsWith octets q) same (record {
       certificate = c;
       front = m.1.text;
       rest = m.0;
-      certificate_is = m.1.spelled;
+      certificate_is = m.1.encoded;
       built = found.built;
       extensions_are = found.extensions_are;
       octets_are = m.1.parts;
@@ -187,7 +187,7 @@ pub parts_refused : (octets copy : List ℕ) (c : CertFields) → Means IsCertif
 parts_refused octets copy c m same (Ok p) e = tt
 parts_refused octets copy c m same (Err d) e =
     let n = subst (λ (o : List ℕ). Means IsCertificate c o) same m in
-    let found = certificate_parts c octets n.1.text n.0 n.1.parts n.1.spelled in
+    let found = certificate_parts c octets n.1.text n.0 n.1.parts n.1.encoded in
     refuses d (λ none. nothing (view found.parts) (sym none ∙ found.read)) e
 
 -- ---- why nothing could be read

@@ -4,7 +4,7 @@ pub mod ExampleFields
 pub mod WritingSteps
 pub mod Exclusive
 pub mod Testing
-pub mod Lines
+pub mod Checks
 pub mod IssuedNumbers
 pub mod Verdicts
 pub mod ReadAgain

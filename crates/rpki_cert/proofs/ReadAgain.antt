@@ -18,11 +18,11 @@ use Rattle.rpki_der.proofs.ValueReads.{value_reads}
 use Rattle.rpki_der.proofs.ValueWritten.{Short, pieces_short, content_short}
 use Rattle.rpki_der.proofs.Values.{one_value}
 use Rattle.rpki_parts.specs.SignedDatas.{SignedFields, signed_data, signed_pieces}
-use Rattle.rpki_der.specs.Spelling.{Means}
+use Rattle.rpki_der.specs.Encoding.{Means}
 use Rattle.rpki_der.specs.Tags.{SEQUENCE}
 use Rattle.rpki_der.proofs.Answering.{whole_means}
 use Rattle.rpki_ext.proofs.OneMeaning.{one_meaning}
-use Rattle.rpki_cert.specs.Certificates.{TbsFields, CertFields, IsCertificate, IsMade, spelling, tbs_content}
+use Rattle.rpki_cert.specs.Certificates.{TbsFields, CertFields, IsCertificate, IsMade, encoding, tbs_content}
 use Rattle.rpki_cert.specs.Certificates.Reading.{cert_at}
 use Rattle.rpki_cert.specs.Issuing.{IsMadeOf, IsUnreadable, IsNotMade, IsNoReadingFault, IsNotReadAgain}
 use Rattle.rpki_cert.specs.declared.issue.IssueCaError.{IssueCaError}
@@ -38,15 +38,15 @@ unfolding enc
 content_octets c h = (AreOctets-parts (length_octets (length c)) c h.1).1
 
 -- whatever is read of what was made has its message
-pub message_again : (s : SignedFields) (f : TbsFields) (c : CertFields) → s.message ≡ spelling f → AreOctets (signed_data s) → length (content_of s) < 2 ^ 32
-    → Means IsCertificate c (signed_data s) → c.signed_data.message ≡ spelling f
+pub message_again : (s : SignedFields) (f : TbsFields) (c : CertFields) → s.message ≡ encoding f → AreOctets (signed_data s) → length (content_of s) < 2 ^ 32
+    → Means IsCertificate c (signed_data s) → c.signed_data.message ≡ encoding f
 message_again s f c is octets short (rest, begins) =
-    let cert = begins.spelled in
+    let cert = begins.encoded in
     let low = content_octets (content_of s) octets in
     let whole : IsEnc SEQUENCE (content_of s) (signed_data s) = record { octet = omega arith; low_tag = omega arith; octets = low; short = short; is = refl } in
     let one = one_reading (value_at SEQUENCE) (IsEnc SEQUENCE) (value_reads SEQUENCE) (signed_data s) (content_of s) cert.content [] rest
-    (record { text = signed_data s; spelled = whole; parts = sym (append-nil (signed_data s)) })
-    (record { text = begins.text; spelled = cert.enc; parts = begins.parts }) in
+    (record { text = signed_data s; encoded = whole; parts = sym (append-nil (signed_data s)) })
+    (record { text = begins.text; encoded = cert.enc; parts = begins.parts }) in
     let signed = cert.content_is.signed_is in
     let shorts = pieces_short (signed_pieces s) (short, low) in
     let inner : Short (tbs_content f) = content_short SEQUENCE (tbs_content f) (subst Short is shorts.0) in

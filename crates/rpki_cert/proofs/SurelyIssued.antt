@@ -14,7 +14,7 @@ use Rattle.rpki_cert.specs.Certificates.{TbsFields, CertFields, CanBeWritten, tb
 use Rattle.rpki_cert.specs.Issuing.{IsReadOf, IsNotIssued, IsNoReadingFault, IsMemory, made_with}
 use Rattle.rpki_cert.specs.Profiles.{MeetsProfile, Lacks, faults}
 use Rattle.rpki_cert.specs.Validation.{IsInvalidBelow}
-use Rattle.rpki_cert.specs.Verification.{Context, LineUnder, ResourceFields, IsVerified, issued_lines}
+use Rattle.rpki_cert.specs.Verification.{Context, CheckUnder, ResourceFields, IsVerified, issued_checks}
 use Rattle.rpki_cert.specs.declared.inspect.Kind.{Kind}
 use Rattle.rpki_cert.specs.declared.issue.IssueCaError.{IssueCaError}
 use Rattle.rpki_cert.specs.declared.issue.IssueCaError.TheVariants.{Signing, Encode, Decode, Validation}
@@ -22,7 +22,7 @@ use Rattle.rpki_cert.specs.declared.validation_error.ValidationError.{Validation
 use Rattle.rpki_cert.specs.declared.validation_error.ValidationError.TheVariants.{Inspection, Verification}
 use Rattle.rpki_cert.specs.declared.verification_error.VerificationError.{VerificationError}
 use Rattle.rpki_cert.specs.declared.verification_error.VerificationError.TheVariants as verifying
-use Rattle.rpki_cert.proofs.Lines.{first_not_all}
+use Rattle.rpki_cert.proofs.Checks.{first_not_all}
 
 module _ {E : Type 0} (f : TbsFields) (MayAnswer : Result SignatureFields (SigningError E) → Type 0) where
   -- ---- it is signed
@@ -47,7 +47,7 @@ module _ {E : Type 0} (f : TbsFields) (MayAnswer : Result SignatureFields (Signi
 
     module _ (x : Context) (issuer : ResourceFields) (kind : Kind) where
       abbrev pub Valid : CertFields → Type 0
-      Valid c = MeetsProfile kind x.strict c × IsVerified (LineUnder x issuer c) issued_lines
+      Valid c = MeetsProfile kind x.strict c × IsVerified (CheckUnder x issuer c) issued_checks
 
       module _ (all_valid : (s : SignatureFields) → MayAnswer (Ok s) → Valid (made_with f s)) where
         valid : (c : CertFields) → IsReadOf f MayAnswer c → Valid c
@@ -56,7 +56,7 @@ module _ {E : Type 0} (f : TbsFields) (MayAnswer : Result SignatureFields (Signi
         validated : (e : ValidationError) (c : CertFields) → IsReadOf f MayAnswer c → IsInvalidBelow x issuer kind c e → IsMemory {E = E} (Validation e)
         validated (Inspection e) c is h = absurd (first_not_all (Lacks kind x.strict c) (faults kind) e h (valid c is).0)
         validated (Verification e) c is (meets, inl same) = subst (λ (d : VerificationError). IsMemory {E = E} (Validation (Verification d))) (sym same) tt
-        validated (Verification e) c is (meets, inr first) = absurd (first_not_all (LineUnder x issuer c) issued_lines e first (valid c is).1)
+        validated (Verification e) c is (meets, inr first) = absurd (first_not_all (CheckUnder x issuer c) issued_checks e first (valid c is).1)
 
         read : (e : DecodeError) → IsNoReadingFault {E = E} (Decode e) → IsMemory {E = E} (Decode e)
         read reading.Memory h = tt

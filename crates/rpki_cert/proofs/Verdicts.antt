@@ -8,28 +8,28 @@ use Rattle.rpki_parts.specs.Conditions.{Tests}
 use Rattle.rpki_cert.specs.Certificates.{CertFields}
 use Rattle.rpki_cert.specs.Verification.{TestsOrMemory, AreAlike, IsAnswerOrMemory, ResourceFields, HasListed, HasIssued, HasSets}
 use Rattle.rpki_cert.specs.declared.verification_error.VerificationError.{VerificationError}
-use Rattle.rpki_cert.proofs.Lines.{first_not_all, one_first}
+use Rattle.rpki_cert.proofs.Checks.{first_not_all, one_first}
 
 -- ---- verdicts
 
-module _ {S T : Type 0} (line : VerificationError → Type 0) (lines : List VerificationError) where
-  pub alike : (r : Result S VerificationError) (s : Result T VerificationError) → TestsOrMemory line lines r → TestsOrMemory line lines s → AreAlike r s
+module _ {S T : Type 0} (check : VerificationError → Type 0) (checks : List VerificationError) where
+  pub alike : (r : Result S VerificationError) (s : Result T VerificationError) → TestsOrMemory check checks r → TestsOrMemory check checks s → AreAlike r s
   alike (Ok v) (Ok w) t u = tt
   alike (Ok v) (Err e) t (inl same) = same
-  alike (Ok v) (Err e) t (inr first) = absurd (first_not_all line lines e first t)
+  alike (Ok v) (Err e) t (inr first) = absurd (first_not_all check checks e first t)
   alike (Err e) (Ok w) (inl same) u = same
-  alike (Err e) (Ok w) (inr first) u = absurd (first_not_all line lines e first u)
+  alike (Err e) (Ok w) (inr first) u = absurd (first_not_all check checks e first u)
   alike (Err e) (Err f) (inl same) u = inr (inl same)
   alike (Err e) (Err f) (inr first) (inl same) = inr (inr same)
-  alike (Err e) (Err f) (inr first) (inr second) = inl (one_first line lines e f first second)
+  alike (Err e) (Err f) (inr first) (inr second) = inl (one_first check checks e f first second)
 
-  pub answer_or_memory : (r : Result S VerificationError) (s : Result T VerificationError) → Tests line lines r → TestsOrMemory line lines s → IsAnswerOrMemory r s
+  pub answer_or_memory : (r : Result S VerificationError) (s : Result T VerificationError) → Tests check checks r → TestsOrMemory check checks s → IsAnswerOrMemory r s
   answer_or_memory (Ok v) (Ok w) t u = tt
   answer_or_memory (Ok v) (Err e) t (inl same) = same
-  answer_or_memory (Ok v) (Err e) t (inr first) = absurd (first_not_all line lines e first t)
-  answer_or_memory (Err e) (Ok w) t u = absurd (first_not_all line lines e t u)
+  answer_or_memory (Ok v) (Err e) t (inr first) = absurd (first_not_all check checks e first t)
+  answer_or_memory (Err e) (Ok w) t u = absurd (first_not_all check checks e t u)
   answer_or_memory (Err e) (Err f) t (inl same) = inr same
-  answer_or_memory (Err e) (Err f) t (inr first) = inl (one_first line lines f e first t)
+  answer_or_memory (Err e) (Err f) t (inr first) = inl (one_first check checks f e first t)
 
 -- ---- results
 

@@ -11,7 +11,7 @@ use Rattle.rpki_parts.specs.Signing.{IsRefusal}
 use Rattle.rpki_parts.specs.declared.signature.SigningError.{SigningError}
 use Rattle.rpki_parts.specs.declared.signature.SigningError.TheVariants as signing
 use Rattle.rpki_ext.specs.Kinds.{Means}
-use Rattle.rpki_cert.specs.Certificates.{TbsFields, CertFields, CanBeWritten, IsCertificate, tbs_content, spelling}
+use Rattle.rpki_cert.specs.Certificates.{TbsFields, CertFields, CanBeWritten, IsCertificate, tbs_content, encoding}
 use Rattle.rpki_cert.specs.declared.issue.IssueCaError.{IssueCaError}
 use Rattle.rpki_cert.specs.declared.issue.IssueCaError.TheVariants.{Signing, Encode, Decode, Validation}
 use Rattle.rpki_cert.specs.declared.validation_error.ValidationError.{ValidationError}
@@ -21,7 +21,7 @@ use Rattle.rpki_cert.specs.declared.verification_error.VerificationError.TheVari
 -- the signed data is made of the fields, with a signer that may give these answers, and isn't too
 -- long
 pub record IsMadeOf {E : Type 0} (f : TbsFields) (MayAnswer : Result SignatureFields (SigningError E) → Type 0) (s : SignedFields) : Type 0 where
-  pub message_is : s.message ≡ spelling f
+  pub message_is : s.message ≡ encoding f
   pub signed : MayAnswer (Ok s.signature)
   pub short : length (concat (signed_pieces s)) < 2 ^ 32
 
@@ -43,7 +43,7 @@ IsNotMade f MayAnswer (Validation e) = ⊥
 -- signer that may give these answers
 pub record IsReadOf {E : Type 0} (f : TbsFields) (MayAnswer : Result SignatureFields (SigningError E) → Type 0) (c : CertFields) : Type 0 where
   pub read : IsCertificate c (signed_data c.signed_data)
-  pub message_is : c.signed_data.message ≡ spelling f
+  pub message_is : c.signed_data.message ≡ encoding f
   pub fields_are : CanBeWritten f → c.fields ≡ f
   pub signed : CanBeWritten f → MayAnswer (Ok c.signed_data.signature)
 
@@ -73,7 +73,7 @@ IsNotReadAgain s (Validation e) = ⊥
 
 -- what is made of the fields with this signature
 abbrev pub made_with : TbsFields → SignatureFields → CertFields
-made_with f s = record { fields = f; signed_data = record { message = spelling f; signature = s } }
+made_with f s = record { fields = f; signed_data = record { message = encoding f; signature = s } }
 
 -- memory was wanted, in whichever of the steps
 abbrev pub IsMemory : {E : Type 0} → IssueCaError E → Type 0

@@ -5,7 +5,7 @@ use Rattle.std.specs.List.{AllByRecursion, IsDistinct, concat, list_any}
 use Rattle.rpki_der.specs.Tags.{CONTEXT_CONSTRUCTED, SEQUENCE}
 use Rattle.rpki_der.specs.Values.{enc, nested}
 use Rattle.rpki_der.specs.Extensions.{extension}
-use Rattle.rpki_der.specs.Spelling.{Means}
+use Rattle.rpki_der.specs.Encoding.{Means}
 use Rattle.rpki_ext.specs.ExtensionKinds.{known}
 use Rattle.rpki_cert.specs.Certificates.{CertFields, IsCertificate}
 use Rattle.rpki_cert.specs.Rearranged.{IsBuiltOf, IsSomeExtension}

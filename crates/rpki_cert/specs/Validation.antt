@@ -1,8 +1,8 @@
--- Which certificates are valid, and why one isn't: the inspection of its kind comes first, then its lines are verified (RFC 6487 7.2).
+-- Which certificates are valid, and why one isn't: the inspection of its kind comes first, then its checks are verified (RFC 6487 7.2).
 use Rattle.std.specs.Prelude.{Bool, List, ℕ, codes}
 use Rattle.rpki_cert.specs.Certificates.{CertFields}
 use Rattle.rpki_cert.specs.Profiles.{MeetsProfile, IsFirstFault}
-use Rattle.rpki_cert.specs.Verification.{Context, LineUnder, AnchorLine, IsVerified, IsFirstFalseOrMemory, ResourceFields, HasListed, HasIssued, issued_lines, anchor_lines}
+use Rattle.rpki_cert.specs.Verification.{Context, CheckUnder, AnchorCheck, IsVerified, IsFirstFalseOrMemory, ResourceFields, HasListed, HasIssued, issued_checks, anchor_checks}
 use Rattle.rpki_cert.specs.declared.inspect.Kind.{Kind}
 use Rattle.rpki_cert.specs.declared.inspect.Kind.TheVariants.{Anchor}
 use Rattle.rpki_cert.specs.declared.validation_error.ValidationError.{ValidationError}
@@ -19,24 +19,24 @@ IsInvalid kind strict c Fails (Verification e) = MeetsProfile kind strict c × F
 -- c is a certificate of this kind that is valid below the issuer, and r has what it gets of the issuer's numbers
 pub record IsValidBelow (x : Context) (issuer : ResourceFields) (kind : Kind) (c : CertFields) (r : ResourceFields) : Type 0 where
   pub meets : MeetsProfile kind x.strict c
-  pub lines : IsVerified (LineUnder x issuer c) issued_lines
+  pub checks : IsVerified (CheckUnder x issuer c) issued_checks
   pub issued : HasIssued c issuer r
 
 -- why it isn't; or memory was wanted
 abbrev pub IsInvalidBelow : Context → ResourceFields → Kind → CertFields → ValidationError → Type 0
-IsInvalidBelow x issuer kind c = IsInvalid kind x.strict c (IsFirstFalseOrMemory (LineUnder x issuer c) issued_lines)
+IsInvalidBelow x issuer kind c = IsInvalid kind x.strict c (IsFirstFalseOrMemory (CheckUnder x issuer c) issued_checks)
 
 -- ---- an anchor
 
 -- c is an anchor that is valid, and r has what it lists, with this locator
 pub record IsValidAnchor (x : Context) (tal : List ℕ) (c : CertFields) (r : ResourceFields) : Type 0 where
   pub meets : MeetsProfile Anchor x.strict c
-  pub lines : IsVerified (AnchorLine x c) anchor_lines
+  pub checks : IsVerified (AnchorCheck x c) anchor_checks
   pub listed : HasListed c tal r
 
 -- why it isn't; or memory was wanted
 abbrev pub IsInvalidAnchor : Context → CertFields → ValidationError → Type 0
-IsInvalidAnchor x c = IsInvalid Anchor x.strict c (IsFirstFalseOrMemory (AnchorLine x c) anchor_lines)
+IsInvalidAnchor x c = IsInvalid Anchor x.strict c (IsFirstFalseOrMemory (AnchorCheck x c) anchor_checks)
 
 -- ---- names
 

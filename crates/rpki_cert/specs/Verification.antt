@@ -1,4 +1,4 @@
--- What is verified of a certificate, line by line (RFC 6487 7.2, RFC 8360 4.2.4.4; own: the order of the lines, and that revocation and the
+-- What is verified of a certificate, check by check (RFC 6487 7.2, RFC 8360 4.2.4.4; own: the order of the checks, and that revocation and the
 -- chaining of names are the caller's to ask).
 use Rattle.std.specs.Prelude.{◌≡◌, ◌≢◌, ◌↔◌, ◌⊎◌, ◌≤◌, ◌^◌, ◌-◌, ℕ, Bool, List, [], ◌∷◌, IsSome, IfSome, Result, Ok, Err, codes}
 use Rattle.std.specs.List.{AllByRecursion}
@@ -39,31 +39,31 @@ abbrev pub ListsOnlyHeld : Overclaim → ℕ → (ℕ → Type 0) → Resources 
 ListsOnlyHeld mode greatest held r = mode ≡ Refuse → (n : ℕ) → n ≤ greatest → IsListed n r → held n
 
 -- the moment is one at which c is valid
-abbrev pub TimeLine : Moment → CertFields → VerificationError → Type 0
-TimeLine now c NotYetValid = IsInTime c.fields.validity now time.NotYetValid
-TimeLine now c Expired = IsInTime c.fields.validity now time.Expired
-TimeLine now c _ = Unit {0}
+abbrev pub TimeCheck : Moment → CertFields → VerificationError → Type 0
+TimeCheck now c NotYetValid = IsInTime c.fields.validity now time.NotYetValid
+TimeCheck now c Expired = IsInTime c.fields.validity now time.Expired
+TimeCheck now c _ = Unit {0}
 
 -- c claims to be issued by this issuer
-abbrev pub ClaimLine : TbsFields → CertFields → VerificationError → Type 0
-ClaimLine issuer c MissingKeyId = IsSome c.fields.extensions.authority_key_identifier
-ClaimLine issuer c WrongKeyId = IfSome c.fields.extensions.authority_key_identifier (λ id. id ≡ issuer.extensions.subject_key_identifier)
-ClaimLine issuer c MissingIssuerUri = IsSome c.fields.extensions.ca_issuer
-ClaimLine issuer c _ = Unit {0}
+abbrev pub ClaimCheck : TbsFields → CertFields → VerificationError → Type 0
+ClaimCheck issuer c MissingKeyId = IsSome c.fields.extensions.authority_key_identifier
+ClaimCheck issuer c WrongKeyId = IfSome c.fields.extensions.authority_key_identifier (λ id. id ≡ issuer.extensions.subject_key_identifier)
+ClaimCheck issuer c MissingIssuerUri = IsSome c.fields.extensions.ca_issuer
+ClaimCheck issuer c _ = Unit {0}
 
 -- c lists its resources itself
-abbrev pub OwnLine : CertFields → VerificationError → Type 0
-OwnLine c InheritedV4 = c.fields.extensions.v4_resources ≢ inherit
-OwnLine c InheritedV6 = c.fields.extensions.v6_resources ≢ inherit
-OwnLine c InheritedAs = c.fields.extensions.as_resources ≢ inherit
-OwnLine c _ = Unit {0}
+abbrev pub OwnCheck : CertFields → VerificationError → Type 0
+OwnCheck c InheritedV4 = c.fields.extensions.v4_resources ≢ inherit
+OwnCheck c InheritedV6 = c.fields.extensions.v6_resources ≢ inherit
+OwnCheck c InheritedAs = c.fields.extensions.as_resources ≢ inherit
+OwnCheck c _ = Unit {0}
 
 -- c doesn't overclaim under an issuer with these sets
-abbrev pub HeldLine : Held → CertFields → VerificationError → Type 0
-HeldLine held c OverclaimV4 = ListsOnlyHeld c.fields.extensions.overclaim (2 ^ 128 - 1) held.v4 c.fields.extensions.v4_resources
-HeldLine held c OverclaimV6 = ListsOnlyHeld c.fields.extensions.overclaim (2 ^ 128 - 1) held.v6 c.fields.extensions.v6_resources
-HeldLine held c OverclaimAs = ListsOnlyHeld c.fields.extensions.overclaim (2 ^ 32 - 1) held.as_numbers c.fields.extensions.as_resources
-HeldLine held c _ = Unit {0}
+abbrev pub HeldCheck : Held → CertFields → VerificationError → Type 0
+HeldCheck held c OverclaimV4 = ListsOnlyHeld c.fields.extensions.overclaim (2 ^ 128 - 1) held.v4 c.fields.extensions.v4_resources
+HeldCheck held c OverclaimV6 = ListsOnlyHeld c.fields.extensions.overclaim (2 ^ 128 - 1) held.v6 c.fields.extensions.v6_resources
+HeldCheck held c OverclaimAs = ListsOnlyHeld c.fields.extensions.overclaim (2 ^ 32 - 1) held.as_numbers c.fields.extensions.as_resources
+HeldCheck held c _ = Unit {0}
 
 -- under what a certificate is judged: how the verifier answers, the moment, and whether names are
 -- read strictly
@@ -78,67 +78,67 @@ context verifies now strict = record { verifies = verifies; now = now; strict = 
 
 -- The check is true of c, in this context, under an issuer with these sets. A check is named by the
 -- error that it gives where it isn't true.
-abbrev pub Line : Context → TbsFields → Held → CertFields → VerificationError → Type 0
-Line x issuer held c NotYetValid = TimeLine x.now c NotYetValid
-Line x issuer held c Expired = TimeLine x.now c Expired
-Line x issuer held c InheritedV4 = OwnLine c InheritedV4
-Line x issuer held c InheritedV6 = OwnLine c InheritedV6
-Line x issuer held c InheritedAs = OwnLine c InheritedAs
-Line x issuer held c MissingKeyId = ClaimLine issuer c MissingKeyId
-Line x issuer held c WrongKeyId = ClaimLine issuer c WrongKeyId
-Line x issuer held c MissingIssuerUri = ClaimLine issuer c MissingIssuerUri
-Line x issuer held c BadSignature = IsSignedBy x.verifies issuer.key c.signed_data
-Line x issuer held c OverclaimV4 = HeldLine held c OverclaimV4
-Line x issuer held c OverclaimV6 = HeldLine held c OverclaimV6
-Line x issuer held c OverclaimAs = HeldLine held c OverclaimAs
-Line x issuer held c Memory = Unit {0}
+abbrev pub Check : Context → TbsFields → Held → CertFields → VerificationError → Type 0
+Check x issuer held c NotYetValid = TimeCheck x.now c NotYetValid
+Check x issuer held c Expired = TimeCheck x.now c Expired
+Check x issuer held c InheritedV4 = OwnCheck c InheritedV4
+Check x issuer held c InheritedV6 = OwnCheck c InheritedV6
+Check x issuer held c InheritedAs = OwnCheck c InheritedAs
+Check x issuer held c MissingKeyId = ClaimCheck issuer c MissingKeyId
+Check x issuer held c WrongKeyId = ClaimCheck issuer c WrongKeyId
+Check x issuer held c MissingIssuerUri = ClaimCheck issuer c MissingIssuerUri
+Check x issuer held c BadSignature = IsSignedBy x.verifies issuer.key c.signed_data
+Check x issuer held c OverclaimV4 = HeldCheck held c OverclaimV4
+Check x issuer held c OverclaimV6 = HeldCheck held c OverclaimV6
+Check x issuer held c OverclaimAs = HeldCheck held c OverclaimAs
+Check x issuer held c Memory = Unit {0}
 
 -- ---- the checks of each call, in their order
 
 -- the checks of the moment
-abbrev pub validity_lines : List VerificationError
-validity_lines = NotYetValid ∷ Expired ∷ []
+abbrev pub validity_checks : List VerificationError
+validity_checks = NotYetValid ∷ Expired ∷ []
 
 -- the checks that the certificate claims to be issued by the issuer
-abbrev pub claim_lines : List VerificationError
-claim_lines = MissingKeyId ∷ WrongKeyId ∷ MissingIssuerUri ∷ []
+abbrev pub claim_checks : List VerificationError
+claim_checks = MissingKeyId ∷ WrongKeyId ∷ MissingIssuerUri ∷ []
 
 -- the checks that the certificate inherits nothing
-abbrev pub own_lines : List VerificationError
-own_lines = InheritedV4 ∷ InheritedV6 ∷ InheritedAs ∷ []
+abbrev pub own_checks : List VerificationError
+own_checks = InheritedV4 ∷ InheritedV6 ∷ InheritedAs ∷ []
 
 -- the checks that the certificate doesn't overclaim
-abbrev pub held_lines : List VerificationError
-held_lines = OverclaimV4 ∷ OverclaimV6 ∷ OverclaimAs ∷ []
+abbrev pub held_checks : List VerificationError
+held_checks = OverclaimV4 ∷ OverclaimV6 ∷ OverclaimAs ∷ []
 
 -- below an issuer, before resources are looked at
-abbrev pub basis_lines : List VerificationError
-basis_lines = NotYetValid ∷ Expired ∷ MissingKeyId ∷ WrongKeyId ∷ MissingIssuerUri ∷ BadSignature ∷ []
+abbrev pub basis_checks : List VerificationError
+basis_checks = NotYetValid ∷ Expired ∷ MissingKeyId ∷ WrongKeyId ∷ MissingIssuerUri ∷ BadSignature ∷ []
 
 -- of an anchor, whose issuer it is itself
-abbrev pub anchor_lines : List VerificationError
-anchor_lines = NotYetValid ∷ Expired ∷ InheritedV4 ∷ InheritedV6 ∷ InheritedAs ∷ BadSignature ∷ []
+abbrev pub anchor_checks : List VerificationError
+anchor_checks = NotYetValid ∷ Expired ∷ InheritedV4 ∷ InheritedV6 ∷ InheritedAs ∷ BadSignature ∷ []
 
 -- of a certificate that another one issued
-abbrev pub issued_lines : List VerificationError
-issued_lines = NotYetValid ∷ Expired ∷ MissingKeyId ∷ WrongKeyId ∷ MissingIssuerUri ∷ BadSignature ∷ OverclaimV4 ∷ OverclaimV6 ∷ OverclaimAs ∷ []
+abbrev pub issued_checks : List VerificationError
+issued_checks = NotYetValid ∷ Expired ∷ MissingKeyId ∷ WrongKeyId ∷ MissingIssuerUri ∷ BadSignature ∷ OverclaimV4 ∷ OverclaimV6 ∷ OverclaimAs ∷ []
 
 -- of a router's certificate the AS numbers alone
-abbrev pub router_lines : List VerificationError
-router_lines = NotYetValid ∷ Expired ∷ MissingKeyId ∷ WrongKeyId ∷ MissingIssuerUri ∷ BadSignature ∷ OverclaimAs ∷ []
+abbrev pub router_checks : List VerificationError
+router_checks = NotYetValid ∷ Expired ∷ MissingKeyId ∷ WrongKeyId ∷ MissingIssuerUri ∷ BadSignature ∷ OverclaimAs ∷ []
 
 -- all of these checks are true
 abbrev pub IsVerified : {X : Type 0} → (X → Type 0) → List X → Type 0
-IsVerified line lines = AllByRecursion line lines
+IsVerified check checks = AllByRecursion check checks
 
 -- the first of them that isn't true; or it ran out of memory
 abbrev pub IsFirstFalseOrMemory : (VerificationError → Type 0) → List VerificationError → VerificationError → Type 0
-IsFirstFalseOrMemory line lines e = (e ≡ Memory) ⊎ IsFirstFalse line lines e
+IsFirstFalseOrMemory check checks e = (e ≡ Memory) ⊎ IsFirstFalse check checks e
 
--- what a test of these lines answers that may want memory: Ok where all are true, else the first that isn't, or that memory was wanted
+-- what a test of these checks answers that may allocate: Ok where all are true, else the first that isn't, or that memory was wanted
 abbrev pub TestsOrMemory : {T : Type 0} → (VerificationError → Type 0) → List VerificationError → Result T VerificationError → Type 0
-TestsOrMemory line lines (Ok v) = IsVerified line lines
-TestsOrMemory line lines (Err e) = IsFirstFalseOrMemory line lines e
+TestsOrMemory check checks (Ok v) = IsVerified check checks
+TestsOrMemory check checks (Err e) = IsFirstFalseOrMemory check checks e
 
 -- two answers are alike, out of memory aside: both are Ok, or both are Err with one error
 abbrev pub AreAlike : {S T : Type 0} → Result S VerificationError → Result T VerificationError → Type 0
@@ -170,12 +170,12 @@ abbrev pub held_by : ResourceFields → Held
 held_by r = record { v4 = Has r.v4; v6 = Has r.v6; as_numbers = Has r.as_numbers }
 
 -- the checks under an issuer that was verified
-abbrev pub LineUnder : Context → ResourceFields → CertFields → VerificationError → Type 0
-LineUnder x issuer c = Line x issuer.cert.fields (held_by issuer) c
+abbrev pub CheckUnder : Context → ResourceFields → CertFields → VerificationError → Type 0
+CheckUnder x issuer c = Check x issuer.cert.fields (held_by issuer) c
 
 -- the checks of an anchor, which issued itself
-abbrev pub AnchorLine : Context → CertFields → VerificationError → Type 0
-AnchorLine x c = Line x c.fields nothing_held c
+abbrev pub AnchorCheck : Context → CertFields → VerificationError → Type 0
+AnchorCheck x c = Check x c.fields nothing_held c
 
 -- the set has the numbers that are listed
 abbrev pub ListsNumbers : Resources → List Block → Type 0

@@ -8,7 +8,7 @@ ghost use Rattle.rpki_der.specs.Tags.{SEQUENCE};
 ghost use Rattle.rpki_der.specs.Values.{AreOctets};
 ghost use Rattle.rpki_der.specs.Writers.{SaysLong, Writes};
 ghost use Rattle.rpki_parts.specs.SignedDatas.{signed_data, signed_part, signed_pieces};
-ghost use Rattle.rpki_der.specs.Spelling.{Means};
+ghost use Rattle.rpki_der.specs.Encoding.{Means};
 ghost use Rattle.rpki_cert.specs.Certificates.{IsCertificateContent, IsCertificate};
 ghost use Rattle.rpki_cert.specs.Certificates.Reading.{cert_content_at, cert_at};
 

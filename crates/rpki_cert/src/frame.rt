@@ -8,7 +8,7 @@ ghost use Rattle.rpki_der.specs.Place.{Place, left, Refuses};
 ghost use Rattle.rpki_der.specs.Place.Reading.{ReturnsOrMemory, ReturnsOrMemoryBy};
 ghost use Rattle.rpki_der.specs.Rows.Reading.{row_of};
 ghost use Rattle.rpki_der.specs.Skipping.Reading.{captured_at};
-ghost use Rattle.rpki_der.specs.Spelling.{Means};
+ghost use Rattle.rpki_der.specs.Encoding.{Means};
 ghost use Rattle.rpki_cert.specs.Certificates.{CertFields, IsCertificate};
 ghost use Rattle.rpki_cert.specs.Rearranging.{BeginsWith, IsRefused, tbs_content_with, content_with};
 ghost use Rattle.rpki_cert.specs.Rearranging.Reading.{row_in, parts_at, split_last};

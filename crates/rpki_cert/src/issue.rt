@@ -1,7 +1,7 @@
 //! CAs issue certificates.
 ghost use Rattle.std.specs.Prelude.{◌≡◌, Ok, IfOk, IfErr};
 ghost use Rattle.rpki_parts.specs.SignedDatas.{signed_data};
-ghost use Rattle.rpki_cert.specs.Certificates.{TbsFields, CanBeWritten, IsCertificate, IsMade, spelling};
+ghost use Rattle.rpki_cert.specs.Certificates.{TbsFields, CanBeWritten, IsCertificate, IsMade, encoding};
 ghost use Rattle.rpki_cert.specs.Issuing.{IsNotMade, IsNotReadAgain, IsNotIssued, IsNoReadingFault};
 ghost use Rattle.rpki_cert.specs.Validation.{IsValidBelow, IsInvalidBelow};
 ghost use Rattle.rpki_cert.specs.Verification.{context};
@@ -74,7 +74,7 @@ impl<E> IssueCaError<E> {
 // What was made, read again from its own octets.
 fn read_again<E>(alloc: Global, made: &Cert) -> Result<Cert, IssueCaError<E>>
     ensures message { IfOk result (λ c. (f : TbsFields)
-        → made.now.signed_data.message ≡ spelling f → c.signed_data.message ≡ spelling f) }
+        → made.now.signed_data.message ≡ encoding f → c.signed_data.message ≡ encoding f) }
     ensures read { IfOk result (λ c. IsCertificate c (signed_data c.signed_data)) }
     ensures same { IfOk result (λ c. IsMade made.now → c ≡ made.now) }
     ensures refused { IfErr result (IsNotReadAgain made.now.signed_data) }
@@ -100,13 +100,13 @@ fn make_and_read<S: Signer>(
     key: &S::KeyId,
 ) -> Result<Cert, IssueCaError<S::Error>>
     ensures read { IfOk result (λ c. IsCertificate c (signed_data c.signed_data)) }
-    ensures message { IfOk result (λ c. c.signed_data.message ≡ spelling tbs) }
+    ensures message { IfOk result (λ c. c.signed_data.message ≡ encoding tbs) }
     ensures fields { CanBeWritten tbs → IfOk result (λ c. c.fields ≡ tbs) }
     ensures signed { CanBeWritten tbs → IfOk result
-        (λ c. S.signs signer.now key.now tbs.algorithm (spelling tbs)
+        (λ c. S.signs signer.now key.now tbs.algorithm (encoding tbs)
         (Ok c.signed_data.signature)) }
     ensures refused { IfErr result
-        (IsNotMade tbs (S.signs signer.now key.now tbs.algorithm (spelling tbs))) }
+        (IsNotMade tbs (S.signs signer.now key.now tbs.algorithm (encoding tbs))) }
     ensures readable { CanBeWritten tbs → IfErr result IsNoReadingFault }
 {
     match tbs.into_cert(alloc, signer, key) {
@@ -136,15 +136,15 @@ pub fn issue_ca<S: Signer, V: Verifier>(
     verifier: &V,
 ) -> Result<ResourceCert, IssueCaError<S::Error>>
     ensures read { IfOk result (λ r. IsCertificate r.cert (signed_data r.cert.signed_data)) }
-    ensures message { IfOk result (λ r. r.cert.signed_data.message ≡ spelling tbs) }
+    ensures message { IfOk result (λ r. r.cert.signed_data.message ≡ encoding tbs) }
     ensures fields { CanBeWritten tbs → IfOk result (λ r. r.cert.fields ≡ tbs) }
     ensures signed { CanBeWritten tbs → IfOk result
-        (λ r. S.signs signer.now key.now tbs.algorithm (spelling tbs)
+        (λ r. S.signs signer.now key.now tbs.algorithm (encoding tbs)
         (Ok r.cert.signed_data.signature)) }
     ensures valid { let x = context (V.verifies verifier.now) now strict in
         IfOk result (λ r. IsValidBelow x issuer.now Authority r.cert r) }
     ensures refused { let x = context (V.verifies verifier.now) now strict in
-        IfErr result (IsNotIssued tbs (S.signs signer.now key.now tbs.algorithm (spelling tbs))
+        IfErr result (IsNotIssued tbs (S.signs signer.now key.now tbs.algorithm (encoding tbs))
         (IsInvalidBelow x issuer.now Authority)) }
     ensures readable { CanBeWritten tbs → IfErr result IsNoReadingFault }
 {

@@ -6,7 +6,7 @@ ghost use Rattle.rpki_parts.specs.KeyNames.{subject_name};
 ghost use Rattle.rpki_parts.specs.SignedDatas.{signed_pieces};
 ghost use Rattle.rpki_parts.specs.Signing.{IsRefusal};
 ghost use Rattle.rpki_cert.specs.Making.{new_fields};
-ghost use Rattle.rpki_cert.specs.Certificates.{Fits, tbs_content, spelling};
+ghost use Rattle.rpki_cert.specs.Certificates.{Fits, tbs_content, encoding};
 
 use crate::cert::Cert;
 use crate::tbs::TbsCert;
@@ -74,13 +74,13 @@ impl TbsCert {
         key: &S::KeyId,
     ) -> Result<SignedData, SigningError<S::Error>>
         ensures fields { OnOk result (Fits self.now) }
-        ensures message { IfOk result (λ s. s.message ≡ spelling self.now) }
+        ensures message { IfOk result (λ s. s.message ≡ encoding self.now) }
         ensures signed { IfOk result
-            (λ s. S.signs signer.now key.now self.now.algorithm (spelling self.now)
+            (λ s. S.signs signer.now key.now self.now.algorithm (encoding self.now)
             (Ok s.signature)) }
         ensures fits { IfOk result (λ s. length (concat (signed_pieces s)) < 2 ^ 32) }
         ensures refused { IfErr result (IsRefusal (tbs_content self.now)
-            (S.signs signer.now key.now self.now.algorithm (spelling self.now))) }
+            (S.signs signer.now key.now self.now.algorithm (encoding self.now))) }
     {
         let mut octets = Vec::new(alloc);
         self.encode_ref(alloc, &mut octets)?;
@@ -100,13 +100,13 @@ impl TbsCert {
     ) -> Result<Cert, SigningError<S::Error>>
         ensures fields { IfOk result (λ c. c.fields ≡ self) }
         ensures written { OnOk result (Fits self) }
-        ensures message { IfOk result (λ c. c.signed_data.message ≡ spelling self) }
+        ensures message { IfOk result (λ c. c.signed_data.message ≡ encoding self) }
         ensures signed { IfOk result
-            (λ c. S.signs signer.now key.now self.algorithm (spelling self)
+            (λ c. S.signs signer.now key.now self.algorithm (encoding self)
             (Ok c.signed_data.signature)) }
         ensures fits { IfOk result (λ c. length (concat (signed_pieces c.signed_data)) < 2 ^ 32) }
         ensures refused { IfErr result (IsRefusal (tbs_content self)
-            (S.signs signer.now key.now self.algorithm (spelling self))) }
+            (S.signs signer.now key.now self.algorithm (encoding self))) }
     {
         let signed = self.sign(alloc, signer, key);
         let (tbs, signed_data) = beside(self, signed)?;

@@ -5,7 +5,7 @@ ghost use Rattle.rpki_der.specs.declared.error.EncodeError.TheVariants.{Memory};
 ghost use Rattle.rpki_parts.specs.SignedDatas.{signed_pieces};
 ghost use Rattle.rpki_blocks.specs.Prefixes.{AreV4};
 ghost use Rattle.rpki_ext.specs.CertificateExtensions.{HasResources};
-ghost use Rattle.rpki_cert.specs.Certificates.{Fits, spelling};
+ghost use Rattle.rpki_cert.specs.Certificates.{Fits, encoding};
 
 use crate::cert::Cert;
 use crate::laws;
@@ -17,7 +17,7 @@ use std::alloc::Global;
 /// The only error is `Memory`.
 pub fn read_again(alloc: Global, made: &Cert) -> Result<Cert, EncodeError>
     requires written { Fits made.now.fields }
-    requires message { made.now.signed_data.message ≡ spelling made.now.fields }
+    requires message { made.now.signed_data.message ≡ encoding made.now.fields }
     requires fits { length (concat (signed_pieces made.now.signed_data)) < 2 ^ 32 }
     requires resources { HasResources made.now.fields.extensions }
     requires only_v4 { AreV4 made.now.fields.extensions.v4_resources }

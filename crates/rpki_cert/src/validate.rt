@@ -4,7 +4,7 @@ ghost use Rattle.std.specs.Prelude.{◌≡◌, OnOk, IfOk, IfErr};
 ghost use Rattle.std.proofs.Common.{rc_value};
 ghost use Rattle.rpki_parts.specs.Conditions.{IsFirstFalse};
 ghost use Rattle.rpki_cert.specs.Profiles.{MeetsProfile, IsFirstFault};
-ghost use Rattle.rpki_cert.specs.Verification.{context, LineUnder, IsVerified, router_lines};
+ghost use Rattle.rpki_cert.specs.Verification.{context, CheckUnder, IsVerified, router_checks};
 ghost use Rattle.rpki_cert.specs.Validation.{IsInvalid, IsValidAnchor, IsInvalidAnchor, IsValidBelow, IsInvalidBelow};
 ghost use Rattle.rpki_cert.specs.declared.inspect.Kind.TheVariants.{Anchor, Authority, EndEntity, Detached, Router};
 
@@ -138,11 +138,11 @@ impl Cert {
         verifier: &V,
     ) -> Result<(), ValidationError>
         ensures profile { OnOk result (MeetsProfile Router strict self.now) }
-        ensures lines { let x = context (V.verifies verifier.now) now strict in
-            OnOk result (IsVerified (LineUnder x issuer.now self.now) router_lines) }
+        ensures checks { let x = context (V.verifies verifier.now) now strict in
+            OnOk result (IsVerified (CheckUnder x issuer.now self.now) router_checks) }
         ensures fault { let x = context (V.verifies verifier.now) now strict in
             IfErr result (IsInvalid Router strict self.now
-            (IsFirstFalse (LineUnder x issuer.now self.now) router_lines)) }
+            (IsFirstFalse (CheckUnder x issuer.now self.now) router_checks)) }
     {
         self.inspect_router(strict)?;
         self.verify_router_at(issuer, strict, now, verifier)?;

@@ -4,7 +4,7 @@ ghost use Rattle.rpki_der.specs.Times.{Moment};
 ghost use Rattle.rpki_blocks.specs.Sets.{AreIn};
 ghost use Rattle.rpki_parts.specs.Conditions.{Tests};
 ghost use Rattle.rpki_cert.specs.Certificates.{CertFields};
-ghost use Rattle.rpki_cert.specs.Verification.{context, LineUnder, AnchorLine, TestsOrMemory, issued_lines, anchor_lines};
+ghost use Rattle.rpki_cert.specs.Verification.{context, CheckUnder, AnchorCheck, TestsOrMemory, issued_checks, anchor_checks};
 ghost use Rattle.rpki_cert.specs.Verification.{AreAlike, IsAnswerOrMemory};
 ghost use Rattle.rpki_cert.specs.Verification.{ResourceFields, HasListed, HasIssued, HasSets};
 ghost use Rattle.rpki_cert.specs.declared.verification_error.VerificationError.{VerificationError};
@@ -23,18 +23,18 @@ pub fn issued_are_held()
 
 /// Says that two calls answer alike of one certificate in one context, out of memory aside: `Cert::verify_ca_at` and `Cert::verify_ee_at` below
 /// one issuer are both Ok, or both Err with one error (`issued`), and `Cert::verify_ta_at` accepts an anchor exactly where
-/// `Cert::verify_ta_ref_at` does, else with its error (`anchors`). The premises are what the calls promise of their lines.
+/// `Cert::verify_ta_ref_at` does, else with its error (`anchors`). The premises are what the calls promise of their checks.
 pub fn one_verdict<V: Verifier>()
     ensures issued { (verifier : V) (now : Moment) (strict : Bool) (issuer : ResourceFields)
         (c : CertFields) (r s : Result ResourceFields VerificationError)
         → let x = context (V.verifies verifier) now strict in
-        TestsOrMemory (LineUnder x issuer c) issued_lines r
-        → TestsOrMemory (LineUnder x issuer c) issued_lines s → AreAlike r s }
+        TestsOrMemory (CheckUnder x issuer c) issued_checks r
+        → TestsOrMemory (CheckUnder x issuer c) issued_checks s → AreAlike r s }
     ensures anchors { (verifier : V) (now : Moment) (strict : Bool) (c : CertFields)
         (r : Result (Unit {0}) VerificationError) (s : Result ResourceFields VerificationError)
         → let x = context (V.verifies verifier) now strict in
-        Tests (AnchorLine x c) anchor_lines r
-        → TestsOrMemory (AnchorLine x c) anchor_lines s → IsAnswerOrMemory r s }
+        Tests (AnchorCheck x c) anchor_checks r
+        → TestsOrMemory (AnchorCheck x c) anchor_checks s → IsAnswerOrMemory r s }
 {}
 
 /// Says that what is verified has one result: two that are issued of one issuer for one certificate are equal, and so are two of one anchor

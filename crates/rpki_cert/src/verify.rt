@@ -5,8 +5,8 @@ ghost use Rattle.rpki_blocks.specs.Sets.{Has};
 ghost use Rattle.rpki_parts.specs.Conditions.{Tests};
 ghost use Rattle.rpki_blocks.specs.IssuedSets.{IsIssued};
 ghost use Rattle.rpki_cert.specs.Verification.{IsSignedBy, ListsOnlyHeld, ListsNumbers, held_by, IsVerified, IsFirstFalseOrMemory};
-ghost use Rattle.rpki_cert.specs.Verification.{context, TimeLine, ClaimLine, OwnLine, HeldLine, LineUnder, AnchorLine};
-ghost use Rattle.rpki_cert.specs.Verification.{validity_lines, claim_lines, own_lines, held_lines, basis_lines, anchor_lines, router_lines};
+ghost use Rattle.rpki_cert.specs.Verification.{context, TimeCheck, ClaimCheck, OwnCheck, HeldCheck, CheckUnder, AnchorCheck};
+ghost use Rattle.rpki_cert.specs.Verification.{validity_checks, claim_checks, own_checks, held_checks, basis_checks, anchor_checks, router_checks};
 ghost use Rattle.rpki_cert.specs.declared.verification_error.VerificationError.TheVariants.{Memory};
 
 use crate::cert::Cert;
@@ -89,9 +89,9 @@ impl Cert {
         ensures as_numbers { IfOk result (λ s. IsIssued
             issuer.now.as_numbers self.now.fields.extensions.as_resources s.as_numbers) }
         ensures held { OnOk result
-            (IsVerified (HeldLine (held_by issuer.now) self.now) held_lines) }
+            (IsVerified (HeldCheck (held_by issuer.now) self.now) held_checks) }
         ensures fault { IfErr result
-            (IsFirstFalseOrMemory (HeldLine (held_by issuer.now) self.now) held_lines) }
+            (IsFirstFalseOrMemory (HeldCheck (held_by issuer.now) self.now) held_checks) }
     {
         let tbs = self.as_tbs();
         let mode = tbs.overclaim();
@@ -123,7 +123,7 @@ impl Cert {
 
     // Whether the certificate lists its resources itself.
     fn verify_inherits_nothing(&self) -> Result<(), VerificationError>
-        ensures { Tests (OwnLine self.now) own_lines result }
+        ensures { Tests (OwnCheck self.now) own_checks result }
     {
         let tbs = self.as_tbs();
         if tbs.v4_resources().is_inherited() {
@@ -147,7 +147,7 @@ impl Cert {
         verifier: &V,
     ) -> Result<(), VerificationError>
         ensures { let x = context (V.verifies verifier.now) now strict in
-            Tests (LineUnder x issuer.now self.now) basis_lines result }
+            Tests (CheckUnder x issuer.now self.now) basis_checks result }
     {
         self.verify_validity(now)?;
         self.verify_issuer_claim(issuer, strict)?;
@@ -165,7 +165,7 @@ impl Cert {
         verifier: &V,
     ) -> Result<(), VerificationError>
         ensures { let x = context (V.verifies verifier.now) now strict in
-            Tests (AnchorLine x self.now) anchor_lines result }
+            Tests (AnchorCheck x self.now) anchor_checks result }
     {
         self.verify_validity(now)?;
         self.verify_inherits_nothing()?;
@@ -185,7 +185,7 @@ impl Cert {
         verifier: &V,
     ) -> Result<(), VerificationError>
         ensures { let x = context (V.verifies verifier.now) now strict in
-            Tests (LineUnder x issuer.now self.now) router_lines result }
+            Tests (CheckUnder x issuer.now self.now) router_checks result }
     {
         self.verify_basis(issuer, strict, now, verifier)?;
         let tbs = self.as_tbs();
@@ -198,7 +198,7 @@ impl Cert {
 
     /// Checks that the certificate is valid at this moment. Takes no memory.
     pub fn verify_validity(&self, now: Time) -> Result<(), VerificationError>
-        ensures { Tests (TimeLine now self.now) validity_lines result }
+        ensures { Tests (TimeCheck now self.now) validity_checks result }
     {
         self.as_tbs().validity().verify_at(now)?;
         Ok(())
@@ -211,7 +211,7 @@ impl Cert {
         issuer: &ResourceCert,
         _strict: bool,
     ) -> Result<(), VerificationError>
-        ensures { Tests (ClaimLine issuer.now.cert.fields self.now) claim_lines result }
+        ensures { Tests (ClaimCheck issuer.now.cert.fields self.now) claim_checks result }
     {
         let tbs = self.as_tbs();
         let Some(id) = tbs.authority_key_identifier() else {

@@ -2,7 +2,7 @@
 ghost use Rattle.std.specs.Prelude.{◌≡◌, IfOk};
 ghost use Rattle.std.proofs.Common.{rc_value};
 ghost use Rattle.rpki_blocks.specs.IssuedSets.{IsIssued};
-ghost use Rattle.rpki_cert.specs.Verification.{context, LineUnder, AnchorLine, TestsOrMemory, ListsNumbers, HasListed, HasIssued, issued_lines, anchor_lines};
+ghost use Rattle.rpki_cert.specs.Verification.{context, CheckUnder, AnchorCheck, TestsOrMemory, ListsNumbers, HasListed, HasIssued, issued_checks, anchor_checks};
 
 use crate::cert::Cert;
 use crate::resource_cert::{ResourceCert, Sets};
@@ -42,8 +42,8 @@ impl Cert {
         now: Time,
         verifier: &V,
     ) -> Result<Kept, VerificationError>
-        ensures lines { let x = context (V.verifies verifier.now) now strict in
-            TestsOrMemory (LineUnder x issuer.now self.now) issued_lines result }
+        ensures checks { let x = context (V.verifies verifier.now) now strict in
+            TestsOrMemory (CheckUnder x issuer.now self.now) issued_checks result }
         ensures v4 { IfOk result
             (λ k. IsIssued issuer.now.v4 self.now.fields.extensions.v4_resources k.sets.v4) }
         ensures v6 { IfOk result
@@ -72,8 +72,8 @@ impl Cert {
         now: Time,
         verifier: &V,
     ) -> Result<ResourceCert, VerificationError>
-        ensures lines { let x = context (V.verifies verifier.now) now strict in
-            TestsOrMemory (LineUnder x issuer.now self) issued_lines result }
+        ensures checks { let x = context (V.verifies verifier.now) now strict in
+            TestsOrMemory (CheckUnder x issuer.now self) issued_checks result }
         ensures gives { IfOk result (HasIssued self issuer.now) }
     {
         let tested = self.kept_below(alloc, issuer, strict, now, verifier);
@@ -92,8 +92,8 @@ impl Cert {
         now: Time,
         verifier: &V,
     ) -> Result<ResourceCert, VerificationError>
-        ensures lines { let x = context (V.verifies verifier.now) now strict in
-            TestsOrMemory (LineUnder x issuer.now self) issued_lines result }
+        ensures checks { let x = context (V.verifies verifier.now) now strict in
+            TestsOrMemory (CheckUnder x issuer.now self) issued_checks result }
         ensures gives { IfOk result (HasIssued self issuer.now) }
     {
         self.verify_ca_at(alloc, issuer, strict, now, verifier)
@@ -107,8 +107,8 @@ impl Cert {
         now: Time,
         verifier: &V,
     ) -> Result<Sets, VerificationError>
-        ensures lines { let x = context (V.verifies verifier.now) now strict in
-            TestsOrMemory (AnchorLine x self.now) anchor_lines result }
+        ensures checks { let x = context (V.verifies verifier.now) now strict in
+            TestsOrMemory (AnchorCheck x self.now) anchor_checks result }
         ensures v4 { IfOk result
             (λ s. ListsNumbers self.now.fields.extensions.v4_resources s.v4) }
         ensures v6 { IfOk result
@@ -133,8 +133,8 @@ impl Cert {
         now: Time,
         verifier: &V,
     ) -> Result<ResourceCert, VerificationError>
-        ensures lines { let x = context (V.verifies verifier.now) now strict in
-            TestsOrMemory (AnchorLine x self) anchor_lines result }
+        ensures checks { let x = context (V.verifies verifier.now) now strict in
+            TestsOrMemory (AnchorCheck x self) anchor_checks result }
         ensures gives { IfOk result (HasListed self (rc_value tal)) }
     {
         let tested = self.kept_of_anchor(alloc, strict, now, verifier);

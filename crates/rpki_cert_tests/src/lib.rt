@@ -1,6 +1,6 @@
 //! Tests of certificates and of the crates below them that no line of questions and answers can
 //! ask: calls with a caller's signer, verifier, closure or iterator, setters, copies, what stands
-//! after a refusal, and calls that may want memory, with enough of it.
+//! after a refusal, and calls that may allocate, with enough of it.
 #![tactic(auto)]
 
 #[cfg(test)]

@@ -6,7 +6,7 @@ use Rattle.std.proofs.Common.{◌≡◌, ℕ, List, [], ◌∷◌, Option, Some,
 use Rattle.std.proofs.lemmas.List.{append-nil}
 use Rattle.rpki_der.specs.Tags.{CONTEXT_CONSTRUCTED, INTEGER, SEQUENCE}
 use Rattle.rpki_der.specs.Values.{enc, length_octets, IsEnc}
-use Rattle.rpki_der.specs.Spelling.{BeginsOther}
+use Rattle.rpki_der.specs.Encoding.{BeginsOther}
 use Rattle.rpki_der.specs.Reading.{inside, content, Inside, Reads, Both}
 use Rattle.rpki_der.specs.Values.Reading.{value_at}
 use Rattle.rpki_der.specs.Times.{IsTime}

@@ -6,10 +6,10 @@ use Rattle.rpki_der.specs.Rows.{IsFirstWith}
 use Rattle.rpki_parts.specs.Conditions.{IsFirstFalse, Tests}
 use Rattle.rpki_cert.specs.Certificates.{TbsFields}
 use Rattle.rpki_cert.specs.Verification.{Context}
-use Rattle.rpki_cert.proofs.Lines.{tests_map}
+use Rattle.rpki_cert.proofs.Checks.{tests_map}
 use Rattle.rpki_crl.specs.Lists.{CrlState}
 use Rattle.rpki_crl.specs.Stores.{Stored, IsUnder, IsEarliest}
-use Rattle.rpki_crl.specs.Revocation.{ListLine, RevocationLine, IsUnderUri, revocation_lines}
+use Rattle.rpki_crl.specs.Revocation.{ListCheck, RevocationCheck, IsUnderUri, revocation_checks}
 use Rattle.rpki_crl.specs.declared.revocation_error.RevocationError.{RevocationError}
 use Rattle.rpki_crl.specs.declared.revocation_error.RevocationError.TheVariants.{NoCrl, WrongKeyId, BadSignature, Stale, Revoked}
 
@@ -49,14 +49,14 @@ module _ (pairs : List Stored) (uri : List ℕ) where
 
 module _ (x : Context) (issuer : TbsFields) (serial : ℕ) (IsAsked : CrlState → Type 0) where
   module _ (crl : CrlState) (is : IsAsked crl) (one : (d : CrlState) → IsAsked d → d ≡ crl) where
-    line_of : (e : RevocationError) → ListLine x issuer serial crl.list e → RevocationLine x issuer serial IsAsked e
-    line_of NoCrl l = (crl, is)
-    line_of WrongKeyId l = λ d at. subst (λ (c : CrlState). ListLine x issuer serial c.list WrongKeyId) (sym (one d at)) l
-    line_of BadSignature l = λ d at. subst (λ (c : CrlState). ListLine x issuer serial c.list BadSignature) (sym (one d at)) l
-    line_of Stale l = λ d at. subst (λ (c : CrlState). ListLine x issuer serial c.list Stale) (sym (one d at)) l
-    line_of Revoked l = λ d at. subst (λ (c : CrlState). ListLine x issuer serial c.list Revoked) (sym (one d at)) l
+    check_of : (e : RevocationError) → ListCheck x issuer serial crl.list e → RevocationCheck x issuer serial IsAsked e
+    check_of NoCrl l = (crl, is)
+    check_of WrongKeyId l = λ d at. subst (λ (c : CrlState). ListCheck x issuer serial c.list WrongKeyId) (sym (one d at)) l
+    check_of BadSignature l = λ d at. subst (λ (c : CrlState). ListCheck x issuer serial c.list BadSignature) (sym (one d at)) l
+    check_of Stale l = λ d at. subst (λ (c : CrlState). ListCheck x issuer serial c.list Stale) (sym (one d at)) l
+    check_of Revoked l = λ d at. subst (λ (c : CrlState). ListCheck x issuer serial c.list Revoked) (sym (one d at)) l
 
-    list_of : (e : RevocationError) → RevocationLine x issuer serial IsAsked e → ListLine x issuer serial crl.list e
+    list_of : (e : RevocationError) → RevocationCheck x issuer serial IsAsked e → ListCheck x issuer serial crl.list e
     list_of NoCrl l = tt
     list_of WrongKeyId l = l crl is
     list_of BadSignature l = l crl is
@@ -64,9 +64,9 @@ module _ (x : Context) (issuer : TbsFields) (serial : ℕ) (IsAsked : CrlState �
     list_of Revoked l = l crl is
 
     -- what is tested of the list is what is tested
-    pub tests_of : (r : Result (Unit {0}) RevocationError) → Tests (ListLine x issuer serial crl.list) revocation_lines r → Tests (RevocationLine x issuer serial IsAsked) revocation_lines r
-    tests_of r = tests_map (ListLine x issuer serial crl.list) (RevocationLine x issuer serial IsAsked) revocation_lines r (λ e. (line_of e, list_of e))
+    pub tests_of : (r : Result (Unit {0}) RevocationError) → Tests (ListCheck x issuer serial crl.list) revocation_checks r → Tests (RevocationCheck x issuer serial IsAsked) revocation_checks r
+    tests_of r = tests_map (ListCheck x issuer serial crl.list) (RevocationCheck x issuer serial IsAsked) revocation_checks r (λ e. (check_of e, list_of e))
 
   -- without one the first check is false
-  pub no_list : ((d : CrlState) → IsAsked d → ⊥) → IsFirstFalse (RevocationLine x issuer serial IsAsked) revocation_lines NoCrl
+  pub no_list : ((d : CrlState) → IsAsked d → ⊥) → IsFirstFalse (RevocationCheck x issuer serial IsAsked) revocation_checks NoCrl
   no_list none = inl (refl, λ l. none l.0 l.1)

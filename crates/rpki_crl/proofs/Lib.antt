@@ -11,7 +11,7 @@ pub mod Loops
 pub mod SignedLists
 pub mod ExampleLists
 pub mod GivenEntries
-pub mod SpelledLists
+pub mod EncodedLists
 pub mod DeeperLists
 pub mod Earliest
 pub mod NamedLists

@@ -6,7 +6,7 @@ use Rattle.rpki_der.specs.Values.{IsValue, enc}
 use Rattle.rpki_parts.specs.SignedDatas.{signed_data, signed_pieces}
 use Rattle.rpki_parts.proofs.SignedDataWritten.{content_is, signed_made, signed_enc}
 use Rattle.rpki_crl.specs.Lists.{CrlFields, IsCertificateList, IsMadeList, IsTbsCertList, list_content}
-use Rattle.rpki_crl.proofs.SpelledLists.{data_made, list_made}
+use Rattle.rpki_crl.proofs.EncodedLists.{data_made, list_made}
 
 -- a revocation list is the encoding of its signed data
 pub list_is : (r : CrlFields) (b : List ℕ) → IsCertificateList r b → b ≡ signed_data r.signed_data

@@ -21,7 +21,7 @@ abbrev pub with_any_flag : {V : Type 0} → ExtensionKind V → ExtensionKind V
 with_any_flag {V} k = record {
   identifier = k.identifier;
   flag = untested (flag_of k.flag);
-  spells = k.spells;
+  encodes = k.encodes;
   reads = k.reads;
   fits = k.fits;
   written = k.written;

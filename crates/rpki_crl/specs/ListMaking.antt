@@ -5,7 +5,7 @@ use Rattle.rpki_parts.specs.Signatures.{SignatureFields}
 use Rattle.rpki_parts.specs.Signing.{IsRefusal}
 use Rattle.rpki_parts.specs.declared.signature.SigningError.{SigningError}
 use Rattle.rpki_parts.specs.declared.signature.SigningError.TheVariants.{Memory}
-use Rattle.rpki_crl.specs.Lists.{ListFields, list_content, list_spelling}
+use Rattle.rpki_crl.specs.Lists.{ListFields, list_content, list_encoding}
 use Rattle.rpki_crl.specs.RevokedEntries.{Entry, Revoked, entries}
 use Rattle.rpki_crl.specs.RevokedEntries.Views.{entry_of}
 use Rattle.rpki_crl.specs.declared.entry.CrlEntry.{CrlEntry}
@@ -33,4 +33,4 @@ abbrev pub IsListRefusal : {C E : Type 0} → ListFields C → (List Entry → T
 IsListRefusal f Given MayAnswer e =
     (e ≡ Memory)
     ⊎ ((es : List Entry) × Given es
-    × IsRefusal (list_content (with_entries f es)) (MayAnswer (list_spelling (with_entries f es))) e)
+    × IsRefusal (list_content (with_entries f es)) (MayAnswer (list_encoding (with_entries f es))) e)

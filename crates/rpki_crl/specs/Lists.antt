@@ -122,8 +122,8 @@ list_content f =
     ∷ revoked f.revoked.octets ∷ tagged_list_extensions f.extensions ∷ [])
 
 -- the one encoding that is written of a TBSCertList's fields
-abbrev pub list_spelling : ListFields Revoked → List ℕ
-list_spelling f = enc SEQUENCE (list_content f)
+abbrev pub list_encoding : ListFields Revoked → List ℕ
+list_encoding f = enc SEQUENCE (list_content f)
 
 -- the fields have values that can be encoded, and what is encoded isn't too long
 pub record ListFits (f : ListFields Revoked) : Type 0 where
@@ -138,7 +138,7 @@ pub record ListFits (f : ListFields Revoked) : Type 0 where
 -- a list whose signed octets are the encoding of its fields, which was signed under the algorithm
 -- that it names, and which isn't too long
 pub record IsMadeList (r : CrlFields) : Type 0 where
-  pub message_is : r.signed_data.message ≡ list_spelling r.fields
+  pub message_is : r.signed_data.message ≡ list_encoding r.fields
   pub fields_are : ListFits r.fields
   pub same_algorithm : r.fields.algorithm ≡ r.signed_data.signature.algorithm
   pub signature_is : AreOctets r.signed_data.signature.value

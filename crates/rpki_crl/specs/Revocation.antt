@@ -16,21 +16,21 @@ NamesIssuer issuer list = list.fields.extensions.authority_key_identifier ≡ is
 
 -- The check is true of this list, where a certificate with the serial number is asked for, in this
 -- context and below the issuer. A check is named by the error that it gives where it isn't true.
-abbrev pub ListLine : Context → TbsFields → ℕ → CrlFields → RevocationError → Type 0
-ListLine x issuer serial list NoCrl = Unit {0}
-ListLine x issuer serial list WrongKeyId = NamesIssuer issuer list
-ListLine x issuer serial list BadSignature = IsSignedBy x.verifies issuer.key list.signed_data
-ListLine x issuer serial list Stale = IsNotAfter x.now list.fields.next_update
-ListLine x issuer serial list Revoked = IsRevoked serial list.fields.revoked.entries → ⊥
+abbrev pub ListCheck : Context → TbsFields → ℕ → CrlFields → RevocationError → Type 0
+ListCheck x issuer serial list NoCrl = Unit {0}
+ListCheck x issuer serial list WrongKeyId = NamesIssuer issuer list
+ListCheck x issuer serial list BadSignature = IsSignedBy x.verifies issuer.key list.signed_data
+ListCheck x issuer serial list Stale = IsNotAfter x.now list.fields.next_update
+ListCheck x issuer serial list Revoked = IsRevoked serial list.fields.revoked.entries → ⊥
 
 -- the check is true where the list to be asked is one of these: there is one, and it has the check
-abbrev pub RevocationLine : Context → TbsFields → ℕ → (CrlState → Type 0) → RevocationError → Type 0
-RevocationLine x issuer serial IsAsked NoCrl = (crl : CrlState) × IsAsked crl
-RevocationLine x issuer serial IsAsked e = (crl : CrlState) → IsAsked crl → ListLine x issuer serial crl.list e
+abbrev pub RevocationCheck : Context → TbsFields → ℕ → (CrlState → Type 0) → RevocationError → Type 0
+RevocationCheck x issuer serial IsAsked NoCrl = (crl : CrlState) × IsAsked crl
+RevocationCheck x issuer serial IsAsked e = (crl : CrlState) → IsAsked crl → ListCheck x issuer serial crl.list e
 
 -- in the order in which they are tested
-abbrev pub revocation_lines : List RevocationError
-revocation_lines = NoCrl ∷ WrongKeyId ∷ BadSignature ∷ Stale ∷ Revoked ∷ []
+abbrev pub revocation_checks : List RevocationError
+revocation_checks = NoCrl ∷ WrongKeyId ∷ BadSignature ∷ Stale ∷ Revoked ∷ []
 
 -- the list that is stored first under the URI
 abbrev pub IsUnderUri : List Stored → List ℕ → CrlState → Type 0
@@ -41,12 +41,12 @@ abbrev pub IsListOf : List Stored → CertFields → CrlState → Type 0
 IsListOf pairs c crl = (uri : List ℕ) × (c.fields.extensions.crl_uri ≡ Some uri) × IsUnderUri pairs uri crl
 
 -- the checks of a certificate, with the lists of this store
-abbrev pub CertRevocationLine : Context → List Stored → TbsFields → CertFields → RevocationError → Type 0
-CertRevocationLine x pairs issuer c = RevocationLine x issuer c.fields.serial (IsListOf pairs c)
+abbrev pub CertRevocationCheck : Context → List Stored → TbsFields → CertFields → RevocationError → Type 0
+CertRevocationCheck x pairs issuer c = RevocationCheck x issuer c.fields.serial (IsListOf pairs c)
 
 -- the certificate below the issuer isn't revoked: all of its checks are true
 abbrev pub IsUnrevoked : Context → List Stored → TbsFields → CertFields → Type 0
-IsUnrevoked x pairs issuer c = IsVerified (CertRevocationLine x pairs issuer c) revocation_lines
+IsUnrevoked x pairs issuer c = IsVerified (CertRevocationCheck x pairs issuer c) revocation_checks
 
 -- ---- names
 

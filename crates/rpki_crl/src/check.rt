@@ -3,7 +3,7 @@ ghost use Rattle.std.specs.Prelude.{◌≡◌, ◌↔◌, Some, IsOk};
 ghost use Rattle.rpki_parts.specs.Conditions.{Tests};
 ghost use Rattle.rpki_cert.specs.Certificates.{CertFields};
 ghost use Rattle.rpki_cert.specs.Verification.{context};
-ghost use Rattle.rpki_crl.specs.Revocation.{ListLine, RevocationLine, IsUnderUri, IsUnrevoked, revocation_lines};
+ghost use Rattle.rpki_crl.specs.Revocation.{ListCheck, RevocationCheck, IsUnderUri, IsUnrevoked, revocation_checks};
 
 use crate::crl::Crl;
 use crate::revocation_error::RevocationError;
@@ -23,8 +23,8 @@ impl Crl {
         verifier: &V,
     ) -> Result<(), RevocationError>
         ensures { let x = context (V.verifies verifier.now) now strict in
-            Tests (ListLine x issuer.now.cert.fields serial self.now.list)
-            revocation_lines result }
+            Tests (ListCheck x issuer.now.cert.fields serial self.now.list)
+            revocation_checks result }
     {
         if self.verify_issuer_claim(issuer, strict).is_err() {
             return Err(RevocationError::WrongKeyId);
@@ -59,9 +59,9 @@ impl CrlStore {
         now: Time,
         verifier: &V,
     ) -> Result<(), RevocationError>
-        ensures lines { let x = context (V.verifies verifier.now) now strict in
-            Tests (RevocationLine x issuer.now.cert.fields serial
-            (IsUnderUri self.now.pairs crl_uri.now)) revocation_lines result }
+        ensures checks { let x = context (V.verifies verifier.now) now strict in
+            Tests (RevocationCheck x issuer.now.cert.fields serial
+            (IsUnderUri self.now.pairs crl_uri.now)) revocation_checks result }
         // Ok exactly where a certificate with this number that names this URI is unrevoked.
         ensures unrevoked { let x = context (V.verifies verifier.now) now strict in
             (c : CertFields) → c.fields.serial ≡ serial

@@ -131,8 +131,8 @@ impl Crl {
     /// Reads the list that stands next, one SEQUENCE (RFC 5280 5.1, RFC 6487 5). Fails if no front
     /// of the remaining octets is one; which error is returned is unspecified.
     pub fn take_from(alloc: Global, cursor: &mut Cursor<'_>) -> Result<Crl, DecodeError>
-        ensures answers { let spells = IsCertificateList in
-            AnswersOrMemoryBy (λ c. c.list) spells cursor.old result cursor.new }
+        ensures answers { let encodes = IsCertificateList in
+            AnswersOrMemoryBy (λ c. c.list) encodes cursor.old result cursor.new }
         ensures keeps { Keeps result cursor.old cursor.new }
         ensures uncached { IfOk result (λ c. c.is_cached ≡ false) }
     {
@@ -142,8 +142,8 @@ impl Crl {
     /// Reads the list where a SEQUENCE stands next. Returns `None` at the end and before another
     /// identifier octet.
     pub fn take_opt_from(alloc: Global, cursor: &mut Cursor<'_>) -> Result<Option<Crl>, DecodeError>
-        ensures answers { let spells = IsCertificateList in
-            AnswersOptionalOrMemoryBy (λ c. c.list) SEQUENCE spells cursor.old result cursor.new }
+        ensures answers { let encodes = IsCertificateList in
+            AnswersOptionalOrMemoryBy (λ c. c.list) SEQUENCE encodes cursor.old result cursor.new }
         ensures keeps { Keeps result cursor.old cursor.new }
         ensures uncached { IfOk result (λ o. IfSome o (λ c. c.is_cached ≡ false)) }
     {
@@ -155,8 +155,8 @@ impl Crl {
 
     /// Reads what stands inside the SEQUENCE of a list, without its identifier and length.
     pub fn from_constructed(alloc: Global, content: &mut Cursor<'_>) -> Result<Crl, DecodeError>
-        ensures answers { let spells = IsCertificateListContent in
-            AnswersOrMemoryBy (λ c. c.list) spells content.old result content.new }
+        ensures answers { let encodes = IsCertificateListContent in
+            AnswersOrMemoryBy (λ c. c.list) encodes content.old result content.new }
         ensures keeps { Keeps result content.old content.new }
         ensures uncached { IfOk result (λ c. c.is_cached ≡ false) }
     {

@@ -1,12 +1,12 @@
 //! Laws about the definitions. Each is the contract of a function with no parameters and an empty body.
 ghost use Rattle.std.specs.Prelude.{◌≡◌, ℕ, ◌≤◌, List};
 ghost use Rattle.std.specs.List.{AllByRecursion};
-ghost use Rattle.rpki_der.specs.Spelling.{Begins, BeginsOrAbsent};
+ghost use Rattle.rpki_der.specs.Encoding.{Begins, BeginsOrAbsent};
 ghost use Rattle.rpki_der.specs.Tags.{SEQUENCE};
 ghost use Rattle.rpki_der.specs.Values.{IsUnambiguous};
 ghost use Rattle.rpki_parts.specs.SignedDatas.{signed_data};
 ghost use Rattle.rpki_crl.specs.Lists.{CrlFields, ListFields, ListFits, IsTbsCertList, IsCertificateList, IsCertificateListWithin};
-ghost use Rattle.rpki_crl.specs.Lists.{IsMadeList, list_spelling};
+ghost use Rattle.rpki_crl.specs.Lists.{IsMadeList, list_encoding};
 ghost use Rattle.rpki_crl.specs.RevokedEntries.{Entry, Revoked, AreEntries, IsRevokedCertificates, FitsEntry, entries};
 
 /// Says that a string begins with at most one revocation list, with its fields and entries, and
@@ -37,7 +37,7 @@ pub fn octets_are_kept()
 /// What is made of entries is read as these entries, where their serial numbers are below 2^160
 /// and their moments exist. There are such fields.
 pub fn written_is_read()
-    ensures data { (f : ListFields Revoked) → ListFits f → IsTbsCertList f (list_spelling f) }
+    ensures data { (f : ListFields Revoked) → ListFits f → IsTbsCertList f (list_encoding f) }
     ensures list { (r : CrlFields) → IsMadeList r
         → IsCertificateList r (signed_data r.signed_data) }
     ensures row { (es : List Entry) → AllByRecursion FitsEntry es → AreEntries es (entries es) }

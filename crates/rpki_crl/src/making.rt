@@ -5,7 +5,7 @@ ghost use Rattle.std.specs.Iterator.{IsFinite};
 ghost use Rattle.rpki_der.specs.declared.error.EncodeError.TheVariants.{Memory};
 ghost use Rattle.rpki_parts.specs.SignedDatas.{signed_pieces};
 ghost use Rattle.rpki_parts.specs.Signing.{IsRefusal};
-ghost use Rattle.rpki_crl.specs.Lists.{ListFits, list_content, list_spelling};
+ghost use Rattle.rpki_crl.specs.Lists.{ListFits, list_content, list_encoding};
 ghost use Rattle.rpki_crl.specs.ListMaking.{AreGiven, with_entries, IsListRefusal};
 
 use crate::crl::Crl;
@@ -26,13 +26,13 @@ impl TbsCertList<RevokedCertificates> {
         key: &S::KeyId,
     ) -> Result<SignedData, SigningError<S::Error>>
         ensures fields { OnOk result (ListFits self.now) }
-        ensures message { IfOk result (λ s. s.message ≡ list_spelling self.now) }
+        ensures message { IfOk result (λ s. s.message ≡ list_encoding self.now) }
         ensures signed { IfOk result
-            (λ s. S.signs signer.now key.now self.now.algorithm (list_spelling self.now)
+            (λ s. S.signs signer.now key.now self.now.algorithm (list_encoding self.now)
             (Ok s.signature)) }
         ensures fits { IfOk result (λ s. length (concat (signed_pieces s)) < 2 ^ 32) }
         ensures refused { IfErr result (IsRefusal (list_content self.now)
-            (S.signs signer.now key.now self.now.algorithm (list_spelling self.now))) }
+            (S.signs signer.now key.now self.now.algorithm (list_encoding self.now))) }
     {
         let mut octets = Vec::new(alloc);
         self.encode_ref(alloc, &mut octets)?;
@@ -50,14 +50,14 @@ impl TbsCertList<RevokedCertificates> {
         ensures fields { IfOk result (λ c. c.list.fields ≡ self) }
         ensures written { OnOk result (ListFits self) }
         ensures uncached { IfOk result (λ c. c.is_cached ≡ false) }
-        ensures message { IfOk result (λ c. c.list.signed_data.message ≡ list_spelling self) }
+        ensures message { IfOk result (λ c. c.list.signed_data.message ≡ list_encoding self) }
         ensures signed { IfOk result
-            (λ c. S.signs signer.now key.now self.algorithm (list_spelling self)
+            (λ c. S.signs signer.now key.now self.algorithm (list_encoding self)
             (Ok c.list.signed_data.signature)) }
         ensures fits { IfOk result
             (λ c. length (concat (signed_pieces c.list.signed_data)) < 2 ^ 32) }
         ensures refused { IfErr result (IsRefusal (list_content self)
-            (S.signs signer.now key.now self.algorithm (list_spelling self))) }
+            (S.signs signer.now key.now self.algorithm (list_encoding self))) }
     {
         match self.sign(alloc, signer, key) {
             Ok(signed_data) => Ok(Crl::from_parts(self, signed_data)),
@@ -116,9 +116,9 @@ impl<C: IntoIterator<Item = CrlEntry>> TbsCertList<C> {
         ensures written { IfOk result (λ c. ListFits c.list.fields) }
         ensures uncached { IfOk result (λ c. c.is_cached ≡ false) }
         ensures message { IfOk result
-            (λ c. c.list.signed_data.message ≡ list_spelling c.list.fields) }
+            (λ c. c.list.signed_data.message ≡ list_encoding c.list.fields) }
         ensures signed { IfOk result
-            (λ c. S.signs signer.now key.now self.algorithm (list_spelling c.list.fields)
+            (λ c. S.signs signer.now key.now self.algorithm (list_encoding c.list.fields)
             (Ok c.list.signed_data.signature)) }
         ensures fits { IfOk result
             (λ c. length (concat (signed_pieces c.list.signed_data)) < 2 ^ 32) }

@@ -158,8 +158,8 @@ impl RevokedCertificates {
         alloc: Global,
         cursor: &mut Cursor<'_>,
     ) -> Result<RevokedCertificates, DecodeError>
-        ensures answers { let spells = IsRevokedCertificates in
-            AnswersOrAbsentOrMemory SEQUENCE spells cursor.old result cursor.new }
+        ensures answers { let encodes = IsRevokedCertificates in
+            AnswersOrAbsentOrMemory SEQUENCE encodes cursor.old result cursor.new }
         ensures keeps { Keeps result cursor.old cursor.new }
     {
         RevokedCertificates::read(alloc, cursor)

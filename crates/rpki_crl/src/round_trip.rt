@@ -3,7 +3,7 @@ ghost use Rattle.std.specs.Prelude.{◌≡◌, ◌^◌, ◌<◌, length, false, 
 ghost use Rattle.std.specs.List.{concat};
 ghost use Rattle.rpki_der.specs.declared.error.EncodeError.TheVariants.{Memory};
 ghost use Rattle.rpki_parts.specs.SignedDatas.{signed_pieces};
-ghost use Rattle.rpki_crl.specs.Lists.{ListFits, list_spelling};
+ghost use Rattle.rpki_crl.specs.Lists.{ListFits, list_encoding};
 
 use crate::crl::Crl;
 use crate::laws;
@@ -15,7 +15,7 @@ use std::alloc::Global;
 /// error is `Memory`.
 pub fn read_again(alloc: Global, made: &Crl) -> Result<Crl, EncodeError>
     requires written { ListFits made.now.list.fields }
-    requires message { made.now.list.signed_data.message ≡ list_spelling made.now.list.fields }
+    requires message { made.now.list.signed_data.message ≡ list_encoding made.now.list.fields }
     requires algorithm { let list = made.now.list in
         list.fields.algorithm ≡ list.signed_data.signature.algorithm }
     requires fits { length (concat (signed_pieces made.now.list.signed_data)) < 2 ^ 32 }

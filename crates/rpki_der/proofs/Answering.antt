@@ -4,7 +4,7 @@ use Rattle.std.proofs.lemmas.List.{append-nil}
 use Rattle.rpki_der.specs.declared.error.DecodeError.{DecodeError}
 use Rattle.rpki_der.specs.declared.error.DecodeError.TheVariants.{Memory}
 use Rattle.rpki_der.specs.Values.{AreOctets}
-use Rattle.rpki_der.specs.Spelling.{Begins, Means}
+use Rattle.rpki_der.specs.Encoding.{Begins, Means}
 use Rattle.rpki_der.specs.Reading.{Reads}
 use Rattle.rpki_der.specs.Place.{Place, left, Refuses, AnswersBy, AnswersOrMemoryBy, MeansOrMemoryBy}
 use Rattle.rpki_der.specs.Place.Reading.{TookBy, TookOrMemoryBy, ReturnsBy, ReturnsOrMemoryBy}
@@ -50,45 +50,45 @@ gives_none view (Err f) d o same other none = let e : f ≡ d = cc in (rw e othe
 
 -- ---- from a reading function to its relation
 
-no_front : {Y : Type 0} (read : List ℕ → Option (Y × List ℕ)) (spells : Y → List ℕ → Type 0) → Reads read spells → (octets : List ℕ) → read octets ≡ None → (y : Y) (rest : List ℕ) → Begins spells octets y rest → ⊥
-no_front {Y} read spells law octets e y rest b =
-    let one : read octets ≡ some {A = Y × List ℕ} (y, rest) = rw b.parts (law.again y b.text rest b.spelled) in
+no_front : {Y : Type 0} (read : List ℕ → Option (Y × List ℕ)) (encodes : Y → List ℕ → Type 0) → Reads read encodes → (octets : List ℕ) → read octets ≡ None → (y : Y) (rest : List ℕ) → Begins encodes octets y rest → ⊥
+no_front {Y} read encodes law octets e y rest b =
+    let one : read octets ≡ some {A = Y × List ℕ} (y, rest) = rw b.parts (law.again y b.text rest b.encoded) in
     nothing {B = ⊥} (y, rest) (sym e ∙ one)
 
 -- a reader that takes what a lawful reading function gives answers both ways
-pub answers : {X Y : Type 0} (view : X → Y) (read : List ℕ → Option (Y × List ℕ)) (spells : Y → List ℕ → Type 0) → Reads read spells
-    → (old : Place) (r : Result X DecodeError) (new : Place) → AreOctets (left old) → TookBy view read old r new → AnswersBy view spells old r new
-answers view read spells law old (Ok x) new fits e = law.takes (left old) (view x) (left new) fits e
-answers view read spells law old (Err d) new fits e = (e.0, no_front read spells law (left old) e.1)
+pub answers : {X Y : Type 0} (view : X → Y) (read : List ℕ → Option (Y × List ℕ)) (encodes : Y → List ℕ → Type 0) → Reads read encodes
+    → (old : Place) (r : Result X DecodeError) (new : Place) → AreOctets (left old) → TookBy view read old r new → AnswersBy view encodes old r new
+answers view read encodes law old (Ok x) new fits e = law.takes (left old) (view x) (left new) fits e
+answers view read encodes law old (Err d) new fits e = (e.0, no_front read encodes law (left old) e.1)
 
 -- a reader that may run out of memory, and takes what such a function gives, answers both ways
-pub answers_or_memory : {X Y : Type 0} (view : X → Y) (read : List ℕ → Option (Y × List ℕ)) (spells : Y → List ℕ → Type 0) → Reads read spells
-    → (old : Place) (r : Result X DecodeError) (new : Place) → AreOctets (left old) → TookOrMemoryBy view read old r new → AnswersOrMemoryBy view spells old r new
-answers_or_memory view read spells law old (Ok x) new fits e = law.takes (left old) (view x) (left new) fits e
-answers_or_memory view read spells law old (Err d) new fits e = refuses d (no_front read spells law (left old)) e
+pub answers_or_memory : {X Y : Type 0} (view : X → Y) (read : List ℕ → Option (Y × List ℕ)) (encodes : Y → List ℕ → Type 0) → Reads read encodes
+    → (old : Place) (r : Result X DecodeError) (new : Place) → AreOctets (left old) → TookOrMemoryBy view read old r new → AnswersOrMemoryBy view encodes old r new
+answers_or_memory view read encodes law old (Ok x) new fits e = law.takes (left old) (view x) (left new) fits e
+answers_or_memory view read encodes law old (Err d) new fits e = refuses d (no_front read encodes law (left old)) e
 
 -- ---- whole octets
 
 -- a reader at their beginning tells what they mean
-pub front_means : {X Y : Type 0} (view : X → Y) (spells : Y → List ℕ → Type 0) (old new : Place) (r : Result X DecodeError) (octets : List ℕ)
-    → left old ≡ octets → AnswersOrMemoryBy view spells old r new → MeansOrMemoryBy view (Means spells) r octets
-front_means view spells old new (Ok x) octets e a = (left new, record { text = a.text; spelled = a.spelled; parts = sym e ∙ a.parts })
-front_means view spells old new (Err d) octets e a = refuses d (λ none y m. none y m.0 (record { text = m.1.text; spelled = m.1.spelled; parts = e ∙ m.1.parts })) a
+pub front_means : {X Y : Type 0} (view : X → Y) (encodes : Y → List ℕ → Type 0) (old new : Place) (r : Result X DecodeError) (octets : List ℕ)
+    → left old ≡ octets → AnswersOrMemoryBy view encodes old r new → MeansOrMemoryBy view (Means encodes) r octets
+front_means view encodes old new (Ok x) octets e a = (left new, record { text = a.text; encoded = a.encoded; parts = sym e ∙ a.parts })
+front_means view encodes old new (Err d) octets e a = refuses d (λ none y m. none y m.0 (record { text = m.1.text; encoded = m.1.encoded; parts = e ∙ m.1.parts })) a
 
 -- what they encode they mean
-pub whole_means : {V : Type 0} (spells : V → List ℕ → Type 0) (v : V) (octets : List ℕ) → spells v octets → Means spells v octets
-whole_means spells v octets s = ([], record { text = octets; spelled = s; parts = sym (append-nil octets) })
+pub whole_means : {V : Type 0} (encodes : V → List ℕ → Type 0) (v : V) (octets : List ℕ) → encodes v octets → Means encodes v octets
+whole_means encodes v octets s = ([], record { text = octets; encoded = s; parts = sym (append-nil octets) })
 
--- where something stands behind a value at their front, they spell none
-pub none_spelled : {V : Type 0} (read : List ℕ → Option (V × List ℕ)) (spells : V → List ℕ → Type 0) → Reads read spells
-    → (v w : V) (found octets rest : List ℕ) → found ≡ octets → rest ≢ [] → Begins spells found v rest → spells w octets → ⊥
-none_spelled read spells law v w found octets rest same behind b s =
-    behind (one_reading read spells law found v w rest [] b (record { text = octets; spelled = s; parts = same ∙ sym (append-nil octets) })).1
+-- where something stands behind a value at their front, they encode none
+pub none_encoded : {V : Type 0} (read : List ℕ → Option (V × List ℕ)) (encodes : V → List ℕ → Type 0) → Reads read encodes
+    → (v w : V) (found octets rest : List ℕ) → found ≡ octets → rest ≢ [] → Begins encodes found v rest → encodes w octets → ⊥
+none_encoded read encodes law v w found octets rest same behind b s =
+    behind (one_reading read encodes law found v w rest [] b (record { text = octets; encoded = s; parts = same ∙ sym (append-nil octets) })).1
 
--- where a reader at their beginning refuses, and that is passed on, they spell none
-pub all_refused : {X Y : Type 0} (view : X → Y) (spells : Y → List ℕ → Type 0) (r : Result X DecodeError) (d : DecodeError) (found octets : List ℕ)
-    → found ≡ octets → r ≡ Err d → Refuses d ((y : Y) (rest : List ℕ) → Begins spells found y rest → ⊥) → MeansOrMemoryBy view spells r octets
-all_refused view spells (Ok x) d found octets same passed none = absurd cc
-all_refused view spells (Err e) d found octets same passed none =
+-- where a reader at their beginning refuses, and that is passed on, they encode none
+pub all_refused : {X Y : Type 0} (view : X → Y) (encodes : Y → List ℕ → Type 0) (r : Result X DecodeError) (d : DecodeError) (found octets : List ℕ)
+    → found ≡ octets → r ≡ Err d → Refuses d ((y : Y) (rest : List ℕ) → Begins encodes found y rest → ⊥) → MeansOrMemoryBy view encodes r octets
+all_refused view encodes (Ok x) d found octets same passed none = absurd cc
+all_refused view encodes (Err e) d found octets same passed none =
     let is : e ≡ d = cc in
-    rw is (refuses d (λ not y s. not y [] (record { text = octets; spelled = s; parts = same ∙ sym (append-nil octets) })) none)
+    rw is (refuses d (λ not y s. not y [] (record { text = octets; encoded = s; parts = same ∙ sym (append-nil octets) })) none)

@@ -8,7 +8,7 @@ use Rattle.rpki_der.specs.Reading.{optional, content, Reads, ReadsWhole, Inside,
 use Rattle.rpki_der.specs.Values.Reading.{value_at, ◌>>=◌}
 use Rattle.rpki_der.specs.Rows.{IsRow}
 use Rattle.rpki_der.specs.Rows.Reading.{row_of, Shrinks}
-use Rattle.rpki_der.specs.Spelling.{Begins, BeginsOther}
+use Rattle.rpki_der.specs.Encoding.{Begins, BeginsOther}
 use Rattle.rpki_der.specs.Values.{AreOctets, length_octets, enc, IsEnc}
 use Rattle.rpki_der.proofs.Octets.{nothing, bind_some, some, some_is, both_are}
 use Rattle.rpki_der.proofs.Readings.{begins_same, content_reads}
@@ -25,11 +25,11 @@ by_second t f g (b ∷ bytes) other = rw (ne_eqb b t other) refl
 
 choice_takes : {V : Type 0} (t : ℕ) (f g : List ℕ → Option (V × List ℕ)) (S T : V → List ℕ → Type 0) → Reads f S → Reads g T
     → (bytes : List ℕ) (v : V) (rest : List ℕ) → AreOctets bytes → choice t f g bytes ≡ Some (v, rest) → Begins (Either S T) bytes v rest
-choice_takes t f g S T F G [] v rest fits e = let r = G.takes [] v rest fits e in record { text = r.text; spelled = inr r.spelled; parts = r.parts }
+choice_takes t f g S T F G [] v rest fits e = let r = G.takes [] v rest fits e in record { text = r.text; encoded = inr r.encoded; parts = r.parts }
 choice_takes t f g S T F G (b ∷ bytes) v rest fits e =
     elim (cases_Bool (eqb b t)) [
-      | inl y ↦ let r = F.takes (b ∷ bytes) v rest fits (rw y at e) in record { text = r.text; spelled = inl r.spelled; parts = r.parts }
-      | inr n ↦ let r = G.takes (b ∷ bytes) v rest fits (rw n at e) in record { text = r.text; spelled = inr r.spelled; parts = r.parts }
+      | inl y ↦ let r = F.takes (b ∷ bytes) v rest fits (rw y at e) in record { text = r.text; encoded = inl r.encoded; parts = r.parts }
+      | inr n ↦ let r = G.takes (b ∷ bytes) v rest fits (rw n at e) in record { text = r.text; encoded = inr r.encoded; parts = r.parts }
     ]
 
 -- where the second form begins otherwise
@@ -55,7 +55,7 @@ turned_reads {X} {Y} f read S F = record {
       let made : Y × List ℕ = (b.0, a.0.1) in
       begins_same (Turned f S) bytes made (y, rest) (some_is made (y, rest) b.2) (record {
         text = one.text;
-        spelled = (a.0.0, one.spelled, b.1);
+        encoded = (a.0.0, one.encoded, b.1);
         parts = one.parts;
       });
   again = λ y text rest s. rw (F.again s.0 text rest s.1, s.2) refl;

@@ -9,7 +9,7 @@ use Rattle.rpki_der.specs.Primitives.Reading.{bool_or_false_at, oid_at}
 use Rattle.rpki_der.specs.Reading.{inside, both, mapped, Reads, Both, Inside}
 use Rattle.rpki_der.specs.Values.Reading.{value_at}
 use Rattle.rpki_der.specs.Rows.Reading.{Shrinks}
-use Rattle.rpki_der.specs.Spelling.{BeginsOther}
+use Rattle.rpki_der.specs.Encoding.{BeginsOther}
 use Rattle.rpki_der.specs.Tags.{BOOLEAN, OCTET_STRING, SEQUENCE}
 use Rattle.rpki_der.proofs.Readings.{before_then}
 use Rattle.rpki_der.proofs.IdentifierReads.{oid_reads}
@@ -31,10 +31,10 @@ parts_read = both_reads oid_at (both bool_or_false_at (value_at OCTET_STRING)) I
 abbrev parts : Extension → List ℕ × (Bool × List ℕ)
 parts x = (x.identifier, (x.critical, x.content))
 
-abbrev Spelled : Extension → List ℕ → Type 0
-Spelled x = Parts (parts x)
+abbrev Encoded : Extension → List ℕ → Type 0
+Encoded x = Parts (parts x)
 
-is_extension : (x : Extension) (text : List ℕ) → Inside SEQUENCE Spelled x text → IsExtension x text
+is_extension : (x : Extension) (text : List ℕ) → Inside SEQUENCE Encoded x text → IsExtension x text
 is_extension x text s =
     let p = s.1 in
     let q = p.3 in
@@ -49,7 +49,7 @@ is_extension x text s =
       sequence = subst (λ (c : List ℕ). IsEnc SEQUENCE c text) all s.2;
     }
 
-extension_is : (x : Extension) (text : List ℕ) → IsExtension x text → Inside SEQUENCE Spelled x text
+extension_is : (x : Extension) (text : List ℕ) → IsExtension x text → Inside SEQUENCE Encoded x text
 extension_is x text s =
     let all : s.identifier ++ (s.flag ++ (s.content ++ [])) ≡ s.identifier ++ (s.flag ++ s.content) = ap (λ (t : List ℕ). s.identifier ++ (s.flag ++ t)) (append-nil s.content) in (
       s.identifier ++ (s.flag ++ s.content),
@@ -61,8 +61,8 @@ extension_is x text s =
 pub extension_reads : Reads extension_at IsExtension
 unfolding extension_at
 extension_reads =
-    same_reads (inside SEQUENCE (mapped extension_made (both oid_at (both bool_or_false_at (value_at OCTET_STRING))))) (Inside SEQUENCE Spelled) IsExtension
-    (inside_reads SEQUENCE (mapped extension_made (both oid_at (both bool_or_false_at (value_at OCTET_STRING)))) Spelled
+    same_reads (inside SEQUENCE (mapped extension_made (both oid_at (both bool_or_false_at (value_at OCTET_STRING))))) (Inside SEQUENCE Encoded) IsExtension
+    (inside_reads SEQUENCE (mapped extension_made (both oid_at (both bool_or_false_at (value_at OCTET_STRING)))) Encoded
     (mapped_reads (both oid_at (both bool_or_false_at (value_at OCTET_STRING))) Parts extension_made parts (λ p. refl) (λ x. refl) parts_read))
     is_extension extension_is
 

@@ -6,7 +6,7 @@ use Rattle.rpki_der.specs.Place.{Place, left, AnswersOrAbsent, AnswersOrAbsentOr
 use Rattle.rpki_der.specs.Place.Reading.{Took, TookOrMemory}
 use Rattle.rpki_der.specs.Reading.{optional, mapped, ReadsBefore, Reads, ReadsOrAbsent, Optional, BeginWith}
 use Rattle.rpki_der.specs.Values.Reading.{◌>>=◌}
-use Rattle.rpki_der.specs.Spelling.{BeginsOrAbsent, BeginsOther}
+use Rattle.rpki_der.specs.Encoding.{BeginsOrAbsent, BeginsOther}
 use Rattle.rpki_der.specs.Values.{AreOctets}
 use Rattle.rpki_der.proofs.Answering.{refuses}
 use Rattle.rpki_der.proofs.Octets.{bind_some, some, some_is, nothing}
@@ -24,7 +24,7 @@ module _ {X : Type 0} (t : ℕ) (f : List ℕ → Option (X × List ℕ)) where
     optional_takes : (octets : List ℕ) (o : Option X) (rest : List ℕ) → AreOctets octets → optional t f octets ≡ some {A = Option X × List ℕ} (o, rest) → BeginsOrAbsent t (Optional S) octets o rest
     optional_takes [] o rest fits e =
         let made : Option X × List ℕ = (None, []) in
-        subst (λ (q : Option X × List ℕ). BeginsOrAbsent t (Optional S) [] q.0 q.1) (some_is made (o, rest) e) (record { text = []; spelled = refl; parts = refl; absent = λ _. tt })
+        subst (λ (q : Option X × List ℕ). BeginsOrAbsent t (Optional S) [] q.0 q.1) (some_is made (o, rest) e) (record { text = []; encoded = refl; parts = refl; absent = λ _. tt })
     optional_takes (b ∷ octets) o rest fits e =
         elim (cases_Bool (eqb b t)) [
           | inl y ↦
@@ -32,14 +32,14 @@ module _ {X : Type 0} (t : ℕ) (f : List ℕ → Option (X × List ℕ)) where
               let a = bind_some (f (b ∷ octets)) (λ x. some {A = Option X × List ℕ} (Some x.0, x.1)) (o, rest) e1 in
               let one = F.takes (b ∷ octets) a.0.0 a.0.1 fits a.1 in
               let made : Option X × List ℕ = (Some a.0.0, a.0.1) in
-              let tagged = begin a.0.0 one.text one.spelled in
+              let tagged = begin a.0.0 one.text one.encoded in
               subst (λ (q : Option X × List ℕ). BeginsOrAbsent t (Optional S) (b ∷ octets) q.0 q.1) (some_is made (o, rest) a.2)
-              (record { text = one.text; spelled = one.spelled; parts = one.parts; absent = λ none. absurd (cc (tagged.1, none)) })
+              (record { text = one.text; encoded = one.encoded; parts = one.parts; absent = λ none. absurd (cc (tagged.1, none)) })
           | inr n ↦
               let made : Option X × List ℕ = (None, b ∷ octets) in
               let e1 : some made ≡ some {A = Option X × List ℕ} (o, rest) = rw n at e in
               subst (λ (q : Option X × List ℕ). BeginsOrAbsent t (Optional S) (b ∷ octets) q.0 q.1) (some_is made (o, rest) e1)
-              (record { text = []; spelled = refl; parts = refl; absent = λ _. eqb-false b t n })
+              (record { text = []; encoded = refl; parts = refl; absent = λ _. eqb-false b t n })
         ]
 
     optional_again : (octets : List ℕ) (o : Option X) (rest text : List ℕ) → Optional S o text → octets ≡ text ++ rest → (text ≡ [] → BeginsOther t octets) → optional t f octets ≡ some {A = Option X × List ℕ} (o, rest)
@@ -53,13 +53,13 @@ module _ {X : Type 0} (t : ℕ) (f : List ℕ → Option (X × List ℕ)) where
 
     -- an optional value is read lawfully, absent or not
     pub optional_or_absent : ReadsOrAbsent t (optional t f) (Optional S)
-    optional_or_absent = record { takes = optional_takes; again = λ octets o rest b. optional_again octets o rest b.text b.spelled b.parts b.absent }
+    optional_or_absent = record { takes = optional_takes; again = λ octets o rest b. optional_again octets o rest b.text b.encoded b.parts b.absent }
 
 -- a value stands before octets that begin otherwise
 pub absent_before : {X : Type 0} (t : ℕ) (f : List ℕ → Option (X × List ℕ)) (S : X → List ℕ → Type 0) → ReadsOrAbsent t f S → ReadsBefore (BeginsOther t) f S
 absent_before t f S F = record {
-  takes = λ octets v rest fits e. let b = F.takes octets v rest fits e in record { text = b.text; spelled = b.spelled; parts = b.parts };
-  again = λ v text rest s other. F.again (text ++ rest) v rest (record { text = text; spelled = s; parts = refl; absent = λ none. rw none other });
+  takes = λ octets v rest fits e. let b = F.takes octets v rest fits e in record { text = b.text; encoded = b.encoded; parts = b.parts };
+  again = λ v text rest s other. F.again (text ++ rest) v rest (record { text = text; encoded = s; parts = refl; absent = λ none. rw none other });
 }
 
 -- an optional value is read lawfully where another tag follows
@@ -74,10 +74,10 @@ mapped_or_absent {X} {Y} t to f S T F there back = record {
       let a = bind_some (f octets) (λ x. Some (to x.0, x.1)) (y, rest) e in
       let b = F.takes octets a.0.0 a.0.1 fits a.1 in
       let made : Y × List ℕ = (to a.0.0, a.0.1) in
-      subst (λ (q : Y × List ℕ). BeginsOrAbsent t T octets q.0 q.1) (some_is made (y, rest) a.2) (record { text = b.text; spelled = there a.0.0 b.text b.spelled; parts = b.parts; absent = b.absent });
+      subst (λ (q : Y × List ℕ). BeginsOrAbsent t T octets q.0 q.1) (some_is made (y, rest) a.2) (record { text = b.text; encoded = there a.0.0 b.text b.encoded; parts = b.parts; absent = b.absent });
   again = λ octets y rest b.
-      let x = back y b.text b.spelled in
-      rw (F.again octets x.0 rest (record { text = b.text; spelled = x.2; parts = b.parts; absent = b.absent }), x.1) refl;
+      let x = back y b.text b.encoded in
+      rw (F.again octets x.0 rest (record { text = b.text; encoded = x.2; parts = b.parts; absent = b.absent }), x.1) refl;
 }
 
 -- ---- both directions of a reader

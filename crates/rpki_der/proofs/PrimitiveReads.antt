@@ -11,7 +11,7 @@ use Rattle.rpki_der.specs.Values.{length_octets, enc, IsEnc}
 use Rattle.rpki_der.specs.Primitives.{IsNull, IsBits, IsU32, IsBoolOrFalse, IsInteger, IsNumber}
 use Rattle.rpki_der.specs.Primitives.Reading.{octets_at, null_of, null_at, or_false, bool_or_false_at, has_zero_bits, bits_of, bits_at, is_unsigned, number_below, u32_at, bool_of, bool_at}
 use Rattle.rpki_der.specs.Reading.{content, optional, Reads, ReadsBefore, ReadsOrAbsent, Inside, Optional, BeginWith}
-use Rattle.rpki_der.specs.Spelling.{BeginsOther}
+use Rattle.rpki_der.specs.Encoding.{BeginsOther}
 use Rattle.rpki_der.specs.Tags.{BIT_STRING, BOOLEAN, INTEGER, NULL, OCTET_STRING}
 use Rattle.rpki_der.proofs.Octets.{if_some, some_is, nothing}
 use Rattle.rpki_der.proofs.Readings.{content_reads, same_reads}

@@ -4,7 +4,7 @@ use Rattle.std.proofs.lemmas.List.{append-nil}
 use Rattle.rpki_der.specs.Choices.{followed, Followed, whole}
 use Rattle.rpki_der.specs.Reading.{ended, inside, both, mapped, content, ReadsBefore, Anything, Reads, ReadsWhole, Both, Inside}
 use Rattle.rpki_der.specs.Values.Reading.{value_at, ◌>>=◌}
-use Rattle.rpki_der.specs.Spelling.{Begins}
+use Rattle.rpki_der.specs.Encoding.{Begins}
 use Rattle.rpki_der.specs.Place.{Place, left}
 use Rattle.rpki_der.specs.Values.{AreOctets, length_octets, enc, IsEnc}
 use Rattle.rpki_der.proofs.Octets.{AreOctets-after, AreOctets-front, bind_some, some, some_is, both_are, nothing}
@@ -12,11 +12,11 @@ use Rattle.rpki_der.proofs.ValueReads.{value_takes, value_again}
 
 -- a reading's answer is the only one: two texts that encode values and begin the same octets are
 -- one
-pub one_reading : {A : Type 0} (read : List ℕ → Option (A × List ℕ)) (spells : A → List ℕ → Type 0) → Reads read spells
-    → (bytes : List ℕ) (x y : A) (p q : List ℕ) → Begins spells bytes x p → Begins spells bytes y q → (x ≡ y) × (p ≡ q)
-one_reading {A} read spells law bytes x y p q a b =
-    let one : read bytes ≡ some {A = A × List ℕ} (x, p) = rw a.parts (law.again x a.text p a.spelled) in
-    let two : read bytes ≡ some {A = A × List ℕ} (y, q) = rw b.parts (law.again y b.text q b.spelled) in
+pub one_reading : {A : Type 0} (read : List ℕ → Option (A × List ℕ)) (encodes : A → List ℕ → Type 0) → Reads read encodes
+    → (bytes : List ℕ) (x y : A) (p q : List ℕ) → Begins encodes bytes x p → Begins encodes bytes y q → (x ≡ y) × (p ≡ q)
+one_reading {A} read encodes law bytes x y p q a b =
+    let one : read bytes ≡ some {A = A × List ℕ} (x, p) = rw a.parts (law.again x a.text p a.encoded) in
+    let two : read bytes ≡ some {A = A × List ℕ} (y, q) = rw b.parts (law.again y b.text q b.encoded) in
     both_are (x, p) (y, q) (sym one ∙ two)
 
 -- the content of a value that octets begin with is octets
@@ -24,7 +24,7 @@ pub AreOctets-content : {rest : List ℕ} (bytes : List ℕ) (t : ℕ) (c : List
 unfolding enc
 AreOctets-content {rest} bytes t c v fits =
     let text = AreOctets-front bytes v.text rest v.parts fits in
-    AreOctets-after v.text (t ∷ length_octets (length c)) c v.spelled.is text
+    AreOctets-after v.text (t ∷ length_octets (length c)) c v.encoded.is text
 
 -- a reading that has ended leaves nothing and gives its value
 pub ended_some : {X : Type 0} (rest : List ℕ) (x y : X) → ended rest x ≡ some y → (rest ≡ []) × (x ≡ y)
@@ -38,10 +38,10 @@ pub begins_same : {X : Type 0} (S : X → List ℕ → Type 0) (octets : List �
 begins_same {X} S octets a b e h = subst (λ (q : X × List ℕ). Begins S octets q.0 q.1) e h
 
 -- where nothing remains, the octets are encoded
-spelled_all : {X : Type 0} (S : X → List ℕ → Type 0) (octets : List ℕ) (x y : X) (rest : List ℕ) → rest ≡ [] → x ≡ y → Begins S octets x rest → S y octets
-spelled_all {X} S octets x y rest none same b =
+encoded_all : {X : Type 0} (S : X → List ℕ → Type 0) (octets : List ℕ) (x y : X) (rest : List ℕ) → rest ≡ [] → x ≡ y → Begins S octets x rest → S y octets
+encoded_all {X} S octets x y rest none same b =
     let used : b.text ≡ octets = sym (append-nil b.text) ∙ ap (λ (r : List ℕ). b.text ++ r) (sym none) ∙ sym b.parts in
-    subst (λ (c : List ℕ). S y c) used (subst (λ (z : X). S z b.text) same b.spelled)
+    subst (λ (c : List ℕ). S y c) used (subst (λ (z : X). S z b.text) same b.encoded)
 
 -- one text after the other
 one_after : (octets a next b rest : List ℕ) → octets ≡ a ++ next → next ≡ b ++ rest → octets ≡ (a ++ b) ++ rest
@@ -51,7 +51,7 @@ one_after octets a next b rest first second = first ∙ ap (λ (t : List ℕ). a
 both_begin : {X Y : Type 0} (S : X → List ℕ → Type 0) (T : Y → List ℕ → Type 0) (octets : List ℕ) (x : X) (next : List ℕ) (y : Y) (rest : List ℕ) → Begins S octets x next → Begins T next y rest → Begins (Both S T) octets (x, y) rest
 both_begin S T octets x next y rest one two = record {
   text = one.text ++ two.text;
-  spelled = (one.text, two.text, one.spelled, two.spelled, refl);
+  encoded = (one.text, two.text, one.encoded, two.encoded, refl);
   parts = one_after octets one.text next two.text rest one.parts two.parts;
 }
 
@@ -76,7 +76,7 @@ module _ (P : List ℕ → Type 0) where
   -- a lawful reading stays lawful for an equivalent relation
   pub same_before : {X : Type 0} (f : List ℕ → Option (X × List ℕ)) (S T : X → List ℕ → Type 0) → ReadsBefore P f S → ((x : X) (text : List ℕ) → S x text → T x text) → ((x : X) (text : List ℕ) → T x text → S x text) → ReadsBefore P f T
   same_before f S T F to back = record {
-    takes = λ bytes x rest fits e. let one = F.takes bytes x rest fits e in record { text = one.text; spelled = to x one.text one.spelled; parts = one.parts };
+    takes = λ bytes x rest fits e. let one = F.takes bytes x rest fits e in record { text = one.text; encoded = to x one.text one.encoded; parts = one.parts };
     again = λ x text rest t p. F.again x text rest (back x text t) p;
   }
 
@@ -88,7 +88,7 @@ module _ (P : List ℕ → Type 0) where
         let a = bind_some (f bytes) (λ x. Some (to x.0, x.1)) (y, rest) e in
         let one = F.takes bytes a.0.0 a.0.1 fits a.1 in
         let made : Y × List ℕ = (to a.0.0, a.0.1) in
-        begins_same T bytes made (y, rest) (some_is made (y, rest) a.2) (record { text = one.text; spelled = there a.0.0 one.text one.spelled; parts = one.parts });
+        begins_same T bytes made (y, rest) (some_is made (y, rest) a.2) (record { text = one.text; encoded = there a.0.0 one.text one.encoded; parts = one.parts });
     again = λ y text rest t p. let x = back y text t in rw (F.again x.0 text rest x.2 p, x.1) refl;
   }
 
@@ -102,7 +102,7 @@ module _ (P : List ℕ → Type 0) where
         let two = (G a.0.0).takes a.0.1 y rest (AreOctets-after bytes one.text a.0.1 one.parts fits) a.2 in
         record {
           text = one.text ++ two.text;
-          spelled = (a.0.0, one.text, two.text, one.spelled, two.spelled, refl);
+          encoded = (a.0.0, one.text, two.text, one.encoded, two.encoded, refl);
           parts = one_after bytes one.text a.0.1 two.text rest one.parts two.parts;
         };
     again = λ y text rest s p.
@@ -116,7 +116,7 @@ module _ (P : List ℕ → Type 0) where
     takes = λ octets x fits e.
         let a = bind_some (f octets) (λ r. ended r.1 r.0) x e in
         let g = ended_some a.0.1 a.0.0 x a.2 in
-        spelled_all S octets a.0.0 x a.0.1 g.0 g.1 (F.takes octets a.0.0 a.0.1 fits a.1);
+        encoded_all S octets a.0.0 x a.0.1 g.0 g.1 (F.takes octets a.0.0 a.0.1 fits a.1);
     again = λ x octets s.
         let all : f octets ≡ some {A = X × List ℕ} (x, []) = ap f (sym (append-nil octets)) ∙ F.again x octets [] s end in
         rw all refl;
@@ -132,10 +132,10 @@ module _ (P : List ℕ → Type 0) where
         let g = ended_some b.0.1 made (p, rest) b.2 in
         let one = value_takes t bytes a.0.0 a.0.1 fits a.1 in
         let low = AreOctets-content bytes t a.0.0 one fits in
-        let all = spelled_all S a.0.0 b.0.0 b.0.0 b.0.1 g.0 refl (F.takes a.0.0 b.0.0 b.0.1 low b.1) in
+        let all = encoded_all S a.0.0 b.0.0 b.0.0 b.0.1 g.0 refl (F.takes a.0.0 b.0.0 b.0.1 low b.1) in
         begins_same (Inside t S) bytes made (p, rest) g.1 (record {
           text = one.text;
-          spelled = (a.0.0, all, one.spelled);
+          encoded = (a.0.0, all, one.encoded);
           parts = one.parts;
         });
     again = λ p text rest s.
@@ -208,7 +208,7 @@ content_reads {X} t f S F = record {
       let low = AreOctets-content bytes t a.0.0 one fits in
       begins_same (Inside t S) bytes made (p, rest) (some_is made (p, rest) b.2) (record {
         text = one.text;
-        spelled = (a.0.0, F.takes a.0.0 b.0 low b.1, one.spelled);
+        encoded = (a.0.0, F.takes a.0.0 b.0 low b.1, one.encoded);
         parts = one.parts;
       });
   again = λ p text rest s. rw (value_again t s.0 text rest s.2, F.again p s.0 s.1) refl;

@@ -5,7 +5,7 @@ use Rattle.std.proofs.lemmas.Bool.{cases_lt, lt-ltb, le-ltb}
 use Rattle.std.proofs.lemmas.Int.Digits.{length-digits_of-le}
 use Rattle.std.proofs.lemmas.List.{append_cancel_left}
 use Rattle.rpki_der.specs.Serials.{IsSerial}
-use Rattle.rpki_der.specs.Spelling.{Begins}
+use Rattle.rpki_der.specs.Encoding.{Begins}
 use Rattle.rpki_der.specs.Times.{Moment, IsMoment, IsTime, two, after_year, time}
 use Rattle.rpki_der.specs.Values.{enc, IsUnambiguous}
 use Rattle.rpki_der.specs.Primitives.{unsigned, number}
@@ -56,11 +56,11 @@ pub moment_made : (m : Moment) → IsMoment m → IsTime m (time m)
 moment_made m h = time_made m h (time_small m, ok_time m h (time_small m))
 
 -- what is written begins with its value, and with no other
-pub begins : {V : Type 0} (spells : V → List ℕ → Type 0) (v : V) (text rest : List ℕ) → spells v text → Begins spells (text ++ rest) v rest
-begins spells v text rest s = record { text = text; spelled = s; parts = refl }
+pub begins : {V : Type 0} (encodes : V → List ℕ → Type 0) (v : V) (text rest : List ℕ) → encodes v text → Begins encodes (text ++ rest) v rest
+begins encodes v text rest s = record { text = text; encoded = s; parts = refl }
 
 -- octets that begin with one value begin with no other
-pub begins_one : {V : Type 0} (spells : V → List ℕ → Type 0) → IsUnambiguous spells → (v w : V) (text rest tail : List ℕ) → spells v text → Begins spells (text ++ rest) w tail → (w ≡ v) × (tail ≡ rest)
-begins_one spells one v w text rest tail s b =
-    let same = one v w text b.text rest tail s b.spelled b.parts in
+pub begins_one : {V : Type 0} (encodes : V → List ℕ → Type 0) → IsUnambiguous encodes → (v w : V) (text rest tail : List ℕ) → encodes v text → Begins encodes (text ++ rest) w tail → (w ≡ v) × (tail ≡ rest)
+begins_one encodes one v w text rest tail s b =
+    let same = one v w text b.text rest tail s b.encoded b.parts in
     (sym same.0, append_cancel_left text tail rest (ap (λ (x : List ℕ). x ++ tail) same.1 ∙ sym b.parts))

@@ -38,7 +38,7 @@ row_takes {X} read S law (suc n) (b ∷ bytes) xs fits e =
     let c = bind_some (row_at read n a.0.1) (λ ys. Some (a.0.0 ∷ ys)) xs a.2 in
     let one = law.takes (b ∷ bytes) a.0.0 a.0.1 fits a.1 in
     let two = row_takes read S law n a.0.1 c.0 (AreOctets-after (b ∷ bytes) one.text a.0.1 one.parts fits) c.1 in
-    subst (λ (ys : List X). IsRow S ys (b ∷ bytes)) (some_is (a.0.0 ∷ c.0) xs c.2) (one.text, a.0.1, one.spelled, two, one.parts)
+    subst (λ (ys : List X). IsRow S ys (b ∷ bytes)) (some_is (a.0.0 ∷ c.0) xs c.2) (one.text, a.0.1, one.encoded, two, one.parts)
 
 -- octets that read as a row are the row of these values
 pub row_is : {X : Type 0} (read : List ℕ → Option (X × List ℕ)) (S : X → List ℕ → Type 0) → Reads read S → (bytes : List ℕ) (xs : List X) → AreOctets bytes → row_of read bytes ≡ some xs → IsRow S xs bytes

@@ -11,7 +11,7 @@ use Rattle.rpki_der.specs.Rows.{IsRow}
 use Rattle.rpki_der.specs.Rows.Reading.{row_of}
 use Rattle.rpki_der.specs.Place.Reading.{Returns}
 use Rattle.rpki_der.specs.declared.error.DecodeError.{DecodeError}
-use Rattle.rpki_der.specs.Spelling.{Begins}
+use Rattle.rpki_der.specs.Encoding.{Begins}
 use Rattle.rpki_der.specs.Skipping.{IsSkippableWithin, IsSkippableRow, IsSkipped, IsCaptured, levels}
 use Rattle.rpki_der.specs.Skipping.Reading.{any_at, captured_at, is_primitive, skip_within, skip_row_within, skip_at, skip_all_of}
 use Rattle.rpki_der.proofs.Octets.{bind_some, if_some, some, some_is, nothing}
@@ -32,7 +32,7 @@ any_takes (tag ∷ bytes) v rest fits e =
     let a = bind_some (value_at tag (tag ∷ bytes)) (λ x. some {A = (ℕ × List ℕ) × List ℕ} ((tag, x.0), x.1)) (v, rest) e in
     let one = value_takes tag (tag ∷ bytes) a.0.0 a.0.1 fits a.1 in
     let made : (ℕ × List ℕ) × List ℕ = ((tag, a.0.0), a.0.1) in
-    begins_same IsTagged (tag ∷ bytes) made (v, rest) (some_is made (v, rest) a.2) (record { text = one.text; spelled = one.spelled; parts = one.parts })
+    begins_same IsTagged (tag ∷ bytes) made (v, rest) (some_is made (v, rest) a.2) (record { text = one.text; encoded = one.encoded; parts = one.parts })
 
 -- octets that a value begins, begin with its identifier octet
 pub begins_tag : (tag : ℕ) (content text rest : List ℕ) → IsEnc tag content text → (tail : List ℕ) × (text ++ rest ≡ tag ∷ tail)
@@ -58,8 +58,8 @@ captured_reads = record {
       let one = any_takes octets (tag, content) after fits found in
       let made : List ℕ × List ℕ = (take (length octets - length after) octets, after) in
       let front : take (length octets - length after) octets ≡ one.text = front_is octets one.text after one.parts in
-      let value : IsValue one.text = record { tag = tag; content = content; enc = one.spelled } in
-      begins_same IsCaptured octets made (text, rest) (some_is made (text, rest) last) (record { text = one.text; spelled = (value, front); parts = one.parts });
+      let value : IsValue one.text = record { tag = tag; content = content; enc = one.encoded } in
+      begins_same IsCaptured octets made (text, rest) (some_is made (text, rest) last) (record { text = one.text; encoded = (value, front); parts = one.parts });
   again = λ octets text rest s.
       let found : ℕ × List ℕ = (s.0.tag, s.0.content) in
       let front : take (length (text ++ rest) - length rest) (text ++ rest) ≡ text = front_is (text ++ rest) text rest refl in
@@ -104,8 +104,8 @@ primitive_reads = record {
       let made : Unit {0} × List ℕ = (tt, after) in
       let g = if_some (is_primitive tag) made (u, rest) last in
       let one = any_takes octets (tag, content) after fits found in
-      let value : IsValue one.text = record { tag = tag; content = content; enc = one.spelled } in
-      begins_same (Within 0) octets made (u, rest) g.1 (record { text = one.text; spelled = (value, eqb-true _ 0 g.0); parts = one.parts });
+      let value : IsValue one.text = record { tag = tag; content = content; enc = one.encoded } in
+      begins_same (Within 0) octets made (u, rest) g.1 (record { text = one.text; encoded = (value, eqb-true _ 0 g.0); parts = one.parts });
   again = λ u text rest s.
       let found : ℕ × List ℕ = (s.0.tag, s.0.content) in
       rw (any_again found text rest s.0.enc, eq-eqb _ 0 s.1) refl;
@@ -117,18 +117,18 @@ deeper_reads d R = record {
   takes = λ octets u rest fits e.
       let (((tag, content), after), found, last) = bind_some (any_at octets) (λ v. cond (is_primitive v.0.0) (some {A = Unit {0} × List ℕ} (tt, v.1)) (row_of (skip_within d) v.0.1 >>= λ row. some {A = Unit {0} × List ℕ} (tt, v.1))) (u, rest) e in
       let one = any_takes octets (tag, content) after fits found in
-      let value : IsValue one.text = record { tag = tag; content = content; enc = one.spelled } in
+      let value : IsValue one.text = record { tag = tag; content = content; enc = one.encoded } in
       let made : Unit {0} × List ℕ = (tt, after) in
       elim (cases_Bool (is_primitive tag)) [
         | inl y ↦
             let same : some made ≡ some {A = Unit {0} × List ℕ} (u, rest) = rw y at last in
-            begins_same (Within (suc d)) octets made (u, rest) (some_is made (u, rest) same) (record { text = one.text; spelled = (value, inl (eqb-true _ 0 y)); parts = one.parts })
+            begins_same (Within (suc d)) octets made (u, rest) (some_is made (u, rest) same) (record { text = one.text; encoded = (value, inl (eqb-true _ 0 y)); parts = one.parts })
         | inr n ↦
             let inside : (row_of (skip_within d) content >>= λ row. some made) ≡ some {A = Unit {0} × List ℕ} (u, rest) = rw n at last in
             let b = bind_some (row_of (skip_within d) content) (λ row. some made) (u, rest) inside in
-            let low : AreOctets content = one.spelled.octets in
+            let low : AreOctets content = one.encoded.octets in
             let row = row_to (IsSkippableWithin d) b.0 content (row_is (skip_within d) (Within d) R content b.0 low b.1) in
-            begins_same (Within (suc d)) octets made (u, rest) (some_is made (u, rest) b.2) (record { text = one.text; spelled = (value, inr row); parts = one.parts })
+            begins_same (Within (suc d)) octets made (u, rest) (some_is made (u, rest) b.2) (record { text = one.text; encoded = (value, inr row); parts = one.parts })
       ];
   again = λ u text rest s.
       let tag = s.0.tag in

@@ -6,7 +6,7 @@ use Rattle.std.proofs.lemmas.Slice.Eq.{bytes_eq-Decides}
 use Rattle.std.proofs.lemmas.Bool.{leb-true, le-leb, lt-ltb, le-ltb, and_parts, and_from, cases_lt}
 use Rattle.rpki_der.specs.Reading.{content, Reads, ReadsWhole, Inside, BeginWith}
 use Rattle.rpki_der.specs.Values.Reading.{◌>>=◌}
-use Rattle.rpki_der.specs.Spelling.{BeginsOther}
+use Rattle.rpki_der.specs.Encoding.{BeginsOther}
 use Rattle.rpki_der.specs.Place.Reading.{Returns}
 use Rattle.rpki_der.specs.declared.error.DecodeError.{DecodeError}
 use Rattle.rpki_der.specs.Times.{Moment, IsMoment, IsTime, two, day_and_time, after_year, fourteen_digits}
@@ -217,10 +217,10 @@ time_reads =
     (content_reads GENERALIZED_TIME generalized_of IsGeneralizedText generalized_whole)
     utc_begins generalized_other)
     (λ m text s. elim s [
-      | inl a ↦ record { exists = a.1.exists; spelled = inl (a.1.from, a.1.below, rw (← a.1.text_is) a.2) }
-      | inr a ↦ record { exists = a.1.0; spelled = inr (rw (← a.1.1) a.2) }
+      | inl a ↦ record { exists = a.1.exists; encoded = inl (a.1.from, a.1.below, rw (← a.1.text_is) a.2) }
+      | inr a ↦ record { exists = a.1.0; encoded = inr (rw (← a.1.1) a.2) }
     ])
-    (λ m text s. elim s.spelled [
+    (λ m text s. elim s.encoded [
       | inl a ↦ inl (two (m.year % 100) ++ after_year m, record { exists = s.exists; from = a.0; below = a.1; text_is = refl }, a.2)
       | inr a ↦ inr (two (m.year / 100) ++ (two (m.year % 100) ++ after_year m), (s.exists, refl), a)
     ])

@@ -6,7 +6,7 @@ use Rattle.rpki_der.specs.Values.{length_octets, enc, IsEnc}
 use Rattle.rpki_der.proofs.Lengths.{length_short, length_81, length_82, length_83, length_84}
 use Rattle.rpki_der.specs.Reading.{Reads}
 use Rattle.rpki_der.specs.Values.Reading.{at_least, long1, long2, long3, long4, length_at, content_at, value_at, ◌>>=◌}
-use Rattle.rpki_der.specs.Spelling.{Begins}
+use Rattle.rpki_der.specs.Encoding.{Begins}
 use Rattle.rpki_der.specs.Values.{AreOctets}
 use Rattle.rpki_der.proofs.Octets.{AreOctets-after, AreOctets-front, bind_some, chosen, unless_some, some, both_are, nothing}
 
@@ -139,7 +139,7 @@ value_takes t (found ∷ bytes) c rest fits e =
     let content_octets : AreOctets c = AreOctets-after (length_octets (length c) ++ c) (length_octets (length c)) c refl (AreOctets-front bytes (length_octets (length c) ++ c) rest whole fits.1) in
     record {
       text = enc t c;
-      spelled = record { octet = omega (arith, fits.0); low_tag = low; octets = content_octets; short = omega (arith, k.0, n.1); is = refl };
+      encoded = record { octet = omega (arith, fits.0); low_tag = low; octets = content_octets; short = omega (arith, k.0, n.1); is = refl };
       parts = rw (same, whole) refl;
     }
 

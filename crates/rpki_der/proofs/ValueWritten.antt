@@ -89,10 +89,10 @@ time_made m e h =
       | inl t ↦
           let r = and_parts _ _ t in
           let short : Short (enc UTC_TIME (two (m.year % 100) ++ after_year m)) = rw t at h in
-          record { exists = e; spelled = rw t (inl (leb-true 1950 m.year r.0, ltb-true m.year 2050 r.1, made UTC_TIME _ (omega arith) short)) }
+          record { exists = e; encoded = rw t (inl (leb-true 1950 m.year r.0, ltb-true m.year 2050 r.1, made UTC_TIME _ (omega arith) short)) }
       | inr f ↦
           let short : Short (enc GENERALIZED_TIME (two (m.year / 100) ++ (two (m.year % 100) ++ after_year m))) = rw f at h in
-          record { exists = e; spelled = rw f (inr (made GENERALIZED_TIME _ (omega arith) short)) }
+          record { exists = e; encoded = rw f (inr (made GENERALIZED_TIME _ (omega arith) short)) }
     ]
 
 abbrev Plain : List ℕ → Type 0

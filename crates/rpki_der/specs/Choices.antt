@@ -66,7 +66,7 @@ turned f read bytes = do
 
 -- what a function makes of a value that is encoded so
 abbrev pub Turned : {X Y : Type 0} → (X → Option Y) → (X → List ℕ → Type 0) → Y → List ℕ → Type 0
-Turned {X} f spells y text = (x : X) × spells x text × (f x ≡ Some y)
+Turned {X} f encodes y text = (x : X) × encodes x text × (f x ≡ Some y)
 
 -- one value, and then one that depends on it
 abbrev pub followed : {X Y : Type 0} → (List ℕ → Option (X × List ℕ)) → (X → List ℕ → Option (Y × List ℕ)) → List ℕ → Option (Y × List ℕ)

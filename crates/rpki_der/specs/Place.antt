@@ -2,7 +2,7 @@
 use Rattle.std.specs.Prelude.{ℕ, List, slice_range, ◌≡◌, ◌≢◌, ◌≤◌, Result, Ok, Err, Option, Some, None}
 use Rattle.rpki_der.specs.declared.error.DecodeError.{DecodeError}
 use Rattle.rpki_der.specs.declared.error.DecodeError.TheVariants.{Memory}
-use Rattle.rpki_der.specs.Spelling.{Begins, BeginsOther, BeginsOrAbsent}
+use Rattle.rpki_der.specs.Encoding.{Begins, BeginsOther, BeginsOrAbsent}
 pub mod Reading
 
 -- the octets that a cursor reads from, and which of them are remaining
@@ -47,57 +47,57 @@ Refuses _ P = P
 -- A reader's answer, seen by view: a value that a front encodes, and the cursor stands behind it;
 -- or no front encodes any value. It takes no memory.
 abbrev pub AnswersBy : {X Y : Type 0} → (X → Y) → (Y → List ℕ → Type 0) → Place → Result X DecodeError → Place → Type 0
-AnswersBy view spells old (Ok x) new = Begins spells (left old) (view x) (left new)
-AnswersBy {X} {Y} view spells old (Err e) new = (e ≢ Memory) × ((y : Y) (rest : List ℕ) → Begins spells (left old) y rest → ⊥)
+AnswersBy view encodes old (Ok x) new = Begins encodes (left old) (view x) (left new)
+AnswersBy {X} {Y} view encodes old (Err e) new = (e ≢ Memory) × ((y : Y) (rest : List ℕ) → Begins encodes (left old) y rest → ⊥)
 
 -- a reader's answer without a view
 abbrev pub Answers : {X : Type 0} → (X → List ℕ → Type 0) → Place → Result X DecodeError → Place → Type 0
-Answers spells = AnswersBy (λ x. x) spells
+Answers encodes = AnswersBy (λ x. x) encodes
 
 -- The answer of a reader that answers None at the end and before another identifier, seen by view.
 abbrev pub AnswersOptionalBy : {X Y : Type 0} → (X → Y) → ℕ → (Y → List ℕ → Type 0) → Place → Result (Option X) DecodeError → Place → Type 0
-AnswersOptionalBy view tag spells old (Ok None) new = BeginsOther tag (left old) × (new ≡ old)
-AnswersOptionalBy view tag spells old (Ok (Some x)) new = Begins spells (left old) (view x) (left new)
-AnswersOptionalBy {X} {Y} view tag spells old (Err e) new =
-    (e ≢ Memory) × (BeginsOther tag (left old) → ⊥) × ((y : Y) (rest : List ℕ) → Begins spells (left old) y rest → ⊥)
+AnswersOptionalBy view tag encodes old (Ok None) new = BeginsOther tag (left old) × (new ≡ old)
+AnswersOptionalBy view tag encodes old (Ok (Some x)) new = Begins encodes (left old) (view x) (left new)
+AnswersOptionalBy {X} {Y} view tag encodes old (Err e) new =
+    (e ≢ Memory) × (BeginsOther tag (left old) → ⊥) × ((y : Y) (rest : List ℕ) → Begins encodes (left old) y rest → ⊥)
 
 -- the answer of a reader that may run out of memory, seen by view
 abbrev pub AnswersOrMemoryBy : {X Y : Type 0} → (X → Y) → (Y → List ℕ → Type 0) → Place → Result X DecodeError → Place → Type 0
-AnswersOrMemoryBy view spells old (Ok x) new = Begins spells (left old) (view x) (left new)
-AnswersOrMemoryBy {X} {Y} view spells old (Err e) new = Refuses e ((y : Y) (rest : List ℕ) → Begins spells (left old) y rest → ⊥)
+AnswersOrMemoryBy view encodes old (Ok x) new = Begins encodes (left old) (view x) (left new)
+AnswersOrMemoryBy {X} {Y} view encodes old (Err e) new = Refuses e ((y : Y) (rest : List ℕ) → Begins encodes (left old) y rest → ⊥)
 
 -- the answer of a reader that may run out of memory
 abbrev pub AnswersOrMemory : {X : Type 0} → (X → List ℕ → Type 0) → Place → Result X DecodeError → Place → Type 0
-AnswersOrMemory spells = AnswersOrMemoryBy (λ x. x) spells
+AnswersOrMemory encodes = AnswersOrMemoryBy (λ x. x) encodes
 
 -- the answer of a reader whose value may be absent, and that may run out of memory, seen by view
 abbrev pub AnswersOptionalOrMemoryBy : {X Y : Type 0} → (X → Y) → ℕ → (Y → List ℕ → Type 0) → Place → Result (Option X) DecodeError → Place → Type 0
-AnswersOptionalOrMemoryBy view tag spells old (Ok None) new = BeginsOther tag (left old) × (new ≡ old)
-AnswersOptionalOrMemoryBy view tag spells old (Ok (Some x)) new = Begins spells (left old) (view x) (left new)
-AnswersOptionalOrMemoryBy {X} {Y} view tag spells old (Err e) new =
-    (BeginsOther tag (left old) → ⊥) × Refuses e ((y : Y) (rest : List ℕ) → Begins spells (left old) y rest → ⊥)
+AnswersOptionalOrMemoryBy view tag encodes old (Ok None) new = BeginsOther tag (left old) × (new ≡ old)
+AnswersOptionalOrMemoryBy view tag encodes old (Ok (Some x)) new = Begins encodes (left old) (view x) (left new)
+AnswersOptionalOrMemoryBy {X} {Y} view tag encodes old (Err e) new =
+    (BeginsOther tag (left old) → ⊥) × Refuses e ((y : Y) (rest : List ℕ) → Begins encodes (left old) y rest → ⊥)
 
 -- the answer of a reader whose value may be absent, and that may run out of memory
 abbrev pub AnswersOptionalOrMemory : {X : Type 0} → ℕ → (X → List ℕ → Type 0) → Place → Result (Option X) DecodeError → Place → Type 0
-AnswersOptionalOrMemory tag spells = AnswersOptionalOrMemoryBy (λ x. x) tag spells
+AnswersOptionalOrMemory tag encodes = AnswersOptionalOrMemoryBy (λ x. x) tag encodes
 
 -- a reader's answer where a value may be absent before another identifier, and what is then read is
 -- a value too
 abbrev pub AnswersOrAbsent : {X : Type 0} → ℕ → (X → List ℕ → Type 0) → Place → Result X DecodeError → Place → Type 0
-AnswersOrAbsent tag spells old (Ok x) new = BeginsOrAbsent tag spells (left old) x (left new)
-AnswersOrAbsent {X} tag spells old (Err e) new = (e ≢ Memory) × ((x : X) (rest : List ℕ) → BeginsOrAbsent tag spells (left old) x rest → ⊥)
+AnswersOrAbsent tag encodes old (Ok x) new = BeginsOrAbsent tag encodes (left old) x (left new)
+AnswersOrAbsent {X} tag encodes old (Err e) new = (e ≢ Memory) × ((x : X) (rest : List ℕ) → BeginsOrAbsent tag encodes (left old) x rest → ⊥)
 
 -- the answer of a reader where an absent value is a value too, and that may run out of memory
 abbrev pub AnswersOrAbsentOrMemory : {X : Type 0} → ℕ → (X → List ℕ → Type 0) → Place → Result X DecodeError → Place → Type 0
-AnswersOrAbsentOrMemory tag spells old (Ok x) new = BeginsOrAbsent tag spells (left old) x (left new)
-AnswersOrAbsentOrMemory {X} tag spells old (Err e) new = Refuses e ((x : X) (rest : List ℕ) → BeginsOrAbsent tag spells (left old) x rest → ⊥)
+AnswersOrAbsentOrMemory tag encodes old (Ok x) new = BeginsOrAbsent tag encodes (left old) x (left new)
+AnswersOrAbsentOrMemory {X} tag encodes old (Err e) new = Refuses e ((x : X) (rest : List ℕ) → BeginsOrAbsent tag encodes (left old) x rest → ⊥)
 
 -- a call's answer on whole octets, seen by view: a value that they encode; or they encode none, or
 -- it ran out of memory
 abbrev pub MeansOrMemoryBy : {X Y : Type 0} → (X → Y) → (Y → List ℕ → Type 0) → Result X DecodeError → List ℕ → Type 0
-MeansOrMemoryBy view spells (Ok x) octets = spells (view x) octets
-MeansOrMemoryBy {X} {Y} view spells (Err e) octets = Refuses e ((y : Y) → spells y octets → ⊥)
+MeansOrMemoryBy view encodes (Ok x) octets = encodes (view x) octets
+MeansOrMemoryBy {X} {Y} view encodes (Err e) octets = Refuses e ((y : Y) → encodes y octets → ⊥)
 
 -- a call's answer on whole octets, without a view
 abbrev pub MeansOrMemory : {X : Type 0} → (X → List ℕ → Type 0) → Result X DecodeError → List ℕ → Type 0
-MeansOrMemory spells = MeansOrMemoryBy (λ x. x) spells
+MeansOrMemory encodes = MeansOrMemoryBy (λ x. x) encodes

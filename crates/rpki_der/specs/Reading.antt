@@ -1,7 +1,7 @@
 -- Readings made of readings, what is encoded where they read, and when a reading and an encoding
 -- say the same.
 use Rattle.std.specs.Prelude.{ℕ, List, [], ◌∷◌, Option, Some, None, ◌≡◌, ◌++◌, nat_eq, if◌then◌else◌}
-use Rattle.rpki_der.specs.Spelling.{Begins, BeginsOrAbsent}
+use Rattle.rpki_der.specs.Encoding.{Begins, BeginsOrAbsent}
 use Rattle.rpki_der.specs.Values.{IsEnc, AreOctets}
 use Rattle.rpki_der.specs.Values.Reading.{◌>>=◌, value_at}
 
@@ -19,7 +19,7 @@ inside t read bytes = do
 
 -- a value that is the content of a value of this tag
 abbrev pub Inside : {V : Type 0} → ℕ → (V → List ℕ → Type 0) → V → List ℕ → Type 0
-Inside tag spells v text = (content : List ℕ) × spells v content × IsEnc tag content text
+Inside tag encodes v text = (content : List ℕ) × encodes v content × IsEnc tag content text
 
 -- one after the other
 abbrev pub both : {X Y : Type 0} → (List ℕ → Option (X × List ℕ)) → (List ℕ → Option (Y × List ℕ)) → List ℕ → Option ((X × Y) × List ℕ)
@@ -52,35 +52,35 @@ optional t read (found ∷ bytes) = if nat_eq found t then (read (found ∷ byte
 
 -- a value, or nothing
 abbrev pub Optional : {V : Type 0} → (V → List ℕ → Type 0) → Option V → List ℕ → Type 0
-Optional spells None text = text ≡ []
-Optional spells (Some v) text = spells v text
+Optional encodes None text = text ≡ []
+Optional encodes (Some v) text = encodes v text
 
 -- every encoding of these values begins with this tag
 abbrev pub BeginWith : {V : Type 0} → ℕ → (V → List ℕ → Type 0) → Type 0
-BeginWith {V} tag spells = (v : V) (text : List ℕ) → spells v text → (tail : List ℕ) × (text ≡ tag ∷ tail)
+BeginWith {V} tag encodes = (v : V) (text : List ℕ) → encodes v text → (tail : List ℕ) × (text ≡ tag ∷ tail)
 
 -- ---- a reading function and an encoding
 
 -- what is read is encoded so, and what is encoded so is read, where such octets follow
-pub record ReadsBefore {V : Type 0} (follows : List ℕ → Type 0) (read : List ℕ → Option (V × List ℕ)) (spells : V → List ℕ → Type 0) : Type 0 where
-  pub takes : (octets : List ℕ) (v : V) (rest : List ℕ) → AreOctets octets → read octets ≡ Some (v, rest) → Begins spells octets v rest
-  pub again : (v : V) (text rest : List ℕ) → spells v text → follows rest → read (text ++ rest) ≡ Some (v, rest)
+pub record ReadsBefore {V : Type 0} (follows : List ℕ → Type 0) (read : List ℕ → Option (V × List ℕ)) (encodes : V → List ℕ → Type 0) : Type 0 where
+  pub takes : (octets : List ℕ) (v : V) (rest : List ℕ) → AreOctets octets → read octets ≡ Some (v, rest) → Begins encodes octets v rest
+  pub again : (v : V) (text rest : List ℕ) → encodes v text → follows rest → read (text ++ rest) ≡ Some (v, rest)
 
 -- any octets may follow
 abbrev pub Anything : List ℕ → Type 0
 Anything rest = Unit {0}
 
 -- what is read is encoded so, and what is encoded so is read, whatever follows
-pub record Reads {V : Type 0} (read : List ℕ → Option (V × List ℕ)) (spells : V → List ℕ → Type 0) : Type 0 where
-  pub takes : (octets : List ℕ) (v : V) (rest : List ℕ) → AreOctets octets → read octets ≡ Some (v, rest) → Begins spells octets v rest
-  pub again : (v : V) (text rest : List ℕ) → spells v text → read (text ++ rest) ≡ Some (v, rest)
+pub record Reads {V : Type 0} (read : List ℕ → Option (V × List ℕ)) (encodes : V → List ℕ → Type 0) : Type 0 where
+  pub takes : (octets : List ℕ) (v : V) (rest : List ℕ) → AreOctets octets → read octets ≡ Some (v, rest) → Begins encodes octets v rest
+  pub again : (v : V) (text rest : List ℕ) → encodes v text → read (text ++ rest) ≡ Some (v, rest)
 
 -- what is read of whole octets is encoded so, and what is encoded so is read
-pub record ReadsWhole {V : Type 0} (read : List ℕ → Option V) (spells : V → List ℕ → Type 0) : Type 0 where
-  pub takes : (octets : List ℕ) (v : V) → AreOctets octets → read octets ≡ Some v → spells v octets
-  pub again : (v : V) (octets : List ℕ) → spells v octets → read octets ≡ Some v
+pub record ReadsWhole {V : Type 0} (read : List ℕ → Option V) (encodes : V → List ℕ → Type 0) : Type 0 where
+  pub takes : (octets : List ℕ) (v : V) → AreOctets octets → read octets ≡ Some v → encodes v octets
+  pub again : (v : V) (octets : List ℕ) → encodes v octets → read octets ≡ Some v
 
 -- what is read of a value that may be absent is encoded so, and what is encoded so is read
-pub record ReadsOrAbsent {V : Type 0} (tag : ℕ) (read : List ℕ → Option (V × List ℕ)) (spells : V → List ℕ → Type 0) : Type 0 where
-  pub takes : (octets : List ℕ) (v : V) (rest : List ℕ) → AreOctets octets → read octets ≡ Some (v, rest) → BeginsOrAbsent tag spells octets v rest
-  pub again : (octets : List ℕ) (v : V) (rest : List ℕ) → BeginsOrAbsent tag spells octets v rest → read octets ≡ Some (v, rest)
+pub record ReadsOrAbsent {V : Type 0} (tag : ℕ) (read : List ℕ → Option (V × List ℕ)) (encodes : V → List ℕ → Type 0) : Type 0 where
+  pub takes : (octets : List ℕ) (v : V) (rest : List ℕ) → AreOctets octets → read octets ≡ Some (v, rest) → BeginsOrAbsent tag encodes octets v rest
+  pub again : (octets : List ℕ) (v : V) (rest : List ℕ) → BeginsOrAbsent tag encodes octets v rest → read octets ≡ Some (v, rest)

@@ -5,8 +5,8 @@ pub mod Reading
 
 -- the text is the encodings of these values, one after the other
 abbrev pub IsRow : {V : Type 0} → (V → List ℕ → Type 0) → List V → List ℕ → Type 0
-IsRow spells [] text = text ≡ []
-IsRow spells (v ∷ vs) text = (a : List ℕ) × (b : List ℕ) × spells v a × IsRow spells vs b × (text ≡ a ++ b)
+IsRow encodes [] text = text ≡ []
+IsRow encodes (v ∷ vs) text = (a : List ℕ) × (b : List ℕ) × encodes v a × IsRow encodes vs b × (text ≡ a ++ b)
 
 -- ---- one of the values
 

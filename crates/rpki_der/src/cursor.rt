@@ -197,8 +197,8 @@ impl<'a> Cursor<'a> {
     /// at the end and before another identifier octet.
     #[inline(always)]
     pub fn take_opt_sequence(&mut self) -> Result<Option<Cursor<'a>>, DecodeError>
-        ensures answers { let spells = IsEnc SEQUENCE in
-            AnswersOptionalBy left SEQUENCE spells self.old result self.new }
+        ensures answers { let encodes = IsEnc SEQUENCE in
+            AnswersOptionalBy left SEQUENCE encodes self.old result self.new }
         ensures reads { let reading = optional SEQUENCE (value_at SEQUENCE) in
             TookBy (option_map left) reading self.old result self.new }
         ensures keeps { Keeps result self.old self.new }

@@ -6,7 +6,7 @@ ghost use Rattle.rpki_der.specs.Values.{AreOctets, enc, IsEnc, IsValue, IsUnambi
 ghost use Rattle.rpki_der.specs.Primitives.{IsObjectIdentifier, number};
 ghost use Rattle.rpki_der.specs.Serials.{IsSerial};
 ghost use Rattle.rpki_der.specs.Skipping.{IsSkippableWithin};
-ghost use Rattle.rpki_der.specs.Spelling.{Begins};
+ghost use Rattle.rpki_der.specs.Encoding.{Begins};
 ghost use Rattle.rpki_der.specs.Times.{Moment, IsMoment, IsTime, second_number, time};
 
 /// Says that no value is a proper beginning of another (X.690 8.1, 10.1).

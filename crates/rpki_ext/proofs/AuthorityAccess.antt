@@ -22,7 +22,7 @@ use Rattle.rpki_der.proofs.WrittenOctets.{IfShort, ok_concat, ok_enc, literal}
 use Rattle.rpki_parts.specs.Uris.{IsRsync, ArePrintable}
 use Rattle.rpki_ext.specs.GeneralNames.{IsGeneralNames, names_of, uri_name}
 use Rattle.rpki_ext.specs.AuthorityAccess.{ca_issuers, issuers_of, only_description_at, IsAuthorityInformationAccess, authority_information_access_at, description, authority_information_access_content, authority_information_access}
-use Rattle.rpki_ext.proofs.GeneralNames.{names_read, spelled_oid, names_made, ok_uri_name}
+use Rattle.rpki_ext.proofs.GeneralNames.{names_read, encoded_oid, names_made, ok_uri_name}
 use Rattle.rpki_ext.proofs.LawfulKinds.{IsKind, always, AnsweringOrMemory, answering_or_memory}
 
 abbrev AreIssuers : List ℕ → List ℕ → Type 0
@@ -36,7 +36,7 @@ issuers_takes c v low e =
       | inl y ↦
           let same : a.0.0 ≡ ca_issuers = (bytes_eq-Decides a.0.0 ca_issuers).0 y in
           let names = names_read.takes a.0.1 v (AreOctets-after c one.text a.0.1 one.parts low) (rw y at a.2) in
-          (one.text, a.0.1, subst (λ (id : List ℕ). IsObjectIdentifier id one.text) same one.spelled, names, one.parts)
+          (one.text, a.0.1, subst (λ (id : List ℕ). IsObjectIdentifier id one.text) same one.encoded, names, one.parts)
       | inr n ↦ nothing v (rw n at a.2)
     ]
 
@@ -56,9 +56,9 @@ unfolding authority_information_access_at
 authority_information_access_reads =
     same_reads (turned issuers_of only_description_at) (Turned issuers_of IsOnlyDescription) IsAuthorityInformationAccess (turned_reads issuers_of only_description_at IsOnlyDescription only_description_reads)
     (λ v text (inside, (row, one, sequence), read).
-    let (_, names, spelled, given, is) = issuers_takes inside v one.octets read in
-    (names, given, (row, sequence, (inside, one, is ∙ ap (λ (m : List ℕ). m ++ names) spelled.enc.is))))
-    (λ v text (names, given, (row, sequence, (inside, one, is))). (inside, (row, one, sequence), issuers_again v inside (enc OBJECT_IDENTIFIER ca_issuers, names, spelled_oid ca_issuers refl refl (omega arith), given, is)))
+    let (_, names, encoded, given, is) = issuers_takes inside v one.octets read in
+    (names, given, (row, sequence, (inside, one, is ∙ ap (λ (m : List ℕ). m ++ names) encoded.enc.is))))
+    (λ v text (names, given, (row, sequence, (inside, one, is))). (inside, (row, one, sequence), issuers_again v inside (enc OBJECT_IDENTIFIER ca_issuers, names, encoded_oid ca_issuers refl refl (omega arith), given, is)))
 
 -- ---- what is written
 
@@ -85,7 +85,7 @@ ok_authority_information_access uri r = ok_enc SEQUENCE _ (omega arith) (ok_desc
 pub authority_information_access_is : IsKind authority_information_access
 authority_information_access_is = record {
   law = authority_information_access_reads;
-  made = λ uri c fits e short. always (authority_information_access.spells uri) _ c e short (authority_information_access_made uri fits);
+  made = λ uri c fits e short. always (authority_information_access.encodes uri) _ c e short (authority_information_access_made uri fits);
   octets = ok_authority_information_access;
 }
 

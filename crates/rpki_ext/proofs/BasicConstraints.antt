@@ -1,7 +1,7 @@
 -- Basic Constraints, both ways, and what is written of them.
 use Rattle.std.proofs.Common.{Bool, arith}
 use Rattle.rpki_der.specs.Tags.{SEQUENCE, BOOLEAN}
-use Rattle.rpki_der.specs.Spelling.{BeginsOther}
+use Rattle.rpki_der.specs.Encoding.{BeginsOther}
 use Rattle.rpki_der.specs.Reading.{Reads}
 use Rattle.rpki_der.specs.Primitives.{IsBoolOrFalse, bool_or_false}
 use Rattle.rpki_der.specs.Primitives.Reading.{bool_or_false_at}
@@ -29,7 +29,7 @@ ok_basic_constraints ca = ok_enc SEQUENCE _ (omega arith) (λ l. ok_flag ca)
 pub basic_constraints_is : IsKind basic_constraints
 basic_constraints_is = record {
   law = basic_constraints_reads;
-  made = λ ca c fits e short. always (basic_constraints.spells ca) _ c e short (basic_constraints_made ca);
+  made = λ ca c fits e short. always (basic_constraints.encodes ca) _ c e short (basic_constraints_made ca);
   octets = λ ca fits. ok_basic_constraints ca;
 }
 

@@ -22,16 +22,16 @@ use Rattle.rpki_blocks.specs.declared.overclaim.Overclaim.{Overclaim}
 use Rattle.rpki_blocks.specs.declared.overclaim.Overclaim.TheVariants.{Refuse, Trim}
 use Rattle.rpki_blocks.proofs.OverclaimReads.{was_named}
 use Rattle.rpki_ext.specs.CertificatePolicies.{policy_of, IsCertificatePolicies, certificate_policies_at, IsCertificatePoliciesWithin, certificate_policies_content, certificate_policies}
-use Rattle.rpki_ext.proofs.GeneralNames.{spelled_oid}
+use Rattle.rpki_ext.proofs.GeneralNames.{encoded_oid}
 use Rattle.rpki_ext.proofs.LawfulKinds.{IsKind, always, Answering, answering}
 
 named_again : (overclaim : Overclaim) → named policy_identifier (policy_identifier overclaim) ≡ Some overclaim
 named_again Refuse = refl
 named_again Trim = refl
 
-policy_spelled : (overclaim : Overclaim) → IsObjectIdentifier (policy_identifier overclaim) (enc OBJECT_IDENTIFIER (policy_identifier overclaim))
-policy_spelled Refuse = spelled_oid (policy_identifier Refuse) refl refl (omega arith)
-policy_spelled Trim = spelled_oid (policy_identifier Trim) refl refl (omega arith)
+policy_encoded : (overclaim : Overclaim) → IsObjectIdentifier (policy_identifier overclaim) (enc OBJECT_IDENTIFIER (policy_identifier overclaim))
+policy_encoded Refuse = encoded_oid (policy_identifier Refuse) refl refl (omega arith)
+policy_encoded Trim = encoded_oid (policy_identifier Trim) refl refl (omega arith)
 
 abbrev IsPolicy : Overclaim → List ℕ → Type 0
 IsPolicy overclaim c = (rest : List ℕ) × IsSkippableRow rest × (c ≡ enc OBJECT_IDENTIFIER (policy_identifier overclaim) ++ rest)
@@ -43,12 +43,12 @@ policy_takes c overclaim low e =
     let d = bind_some (skip_all_of a.0.1) (λ u. some b.0) overclaim b.2 in
     let one = oid_reads.takes c a.0.0 a.0.1 low a.1 in
     let same : a.0.0 ≡ policy_identifier b.0 = was_named policy_identifier a.0.0 (Some b.0) (sym b.1) in
-    let text : one.text ≡ enc OBJECT_IDENTIFIER (policy_identifier b.0) = one.spelled.enc.is ∙ ap (enc OBJECT_IDENTIFIER) same in
+    let text : one.text ≡ enc OBJECT_IDENTIFIER (policy_identifier b.0) = one.encoded.enc.is ∙ ap (enc OBJECT_IDENTIFIER) same in
     subst (λ (o : Overclaim). IsPolicy o c) (some_is b.0 overclaim d.2) (a.0.1, skip_all_reads.takes a.0.1 d.0 (AreOctets-after c one.text a.0.1 one.parts low) d.1, one.parts ∙ ap (λ (t : List ℕ). t ++ a.0.1) text)
 
 policy_again : (overclaim : Overclaim) (c : List ℕ) → IsPolicy overclaim c → policy_of c ≡ Some overclaim
 policy_again overclaim c s =
-    rw (s.2, oid_reads.again (policy_identifier overclaim) (enc OBJECT_IDENTIFIER (policy_identifier overclaim)) s.0 (policy_spelled overclaim), named_again overclaim, skip_all_reads.again tt s.0 s.1) refl
+    rw (s.2, oid_reads.again (policy_identifier overclaim) (enc OBJECT_IDENTIFIER (policy_identifier overclaim)) s.0 (policy_encoded overclaim), named_again overclaim, skip_all_reads.again tt s.0 s.1) refl
 
 -- certificatePolicies are read as they are encoded
 pub certificate_policies_reads : Reads certificate_policies_at IsCertificatePolicies
@@ -85,7 +85,7 @@ ok_certificate_policies overclaim = ok_nested (SEQUENCE ∷ SEQUENCE ∷ []) (en
 pub certificate_policies_is : IsKind certificate_policies
 certificate_policies_is = record {
   law = certificate_policies_reads;
-  made = λ m c fits e short. always (certificate_policies.spells m) _ c e short (certificate_policies_made levels m);
+  made = λ m c fits e short. always (certificate_policies.encodes m) _ c e short (certificate_policies_made levels m);
   octets = λ m fits. ok_certificate_policies m;
 }
 

@@ -9,6 +9,6 @@ use Rattle.rpki_ext.proofs.LawfulKinds.{IsKind, always}
 pub crl_number_is : IsKind crl_number
 crl_number_is = record {
   law = serial_reads;
-  made = λ n c fits e short. always (crl_number.spells n) _ c e short (λ s. record { number = number_made n s; small = fits });
+  made = λ n c fits e short. always (crl_number.encodes n) _ c e short (λ s. record { number = number_made n s; small = fits });
   octets = λ n fits. ok_number n;
 }

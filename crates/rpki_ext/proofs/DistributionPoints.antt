@@ -48,7 +48,7 @@ ok_crl_distribution_points uri r = ok_nested (SEQUENCE ∷ SEQUENCE ∷ CONTEXT_
 pub crl_distribution_points_is : IsKind crl_distribution_points
 crl_distribution_points_is = record {
   law = crl_distribution_points_reads;
-  made = λ uri c fits e short. always (crl_distribution_points.spells uri) _ c e short (crl_distribution_points_made uri fits);
+  made = λ uri c fits e short. always (crl_distribution_points.encodes uri) _ c e short (crl_distribution_points_made uri fits);
   octets = ok_crl_distribution_points;
 }
 

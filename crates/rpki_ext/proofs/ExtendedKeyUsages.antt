@@ -109,7 +109,7 @@ purposes_octets ids p = rw p.is (row_octets (p.id ∷ p.more) p.pieces p.identif
 pub extended_key_usage_is : IsKind extended_key_usage
 extended_key_usage_is = record {
   law = extended_key_usage_reads;
-  made = λ ids c fits e short. always (extended_key_usage.spells ids) _ c e short (λ s. record { purposes = fits; sequence = made SEQUENCE ids (omega arith) s });
+  made = λ ids c fits e short. always (extended_key_usage.encodes ids) _ c e short (λ s. record { purposes = fits; sequence = made SEQUENCE ids (omega arith) s });
   octets = λ ids fits. ok_enc SEQUENCE ids (omega arith) (λ l. purposes_octets ids fits);
 }
 

@@ -28,8 +28,8 @@ use Rattle.rpki_ext.proofs.Choosing.{only_from, only_to, one_from, one_to}
 use Rattle.rpki_ext.proofs.Pieces.{row_pieces, pieces_row}
 
 -- an identifier that is a constant
-pub spelled_oid : (id : List ℕ) → is_oid id ≡ true → list_all (λ x. ltb x 256) id ≡ true → length id < 2 ^ 32 → IsObjectIdentifier id (enc OBJECT_IDENTIFIER id)
-spelled_oid id is low short = record { enc = record { octet = omega arith; low_tag = omega arith; octets = octets id low; short = short; is = refl }; oid = oid_takes id is }
+pub encoded_oid : (id : List ℕ) → is_oid id ≡ true → list_all (λ x. ltb x 256) id ≡ true → length id < 2 ^ 32 → IsObjectIdentifier id (enc OBJECT_IDENTIFIER id)
+encoded_oid id is low short = record { enc = record { octet = omega arith; low_tag = omega arith; octets = octets id low; short = short; is = refl }; oid = oid_takes id is }
   where
     octets : (b : List ℕ) → list_all (λ x. ltb x 256) b ≡ true → AreOctets b
     octets [] e = tt
@@ -79,9 +79,9 @@ names_read = record {
       let m = kept_reads.takes c a.0 low a.1 in
       let row = row_pieces IsUniformResourceIdentifier m.0 c m.1 in
       let one : IsAtMostOne (λ x w. x ≡ w) (filter is_rsync m.0) (Some v) = subst (λ (o : Option (List ℕ)). IsAtMostOne (λ x w. x ≡ w) (filter is_rsync m.0) o) a.2 m.2 in
-      record { texts = m.0; pieces = row.0; spelled = row.1; is = row.2; one = only_from is_rsync IsRsync rsync_decides m.0 v (one_from (filter is_rsync m.0) v one) };
+      record { texts = m.0; pieces = row.0; encoded = row.1; is = row.2; one = only_from is_rsync IsRsync rsync_decides m.0 v (one_from (filter is_rsync m.0) v one) };
   again = λ v c s.
-      let row : IsRow IsUniformResourceIdentifier s.texts c = subst (λ (t : List ℕ). IsRow IsUniformResourceIdentifier s.texts t) (sym s.is) (pieces_row IsUniformResourceIdentifier s.texts s.pieces s.spelled) in
+      let row : IsRow IsUniformResourceIdentifier s.texts c = subst (λ (t : List ℕ). IsRow IsUniformResourceIdentifier s.texts t) (sym s.is) (pieces_row IsUniformResourceIdentifier s.texts s.pieces s.encoded) in
       let one = one_to (filter is_rsync s.texts) v (only_to is_rsync IsRsync rsync_decides s.texts v s.one) in
       rw (kept_reads.again (Some v) c (s.texts, row, one)) refl;
 }
@@ -120,7 +120,7 @@ pub names_made : (uri : List ℕ) → IsRsync uri → Short (uri_name uri) → I
 names_made uri r h = record {
   texts = uri ∷ [];
   pieces = uri_name uri ∷ [];
-  spelled = (uri_name_made uri r.printable h, tt);
+  encoded = (uri_name_made uri r.printable h, tt);
   is = sym (append-nil (uri_name uri));
   one = record { before = []; after = []; is = refl; has = r; none_before = tt; none_after = tt };
 }

@@ -34,7 +34,7 @@ ok_subject_key_identifier id h = ok_enc OCTET_STRING id (omega arith) (λ l. h)
 pub subject_key_identifier_is : IsKind subject_key_identifier
 subject_key_identifier_is = record {
   law = key_identifier_reads;
-  made = λ id c fits e short. always (subject_key_identifier.spells id) _ c e short (subject_key_identifier_made id fits.1);
+  made = λ id c fits e short. always (subject_key_identifier.encodes id) _ c e short (subject_key_identifier_made id fits.1);
   octets = λ id fits. ok_subject_key_identifier id fits.0;
 }
 
@@ -50,7 +50,7 @@ ok_authority_key_identifier id h = ok_nested (SEQUENCE ∷ CONTEXT 0 ∷ []) id 
 pub authority_key_identifier_is : IsKind authority_key_identifier
 authority_key_identifier_is = record {
   law = authority_key_identifier_reads;
-  made = λ id c fits e short. always (authority_key_identifier.spells id) _ c e short (authority_key_identifier_made id fits.1);
+  made = λ id c fits e short. always (authority_key_identifier.encodes id) _ c e short (authority_key_identifier_made id fits.1);
   octets = λ id fits. ok_authority_key_identifier id fits.0;
 }
 

@@ -86,7 +86,7 @@ own_flag (untested critical) = tt
 module _ {V : Type 0} (kind : ExtensionKind V) (is : IsKind kind) (P : Extension → V → Type 0) (says : (x : Extension) (v : V) → x.identifier ≡ kind.identifier → Tells kind x v → P x v) where
   one : (v : V) → kind.fits v → (o : Option (List ℕ)) → kind.written v ≡ o → IfSome o Short → IsAtMostOne P (written (raw kind.identifier (flag_of kind.flag) o ∷ [])) (kept (Some v) o)
   one v fits None e short = refl
-  one v fits (Some c) e short = (v, says _ v refl (own_flag kind.flag, whole_means kind.spells v c (is.made v c fits e short)), refl)
+  one v fits (Some c) e short = (v, says _ v refl (own_flag kind.flag, whole_means kind.encodes v c (is.made v c fits e short)), refl)
 
   any : (v : Option V) → IfSome v kind.fits → IfSome (extension_for kind v).content Short → IsAtMostOne P (written (extension_for kind v ∷ [])) (kept v (extension_for kind v).content)
   any None fits short = refl

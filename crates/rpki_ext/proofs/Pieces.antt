@@ -5,18 +5,18 @@ use Rattle.rpki_der.specs.Rows.{IsRow}
 
 -- the octets are the encodings of these values, one after the other
 abbrev pub HasPieces : {X : Type 0} → (X → List ℕ → Type 0) → List X → List ℕ → Type 0
-HasPieces spells xs text = (pieces : List (List ℕ)) × AllZip spells xs pieces × (text ≡ concat pieces)
+HasPieces encodes xs text = (pieces : List (List ℕ)) × AllZip encodes xs pieces × (text ≡ concat pieces)
 
-module _ {X : Type 0} (spells : X → List ℕ → Type 0) where
+module _ {X : Type 0} (encodes : X → List ℕ → Type 0) where
   -- a row of values has a piece for each
-  pub row_pieces : (xs : List X) (text : List ℕ) → IsRow spells xs text → HasPieces spells xs text
+  pub row_pieces : (xs : List X) (text : List ℕ) → IsRow encodes xs text → HasPieces encodes xs text
   row_pieces [] text s = ([], tt, s)
   row_pieces (x ∷ xs) text s =
       let m = row_pieces xs s.1 s.3 in
       (s.0 ∷ m.0, (s.2, m.1), s.4 ∙ ap (λ (t : List ℕ). s.0 ++ t) m.2)
 
   -- pieces that encode values are a row of them
-  pub pieces_row : (xs : List X) (pieces : List (List ℕ)) → AllZip spells xs pieces → IsRow spells xs (concat pieces)
+  pub pieces_row : (xs : List X) (pieces : List (List ℕ)) → AllZip encodes xs pieces → IsRow encodes xs (concat pieces)
   pieces_row [] [] z = refl
   pieces_row [] (p ∷ ps) z = elim z [ ]
   pieces_row (x ∷ xs) [] z = elim z [ ]

@@ -1,7 +1,7 @@
 -- The extensions of resources, both ways, and what is written of them.
 use Rattle.std.proofs.Common.{◌≡◌, ℕ, List, Option, refl, subst, Some}
 use Rattle.rpki_der.specs.Reading.{mapped, Reads}
-use Rattle.rpki_der.specs.Spelling.{Begins}
+use Rattle.rpki_der.specs.Encoding.{Begins}
 use Rattle.rpki_der.proofs.Octets.{bind_some, some, some_is}
 use Rattle.rpki_blocks.specs.Addresses.{Ip, addresses, Families, IsIPAddrBlocks}
 use Rattle.rpki_blocks.specs.declared.overclaim.Overclaim.{Overclaim}
@@ -22,7 +22,7 @@ image_reads {X} {Y} f read S law = record {
       let a = bind_some (read octets) (λ x. some {A = Y × List ℕ} (f x.0, x.1)) (y, rest) e in
       let one = law.takes octets a.0.0 a.0.1 fits a.1 in
       let made : Y × List ℕ = (f a.0.0, a.0.1) in
-      subst (λ (q : Y × List ℕ). Begins (λ z text. (x : X) × S x text × (f x ≡ z)) octets q.0 q.1) (some_is made (y, rest) a.2) (record { text = one.text; spelled = (a.0.0, one.spelled, refl); parts = one.parts });
+      subst (λ (q : Y × List ℕ). Begins (λ z text. (x : X) × S x text × (f x ≡ z)) octets q.0 q.1) (some_is made (y, rest) a.2) (record { text = one.text; encoded = (a.0.0, one.encoded, refl); parts = one.parts });
   again = λ y text rest s. rw (law.again s.0 text rest s.1, s.2) refl;
 }
 

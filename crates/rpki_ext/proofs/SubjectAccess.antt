@@ -33,7 +33,7 @@ use Rattle.rpki_ext.specs.declared.subject_access.AccessMethod.{AccessMethod}
 use Rattle.rpki_ext.specs.SubjectAccess.{description_of, description_at, method_identifier, method_of, location_of, IsAccessDescriptionWithin, HasUri, uri_under, access_fold, Access, uris_of, Uris, access_made, access_of, IsSubjectInformationAccess, subject_information_access_at, description_if, descriptions, HasUris, IsSubjectInformationAccessWithin, subject_information_access_content, subject_information_access}
 use Rattle.rpki_ext.specs.declared.subject_access.AccessMethod.TheVariants.{CaRepository, RpkiManifest, SignedObject, RpkiNotify}
 use Rattle.rpki_ext.specs.GeneralNames.{IsUniformResourceIdentifier, uri_name_at, rsync_of, https_of}
-use Rattle.rpki_ext.proofs.GeneralNames.{spelled_oid, name_reads, text_is, text_was, uri_name_made}
+use Rattle.rpki_ext.proofs.GeneralNames.{encoded_oid, name_reads, text_is, text_was, uri_name_made}
 use Rattle.rpki_ext.proofs.Pieces.{row_pieces, pieces_row}
 use Rattle.rpki_ext.proofs.AuthorityAccess.{description_pieces_short, ok_description}
 use Rattle.rpki_ext.proofs.LawfulKinds.{IsKind, AnsweringOrMemory, answering_or_memory}
@@ -77,11 +77,11 @@ pub one_method : (m n : AccessMethod) → method_identifier m ≡ method_identif
 one_method m n e = some_is m n (sym (method_again m) ∙ ap method_of e ∙ method_again n)
 
 -- what is written of a method's identifier encodes it
-pub method_spelled : (m : AccessMethod) → IsObjectIdentifier (method_identifier m) (enc OBJECT_IDENTIFIER (method_identifier m))
-method_spelled CaRepository = spelled_oid (method_identifier CaRepository) refl refl (omega arith)
-method_spelled RpkiManifest = spelled_oid (method_identifier RpkiManifest) refl refl (omega arith)
-method_spelled SignedObject = spelled_oid (method_identifier SignedObject) refl refl (omega arith)
-method_spelled RpkiNotify = spelled_oid (method_identifier RpkiNotify) refl refl (omega arith)
+pub method_encoded : (m : AccessMethod) → IsObjectIdentifier (method_identifier m) (enc OBJECT_IDENTIFIER (method_identifier m))
+method_encoded CaRepository = encoded_oid (method_identifier CaRepository) refl refl (omega arith)
+method_encoded RpkiManifest = encoded_oid (method_identifier RpkiManifest) refl refl (omega arith)
+method_encoded SignedObject = encoded_oid (method_identifier SignedObject) refl refl (omega arith)
+method_encoded RpkiNotify = encoded_oid (method_identifier RpkiNotify) refl refl (omega arith)
 
 unknown_method : (id : List ℕ) → ((m : AccessMethod) → id ≢ method_identifier m) → (r : Option AccessMethod) → method_of id ≡ r → r ≡ None
 unknown_method id h None e = refl
@@ -95,35 +95,35 @@ IsDescribed (Some (method, uri)) c = (name : List ℕ) × IsUniformResourceIdent
 IsDescribed None c = (id : List ℕ) × (method : List ℕ) × (rest : List ℕ) × IsObjectIdentifier id method × ((known : AccessMethod) → id ≢ method_identifier known) × IsSkippableRow rest × (c ≡ method ++ rest)
 
 location_takes : (id text rest : List ℕ) (r : Option AccessMethod) (d : Description) → method_of id ≡ r → AreOctets rest → IsObjectIdentifier id text → location_of r rest ≡ Some d → IsDescribed d (text ++ rest)
-location_takes id text rest (Some m) d is low spelled e =
+location_takes id text rest (Some m) d is low encoded e =
     let a = bind_some (uri_name_at rest) (λ uri. ended uri.1 (some {A = AccessMethod × List ℕ} (m, uri.0))) d e in
     let g = ended_some a.0.1 (some {A = AccessMethod × List ℕ} (m, a.0.0)) d a.2 in
     let one = name_reads.takes rest a.0.0 a.0.1 low a.1 in
     let used : one.text ≡ rest = sym (append-nil one.text) ∙ sym (ap (λ (r : List ℕ). one.text ++ r) g.0) ∙ sym one.parts in
-    let same : text ≡ enc OBJECT_IDENTIFIER (method_identifier m) = spelled.enc.is ∙ ap (enc OBJECT_IDENTIFIER) (method_is id m is) in
-    subst (λ (x : Description). IsDescribed x (text ++ rest)) g.1 (rest, subst (λ (t : List ℕ). IsUniformResourceIdentifier a.0.0 t) used one.spelled, ap (λ (t : List ℕ). t ++ rest) same)
-location_takes id text rest None d is low spelled e =
+    let same : text ≡ enc OBJECT_IDENTIFIER (method_identifier m) = encoded.enc.is ∙ ap (enc OBJECT_IDENTIFIER) (method_is id m is) in
+    subst (λ (x : Description). IsDescribed x (text ++ rest)) g.1 (rest, subst (λ (t : List ℕ). IsUniformResourceIdentifier a.0.0 t) used one.encoded, ap (λ (t : List ℕ). t ++ rest) same)
+location_takes id text rest None d is low encoded e =
     let a = bind_some (skip_all_of rest) (λ u. some {A = Description} None) d e in
-    subst (λ (x : Description). IsDescribed x (text ++ rest)) (some_is {A = Description} None d a.2) (id, text, rest, spelled, (λ m same. nothing {B = ⊥} m (sym is ∙ ap method_of same ∙ method_again m)), skip_all_reads.takes rest a.0 low a.1, refl)
+    subst (λ (x : Description). IsDescribed x (text ++ rest)) (some_is {A = Description} None d a.2) (id, text, rest, encoded, (λ m same. nothing {B = ⊥} m (sym is ∙ ap method_of same ∙ method_again m)), skip_all_reads.takes rest a.0 low a.1, refl)
 
 description_takes : (c : List ℕ) (d : Description) → AreOctets c → description_of c ≡ Some d → IsDescribed d c
 description_takes c d low e =
     let a = bind_some (oid_at c) (λ method. location_of (method_of method.0) method.1) d e in
     let one = oid_reads.takes c a.0.0 a.0.1 low a.1 in
-    subst (λ (x : List ℕ). IsDescribed d x) (sym one.parts) (location_takes a.0.0 one.text a.0.1 (method_of a.0.0) d refl (AreOctets-after c one.text a.0.1 one.parts low) one.spelled a.2)
+    subst (λ (x : List ℕ). IsDescribed d x) (sym one.parts) (location_takes a.0.0 one.text a.0.1 (method_of a.0.0) d refl (AreOctets-after c one.text a.0.1 one.parts low) one.encoded a.2)
 
 description_again : (d : Description) (c : List ℕ) → IsDescribed d c → description_of c ≡ Some d
 description_again (Some (m, uri)) c s =
     let whole : uri_name_at s.0 ≡ some {A = List ℕ × List ℕ} (uri, []) = ap uri_name_at (sym (append-nil s.0)) ∙ name_reads.again uri s.0 [] s.1 in
-    rw (s.2, oid_reads.again (method_identifier m) (enc OBJECT_IDENTIFIER (method_identifier m)) s.0 (method_spelled m), method_again m, whole) refl
+    rw (s.2, oid_reads.again (method_identifier m) (enc OBJECT_IDENTIFIER (method_identifier m)) s.0 (method_encoded m), method_again m, whole) refl
 description_again None c s =
     rw (s.6, oid_reads.again s.0 s.1 s.2 s.3, unknown_method s.0 s.4 (method_of s.0) refl, skip_all_reads.again tt s.2 s.5) refl
 
 described : (d : Description) (text : List ℕ) → Inside SEQUENCE IsDescribed d text → IsAccessDescriptionWithin levels d text
-described (Some (m, uri)) text (_, (name, spelled, is), sequence) =
-    (name, spelled, subst (λ (c : List ℕ). IsEnc SEQUENCE c text) (is ∙ ap (λ (t : List ℕ). enc OBJECT_IDENTIFIER (method_identifier m) ++ t) (sym (append-nil name))) sequence)
-described None text (_, (id, method, _, spelled, unknown, (row, behind, skipped), is), sequence) =
-    record { id = id; method = method; row = row; method_is = spelled; unknown = unknown; skipped = skipped; sequence = subst (λ (c : List ℕ). IsEnc SEQUENCE c text) (is ∙ ap (λ (t : List ℕ). method ++ t) behind) sequence }
+described (Some (m, uri)) text (_, (name, encoded, is), sequence) =
+    (name, encoded, subst (λ (c : List ℕ). IsEnc SEQUENCE c text) (is ∙ ap (λ (t : List ℕ). enc OBJECT_IDENTIFIER (method_identifier m) ++ t) (sym (append-nil name))) sequence)
+described None text (_, (id, method, _, encoded, unknown, (row, behind, skipped), is), sequence) =
+    record { id = id; method = method; row = row; method_is = encoded; unknown = unknown; skipped = skipped; sequence = subst (λ (c : List ℕ). IsEnc SEQUENCE c text) (is ∙ ap (λ (t : List ℕ). method ++ t) behind) sequence }
 
 is_described : (d : Description) (text : List ℕ) → IsAccessDescriptionWithin levels d text → Inside SEQUENCE IsDescribed d text
 is_described (Some (m, uri)) text s =
@@ -203,12 +203,12 @@ access_again a (b ∷ c) s = rw (uris_read.again (uris_of a) (b ∷ c) (s.0 ∷ 
 
 access_is : (a : Access) (text : List ℕ) → Inside SEQUENCE IsAccess a text → IsSubjectInformationAccess a text
 access_is a text (inside, (first, more, row, (repository, (manifest, (object, notify)))), sequence) =
-    let (pieces, spelled, is) = row_pieces (IsAccessDescriptionWithin levels) (first ∷ more) inside row in
-    record { first = first; more = more; pieces = pieces; spelled = spelled; sequence = subst (λ (c : List ℕ). IsEnc SEQUENCE c text) is sequence; repository = repository; manifest = manifest; object = object; notify = notify }
+    let (pieces, encoded, is) = row_pieces (IsAccessDescriptionWithin levels) (first ∷ more) inside row in
+    record { first = first; more = more; pieces = pieces; encoded = encoded; sequence = subst (λ (c : List ℕ). IsEnc SEQUENCE c text) is sequence; repository = repository; manifest = manifest; object = object; notify = notify }
 
 is_access : (a : Access) (text : List ℕ) → IsSubjectInformationAccess a text → Inside SEQUENCE IsAccess a text
 is_access a text s =
-    (concat s.pieces, (s.first, s.more, pieces_row (IsAccessDescriptionWithin levels) (s.first ∷ s.more) s.pieces s.spelled, (s.repository, (s.manifest, (s.object, s.notify)))), s.sequence)
+    (concat s.pieces, (s.first, s.more, pieces_row (IsAccessDescriptionWithin levels) (s.first ∷ s.more) s.pieces s.encoded, (s.repository, (s.manifest, (s.object, s.notify)))), s.sequence)
 
 -- a SubjectInfoAccessSyntax is read as it is encoded
 pub subject_information_access_reads : Reads subject_information_access_at IsSubjectInformationAccess
@@ -245,17 +245,17 @@ texts_are a = rw append-nil refl
 abbrev ArePrintables : Methods → Type 0
 ArePrintables ms = AllByRecursion (λ (m : AccessMethod × Option (List ℕ)). IfSome m.1 ArePrintable) ms
 
-spelled : (depth : ℕ) (ms : Methods) → ArePrintables ms → AllByRecursion Short (texts ms) → AllZip (IsAccessDescriptionWithin depth) (values ms) (texts ms)
-spelled depth [] p h = tt
-spelled depth ((m, None) ∷ ms) p h = spelled depth ms p.1 h
-spelled depth ((m, Some uri) ∷ ms) p h =
+encoded : (depth : ℕ) (ms : Methods) → ArePrintables ms → AllByRecursion Short (texts ms) → AllZip (IsAccessDescriptionWithin depth) (values ms) (texts ms)
+encoded depth [] p h = tt
+encoded depth ((m, None) ∷ ms) p h = encoded depth ms p.1 h
+encoded depth ((m, Some uri) ∷ ms) p h =
     let shorts = description_pieces_short (method_identifier m) uri h.0 in
-    ((_, uri_name_made uri p.0 shorts.1, made SEQUENCE _ (omega arith) h.0), spelled depth ms p.1 h.1)
+    ((_, uri_name_made uri p.0 shorts.1, made SEQUENCE _ (omega arith) h.0), encoded depth ms p.1 h.1)
 
 ok_texts : (ms : Methods) → ArePrintables ms → AllByRecursion IfShort (texts ms)
 ok_texts [] p = tt
 ok_texts ((m, None) ∷ ms) p = ok_texts ms p.1
-ok_texts ((m, Some uri) ∷ ms) p = (ok_description (method_identifier m) uri (method_spelled m).enc.octets p.0, ok_texts ms p.1)
+ok_texts ((m, Some uri) ∷ ms) p = (ok_description (method_identifier m) uri (method_encoded m).enc.octets p.0, ok_texts ms p.1)
 
 -- ---- the first of each method
 
@@ -326,11 +326,11 @@ sequence_made depth a ds (p ∷ ps) zipped f c e h =
   where
     row : (es : List Description) → AllZip (IsAccessDescriptionWithin depth) es (p ∷ ps) → Firsts a es → IsSequence (p ∷ ps) (sequence (p ∷ ps)) → IsSubjectInformationAccessWithin depth a (sequence (p ∷ ps))
     row [] zip g enc = elim zip [ ]
-    row (e ∷ es) zip g enc = record { first = e; more = es; pieces = p ∷ ps; spelled = zip; sequence = enc; repository = g.repository; manifest = g.manifest; object = g.object; notify = g.notify }
+    row (e ∷ es) zip g enc = record { first = e; more = es; pieces = p ∷ ps; encoded = zip; sequence = enc; repository = g.repository; manifest = g.manifest; object = g.object; notify = g.notify }
 
 -- what is written of URIs encodes them, under any bound of depth
 pub subject_information_access_made : (depth : ℕ) (a : Access) → HasUris a → (c : List ℕ) → subject_information_access_content a ≡ Some c → Short c → IsSubjectInformationAccessWithin depth a c
-subject_information_access_made depth a h = rw (← texts_are a) (sequence_made depth a (values (rows a)) (texts (rows a)) (spelled depth (rows a) (printables a h)) (firsts a h))
+subject_information_access_made depth a h = rw (← texts_are a) (sequence_made depth a (values (rows a)) (texts (rows a)) (encoded depth (rows a) (printables a h)) (firsts a h))
 
 -- where there is no URI nothing is written
 all_absent : (ms : Methods) → texts ms ≡ [] → AllByRecursion (λ (m : AccessMethod × Option (List ℕ)). m.1 ≡ None) ms

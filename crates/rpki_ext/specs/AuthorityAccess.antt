@@ -52,7 +52,7 @@ abbrev pub authority_information_access : ExtensionKind (List ℕ)
 authority_information_access = record {
   identifier = pkix 0x01 0x01;
   flag = required false;
-  spells = IsAuthorityInformationAccess;
+  encodes = IsAuthorityInformationAccess;
   reads = authority_information_access_at;
   fits = IsRsync;
   written = λ uri. Some (authority_information_access_content uri);

@@ -31,7 +31,7 @@ abbrev pub basic_constraints : ExtensionKind Bool
 basic_constraints = record {
   identifier = id_ce 0x13;
   flag = required true;
-  spells = IsBasicConstraints;
+  encodes = IsBasicConstraints;
   reads = basic_constraints_at;
   fits = Any;
   written = λ ca. Some (basic_constraints_content ca);

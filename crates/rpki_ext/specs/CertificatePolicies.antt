@@ -49,7 +49,7 @@ abbrev pub certificate_policies_within : ℕ → ExtensionKind Overclaim
 certificate_policies_within depth = record {
   identifier = id_ce 0x20;
   flag = required true;
-  spells = IsCertificatePoliciesWithin depth;
+  encodes = IsCertificatePoliciesWithin depth;
   reads = certificate_policies_at;
   fits = Any;
   written = λ overclaim. Some (certificate_policies_content overclaim);

@@ -12,7 +12,7 @@ abbrev pub crl_number : ExtensionKind ℕ
 crl_number = record {
   identifier = id_ce 0x14;
   flag = required false;
-  spells = IsSerial;
+  encodes = IsSerial;
   reads = serial_at;
   fits = λ n. n < 2 ^ 160;
   written = λ n. Some (number n);

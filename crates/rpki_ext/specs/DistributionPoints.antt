@@ -40,7 +40,7 @@ abbrev pub crl_distribution_points : ExtensionKind (List ℕ)
 crl_distribution_points = record {
   identifier = id_ce 0x1F;
   flag = required false;
-  spells = IsCrlDistributionPoints;
+  encodes = IsCrlDistributionPoints;
   reads = crl_distribution_points_at;
   fits = IsRsync;
   written = λ uri. Some (crl_distribution_points_content uri);

@@ -47,7 +47,7 @@ abbrev pub extended_key_usage : ExtensionKind (List ℕ)
 extended_key_usage = record {
   identifier = id_ce 0x25;
   flag = required false;
-  spells = IsExtendedKeyUsage;
+  encodes = IsExtendedKeyUsage;
   reads = extended_key_usage_at;
   fits = ArePurposes;
   written = λ ids. Some (extended_key_usage_content ids);

@@ -21,7 +21,7 @@ IsUniformResourceIdentifier text b = IsEnc (CONTEXT 6) text b × AllByRecursion 
 pub record IsGeneralNames (v b : List ℕ) : Type 0 where
   pub texts : List (List ℕ)
   pub pieces : List (List ℕ)
-  pub spelled : AllZip IsUniformResourceIdentifier texts pieces
+  pub encoded : AllZip IsUniformResourceIdentifier texts pieces
   pub is : b ≡ concat pieces
   pub one : IsOnlyWith IsRsync v texts
 

@@ -46,7 +46,7 @@ abbrev pub subject_key_identifier : ExtensionKind (List ℕ)
 subject_key_identifier = record {
   identifier = id_ce 0x0E;
   flag = required false;
-  spells = IsSubjectKeyIdentifier;
+  encodes = IsSubjectKeyIdentifier;
   reads = key_identifier_at;
   fits = HasTwentyOctets;
   written = λ id. Some (subject_key_identifier_content id);
@@ -57,7 +57,7 @@ abbrev pub authority_key_identifier : ExtensionKind (List ℕ)
 authority_key_identifier = record {
   identifier = id_ce 0x23;
   flag = required false;
-  spells = IsAuthorityKeyIdentifier;
+  encodes = IsAuthorityKeyIdentifier;
   reads = authority_key_identifier_at;
   fits = HasTwentyOctets;
   written = λ id. Some (authority_key_identifier_content id);

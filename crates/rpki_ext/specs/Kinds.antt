@@ -8,7 +8,7 @@ use Rattle.rpki_der.specs.Values.Reading.{◌>>=◌}
 use Rattle.rpki_der.specs.Writers.{Part}
 use Rattle.rpki_blocks.specs.declared.overclaim.Overclaim.{Overclaim}
 use Rattle.rpki_blocks.specs.declared.overclaim.Overclaim.TheVariants.{Refuse, Trim}
-pub use Rattle.rpki_der.specs.Spelling.{Means}
+pub use Rattle.rpki_der.specs.Encoding.{Means}
 pub mod Reading
 
 -- ---- kinds
@@ -38,7 +38,7 @@ IsFlagFor (untested written) critical = Unit {0}
 pub record ExtensionKind (V : Type 0) : Type 1 where
   pub identifier : List ℕ
   pub flag : Flag
-  pub spells : V → List ℕ → Type 0
+  pub encodes : V → List ℕ → Type 0
   pub reads : List ℕ → Option (V × List ℕ)
   pub fits : V → Type 0
   pub written : V → Option (List ℕ)
@@ -64,7 +64,7 @@ identifiers kind = kind.identifier ∷ []
 -- the extension has the flag of the kind, and its content means v: what follows a front that
 -- encodes v in the OCTET STRING is ignored (own)
 abbrev pub Tells : {V : Type 0} → ExtensionKind V → Extension → V → Type 0
-Tells kind x v = IsFlagFor kind.flag x.critical × Means kind.spells v x.content
+Tells kind x v = IsFlagFor kind.flag x.critical × Means kind.encodes v x.content
 
 -- the value that extensions give for a kind: none where none is of the kind, what the only one
 -- tells, and nothing where there are several (RFC 5280 4.2)
@@ -87,7 +87,7 @@ GivesUnder kinds mode xs v = IsAtMostOne (TellsUnder kinds mode) (only (identifi
 
 -- a content means one value
 abbrev pub HasOneMeaning : {V : Type 0} → (V → List ℕ → Type 0) → Type 0
-HasOneMeaning {V} spells = (content : List ℕ) (v w : V) → Means spells v content → Means spells w content → v ≡ w
+HasOneMeaning {V} encodes = (content : List ℕ) (v w : V) → Means encodes v content → Means encodes w content → v ≡ w
 
 -- ---- what is written
 
@@ -101,4 +101,4 @@ part kind v = part_of (extension_for kind v)
 
 -- what is written of a value that fits encodes it, if it has fewer than 2^32 octets
 abbrev pub IsReadAgain : {V : Type 0} → ExtensionKind V → Type 0
-IsReadAgain {V} kind = (v : V) (c : List ℕ) → kind.fits v → kind.written v ≡ Some c → length c < 2 ^ 32 → kind.spells v c
+IsReadAgain {V} kind = (v : V) (c : List ℕ) → kind.fits v → kind.written v ≡ Some c → length c < 2 ^ 32 → kind.encodes v c

@@ -21,7 +21,7 @@ abbrev pub ip_resources : Overclaim → ExtensionKind Ip
 ip_resources mode = record {
   identifier = ip_identifier mode;
   flag = untested true;
-  spells = IsAddresses;
+  encodes = IsAddresses;
   reads = mapped (λ f. addresses (Some f)) families_at;
   fits = λ i. IsResources (2 ^ 128 - 1) i.v4 × AreV4 i.v4 × IsResources (2 ^ 128 - 1) i.v6;
   written = ip;
@@ -32,7 +32,7 @@ abbrev pub as_resources : Overclaim → ExtensionKind Resources
 as_resources mode = record {
   identifier = as_identifier mode;
   flag = untested true;
-  spells = IsASIdentifiers;
+  encodes = IsASIdentifiers;
   reads = as_identifiers_at;
   fits = IsResources (2 ^ 32 - 1);
   written = written_numbers;

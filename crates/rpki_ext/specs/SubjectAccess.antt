@@ -66,7 +66,7 @@ pub record IsSubjectInformationAccessWithin (depth : ℕ) (v : Access) (b : List
   pub first : Option (AccessMethod × List ℕ)
   pub more : List (Option (AccessMethod × List ℕ))
   pub pieces : List (List ℕ)
-  pub spelled : AllZip (IsAccessDescriptionWithin depth) (first ∷ more) pieces
+  pub encoded : AllZip (IsAccessDescriptionWithin depth) (first ∷ more) pieces
   pub sequence : IsSequence pieces b
   pub repository : IsFirstOf (HasUri CaRepository IsRsync) v.ca_repository (first ∷ more)
   pub manifest : IsFirstOf (HasUri RpkiManifest IsRsync) v.rpki_manifest (first ∷ more)
@@ -168,7 +168,7 @@ abbrev pub subject_information_access_within : ℕ → ExtensionKind Access
 subject_information_access_within depth = record {
   identifier = pkix 0x01 0x0B;
   flag = required false;
-  spells = IsSubjectInformationAccessWithin depth;
+  encodes = IsSubjectInformationAccessWithin depth;
   reads = subject_information_access_at;
   fits = HasUris;
   written = subject_information_access_content;

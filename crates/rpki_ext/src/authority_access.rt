@@ -58,7 +58,7 @@ pub fn take_authority_information_access(
     alloc: Global,
     cursor: &mut Cursor<'_>,
 ) -> Result<Rsync, DecodeError>
-    ensures answers { AnswersOrMemory authority_information_access.spells cursor.old
+    ensures answers { AnswersOrMemory authority_information_access.encodes cursor.old
         result cursor.new }
     ensures reads { TookOrMemory authority_information_access.reads cursor.old result cursor.new }
     ensures keeps { Keeps result cursor.old cursor.new }

@@ -3,7 +3,7 @@ ghost use Rattle.std.specs.Prelude.{◌≡◌, ◌↔◌, ◌^◌, ◌+◌, IsTr
 ghost use Rattle.std.proofs.Common.{rc_value};
 ghost use Rattle.rpki_rsa.specs.RsaKeys.{IsRpkiKey};
 ghost use Rattle.rpki_rsa.specs.RsaSignatures.{IsRsaSignature};
-ghost use Rattle.rpki_cert.specs.Certificates.{spelling};
+ghost use Rattle.rpki_cert.specs.Certificates.{encoding};
 ghost use Rattle.rpki_cert.specs.Rearranging.{IsRefused};
 ghost use Rattle.rpki_cert.specs.Verification.{context};
 ghost use Rattle.rpki_path.specs.Paths.{asked, Validates};
@@ -48,7 +48,7 @@ pub fn issued<S: Signer, V: Verifier>(
     now: Time,
     verifier: &V,
 ) -> Result<ResourceCert, IssueCaError<S::Error>>
-    ensures { IfOk result (λ r. r.cert.signed_data.message ≡ spelling tbs) }
+    ensures { IfOk result (λ r. r.cert.signed_data.message ≡ encoding tbs) }
 {
     issue_ca(alloc, tbs, signer, key, issuer, true, now, verifier)
 }

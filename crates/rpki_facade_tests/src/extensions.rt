@@ -21,28 +21,28 @@ use std::alloc::Global;
 
 /// Reads Basic Constraints.
 pub fn read_basic_constraints(cursor: &mut Cursor<'_>) -> Result<bool, DecodeError>
-    ensures { Answers basic_constraints.spells cursor.old result cursor.new }
+    ensures { Answers basic_constraints.encodes cursor.old result cursor.new }
 {
     extension::take_basic_constraints(cursor)
 }
 
 /// Reads a Subject Key Identifier.
 pub fn read_subject_key_identifier(cursor: &mut Cursor<'_>) -> Result<KeyIdentifier, DecodeError>
-    ensures { Answers subject_key_identifier.spells cursor.old result cursor.new }
+    ensures { Answers subject_key_identifier.encodes cursor.old result cursor.new }
 {
     extension::take_subject_key_identifier(cursor)
 }
 
 /// Reads an Authority Key Identifier.
 pub fn read_authority_key_identifier(cursor: &mut Cursor<'_>) -> Result<KeyIdentifier, DecodeError>
-    ensures { Answers authority_key_identifier.spells cursor.old result cursor.new }
+    ensures { Answers authority_key_identifier.encodes cursor.old result cursor.new }
 {
     extension::take_authority_key_identifier(cursor)
 }
 
 /// Reads a Key Usage.
 pub fn read_key_usage(cursor: &mut Cursor<'_>) -> Result<KeyUsage, DecodeError>
-    ensures { Answers key_usage.spells cursor.old result cursor.new }
+    ensures { Answers key_usage.encodes cursor.old result cursor.new }
 {
     extension::take_key_usage(cursor)
 }
@@ -52,7 +52,7 @@ pub fn read_extended_key_usage(
     alloc: Global,
     cursor: &mut Cursor<'_>,
 ) -> Result<ExtendedKeyUsage, DecodeError>
-    ensures { AnswersOrMemory extended_key_usage.spells cursor.old result cursor.new }
+    ensures { AnswersOrMemory extended_key_usage.encodes cursor.old result cursor.new }
 {
     extension::take_extended_key_usage(alloc, cursor)
 }
@@ -62,7 +62,7 @@ pub fn read_crl_distribution_points(
     alloc: Global,
     cursor: &mut Cursor<'_>,
 ) -> Result<Rsync, DecodeError>
-    ensures { AnswersOrMemory crl_distribution_points.spells cursor.old result cursor.new }
+    ensures { AnswersOrMemory crl_distribution_points.encodes cursor.old result cursor.new }
 {
     extension::take_crl_distribution_points(alloc, cursor)
 }
@@ -72,7 +72,7 @@ pub fn read_authority_information_access(
     alloc: Global,
     cursor: &mut Cursor<'_>,
 ) -> Result<Rsync, DecodeError>
-    ensures { AnswersOrMemory authority_information_access.spells cursor.old result cursor.new }
+    ensures { AnswersOrMemory authority_information_access.encodes cursor.old result cursor.new }
 {
     extension::take_authority_information_access(alloc, cursor)
 }
@@ -82,14 +82,14 @@ pub fn read_subject_information_access(
     alloc: Global,
     cursor: &mut Cursor<'_>,
 ) -> Result<Sia, DecodeError>
-    ensures { AnswersOrMemory subject_information_access.spells cursor.old result cursor.new }
+    ensures { AnswersOrMemory subject_information_access.encodes cursor.old result cursor.new }
 {
     extension::take_subject_information_access(alloc, cursor)
 }
 
 /// Reads Certificate Policies.
 pub fn read_certificate_policies(cursor: &mut Cursor<'_>) -> Result<Overclaim, DecodeError>
-    ensures { Answers certificate_policies.spells cursor.old result cursor.new }
+    ensures { Answers certificate_policies.encodes cursor.old result cursor.new }
 {
     extension::take_certificate_policies(cursor)
 }

@@ -7,12 +7,12 @@ ghost use Rattle.rpki_parts.specs.SignedDatas.{signed_pieces};
 ghost use Rattle.rpki_parts.specs.declared.signature.SigningError.{SigningError as Refusal};
 ghost use Rattle.rpki_parts.specs.declared.signature.SigningError.TheVariants.{Memory};
 ghost use Rattle.rpki_ext.specs.CertificateExtensions.{HasResources};
-ghost use Rattle.rpki_cert.specs.Certificates.{CanBeWritten, Fits, spelling};
+ghost use Rattle.rpki_cert.specs.Certificates.{CanBeWritten, Fits, encoding};
 ghost use Rattle.rpki_cert.specs.Issuing.{IsMemory, made_with};
 ghost use Rattle.rpki_cert.specs.Profiles.{MeetsProfile};
 ghost use Rattle.rpki_cert.specs.Verification.{context, LineUnder, IsVerified, issued_lines};
 ghost use Rattle.rpki_cert.specs.declared.inspect.Kind.TheVariants.{Authority};
-ghost use Rattle.rpki_crl.specs.Lists.{ListFits, list_spelling};
+ghost use Rattle.rpki_crl.specs.Lists.{ListFits, list_encoding};
 
 use rpki::crypto::{Signer, Verifier};
 use rpki::der::EncodeError;
@@ -25,7 +25,7 @@ use std::alloc::Global;
 /// Reads a certificate again.
 pub fn certificate(alloc: Global, made: &Cert) -> Result<Cert, EncodeError>
     requires written { Fits made.now.fields }
-    requires message { made.now.signed_data.message ≡ spelling made.now.fields }
+    requires message { made.now.signed_data.message ≡ encoding made.now.fields }
     requires fits { length (concat (signed_pieces made.now.signed_data)) < 2 ^ 32 }
     requires resources { HasResources made.now.fields.extensions }
     requires only_v4 { AreV4 made.now.fields.extensions.v4_resources }
@@ -37,7 +37,7 @@ pub fn certificate(alloc: Global, made: &Cert) -> Result<Cert, EncodeError>
 /// Reads a list again.
 pub fn list(alloc: Global, made: &Crl) -> Result<Crl, EncodeError>
     requires written { ListFits made.now.list.fields }
-    requires message { made.now.list.signed_data.message ≡ list_spelling made.now.list.fields }
+    requires message { made.now.list.signed_data.message ≡ list_encoding made.now.list.fields }
     requires algorithm { let list = made.now.list in
         list.fields.algorithm ≡ list.signed_data.signature.algorithm }
     requires fits { length (concat (signed_pieces made.now.list.signed_data)) < 2 ^ 32 }
@@ -58,16 +58,16 @@ pub fn issued<S: Signer, V: Verifier>(
 ) -> Result<ResourceCert, IssueCaError<S::Error>>
     requires written { CanBeWritten tbs }
     requires signs { (e : Refusal S.Error)
-        → S.signs signer.now key.now tbs.algorithm (spelling tbs) (Err e) → e ≡ Memory }
+        → S.signs signer.now key.now tbs.algorithm (encoding tbs) (Err e) → e ≡ Memory }
     requires fits { (s : SignatureFields)
-        → S.signs signer.now key.now tbs.algorithm (spelling tbs) (Ok s)
+        → S.signs signer.now key.now tbs.algorithm (encoding tbs) (Ok s)
         → length (concat (signed_pieces (made_with tbs s).signed_data)) < 2 ^ 32 }
     requires profile { (s : SignatureFields)
-        → S.signs signer.now key.now tbs.algorithm (spelling tbs) (Ok s)
+        → S.signs signer.now key.now tbs.algorithm (encoding tbs) (Ok s)
         → MeetsProfile Authority true (made_with tbs s) }
     requires lines { let x = context (V.verifies verifier.now) now true in
         (s : SignatureFields)
-        → S.signs signer.now key.now tbs.algorithm (spelling tbs) (Ok s)
+        → S.signs signer.now key.now tbs.algorithm (encoding tbs) (Ok s)
         → IsVerified (LineUnder x issuer.now (made_with tbs s)) issued_lines }
     ensures fields { IfOk result (λ r. r.cert.fields ≡ tbs) }
     ensures memory { IfErr result IsMemory }

@@ -6,7 +6,7 @@ use Rattle.rpki_der.specs.Values.{IsEnc}
 use Rattle.rpki_der.specs.Primitives.{IsNull, IsObjectIdentifier}
 use Rattle.rpki_der.specs.Primitives.Reading.{null_at, oid_at}
 use Rattle.rpki_der.specs.Reading.{optional, inside, mapped, Reads, Inside, Optional, BeginWith, ReadsBefore}
-use Rattle.rpki_der.specs.Spelling.{BeginsOther}
+use Rattle.rpki_der.specs.Encoding.{BeginsOther}
 use Rattle.rpki_der.specs.Choices.{followed, Followed}
 use Rattle.rpki_der.proofs.Readings.{followed_before, inside_before}
 use Rattle.rpki_der.proofs.Optionals.{optional_before}
@@ -47,9 +47,9 @@ parameters_are true b (None, t, n) = absurd cc
 parameters_are false b (Some u, t, n) = absurd cc
 parameters_are false b (None, t, n) = n
 
-parameters_spelled : (has : Bool) → NullOrNone has (parameters has ++ [])
-parameters_spelled true = (Some tt, refl, refl)
-parameters_spelled false = (None, refl, refl)
+parameters_encoded : (has : Bool) → NullOrNone has (parameters has ++ [])
+parameters_encoded true = (Some tt, refl, refl)
+parameters_encoded false = (None, refl, refl)
 
 is_algorithm : (a : Algorithm) (text : List ℕ) → Inside SEQUENCE Content a.has_null text → IsSignatureAlgorithm a text
 is_algorithm a text (c, (id, x, y, o, (e, n), p), enc) = record {
@@ -61,7 +61,7 @@ is_algorithm a text (c, (id, x, y, o, (e, n), p), enc) = record {
 algorithm_is : (a : Algorithm) (text : List ℕ) → IsSignatureAlgorithm a text → Inside SEQUENCE Content a.has_null text
 algorithm_is a text s =
     let rest = parameters a.has_null ++ [] in
-    (s.identifier ++ rest, (sha256_with_rsa, s.identifier, rest, s.identifier_is, (text_is sha256_with_rsa sha256_with_rsa refl, parameters_spelled a.has_null), refl), s.sequence)
+    (s.identifier ++ rest, (sha256_with_rsa, s.identifier, rest, s.identifier_is, (text_is sha256_with_rsa sha256_with_rsa refl, parameters_encoded a.has_null), refl), s.sequence)
 
 -- a signature's AlgorithmIdentifier is read as it is encoded
 pub algorithm_reads : Reads algorithm_at IsSignatureAlgorithm

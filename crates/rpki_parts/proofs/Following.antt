@@ -7,7 +7,7 @@ use Rattle.rpki_der.specs.Choices.{given, choose, always}
 
 -- the texts of the values that a function takes to this one
 abbrev pub Image : {X Y : Type 0} → (X → Y) → (X → List ℕ → Type 0) → Y → List ℕ → Type 0
-Image {X} to spells y text = (x : X) × (to x ≡ y) × spells x text
+Image {X} to encodes y text = (x : X) × (to x ≡ y) × encodes x text
 
 module _ (P : List ℕ → Type 0) where
   -- a lawful reading stays lawful where its values take another form
@@ -17,7 +17,7 @@ module _ (P : List ℕ → Type 0) where
   -- a lawful reading stays lawful behind a test
   pub given_before : {X : Type 0} (b : Bool) (f : List ℕ → Option (X × List ℕ)) (S : X → List ℕ → Type 0) → ReadsBefore P f S → ReadsBefore P (given b f) (λ x text. (b ≡ true) × S x text)
   given_before true f S F = record {
-    takes = λ bytes x rest fits e. let one = F.takes bytes x rest fits e in record { text = one.text; spelled = (refl, one.spelled); parts = one.parts };
+    takes = λ bytes x rest fits e. let one = F.takes bytes x rest fits e in record { text = one.text; encoded = (refl, one.encoded); parts = one.parts };
     again = λ x text rest s p. F.again x text rest s.1 p;
   }
   given_before false f S F = record { takes = λ bytes x rest fits e. nothing (x, rest) e; again = λ x text rest s p. absurd cc }
@@ -26,17 +26,17 @@ module _ (P : List ℕ → Type 0) where
   pub choose_before : {X : Type 0} (b : Bool) (f g : List ℕ → Option (X × List ℕ)) (S T : X → List ℕ → Type 0) → ReadsBefore P f S → ReadsBefore P g T
       → ReadsBefore P (choose b f g) (λ x text. ((b ≡ true) × S x text) ⊎ ((b ≡ false) × T x text))
   choose_before true f g S T F G = record {
-    takes = λ bytes x rest fits e. let one = F.takes bytes x rest fits e in record { text = one.text; spelled = inl (refl, one.spelled); parts = one.parts };
+    takes = λ bytes x rest fits e. let one = F.takes bytes x rest fits e in record { text = one.text; encoded = inl (refl, one.encoded); parts = one.parts };
     again = λ x text rest s p. elim s [ inl h ↦ F.again x text rest h.1 p | inr h ↦ absurd cc ];
   }
   choose_before false f g S T F G = record {
-    takes = λ bytes x rest fits e. let one = G.takes bytes x rest fits e in record { text = one.text; spelled = inr (refl, one.spelled); parts = one.parts };
+    takes = λ bytes x rest fits e. let one = G.takes bytes x rest fits e in record { text = one.text; encoded = inr (refl, one.encoded); parts = one.parts };
     again = λ x text rest s p. elim s [ inl h ↦ absurd cc | inr h ↦ G.again x text rest h.1 p ];
   }
 
   -- a value that no octet is read for is read lawfully
   pub always_before : {X : Type 0} (v : X) → ReadsBefore P (always v) (λ x text. (v ≡ x) × (text ≡ []))
   always_before {X} v = record {
-    takes = λ bytes x rest fits e. let g = both_are (v, bytes) (x, rest) e in record { text = []; spelled = (g.0, refl); parts = g.1 };
+    takes = λ bytes x rest fits e. let g = both_are (v, bytes) (x, rest) e in record { text = []; encoded = (g.0, refl); parts = g.1 };
     again = λ x text rest s p. rw (s.1, s.0) refl;
   }

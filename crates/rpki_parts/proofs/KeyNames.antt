@@ -75,7 +75,7 @@ is_name_of_digits digits e octets =
     let four = pieces_short (enc OBJECT_IDENTIFIER common_name ∷ enc PRINTABLE_STRING digits ∷ []) (content_short SEQUENCE (concat (enc OBJECT_IDENTIFIER common_name ∷ enc PRINTABLE_STRING digits ∷ [])) three) in
     let value = made PRINTABLE_STRING digits (omega arith) four.1.0 in
     let a : Attribute = record { type_id = common_name; value_tag = PRINTABLE_STRING } in
-    let spelled : IsAttribute a attribute = record {
+    let encoded : IsAttribute a attribute = record {
       identifier = enc OBJECT_IDENTIFIER common_name;
       content = digits;
       value = enc PRINTABLE_STRING digits;
@@ -84,7 +84,7 @@ is_name_of_digits digits e octets =
       skippable = primitive digits (enc PRINTABLE_STRING digits) value;
       sequence = made SEQUENCE (concat (enc OBJECT_IDENTIFIER common_name ∷ enc PRINTABLE_STRING digits ∷ [])) (omega arith) three;
     } in
-    let part : IsPart (a ∷ []) set = record { content = attribute; row = (attribute, [], spelled, refl, sym (append-nil attribute)); some = omega arith; set = made SET attribute (omega arith) two } in
+    let part : IsPart (a ∷ []) set = record { content = attribute; row = (attribute, [], encoded, refl, sym (append-nil attribute)); some = omega arith; set = made SET attribute (omega arith) two } in
     let parts : AreParts ((a ∷ []) ∷ []) (name_of_digits digits) = record { content = concat (set ∷ []); row = (set, [], part, refl, refl); sequence = made SEQUENCE (concat (set ∷ [])) (omega arith) short } in
     is_name_again ((a ∷ []) ∷ []) (name_of_digits digits) parts
 

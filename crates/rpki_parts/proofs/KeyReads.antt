@@ -7,7 +7,7 @@ use Rattle.rpki_der.specs.Values.{IsEnc}
 use Rattle.rpki_der.specs.Primitives.{IsBits, IsObjectIdentifier, null}
 use Rattle.rpki_der.specs.Primitives.Reading.{bits_at, oid_at}
 use Rattle.rpki_der.specs.Reading.{content, inside, mapped, Reads, Inside, ReadsBefore, Anything}
-use Rattle.rpki_der.specs.Spelling.{BeginsOther}
+use Rattle.rpki_der.specs.Encoding.{BeginsOther}
 use Rattle.rpki_der.specs.Choices.{followed, Followed}
 use Rattle.rpki_der.proofs.Readings.{before, before_anything, followed_before, inside_before, same_before}
 use Rattle.rpki_der.proofs.Octets.{if_some}

@@ -8,7 +8,7 @@ use Rattle.rpki_der.specs.Rows.{IsRow}
 use Rattle.rpki_der.specs.Rows.Reading.{row_of, Shrinks}
 use Rattle.rpki_der.specs.Skipping.{levels, IsSkippableWithin, IsSkippable}
 use Rattle.rpki_der.specs.Skipping.Reading.{skip_at, captured_at}
-use Rattle.rpki_der.specs.Spelling.{Begins}
+use Rattle.rpki_der.specs.Encoding.{Begins}
 use Rattle.rpki_der.specs.Reading.{inside, both, mapped, content, ended, Reads, Both, Inside}
 use Rattle.rpki_der.specs.Primitives.Reading.{oid_at}
 use Rattle.rpki_der.specs.Values.Reading.{◌>>=◌, value_at}
@@ -46,12 +46,12 @@ tagged_takes [] tag rest fits e = nothing (tag, rest) e
 tagged_takes (t ∷ bytes) tag rest fits e =
     let a = bind_some (skip_at (t ∷ bytes)) (λ v. some {A = ℕ × List ℕ} (t, v.1)) (tag, rest) e in
     let one = skip_reads.takes (t ∷ bytes) a.0.0 a.0.1 fits a.1 in
-    let v = skippable_value levels one.text one.spelled in
+    let v = skippable_value levels one.text one.encoded in
     let g = both_are (t, a.0.1) (tag, rest) a.2 in
     let is : v.tag ≡ tag = first_is t v.tag v.content one.text bytes a.0.1 v.enc one.parts ∙ g.0 in
     record {
       text = one.text;
-      spelled = (v.content, subst (λ (x : ℕ). IsEnc x v.content one.text) is v.enc, one.spelled);
+      encoded = (v.content, subst (λ (x : ℕ). IsEnc x v.content one.text) is v.enc, one.encoded);
       parts = one.parts ∙ ap (λ (x : List ℕ). one.text ++ x) g.1;
     }
 
@@ -176,7 +176,7 @@ name_takes octets parts fits e =
     let g = ended_some a.0.1 a.0.0 parts a.2 in
     let one = parts_reads.takes octets a.0.0 a.0.1 fits a.1 in
     let all : one.text ≡ octets = sym (append-nil one.text) ∙ sym (ap (λ (r : List ℕ). one.text ++ r) g.0) ∙ sym one.parts in
-    subst (λ (ps : List (List Attribute)). AreParts ps octets) g.1 (subst (λ (x : List ℕ). AreParts a.0.0 x) all one.spelled)
+    subst (λ (ps : List (List Attribute)). AreParts ps octets) g.1 (subst (λ (x : List ℕ). AreParts a.0.0 x) all one.encoded)
 
 -- a Name is read as its parts
 pub name_again : (parts : List (List Attribute)) (octets : List ℕ) → AreParts parts octets → name_of octets ≡ Some parts
@@ -208,12 +208,12 @@ name_reads = record {
       let f = if_some (is_name a.0.0) a.0 (name, rest) a.2 in
       let one = captured_reads.takes bytes a.0.0 a.0.1 fits a.1 in
       let text = one.text in
-      let octets : AreOctets a.0.0 = subst AreOctets (sym one.spelled.1) (AreOctets-front bytes text a.0.1 one.parts fits) in
+      let octets : AreOctets a.0.0 = subst AreOctets (sym one.encoded.1) (AreOctets-front bytes text a.0.1 one.parts fits) in
       let n = name_is a.0.0 octets f.0 in
       let made : List ℕ × List ℕ = (a.0.0, a.0.1) in
       subst (λ (q : List ℕ × List ℕ). Begins IsName bytes q.0 q.1) f.1 (record {
         text = text;
-        spelled = record { parts = n.parts; parts_are = subst (λ (x : List ℕ). AreParts n.parts x) one.spelled.1 n.parts_are; kept = one.spelled.1 };
+        encoded = record { parts = n.parts; parts_are = subst (λ (x : List ℕ). AreParts n.parts x) one.encoded.1 n.parts_are; kept = one.encoded.1 };
         parts = one.parts;
       });
   again = λ name text rest s.
@@ -230,7 +230,7 @@ name_none bytes fits e = none_of (name_at bytes) refl
     none_of None h = refl
     none_of (Some v) h =
         let b = name_reads.takes bytes v.0 v.1 fits h in
-        let sequence = b.spelled.parts_are in
+        let sequence = b.encoded.parts_are in
         let one : value_at SEQUENCE bytes ≡ some {A = List ℕ × List ℕ} (sequence.content, v.1) = ap (value_at SEQUENCE) b.parts ∙ (value_reads SEQUENCE).again sequence.content b.text v.1 sequence.sequence in
         nothing (sequence.content, v.1) (sym e ∙ one)
 

@@ -4,7 +4,7 @@ use Rattle.std.proofs.lemmas.List.{append-nil}
 use Rattle.rpki_der.specs.Skipping.{IsCaptured}
 use Rattle.rpki_der.specs.Skipping.Reading.{captured_at}
 use Rattle.rpki_der.specs.Reading.{both, mapped, Reads, Both}
-use Rattle.rpki_der.specs.Spelling.{Begins}
+use Rattle.rpki_der.specs.Encoding.{Begins}
 use Rattle.rpki_der.specs.Values.{IsValue}
 use Rattle.rpki_der.specs.Values.Reading.{◌>>=◌}
 use Rattle.rpki_der.proofs.Octets.{bind_some, some, some_is}
@@ -65,22 +65,22 @@ at_front s text rest h = ap (λ (t : List ℕ). t ++ rest) h.is ∙ append_assoc
 
 -- signed data, of which what is signed encodes the fields
 abbrev pub AreSigned : {F : Type 0} → (F → List ℕ → Type 0) → F × SignedFields → List ℕ → Type 0
-AreSigned spells p text = IsSignedDataContent p.1 text × spells p.0 p.1.message
+AreSigned encodes p text = IsSignedDataContent p.1 text × encodes p.0 p.1.message
 
 -- signed data of which the message is read lawfully is read as it is encoded
-pub signed_reads : {F : Type 0} (read : List ℕ → Option (F × List ℕ)) (spells : F → List ℕ → Type 0) → Reads read spells → ((f : F) (text : List ℕ) → spells f text → IsValue text)
-    → Reads (signed_at read) (AreSigned spells)
-signed_reads {F} read spells law value = record {
+pub signed_reads : {F : Type 0} (read : List ℕ → Option (F × List ℕ)) (encodes : F → List ℕ → Type 0) → Reads read encodes → ((f : F) (text : List ℕ) → encodes f text → IsValue text)
+    → Reads (signed_at read) (AreSigned encodes)
+signed_reads {F} read encodes law value = record {
   takes = λ octets p rest low e.
       let a = bind_some (signed_content_at octets) (λ s. read octets >>= λ f. some {A = (F × SignedFields) × List ℕ} ((f.0, s.0), s.1)) (p, rest) e in
       let b = bind_some (read octets) (λ f. some {A = (F × SignedFields) × List ℕ} ((f.0, a.0.0), a.0.1)) (p, rest) a.2 in
       let one = signed_content_reads.takes octets a.0.0 a.0.1 low a.1 in
       let two = law.takes octets b.0.0 b.0.1 low b.1 in
-      let whole : two.text ++ b.0.1 ≡ a.0.0.message ++ behind a.0.0 one.text one.spelled a.0.1 = sym two.parts ∙ one.parts ∙ at_front a.0.0 one.text a.0.1 one.spelled in
-      let kept = (one_value two.text a.0.0.message b.0.1 _ (value b.0.0 two.text two.spelled) one.spelled.message_is whole).0 in
+      let whole : two.text ++ b.0.1 ≡ a.0.0.message ++ behind a.0.0 one.text one.encoded a.0.1 = sym two.parts ∙ one.parts ∙ at_front a.0.0 one.text a.0.1 one.encoded in
+      let kept = (one_value two.text a.0.0.message b.0.1 _ (value b.0.0 two.text two.encoded) one.encoded.message_is whole).0 in
       let made : (F × SignedFields) × List ℕ = ((b.0.0, a.0.0), a.0.1) in
-      subst (λ (q : (F × SignedFields) × List ℕ). Begins (AreSigned spells) octets q.0 q.1) (some_is made (p, rest) b.2)
-      (record { text = one.text; spelled = (one.spelled, subst (λ (t : List ℕ). spells b.0.0 t) kept two.spelled); parts = one.parts });
+      subst (λ (q : (F × SignedFields) × List ℕ). Begins (AreSigned encodes) octets q.0 q.1) (some_is made (p, rest) b.2)
+      (record { text = one.text; encoded = (one.encoded, subst (λ (t : List ℕ). encodes b.0.0 t) kept two.encoded); parts = one.parts });
   again = λ p text rest s.
       let front : read (text ++ rest) ≡ some {A = F × List ℕ} (p.0, behind p.1 text s.0 rest) = ap read (at_front p.1 text rest s.0) ∙ law.again p.0 p.1.message (behind p.1 text s.0 rest) s.1 in
       rw (signed_content_reads.again p.1 text rest s.0, front) refl;

@@ -14,15 +14,15 @@ use Rattle.rpki_cert.specs.declared.validation_error.ValidationError.{Validation
 use Rattle.rpki_cert.specs.declared.validation_error.ValidationError.TheVariants.{Inspection, Verification}
 use Rattle.rpki_cert.specs.declared.verification_error.VerificationError.{VerificationError}
 use Rattle.rpki_cert.specs.declared.verification_error.VerificationError.TheVariants as verification
-use Rattle.rpki_crl.specs.Revocation.{revocation_lines}
+use Rattle.rpki_crl.specs.Revocation.{revocation_checks}
 use Rattle.rpki_crl.specs.Stores.{Stored}
 use Rattle.rpki_crl.specs.declared.revocation_error.RevocationError.{RevocationError}
 use Rattle.rpki_path.specs.FaultNames.{of_decoding, of_verification, of_validation}
 use Rattle.rpki_path.specs.declared.path_fault.PathFault.{PathFault}
 use Rattle.rpki_path.specs.declared.path_fault.PathFault.TheVariants.{Decode, Inspect, Verify, Revocation, Memory}
-use Rattle.rpki_path.specs.Paths.{Demand, AskedLine, Finds}
+use Rattle.rpki_path.specs.Paths.{Demand, AskedCheck, Finds}
 use Rattle.rpki_path.specs.Paths.Steps.{IsUnread, IsIssuedBy, demand_under}
-use Rattle.rpki_path.proofs.GoodPaths.{unrevoked_asked}
+use Rattle.rpki_path.proofs.ValidPaths.{unrevoked_asked}
 
 -- an error of reading says that no certificate begins the string
 pub not_decoded : (octets : List ℕ) (e : DecodeError) → Refuses e ((c : CertFields) → Means IsCertificate c octets → ⊥) → IsUnread octets (of_decoding e)
@@ -39,24 +39,24 @@ module _ (x : Context) (d : Demand) (octets : List ℕ) where
   unread Memory h = tt
 
   module _ (c : CertFields) (begins : Means IsCertificate c octets) where
-    first_false : (e : VerificationError) → IsInvalid d.kind x.strict c (IsFirstFalse (d.line c) d.lines) (Verification e) → Finds x d octets (of_verification e)
+    first_false : (e : VerificationError) → IsInvalid d.kind x.strict c (IsFirstFalse (d.check c) d.checks) (Verification e) → Finds x d octets (of_verification e)
     first_false verification.Memory h = tt
     first_false _ h = (c, begins, h)
 
-    not_verified : (e : VerificationError) → IsInvalid d.kind x.strict c (IsFirstFalseOrMemory (d.line c) d.lines) (Verification e) → Finds x d octets (of_verification e)
+    not_verified : (e : VerificationError) → IsInvalid d.kind x.strict c (IsFirstFalseOrMemory (d.check c) d.checks) (Verification e) → Finds x d octets (of_verification e)
     not_verified verification.Memory h = tt
     not_verified e (meets, inl same) = absurd (cc same)
     not_verified e (meets, inr h) = first_false e (meets, h)
 
     -- a certificate that isn't valid is found so
-    pub not_valid : (e : ValidationError) → IsInvalid d.kind x.strict c (IsFirstFalseOrMemory (d.line c) d.lines) e → Finds x d octets (of_validation e)
+    pub not_valid : (e : ValidationError) → IsInvalid d.kind x.strict c (IsFirstFalseOrMemory (d.check c) d.checks) e → Finds x d octets (of_validation e)
     not_valid (Inspection e) h = (c, begins, h)
     not_valid (Verification e) h = not_verified e h
 
 -- ---- a member, from the certificate that is decoded
 
 module _ (x : Context) (lists : Option (List Stored)) (issuer : ResourceFields) (k : Kind) (octets : List ℕ) (c : CertFields) (r : ResourceFields) (begins : Means IsCertificate c octets) (below : IsValidBelow x issuer k c r) where
-  pub issued_by : IsVerified (AskedLine x lists issuer.cert.fields r.cert) revocation_lines → IsIssuedBy x lists issuer k octets r
+  pub issued_by : IsVerified (AskedCheck x lists issuer.cert.fields r.cert) revocation_checks → IsIssuedBy x lists issuer k octets r
   issued_by free =
       let same : c ≡ r.cert = sym below.issued.cert_is in
       record {
@@ -66,11 +66,11 @@ module _ (x : Context) (lists : Option (List Stored)) (issuer : ResourceFields) 
       }
 
   -- a member that is revoked is found so
-  pub revoked_below : (e : RevocationError) → IsFirstFalse (AskedLine x lists issuer.cert.fields r.cert) revocation_lines e → Finds x (demand_under x lists issuer k) octets (Revocation e)
+  pub revoked_below : (e : RevocationError) → IsFirstFalse (AskedCheck x lists issuer.cert.fields r.cert) revocation_checks e → Finds x (demand_under x lists issuer k) octets (Revocation e)
   revoked_below e first = record {
     cert = c;
     begins = begins;
     meets = below.meets;
-    verified = below.lines;
-    first = subst (λ (d : CertFields). IsFirstFalse (AskedLine x lists issuer.cert.fields d) revocation_lines e) below.issued.cert_is first;
+    verified = below.checks;
+    first = subst (λ (d : CertFields). IsFirstFalse (AskedCheck x lists issuer.cert.fields d) revocation_checks e) below.issued.cert_is first;
   }

@@ -111,8 +111,8 @@ digits_read text octets d =
     rw even (pairs_read 0 text octets d)
 
 -- no octets are encoded by digits that aren't decoded
-pub none_spelled : (text : List ℕ) (f : FromHexError) → decode_of text ≡ Err f → (octets : List ℕ) → AreHexDigits octets text → ⊥
-none_spelled text f e octets d = let read = digits_read text octets d in absurd cc
+pub none_encoded : (text : List ℕ) (f : FromHexError) → decode_of text ≡ Err f → (octets : List ℕ) → AreHexDigits octets text → ⊥
+none_encoded text f e octets d = let read = digits_read text octets d in absurd cc
 
 -- a word that isn't - is digits
 pub word_digits : (octets word : List ℕ) → (word ≡ codes "-" → ⊥) → IsHexWord octets word → AreHexDigits octets word

@@ -11,7 +11,7 @@ use Rattle.rpki_path.specs.declared.input.Input.{Input}
 use Rattle.rpki_path.specs.declared.input.Input.TheVariants.{Bad}
 use Rattle.rpki_path.specs.TextLines.{AreLines, line_end}
 use Rattle.rpki_path.specs.InputLines.{at_moment, strictness, anchor, authority, end_entity, IsLine, IsRevokedLine, IsMomentLine, IsOctetsLine}
-use Rattle.rpki_path.specs.Program.{PathQuestion, Question, is_revoked, is_good_path, Ask, AreInput, BeginInput}
+use Rattle.rpki_path.specs.Program.{PathQuestion, Question, is_revoked, is_valid_path, Ask, AreInput, BeginInput}
 use Rattle.rpki_path.specs.Questions.{IsFirstLine, AreReadAs, IsReadBehind}
 
 -- every text has lines
@@ -129,7 +129,7 @@ nothing_begins = (
 
 -- no lines are no input
 pub no_empty_input : AreInput [] → ⊥
-no_empty_input a = elim a.0 as (λ (q : Question). Ask q [] → ⊥) [ is_revoked list serial ↦ λ h. h | is_good_path q ↦ λ h. h ] a.1
+no_empty_input a = elim a.0 as (λ (q : Question). Ask q [] → ⊥) [ is_revoked list serial ↦ λ h. h | is_valid_path q ↦ λ h. h ] a.1
 
 -- the lines of an input are the beginning of one
 pub whole_begins : (lines : List (List ℕ)) → AreInput lines → BeginInput lines
@@ -141,7 +141,7 @@ whole_begins lines a = ([], subst (λ (l : List (List ℕ)). AreInput l) (sym (a
 pub first_tells : (q : Question) (line : List ℕ) (more : List (List ℕ)) → Ask q (line ∷ more)
     → ((list : List ℕ) × (serial : ℕ) × IsRevokedLine list serial line) ⊎ ((now : Moment) × IsMomentLine now line)
 first_tells (is_revoked list serial) line more h = inl (list, serial, h.0)
-first_tells (is_good_path q) line more h = inr (q.now, h.0)
+first_tells (is_valid_path q) line more h = inr (q.now, h.0)
 
 -- a first line of neither form begins no input
 pub first_unfit : (line : List ℕ) → ((list : List ℕ) (serial : ℕ) → IsRevokedLine list serial line → ⊥) → ((now : Moment) → IsMomentLine now line → ⊥) → BeginInput (line ∷ []) → ⊥
@@ -151,7 +151,7 @@ first_unfit line no_list no_moment (more, (q, asked)) =
 -- a list has one line
 list_alone : (list : List ℕ) (serial : ℕ) (q : Question) (line next : List ℕ) (more : List (List ℕ)) → IsRevokedLine list serial line → Ask q (line ∷ next ∷ more) → ⊥
 list_alone list serial (is_revoked list' serial') line next more is h = h.1
-list_alone list serial (is_good_path q) line next more is h = not_both q.now list serial line h.0 is
+list_alone list serial (is_valid_path q) line next more is h = not_both q.now list serial line h.0 is
 
 module _ (list : List ℕ) (serial : ℕ) (line : List ℕ) (is : IsRevokedLine list serial line) where
   -- the line of a list of revoked certificates begins an input
@@ -170,11 +170,11 @@ short_path now strict octets = record { now = now; strict = strict; anchor_octet
 
 second_tells : (q : Question) (m line : List ℕ) (more : List (List ℕ)) → Ask q (m ∷ line ∷ more) → (strict : Bool) × IsLine (strictness strict) line
 second_tells (is_revoked list serial) m line more h = absurd h.1
-second_tells (is_good_path q) m line more h = (q.strict, h.1.0)
+second_tells (is_valid_path q) m line more h = (q.strict, h.1.0)
 
 moment_not_alone : (now : Moment) (q : Question) (m : List ℕ) → IsMomentLine now m → Ask q (m ∷ []) → ⊥
 moment_not_alone now (is_revoked list serial) m is h = not_both now list serial m is h.0
-moment_not_alone now (is_good_path q) m is h = h.1
+moment_not_alone now (is_valid_path q) m is h = h.1
 
 abbrev Moments : Moment → List (List ℕ) → Type 0
 Moments now before = AllZip IsLine (at_moment now ∷ []) before
@@ -182,7 +182,7 @@ Moments now before = AllZip IsLine (at_moment now ∷ []) before
 module _ (now : Moment) where
   moment_begins : (before : List (List ℕ)) → Moments now before → BeginInput before
   moment_begins [] is = elim is [ ]
-  moment_begins (m ∷ []) is = (codes "strict" ∷ codes "ta -" ∷ [], (is_good_path (short_path now true []), (is.0, (refl, (no_octets (codes "ta "), tt)))))
+  moment_begins (m ∷ []) is = (codes "strict" ∷ codes "ta -" ∷ [], (is_valid_path (short_path now true []), (is.0, (refl, (no_octets (codes "ta "), tt)))))
   moment_begins (m ∷ s ∷ more) is = elim is.1 [ ]
 
   one_so_far : (before : List (List ℕ)) → Moments now before → 2 ≡ length before + 1
@@ -213,11 +213,11 @@ module _ (now : Moment) where
 
 third_tells : (q : Question) (m s line : List ℕ) (more : List (List ℕ)) → Ask q (m ∷ s ∷ line ∷ more) → (octets : List ℕ) × IsLine (anchor octets) line
 third_tells (is_revoked list serial) m s line more h = absurd h.1
-third_tells (is_good_path q) m s line more (_, (_, (tells, _))) = (q.anchor_octets, tells)
+third_tells (is_valid_path q) m s line more (_, (_, (tells, _))) = (q.anchor_octets, tells)
 
 two_are_few : (q : Question) (m s : List ℕ) → Ask q (m ∷ s ∷ []) → ⊥
 two_are_few (is_revoked list serial) m s h = h.1
-two_are_few (is_good_path q) m s (_, (_, none)) = none
+two_are_few (is_valid_path q) m s (_, (_, none)) = none
 
 abbrev Pairs : Moment → Bool → List (List ℕ) → Type 0
 Pairs now strict before = AllZip IsLine (at_moment now ∷ strictness strict ∷ []) before
@@ -226,7 +226,7 @@ module _ (now : Moment) (strict : Bool) where
   pair_begins : (before : List (List ℕ)) → Pairs now strict before → BeginInput before
   pair_begins [] is = elim is [ ]
   pair_begins (m ∷ []) is = elim is.1 [ ]
-  pair_begins (m ∷ s ∷ []) is = (codes "ta -" ∷ [], (is_good_path (short_path now strict []), (is.0, (is.1.0, (no_octets (codes "ta "), tt)))))
+  pair_begins (m ∷ s ∷ []) is = (codes "ta -" ∷ [], (is_valid_path (short_path now strict []), (is.0, (is.1.0, (no_octets (codes "ta "), tt)))))
   pair_begins (m ∷ s ∷ t ∷ more) (_, (_, none)) = elim none [ ]
 
   two_so_far : (before : List (List ℕ)) → Pairs now strict before → 3 ≡ length before + 1

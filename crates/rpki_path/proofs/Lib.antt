@@ -10,7 +10,7 @@ pub mod PrintedRanges
 pub mod Reports
 pub mod FoundSteps
 pub mod LongerPaths
-pub mod GoodPaths
+pub mod ValidPaths
 pub mod Refusals
 pub mod PathSteps
 pub mod MoreNumbers

@@ -13,7 +13,7 @@ use Rattle.rpki_path.specs.declared.input.Input.TheVariants as input
 use Rattle.rpki_path.specs.declared.path_lines.PathQuestion as declared
 use Rattle.rpki_path.specs.TextLines.{AreLines}
 use Rattle.rpki_path.specs.InputLines.{InputLine, at_moment, strictness, anchor, authority, end_entity, IsLine, IsOctetsLine}
-use Rattle.rpki_path.specs.Program.{PathQuestion, Question, is_revoked, is_good_path, leaf_lines, Ask, BeginInput, IsBadLine}
+use Rattle.rpki_path.specs.Program.{PathQuestion, Question, is_revoked, is_valid_path, leaf_lines, Ask, BeginInput, IsBadLine}
 use Rattle.rpki_path.specs.Questions.{IsFirstLine, member_line, path_question, IsReadBehind}
 use Rattle.rpki_path.proofs.InputLines.{other_name, whole_begins, one_more, bad_line, bad_after}
 use Rattle.rpki_path.proofs.LongerPaths.{zip_more}
@@ -67,7 +67,7 @@ Heads now strict octets before = AllZip IsLine (at_moment now ∷ strictness str
 
 below_tells : (q : Question) (m s t : List ℕ) (lines : List (List ℕ)) → Ask q (m ∷ s ∷ t ∷ lines) → (cas : List (List ℕ)) × (leaf : Option Leaf) × AllZip IsLine (map authority cas ++ leaf_lines leaf) lines
 below_tells (is_revoked list serial) m s t lines h = absurd h.1
-below_tells (is_good_path q) m s t lines (_, (_, (_, below))) = (q.authorities, q.leaf, below)
+below_tells (is_valid_path q) m s t lines (_, (_, (_, below))) = (q.authorities, q.leaf, below)
 
 module _ (now : Moment) (strict : Bool) (octets : List ℕ) where
   tells_below : (before : List (List ℕ)) → Heads now strict octets before → (q : Question) (lines : List (List ℕ)) → Ask q (before ++ lines) → (cas : List (List ℕ)) × (leaf : Option Leaf) × AllZip IsLine (map authority cas ++ leaf_lines leaf) lines
@@ -88,15 +88,15 @@ module _ (now : Moment) (strict : Bool) (octets : List ℕ) where
   abbrev pub question : List (List ℕ) → Option Leaf → PathQuestion
   question cas leaf = record { now = now; strict = strict; anchor_octets = octets; authorities = cas; leaf = leaf }
 
-  module _ (before : List (List ℕ)) (is : Heads now strict octets before) (cas : List (List ℕ)) (lines : List (List ℕ)) (spelled : AllZip IsLine (map authority cas) lines) where
+  module _ (before : List (List ℕ)) (is : Heads now strict octets before) (cas : List (List ℕ)) (lines : List (List ℕ)) (encoded : AllZip IsLine (map authority cas) lines) where
     -- the lines so far ask of these strings
-    pub asks : (leaf : Option Leaf) (last_lines : List (List ℕ)) → AllZip IsLine (leaf_lines leaf) last_lines → Ask (is_good_path (question cas leaf)) (before ++ (lines ++ last_lines))
+    pub asks : (leaf : Option Leaf) (last_lines : List (List ℕ)) → AllZip IsLine (leaf_lines leaf) last_lines → Ask (is_valid_path (question cas leaf)) (before ++ (lines ++ last_lines))
     asks leaf last_lines h =
         zip_both IsLine (at_moment now ∷ strictness strict ∷ anchor octets ∷ []) before (map authority cas ++ leaf_lines leaf) (lines ++ last_lines) is
-        (zip_both IsLine (map authority cas) lines (leaf_lines leaf) last_lines spelled h)
+        (zip_both IsLine (map authority cas) lines (leaf_lines leaf) last_lines encoded h)
 
-    asks_so_far : Ask (is_good_path (question cas None)) (before ++ lines)
-    asks_so_far = subst (λ (l : List (List ℕ)). Ask (is_good_path (question cas None)) (before ++ l)) (append-nil lines) (asks None [] tt)
+    asks_so_far : Ask (is_valid_path (question cas None)) (before ++ lines)
+    asks_so_far = subst (λ (l : List (List ℕ)). Ask (is_valid_path (question cas None)) (before ++ l)) (append-nil lines) (asks None [] tt)
 
     -- ---- a line that tells of no member
 
@@ -113,20 +113,20 @@ module _ (now : Moment) (strict : Bool) (octets : List ℕ) where
       regrouped number read = (lines ++ read.0, so_far read.0 read.1, subst (λ (l : List (List ℕ)). IsBadLine number l) (append_assoc before lines read.0) read.2)
 
       count : length cas + 4 ≡ length (before ++ lines) + 1
-      count = omega (arith, length-append before lines, three_so_far before is, as_many cas lines spelled)
+      count = omega (arith, length-append before lines, three_so_far before is, as_many cas lines encoded)
 
       -- a line that tells of no member doesn't fit
       pub bad_member : (line others : List ℕ) → IsFirstLine line others rest → ((member : Member) → IsLine (member_line member) line → ⊥) → IsReadBehind before text (Bad (length cas + 4))
       bad_member line others first none =
           regrouped (length cas + 4)
-          (bad_line (before ++ lines) (whole_begins (before ++ lines) (is_good_path (question cas None), asks_so_far)) (length cas + 4) count rest line others first (members_unfit line none))
+          (bad_line (before ++ lines) (whole_begins (before ++ lines) (is_valid_path (question cas None), asks_so_far)) (length cas + 4) count rest line others first (members_unfit line none))
 
       -- no further line: the path ends with an authority, or the anchor
       pub ended : (q : declared.PathQuestion) → path_question q ≡ question cas None → rest ≡ [] → IsReadBehind before text (input.Path q)
       ended q same none = (
         lines ++ [],
         so_far [] none,
-        subst (λ (p : PathQuestion). Ask (is_good_path p) (before ++ (lines ++ []))) (sym same) (asks None [] tt),
+        subst (λ (p : PathQuestion). Ask (is_valid_path p) (before ++ (lines ++ []))) (sym same) (asks None [] tt),
       )
 
       module _ (leaf : Leaf) (line others : List ℕ) (first : IsFirstLine line others rest) (tells : IsLine (end_entity leaf) line) where
@@ -135,7 +135,7 @@ module _ (now : Moment) (strict : Bool) (octets : List ℕ) where
         ended_by_leaf q same none = (
           lines ++ line ∷ [],
           so_far (line ∷ []) (one_more line others rest [] first none),
-          subst (λ (p : PathQuestion). Ask (is_good_path p) (before ++ (lines ++ line ∷ []))) (sym same) (asks (Some leaf) (line ∷ []) (tells, tt)),
+          subst (λ (p : PathQuestion). Ask (is_valid_path p) (before ++ (lines ++ line ∷ []))) (sym same) (asks (Some leaf) (line ∷ []) (tells, tt)),
         )
 
         nothing_follows : (next : List ℕ) → BeginInput ((before ++ (lines ++ line ∷ [])) ++ next ∷ []) → ⊥
@@ -148,8 +148,8 @@ module _ (now : Moment) (strict : Bool) (octets : List ℕ) where
         -- a line behind that of a leaf doesn't fit
         pub line_after_leaf : (others ≡ [] → ⊥) → IsReadBehind before text (Bad (length cas + 5))
         line_after_leaf some =
-            let fits : BeginInput (before ++ (lines ++ line ∷ [])) = whole_begins (before ++ (lines ++ line ∷ [])) (is_good_path (question cas (Some leaf)), asks (Some leaf) (line ∷ []) (tells, tt)) in
-            let many : length cas + 5 ≡ length (before ++ (lines ++ line ∷ [])) + 1 = omega (arith, length-append before (lines ++ line ∷ []), length-append lines (line ∷ []), three_so_far before is, as_many cas lines spelled) in
+            let fits : BeginInput (before ++ (lines ++ line ∷ [])) = whole_begins (before ++ (lines ++ line ∷ [])) (is_valid_path (question cas (Some leaf)), asks (Some leaf) (line ∷ []) (tells, tt)) in
+            let many : length cas + 5 ≡ length (before ++ (lines ++ line ∷ [])) + 1 = omega (arith, length-append before (lines ++ line ∷ []), length-append lines (line ∷ []), three_so_far before is, as_many cas lines encoded) in
             let read = bad_after (before ++ (lines ++ line ∷ [])) fits (length cas + 5) many others some nothing_follows in (
               lines ++ line ∷ read.0,
               so_far (line ∷ read.0) (one_more line others rest read.0 first read.1),
@@ -163,7 +163,7 @@ pub authority_more : (lines : List (List ℕ)) (text rest : List ℕ) → ((more
 authority_more lines text rest so_far line others first more are = subst (λ (l : List (List ℕ)). AreLines l text) (sym (append_assoc lines (line ∷ []) more)) (so_far (line ∷ more) (one_more line others rest more first are))
 
 -- the lines of the CAs with one more are lines of them
-pub authority_spelled : (cas lines : List (List ℕ)) → AllZip IsLine (map authority cas) lines → (octets line : List ℕ) → IsLine (authority octets) line → AllZip IsLine (map authority (cas ++ octets ∷ [])) (lines ++ line ∷ [])
-authority_spelled cas lines spelled octets line is =
+pub authority_encoded : (cas lines : List (List ℕ)) → AllZip IsLine (map authority cas) lines → (octets line : List ℕ) → IsLine (authority octets) line → AllZip IsLine (map authority (cas ++ octets ∷ [])) (lines ++ line ∷ [])
+authority_encoded cas lines encoded octets line is =
     subst (λ (l : List InputLine). AllZip IsLine l (lines ++ line ∷ [])) (sym (map_push authority cas octets))
-    (zip_more IsLine (map authority cas) lines (authority octets) line spelled is)
+    (zip_more IsLine (map authority cas) lines (authority octets) line encoded is)

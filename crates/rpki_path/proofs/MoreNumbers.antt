@@ -1,7 +1,7 @@
 -- Members that pass on more hold more.
 use Rattle.std.proofs.Common.{◌≤◌, ℕ, arith}
 use Rattle.rpki_cert.specs.Certificates.{CertFields}
-use Rattle.rpki_cert.specs.Verification.{HeldLine}
+use Rattle.rpki_cert.specs.Verification.{HeldCheck}
 use Rattle.rpki_cert.specs.declared.verification_error.VerificationError.{VerificationError}
 use Rattle.rpki_cert.specs.declared.verification_error.VerificationError.TheVariants.{NotYetValid, Expired, InheritedV4, InheritedV6, InheritedAs, MissingKeyId, WrongKeyId, MissingIssuerUri, BadSignature, OverclaimV4, OverclaimV6, OverclaimAs, Memory}
 use Rattle.rpki_path.specs.Paths.{Path, last, NumberKind, v4_addresses, v6_addresses, system_numbers, greatest_number, Holds, HeldAt, PassesMore}
@@ -15,17 +15,17 @@ module _ (p q : Path) (more : PassesMore p q) (i : ℕ) (short : i ≤ last p) w
   }
 
   -- a check of overclaiming that is true under fewer numbers is true under more
-  pub lines_kept : (c : CertFields) (e : VerificationError) → HeldLine (HeldAt p i) c e → HeldLine (HeldAt q i) c e
-  lines_kept c NotYetValid l = l
-  lines_kept c Expired l = l
-  lines_kept c InheritedV4 l = l
-  lines_kept c InheritedV6 l = l
-  lines_kept c InheritedAs l = l
-  lines_kept c MissingKeyId l = l
-  lines_kept c WrongKeyId l = l
-  lines_kept c MissingIssuerUri l = l
-  lines_kept c BadSignature l = l
-  lines_kept c OverclaimV4 l = λ mode n small listed. holds_more v4_addresses n small (l mode n small listed)
-  lines_kept c OverclaimV6 l = λ mode n small listed. holds_more v6_addresses n small (l mode n small listed)
-  lines_kept c OverclaimAs l = λ mode n small listed. holds_more system_numbers n small (l mode n small listed)
-  lines_kept c Memory l = l
+  pub checks_kept : (c : CertFields) (e : VerificationError) → HeldCheck (HeldAt p i) c e → HeldCheck (HeldAt q i) c e
+  checks_kept c NotYetValid l = l
+  checks_kept c Expired l = l
+  checks_kept c InheritedV4 l = l
+  checks_kept c InheritedV6 l = l
+  checks_kept c InheritedAs l = l
+  checks_kept c MissingKeyId l = l
+  checks_kept c WrongKeyId l = l
+  checks_kept c MissingIssuerUri l = l
+  checks_kept c BadSignature l = l
+  checks_kept c OverclaimV4 l = λ mode n small listed. holds_more v4_addresses n small (l mode n small listed)
+  checks_kept c OverclaimV6 l = λ mode n small listed. holds_more v6_addresses n small (l mode n small listed)
+  checks_kept c OverclaimAs l = λ mode n small listed. holds_more system_numbers n small (l mode n small listed)
+  checks_kept c Memory l = l

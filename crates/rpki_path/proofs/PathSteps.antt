@@ -10,7 +10,7 @@ use Rattle.rpki_cert.specs.declared.inspect.Kind.TheVariants.{Authority}
 use Rattle.rpki_path.specs.declared.path_fault.PathError.{PathError}
 use Rattle.rpki_path.specs.Paths.{Asked, ask, IsAccepted, Finds, IsFault}
 use Rattle.rpki_path.specs.Paths.Steps.{IsIssuedBy, demand_under}
-use Rattle.rpki_path.proofs.GoodPaths.{one_more}
+use Rattle.rpki_path.proofs.ValidPaths.{one_more}
 use Rattle.rpki_path.proofs.Refusals.{fault_there}
 
 parts : {X : Type 0} (xs : List X) (i : ℕ) (d : X) → i < length xs → xs ≡ take i xs ++ get_or xs i d ∷ drop (i + 1) xs

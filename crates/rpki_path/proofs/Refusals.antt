@@ -1,4 +1,4 @@
--- Strings that begin with other members than a good path has.
+-- Strings that begin with other members than a valid path has.
 use Rattle.std.specs.List.{AllZip}
 use Rattle.std.specs.Prelude.{Option, None}
 use Rattle.std.proofs.Common.{◌≡◌, ◌+◌, ◌<◌, ◌≤◌, ◌↔◌, ℕ, List, ◌∷◌, ◌++◌, length, refl, sym, ap, subst, ◌∙◌, inl, inr, arith}
@@ -8,21 +8,21 @@ use Rattle.rpki_parts.specs.Conditions.{IsFirstFalse}
 use Rattle.rpki_ext.specs.Kinds.{Means}
 use Rattle.rpki_cert.specs.Certificates.{CertFields, IsCertificate}
 use Rattle.rpki_cert.specs.Profiles.{MeetsProfile, Lacks, faults}
-use Rattle.rpki_cert.specs.Verification.{Context, LineUnder, issued_lines, IsVerified, ResourceFields}
-use Rattle.rpki_cert.proofs.Lines.{all_map, first_map, first_not_all}
+use Rattle.rpki_cert.specs.Verification.{Context, CheckUnder, issued_checks, IsVerified, ResourceFields}
+use Rattle.rpki_cert.proofs.Checks.{all_map, first_map, first_not_all}
 use Rattle.rpki_cert.specs.declared.inspect.Kind.{Kind}
 use Rattle.rpki_cert.specs.declared.verification_error.VerificationError.{VerificationError}
-use Rattle.rpki_crl.specs.Revocation.{revocation_lines}
+use Rattle.rpki_crl.specs.Revocation.{revocation_checks}
 use Rattle.rpki_crl.specs.Stores.{Stored}
 use Rattle.rpki_crl.specs.declared.revocation_error.RevocationError.{RevocationError}
 use Rattle.rpki_der.proofs.Formats.{one_meant}
 use Rattle.rpki_path.specs.declared.path_fault.PathFault.{PathFault}
 use Rattle.rpki_path.specs.declared.path_fault.PathFault.TheVariants.{Decode, Inspect, Verify, Revocation, Memory}
 use Rattle.rpki_path.specs.declared.path_fault.PathError.{PathError}
-use Rattle.rpki_path.specs.Paths.{Member, Path, last, certificate_at, LineBelow, AskedLine, AskedBelow, IsUnrevokedIfAsked, IsGoodPath, Asked, ask, IsMember, IsPathOf, IsAccepted, IsNoGoodPath, UnlessMemory, Demand, anchor_demand, demand_below, Finds, IsFaultOfAnchor, IsFaultBelow, IsFault, IsUnasked}
+use Rattle.rpki_path.specs.Paths.{Member, Path, last, certificate_at, CheckBelow, AskedCheck, AskedBelow, IsUnrevokedIfAsked, IsValidPath, Asked, ask, IsMember, IsPathOf, IsAccepted, IsNoValidPath, UnlessMemory, Demand, anchor_demand, demand_below, Finds, IsFaultOfAnchor, IsFaultBelow, IsFault, IsUnasked}
 use Rattle.rpki_path.specs.Paths.Steps.{demand_under}
 use Rattle.rpki_path.proofs.LongerPaths.{extended, above, there, Parted, parted, zip_one, all_at}
-use Rattle.rpki_path.proofs.GoodPaths.{unasked_lines, unrevoked_asked, line_last, line_above}
+use Rattle.rpki_path.proofs.ValidPaths.{unasked_checks, unrevoked_asked, check_last, check_above}
 
 -- ---- the members that strings begin with
 
@@ -49,34 +49,34 @@ module _ (law : IsUnambiguous IsCertificate) where
 -- ---- what a step finds
 
 -- by equivalent checks the same is found
-finds_map : (x : Context) (kind : Kind) (line other : CertFields → VerificationError → Type 0) (lines : List VerificationError) (asked next : CertFields → RevocationError → Type 0) (octets : List ℕ) (e : PathFault)
-    → ((c : CertFields) (l : VerificationError) → line c l ↔ other c l) → ((c : CertFields) (l : RevocationError) → asked c l ↔ next c l)
-    → Finds x (record { kind = kind; line = line; lines = lines; asked_line = asked }) octets e → Finds x (record { kind = kind; line = other; lines = lines; asked_line = next }) octets e
-finds_map x kind line other lines asked next octets (Decode e) same free h = h
-finds_map x kind line other lines asked next octets (Inspect e) same free h = h
-finds_map x kind line other lines asked next octets (Verify e) same free h = (h.0, h.1, (h.2.0, first_map (line h.0) (other h.0) lines e (same h.0) h.2.1))
-finds_map x kind line other lines asked next octets (Revocation e) same free h = record {
+finds_map : (x : Context) (kind : Kind) (check other : CertFields → VerificationError → Type 0) (checks : List VerificationError) (asked next : CertFields → RevocationError → Type 0) (octets : List ℕ) (e : PathFault)
+    → ((c : CertFields) (l : VerificationError) → check c l ↔ other c l) → ((c : CertFields) (l : RevocationError) → asked c l ↔ next c l)
+    → Finds x (record { kind = kind; check = check; checks = checks; asked_check = asked }) octets e → Finds x (record { kind = kind; check = other; checks = checks; asked_check = next }) octets e
+finds_map x kind check other checks asked next octets (Decode e) same free h = h
+finds_map x kind check other checks asked next octets (Inspect e) same free h = h
+finds_map x kind check other checks asked next octets (Verify e) same free h = (h.0, h.1, (h.2.0, first_map (check h.0) (other h.0) checks e (same h.0) h.2.1))
+finds_map x kind check other checks asked next octets (Revocation e) same free h = record {
   cert = h.cert;
   begins = h.begins;
   meets = h.meets;
-  verified = all_map (line h.cert) (other h.cert) lines (λ l. (same h.cert l).0) h.verified;
-  first = first_map (asked h.cert) (next h.cert) revocation_lines e (free h.cert) h.first;
+  verified = all_map (check h.cert) (other h.cert) checks (λ l. (same h.cert l).0) h.verified;
+  first = first_map (asked h.cert) (next h.cert) revocation_checks e (free h.cert) h.first;
 }
-finds_map x kind line other lines asked next octets Memory same free h = h
+finds_map x kind check other checks asked next octets Memory same free h = h
 
 module _ (x : Context) where
   -- where no lists are given, no fault is one of revocation
-  unasked_demand : (d : Demand) → ((c : CertFields) → IsVerified (d.asked_line c) revocation_lines) → (octets : List ℕ) (e : PathFault) → Finds x d octets e → IsUnasked e
+  unasked_demand : (d : Demand) → ((c : CertFields) → IsVerified (d.asked_check c) revocation_checks) → (octets : List ℕ) (e : PathFault) → Finds x d octets e → IsUnasked e
   unasked_demand d all octets (Decode e) h = tt
   unasked_demand d all octets (Inspect e) h = tt
   unasked_demand d all octets (Verify e) h = tt
-  unasked_demand d all octets (Revocation e) h = first_not_all (d.asked_line h.cert) revocation_lines e h.first (all h.cert)
+  unasked_demand d all octets (Revocation e) h = first_not_all (d.asked_check h.cert) revocation_checks e h.first (all h.cert)
   unasked_demand d all octets Memory h = tt
 
   -- without revocation lists no fault is one of revocation
   pub unasked : (anchor : List ℕ) (below : List Asked) (e : PathError) → IsFault x None anchor below e → IsUnasked e.fault
-  unasked anchor below e (inl h) = unasked_demand (anchor_demand x) (λ c. unasked_lines revocation_lines) anchor e.fault h.fault_is
-  unasked anchor below e (inr h) = unasked_demand (demand_below x None h.path (last h.path) h.there.kind) (λ c. unasked_lines revocation_lines) h.there.octets e.fault h.fault_is
+  unasked anchor below e (inl h) = unasked_demand (anchor_demand x) (λ c. unasked_checks revocation_checks) anchor e.fault h.fault_is
+  unasked anchor below e (inr h) = unasked_demand (demand_below x None h.path (last h.path) h.there.kind) (λ c. unasked_checks revocation_checks) h.there.octets e.fault h.fault_is
 
 module _ (x : Context) (lists : Option (List Stored)) where
   -- ---- errors
@@ -85,8 +85,8 @@ module _ (x : Context) (lists : Option (List Stored)) where
   pub fault_there : (anchor : List ℕ) (before : List Asked) (kind : Kind) (octets : List ℕ) (after : List Asked) (tal : List ℕ) (issuer : ResourceFields) → IsAccepted x lists anchor before tal issuer → (e : PathError) → e.index ≡ length before + 1 → Finds x (demand_under x lists issuer kind) octets e.fault → IsFault x lists anchor (before ++ ask kind octets ∷ after) e
   fault_there anchor before kind octets after tal issuer a e at found =
       let p = a.path in
-      let asked_same : (c : CertFields) (l : RevocationError) → AskedLine x lists issuer.cert.fields c l ↔ AskedBelow x lists p (last p) c l =
-      λ c l. subst (λ (d : CertFields). AskedLine x lists issuer.cert.fields c l ↔ AskedLine x lists d.fields c l) a.held.cert_is ((λ h. h), (λ h. h)) in
+      let asked_same : (c : CertFields) (l : RevocationError) → AskedCheck x lists issuer.cert.fields c l ↔ AskedBelow x lists p (last p) c l =
+      λ c l. subst (λ (d : CertFields). AskedCheck x lists issuer.cert.fields c l ↔ AskedCheck x lists d.fields c l) a.held.cert_is ((λ h. h), (λ h. h)) in
       inr (record {
         before = before;
         there = ask kind octets;
@@ -96,7 +96,7 @@ module _ (x : Context) (lists : Option (List Stored)) where
         path_of = a.path_of;
         good = a.good;
         index_is = at;
-        fault_is = finds_map x kind (LineUnder x issuer) (LineBelow x p (last p)) issued_lines (AskedLine x lists issuer.cert.fields) (AskedBelow x lists p (last p)) octets e.fault (line_last x p tal issuer a.held) asked_same found;
+        fault_is = finds_map x kind (CheckUnder x issuer) (CheckBelow x p (last p)) issued_checks (AskedCheck x lists issuer.cert.fields) (AskedBelow x lists p (last p)) octets e.fault (check_last x p tal issuer a.held) asked_same found;
       })
 
   -- it is one of more strings
@@ -118,29 +118,29 @@ module _ (x : Context) (lists : Option (List Stored)) where
 
   module _ (law : IsUnambiguous IsCertificate) where
     -- what is found of a string doesn't fit a certificate that it begins with
-    found_against : (d : Demand) (octets : List ℕ) (e : PathFault) → Finds x d octets e → (c : CertFields) → Means IsCertificate c octets → MeetsProfile d.kind x.strict c → IsVerified (d.line c) d.lines → IsVerified (d.asked_line c) revocation_lines → UnlessMemory e ⊥
+    found_against : (d : Demand) (octets : List ℕ) (e : PathFault) → Finds x d octets e → (c : CertFields) → Means IsCertificate c octets → MeetsProfile d.kind x.strict c → IsVerified (d.check c) d.checks → IsVerified (d.asked_check c) revocation_checks → UnlessMemory e ⊥
     found_against d octets (Decode e) h c m meets all free = h.1 c m
     found_against d octets (Inspect e) h c m meets all free =
         let same = one_certificate law h.0 c octets h.1 m in
         first_not_all (Lacks d.kind x.strict c) (faults d.kind) e (subst (λ (b : CertFields). IsFirstFalse (Lacks d.kind x.strict b) (faults d.kind) e) same h.2) meets
     found_against d octets (Verify e) h c m meets all free =
         let same = one_certificate law h.0 c octets h.1 m in
-        first_not_all (d.line c) d.lines e (subst (λ (b : CertFields). IsFirstFalse (d.line b) d.lines e) same h.2.1) all
+        first_not_all (d.check c) d.checks e (subst (λ (b : CertFields). IsFirstFalse (d.check b) d.checks e) same h.2.1) all
     found_against d octets (Revocation e) h c m meets all free =
         let same = one_certificate law h.cert c octets h.begins m in
-        first_not_all (d.asked_line c) revocation_lines e (subst (λ (b : CertFields). IsFirstFalse (d.asked_line b) revocation_lines e) same h.first) free
+        first_not_all (d.asked_check c) revocation_checks e (subst (λ (b : CertFields). IsFirstFalse (d.asked_check b) revocation_checks e) same h.first) free
     found_against d octets Memory h c m meets all free = tt
 
     -- a refusal that holds of each path
-    for_each : (e : PathFault) (anchor : List ℕ) (below : List Asked) → ((p : Path) → IsPathOf anchor below p → IsGoodPath x lists p → UnlessMemory e ⊥) → UnlessMemory e (IsNoGoodPath x lists anchor below)
+    for_each : (e : PathFault) (anchor : List ℕ) (below : List Asked) → ((p : Path) → IsPathOf anchor below p → IsValidPath x lists p → UnlessMemory e ⊥) → UnlessMemory e (IsNoValidPath x lists anchor below)
     for_each (Decode e) anchor below h = h
     for_each (Inspect e) anchor below h = h
     for_each (Verify e) anchor below h = h
     for_each (Revocation e) anchor below h = h
     for_each Memory anchor below h = tt
 
-    no_anchor : (anchor : List ℕ) (below : List Asked) (e : PathError) → IsFaultOfAnchor x anchor e → (p : Path) → IsPathOf anchor below p → IsGoodPath x lists p → UnlessMemory e.fault ⊥
-    no_anchor anchor below e h p of good = found_against (anchor_demand x) anchor e.fault h.fault_is p.anchor of.anchor_begins good.anchor_meets good.anchor_verified (unasked_lines revocation_lines)
+    no_anchor : (anchor : List ℕ) (below : List Asked) (e : PathError) → IsFaultOfAnchor x anchor e → (p : Path) → IsPathOf anchor below p → IsValidPath x lists p → UnlessMemory e.fault ⊥
+    no_anchor anchor below e h p of good = found_against (anchor_demand x) anchor e.fault h.fault_is p.anchor of.anchor_begins good.anchor_meets good.anchor_verified (unasked_checks revocation_checks)
 
     module _ (anchor : List ℕ) (below : List Asked) (e : PathError) (h : IsFaultBelow x lists anchor below e) (p : Path) (of : IsPathOf anchor below p) where
       split : Parted IsMember p.below h.before h.there
@@ -155,24 +155,24 @@ module _ (x : Context) (lists : Option (List Stored)) where
           let first : p ≡ record { anchor = h.path.anchor; below = p.below } = ap (λ (c : CertFields). let y : Path = record { anchor = c; below = p.below } in y) anchors in
           first ∙ ap (λ (l : List Member). let y : Path = record { anchor = h.path.anchor; below = l } in y) belows
 
-      no_member : IsGoodPath x lists p → UnlessMemory e.fault ⊥
+      no_member : IsValidPath x lists p → UnlessMemory e.fault ⊥
       no_member good =
           let q = h.path in
           let m = split.item in
           let all = extended q m split.more in
-          let longer : IsGoodPath x lists all = subst (λ (y : Path). IsGoodPath x lists y) goes_on good in
+          let longer : IsValidPath x lists all = subst (λ (y : Path). IsValidPath x lists y) goes_on good in
           let low : last q < last all = omega (arith, length-append q.below (m ∷ split.more)) in
           let same : last q ≤ last q = omega arith in
           let meets : MeetsProfile m.kind x.strict m.cert = all_at (λ (y : Member). MeetsProfile y.kind x.strict y.cert) q.below m split.more longer.members_meet in
-          let verified : IsVerified (LineBelow x all (last q) m.cert) issued_lines = subst (λ (c : CertFields). IsVerified (LineBelow x all (last q) c) issued_lines) (there q m split.more) (longer.members_verified (last q) low) in
-          let lines : IsVerified (LineBelow x q (last q) m.cert) issued_lines = all_map (LineBelow x all (last q) m.cert) (LineBelow x q (last q) m.cert) issued_lines (λ l. (line_above x q m split.more (last q) same m.cert l).1) verified in
+          let verified : IsVerified (CheckBelow x all (last q) m.cert) issued_checks = subst (λ (c : CertFields). IsVerified (CheckBelow x all (last q) c) issued_checks) (there q m split.more) (longer.members_verified (last q) low) in
+          let checks : IsVerified (CheckBelow x q (last q) m.cert) issued_checks = all_map (CheckBelow x all (last q) m.cert) (CheckBelow x q (last q) m.cert) issued_checks (λ l. (check_above x q m split.more (last q) same m.cert l).1) verified in
           let unrevoked : IsUnrevokedIfAsked x lists (certificate_at all (last q)).fields m.cert = subst (λ (c : CertFields). IsUnrevokedIfAsked x lists (certificate_at all (last q)).fields c) (there q m split.more) (longer.members_unrevoked (last q) low) in
           let under : IsUnrevokedIfAsked x lists (certificate_at q (last q)).fields m.cert = subst (λ (c : CertFields). IsUnrevokedIfAsked x lists c.fields m.cert) (above q m split.more (last q) same) unrevoked in
-          let free : IsVerified (AskedBelow x lists q (last q) m.cert) revocation_lines = (unrevoked_asked x lists (certificate_at q (last q)).fields m.cert).1 under in
+          let free : IsVerified (AskedBelow x lists q (last q) m.cert) revocation_checks = (unrevoked_asked x lists (certificate_at q (last q)).fields m.cert).1 under in
           let kind_is : m.kind ≡ h.there.kind = split.items.kind_is in
-          found_against (demand_below x lists q (last q) h.there.kind) h.there.octets e.fault h.fault_is m.cert split.items.begins (subst (λ (k : Kind). MeetsProfile k x.strict m.cert) kind_is meets) lines free
+          found_against (demand_below x lists q (last q) h.there.kind) h.there.octets e.fault h.fault_is m.cert split.items.begins (subst (λ (k : Kind). MeetsProfile k x.strict m.cert) kind_is meets) checks free
 
     -- a fault says that the strings are no valid path, unless it ran out of memory
-    pub no_good_path : (anchor : List ℕ) (below : List Asked) (e : PathError) → IsFault x lists anchor below e → UnlessMemory e.fault (IsNoGoodPath x lists anchor below)
-    no_good_path anchor below e (inl h) = for_each e.fault anchor below (no_anchor anchor below e h)
-    no_good_path anchor below e (inr h) = for_each e.fault anchor below (no_member anchor below e h)
+    pub no_valid_path : (anchor : List ℕ) (below : List Asked) (e : PathError) → IsFault x lists anchor below e → UnlessMemory e.fault (IsNoValidPath x lists anchor below)
+    no_valid_path anchor below e (inl h) = for_each e.fault anchor below (no_anchor anchor below e h)
+    no_valid_path anchor below e (inr h) = for_each e.fault anchor below (no_member anchor below e h)

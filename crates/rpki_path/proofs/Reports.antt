@@ -14,7 +14,7 @@ use Rattle.rpki_path.specs.declared.report.Report.{Report}
 use Rattle.rpki_path.specs.declared.path_fault.PathError.{PathError}
 use Rattle.rpki_path.specs.declared.path_fault.PathFault.{PathFault}
 use Rattle.rpki_path.specs.declared.path_fault.PathFault.TheVariants as fault
-use Rattle.rpki_path.specs.Paths.{IsAccepted, IsFault, IsNoGoodPath}
+use Rattle.rpki_path.specs.Paths.{IsAccepted, IsFault, IsNoValidPath}
 use Rattle.rpki_path.specs.Paths as paths
 use Rattle.rpki_path.specs.PrintedSets.{v4_end, v6_end, ranges, worded}
 use Rattle.rpki_path.specs.Program.{PathQuestion, question_context, asked_below, decode_faults, printed, IsToldBy, PrintsFault, SaysOfList, SaysOfPath}
@@ -104,7 +104,7 @@ not_memory (fault.Revocation e) stage name t h = h
 not_memory fault.Memory stage name t h = absurd t
 
 -- a report that prints the fault of a rejected path says what the program has to say
-pub path_wrong : {E : Type 0} (q : PathQuestion) (e : PathError) (r : Result Report E) → paths.UnlessMemory e.fault (IsNoGoodPath (question_context q) None q.anchor_octets (asked_below q)) → IsFault (question_context q) None q.anchor_octets (asked_below q) e
+pub path_wrong : {E : Type 0} (q : PathQuestion) (e : PathError) (r : Result Report E) → paths.UnlessMemory e.fault (IsNoValidPath (question_context q) None q.anchor_octets (asked_below q)) → IsFault (question_context q) None q.anchor_octets (asked_below q) e
     → IfOk r (λ report. report.status ≡ status.Refused) → IfOk r (λ report. PrintsFault e (string_bytes report.text)) → IfOk r (λ report. SaysOfPath q (string_bytes report.text) report.status)
 path_wrong q e (Ok report) none is s prints =
     subst (λ (x : Status). SaysOfPath q (string_bytes report.text) x) (sym s) (not_memory e.fault prints.stage prints.name prints.told none, e, is, prints)

@@ -5,7 +5,7 @@ use Rattle.std.proofs.lemmas.List.{append-nil}
 use Rattle.rpki_der.specs.Tags.{SEQUENCE}
 use Rattle.rpki_der.specs.declared.error.DecodeError.{DecodeError}
 use Rattle.rpki_der.specs.Place.{Refuses, MeansOrMemory}
-use Rattle.rpki_der.specs.Spelling.{BeginsOrAbsent}
+use Rattle.rpki_der.specs.Encoding.{BeginsOrAbsent}
 use Rattle.rpki_der.proofs.Answering.{refuses, certainly}
 use Rattle.rpki_crl.specs.RevokedEntries.{IsRevokedCertificates, Revoked}
 
@@ -13,7 +13,7 @@ abbrev Begins : List ℕ → Revoked → List ℕ → Type 0
 Begins = BeginsOrAbsent SEQUENCE IsRevokedCertificates
 
 whole_begins : (octets : List ℕ) (r : Revoked) → IsRevokedCertificates r octets → Begins octets r []
-whole_begins octets r is = record { text = octets; spelled = is; parts = sym (append-nil octets); absent = λ none. rw none tt }
+whole_begins octets r is = record { text = octets; encoded = is; parts = sym (append-nil octets); absent = λ none. rw none tt }
 
 -- an error where no list begins the octets is a true answer on the whole of them
 pub list_refused : (octets : List ℕ) (result : Result Revoked DecodeError) (d : DecodeError) → result ≡ Err d

@@ -12,13 +12,13 @@ use Rattle.rpki_ext.specs.Kinds.{Means}
 use Rattle.rpki_cert.specs.Certificates.{TbsFields, CertFields, IsCertificate}
 use Rattle.rpki_cert.specs.Profiles.{MeetsProfile}
 use Rattle.rpki_cert.specs.Validation.{IsInvalid}
-use Rattle.rpki_cert.specs.Verification.{Context, Held, Line, AnchorLine, anchor_lines, issued_lines, IsVerified, ResourceFields}
+use Rattle.rpki_cert.specs.Verification.{Context, Held, Check, AnchorCheck, anchor_checks, issued_checks, IsVerified, ResourceFields}
 use Rattle.rpki_cert.specs.declared.inspect.Kind.{Kind}
 use Rattle.rpki_cert.specs.declared.inspect.Kind.TheVariants.{Anchor, Authority, EndEntity, Detached}
 use Rattle.rpki_cert.specs.declared.validation_error.ValidationError.{ValidationError}
 use Rattle.rpki_cert.specs.declared.validation_error.ValidationError.TheVariants.{Inspection, Verification}
 use Rattle.rpki_cert.specs.declared.verification_error.VerificationError.{VerificationError}
-use Rattle.rpki_crl.specs.Revocation.{CertRevocationLine, IsUnrevoked, revocation_lines}
+use Rattle.rpki_crl.specs.Revocation.{CertRevocationCheck, IsUnrevoked, revocation_checks}
 use Rattle.rpki_crl.specs.Stores.{Stored}
 use Rattle.rpki_crl.specs.declared.revocation_error.RevocationError.{RevocationError}
 use Rattle.rpki_path.specs.declared.path_fault.PathFault.{PathFault}
@@ -91,31 +91,31 @@ HeldAt p i = record { v4 = Holds p i v4_addresses; v6 = Holds p i v6_addresses; 
 -- ---- valid paths
 
 -- the checks of a certificate that the member at place i issued
-abbrev pub LineBelow : Context → Path → ℕ → CertFields → VerificationError → Type 0
-LineBelow x p i c = Line x (certificate_at p i).fields (HeldAt p i) c
+abbrev pub CheckBelow : Context → Path → ℕ → CertFields → VerificationError → Type 0
+CheckBelow x p i c = Check x (certificate_at p i).fields (HeldAt p i) c
 
 -- where lists are given, the checks that they are asked for a certificate below this issuer
-abbrev pub AskedLine : Context → Option (List Stored) → TbsFields → CertFields → RevocationError → Type 0
-AskedLine x None issuer c e = Unit {0}
-AskedLine x (Some lists) issuer c e = CertRevocationLine x lists issuer c e
+abbrev pub AskedCheck : Context → Option (List Stored) → TbsFields → CertFields → RevocationError → Type 0
+AskedCheck x None issuer c e = Unit {0}
+AskedCheck x (Some lists) issuer c e = CertRevocationCheck x lists issuer c e
 
 -- where lists are given, the checks that they are asked for a certificate below the member at place
 -- i
 abbrev pub AskedBelow : Context → Option (List Stored) → Path → ℕ → CertFields → RevocationError → Type 0
-AskedBelow x lists p i c = AskedLine x lists (certificate_at p i).fields c
+AskedBelow x lists p i c = AskedCheck x lists (certificate_at p i).fields c
 
 -- where lists are given, they leave the certificate unrevoked below this issuer
 abbrev pub IsUnrevokedIfAsked : Context → Option (List Stored) → TbsFields → CertFields → Type 0
 IsUnrevokedIfAsked x None issuer c = Unit {0}
 IsUnrevokedIfAsked x (Some lists) issuer c = IsUnrevoked x lists issuer c
 
--- every member meets the profile of its kind, the anchor's lines are true of itself, and those of each later member under the one above it;
+-- every member meets the profile of its kind, the anchor's checks are true of itself, and those of each later member under the one above it;
 -- where lists are given, none of the later members is revoked
-pub record IsGoodPath (x : Context) (lists : Option (List Stored)) (p : Path) : Type 0 where
+pub record IsValidPath (x : Context) (lists : Option (List Stored)) (p : Path) : Type 0 where
   pub anchor_meets : MeetsProfile Anchor x.strict p.anchor
   pub members_meet : AllByRecursion (λ m. MeetsProfile m.kind x.strict m.cert) p.below
-  pub anchor_verified : IsVerified (AnchorLine x p.anchor) anchor_lines
-  pub members_verified : (i : ℕ) → i < last p → IsVerified (LineBelow x p i (certificate_at p (i + 1))) issued_lines
+  pub anchor_verified : IsVerified (AnchorCheck x p.anchor) anchor_checks
+  pub members_verified : (i : ℕ) → i < last p → IsVerified (CheckBelow x p i (certificate_at p (i + 1))) issued_checks
   pub members_unrevoked : (i : ℕ) → i < last p → IsUnrevokedIfAsked x lists (certificate_at p i).fields (certificate_at p (i + 1))
 
 -- ---- strings
@@ -164,12 +164,12 @@ pub record HasHeld (p : Path) (tal : List ℕ) (r : ResourceFields) : Type 0 whe
 pub record IsAccepted (x : Context) (lists : Option (List Stored)) (anchor : List ℕ) (below : List Asked) (tal : List ℕ) (r : ResourceFields) : Type 0 where
   pub path : Path
   pub path_of : IsPathOf anchor below path
-  pub good : IsGoodPath x lists path
+  pub good : IsValidPath x lists path
   pub held : HasHeld path tal r
 
 -- they are none
-abbrev pub IsNoGoodPath : Context → Option (List Stored) → List ℕ → List Asked → Type 0
-IsNoGoodPath x lists anchor below = (p : Path) → IsPathOf anchor below p → IsGoodPath x lists p → ⊥
+abbrev pub IsNoValidPath : Context → Option (List Stored) → List ℕ → List Asked → Type 0
+IsNoValidPath x lists anchor below = (p : Path) → IsPathOf anchor below p → IsValidPath x lists p → ⊥
 
 -- what `out of memory` may stand in place of
 abbrev pub UnlessMemory : PathFault → Type 0 → Type 0
@@ -180,28 +180,28 @@ UnlessMemory _ P = P
 -- out of memory
 abbrev pub Validates : Context → Option (List Stored) → List ℕ → List Asked → List ℕ → Result ResourceFields PathError → Type 0
 Validates x lists anchor below tal (Ok r) = IsAccepted x lists anchor below tal r
-Validates x lists anchor below tal (Err e) = UnlessMemory e.fault (IsNoGoodPath x lists anchor below)
+Validates x lists anchor below tal (Err e) = UnlessMemory e.fault (IsNoValidPath x lists anchor below)
 
 -- what is asked of a certificate: its kind, with the profile, the checks that are verified, and
 -- then those of revocation lists
 pub record Demand : Type 1 where
   pub kind : Kind
-  pub line : CertFields → VerificationError → Type 0
-  pub lines : List VerificationError
-  pub asked_line : CertFields → RevocationError → Type 0
+  pub check : CertFields → VerificationError → Type 0
+  pub checks : List VerificationError
+  pub asked_check : CertFields → RevocationError → Type 0
 
 -- of an anchor, for which no lists are asked
 abbrev pub anchor_demand : Context → Demand
-anchor_demand x = record { kind = Anchor; line = AnchorLine x; lines = anchor_lines; asked_line = λ c e. Unit {0} }
+anchor_demand x = record { kind = Anchor; check = AnchorCheck x; checks = anchor_checks; asked_check = λ c e. Unit {0} }
 
 -- of a member of this kind below the member at place i
 abbrev pub demand_below : Context → Option (List Stored) → Path → ℕ → Kind → Demand
-demand_below x lists p i kind = record { kind = kind; line = LineBelow x p i; lines = issued_lines; asked_line = AskedBelow x lists p i }
+demand_below x lists p i kind = record { kind = kind; check = CheckBelow x p i; checks = issued_checks; asked_check = AskedBelow x lists p i }
 
 -- the string begins with a certificate, which isn't valid as one of the kind, and this is why
 abbrev pub BeginsInvalid : Context → Demand → List ℕ → ValidationError → Type 0
 BeginsInvalid x d octets e =
-    (c : CertFields) × Means IsCertificate c octets × IsInvalid d.kind x.strict c (IsFirstFalse (d.line c) d.lines) e
+    (c : CertFields) × Means IsCertificate c octets × IsInvalid d.kind x.strict c (IsFirstFalse (d.check c) d.checks) e
 
 -- the string begins with a certificate, which is valid, and this is the first of its checks of
 -- revocation lists that isn't true
@@ -209,8 +209,8 @@ pub record BeginsRevoked (x : Context) (d : Demand) (octets : List ℕ) (e : Rev
   pub cert : CertFields
   pub begins : Means IsCertificate cert octets
   pub meets : MeetsProfile d.kind x.strict cert
-  pub verified : IsVerified (d.line cert) d.lines
-  pub first : IsFirstFalse (d.asked_line cert) revocation_lines e
+  pub verified : IsVerified (d.check cert) d.checks
+  pub first : IsFirstFalse (d.asked_check cert) revocation_checks e
 
 -- what a fault says of a string of which this is asked
 abbrev pub Finds : Context → Demand → List ℕ → PathFault → Type 0
@@ -233,7 +233,7 @@ pub record IsFaultBelow (x : Context) (lists : Option (List Stored)) (anchor : L
   pub parts : below ≡ before ++ there ∷ after
   pub path : Path
   pub path_of : IsPathOf anchor before path
-  pub good : IsGoodPath x lists path
+  pub good : IsValidPath x lists path
   pub index_is : e.index ≡ length before + 1
   pub fault_is : Finds x (demand_below x lists path (last path) there.kind) there.octets e.fault
 

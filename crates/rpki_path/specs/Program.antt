@@ -14,7 +14,7 @@ use Rattle.rpki_path.specs.declared.running.Status.{Status}
 use Rattle.rpki_path.specs.declared.running.Status.TheVariants.{Done, Refused, BadInput}
 use Rattle.rpki_path.specs.declared.validating.Leaf.{Leaf}
 use Rattle.rpki_path.specs.InputLines.{InputLine, seeks, at_moment, strictness, anchor, authority, end_entity, IsLine}
-use Rattle.rpki_path.specs.Paths.{Path, Holds, v4_addresses, v6_addresses, system_numbers, asked, Asked, IsPathOf, IsGoodPath, IsNoGoodPath, IsFault}
+use Rattle.rpki_path.specs.Paths.{Path, Holds, v4_addresses, v6_addresses, system_numbers, asked, Asked, IsPathOf, IsValidPath, IsNoValidPath, IsFault}
 use Rattle.rpki_path.specs.Paths as paths
 use Rattle.rpki_path.specs.PrintedSets.{v4_end, v6_end, IsSetLine}
 use Rattle.rpki_path.specs.TextLines.{line_end, AreLines}
@@ -33,7 +33,7 @@ pub record PathQuestion : Type 0 where
 -- are a valid path
 pub data Question : Type 0 where
   is_revoked : List ℕ → ℕ → Question
-  is_good_path : PathQuestion → Question
+  is_valid_path : PathQuestion → Question
 
 -- what the line of the leaf tells, if there is one
 abbrev pub leaf_lines : Option Leaf → List InputLine
@@ -43,7 +43,7 @@ leaf_lines (Some leaf) = end_entity leaf ∷ []
 -- what the lines of an input tell
 abbrev pub lines_of : Question → List InputLine
 lines_of (is_revoked list serial) = seeks list serial ∷ []
-lines_of (is_good_path q) =
+lines_of (is_valid_path q) =
     at_moment q.now ∷ strictness q.strict ∷ anchor q.anchor_octets ∷ map authority q.authorities ++ leaf_lines q.leaf
 
 -- the lines ask this
@@ -139,16 +139,16 @@ question_context q = context IsStandInSignature q.now q.strict
 -- first fault
 abbrev pub SaysOfPath : PathQuestion → List ℕ → Status → Type 0
 SaysOfPath q output Done =
-    (p : Path) × IsPathOf q.anchor_octets (asked_below q) p × IsGoodPath (question_context q) None p × PrintsHeld p output
+    (p : Path) × IsPathOf q.anchor_octets (asked_below q) p × IsValidPath (question_context q) None p × PrintsHeld p output
 SaysOfPath q output Refused =
-    IsNoGoodPath (question_context q) None q.anchor_octets (asked_below q)
+    IsNoValidPath (question_context q) None q.anchor_octets (asked_below q)
     × (e : PathError) × IsFault (question_context q) None q.anchor_octets (asked_below q) e × PrintsFault e output
 SaysOfPath q output BadInput = ⊥
 
 -- the answer to a question
 abbrev pub SaysOf : Question → List ℕ → Status → Type 0
 SaysOf (is_revoked list serial) output status = SaysOfList list serial output status
-SaysOf (is_good_path q) output status = SaysOfPath q output status
+SaysOf (is_valid_path q) output status = SaysOfPath q output status
 
 -- that the input doesn't fit, and where
 abbrev pub SaysBadInput : List (List ℕ) → List ℕ → Status → Type 0

@@ -8,7 +8,7 @@ use Rattle.rpki_path.specs.declared.input.Input.{Input}
 use Rattle.rpki_path.specs.declared.input.Input.TheVariants.{Revoked, Path, Bad}
 use Rattle.rpki_path.specs.InputLines.{InputLine, authority, end_entity}
 use Rattle.rpki_path.specs.TextLines.{line_end, IsWithout, AreLines}
-use Rattle.rpki_path.specs.Program.{Question, is_revoked, is_good_path, Ask, IsBadLine}
+use Rattle.rpki_path.specs.Program.{Question, is_revoked, is_valid_path, Ask, IsBadLine}
 use Rattle.rpki_path.specs.Program as program
 
 -- the first line of a text, and what follows its end
@@ -33,7 +33,7 @@ path_question q = record { now = q.now; strict = q.strict; anchor_octets = q.anc
 -- what lines are read as
 abbrev pub AreReadAs : Input → List (List ℕ) → Type 0
 AreReadAs (Revoked q) lines = Ask (revoked_question q) lines
-AreReadAs (Path q) lines = Ask (is_good_path (path_question q)) lines
+AreReadAs (Path q) lines = Ask (is_valid_path (path_question q)) lines
 AreReadAs (Bad number) lines = IsBadLine number lines
 
 -- what a text is read as, where these lines stand before its own

@@ -1,17 +1,17 @@
-//! What the public clauses give together: an authority below the last member of a good path is issued.
+//! What the public clauses give together: an authority below the last member of a valid path is issued.
 ghost use Rattle.std.specs.Prelude.{◌≡◌, ◌^◌, ◌<◌, ℕ, List, length, Option, Ok, Err, IfOk, IfErr};
 ghost use Rattle.std.specs.List.{concat};
 ghost use Rattle.rpki_parts.specs.Signatures.{SignatureFields};
 ghost use Rattle.rpki_parts.specs.SignedDatas.{signed_pieces};
 ghost use Rattle.rpki_parts.specs.declared.signature.SigningError.{SigningError as Refusal};
 ghost use Rattle.rpki_parts.specs.declared.signature.SigningError.TheVariants.{Memory};
-ghost use Rattle.rpki_cert.specs.Certificates.{CanBeWritten, spelling};
+ghost use Rattle.rpki_cert.specs.Certificates.{CanBeWritten, encoding};
 ghost use Rattle.rpki_cert.specs.Issuing.{IsMemory, made_with};
 ghost use Rattle.rpki_cert.specs.Profiles.{MeetsProfile};
-ghost use Rattle.rpki_cert.specs.Verification.{context, LineUnder, IsVerified, issued_lines};
+ghost use Rattle.rpki_cert.specs.Verification.{context, CheckUnder, IsVerified, issued_checks};
 ghost use Rattle.rpki_cert.specs.declared.inspect.Kind.TheVariants.{Authority};
 ghost use Rattle.rpki_crl.specs.Stores.{Stored};
-ghost use Rattle.rpki_path.specs.Paths.{Path, member, longer, HasHeld, IsGoodPath, IsUnrevokedIfAsked};
+ghost use Rattle.rpki_path.specs.Paths.{Path, member, longer, HasHeld, IsValidPath, IsUnrevokedIfAsked};
 
 use crate::laws;
 use rpki_cert::{IssueCaError, ResourceCert, TbsCert, issue_ca};
@@ -19,10 +19,10 @@ use rpki_der::Time;
 use rpki_parts::{Signer, Verifier};
 use std::alloc::Global;
 
-/// Issues an authority below this issuer, where nothing but memory is in the way: the fields can be written, the signer refuses for want of memory
+/// Issues an authority below this issuer, where nothing but memory is in the way: the fields can be written, the signer refuses for out of memory
 /// alone, and with each signature that it may give the certificate isn't too long, and is valid below the issuer. The answer is then Ok or out of
-/// memory. Where the issuer is the last member of a good path, and no list that is asked revokes the new certificate, this is the last member of a
-/// good path that is longer by it, and has exactly what that path holds.
+/// memory. Where the issuer is the last member of a valid path, and no list that is asked revokes the new certificate, this is the last member of a
+/// valid path that is longer by it, and has exactly what that path holds.
 pub fn issue_below<S: Signer, V: Verifier>(
     alloc: Global,
     tbs: TbsCert,
@@ -35,23 +35,23 @@ pub fn issue_below<S: Signer, V: Verifier>(
 ) -> Result<ResourceCert, IssueCaError<S::Error>>
     requires written { CanBeWritten tbs }
     requires signs { (e : Refusal S.Error)
-        → S.signs signer.now key.now tbs.algorithm (spelling tbs) (Err e) → e ≡ Memory }
+        → S.signs signer.now key.now tbs.algorithm (encoding tbs) (Err e) → e ≡ Memory }
     requires fits { (s : SignatureFields)
-        → S.signs signer.now key.now tbs.algorithm (spelling tbs) (Ok s)
+        → S.signs signer.now key.now tbs.algorithm (encoding tbs) (Ok s)
         → length (concat (signed_pieces (made_with tbs s).signed_data)) < 2 ^ 32 }
     requires profile { (s : SignatureFields)
-        → S.signs signer.now key.now tbs.algorithm (spelling tbs) (Ok s)
+        → S.signs signer.now key.now tbs.algorithm (encoding tbs) (Ok s)
         → MeetsProfile Authority strict (made_with tbs s) }
-    requires lines { let x = context (V.verifies verifier.now) now strict in
+    requires checks { let x = context (V.verifies verifier.now) now strict in
         (s : SignatureFields)
-        → S.signs signer.now key.now tbs.algorithm (spelling tbs) (Ok s)
-        → IsVerified (LineUnder x issuer.now (made_with tbs s)) issued_lines }
+        → S.signs signer.now key.now tbs.algorithm (encoding tbs) (Ok s)
+        → IsVerified (CheckUnder x issuer.now (made_with tbs s)) issued_checks }
     ensures fields { IfOk result (λ r. r.cert.fields ≡ tbs) }
     ensures path { let x = context (V.verifies verifier.now) now strict in
         (lists : Option (List Stored)) (p : Path) (tal : List ℕ)
-        → IsGoodPath x lists p → HasHeld p tal issuer.now
+        → IsValidPath x lists p → HasHeld p tal issuer.now
         → IfOk result (λ r. IsUnrevokedIfAsked x lists issuer.now.cert.fields r.cert
-        → IsGoodPath x lists (longer p (member Authority r.cert))
+        → IsValidPath x lists (longer p (member Authority r.cert))
         × HasHeld (longer p (member Authority r.cert)) tal r) }
     ensures memory { IfErr result IsMemory }
 {

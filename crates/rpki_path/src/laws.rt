@@ -3,11 +3,11 @@ ghost use Rattle.std.specs.Prelude.{◌≡◌, ◌≤◌, ℕ, Bool, List, [], �
 ghost use Rattle.rpki_der.specs.Times.{Moment};
 ghost use Rattle.rpki_cert.specs.Certificates.{CertFields, IsCertificate};
 ghost use Rattle.rpki_cert.specs.Validation.{IsValidBelow};
-ghost use Rattle.rpki_cert.specs.Verification.{HeldLine, ResourceFields, context};
+ghost use Rattle.rpki_cert.specs.Verification.{HeldCheck, ResourceFields, context};
 ghost use Rattle.rpki_cert.specs.declared.inspect.Kind.{Kind};
 ghost use Rattle.rpki_cert.specs.declared.verification_error.VerificationError.{VerificationError};
 ghost use Rattle.rpki_crl.specs.Stores.{Stored};
-ghost use Rattle.rpki_path.specs.Paths.{member, longer, ask, HasHeld, IsGoodPath, IsAccepted, IsUnrevokedIfAsked};
+ghost use Rattle.rpki_path.specs.Paths.{member, longer, ask, HasHeld, IsValidPath, IsAccepted, IsUnrevokedIfAsked};
 ghost use Rattle.rpki_path.specs.Paths.{Path, last, NumberKind, greatest_number, Holds, HeldAt, Asked, IsPathOf, PassesMore};
 
 use rpki_cert::laws;
@@ -26,22 +26,22 @@ pub fn one_path()
 pub fn monotone()
     ensures holds { (p q : Path) → PassesMore p q → (i : ℕ) → i ≤ last p
         → (k : NumberKind) (n : ℕ) → n ≤ greatest_number k → Holds p i k n → Holds q i k n }
-    ensures lines { (p q : Path) → PassesMore p q → (i : ℕ) → i ≤ last p
+    ensures checks { (p q : Path) → PassesMore p q → (i : ℕ) → i ≤ last p
         → (c : CertFields) (e : VerificationError)
-        → HeldLine (HeldAt p i) c e → HeldLine (HeldAt q i) c e }
+        → HeldCheck (HeldAt p i) c e → HeldCheck (HeldAt q i) c e }
 {}
 
-/// Says that issuing goes on from a good path: what is valid below the last member, with what it gets of the numbers that this member has, is
-/// the last member of a good path that is longer by it, and has exactly what that path holds (`path`). So where strings are accepted, they and
+/// Says that issuing goes on from a valid path: what is valid below the last member, with what it gets of the numbers that this member has, is
+/// the last member of a valid path that is longer by it, and has exactly what that path holds (`path`). So where strings are accepted, they and
 /// the octets of the new certificate are accepted with what was issued (`strings`). The premises are what [`crate::validate_path`] and
 /// [`rpki_cert::issue_ca`] promise, and, where lists are given, what [`rpki_crl::CrlStore::check`] does.
 pub fn issued_below<V: Verifier>()
     ensures path { (verifier : V) (now : Moment) (strict : Bool) (lists : Option (List Stored))
         (p : Path) (tal : List ℕ) (issuer r : ResourceFields) (kind : Kind)
         → let x = context (V.verifies verifier) now strict in
-        IsGoodPath x lists p → HasHeld p tal issuer → IsValidBelow x issuer kind r.cert r
+        IsValidPath x lists p → HasHeld p tal issuer → IsValidBelow x issuer kind r.cert r
         → IsUnrevokedIfAsked x lists issuer.cert.fields r.cert
-        → IsGoodPath x lists (longer p (member kind r.cert))
+        → IsValidPath x lists (longer p (member kind r.cert))
         × HasHeld (longer p (member kind r.cert)) tal r }
     ensures strings { (verifier : V) (now : Moment) (strict : Bool) (lists : Option (List Stored))
         (anchor : List ℕ) (below : List Asked) (tal : List ℕ) (issuer r : ResourceFields)

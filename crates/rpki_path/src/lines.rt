@@ -71,7 +71,7 @@ fn split_words(line: &[u8]) -> Option<(&[u8], &[u8])>
 
 // The octets that hexadecimal digits encode.
 fn from_digits(alloc: Global, digits: &[u8]) -> Result<Option<Vec<u8>>, AllocError>
-    ensures spelled { IfOk result (λ found.
+    ensures encoded { IfOk result (λ found.
         IfSome found (λ octets. AreHexDigits octets.items digits.now)) }
     ensures none { IfOk result (λ found.
         IfNone found ((octets : List ℕ) → AreHexDigits octets digits.now → ⊥)) }
@@ -87,7 +87,7 @@ fn from_digits(alloc: Global, digits: &[u8]) -> Result<Option<Vec<u8>>, AllocErr
 
 // The octets that a word encodes.
 fn from_word(alloc: Global, word: &[u8]) -> Result<Option<Vec<u8>>, AllocError>
-    ensures spelled { IfOk result (λ found.
+    ensures encoded { IfOk result (λ found.
         IfSome found (λ octets. IsHexWord octets.items word.now)) }
     ensures none { IfOk result (λ found.
         IfNone found ((octets : List ℕ) → IsHexWord octets word.now → ⊥)) }
@@ -108,7 +108,7 @@ pub(crate) fn octets_behind(
     name: &[u8],
     line: &[u8],
 ) -> Result<Option<Bytes>, AllocError>
-    ensures spelled { IfOk result (λ found.
+    ensures encoded { IfOk result (λ found.
         IfSome found (λ octets. IsOctetsLine name.now octets line.now)) }
     ensures none { IfOk result (λ found.
         IfNone found ((octets : List ℕ) → IsOctetsLine name.now octets line.now → ⊥)) }

@@ -7,8 +7,8 @@ ghost use Rattle.rpki_cert.specs.Certificates.{IsCertificate};
 ghost use Rattle.rpki_cert.specs.Validation.{IsValidBelow, IsInvalidBelow};
 ghost use Rattle.rpki_cert.specs.Verification.{context};
 ghost use Rattle.rpki_cert.specs.declared.inspect.Kind.TheVariants.{Authority as authority};
-ghost use Rattle.rpki_crl.specs.Revocation.{revocation_lines};
-ghost use Rattle.rpki_path.specs.Paths.{ask, asked, anchor_demand, AskedLine, Finds, IsFault, IsAccepted, IsUnasked, Validates};
+ghost use Rattle.rpki_crl.specs.Revocation.{revocation_checks};
+ghost use Rattle.rpki_path.specs.Paths.{ask, asked, anchor_demand, AskedCheck, Finds, IsFault, IsAccepted, IsUnasked, Validates};
 ghost use Rattle.rpki_path.specs.Paths.Steps.{kind_of, IsUnread, IsAnchor, IsIssuedBy, demand_under};
 
 use crate::path_fault::{PathError, PathFault};
@@ -119,8 +119,8 @@ fn ask_lists<V: Verifier>(
     verifier: &V,
 ) -> Result<(), RevocationError>
     ensures { let x = context (V.verifies verifier.now) now strict in
-        Tests (AskedLine x (option_map (λ store. store.now.pairs) lists.entry) issuer.now.cert.fields cert.now)
-        revocation_lines result }
+        Tests (AskedCheck x (option_map (λ store. store.now.pairs) lists.entry) issuer.now.cert.fields cert.now)
+        revocation_checks result }
 {
     let Some(store) = lists else {
         return Ok(());

@@ -1,4 +1,4 @@
-//! Makes one public call that may want memory, over a worked input, and prints what it answered and whether what
+//! Makes one public call that may allocate, over a worked input, and prints what it answered and whether what
 //! stands afterwards is what has to stand. `tests/refusals` runs it with each request for memory refused in turn.
 //!
 //! The argument is the call's public path, as `rpki_cert::Cert::take_from`, or `list`, which prints the paths of

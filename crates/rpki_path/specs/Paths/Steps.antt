@@ -4,7 +4,7 @@ use Rattle.rpki_der.specs.declared.error.DecodeError.TheVariants as decoding
 use Rattle.rpki_ext.specs.Kinds.{Means}
 use Rattle.rpki_cert.specs.Certificates.{CertFields, IsCertificate}
 use Rattle.rpki_cert.specs.Validation.{IsValidAnchor, IsValidBelow}
-use Rattle.rpki_cert.specs.Verification.{Context, LineUnder, issued_lines, ResourceFields}
+use Rattle.rpki_cert.specs.Verification.{Context, CheckUnder, issued_checks, ResourceFields}
 use Rattle.rpki_cert.specs.declared.inspect.Kind.{Kind}
 use Rattle.rpki_cert.specs.declared.inspect.Kind.TheVariants.{Authority, EndEntity, Detached}
 use Rattle.rpki_crl.specs.Stores.{Stored}
@@ -12,7 +12,7 @@ use Rattle.rpki_path.specs.declared.path_fault.PathFault.{PathFault}
 use Rattle.rpki_path.specs.declared.path_fault.PathFault.TheVariants.{Decode, Memory}
 use Rattle.rpki_path.specs.declared.validating.Role.{Role}
 use Rattle.rpki_path.specs.declared.validating.Role.TheVariants as role
-use Rattle.rpki_path.specs.Paths.{Demand, AskedLine, IsUnrevokedIfAsked}
+use Rattle.rpki_path.specs.Paths.{Demand, AskedCheck, IsUnrevokedIfAsked}
 
 -- the kind of a member below the anchor
 abbrev pub kind_of : Role → Kind
@@ -41,7 +41,7 @@ pub record IsIssuedBy (x : Context) (lists : Option (List Stored)) (issuer : Res
 abbrev pub demand_under : Context → Option (List Stored) → ResourceFields → Kind → Demand
 demand_under x lists issuer kind = record {
   kind = kind;
-  line = LineUnder x issuer;
-  lines = issued_lines;
-  asked_line = AskedLine x lists issuer.cert.fields;
+  check = CheckUnder x issuer;
+  checks = issued_checks;
+  asked_check = AskedCheck x lists issuer.cert.fields;
 }

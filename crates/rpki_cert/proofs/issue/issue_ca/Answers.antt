@@ -1,6 +1,6 @@
 use Rattle.std.proofs.Common.{Ok, sym, ap, subst, ◌∙◌}
 use Rattle.rpki_parts.specs.SignedDatas.{signed_data}
-use Rattle.rpki_cert.specs.Certificates.{CertFields, IsCertificate, spelling}
+use Rattle.rpki_cert.specs.Certificates.{CertFields, IsCertificate, encoding}
 use Rattle.rpki_cert.specs.Validation.{IsValidBelow}
 use Rattle.rpki_cert.specs.Verification.{context}
 use Rattle.rpki_cert.specs.declared.inspect.Kind.TheVariants.{Authority}
@@ -13,7 +13,7 @@ pub returns-in-Ok-validate_ca_at-clause-fields : goal.returns-in-Ok-validate_ca_
 returns-in-Ok-validate_ca_at-clause-fields g c can = ap (λ (x : CertFields). x.fields) c.in-Ok-validate_ca_at.ensures.ok.issued.cert_is ∙ c.in-Ok.ensures.fields can
 
 pub returns-in-Ok-validate_ca_at-clause-signed : goal.returns-in-Ok-validate_ca_at-clause-signed
-returns-in-Ok-validate_ca_at-clause-signed g c can = subst (λ (x : CertFields). g.S.Signer.signs c.args.signer.now c.args.key.now c.args.tbs.algorithm (spelling c.args.tbs) (Ok x.signed_data.signature)) (sym c.in-Ok-validate_ca_at.ensures.ok.issued.cert_is) (c.in-Ok.ensures.signed can)
+returns-in-Ok-validate_ca_at-clause-signed g c can = subst (λ (x : CertFields). g.S.Signer.signs c.args.signer.now c.args.key.now c.args.tbs.algorithm (encoding c.args.tbs) (Ok x.signed_data.signature)) (sym c.in-Ok-validate_ca_at.ensures.ok.issued.cert_is) (c.in-Ok.ensures.signed can)
 
 pub returns-in-Ok-validate_ca_at-clause-valid : goal.returns-in-Ok-validate_ca_at-clause-valid
 returns-in-Ok-validate_ca_at-clause-valid g c =

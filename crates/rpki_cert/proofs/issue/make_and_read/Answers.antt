@@ -3,7 +3,7 @@ use Rattle.std.proofs.Common.{sym, ap, subst, ◌∙◌}
 use Rattle.rpki_der.specs.Values.{AreOctets}
 use Rattle.rpki_parts.specs.Signatures.{SignatureFields}
 use Rattle.rpki_parts.specs.SignedDatas.{SignedFields}
-use Rattle.rpki_cert.specs.Certificates.{CertFields, CanBeWritten, IsMade, spelling}
+use Rattle.rpki_cert.specs.Certificates.{CertFields, CanBeWritten, IsMade, encoding}
 use Rattle.rpki_cert.proofs.ReadAgain.{if_ok, if_err, not_made}
 use Rattle.rpki_cert.proofs.issue.make_and_read.Goals as goal
 
@@ -16,22 +16,22 @@ returns-in-Ok-clause-message g c = if_ok c.read_again-cert.result _ _ (λ x h. h
 pub returns-in-Ok-clause-fields : goal.returns-in-Ok-clause-fields
 returns-in-Ok-clause-fields g c can =
     let octets : AreOctets c.in-Ok.made.signed_data.signature.value = subst (λ (s : SignatureFields). AreOctets s.value) (c.signature.ensures ∙ ap (λ (d : SignedFields). d.signature) c.signed_data.ensures) c.value-signature.ensures.octets in
-    let made : IsMade c.in-Ok.made = record { message_is = c.in-Ok.ensures.message ∙ ap spelling (sym c.in-Ok.ensures.fields); fields_are = subst CanBeWritten (sym c.in-Ok.ensures.fields) can; signature_is = octets; short = c.in-Ok.ensures.fits } in
+    let made : IsMade c.in-Ok.made = record { message_is = c.in-Ok.ensures.message ∙ ap encoding (sym c.in-Ok.ensures.fields); fields_are = subst CanBeWritten (sym c.in-Ok.ensures.fields) can; signature_is = octets; short = c.in-Ok.ensures.fits } in
     if_ok c.read_again-cert.result _ _ (λ x h. ap (λ (d : CertFields). d.fields) (h made) ∙ c.in-Ok.ensures.fields) c.read_again-cert.ensures.same
 
 pub returns-in-Ok-clause-signed : goal.returns-in-Ok-clause-signed
 returns-in-Ok-clause-signed g c can =
     let octets : AreOctets c.in-Ok.made.signed_data.signature.value = subst (λ (s : SignatureFields). AreOctets s.value) (c.signature.ensures ∙ ap (λ (d : SignedFields). d.signature) c.signed_data.ensures) c.value-signature.ensures.octets in
-    let made : IsMade c.in-Ok.made = record { message_is = c.in-Ok.ensures.message ∙ ap spelling (sym c.in-Ok.ensures.fields); fields_are = subst CanBeWritten (sym c.in-Ok.ensures.fields) can; signature_is = octets; short = c.in-Ok.ensures.fits } in
-    if_ok c.read_again-cert.result _ _ (λ x h. subst (λ (d : CertFields). g.S.Signer.signs c.args.signer.now c.args.key.now c.args.tbs.algorithm (spelling c.args.tbs) (Ok d.signed_data.signature)) (sym (h made)) c.in-Ok.ensures.signed) c.read_again-cert.ensures.same
+    let made : IsMade c.in-Ok.made = record { message_is = c.in-Ok.ensures.message ∙ ap encoding (sym c.in-Ok.ensures.fields); fields_are = subst CanBeWritten (sym c.in-Ok.ensures.fields) can; signature_is = octets; short = c.in-Ok.ensures.fits } in
+    if_ok c.read_again-cert.result _ _ (λ x h. subst (λ (d : CertFields). g.S.Signer.signs c.args.signer.now c.args.key.now c.args.tbs.algorithm (encoding c.args.tbs) (Ok d.signed_data.signature)) (sym (h made)) c.in-Ok.ensures.signed) c.read_again-cert.ensures.same
 
 pub returns-in-Ok-clause-refused : goal.returns-in-Ok-clause-refused
 returns-in-Ok-clause-refused g c =
-    let answers = g.S.Signer.signs c.args.signer.now c.args.key.now c.args.tbs.algorithm (spelling c.args.tbs) in
+    let answers = g.S.Signer.signs c.args.signer.now c.args.key.now c.args.tbs.algorithm (encoding c.args.tbs) in
     if_err c.read_again-cert.result _ _ (λ e h. not_made c.args.tbs answers c.in-Ok.made.signed_data e (record { message_is = c.in-Ok.ensures.message; signed = c.in-Ok.ensures.signed; short = c.in-Ok.ensures.fits }) h) c.read_again-cert.ensures.refused
 
 pub returns-in-Ok-clause-readable : goal.returns-in-Ok-clause-readable
 returns-in-Ok-clause-readable g c can =
     let octets : AreOctets c.in-Ok.made.signed_data.signature.value = subst (λ (s : SignatureFields). AreOctets s.value) (c.signature.ensures ∙ ap (λ (d : SignedFields). d.signature) c.signed_data.ensures) c.value-signature.ensures.octets in
-    let made : IsMade c.in-Ok.made = record { message_is = c.in-Ok.ensures.message ∙ ap spelling (sym c.in-Ok.ensures.fields); fields_are = subst CanBeWritten (sym c.in-Ok.ensures.fields) can; signature_is = octets; short = c.in-Ok.ensures.fits } in
+    let made : IsMade c.in-Ok.made = record { message_is = c.in-Ok.ensures.message ∙ ap encoding (sym c.in-Ok.ensures.fields); fields_are = subst CanBeWritten (sym c.in-Ok.ensures.fields) can; signature_is = octets; short = c.in-Ok.ensures.fits } in
     c.read_again-cert.ensures.readable made

@@ -19,7 +19,7 @@ pub returns-in-Ok-decode-clause-read : goal.returns-in-Ok-decode-clause-read
 returns-in-Ok-decode-clause-read g c =
     let cert = c.in-Ok-decode.cert in
     let (_, begins) = c.in-Ok-decode.ensures in
-    subst (λ o. IsCertificate cert o) (certificate_is cert begins.text begins.spelled) begins.spelled
+    subst (λ o. IsCertificate cert o) (certificate_is cert begins.text begins.encoded) begins.encoded
 
 pub returns-in-Ok-decode-clause-same : goal.returns-in-Ok-decode-clause-same
 returns-in-Ok-decode-clause-same g c made =

@@ -7,4 +7,4 @@ returns-clause-general c d e cert b le h = deeper_certificate d e le cert b h
 
 pub returns-clause-to_32 : goal.returns-clause-to_32
 returns-clause-to_32 c cert octets rest h =
-    record { text = h.text; spelled = deeper_certificate 16 32 (omega arith) cert h.text h.spelled; parts = h.parts }
+    record { text = h.text; encoded = deeper_certificate 16 32 (omega arith) cert h.text h.encoded; parts = h.parts }

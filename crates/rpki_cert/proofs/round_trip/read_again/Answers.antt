@@ -1,6 +1,6 @@
 use Rattle.std.proofs.Common.{sym, subst}
 use Rattle.std.proofs.lemmas.Bool.{false≢true}
-use Rattle.rpki_der.specs.Spelling.{Means}
+use Rattle.rpki_der.specs.Encoding.{Means}
 use Rattle.rpki_der.specs.Values.{AreOctets}
 use Rattle.rpki_der.proofs.Answering.{memory_alone, whole_means}
 use Rattle.rpki_der.proofs.Formats.{one_meant}

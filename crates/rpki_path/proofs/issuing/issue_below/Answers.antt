@@ -1,4 +1,4 @@
-use Rattle.rpki_cert.specs.Certificates.{spelling}
+use Rattle.rpki_cert.specs.Certificates.{encoding}
 use Rattle.rpki_cert.specs.Verification.{context}
 use Rattle.rpki_cert.specs.declared.inspect.Kind.TheVariants.{Authority}
 use Rattle.rpki_cert.proofs.ReadAgain.{if_ok}
@@ -16,5 +16,5 @@ pub returns-clause-memory : goal.returns-clause-memory
 returns-clause-memory g c =
     let x = context (g.V.Verifier.verifies c.args.verifier.now) c.args.now c.args.strict in
     let tbs = c.args.tbs in
-    let answers = g.S.Signer.signs c.args.signer.now c.args.key.now tbs.algorithm (spelling tbs) in
-    issued_or_memory tbs answers c.requires.written x c.args.issuer.now Authority (λ s may. (c.requires.profile s may, c.requires.lines s may)) c.requires.signs c.requires.fits c.issue_ca.result c.issue_ca.ensures.refused (c.issue_ca.ensures.readable c.requires.written)
+    let answers = g.S.Signer.signs c.args.signer.now c.args.key.now tbs.algorithm (encoding tbs) in
+    issued_or_memory tbs answers c.requires.written x c.args.issuer.now Authority (λ s may. (c.requires.profile s may, c.requires.checks s may)) c.requires.signs c.requires.fits c.issue_ca.result c.issue_ca.ensures.refused (c.issue_ca.ensures.readable c.requires.written)

@@ -1,7 +1,7 @@
 use Rattle.rpki_der.proofs.Answering.{whole_means}
 use Rattle.rpki_cert.specs.Certificates.{IsCertificate}
 use Rattle.rpki_cert.specs.Verification.{context}
-use Rattle.rpki_path.proofs.GoodPaths.{good_then, held_then, one_more}
+use Rattle.rpki_path.proofs.ValidPaths.{good_then, held_then, one_more}
 use Rattle.rpki_path.proofs.laws.issued_below.Goals as goal
 
 pub returns-clause-path : goal.returns-clause-path

@@ -8,7 +8,7 @@ abbrev pub invariant-loop-line : goal.invariant-loop-line
 invariant-loop-line l = record {
   kept : l.anchor ≡ l.fn.anchor;
   lines : List (List ℕ);
-  spelled : AllZip IsLine (map authority l.cas.items) lines;
+  encoded : AllZip IsLine (map authority l.cas.items) lines;
   so_far : (more : List (List ℕ)) → AreLines more l.rest → AreLines (lines ++ more) l.fn.text;
 }
 

@@ -13,4 +13,4 @@ returns-in-Some-crl_uri g c =
     let uri = c.in-Some-crl_uri.uri.now in
     let named : cert.fields.extensions.crl_uri ≡ Some uri = ap (λ (f : TbsFields). f.extensions.crl_uri) (sym c.as_tbs-tbs.ensures) ∙ sym c.in-Some-crl_uri.ensures in
     let serial : c.serial_number.result ≡ cert.fields.serial = c.serial_number.ensures ∙ ap (λ (f : TbsFields). f.serial) c.as_tbs-tbs.ensures in
-    rw c.in-Some.is (tests_named x pairs issuer cert uri named c.serial_number.result (sym serial) c.check.result c.check.ensures.lines)
+    rw c.in-Some.is (tests_named x pairs issuer cert uri named c.serial_number.result (sym serial) c.check.result c.check.ensures.checks)

@@ -1,7 +1,7 @@
 use Rattle.std.proofs.Common.{rules, ◌≡◌, Err, rc_value}
 use Rattle.std.specs.Prelude.{option_map}
 use Rattle.rpki_cert.specs.Verification.{context}
-use Rattle.rpki_path.proofs.GoodPaths.{anchor_alone}
+use Rattle.rpki_path.proofs.ValidPaths.{anchor_alone}
 use Rattle.rpki_path.proofs.PathSteps.{next_authority, wrong_authority, whole}
 use Rattle.rpki_path.proofs.validating.validate_authorities.Goals as goal
 

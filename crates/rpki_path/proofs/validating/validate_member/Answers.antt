@@ -3,10 +3,10 @@ use Rattle.std.specs.Prelude.{option_map}
 use Rattle.rpki_parts.specs.Conditions.{IsFirstFalse, Tests}
 use Rattle.rpki_cert.specs.Certificates.{CertFields}
 use Rattle.rpki_cert.specs.Verification.{context, IsVerified}
-use Rattle.rpki_crl.specs.Revocation.{revocation_lines}
+use Rattle.rpki_crl.specs.Revocation.{revocation_checks}
 use Rattle.rpki_path.specs.FaultNames.{of_validation}
 use Rattle.rpki_path.specs.declared.path_fault.PathFault.TheVariants.{Revocation}
-use Rattle.rpki_path.specs.Paths.{AskedLine}
+use Rattle.rpki_path.specs.Paths.{AskedCheck}
 use Rattle.rpki_path.specs.Paths.Steps.{demand_under, kind_of}
 use Rattle.rpki_path.proofs.FoundSteps.{unread, not_valid, issued_by, revoked_below}
 use Rattle.rpki_path.proofs.validating.validate_member.Goals as goal
@@ -33,8 +33,8 @@ returns-in_err-tested-clause-fault g c =
     let member = c.in_ok-member.member in
     let e = c.in_err-tested.field-0.0 in
     let same : c.from_residual-in_err-tested.result ≡ Err (Revocation e) = search rules in
-    let tests = subst (λ (d : CertFields). Tests (AskedLine x pairs issuer.cert.fields d) revocation_lines c.ask_lists-test.result) c.as_cert.ensures c.ask_lists-test.ensures in
-    let first : IsFirstFalse (AskedLine x pairs issuer.cert.fields member.cert) revocation_lines e = rw c.in_err-tested.ensures.refused at tests in
+    let tests = subst (λ (d : CertFields). Tests (AskedCheck x pairs issuer.cert.fields d) revocation_checks c.ask_lists-test.result) c.as_cert.ensures c.ask_lists-test.ensures in
+    let first : IsFirstFalse (AskedCheck x pairs issuer.cert.fields member.cert) revocation_checks e = rw c.in_err-tested.ensures.refused at tests in
     rw same (revoked_below x pairs issuer (kind_of c.args.role) c.args.octets.now c.in_ok-cert.cert member c.in_ok-cert.ensures.ok c.in_ok-member.ensures.ok e first)
 
 pub returns-clause-ok : goal.returns-clause-ok
@@ -43,6 +43,6 @@ returns-clause-ok g c =
     let pairs = option_map (λ store. store.now.pairs) c.args.lists in
     let issuer = c.args.issuer.now in
     let member = c.in_ok-member.member in
-    let tests = subst (λ (d : CertFields). Tests (AskedLine x pairs issuer.cert.fields d) revocation_lines c.ask_lists-test.result) c.as_cert.ensures c.ask_lists-test.ensures in
-    let free : IsVerified (AskedLine x pairs issuer.cert.fields member.cert) revocation_lines = rw c.in_ok-tested.ensures.passed at tests in
+    let tests = subst (λ (d : CertFields). Tests (AskedCheck x pairs issuer.cert.fields d) revocation_checks c.ask_lists-test.result) c.as_cert.ensures c.ask_lists-test.ensures in
+    let free : IsVerified (AskedCheck x pairs issuer.cert.fields member.cert) revocation_checks = rw c.in_ok-tested.ensures.passed at tests in
     rw c.in_ok-tested.ensures.ok (issued_by x pairs issuer (kind_of c.args.role) c.args.octets.now c.in_ok-cert.cert member c.in_ok-cert.ensures.ok c.in_ok-member.ensures.ok free)

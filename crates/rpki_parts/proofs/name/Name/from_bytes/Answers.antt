@@ -1,7 +1,7 @@
 use Rattle.std.proofs.Common.{rules, ◌≡◌, Err}
 use Rattle.std.proofs.lemmas.Bool.{false≢true}
 use Rattle.rpki_der.specs.Place.{left}
-use Rattle.rpki_der.proofs.Answering.{all_refused, none_spelled}
+use Rattle.rpki_der.proofs.Answering.{all_refused, none_encoded}
 use Rattle.rpki_parts.specs.Names.{IsName}
 use Rattle.rpki_parts.specs.Names.Reading.{name_at}
 use Rattle.rpki_parts.proofs.NameReads.{name_reads}
@@ -13,6 +13,6 @@ returns-in_err-name c =
     all_refused (λ x. x) IsName _ _ (left c.new-cursor.result) c.args.octets c.new-cursor.ensures.all same c.in_err-name.ensures.answers
 
 pub returns-then-not-is_empty : goal.returns-then-not-is_empty
-returns-then-not-is_empty c = λ y spelled.
-    none_spelled name_at IsName name_reads c.in_ok-name.name y (left c.new-cursor.result) c.args.octets (left c.take_from.new.cursor) c.new-cursor.ensures.all
-    (λ nil. false≢true (c.if-not-is_empty.ensures.1 nil)) c.in_ok-name.ensures.answers spelled
+returns-then-not-is_empty c = λ y encoded.
+    none_encoded name_at IsName name_reads c.in_ok-name.name y (left c.new-cursor.result) c.args.octets (left c.take_from.new.cursor) c.new-cursor.ensures.all
+    (λ nil. false≢true (c.if-not-is_empty.ensures.1 nil)) c.in_ok-name.ensures.answers encoded

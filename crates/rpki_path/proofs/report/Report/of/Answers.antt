@@ -1,7 +1,7 @@
 use Rattle.std.specs.Prelude.{[], ◌∷◌, codes, decimal}
 use Rattle.std.proofs.Common.{inl, inr, refl}
 use Rattle.rpki_path.specs.declared.running.Status.TheVariants.{BadInput}
-use Rattle.rpki_path.specs.Program.{is_good_path, printed, Says}
+use Rattle.rpki_path.specs.Program.{is_valid_path, printed, Says}
 use Rattle.rpki_path.specs.Questions.{path_question, revoked_question}
 use Rattle.rpki_path.proofs.InputLines.{if_ok}
 use Rattle.rpki_path.proofs.Reports.{answered}
@@ -15,7 +15,7 @@ returns-in-Revoked c = λ text read.
 pub returns-in-Path : goal.returns-in-Path
 returns-in-Path c = λ text read.
     let asked = rw c.in-Path.is at read in
-    if_ok c.of_path.result (λ report says. (asked.0, asked.1, inl (is_good_path (path_question c.in-Path.question), asked.2, says))) c.of_path.ensures
+    if_ok c.of_path.result (λ report says. (asked.0, asked.1, inl (is_valid_path (path_question c.in-Path.question), asked.2, says))) c.of_path.ensures
 
 pub returns-in-Bad : goal.returns-in-Bad
 returns-in-Bad c = λ text read.

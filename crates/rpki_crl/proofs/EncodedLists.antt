@@ -19,7 +19,7 @@ use Rattle.rpki_ext.specs.KeyIdentifiers.{authority_key_identifier, authority_ke
 use Rattle.rpki_ext.proofs.CrlNumbers.{crl_number_is}
 use Rattle.rpki_ext.proofs.KeyIdentifiers.{authority_key_identifier_is}
 use Rattle.rpki_crl.specs.ListExtensions.{ListExtensions, GiveListExtensions}
-use Rattle.rpki_crl.specs.Lists.{ListFields, ListFits, IsTbsCertList, version_2, list_row, list_content, list_spelling, tagged_list_extensions}
+use Rattle.rpki_crl.specs.Lists.{ListFields, ListFits, IsTbsCertList, version_2, list_row, list_content, list_encoding, tagged_list_extensions}
 use Rattle.rpki_crl.specs.RevokedEntries.{Entry, Revoked, AreEntries, revoked}
 
 -- ---- entries
@@ -85,7 +85,7 @@ module _ (f : ListFields Revoked) (fits : ListFits f) where
       fits.short
 
   -- the encoding of a list's fields is a SEQUENCE of their content
-  pub data_made : (b : List ℕ) → b ≡ list_spelling f → IsEnc SEQUENCE (list_content f) b
+  pub data_made : (b : List ℕ) → b ≡ list_encoding f → IsEnc SEQUENCE (list_content f) b
   data_made b is = record { octet = omega arith; low_tag = omega arith; octets = content_octets; short = fits.short; is = is }
 
   module _ (row : Short (list_row f.extensions)) where
@@ -98,12 +98,12 @@ module _ (f : ListFields Revoked) (fits : ListFits f) where
         let two = extension_content_short crl_number.identifier false (number f.extensions.crl_number) parts_short.1.0 in
         record {
           no_others = (refl, (refl, tt));
-          authority_key_identifier_is = (f.extensions.authority_key_identifier, (tt, whole_means authority_key_identifier.spells f.extensions.authority_key_identifier (authority_key_identifier_content f.extensions.authority_key_identifier) (authority_key_identifier_is.made f.extensions.authority_key_identifier _ fits.identifier_is refl one)), refl);
-          crl_number_is = (f.extensions.crl_number, (tt, whole_means crl_number.spells f.extensions.crl_number (number f.extensions.crl_number) (crl_number_is.made f.extensions.crl_number _ fits.number_is refl two)), refl);
+          authority_key_identifier_is = (f.extensions.authority_key_identifier, (tt, whole_means authority_key_identifier.encodes f.extensions.authority_key_identifier (authority_key_identifier_content f.extensions.authority_key_identifier) (authority_key_identifier_is.made f.extensions.authority_key_identifier _ fits.identifier_is refl one)), refl);
+          crl_number_is = (f.extensions.crl_number, (tt, whole_means crl_number.encodes f.extensions.crl_number (number f.extensions.crl_number) (crl_number_is.made f.extensions.crl_number _ fits.number_is refl two)), refl);
         }
 
   -- the encoding of a list's fields is a TBSCertList of them
-  pub list_made : IsTbsCertList f (list_spelling f)
+  pub list_made : IsTbsCertList f (list_encoding f)
   unfolding tagged_list_extensions
   list_made =
       let (_, (algorithm_short, (_, (_, (_, (revoked_short, (last, _))))))) = pieces_short pieces (fits.short, content_octets) in
@@ -136,5 +136,5 @@ module _ (f : ListFields Revoked) (fits : ListFits f) where
           gives = given row;
           is = refl;
         };
-        enc = data_made (list_spelling f) refl;
+        enc = data_made (list_encoding f) refl;
       }

@@ -8,28 +8,28 @@ use Rattle.rpki_blocks.specs.IssuedSets.{IsIssued}
 use Rattle.rpki_cert.specs.Certificates.{TbsFields, CertFields}
 use Rattle.rpki_cert.specs.Profiles.{MeetsProfile}
 use Rattle.rpki_cert.specs.Validation.{IsValidBelow}
-use Rattle.rpki_cert.specs.Verification.{Context, Held, Line, LineUnder, issued_lines, IsVerified, ResourceFields, HasIssued, held_by}
+use Rattle.rpki_cert.specs.Verification.{Context, Held, Check, CheckUnder, issued_checks, IsVerified, ResourceFields, HasIssued, held_by}
 use Rattle.rpki_cert.specs.declared.inspect.Kind.{Kind}
 use Rattle.rpki_cert.specs.declared.verification_error.VerificationError.{VerificationError}
 use Rattle.rpki_cert.specs.declared.verification_error.VerificationError.TheVariants.{NotYetValid, Expired, InheritedV4, InheritedV6, InheritedAs, MissingKeyId, WrongKeyId, MissingIssuerUri, BadSignature, OverclaimV4, OverclaimV6, OverclaimAs, Memory}
-use Rattle.rpki_crl.specs.Revocation.{revocation_lines}
+use Rattle.rpki_crl.specs.Revocation.{revocation_checks}
 use Rattle.rpki_crl.specs.Stores.{Stored}
 use Rattle.rpki_crl.specs.declared.revocation_error.RevocationError.{RevocationError}
-use Rattle.rpki_cert.proofs.Lines.{all_map}
-use Rattle.rpki_path.specs.Paths.{Member, Path, member, longer, last, certificate_at, NumberKind, v4_addresses, v6_addresses, system_numbers, kind_resources, Holds, HeldAt, LineBelow, AskedLine, IsUnrevokedIfAsked, IsGoodPath, Asked, ask, IsMember, HasHeld, IsAccepted}
+use Rattle.rpki_cert.proofs.Checks.{all_map}
+use Rattle.rpki_path.specs.Paths.{Member, Path, member, longer, last, certificate_at, NumberKind, v4_addresses, v6_addresses, system_numbers, kind_resources, Holds, HeldAt, CheckBelow, AskedCheck, IsUnrevokedIfAsked, IsValidPath, Asked, ask, IsMember, HasHeld, IsAccepted}
 use Rattle.rpki_path.specs.Paths.Steps.{IsAnchor, IsIssuedBy}
 use Rattle.rpki_path.proofs.LongerPaths.{extended, above, there, last_extended, holds_above, holds_there, gets_passed, zip_more, all_more}
 
 -- ---- lists
 
--- lines that ask nothing are true
-pub unasked_lines : (es : List RevocationError) → AllByRecursion (λ e. Unit {0}) es
-unasked_lines [] = tt
-unasked_lines (e ∷ es) = (tt, unasked_lines es)
+-- checks that ask nothing are true
+pub unasked_checks : (es : List RevocationError) → AllByRecursion (λ e. Unit {0}) es
+unasked_checks [] = tt
+unasked_checks (e ∷ es) = (tt, unasked_checks es)
 
 -- all that is asked is true where lists, if they are given, leave the certificate unrevoked
-pub unrevoked_asked : (x : Context) (lists : Option (List Stored)) (issuer : TbsFields) (c : CertFields) → IsVerified (AskedLine x lists issuer c) revocation_lines ↔ IsUnrevokedIfAsked x lists issuer c
-unrevoked_asked x None issuer c = ((λ h. tt), (λ h. unasked_lines revocation_lines))
+pub unrevoked_asked : (x : Context) (lists : Option (List Stored)) (issuer : TbsFields) (c : CertFields) → IsVerified (AskedCheck x lists issuer c) revocation_checks ↔ IsUnrevokedIfAsked x lists issuer c
+unrevoked_asked x None issuer c = ((λ h. tt), (λ h. unasked_checks revocation_checks))
 unrevoked_asked x (Some lists) issuer c = ((λ h. h), (λ h. h))
 
 -- ---- checks
@@ -48,37 +48,37 @@ turned s = record {
 }
 
 module _ (x : Context) where
-  line_kept : (f : TbsFields) (h g : Held) → SameHeld h g → (c : CertFields) (e : VerificationError) → Line x f h c e → Line x f g c e
-  line_kept f h g same c NotYetValid l = l
-  line_kept f h g same c Expired l = l
-  line_kept f h g same c InheritedV4 l = l
-  line_kept f h g same c InheritedV6 l = l
-  line_kept f h g same c InheritedAs l = l
-  line_kept f h g same c MissingKeyId l = l
-  line_kept f h g same c WrongKeyId l = l
-  line_kept f h g same c MissingIssuerUri l = l
-  line_kept f h g same c BadSignature l = l
-  line_kept f h g same c OverclaimV4 l = λ mode n small listed. (same.v4_same n).0 (l mode n small listed)
-  line_kept f h g same c OverclaimV6 l = λ mode n small listed. (same.v6_same n).0 (l mode n small listed)
-  line_kept f h g same c OverclaimAs l = λ mode n small listed. (same.as_same n).0 (l mode n small listed)
-  line_kept f h g same c Memory l = l
+  check_kept : (f : TbsFields) (h g : Held) → SameHeld h g → (c : CertFields) (e : VerificationError) → Check x f h c e → Check x f g c e
+  check_kept f h g same c NotYetValid l = l
+  check_kept f h g same c Expired l = l
+  check_kept f h g same c InheritedV4 l = l
+  check_kept f h g same c InheritedV6 l = l
+  check_kept f h g same c InheritedAs l = l
+  check_kept f h g same c MissingKeyId l = l
+  check_kept f h g same c WrongKeyId l = l
+  check_kept f h g same c MissingIssuerUri l = l
+  check_kept f h g same c BadSignature l = l
+  check_kept f h g same c OverclaimV4 l = λ mode n small listed. (same.v4_same n).0 (l mode n small listed)
+  check_kept f h g same c OverclaimV6 l = λ mode n small listed. (same.v6_same n).0 (l mode n small listed)
+  check_kept f h g same c OverclaimAs l = λ mode n small listed. (same.as_same n).0 (l mode n small listed)
+  check_kept f h g same c Memory l = l
 
-  line_same : (f d : TbsFields) → f ≡ d → (h g : Held) → SameHeld h g → (c : CertFields) (e : VerificationError) → Line x f h c e ↔ Line x d g c e
-  line_same f d is h g same c e = (
-    (λ l. line_kept d h g same c e (subst (λ (y : TbsFields). Line x y h c e) is l)),
-    (λ l. line_kept f g h (turned same) c e (subst (λ (y : TbsFields). Line x y g c e) (sym is) l)),
+  check_same : (f d : TbsFields) → f ≡ d → (h g : Held) → SameHeld h g → (c : CertFields) (e : VerificationError) → Check x f h c e ↔ Check x d g c e
+  check_same f d is h g same c e = (
+    (λ l. check_kept d h g same c e (subst (λ (y : TbsFields). Check x y h c e) is l)),
+    (λ l. check_kept f g h (turned same) c e (subst (λ (y : TbsFields). Check x y g c e) (sym is) l)),
   )
 
   -- the checks under the last member, as it was validated, are those of the path
-  pub line_last : (p : Path) (tal : List ℕ) (issuer : ResourceFields) → HasHeld p tal issuer → (c : CertFields) (e : VerificationError) → LineUnder x issuer c e ↔ LineBelow x p (last p) c e
-  line_last p tal issuer held c e =
-      line_same issuer.cert.fields (certificate_at p (last p)).fields (ap (λ (c : CertFields). c.fields) held.cert_is) (held_by issuer) (HeldAt p (last p))
+  pub check_last : (p : Path) (tal : List ℕ) (issuer : ResourceFields) → HasHeld p tal issuer → (c : CertFields) (e : VerificationError) → CheckUnder x issuer c e ↔ CheckBelow x p (last p) c e
+  check_last p tal issuer held c e =
+      check_same issuer.cert.fields (certificate_at p (last p)).fields (ap (λ (c : CertFields). c.fields) held.cert_is) (held_by issuer) (HeldAt p (last p))
       (record { v4_same = held.v4_is; v6_same = held.v6_is; as_same = held.as_is }) c e
 
   -- they stay so with further members
-  pub line_above : (p : Path) (m : Member) (more : List Member) (i : ℕ) → i ≤ last p → (c : CertFields) (e : VerificationError) → LineBelow x p i c e ↔ LineBelow x (extended p m more) i c e
-  line_above p m more i h c e =
-      line_same (certificate_at p i).fields (certificate_at (extended p m more) i).fields (ap (λ (c : CertFields). c.fields) (sym (above p m more i h))) (HeldAt p i) (HeldAt (extended p m more) i)
+  pub check_above : (p : Path) (m : Member) (more : List Member) (i : ℕ) → i ≤ last p → (c : CertFields) (e : VerificationError) → CheckBelow x p i c e ↔ CheckBelow x (extended p m more) i c e
+  check_above p m more i h c e =
+      check_same (certificate_at p i).fields (certificate_at (extended p m more) i).fields (ap (λ (c : CertFields). c.fields) (sym (above p m more i h))) (HeldAt p i) (HeldAt (extended p m more) i)
       (record {
         v4_same = λ n. holds_above p m more v4_addresses n i h;
         v6_same = λ n. holds_above p m more v6_addresses n i h;
@@ -99,7 +99,7 @@ module _ (x : Context) where
           good = record {
             anchor_meets = is.valid.meets;
             members_meet = tt;
-            anchor_verified = is.valid.lines;
+            anchor_verified = is.valid.checks;
             members_verified = λ i h. absurd (omega arith);
             members_unrevoked = λ i h. absurd (omega arith);
           };
@@ -138,20 +138,20 @@ module _ (x : Context) where
         tal_is = issued.tal_is ∙ held.tal_is;
       }
 
-      module _ (good : IsGoodPath x lists p) (is : IsValidBelow x issuer k r.cert r) (free : IsUnrevokedIfAsked x lists issuer.cert.fields r.cert) where
-        verified : (i : ℕ) → (i ≡ last p) ⊎ (i < last p) → IsVerified (LineBelow x more i (certificate_at more (i + 1))) issued_lines
+      module _ (good : IsValidPath x lists p) (is : IsValidBelow x issuer k r.cert r) (free : IsUnrevokedIfAsked x lists issuer.cert.fields r.cert) where
+        verified : (i : ℕ) → (i ≡ last p) ⊎ (i < last p) → IsVerified (CheckBelow x more i (certificate_at more (i + 1))) issued_checks
         verified i (inl e) =
             let h : last p ≤ last p = omega arith in
-            let under = all_map (LineUnder x issuer r.cert) (LineBelow x p (last p) r.cert) issued_lines (λ l. (line_last p tal issuer held r.cert l).0) is.lines in
-            let below = all_map (LineBelow x p (last p) r.cert) (LineBelow x more (last p) r.cert) issued_lines (λ l. (line_above p m [] (last p) h r.cert l).0) under in
-            subst (λ (j : ℕ). IsVerified (LineBelow x more j (certificate_at more (j + 1))) issued_lines) (sym e)
-            (subst (λ (c : CertFields). IsVerified (LineBelow x more (last p) c) issued_lines) (sym (there p m [])) below)
+            let under = all_map (CheckUnder x issuer r.cert) (CheckBelow x p (last p) r.cert) issued_checks (λ l. (check_last p tal issuer held r.cert l).0) is.checks in
+            let below = all_map (CheckBelow x p (last p) r.cert) (CheckBelow x more (last p) r.cert) issued_checks (λ l. (check_above p m [] (last p) h r.cert l).0) under in
+            subst (λ (j : ℕ). IsVerified (CheckBelow x more j (certificate_at more (j + 1))) issued_checks) (sym e)
+            (subst (λ (c : CertFields). IsVerified (CheckBelow x more (last p) c) issued_checks) (sym (there p m [])) below)
         verified i (inr h) =
             let low : i ≤ last p = omega arith in
             let next : i + 1 ≤ last p = omega arith in
             let c = certificate_at p (i + 1) in
-            subst (λ (c : CertFields). IsVerified (LineBelow x more i c) issued_lines) (sym (above p m [] (i + 1) next))
-            (all_map (LineBelow x p i c) (LineBelow x more i c) issued_lines (λ l. (line_above p m [] i low c l).0) (good.members_verified i h))
+            subst (λ (c : CertFields). IsVerified (CheckBelow x more i c) issued_checks) (sym (above p m [] (i + 1) next))
+            (all_map (CheckBelow x p i c) (CheckBelow x more i c) issued_checks (λ l. (check_above p m [] i low c l).0) (good.members_verified i h))
 
         -- a certificate that isn't revoked below another
         abbrev Free : CertFields → CertFields → Type 0
@@ -170,7 +170,7 @@ module _ (x : Context) where
             subst (λ (c : CertFields). Free (certificate_at more i) c) (sym (above p m [] (i + 1) next))
             (subst (λ (c : CertFields). Free c (certificate_at p (i + 1))) (sym (above p m [] i low)) (good.members_unrevoked i h))
 
-        pub good_then : IsGoodPath x lists more
+        pub good_then : IsValidPath x lists more
         good_then = record {
           anchor_meets = good.anchor_meets;
           members_meet = all_more (λ (m : Member). MeetsProfile m.kind x.strict m.cert) p.below m good.members_meet is.meets;
