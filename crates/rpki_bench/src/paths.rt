@@ -13,6 +13,7 @@ use std::alloc::{AllocError, Global};
 use std::rc::Rc;
 
 // What a path is validated with.
+#[derive(Drop)]
 struct Asked<'a> {
     members: &'a [Bytes],
     store: Option<&'a CrlStore>,
