@@ -45,15 +45,14 @@ static void add_list(const char *name, const unsigned char *certificate, size_t 
     fclose(pem);
 }
 
-// how long so many rounds take beyond the making of the store of lists, which is done once
-static double round_of(uint32_t caches, uint32_t rounds) {
-    double all = 0, store = 0;
-    for (int run = 0; run < 20; run++) {
-        if (rpki_path_with(octets, len, lengths, count, caches, 0, rounds) != rounds) exit(3);
-        LEAST(store, 1, rpki_path_with(octets, len, lengths, count, caches, 0, 0));
-        LEAST(all, 1, rpki_path_with(octets, len, lengths, count, caches, 0, rounds));
-    }
-    return (all - store) / rounds;
+// One round of the path, with the lists asked or not: the time of so many rounds, less that of making the store, which is done once.
+struct measured {
+    double all, store;
+};
+
+static void measure(struct measured *it, uint32_t caches, uint32_t rounds) {
+    LEAST(it->store, 1, rpki_path_with(octets, len, lengths, count, caches, 0, 0));
+    LEAST(it->all, 1, if (rpki_path_with(octets, len, lengths, count, caches, 0, rounds) != rounds) exit(3));
 }
 
 // Whether OpenSSL reads the path and the lists, all are signed, no member lists more than the one above it, and none is on its issuer's list.
@@ -82,9 +81,16 @@ int main(int argc, char **argv) {
     const unsigned char *at = octets;
     for (size_t i = 0; i + 1 < members; at += lengths[i++]) add_list(argv[i + 2], at, lengths[i], entries);
 
+    // by turns
+    uint32_t walks = entries > 10000 ? 5 : 200, looks = 2000;
+    struct measured without = {0}, with = {0};
     double alone = 0;
-    for (int run = 0; run < 20; run++) LEAST(alone, 200, rpki_path(octets, members_len, lengths, members, 0, 200));
-    double walked = round_of(0, entries > 10000 ? 5 : 200), cached = round_of(1, 2000);
+    for (int run = 0; run < 20; run++) {
+        LEAST(alone, looks, if (rpki_path(octets, members_len, lengths, members, 0, looks) != looks) exit(3));
+        measure(&with, 1, looks);
+        measure(&without, 0, walks);
+    }
+    double walked = (without.all - without.store) / walks, cached = (with.all - with.store) / looks;
     printf("%zu members, lists of %u entries: alone %.2f us; with lists %.2f us (%.2f times), with cached lists %.2f us (%.2f times)\n",
            members, entries, alone / 1e3, walked / 1e3, walked / alone, cached / 1e3, cached / alone);
 
