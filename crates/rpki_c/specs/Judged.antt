@@ -3,7 +3,7 @@ use Rattle.std.specs.Prelude.{◌≡◌, ℕ, List, [], ◌∷◌, ◌++◌, Opt
 use Rattle.rpki_der.specs.Encoding.{Means}
 use Rattle.rpki_cert.specs.Certificates.{CertFields, IsCertificate}
 use Rattle.rpki_cert.specs.Profiles.{MeetsProfile}
-use Rattle.rpki_cert.specs.Verification.{Context, ResourceFields, LineUnder, IsVerified, router_lines}
+use Rattle.rpki_cert.specs.Verification.{Context, ResourceFields, CheckUnder, IsVerified, router_checks}
 use Rattle.rpki_cert.specs.declared.inspect.Kind.TheVariants.{Router}
 use Rattle.rpki_crl.specs.Stores.{Stored}
 use Rattle.rpki_path.specs.Paths.{asked, Validates}
@@ -42,7 +42,7 @@ pub record IsJudged (x : Context) (lists : Option (List Stored)) (last : Last) (
 -- a router's certificate that is valid below the issuer
 pub record IsRouterUnder (x : Context) (issuer : ResourceFields) (c : CertFields) : Type 0 where
   pub meets : MeetsProfile Router x.strict c
-  pub lines : IsVerified (LineUnder x issuer c) router_lines
+  pub checks : IsVerified (CheckUnder x issuer c) router_checks
 
 -- the octets begin with one
 pub record IsRouter (x : Context) (issuer : ResourceFields) (octets : List ℕ) : Type 0 where

@@ -10,7 +10,7 @@ ghost use Rattle.rpki_ext.specs.CertificateExtensions.{HasResources};
 ghost use Rattle.rpki_cert.specs.Certificates.{CanBeWritten, Fits, encoding};
 ghost use Rattle.rpki_cert.specs.Issuing.{IsMemory, made_with};
 ghost use Rattle.rpki_cert.specs.Profiles.{MeetsProfile};
-ghost use Rattle.rpki_cert.specs.Verification.{context, LineUnder, IsVerified, issued_lines};
+ghost use Rattle.rpki_cert.specs.Verification.{context, CheckUnder, IsVerified, issued_checks};
 ghost use Rattle.rpki_cert.specs.declared.inspect.Kind.TheVariants.{Authority};
 ghost use Rattle.rpki_crl.specs.Lists.{ListFits, list_encoding};
 
@@ -65,10 +65,10 @@ pub fn issued<S: Signer, V: Verifier>(
     requires profile { (s : SignatureFields)
         → S.signs signer.now key.now tbs.algorithm (encoding tbs) (Ok s)
         → MeetsProfile Authority true (made_with tbs s) }
-    requires lines { let x = context (V.verifies verifier.now) now true in
+    requires checks { let x = context (V.verifies verifier.now) now true in
         (s : SignatureFields)
         → S.signs signer.now key.now tbs.algorithm (encoding tbs) (Ok s)
-        → IsVerified (LineUnder x issuer.now (made_with tbs s)) issued_lines }
+        → IsVerified (CheckUnder x issuer.now (made_with tbs s)) issued_checks }
     ensures fields { IfOk result (λ r. r.cert.fields ≡ tbs) }
     ensures memory { IfErr result IsMemory }
 {
