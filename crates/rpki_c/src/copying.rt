@@ -1,0 +1,64 @@
+//! Octets, and ranges of addresses and AS numbers, in the caller's memory.
+use rpki_blocks::{AsBlock, AsBlocks, IpBlock, IpBlocks};
+
+/// A range of addresses, each in 16 octets; an IPv4 address stands in the first four.
+#[repr(C)]
+#[derive(Clone, Copy)]
+pub struct RpkiIpRange {
+    pub min: [u8; 16],
+    pub max: [u8; 16],
+}
+
+/// A range of AS numbers.
+#[repr(C)]
+#[derive(Clone, Copy)]
+pub struct RpkiAsRange {
+    pub min: u32,
+    pub max: u32,
+}
+
+fn ip_range(block: IpBlock) -> RpkiIpRange {
+    RpkiIpRange {
+        min: block.min().to_bits().to_be_bytes(),
+        max: block.max().to_bits().to_be_bytes(),
+    }
+}
+
+fn as_range(block: AsBlock) -> RpkiAsRange {
+    RpkiAsRange {
+        min: block.min().into_u32(),
+        max: block.max().into_u32(),
+    }
+}
+
+/// Writes as many ranges as there is room for, and tells how many there are.
+pub(crate) fn put_addresses(blocks: &IpBlocks, out: &mut [RpkiIpRange]) -> u64 {
+    let mut count = 0usize;
+    for block in blocks.iter() {
+        if count < out.len() {
+            out[count] = ip_range(*block);
+        }
+        count = count.wrapping_add(1);
+    }
+    count as u64
+}
+
+/// Writes as many ranges of AS numbers as there is room for, and tells how many there are.
+pub(crate) fn put_as_numbers(blocks: &AsBlocks, out: &mut [RpkiAsRange]) -> u64 {
+    let mut count = 0usize;
+    for block in blocks.iter() {
+        if count < out.len() {
+            out[count] = as_range(*block);
+        }
+        count = count.wrapping_add(1);
+    }
+    count as u64
+}
+
+/// Writes as many octets as there is room for, and tells how many there are.
+pub(crate) fn put_octets(from: &[u8], out: &mut [u8]) -> u64 {
+    for (at, octet) in out.iter_mut().zip(from.iter()) {
+        *at = *octet;
+    }
+    from.len() as u64
+}

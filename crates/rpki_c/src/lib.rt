@@ -1,0 +1,21 @@
+//! Certificates, revocation lists and paths for C: functions on octets, which write into memory of the caller's and keep
+//! nothing. What an export promises of its answer stands at the function below it; `include/rpki.h` tells the caller's part.
+#![tactic(auto)]
+
+mod answers;
+mod certificates;
+mod copying;
+mod faults;
+mod lists;
+mod moments;
+mod paths;
+mod questions;
+mod strings;
+mod telling;
+mod validating;
+
+/// Tells the number of this interface. It grows with each change that a caller has to follow.
+#[unsafe(no_mangle)]
+pub extern "C" fn rpki_abi_version() -> u32 {
+    1
+}

@@ -1,0 +1,50 @@
+//! Moments for C.
+ghost use Rattle.std.specs.Prelude.{◌≡◌, IfSome};
+ghost use Rattle.rpki_der.specs.Times.{moment};
+
+use rpki_der::Time;
+
+/// A second of UTC, by the parts of its date and time.
+#[repr(C)]
+#[derive(Clone, Copy)]
+pub struct RpkiTime {
+    pub year: u16,
+    pub month: u8,
+    pub day: u8,
+    pub hour: u8,
+    pub minute: u8,
+    pub second: u8,
+    /// Nothing; 0 where it is written.
+    pub unused: u8,
+}
+
+/// The moment with these parts, where the calendar has the day and a clock the time.
+pub(crate) fn moment_of(it: &RpkiTime) -> Option<Time>
+    ensures { IfSome result (λ t. t ≡ moment it.now.year it.now.month it.now.day
+        it.now.hour it.now.minute it.now.second) }
+{
+    Time::utc(
+        i32::from(it.year),
+        u32::from(it.month),
+        u32::from(it.day),
+        u32::from(it.hour),
+        u32::from(it.minute),
+        u32::from(it.second),
+    )
+}
+
+/// The parts of a moment.
+pub(crate) fn parts_of(time: Time) -> RpkiTime
+    ensures { time ≡ moment result.year result.month result.day
+        result.hour result.minute result.second }
+{
+    RpkiTime {
+        year: time.year(),
+        month: time.month(),
+        day: time.day(),
+        hour: time.hour(),
+        minute: time.minute(),
+        second: time.second(),
+        unused: 0,
+    }
+}

@@ -1,0 +1,225 @@
+//! Paths that are validated, with and without revocation lists.
+ghost use Rattle.std.specs.Prelude.{◌≡◌, [], Ok, IfOk, OnOk, IfSome, option_map};
+ghost use Rattle.std.proofs.Common.{rc_value};
+ghost use Rattle.rpki_cert.specs.Verification.{context};
+ghost use Rattle.rpki_path.specs.Paths.{asked, Validates};
+ghost use Rattle.rpki_path.specs.declared.path_fault.PathFault.TheVariants.{Memory};
+ghost use Rattle.rpki_c.specs.Judged.{leaf_for, EndsInLeaf, IsJudged, IsRouterUnder, IsRouter, EndsInRouter};
+
+use bytes::Bytes;
+use rpki_cert::{Cert, ResourceCert};
+use rpki_crl::{CrlStore, RevocationError};
+use rpki_der::Time;
+use rpki_parts::{TalInfo, Verifier};
+use rpki_path::{Leaf, PathError, PathFault, validate_path, validate_path_with};
+use std::alloc::{AllocError, Global};
+use std::rc::Rc;
+
+/// What the last string of a path has to begin with.
+#[derive(Clone, Copy)]
+pub(crate) enum Last {
+    /// An authority; or the anchor, where it is alone.
+    Authority,
+    EndEntity,
+    Detached,
+}
+
+// A locator without a name.
+fn nameless(alloc: Global) -> Result<Rc<TalInfo>, AllocError>
+    ensures { IfOk result (λ tal. rc_value tal ≡ []) }
+{
+    TalInfo::from_name(String::new(alloc)).into_rc(alloc)
+}
+
+fn out_of_memory() -> PathError
+    ensures { result ≡ record { index = 0; fault = Memory } }
+{
+    PathError {
+        index: 0,
+        fault: PathFault::Memory,
+    }
+}
+
+/// Validates a path: by the lists of the store, where there is one.
+pub(crate) fn validate<V: Verifier>(
+    alloc: Global,
+    anchor: &Bytes,
+    cas: &[Bytes],
+    leaf: Option<Leaf>,
+    lists: Option<&CrlStore>,
+    strict: bool,
+    now: Time,
+    verifier: &V,
+) -> Result<ResourceCert, PathError>
+    // Ok exactly where each string begins with a member of a valid path, none of which is revoked where lists are given.
+    ensures validates { let x = context (V.verifies verifier.now) now strict in
+        let pairs = option_map (λ store. store.now.pairs) lists.entry in
+        Validates x pairs anchor.now (asked cas.now leaf) [] result }
+{
+    let tal = match nameless(alloc) {
+        Ok(tal) => tal,
+        Err(_) => {
+            drop(leaf);
+            return Err(out_of_memory());
+        }
+    };
+    match lists {
+        Some(store) => validate_path_with(
+            alloc, store, anchor, cas, leaf, tal, strict, now, verifier,
+        ),
+        None => validate_path(alloc, anchor, cas, leaf, tal, strict, now, verifier),
+    }
+}
+
+// The leaf that the last string is to be, where it is to be one.
+fn leaf_of(last: Last, octets: &Bytes) -> Result<Option<Leaf>, AllocError>
+    ensures { IfOk result (λ leaf. leaf ≡ leaf_for last octets.now) }
+{
+    match last {
+        Last::Authority => Ok(None),
+        Last::EndEntity => Ok(Some(Leaf::Ee(octets.clone()?))),
+        Last::Detached => Ok(Some(Leaf::DetachedEe(octets.clone()?))),
+    }
+}
+
+// Validates the path of the anchor and the strings below it, of which the last is a leaf.
+fn judge_leaf<V: Verifier>(
+    alloc: Global,
+    anchor: &Bytes,
+    below: &[Bytes],
+    last: Last,
+    lists: Option<&CrlStore>,
+    strict: bool,
+    now: Time,
+    verifier: &V,
+) -> Option<Result<ResourceCert, PathError>>
+    ensures { let x = context (V.verifies verifier.now) now strict in
+        let pairs = option_map (λ store. store.now.pairs) lists.entry in
+        IfSome result (EndsInLeaf x pairs last anchor.now below.now) }
+{
+    let (octets, cas) = below.split_last()?;
+    match leaf_of(last, octets) {
+        Ok(leaf) => Some(validate(alloc, anchor, cas, leaf, lists, strict, now, verifier)),
+        Err(_) => Some(Err(out_of_memory())),
+    }
+}
+
+/// Validates the path of these strings, the anchor first. `None` where there is no string, or where the anchor alone is to be a leaf.
+pub(crate) fn judge<V: Verifier>(
+    alloc: Global,
+    strings: &[Bytes],
+    last: Last,
+    lists: Option<&CrlStore>,
+    strict: bool,
+    now: Time,
+    verifier: &V,
+) -> Option<Result<ResourceCert, PathError>>
+    ensures { let x = context (V.verifies verifier.now) now strict in
+        let pairs = option_map (λ store. store.now.pairs) lists.entry in
+        IfSome result (IsJudged x pairs last strings.now) }
+{
+    let (anchor, below) = strings.split_first()?;
+    match last {
+        Last::Authority => Some(validate(alloc, anchor, below, None, lists, strict, now, verifier)),
+        Last::EndEntity => judge_leaf(alloc, anchor, below, last, lists, strict, now, verifier),
+        Last::Detached => judge_leaf(alloc, anchor, below, last, lists, strict, now, verifier),
+    }
+}
+
+// Asks the lists, where they are given, whether the router's certificate below the issuer is revoked.
+fn ask_lists<V: Verifier>(
+    lists: Option<&CrlStore>,
+    cert: &Cert,
+    issuer: &ResourceCert,
+    strict: bool,
+    now: Time,
+    verifier: &V,
+) -> Result<(), RevocationError> {
+    let Some(store) = lists else {
+        return Ok(());
+    };
+    let tbs = cert.as_tbs();
+    match tbs.crl_uri() {
+        Some(uri) => store.check(uri, tbs.serial_number(), issuer, strict, now, verifier),
+        None => Err(RevocationError::NoCrl),
+    }
+}
+
+// Whether the router's certificate is valid below the issuer, and not revoked where lists are given (that is `CrlStore::check`'s to say).
+fn check_router_cert<V: Verifier>(
+    cert: &Cert,
+    issuer: &ResourceCert,
+    lists: Option<&CrlStore>,
+    strict: bool,
+    now: Time,
+    verifier: &V,
+) -> Result<(), PathFault>
+    ensures { let x = context (V.verifies verifier.now) now strict in
+        OnOk result (IsRouterUnder x issuer.now cert.now) }
+{
+    cert.validate_router_at(issuer, strict, now, verifier)?;
+    ask_lists(lists, cert, issuer, strict, now, verifier)?;
+    Ok(())
+}
+
+// The member above a router at this place, where the router's test went well.
+fn answer_of(
+    issuer: ResourceCert,
+    index: usize,
+    test: Result<(), PathFault>,
+) -> Result<ResourceCert, PathError>
+    ensures ok { IfOk result (λ r. r ≡ issuer) }
+    ensures passed { OnOk result (test ≡ Ok tt) }
+{
+    match test {
+        Ok(()) => Ok(issuer),
+        Err(fault) => {
+            drop(issuer);
+            Err(PathError { index, fault })
+        }
+    }
+}
+
+// Whether the router's certificate that the string begins with is valid below the issuer, and not revoked where lists are given.
+fn check_router<V: Verifier>(
+    alloc: Global,
+    octets: &Bytes,
+    issuer: &ResourceCert,
+    lists: Option<&CrlStore>,
+    strict: bool,
+    now: Time,
+    verifier: &V,
+) -> Result<(), PathFault>
+    ensures { let x = context (V.verifies verifier.now) now strict in
+        OnOk result (IsRouter x issuer.now octets.now) }
+{
+    let cert = Cert::decode_shared(alloc, octets.clone()?)?;
+    let answer = check_router_cert(&cert, issuer, lists, strict, now, verifier);
+    drop(cert);
+    answer
+}
+
+/// Validates the path of these strings, the anchor first, of which the last is a router's. The answer is the member above the router. `None`
+/// where there are less than two strings.
+pub(crate) fn judge_router<V: Verifier>(
+    alloc: Global,
+    strings: &[Bytes],
+    lists: Option<&CrlStore>,
+    strict: bool,
+    now: Time,
+    verifier: &V,
+) -> Option<Result<ResourceCert, PathError>>
+    ensures { let x = context (V.verifies verifier.now) now strict in
+        let pairs = option_map (λ store. store.now.pairs) lists.entry in
+        IfSome result (EndsInRouter x pairs strings.now) }
+{
+    let (router, above) = strings.split_last()?;
+    let issuer = judge(alloc, above, Last::Authority, lists, strict, now, verifier)?;
+    match issuer {
+        Ok(issuer) => {
+            let test = check_router(alloc, router, &issuer, lists, strict, now, verifier);
+            Some(answer_of(issuer, above.len(), test))
+        }
+        Err(error) => Some(Err(error)),
+    }
+}
