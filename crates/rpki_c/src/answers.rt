@@ -25,7 +25,8 @@ impl Said {
     }
 }
 
-/// The questions to which the caller said yes. A signature is good exactly where one of them is of its key, message and octets.
+/// The questions to which the caller said yes. A signature is good exactly where one of them is of
+/// its key, message and octets.
 #[derive(Drop)]
 pub(crate) struct Answers {
     pub(crate) said: Vec<Said>,

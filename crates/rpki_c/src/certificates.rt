@@ -31,7 +31,8 @@ pub struct RpkiCertificate {
     pub v4: u8,
     pub v6: u8,
     pub asn: u8,
-    /// The first fault as a trust anchor, an authority, an end entity, a detached one, a router; 0 where there is none.
+    /// The first fault as a trust anchor, an authority, an end entity, a detached one, a router; 0
+    /// where there is none.
     pub faults: [u32; 5],
 }
 
@@ -122,8 +123,9 @@ pub extern "C" fn rpki_certificate_read(
     }
 }
 
-/// Writes the ranges of addresses that the certificate lists, of IPv4 where `family` is 4 and else of IPv6: as many as there is room for, and in
-/// `count` how many there are. Answers 0, or the number of a fault.
+/// Writes the ranges of addresses that the certificate lists, of IPv4 where `family` is 4 and else
+/// of IPv6: as many as there is room for, and in `count` how many there are. Answers 0, or the
+/// number of a fault.
 #[unsafe(no_mangle)]
 pub extern "C" fn rpki_certificate_addresses(
     alloc: Global,
@@ -149,8 +151,8 @@ pub extern "C" fn rpki_certificate_addresses(
     }
 }
 
-/// Writes the ranges of AS numbers that the certificate lists: as many as there is room for, and in `count` how many there are. Answers 0, or the
-/// number of a fault.
+/// Writes the ranges of AS numbers that the certificate lists: as many as there is room for, and in
+/// `count` how many there are. Answers 0, or the number of a fault.
 #[unsafe(no_mangle)]
 pub extern "C" fn rpki_certificate_as_numbers(
     alloc: Global,
@@ -183,9 +185,10 @@ fn uri_of(data: &TbsCert, which: u32) -> Option<&[u8]> {
     }
 }
 
-/// Writes one URI: 0 of the issuer's certificate, 1 of the revocation list, 2 of the repository, 3 of the manifest, 4 of the signed object, 5 of
-/// the notification file. Writes as many octets as there is room for, and in `count` how many there are; 0 where there is no such URI. Answers
-/// 0, or the number of a fault.
+/// Writes one URI: 0 of the issuer's certificate, 1 of the revocation list, 2 of the repository, 3
+/// of the manifest, 4 of the signed object, 5 of the notification file. Writes as many octets as
+/// there is room for, and in `count` how many there are; 0 where there is no such URI. Answers 0,
+/// or the number of a fault.
 #[unsafe(no_mangle)]
 pub extern "C" fn rpki_certificate_uri(
     alloc: Global,
@@ -207,8 +210,9 @@ pub extern "C" fn rpki_certificate_uri(
     }
 }
 
-/// Writes a name as DER: of the issuer where `which` is 0, and else of the subject. Writes as many octets as there is room for, and in `count`
-/// how many there are. Answers 0, or the number of a fault.
+/// Writes a name as DER: of the issuer where `which` is 0, and else of the subject. Writes as many
+/// octets as there is room for, and in `count` how many there are. Answers 0, or the number of a
+/// fault.
 #[unsafe(no_mangle)]
 pub extern "C" fn rpki_certificate_name(
     alloc: Global,

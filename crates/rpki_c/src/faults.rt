@@ -1,4 +1,5 @@
-//! Faults as numbers. They are written out, here and in `include/rpki.h`: a number never gets another meaning.
+//! Faults as numbers. They are written out, here and in `include/rpki.h`: a number never gets
+//! another meaning.
 use rpki_cert::{InspectionError, VerificationError};
 use rpki_crl::RevocationError;
 use rpki_der::{DecodeError, Field};

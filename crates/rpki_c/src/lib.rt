@@ -1,5 +1,6 @@
-//! Certificates, revocation lists and paths for C: functions on octets, which write into memory of the caller's and keep
-//! nothing. What an export promises of its answer stands at the function below it; `include/rpki.h` tells the caller's part.
+//! Certificates, revocation lists and paths for C: functions on octets, which write into memory of
+//! the caller's and keep nothing. What an export promises of its answer stands at the function
+//! below it; `include/rpki.h` tells the caller's part.
 #![tactic(auto)]
 
 mod answers;

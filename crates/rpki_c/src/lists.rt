@@ -74,7 +74,8 @@ fn put_entries(list: &Crl, out: &mut [RpkiEntry]) -> u64 {
     count as u64
 }
 
-/// Writes the entries of the list: as many as there is room for, and in `count` how many there are. Answers 0, or the number of a fault.
+/// Writes the entries of the list: as many as there is room for, and in `count` how many there are.
+/// Answers 0, or the number of a fault.
 #[unsafe(no_mangle)]
 pub extern "C" fn rpki_list_entries(
     alloc: Global,
@@ -93,7 +94,8 @@ pub extern "C" fn rpki_list_entries(
     }
 }
 
-/// Writes the issuer's name as DER: as many octets as there is room for, and in `count` how many there are. Answers 0, or the number of a fault.
+/// Writes the issuer's name as DER: as many octets as there is room for, and in `count` how many
+/// there are. Answers 0, or the number of a fault.
 #[unsafe(no_mangle)]
 pub extern "C" fn rpki_list_issuer(
     alloc: Global,
@@ -130,8 +132,9 @@ fn put_answers(list: &Crl, serials: &[u8], answers: &mut [u8]) -> u32 {
     NONE
 }
 
-/// Asks the list for serial numbers, which stand one behind the other in 20 octets each, and writes 1 where one is on the list and else 0. Where
-/// there are several a sorted table is made first, so that each further one costs little. Answers 0, or the number of a fault.
+/// Asks the list for serial numbers, which stand one behind the other in 20 octets each, and writes
+/// 1 where one is on the list and else 0. Where there are several a sorted table is made first, so
+/// that each further one costs little. Answers 0, or the number of a fault.
 #[unsafe(no_mangle)]
 pub extern "C" fn rpki_list_ask(
     alloc: Global,

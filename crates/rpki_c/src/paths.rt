@@ -22,7 +22,8 @@ pub struct RpkiVerdict {
     pub fault: u32,
     /// The place of the first wrong member; the anchor's is 0.
     pub index: u32,
-    /// How many ranges the last member (of a router: the one above it) holds of IPv4, IPv6 and AS numbers.
+    /// How many ranges the last member (of a router: the one above it) holds of IPv4, IPv6 and AS
+    /// numbers.
     pub v4: u64,
     pub v6: u64,
     pub asn: u64,
@@ -95,10 +96,11 @@ fn answer<V: Verifier>(
     judge(alloc, members, kind, lists, strict, now, verifier)
 }
 
-/// Validates the path of the members, which stand one behind the other and have these lengths, the anchor first, with real signatures
-/// (RSASSA-PKCS1-v1_5 with SHA-256). `last` says what the last one is: 1 an authority (or the anchor, alone), 2 an end entity, 3 a detached
-/// one, 4 a router. Writes the ranges that the last member holds (of a router: the one above it), as many as there is room for. Answers the
-/// verdict's fault.
+/// Validates the path of the members, which stand one behind the other and have these lengths, the
+/// anchor first, with real signatures (RSASSA-PKCS1-v1_5 with SHA-256). `last` says what the last
+/// one is: 1 an authority (or the anchor, alone), 2 an end entity, 3 a detached one, 4 a router.
+/// Writes the ranges that the last member holds (of a router: the one above it), as many as there
+/// is room for. Answers the verdict's fault.
 #[unsafe(no_mangle)]
 pub extern "C" fn rpki_path_validate(
     alloc: Global,
@@ -157,7 +159,8 @@ fn shared(octets: &Bytes) -> Result<Bytes, AllocError> {
     octets.clone()
 }
 
-// The lists under their URIs. Errs with the number of a fault, and the place of the list that it is of.
+// The lists under their URIs. Errs with the number of a fault, and the place of the list that it is
+// of.
 fn store_of(alloc: Global, lists: &[Bytes], uris: &[Bytes]) -> Result<CrlStore, (u32, usize)> {
     let mut store = CrlStore::new(alloc);
     let mut at = 0usize;
@@ -174,7 +177,8 @@ fn store_of(alloc: Global, lists: &[Bytes], uris: &[Bytes]) -> Result<CrlStore, 
     Ok(store)
 }
 
-// The lists of the caller's octets. Errs with the number of a fault, and the place of the list that it is of.
+// The lists of the caller's octets. Errs with the number of a fault, and the place of the list that
+// it is of.
 fn given_lists(
     alloc: Global,
     lists: &[u8],
@@ -200,9 +204,10 @@ fn given_lists(
     }
 }
 
-/// Validates a path as `rpki_path_validate` does, and asks the revocation lists whether a member below the anchor is revoked. The lists stand one
-/// behind the other and have these lengths, and so do the URIs under which they are found, one for each list. Where a list can't be read or its
-/// URI is none, the verdict's index is the number of members and the list's place.
+/// Validates a path as `rpki_path_validate` does, and asks the revocation lists whether a member
+/// below the anchor is revoked. The lists stand one behind the other and have these lengths, and so
+/// do the URIs under which they are found, one for each list. Where a list can't be read or its URI
+/// is none, the verdict's index is the number of members and the list's place.
 #[unsafe(no_mangle)]
 pub extern "C" fn rpki_path_validate_with(
     alloc: Global,
@@ -268,8 +273,9 @@ fn answer_said(
     Ok(answer)
 }
 
-/// Validates a path as `rpki_path_validate` does, with signatures that the caller has checked: `yes` has an octet for each question of
-/// `rpki_path_questions`, 1 where the signature is good. Answers the verdict's fault.
+/// Validates a path as `rpki_path_validate` does, with signatures that the caller has checked:
+/// `yes` has an octet for each question of `rpki_path_questions`, 1 where the signature is good.
+/// Answers the verdict's fault.
 #[unsafe(no_mangle)]
 pub extern "C" fn rpki_path_validate_said(
     alloc: Global,

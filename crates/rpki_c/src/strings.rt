@@ -2,7 +2,8 @@
 use bytes::Bytes;
 use std::alloc::{AllocError, Global};
 
-/// The strings that stand one behind the other and have these lengths; none where the octets end before them or go on behind them.
+/// The strings that stand one behind the other and have these lengths; none where the octets end
+/// before them or go on behind them.
 pub(crate) fn cut(
     alloc: Global,
     octets: &[u8],

@@ -116,7 +116,8 @@ fn fault(number: u32) -> Option<PathFault> {
     }
 }
 
-// The numbers whose faults have no name of the library's, or one with an identifier that a number doesn't tell.
+// The numbers whose faults have no name of the library's, or one with an identifier that a number
+// doesn't tell.
 fn plain(number: u32) -> Option<(&'static str, &'static str)> {
     match number {
         NONE => Some(("None", "no fault")),
@@ -137,8 +138,9 @@ fn name_of(fault: &PathFault) -> &'static str {
     }
 }
 
-/// Tells the name of the fault with this number, as the library's enums have it: writes as many octets as there is room for, and in `count`
-/// how many there are. Answers 0, or 2 where no fault has the number.
+/// Tells the name of the fault with this number, as the library's enums have it: writes as many
+/// octets as there is room for, and in `count` how many there are. Answers 0, or 2 where no fault
+/// has the number.
 #[unsafe(no_mangle)]
 pub extern "C" fn rpki_fault_name(number: u32, out: &mut [u8], count: &mut u64) -> u32 {
     *count = 0;
@@ -166,8 +168,9 @@ fn put_sentence(alloc: Global, fault: &PathFault, out: &mut [u8], count: &mut u6
     }
 }
 
-/// Tells what the fault with this number means, as the library prints it: writes as many octets as there is room for, and in `count` how many
-/// there are. Answers 0, or 2 where no fault has the number.
+/// Tells what the fault with this number means, as the library prints it: writes as many octets as
+/// there is room for, and in `count` how many there are. Answers 0, or 2 where no fault has the
+/// number.
 #[unsafe(no_mangle)]
 pub extern "C" fn rpki_fault_sentence(
     alloc: Global,

@@ -51,7 +51,8 @@ pub(crate) fn validate<V: Verifier>(
     now: Time,
     verifier: &V,
 ) -> Result<ResourceCert, PathError>
-    // Ok exactly where each string begins with a member of a valid path, none of which is revoked where lists are given.
+    // Ok exactly where each string begins with a member of a valid path, none of which is revoked
+    // where lists are given.
     ensures validates { let x = context (V.verifies verifier.now) now strict in
         let pairs = option_map (λ store. store.now.pairs) lists.entry in
         Validates x pairs anchor.now (asked cas.now leaf) [] result }
@@ -104,7 +105,8 @@ fn judge_leaf<V: Verifier>(
     }
 }
 
-/// Validates the path of these strings, the anchor first. `None` where there is no string, or where the anchor alone is to be a leaf.
+/// Validates the path of these strings, the anchor first. `None` where there is no string, or where
+/// the anchor alone is to be a leaf.
 pub(crate) fn judge<V: Verifier>(
     alloc: Global,
     strings: &[Bytes],
@@ -126,7 +128,8 @@ pub(crate) fn judge<V: Verifier>(
     }
 }
 
-// Asks the lists, where they are given, whether the router's certificate below the issuer is revoked.
+// Asks the lists, where they are given, whether the router's certificate below the issuer is
+// revoked.
 fn ask_lists<V: Verifier>(
     lists: Option<&CrlStore>,
     cert: &Cert,
@@ -145,7 +148,8 @@ fn ask_lists<V: Verifier>(
     }
 }
 
-// Whether the router's certificate is valid below the issuer, and not revoked where lists are given (that is `CrlStore::check`'s to say).
+// Whether the router's certificate is valid below the issuer, and not revoked where lists are given
+// (that is `CrlStore::check`'s to say).
 fn check_router_cert<V: Verifier>(
     cert: &Cert,
     issuer: &ResourceCert,
@@ -180,7 +184,8 @@ fn answer_of(
     }
 }
 
-// Whether the router's certificate that the string begins with is valid below the issuer, and not revoked where lists are given.
+// Whether the router's certificate that the string begins with is valid below the issuer, and not
+// revoked where lists are given.
 fn check_router<V: Verifier>(
     alloc: Global,
     octets: &Bytes,
@@ -199,8 +204,8 @@ fn check_router<V: Verifier>(
     answer
 }
 
-/// Validates the path of these strings, the anchor first, of which the last is a router's. The answer is the member above the router. `None`
-/// where there are less than two strings.
+/// Validates the path of these strings, the anchor first, of which the last is a router's. The
+/// answer is the member above the router. `None` where there are less than two strings.
 pub(crate) fn judge_router<V: Verifier>(
     alloc: Global,
     strings: &[Bytes],
