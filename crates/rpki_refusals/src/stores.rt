@@ -110,8 +110,8 @@ fn list(alloc: Global) -> Option<Crl> {
     data(alloc)?.into_crl(alloc, &StandIn, &key).ok()
 }
 
-// Whether the list answers as it was made, and from a table of its serials or not: a walk looks at all eight entries
-// to tell that one isn't there, a table at four at most.
+// Whether the list answers as it was made, and from a table of its serials or not: a walk looks at
+// all eight entries to tell that one isn't there, a table at four at most.
 fn is_list(list: &Crl, is_cached: bool) -> bool {
     let (is_in, looks) = list.contains_counted(Serial::from(9u64));
     let has = list.contains(Serial::from(1u64)) && list.contains(Serial::from(8u64));
