@@ -2,7 +2,9 @@
 
 use crate::asking::{Asked, Told, begin, end, ended, plain, read, vector, written_digits};
 use crate::inputs::octets;
-use rpki_crl::{Crl, CrlEntry, CrlStore, InvalidExtension, RevokedCertificates, TbsCertList};
+use rpki_crl::{
+    Crl, CrlEntry, CrlStore, InvalidExtension, RevokedCertificates, TbsCertList, round_trip,
+};
 use rpki_der::{Cursor, Oid, Serial};
 use rpki_parts::{RpkiSignatureAlgorithm, StandIn};
 use rpki_samples::{day, rsa, uri};
@@ -103,6 +105,18 @@ fn made(alloc: Global) -> Option<Told> {
     begin(alloc);
     let answer = data.into_crl(alloc, &StandIn, &key);
     plain(alloc, answer)
+}
+
+/// A list that was made, and is read from its own octets.
+pub fn read_again(alloc: Global) -> Option<Told> {
+    let key = rsa(b"abc");
+    let Ok(made) = data(alloc)?.into_crl(alloc, &StandIn, &key) else {
+        return None;
+    };
+    begin(alloc);
+    let answer = ended(alloc, round_trip::read_again(alloc, &made));
+    drop(made);
+    Some(Told::of(answer))
 }
 
 fn list(alloc: Global) -> Option<Crl> {
