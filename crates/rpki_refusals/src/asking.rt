@@ -76,8 +76,8 @@ impl Told {
     }
 }
 
-// Asks for so many octets and gives them back. `tests/refuse.c` takes the two lengths below for the marks that
-// they are.
+// Asks for so many octets and gives them back. `tests/refuse.c` takes the two lengths below for the
+// marks that they are.
 fn mark(alloc: Global, octets: usize) {
     let asked: Result<Vec<u8>, AllocError> = Vec::with_capacity(alloc, octets);
     drop(asked);
@@ -199,7 +199,8 @@ pub fn plain<T: Drop, E: Fault>(alloc: Global, answer: Result<T, E>) -> Option<T
     Some(Told::of(ended(alloc, answer)))
 }
 
-/// What a reader answered: the cursor has to stand at its end after an Ok, and where it stood, at 0, after an error.
+/// What a reader answered: the cursor has to stand at its end after an Ok, and where it stood, at
+/// 0, after an error.
 pub fn read<T: Drop, E: Fault>(
     alloc: Global,
     answer: Result<T, E>,
@@ -232,7 +233,8 @@ pub fn vector(alloc: Global) -> Option<Vec<u8>> {
     Some(out)
 }
 
-/// What a writer answered: the vector has to hold these octets behind `AA` after an Ok, and `AA` after an error.
+/// What a writer answered: the vector has to hold these octets behind `AA` after an Ok, and `AA`
+/// after an error.
 pub fn written<E: Fault>(
     alloc: Global,
     answer: Result<(), E>,
@@ -242,7 +244,8 @@ pub fn written<E: Fault>(
     judged(ended(alloc, answer), out, octets)
 }
 
-/// What a writer answered, with the octets in hexadecimal digits, which are read once the call has ended.
+/// What a writer answered, with the octets in hexadecimal digits, which are read once the call has
+/// ended.
 pub fn written_digits<E: Fault>(
     alloc: Global,
     answer: Result<(), E>,

@@ -75,8 +75,8 @@ fn builder(alloc: Global) -> Option<Told> {
     Some(Told::of("ok"))
 }
 
-// Pushes AS20, AS22 and so on, each a block of its own, until one is refused; the one that was refused, or the
-// first that wasn't pushed.
+// Pushes AS20, AS22 and so on, each a block of its own, until one is refused; the one that was
+// refused, or the first that wasn't pushed.
 fn push_many(blocks: &mut AsBlocksBuilder) -> (u32, Result<(), AllocError>) {
     for place in 0..9u32 {
         let number = 20 + 2 * place;

@@ -5,6 +5,7 @@ use crate::inputs::{ANCHOR, certificate, octets};
 use bytes::Bytes;
 use rpki_cert::{Cert, TbsCert, rearrange, round_trip};
 use rpki_der::Cursor;
+use rpki_parts::StandIn;
 use std::alloc::Global;
 
 fn decoded(alloc: Global) -> Option<Told> {
@@ -72,11 +73,17 @@ fn copied(alloc: Global) -> Option<Told> {
     Some(Told::of(answer))
 }
 
+// A trust anchor's certificate that was made, and is read from its own octets.
 fn read_again(alloc: Global) -> Option<Told> {
-    let cert = certificate(alloc, ANCHOR)?;
+    let key = rpki_samples::rsa(b"abc");
+    let mut tbs = rpki_samples::anchor(alloc)?;
+    tbs.set_v4_resources_inherit();
+    let Ok(made) = tbs.into_cert(alloc, &StandIn, &key) else {
+        return None;
+    };
     begin(alloc);
-    let answer = ended(alloc, round_trip::read_again(alloc, &cert));
-    drop(cert);
+    let answer = ended(alloc, round_trip::read_again(alloc, &made));
+    drop(made);
     Some(Told::of(answer))
 }
 

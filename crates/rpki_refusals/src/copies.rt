@@ -1,4 +1,5 @@
-//! What `Clone` gives of the types that are copied: by its type it may answer out of memory, and it asks for none.
+//! What `Clone` gives of the types that are copied: by its type it may answer out of memory, and it
+//! asks for none.
 
 use crate::asking::{Asked, Told, begin, plain};
 use rpki_blocks::{Addr, AsBlock, Asn, Overclaim, Prefix};

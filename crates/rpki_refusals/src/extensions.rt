@@ -15,8 +15,8 @@ use rpki_parts::Https;
 use rpki_samples::{rsa, uri};
 use std::alloc::Global;
 
-// What the contents of extensions are: where an issuer's certificate and its list lie, where a subject publishes,
-// and the purposes of a server and of a router.
+// What the contents of extensions are: where an issuer's certificate and its list lie, where a
+// subject publishes, and the purposes of a server and of a router.
 const ISSUER: &str =
     "302a302806082b06010505073002861c7273796e633a2f2f6578616d706c652e636f6d2f6d2f74612e636572";
 
@@ -202,7 +202,8 @@ fn row_written(alloc: Global) -> Option<Told> {
     Some(Told::standing(answer, stands))
 }
 
-// The identifier of the subject's key, Key Usage and Certificate Policies, in the order in which they are written.
+// The identifier of the subject's key, Key Usage and Certificate Policies, in the order in which
+// they are written.
 const ROW: &str =
     "301d0603551d0e04160414a9993e364706816aba3e25717850c26c9cd0d89d300e0603551d0f0101ff04040302078030180603551d200101ff040e300c300a06082b06010505070e03";
 

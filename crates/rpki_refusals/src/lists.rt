@@ -2,8 +2,9 @@
 
 use crate::asking::{Asked, Told, begin, ended, plain, read, read_from, written};
 use crate::inputs::{LIST, list, octets};
+use crate::stores;
 use bytes::Bytes;
-use rpki_crl::{Crl, TbsCertList, round_trip};
+use rpki_crl::{Crl, TbsCertList};
 use rpki_der::Cursor;
 use std::alloc::Global;
 
@@ -83,14 +84,6 @@ fn cached_copied(alloc: Global) -> Option<Told> {
     Some(Told::of(answer))
 }
 
-fn read_again(alloc: Global) -> Option<Told> {
-    let list = list(alloc)?;
-    begin(alloc);
-    let answer = ended(alloc, round_trip::read_again(alloc, &list));
-    drop(list);
-    Some(Told::of(answer))
-}
-
 // The data of the list.
 fn data(alloc: Global) -> Option<Bytes> {
     let list = list(alloc)?;
@@ -139,7 +132,7 @@ fn reading(alloc: Global, asked: &mut Asked<'_>) -> Option<Told> {
     } else if asked.is("rpki_crl::TbsCertList::take_from") {
         data_read(alloc)
     } else if asked.is("rpki_crl::round_trip::read_again") {
-        read_again(alloc)
+        stores::read_again(alloc)
     } else {
         None
     }

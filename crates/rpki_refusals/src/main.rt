@@ -1,9 +1,11 @@
-//! Makes one public call that may allocate, over a worked input, and prints what it answered and whether what
-//! stands afterwards is what has to stand. `tests/refusals` runs it with each request for memory refused in turn.
+//! Makes one public call that may allocate, over a worked input, and prints what it answered and
+//! whether what stands afterwards is what has to stand. `tests/refusals` runs it with each request
+//! for memory refused in turn.
 //!
-//! The argument is the call's public path, as `rpki_cert::Cert::take_from`, or `list`, which prints the paths of
-//! all calls, one a line. What is printed is `ok` or the name of the error, and then `kept` or `changed`; `none`
-//! of a path that is not in the list, and of an input that could not be made.
+//! The argument is the call's public path, as `rpki_cert::Cert::take_from`, or `list`, which prints
+//! the paths of all calls, one a line. What is printed is `ok` or the name of the error, and then
+//! `kept` or `changed`; `none` of a path that is not in the list, and of an input that could not be
+//! made.
 #![tactic(auto)]
 
 mod asking;

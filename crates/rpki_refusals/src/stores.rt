@@ -2,7 +2,9 @@
 
 use crate::asking::{Asked, Told, begin, end, ended, plain, read, vector, written_digits};
 use crate::inputs::octets;
-use rpki_crl::{Crl, CrlEntry, CrlStore, InvalidExtension, RevokedCertificates, TbsCertList};
+use rpki_crl::{
+    Crl, CrlEntry, CrlStore, InvalidExtension, RevokedCertificates, TbsCertList, round_trip,
+};
 use rpki_der::{Cursor, Oid, Serial};
 use rpki_parts::{RpkiSignatureAlgorithm, StandIn};
 use rpki_samples::{day, rsa, uri};
@@ -105,13 +107,25 @@ fn made(alloc: Global) -> Option<Told> {
     plain(alloc, answer)
 }
 
+/// A list that was made, and is read from its own octets.
+pub fn read_again(alloc: Global) -> Option<Told> {
+    let key = rsa(b"abc");
+    let Ok(made) = data(alloc)?.into_crl(alloc, &StandIn, &key) else {
+        return None;
+    };
+    begin(alloc);
+    let answer = ended(alloc, round_trip::read_again(alloc, &made));
+    drop(made);
+    Some(Told::of(answer))
+}
+
 fn list(alloc: Global) -> Option<Crl> {
     let key = rsa(b"abc");
     data(alloc)?.into_crl(alloc, &StandIn, &key).ok()
 }
 
-// Whether the list answers as it was made, and from a table of its serials or not: a walk looks at all eight entries
-// to tell that one isn't there, a table at four at most.
+// Whether the list answers as it was made, and from a table of its serials or not: a walk looks at
+// all eight entries to tell that one isn't there, a table at four at most.
 fn is_list(list: &Crl, is_cached: bool) -> bool {
     let (is_in, looks) = list.contains_counted(Serial::from(9u64));
     let has = list.contains(Serial::from(1u64)) && list.contains(Serial::from(8u64));
