@@ -2,7 +2,7 @@
 ghost use Rattle.std.specs.Prelude.{◌≡◌, [], Ok, IfOk, OnOk, IfSome, option_map};
 ghost use Rattle.std.proofs.Common.{rc_value};
 ghost use Rattle.rpki_cert.specs.Verification.{context};
-ghost use Rattle.rpki_path.specs.Paths.{asked, Validates};
+ghost use Rattle.rpki_path.specs.Paths.{asked, Validates, IsUnrevokedIfAsked};
 ghost use Rattle.rpki_path.specs.declared.path_fault.PathFault.TheVariants.{Memory};
 ghost use Rattle.rpki_c.specs.Judged.{leaf_for, EndsInLeaf, IsJudged, IsRouterUnder, IsRouter, EndsInRouter};
 
@@ -137,7 +137,11 @@ fn ask_lists<V: Verifier>(
     strict: bool,
     now: Time,
     verifier: &V,
-) -> Result<(), RevocationError> {
+) -> Result<(), RevocationError>
+    ensures { let x = context (V.verifies verifier.now) now strict in
+        let pairs = option_map (λ store. store.now.pairs) lists.entry in
+        OnOk result (IsUnrevokedIfAsked x pairs issuer.now.cert.fields cert.now) }
+{
     let Some(store) = lists else {
         return Ok(());
     };
@@ -148,8 +152,7 @@ fn ask_lists<V: Verifier>(
     }
 }
 
-// Whether the router's certificate is valid below the issuer, and not revoked where lists are given
-// (that is `CrlStore::check`'s to say).
+// Whether the router's certificate is valid below the issuer, and not revoked where lists are given.
 fn check_router_cert<V: Verifier>(
     cert: &Cert,
     issuer: &ResourceCert,
@@ -159,7 +162,8 @@ fn check_router_cert<V: Verifier>(
     verifier: &V,
 ) -> Result<(), PathFault>
     ensures { let x = context (V.verifies verifier.now) now strict in
-        OnOk result (IsRouterUnder x issuer.now cert.now) }
+        let pairs = option_map (λ store. store.now.pairs) lists.entry in
+        OnOk result (IsRouterUnder x pairs issuer.now cert.now) }
 {
     cert.validate_router_at(issuer, strict, now, verifier)?;
     ask_lists(lists, cert, issuer, strict, now, verifier)?;
@@ -196,7 +200,8 @@ fn check_router<V: Verifier>(
     verifier: &V,
 ) -> Result<(), PathFault>
     ensures { let x = context (V.verifies verifier.now) now strict in
-        OnOk result (IsRouter x issuer.now octets.now) }
+        let pairs = option_map (λ store. store.now.pairs) lists.entry in
+        OnOk result (IsRouter x pairs issuer.now octets.now) }
 {
     let cert = Cert::decode_shared(alloc, octets.clone()?)?;
     let answer = check_router_cert(&cert, issuer, lists, strict, now, verifier);
