@@ -158,7 +158,6 @@ struct rpki_certificate {
     uint8_t key_usage;   /* 0 of an authority, 1 of an end entity */
     uint8_t overclaim;   /* 0 refused, 1 trimmed (RFC 8360) */
     uint8_t v4, v6, asn; /* enum rpki_state */
-    uint32_t faults[5];  /* by enum rpki_kind: RPKI_OK where its profile is met, else the first fault */
 };
 
 /* addresses have their greatest octet first; one of IPv4 stands in the first four */
@@ -170,8 +169,11 @@ struct rpki_as_range {
     uint32_t min, max;
 };
 
-/* `strict` is 1 where names have to have the strings of RFC 6487 4.4, and 0 where other strings may stand there */
-uint32_t rpki_certificate_read(const uint8_t *octets, size_t length, uint32_t strict, struct rpki_certificate *out);
+uint32_t rpki_certificate_read(const uint8_t *octets, size_t length, struct rpki_certificate *out);
+
+/* answers RPKI_OK where the certificate meets the profile of the kind, an enum rpki_kind, and else its first fault;
+ * `strict` is 1 where names have to have the strings of RFC 6487 4.4, and 0 where other strings may stand there */
+uint32_t rpki_certificate_inspect(const uint8_t *octets, size_t length, uint32_t kind, uint32_t strict);
 
 /* the ranges that the certificate lists, of IPv4 where `family` is 4 and else of IPv6; they ascend, apart */
 uint32_t rpki_certificate_addresses(const uint8_t *octets, size_t length, uint32_t family, struct rpki_ip_range *out,
@@ -238,7 +240,7 @@ uint32_t rpki_path_validate(const uint8_t *octets, size_t length, const size_t *
                             struct rpki_ip_range *v6, size_t v6_room, struct rpki_as_range *asn, size_t asn_room,
                             struct rpki_verdict *out);
 
-/* The same, and asks revocation lists of each member below the anchor: the list under the member's URI is signed by the
+/* Validates a path, and asks revocation lists of each member below the anchor: the list under the member's URI is signed by the
  * member above, isn't stale, and doesn't name the member. The lists stand one behind the other, and so do the rsync
  * URIs where they were found, one for each list. Where a list can't be read, or its URI is none, the verdict's index is
  * the number of members and the list's place. */

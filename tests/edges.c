@@ -55,7 +55,7 @@ static void cut_short(struct file cert, struct file list) {
     for (size_t length = 0; length < cert.length; length++) {
         uint8_t *octets = malloc(length > 0 ? length : 1);
         memcpy(octets, cert.octets, length);
-        check(is_decoding(rpki_certificate_read(octets, length, 1, &certificate)), "a cut certificate is refused");
+        check(is_decoding(rpki_certificate_read(octets, length, &certificate)), "a cut certificate is refused");
         check(is_decoding(rpki_certificate_uri(octets, length, 1, NULL, 0, &count)) && count == 0, "a cut certificate has no URI");
         free(octets);
     }
@@ -66,7 +66,7 @@ static void cut_short(struct file cert, struct file list) {
         check(is_decoding(rpki_list_ask(octets, length, serial, 20, &answer, 1)), "a cut list answers nothing");
         free(octets);
     }
-    check(is_decoding(rpki_certificate_read(NULL, 0, 1, &certificate)), "NULL of no octets is no certificate");
+    check(is_decoding(rpki_certificate_read(NULL, 0, &certificate)), "NULL of no octets is no certificate");
     check(is_decoding(rpki_list_read(NULL, 0, &head)), "NULL of no octets is no list");
 }
 
@@ -78,8 +78,9 @@ static void more(struct file cert) {
     memset(octets + cert.length, 0xa5, 7);
     memset(&alone, 0, sizeof alone);
     memset(&followed, 0, sizeof followed);
-    check(rpki_certificate_read(cert.octets, cert.length, 1, &alone) == RPKI_OK, "the certificate is read");
-    check(rpki_certificate_read(octets, cert.length + 7, 1, &followed) == RPKI_OK, "it is read where octets follow");
+    check(rpki_certificate_read(cert.octets, cert.length, &alone) == RPKI_OK, "the certificate is read");
+    check(rpki_certificate_inspect(cert.octets, cert.length, 5, 1) == RPKI_BAD_CALL, "there is no kind 5");
+    check(rpki_certificate_read(octets, cert.length + 7, &followed) == RPKI_OK, "it is read where octets follow");
     check(memcmp(&alone, &followed, sizeof alone) == 0, "it is the same where octets follow");
     free(octets);
 }

@@ -126,7 +126,7 @@ static void find_uris(const struct strings *members, const struct strings *given
     for (size_t m = 1; m < members->count; m++) {
         uint64_t length = 0;
         rpki_certificate_uri(at(members, m), members->lengths[m], RPKI_URI_CRL, uri, TEXT, &length);
-        if (rpki_certificate_read(at(members, m), members->lengths[m], 1, &member) != RPKI_OK || length == 0 || length > TEXT) continue;
+        if (rpki_certificate_read(at(members, m), members->lengths[m], &member) != RPKI_OK || length == 0 || length > TEXT) continue;
         for (size_t l = 0; l < given->count; l++) {
             if (rpki_list_read(at(given, l), given->lengths[l], &list) != RPKI_OK) fail("no list", "validate");
             if (memcmp(list.authority_key, member.authority_key, 20) != 0) continue;

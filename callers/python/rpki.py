@@ -22,8 +22,7 @@ class Time(ctypes.Structure):
 
 class Certificate(ctypes.Structure):
     _fields_ = [("not_before", Time), ("not_after", Time), ("serial", u8 * 20), ("subject_key", u8 * 20), ("authority_key", u8 * 20),
-                ("has_authority_key", u8), ("is_authority", u8), ("key_usage", u8), ("overclaim", u8), ("v4", u8), ("v6", u8), ("asn", u8),
-                ("faults", u32 * 5)]
+                ("has_authority_key", u8), ("is_authority", u8), ("key_usage", u8), ("overclaim", u8), ("v4", u8), ("v6", u8), ("asn", u8)]
 
 
 class IpRange(ctypes.Structure):
@@ -139,17 +138,18 @@ def resources(data, it):
 
 def certificate(whole):
     data, it = octets(whole), Certificate()
-    called(lib.rpki_certificate_read, *data, u32(1), ctypes.byref(it))
+    called(lib.rpki_certificate_read, *data, ctypes.byref(it))
+    faults = [lib.rpki_certificate_inspect(*data, u32(kind), u32(1)) for kind in range(len(KINDS))]
     out = {"type": "ca_cert" if it.is_authority else "ee_cert", "cert_serial": serial(it.serial),
            "cert_issuer": name(bytes(all_of(u8, lib.rpki_certificate_name, *data, u32(0)))),
            "cert_subject": name(bytes(all_of(u8, lib.rpki_certificate_name, *data, u32(1)))),
            "valid_since": seconds(it.not_before), "valid_until": seconds(it.not_after), "ski": identifier(it.subject_key),
            "key_usage": ("ca", "ee")[it.key_usage], "overclaim": ("refuse", "trim")[it.overclaim],
            "subordinate_resources": resources(data, it),
-           "profiles": {kind: name_of(fault) if fault else "OK" for kind, fault in zip(KINDS, it.faults)}}
+           "profiles": {kind: name_of(fault) if fault else "OK" for kind, fault in zip(KINDS, faults)}}
     if it.has_authority_key:
         out["aki"] = identifier(it.authority_key)
-    if not it.faults[4]:
+    if not faults[4]:
         out["type"] = "router_key"
     for which, key in enumerate(URIS):
         uri = text(lib.rpki_certificate_uri, *data, u32(which))
@@ -183,7 +183,7 @@ def found_uris(members, lists):
     """Each list under the URI of each member that names the key of the list's issuer."""
     for member in members[1:]:
         it = Certificate()
-        called(lib.rpki_certificate_read, *octets(member), u32(1), ctypes.byref(it))
+        called(lib.rpki_certificate_read, *octets(member), ctypes.byref(it))
         uri = bytes(all_of(u8, lib.rpki_certificate_uri, *octets(member), u32(1)))
         for one in lists:
             head = List()

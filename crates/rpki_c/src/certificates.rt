@@ -1,15 +1,12 @@
 //! Certificates for C.
-ghost use Rattle.std.specs.Prelude.{◌≡◌};
-ghost use Rattle.rpki_der.specs.Place.{MeansOrMemory};
-ghost use Rattle.rpki_der.specs.Encoding.{Means};
-ghost use Rattle.rpki_cert.specs.Certificates.{IsCertificate};
+ghost use Rattle.std.specs.Prelude.{OnOk, IfErr};
+ghost use Rattle.rpki_cert.specs.Profiles.{MeetsProfile, IsFirstFault};
 
 use crate::copying::{RpkiAsRange, RpkiIpRange, put_addresses, put_as_numbers, put_octets};
-use crate::faults::{NONE, of_decoding, of_inspection};
+use crate::faults::{BAD_CALL, NONE, of_decoding, of_inspection};
 use crate::moments::{RpkiTime, parts_of};
 use rpki_blocks::{AsResources, IpResources, Overclaim};
-use rpki_cert::{Cert, InspectionError, KeyUsage, TbsCert};
-use rpki_der::DecodeError;
+use rpki_cert::{Cert, InspectionError, KeyUsage, Kind, TbsCert};
 use std::alloc::Global;
 
 /// What a certificate holds that has a fixed size.
@@ -31,16 +28,6 @@ pub struct RpkiCertificate {
     pub v4: u8,
     pub v6: u8,
     pub asn: u8,
-    /// The first fault as a trust anchor, an authority, an end entity, a detached one, a router; 0
-    /// where there is none.
-    pub faults: [u32; 5],
-}
-
-fn fault(answer: Result<(), InspectionError>) -> u32 {
-    match answer {
-        Ok(()) => NONE,
-        Err(error) => of_inspection(error),
-    }
 }
 
 fn state(is_present: bool, is_inherited: bool) -> u8 {
@@ -94,30 +81,70 @@ fn put_data(data: &TbsCert, out: &mut RpkiCertificate) {
     out.asn = as_state(data.as_resources());
 }
 
-fn put_faults(cert: &Cert, strict: bool, out: &mut RpkiCertificate) {
-    out.faults = [
-        fault(cert.inspect_ta(strict)),
-        fault(cert.inspect_ca(strict)),
-        fault(cert.inspect_ee(strict)),
-        fault(cert.inspect_detached_ee(strict)),
-        fault(cert.inspect_router(strict)),
-    ];
-}
-
 /// Reads the certificate that the octets begin with. Answers 0, or the number of a fault.
 #[unsafe(no_mangle)]
 pub extern "C" fn rpki_certificate_read(
     alloc: Global,
     octets: &[u8],
-    strict: u32,
     out: &mut RpkiCertificate,
 ) -> u32 {
     match Cert::decode(alloc, octets) {
         Ok(cert) => {
             put_data(cert.as_tbs(), out);
-            put_faults(&cert, strict != 0, out);
             drop(cert);
             NONE
+        }
+        Err(error) => of_decoding(&error),
+    }
+}
+
+// The kind that the header numbers so.
+fn kind_of(number: u32) -> Option<Kind> {
+    match number {
+        0 => Some(Kind::Anchor),
+        1 => Some(Kind::Authority),
+        2 => Some(Kind::EndEntity),
+        3 => Some(Kind::Detached),
+        4 => Some(Kind::Router),
+        _ => None,
+    }
+}
+
+// Whether the certificate meets the profile of the kind.
+fn inspect(cert: &Cert, kind: Kind, strict: bool) -> Result<(), InspectionError>
+    ensures ok { OnOk result (MeetsProfile kind strict cert.now) }
+    ensures fault { IfErr result (IsFirstFault kind strict cert.now) }
+{
+    match kind {
+        Kind::Anchor => cert.inspect_ta(strict),
+        Kind::Authority => cert.inspect_ca(strict),
+        Kind::EndEntity => cert.inspect_ee(strict),
+        Kind::Detached => cert.inspect_detached_ee(strict),
+        Kind::Router => cert.inspect_router(strict),
+    }
+}
+
+/// Inspects the certificate that the octets begin with as one of a kind: 0 a trust anchor, 1 an
+/// authority, 2 an end entity, 3 a detached one, 4 a router. Answers 0 where it meets the profile;
+/// else the number of its first fault.
+#[unsafe(no_mangle)]
+pub extern "C" fn rpki_certificate_inspect(
+    alloc: Global,
+    octets: &[u8],
+    kind: u32,
+    strict: u32,
+) -> u32 {
+    let Some(kind) = kind_of(kind) else {
+        return BAD_CALL;
+    };
+    match Cert::decode(alloc, octets) {
+        Ok(cert) => {
+            let answer = inspect(&cert, kind, strict != 0);
+            drop(cert);
+            match answer {
+                Ok(()) => NONE,
+                Err(error) => of_inspection(error),
+            }
         }
         Err(error) => of_decoding(&error),
     }

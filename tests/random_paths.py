@@ -1,0 +1,118 @@
+#!/usr/bin/env python3
+"""Asks the library for C about random paths, and the reference about the same.
+
+    RPKI_LIBRARY=FOLDER python3 tests/random_paths.py [COUNT]
+
+FOLDER has librpki.so (`./rpki library FOLDER`). Each path is made by
+reference/, from a seed of its own, as those of made-path.rows are; about half
+of them are no valid paths. Its signatures are the stand-in of the tests, so
+the library is asked for its questions, and handed the answers. Compares the
+whole answer: the fault with its member, or the ranges that are held. Prints
+each difference and `N passed, M failed`; exits with 1 where anything differs.
+"""
+import ctypes
+import os
+import random
+import sys
+
+here = os.path.dirname(os.path.abspath(__file__))
+sys.path[:0] = [os.path.join(here, '..', 'reference'),
+                os.path.join(here, '..', 'callers', 'python')]
+
+import answers
+import questions
+import reference as ref
+import rpki
+from der import Cursor
+from parts import take_key
+
+LAST = {'ta': 'authority', 'ca': 'authority', 'ee': 'ee',
+        'detached': 'detached'}
+STAGES = {1: 'decode', 2: 'decode', 3: 'inspect', 4: 'verify'}
+ROOM = 4096
+
+
+class Question(ctypes.Structure):
+    """A question of a path: where its key, message and signature stand."""
+    _fields_ = [(f'{part}_{end}', rpki.u64)
+                for part in ('key', 'message', 'signature')
+                for end in ('at', 'length')]
+
+    def part(self, octets, name):
+        start = getattr(self, f'{name}_at')
+        return octets[start:start + getattr(self, f'{name}_length')]
+
+
+def asked_of(members):
+    """The questions of the members up to the first that can't be read."""
+    for count in range(len(members), 0, -1):
+        out = (Question * count)()
+        if not rpki.lib.rpki_path_questions(*rpki.strings(members), out,
+                                            rpki.size(count)):
+            return list(out)
+    return []
+
+
+def is_signed(question, octets):
+    """Whether the signature is the stand-in of the key and the message."""
+    try:
+        key = take_key(Cursor(question.part(octets, 'key')))
+    except ref.DecodeError:
+        return False
+    return ref.stand_in(key, None, question.part(octets, 'message'),
+                        question.part(octets, 'signature'))
+
+
+def ranges(form, found, number):
+    return ','.join(form.format(number(it.min), number(it.max))
+                    for it in found) or '-'
+
+
+def held(out, v4, v6, asn):
+    def address(octets):
+        return int.from_bytes(bytes(octets), 'big')
+    return ' '.join(['ok',
+                     f'v4={ranges("{:x}-{:x}", v4[:out.v4], address)}',
+                     f'v6={ranges("{:x}-{:x}", v6[:out.v6], address)}',
+                     f'as={ranges("{}-{}", asn[:out.asn], int)}'])
+
+
+def refused(out):
+    stage = STAGES[out.fault // 100]
+    name = '' if stage == 'decode' else f' {rpki.name_of(out.fault)}'
+    return f'refused {out.index} {stage}{name}'
+
+
+def answer_of(question):
+    """What the library answers, in the words of a row."""
+    _, mode, at, *pairs = question.split(' ')
+    kinds, members = zip(*(pair.split(':') for pair in pairs))
+    members = [bytes.fromhex(it) for it in members]
+    octets = b''.join(members)
+    yes = bytes(is_signed(it, octets) for it in asked_of(members))
+    now = rpki.Time(int(at[:4]), *(int(at[i:i + 2]) for i in range(4, 14, 2)))
+    out, room = rpki.Verdict(), rpki.size(ROOM)
+    v4, v6 = (rpki.IpRange * ROOM)(), (rpki.IpRange * ROOM)()
+    asn = (rpki.AsRange * ROOM)()
+    rpki.lib.rpki_path_validate_said(
+        *rpki.strings(members), rpki.u32(rpki.LAST[LAST[kinds[-1]]]),
+        *rpki.octets(yes), rpki.u32(mode == 'strict'), ctypes.byref(now),
+        v4, room, v6, room, asn, room, ctypes.byref(out))
+    return refused(out) if out.fault else held(out, v4, v6, asn)
+
+
+def main(count):
+    failed = 0
+    for index in range(count):
+        rng = random.Random(f'header {index}')
+        _, question = questions.path_question(rng)
+        wanted, answer = answers.answer(question), answer_of(question)
+        if answer != wanted:
+            failed += 1
+            print(f'path {index}:\n  wanted   {wanted}\n  answered {answer}')
+    print(f'{count - failed} passed, {failed} failed')
+    return 1 if failed else 0
+
+
+if __name__ == '__main__':
+    sys.exit(main(int(sys.argv[1]) if len(sys.argv) > 1 else 1000))
