@@ -42,9 +42,9 @@ fn clock(rt: &impl Clock) -> Result<Time> {
     moments::from_seconds(since.as_secs()).ok_or(anyhow!("the clock"))
 }
 
-fn moment(rt: &impl Clock, at: Option<&str>) -> Result<Time> {
+fn moment(rt: &impl Clock, at: Option<Time>) -> Result<Time> {
     match at {
-        Some(text) => moments::from_text(text).ok_or(anyhow!("--at {text}: no moment")),
+        Some(moment) => Ok(moment),
         None => clock(rt),
     }
 }
@@ -99,6 +99,7 @@ fn misused(rt: &impl Eprint, misuse: &Misuse<'_>) -> Result<u8> {
         Misuse::NoTask => eprintln!(rt; "rpki: no command")?,
         Misuse::Unknown(word) => eprintln!(rt; "rpki: unknown: {word}")?,
         Misuse::NoValue(word) => eprintln!(rt; "rpki: {word} wants a value")?,
+        Misuse::NoMoment(text) => eprintln!(rt; "rpki: --at {text}: no moment")?,
         Misuse::NoFile => eprintln!(rt; "rpki: no file")?,
         Misuse::Memory => return Ok(3),
     }
