@@ -167,7 +167,7 @@ pub record IsAccepted (x : Context) (lists : Option (List Stored)) (anchor : Lis
   pub good : IsValidPath x lists path
   pub held : HasHeld path tal r
 
--- they are none
+-- the strings are not a valid path
 abbrev pub IsNoValidPath : Context → Option (List Stored) → List ℕ → List Asked → Type 0
 IsNoValidPath x lists anchor below = (p : Path) → IsPathOf anchor below p → IsValidPath x lists p → ⊥
 
@@ -241,7 +241,7 @@ pub record IsFaultBelow (x : Context) (lists : Option (List Stored)) (anchor : L
 abbrev pub IsFault : Context → Option (List Stored) → List ℕ → List Asked → PathError → Type 0
 IsFault x lists anchor below e = IsFaultOfAnchor x anchor e ⊎ IsFaultBelow x lists anchor below e
 
--- the fault is none of revocation
+-- the fault isn't one of revocation
 abbrev pub IsUnasked : PathFault → Type 0
 IsUnasked (Revocation e) = ⊥
 IsUnasked _ = Unit {0}
