@@ -11,17 +11,7 @@ use rpki::uri::{Https, Rsync};
 
 /// Prints the serial number in hexadecimal, without zeros before it but in whole octets.
 pub fn serial(page: &mut Page, it: Serial) {
-    let octets = it.octets();
-    let mut has_begun = false;
-    for octet in octets.as_slice() {
-        has_begun = has_begun || *octet != 0;
-        if has_begun {
-            page.octet(*octet);
-        }
-    }
-    if !has_begun {
-        page.text("00");
-    }
+    page.value(&it);
 }
 
 /// Prints the identifier of a key.

@@ -1,6 +1,5 @@
 //! Certificates and lists as JSON, with the names that rpki-client gives to what it shows too.
 use crate::blocks::{Family, ip_block, ip_end, prefix_length};
-use crate::moments::seconds;
 use crate::page::Page;
 use crate::path::{Fault, Question, Verdict};
 use crate::places::Place;
@@ -35,7 +34,7 @@ fn octets(out: &mut Members, alloc: Global, key: &str, value: &[u8]) -> Result<(
 }
 
 fn moment(out: &mut Members, alloc: Global, key: &str, at: Time) -> Result<(), AllocError> {
-    put(out, alloc, key, Value::from(seconds(at)))
+    put(out, alloc, key, Value::from(at.timestamp()))
 }
 
 fn serial(out: &mut Members, alloc: Global, key: &str, it: Serial) -> Result<(), AllocError> {
