@@ -26,6 +26,8 @@ mod signing;
 #[cfg(test)]
 mod texts;
 #[cfg(test)]
+mod timestamps;
+#[cfg(test)]
 mod uris;
 #[cfg(test)]
 mod verified;
