@@ -48,6 +48,16 @@ impl<'a> Cursor<'a> {
         }
     }
 
+    // A cursor over the octets of the source between these places.
+    #[inline(always)]
+    pub(crate) fn of_span(source: &'a Bytes, from: usize, to: usize) -> Cursor<'a>
+        requires order { from ≤ to }
+        requires inside { to ≤ length source.now }
+        ensures { result ≡ record { source = source.now; from = from; to = to } }
+    {
+        Cursor { source, from, to }
+    }
+
     /// Returns another cursor at this place. What it reads moves only itself.
     #[inline(always)]
     pub fn fork(&self) -> Cursor<'a>
@@ -215,8 +225,9 @@ impl<'a> Cursor<'a> {
         ensures keeps { Keeps result self.old self.new }
         ensures memory { IfErr result (λ e. e ≡ Memory) }
     {
-        let octets = self.source.slice(self.from..self.to)?;
+        let source = self.source.clone()?;
+        let piece = Piece::of_span(source, self.from, self.to);
         self.from = self.to;
-        Ok(Piece::from(octets))
+        Ok(piece)
     }
 }

@@ -8,6 +8,7 @@ ghost use Rattle.rpki_der.specs.Serials.{IsSerial};
 ghost use Rattle.rpki_der.specs.Skipping.{IsSkippableWithin};
 ghost use Rattle.rpki_der.specs.Encoding.{Begins};
 ghost use Rattle.rpki_der.specs.Times.{Moment, IsMoment, IsTime, second_number, time};
+ghost use Rattle.rpki_der.specs.Timestamps.{timestamp};
 
 /// Says that no value is a proper beginning of another (X.690 8.1, 10.1).
 pub fn one_value()
@@ -58,6 +59,11 @@ pub fn time_again()
 pub fn one_moment()
     ensures { (m n : Moment) → IsMoment m → IsMoment n
         → second_number m ≡ second_number n → m ≡ n }
+{}
+
+/// Says that times with one number of seconds since 1970 are one.
+pub fn one_timestamp()
+    ensures { (m n : Moment) → IsMoment m → IsMoment n → timestamp m ≡ timestamp n → m ≡ n }
 {}
 
 /// Says that what may be skipped under one bound of depth may be skipped under a greater one: so

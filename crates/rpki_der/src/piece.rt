@@ -1,5 +1,5 @@
 //! Octets that are kept.
-ghost use Rattle.std.specs.Prelude.{◌≡◌, List, ℕ, length, IfOk, bytes_eq};
+ghost use Rattle.std.specs.Prelude.{◌≡◌, ◌≤◌, List, ℕ, length, slice_range, IfOk, bytes_eq};
 ghost use Rattle.std.proofs.Common.{rules};
 ghost use Rattle.std.specs.Cmp.Rules.{comparing};
 ghost use Rattle.rpki_der.specs.Place.{Place, left};
@@ -10,35 +10,49 @@ use bytes::Bytes;
 use std::alloc::{AllocError, Global};
 use std::marker::Model;
 
-/// Octets that are kept. They share the buffer that they were cut out of, and keep all of it alive;
-/// a copy copies no octets.
+/// Octets that are kept: a span of a shared buffer. They keep all of the buffer alive; neither a
+/// capture nor a copy copies octets.
 #[derive(Drop)]
 pub struct Piece {
-    octets: Bytes,
+    source: Bytes,
+    from: usize,
+    to: usize,
 }
 
 impl Model for Piece {
     ghost Value = { List ℕ };
 
-    ghost view = { λ p. p.octets };
+    ghost view = { λ p. slice_range p.source p.from p.to };
 
-    ghost inverse = { λ b. record { octets = b } };
+    ghost invariant = { λ p. (p.from ≤ p.to) × (p.to ≤ length p.source) };
 }
 
 impl From<Bytes> for Piece {
     ghost from_gives = { λ b p. p ≡ b };
 
     fn from(octets: Bytes) -> Piece {
-        Piece { octets }
+        let to = octets.len();
+        Piece::of_span(octets, 0, to)
     }
 }
 
 impl Piece {
+    // The octets of the source between these places.
+    #[inline(always)]
+    pub(crate) fn of_span(source: Bytes, from: usize, to: usize) -> Piece
+        requires order { from ≤ to }
+        requires inside { to ≤ length source }
+        ensures { result ≡ slice_range source from to }
+    {
+        Piece { source, from, to }
+    }
+
     /// Returns the octets.
     pub fn as_bytes(&self) -> &[u8]
         ensures { result.now ≡ self.now }
     {
-        self.octets.as_slice()
+        let octets = self.source.as_slice();
+        &octets[self.from..self.to]
     }
 
     /// Returns a cursor over all of the octets.
@@ -46,7 +60,7 @@ impl Piece {
         ensures all { left result ≡ self.now }
         ensures octets { AreOctets self.now }
     {
-        let cursor = Cursor::new(&self.octets);
+        let cursor = Cursor::of_span(&self.source, self.from, self.to);
         // For the proof only: what remains are octets.
         let _octets = cursor.rest();
         cursor
@@ -56,8 +70,8 @@ impl Piece {
     pub fn try_clone(&self, _alloc: Global) -> Result<Piece, AllocError>
         ensures { IfOk result (λ p. p ≡ self.now) }
     {
-        let octets = self.octets.clone()?;
-        Ok(Piece { octets })
+        let source = self.source.clone()?;
+        Ok(Piece::of_span(source, self.from, self.to))
     }
 }
 

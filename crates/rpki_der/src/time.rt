@@ -8,6 +8,7 @@ ghost use Rattle.jiff_core.specs.Calendar.{IsDate};
 ghost use Rattle.jiff_core.specs.Date.{IsYmd};
 ghost use Rattle.jiff_core.specs.Time.{IsHms};
 ghost use Rattle.jiff_core.specs.Time.{IsTime as IsClock};
+ghost use Rattle.rpki_der.specs.Timestamps.{timestamp};
 ghost use Rattle.rpki_der.specs.Place.{Place, left, Keeps, Answers};
 ghost use Rattle.rpki_der.specs.Place.Reading.{Took, Returns, ReturnsBy};
 ghost use Rattle.rpki_der.specs.Values.{AreOctets};
@@ -138,6 +139,30 @@ impl Time {
             ((t : Moment) → IsMoment t → text.now ≡ fourteen_digits t → ⊥) }
     {
         four_digit_year(text, b"").ok()
+    }
+
+    /// Makes the second that lies so many seconds after 1970-01-01T00:00:00Z, without leap seconds
+    /// (POSIX.1-2017, XBD 4.16). Returns `None` where that is no second of the years 0 to 9999.
+    pub fn from_timestamp(seconds: i64) -> Option<Time>
+        ensures some { IfSome result (λ t. IsMoment t × (timestamp t ≡ seconds)) }
+        ensures none { IfNone result
+            ((t : Moment) → IsMoment t → timestamp t ≡ seconds → ⊥) }
+    {
+        let Ok(inner) = DateTime::from_nanosecond(seconds as i128 * 1_000_000_000) else {
+            return None;
+        };
+        if inner.date.year < 0 {
+            return None;
+        }
+        Some(Time { inner })
+    }
+
+    /// Returns how many seconds the time lies after 1970-01-01T00:00:00Z, without leap seconds
+    /// (POSIX.1-2017, XBD 4.16). The number of a time before it is negative.
+    pub fn timestamp(self) -> i64
+        ensures { result ≡ timestamp self }
+    {
+        self.inner.to_second()
     }
 
     // The time that stands next, by the reading function.
