@@ -24,7 +24,7 @@ v6_text n = ipv6_text (segments_of (to_be_bytes w128 n))
 
 -- ---- blocks
 
--- two ends, with a hyphen between them
+-- two ends, with a hyphen between them (own)
 abbrev pub range_text : (ℕ → List ℕ) → Block → List ℕ
 range_text text b = text b.min ++ codes "-" ++ text b.max
 
@@ -32,8 +32,8 @@ range_text text b = text b.min ++ codes "-" ++ text b.max
 abbrev pub prefix_text : (ℕ → List ℕ) → Block → List ℕ
 prefix_text text b = text b.min ++ codes "/" ++ decimal (128 - prefix_bits b)
 
--- addresses: a prefix where one covers the block exactly, as it does a block of one address, else
--- the two ends
+-- addresses: a prefix where one covers the block exactly, which of one address has all its bits
+-- (own), else the two ends
 abbrev pub ip_block_text : (ℕ → List ℕ) → Block → List ℕ
 ip_block_text text b = if is_prefix b (prefix_bits b) then prefix_text text b else range_text text b
 
@@ -51,7 +51,7 @@ as_block_text b = if b.min == b.max then as_text b.min else range_text as_text b
 
 -- ---- sets
 
--- the blocks of a set, with a comma and a space between them; nothing of the empty set
+-- the blocks of a set, with a comma and a space between them (own); nothing of the empty set
 abbrev pub blocks_text : (Block → List ℕ) → List Block → List ℕ
 blocks_text text [] = []
 blocks_text text (b ∷ bs) = text b ++ flat_map (λ more. codes ", " ++ text more) bs
