@@ -11,3 +11,4 @@ pub mod Systems
 pub mod ResourceExtensions
 pub mod IssueErrorNames
 pub mod ResourceTexts
+pub mod BlockTexts

@@ -57,7 +57,7 @@ fn one_bits(address: u128) -> u32
 }
 
 // How many bits a prefix leaves open, if these are the ends of the block of all addresses with one.
-fn prefix_bits(min: u128, max: u128) -> Option<u32>
+pub(crate) fn prefix_bits(min: u128, max: u128) -> Option<u32>
     requires { min ≤ max }
     ensures prefix { IsPrefixAnswer (between min max) result }
     ensures most { IfSome result (λ last. last ≤ 128) }

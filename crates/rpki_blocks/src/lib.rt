@@ -17,6 +17,7 @@ pub mod laws;
 mod overclaim;
 mod prefix;
 mod resources;
+mod text;
 
 pub use addr::Addr;
 pub use asn::Asn;
@@ -27,3 +28,4 @@ pub use chain::{AsBlocks, Chain, IpBlocks};
 pub use overclaim::Overclaim;
 pub use prefix::Prefix;
 pub use resources::{AsResources, Inherited, IpResources, IssueError, Resources};
+pub use text::{DisplayV4Block, DisplayV4Blocks, DisplayV6Block, DisplayV6Blocks};
