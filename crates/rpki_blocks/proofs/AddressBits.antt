@@ -83,16 +83,18 @@ divides_below n (suc k) h =
     let bit : n / 2 ^ k % 2 ≡ 0 = h k (omega arith) in
     ap (λ (j : ℕ). n % 2 ^ j) e ∙ mod-pow-add n 1 k ∙ zero_sum (n / 2 ^ k % 2) (n % 2 ^ k) (2 ^ k) bit low
 
-power_divides : (k j : ℕ) → k ≤ j → 2 ^ j % 2 ^ k ≡ 0
+-- a power divides each greater one
+pub power_divides : (k j : ℕ) → k ≤ j → 2 ^ j % 2 ^ k ≡ 0
 power_divides k j le =
     let e : j ≡ j - k + k = omega arith in
     ap (λ (i : ℕ). 2 ^ i % 2 ^ k) e ∙ ap (λ (i : ℕ). i % 2 ^ k) (pow-add 2 (j - k) k) ∙ mul-mod_left (2 ^ (j - k)) (2 ^ k)
 
 -- a multiple of a power is one of each lesser power
-divides_less : (n j k : ℕ) → k ≤ j → n % 2 ^ j ≡ 0 → n % 2 ^ k ≡ 0
+pub divides_less : (n j k : ℕ) → k ≤ j → n % 2 ^ j ≡ 0 → n % 2 ^ k ≡ 0
 divides_less n j k le h = mod-eq-zero_of_dvd (2 ^ k) (dvd_trans (2 ^ k) (dvd_of_mod-eq-zero (2 ^ k) (power_divides k j le)) (dvd_of_mod-eq-zero (2 ^ j) h))
 
-divides_sum : (m n k : ℕ) → m % k ≡ 0 → n % k ≡ 0 → (m + n) % k ≡ 0
+-- a sum of multiples is one
+pub divides_sum : (m n k : ℕ) → m % k ≡ 0 → n % k ≡ 0 → (m + n) % k ≡ 0
 divides_sum m n k p q = mod-eq-zero_of_dvd k (dvd-add k (dvd_of_mod-eq-zero k p) (dvd_of_mod-eq-zero k q))
 
 divides_difference : (m n k : ℕ) → m % k ≡ 0 → n % k ≡ 0 → (m - n) % k ≡ 0

@@ -68,7 +68,8 @@ is_element bits r b h =
       | inr s ↦ inr s
     ]
 
-ip_element_reads : (family : Family) → Reads (ip_element_at family) (IsIPAddressOrRange (family_bits family))
+-- an IPAddressOrRange is read as it is encoded
+pub ip_element_reads : (family : Family) → Reads (ip_element_at family) (IsIPAddressOrRange (family_bits family))
 unfolding ip_element_at
 ip_element_reads family =
     let A = IsIPAddress (family_bits family) in

@@ -48,7 +48,7 @@ chain_order (b ∷ []) h = (h, tt)
 chain_order (b ∷ c ∷ bs) h = (h.0, chain_order (c ∷ bs) h.2)
 
 -- the resources are written, and each block has P
-abbrev FitsWith : (Block → Type 0) → Resources → Type 0
+abbrev pub FitsWith : (Block → Type 0) → Resources → Type 0
 FitsWith P missing = Unit {0}
 FitsWith P inherit = Unit {0}
 FitsWith P (blocks bs) = (bs ≢ []) × IsChain bs × AllByRecursion P bs
@@ -58,13 +58,14 @@ both P Q [] p q = tt
 both P Q (x ∷ xs) p q = ((p.0, q.0), both P Q xs p.1 q.1)
 
 -- a block of numbers of the kind
-abbrev IsBlock : ℕ → Block → Type 0
+abbrev pub IsBlock : ℕ → Block → Type 0
 IsBlock greatest b = (b.min ≤ b.max) × (b.max ≤ greatest)
 
 abbrev IsAsBlock : Block → Type 0
 IsAsBlock b = IsBlock (2 ^ 32 - 1) b
 
-abbrev IsV6 : Block → Type 0
+-- a block of IPv6 addresses
+abbrev pub IsV6 : Block → Type 0
 IsV6 b = IsBlock (2 ^ 128 - 1) b
 
 abbrev IsV4 : Block → Type 0
@@ -78,7 +79,8 @@ fits greatest (blocks bs) f = (f.0, f.1.chain, both (λ b. b.min ≤ b.max) (λ 
 fits_as : (r : Resources) → IsResources (2 ^ 32 - 1) r → FitsWith IsAsBlock r
 fits_as r f = fits (2 ^ 32 - 1) r f
 
-fits_v6 : (r : Resources) → IsResources (2 ^ 128 - 1) r → FitsWith IsV6 r
+-- the blocks of IPv6 resources are of IPv6 addresses
+pub fits_v6 : (r : Resources) → IsResources (2 ^ 128 - 1) r → FitsWith IsV6 r
 fits_v6 r f = fits (2 ^ 128 - 1) r f
 
 all_v4 : (bs : List Block) → list_all is_v4_block bs ≡ true → AllByRecursion (λ b. is_v4_block b ≡ true) bs
@@ -91,10 +93,11 @@ fits_v4 inherit f v = tt
 fits_v4 (blocks bs) f v = let g = fits (2 ^ 128 - 1) (blocks bs) f in (g.0, g.1, both (IsBlock (2 ^ 128 - 1)) (λ b. is_v4_block b ≡ true) bs g.2 (all_v4 bs v))
 
 -- what is written of a block encodes it
-abbrev Writes : (Block → Type 0) → (Block → List ℕ) → (Block → List ℕ → Type 0) → Type 0
+abbrev pub Writes : (Block → Type 0) → (Block → List ℕ) → (Block → List ℕ → Type 0) → Type 0
 Writes P write element = (b : Block) → P b → Short (write b) → element b (write b)
 
-elements_made : (P : Block → Type 0) (write : Block → List ℕ) (element : Block → List ℕ → Type 0) → Writes P write element → (bs : List Block) → AllByRecursion P bs → AllByRecursion Short (map write bs) → IsRow element bs (concat (map write bs))
+-- what is written of blocks, one after the other, is a row of them
+pub elements_made : (P : Block → Type 0) (write : Block → List ℕ) (element : Block → List ℕ → Type 0) → Writes P write element → (bs : List Block) → AllByRecursion P bs → AllByRecursion Short (map write bs) → IsRow element bs (concat (map write bs))
 elements_made P write element w [] f s = refl
 elements_made P write element w (b ∷ bs) f s = (write b, concat (map write bs), w b f.0 s.0, elements_made P write element w bs f.1 s.1, refl)
 
@@ -115,7 +118,8 @@ choice_made P write element w (blocks (b ∷ bs)) c e f s =
 as_writes : Writes IsAsBlock as_block IsASIdOrRange
 as_writes b p short = as_block_made b p.0 (omega (arith, p.1)) short
 
-v6_writes : Writes IsV6 ip_block (IsIPAddressOrRange 128)
+-- what is written of a block of IPv6 addresses encodes it
+pub v6_writes : Writes IsV6 ip_block (IsIPAddressOrRange 128)
 v6_writes b p short = v6_block_made b p.0 (omega (arith, p.1)) short
 
 v4_writes : Writes IsV4 ip_block (IsIPAddressOrRange 32)

@@ -211,7 +211,7 @@ abbrev parts_under : Overclaim → ExtensionFields → List OptionalExtension
 parts_under m x = parts (record x { overclaim = m })
 
 -- each is the only one of its kind, by computation
-one_each : (m : Overclaim) (x : ExtensionFields) → map (λ kind. filter (is_in kind) (parts_under m x)) (identifiers_by_kind certificate_kinds) ≡ map (λ p. p ∷ []) (parts_under m x)
+pub one_each : (m : Overclaim) (x : ExtensionFields) → map (λ kind. filter (is_in kind) (parts_under m x)) (identifiers_by_kind certificate_kinds) ≡ map (λ p. p ∷ []) (parts_under m x)
 one_each Refuse x = refl
 one_each Trim x = refl
 

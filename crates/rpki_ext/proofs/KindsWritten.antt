@@ -41,7 +41,8 @@ only_more kind id critical (Some c) ps h =
     let x : Extension = record { identifier = id; critical = critical; content = c } in
     elim (is_in kind (raw id critical (Some c))) as (λ b. cond b (x ∷ only kind (written ps)) (only kind (written ps)) ≡ written (cond b (raw id critical (Some c) ∷ filter (is_in kind) ps) (filter (is_in kind) ps))) [ true ↦ ap (λ (xs : List Extension). x ∷ xs) h | false ↦ h ]
 
-only_written : (kind : List (List ℕ)) (ps : List OptionalExtension) → only kind (written ps) ≡ written (filter (is_in kind) ps)
+-- the extensions of a kind that are written are those of its parts
+pub only_written : (kind : List (List ℕ)) (ps : List OptionalExtension) → only kind (written ps) ≡ written (filter (is_in kind) ps)
 only_written kind [] = refl
 only_written kind (p ∷ ps) = only_more kind p.identifier p.critical p.content ps (only_written kind ps)
 
