@@ -1,5 +1,6 @@
 -- A text that is written piece by piece, and the values of a row one after the other.
-use Rattle.std.proofs.Common.{◌≡◌, ℕ, zero, suc, ◌<◌, ◌≤◌, List, [], ◌∷◌, ◌++◌, length, Option, Some, None, refl, sym, ap, ◌∙◌, append_assoc, arith}
+use Rattle.std.specs.Prelude.{◌&&◌, not, nat_lt, if◌then◌else◌}
+use Rattle.std.proofs.Common.{◌≡◌, ℕ, zero, suc, Bool, true, false, ◌<◌, ◌≤◌, List, [], ◌∷◌, ◌++◌, length, Option, Some, None, refl, sym, ap, ◌∙◌, append_assoc, arith}
 use Rattle.std.proofs.lemmas.List.{append-nil}
 use Rattle.std.proofs.Output.{has_written_append, has_written_of_eq, writes_in_calls_nil}
 use Rattle.std.specs.Fmt.{HasWritten, IsPlainFormatter}
@@ -10,7 +11,7 @@ use Rattle.rpki_der.specs.Primitives.Reading.{oid_at}
 use Rattle.rpki_der.specs.Values.Reading.{◌>>=◌}
 use Rattle.rpki_der.proofs.Choices.{content_shrinks}
 use Rattle.rpki_der.proofs.Octets.{some}
-use Rattle.rpki_parts.specs.NameTexts.{or_nothing, values_at, values_in, attribute_value_at, separated}
+use Rattle.rpki_parts.specs.NameTexts.{or_nothing, values_at, values_in, attribute_value_at, separated, with_octet, ended_with, number_text, numbers_text}
 
 -- ---- a text piece by piece
 
@@ -82,3 +83,17 @@ module _ {X : Type 0} (read : List ℕ → Option (X × List ℕ)) (less : Shrin
       first (suc n) h =
           let s : length rest < length octets = less octets x rest e in
           rw e (ap (λ (xs : List X). x ∷ xs) (enough_values n (length rest) rest (omega arith) (omega arith)))
+
+-- ---- types
+
+-- what ends with one octet is written before the others
+pub numbers_split : (is_first : Bool) (number octet : ℕ) (ns : List ℕ)
+    → numbers_text is_first (ended_with number octet ++ ns) ≡ numbers_text is_first (ended_with number octet) ++ numbers_text (is_first && not (nat_lt octet 128)) ns
+numbers_split is_first number octet ns = by_end is_first (with_octet number octet) ns (nat_lt octet 128)
+  where
+    by_end : (is_first : Bool) (n : ℕ) (ns : List ℕ) (ends : Bool)
+        → numbers_text is_first ((if ends then n ∷ [] else []) ++ ns) ≡ numbers_text is_first (if ends then n ∷ [] else []) ++ numbers_text (is_first && not ends) ns
+    by_end true n ns true = ap (λ (l : List ℕ). l ++ numbers_text false ns) (sym (append-nil (number_text true n)))
+    by_end false n ns true = ap (λ (l : List ℕ). l ++ numbers_text false ns) (sym (append-nil (number_text false n)))
+    by_end true n ns false = refl
+    by_end false n ns false = refl

@@ -1,6 +1,7 @@
 -- The text of a name (RFC 4514 2). Its parts stand in the order of the encoding, where RFC 4514 2.1
 -- begins with the last one, and with ", " between them (own).
-use Rattle.std.specs.Prelude.{ℕ, zero, suc, Bool, true, false, ◌||◌, ◌&&◌, ◌==◌, nat_lt, not, if◌then◌else◌, List, [], ◌∷◌, ◌++◌, length, map, Option, Some, None, codes, bytes_eq}
+use Rattle.std.specs.Prelude.{ℕ, zero, suc, Bool, true, false, ◌||◌, ◌&&◌, ◌==◌, nat_lt, not, ◌+◌, ◌-◌, ◌*◌, ◌%◌, ◌^◌, if◌then◌else◌, List, [], ◌∷◌, ◌++◌, length, map, Option, Some, None, codes, bytes_eq}
+use Rattle.std.specs.Fmt.{decimal}
 use Rattle.rpki_der.specs.Primitives.Reading.{oid_at}
 use Rattle.rpki_der.specs.Reading.{content}
 use Rattle.rpki_der.specs.Tags.{SEQUENCE, SET, PRINTABLE_STRING, UTF8_STRING}
@@ -61,6 +62,50 @@ octets_text is_first (octet ∷ octets) = octet_text (is_at_edge is_first octet 
 abbrev pub string_text : List ℕ → List ℕ
 string_text octets = octets_text true octets
 
+-- ---- types (RFC 4512 1.4, X.690 8.19)
+
+-- the number of a subidentifier, with the 7 bits of one octet more
+abbrev pub with_octet : ℕ → ℕ → ℕ
+with_octet number octet = number * 128 + octet % 128
+
+-- what is read of a subidentifier after this octet: below 128 it is the last one of its own
+abbrev pub number_after : ℕ → ℕ → ℕ
+number_after number octet = if nat_lt octet 128 then 0 else with_octet number octet
+
+-- the subidentifier that ends with this octet, if one does
+abbrev pub ended_with : ℕ → ℕ → List ℕ
+ended_with number octet = if nat_lt octet 128 then with_octet number octet ∷ [] else []
+
+-- the subidentifiers, the first of which has this number so far
+abbrev pub subidentifiers : ℕ → List ℕ → List ℕ
+subidentifiers number [] = []
+subidentifiers number (octet ∷ octets) = ended_with number octet ++ subidentifiers (number_after number octet) octets
+
+-- whether each of them is below 2^64
+abbrev pub are_small : ℕ → List ℕ → Bool
+are_small number [] = true
+are_small number (octet ∷ octets) = nat_lt number (2 ^ 57) && are_small (number_after number octet) octets
+
+-- a subidentifier in decimal digits behind a dot; the first one is two numbers
+abbrev pub number_text : Bool → ℕ → List ℕ
+number_text false n = codes "." ++ decimal n
+number_text true n =
+    if nat_lt n 40 then codes "0." ++ decimal n
+    else (if nat_lt n 80 then codes "1." ++ decimal (n - 40) else codes "2." ++ decimal (n - 80))
+
+-- subidentifiers, from the first one on or from a further one on
+abbrev pub numbers_text : Bool → List ℕ → List ℕ
+numbers_text is_first [] = []
+numbers_text is_first (n ∷ ns) = number_text is_first n ++ numbers_text false ns
+
+-- numbers with a dot between each two
+abbrev pub dotted_text : List ℕ → List ℕ
+dotted_text id = numbers_text true (subidentifiers 0 id)
+
+-- a type without a name: its numbers, or its octets where one is 2^64 or more (own)
+abbrev pub type_text : List ℕ → List ℕ
+type_text id = if are_small 0 id then dotted_text id else codes "oid:" ++ hexadecimal id
+
 -- ---- attributes (RFC 4514 2.3, 2.4)
 
 -- id-at-countryName: 2.5.4.6 (RFC 5280 A.1)
@@ -100,10 +145,10 @@ abbrev pub value_text : List ℕ → Option (List ℕ) → List ℕ
 value_text value (Some string) = string_text string
 value_text value None = octets_of_value value
 
--- a type with a name before a value; another type, by its octets, before the octets of the value
+-- a type by its name before its value; another type by its numbers before the octets of its value
 abbrev pub named_text : List ℕ × List ℕ → Option (List ℕ) → List ℕ
 named_text a (Some name) = name ++ (codes "=" ++ value_text a.1 (string_of a.1))
-named_text a None = codes "oid:" ++ (hexadecimal a.0 ++ (codes "=" ++ octets_of_value a.1))
+named_text a None = type_text a.0 ++ (codes "=" ++ octets_of_value a.1)
 
 -- an attribute
 abbrev pub attribute_text : List ℕ × List ℕ → List ℕ
