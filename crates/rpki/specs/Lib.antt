@@ -44,6 +44,7 @@ pub use Rattle.rpki_parts.specs.Algorithms
 pub use Rattle.rpki_parts.specs.Keys
 pub use Rattle.rpki_parts.specs.Names
 pub use Rattle.rpki_parts.specs.NameForms
+pub use Rattle.rpki_parts.specs.NameTexts
 pub use Rattle.rpki_parts.specs.KeyNames
 pub use Rattle.rpki_parts.specs.Signatures
 pub use Rattle.rpki_parts.specs.SignedDatas

@@ -55,10 +55,10 @@ fn head(page: &mut Page, data: &TbsCert, now: Time) {
     serial(page, data.serial_number());
     page.end();
     page.label("Issuer");
-    name(page, data.issuer().as_bytes());
+    name(page, data.issuer());
     page.end();
     page.label("Subject");
-    name(page, data.subject().as_bytes());
+    name(page, data.subject());
     page.end();
     validity(page, data.validity(), now);
 }

@@ -10,7 +10,7 @@ use rpki::repository::cert::{Cert, KeyUsage, Overclaim, ResourceCert, TbsCert};
 use rpki::repository::crl::{Crl, CrlEntry};
 use rpki::repository::error::InspectionError;
 use rpki::repository::resources::{AsBlock, AsBlocks, AsResources, IpBlock, IpBlocks, IpResources};
-use rpki::repository::x509::{Serial, Time};
+use rpki::repository::x509::{Name, Serial, Time};
 use serde_json::{Map, Value, put};
 use sha2::{Digest, Sha256};
 use std::alloc::{AllocError, Global};
@@ -54,7 +54,7 @@ fn identifier(
     page(out, alloc, key, line)
 }
 
-fn name(out: &mut Members, alloc: Global, key: &str, it: &[u8]) -> Result<(), AllocError> {
+fn name(out: &mut Members, alloc: Global, key: &str, it: &Name) -> Result<(), AllocError> {
     let mut line = Page::new(alloc);
     names::name(&mut line, it);
     page(out, alloc, key, line)
@@ -275,8 +275,8 @@ pub fn certificate(
     text(&mut out, alloc, "type", word(cert, strict))?;
     let data = cert.as_tbs();
     serial(&mut out, alloc, "cert_serial", data.serial_number())?;
-    name(&mut out, alloc, "cert_issuer", data.issuer().as_bytes())?;
-    name(&mut out, alloc, "cert_subject", data.subject().as_bytes())?;
+    name(&mut out, alloc, "cert_issuer", data.issuer())?;
+    name(&mut out, alloc, "cert_subject", data.subject())?;
     moment(&mut out, alloc, "valid_since", data.validity().not_before())?;
     moment(&mut out, alloc, "valid_until", data.validity().not_after())?;
     keys(&mut out, alloc, data)?;
@@ -301,7 +301,7 @@ pub fn list(alloc: Global, file: &str, whole: &[u8], it: &Crl) -> Result<Value, 
     hash(&mut out, alloc, whole)?;
     text(&mut out, alloc, "type", "crl")?;
     let data = it.as_cert_list();
-    name(&mut out, alloc, "crl_issuer", data.issuer().as_bytes())?;
+    name(&mut out, alloc, "crl_issuer", data.issuer())?;
     identifier(&mut out, alloc, "aki", data.authority_key_identifier())?;
     serial(&mut out, alloc, "crl_serial", data.crl_number())?;
     moment(&mut out, alloc, "valid_since", data.this_update())?;

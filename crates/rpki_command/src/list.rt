@@ -38,7 +38,7 @@ fn entries(page: &mut Page, revoked: &RevokedCertificates, all: bool) {
 pub fn list(page: &mut Page, it: &Crl, now: Time, all: bool) {
     let data = it.as_cert_list();
     page.label("Issuer");
-    name(page, data.issuer().as_bytes());
+    name(page, data.issuer());
     page.end();
     page.label("Authority key identifier");
     key_identifier(page, data.authority_key_identifier());

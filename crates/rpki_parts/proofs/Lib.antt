@@ -9,6 +9,7 @@ pub mod ValidityWritten
 pub mod Lengths
 pub mod NameReads
 pub mod NameForms
+pub mod NameTexts
 pub mod Slashes
 pub mod UriTests
 pub mod UriParents

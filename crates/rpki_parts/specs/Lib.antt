@@ -2,6 +2,7 @@ pub mod Algorithms
 pub mod Keys
 pub mod Names
 pub mod NameForms
+pub mod NameTexts
 pub mod KeyNames
 pub mod Signatures
 pub mod SignedDatas

@@ -7,6 +7,7 @@ mod https;
 mod key;
 mod name;
 mod name_forms;
+mod name_text;
 mod rsync;
 mod signature;
 mod signed;

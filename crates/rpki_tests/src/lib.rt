@@ -19,6 +19,8 @@ mod lists;
 #[cfg(test)]
 mod memory;
 #[cfg(test)]
+mod name_texts;
+#[cfg(test)]
 mod paths;
 #[cfg(test)]
 mod shared;

@@ -1,0 +1,361 @@
+//! Names print themselves.
+ghost use Rattle.std.specs.Prelude.{◌≡◌, ◌<◌, ◌^◌, ◌||◌, ◌&&◌, not, nat_lt, true, option_map, Some};
+ghost use Rattle.std.specs.Fmt.{WritesOnOk};
+ghost use Rattle.rpki_der.specs.Place.{Place, left, Keeps};
+ghost use Rattle.rpki_der.specs.Place.Reading.{TookBy};
+ghost use Rattle.rpki_der.specs.Tags.{SET};
+ghost use Rattle.rpki_der.specs.Values.Reading.{value_at};
+ghost use Rattle.rpki_parts.specs.NameTexts.{with_octet, number_after, are_small, number_text, numbers_text, ended_with, dotted_text, type_text, attribute_value_at, is_special, is_visible, is_at_edge, octet_text, octets_text, string_text, short_name, string_of, value_text, octets_of_value, attribute_text, part_text, parts_text, name_text};
+
+use crate::name::Name;
+use rpki_der::{Cursor, DecodeError, tag, write_hexadecimal};
+use std::fmt;
+
+// Types of attributes that have a name: contents of OBJECT IDENTIFIERs.
+const COMMON_NAME: &[u8] = &[0x55, 0x04, 0x03];
+
+const SERIAL_NUMBER: &[u8] = &[0x55, 0x04, 0x05];
+
+const COUNTRY: &[u8] = &[0x55, 0x04, 0x06];
+
+const ORGANIZATION: &[u8] = &[0x55, 0x04, 0x0A];
+
+const UNIT: &[u8] = &[0x55, 0x04, 0x0B];
+
+// Whether the octet is one of `"+,;<>\`.
+fn is_special(octet: u8) -> bool
+    ensures { result ≡ is_special octet }
+{
+    octet == b'"'
+        || octet == b'+'
+        || octet == b','
+        || octet == b';'
+        || octet == b'<'
+        || octet == b'>'
+        || octet == b'\\'
+}
+
+// Whether the octet is a visible character of ASCII, or a space.
+fn is_visible(octet: u8) -> bool
+    ensures { result ≡ is_visible octet }
+{
+    octet > 31 && octet < 127
+}
+
+// Whether the octet is a space or `#` at the beginning, or a space at the end.
+fn is_at_edge(is_first: bool, octet: u8, behind: &[u8]) -> bool
+    ensures { result ≡ is_at_edge is_first octet behind.now }
+{
+    match behind {
+        [] => octet == b' ' || (is_first && octet == b'#'),
+        [_, ..] => is_first && (octet == b' ' || octet == b'#'),
+    }
+}
+
+// Whether a backslash stands before the character.
+fn is_escaped(is_at_edge: bool, octet: u8) -> bool
+    ensures { result ≡ (is_at_edge || is_special octet) }
+{
+    is_at_edge || is_special(octet)
+}
+
+// An octet of a string.
+fn write_octet<W: fmt::Write>(f: &mut fmt::Formatter<W>, is_at_edge: bool, octet: u8) -> fmt::Result
+    ensures { WritesOnOk W.write_str_gives f.old result (octet_text is_at_edge octet) f.new }
+{
+    if !is_visible(octet) {
+        f.write_str("\\")?;
+        write_hexadecimal(f, &[octet])
+    } else if is_escaped(is_at_edge, octet) {
+        f.write_str("\\")?;
+        f.write_char(char::from(octet))
+    } else {
+        f.write_char(char::from(octet))
+    }
+}
+
+// A string.
+fn write_string<W: fmt::Write>(f: &mut fmt::Formatter<W>, octets: &[u8]) -> fmt::Result
+    ensures { WritesOnOk W.write_str_gives f.old result (string_text octets.now) f.new }
+{
+    let mut rest = octets;
+    let mut is_first = true;
+    while let Some((octet, behind)) = rest.split_first() {
+        write_octet(f, is_at_edge(is_first, *octet, behind), *octet)?;
+        is_first = false;
+        rest = behind;
+    }
+    Ok(())
+}
+
+// The name of a type that has one.
+fn short_name(id: &[u8]) -> Option<&'static str>
+    ensures { option_map (λ s. s.now) result ≡ short_name id.now }
+{
+    if id == COMMON_NAME {
+        Some("CN")
+    } else if id == SERIAL_NUMBER {
+        Some("serialNumber")
+    } else if id == COUNTRY {
+        Some("C")
+    } else if id == ORGANIZATION {
+        Some("O")
+    } else if id == UNIT {
+        Some("OU")
+    } else {
+        None
+    }
+}
+
+// The number of a subidentifier, with the 7 bits of one octet more.
+fn with_octet(number: u64, octet: u8) -> u64
+    requires { number < 2 ^ 57 }
+    ensures { result ≡ with_octet number octet }
+{
+    number * 128 + u64::from(octet % 128)
+}
+
+// What is read of a subidentifier after this octet.
+fn number_after(number: u64, octet: u8) -> u64
+    requires { number < 2 ^ 57 }
+    ensures { result ≡ number_after number octet }
+{
+    if octet < 128 {
+        0
+    } else {
+        with_octet(number, octet)
+    }
+}
+
+// Whether each subidentifier is below 2^64.
+fn are_small(id: &[u8]) -> bool
+    ensures { result ≡ are_small 0 id.now }
+{
+    let mut rest = id;
+    let mut number = 0u64;
+    while let Some((octet, behind)) = rest.split_first() {
+        if number >= 1 << 57 {
+            return false;
+        }
+        number = number_after(number, *octet);
+        rest = behind;
+    }
+    true
+}
+
+// A subidentifier in decimal digits.
+fn write_number<W: fmt::Write>(
+    f: &mut fmt::Formatter<W>,
+    is_first: bool,
+    number: u64,
+) -> fmt::Result
+    ensures { WritesOnOk W.write_str_gives f.old result (number_text is_first number) f.new }
+{
+    if !is_first {
+        write!(f, ".{number}")
+    } else if number < 40 {
+        write!(f, "0.{number}")
+    } else if number < 80 {
+        let second = number - 40;
+        write!(f, "1.{second}")
+    } else {
+        let second = number - 80;
+        write!(f, "2.{second}")
+    }
+}
+
+// The subidentifier that ends with this octet, if one does.
+fn write_ended<W: fmt::Write>(
+    f: &mut fmt::Formatter<W>,
+    is_first: bool,
+    number: u64,
+    octet: u8,
+) -> fmt::Result
+    requires { number < 2 ^ 57 }
+    ensures { WritesOnOk W.write_str_gives f.old result
+        (numbers_text is_first (ended_with number octet)) f.new }
+{
+    if octet < 128 {
+        write_number(f, is_first, with_octet(number, octet))
+    } else {
+        Ok(())
+    }
+}
+
+// Whether no subidentifier has ended after this octet.
+fn is_still_first(is_first: bool, octet: u8) -> bool
+    ensures { result ≡ (is_first && not (nat_lt octet 128)) }
+{
+    is_first && octet >= 128
+}
+
+// Numbers with a dot between each two.
+fn write_dotted<W: fmt::Write>(f: &mut fmt::Formatter<W>, id: &[u8]) -> fmt::Result
+    requires { are_small 0 id.now ≡ true }
+    ensures { WritesOnOk W.write_str_gives f.old result (dotted_text id.now) f.new }
+{
+    let mut rest = id;
+    let mut number = 0u64;
+    let mut is_first = true;
+    while let Some((octet, behind)) = rest.split_first() {
+        write_ended(f, is_first, number, *octet)?;
+        is_first = is_still_first(is_first, *octet);
+        number = number_after(number, *octet);
+        rest = behind;
+    }
+    Ok(())
+}
+
+// A type without a name.
+fn write_type<W: fmt::Write>(f: &mut fmt::Formatter<W>, id: &[u8]) -> fmt::Result
+    ensures { WritesOnOk W.write_str_gives f.old result (type_text id.now) f.new }
+{
+    if are_small(id) {
+        write_dotted(f, id)
+    } else {
+        f.write_str("oid:")?;
+        write_hexadecimal(f, id)
+    }
+}
+
+// The content of a PrintableString or UTF8String.
+fn string_of<'a>(value: &Cursor<'a>) -> Option<&'a [u8]>
+    ensures { option_map (λ s. s.now) result ≡ string_of (left value.now) }
+{
+    let tag = match value.rest() {
+        [] => return None,
+        [tag, ..] => *tag,
+    };
+    if tag != tag::PRINTABLE_STRING && tag != tag::UTF8_STRING {
+        return None;
+    }
+    let mut ahead = value.fork();
+    let content = match ahead.take_value(tag) {
+        Ok(content) => content,
+        Err(_) => return None,
+    };
+    Some(content.rest())
+}
+
+// A value by its octets.
+fn write_octets<W: fmt::Write>(f: &mut fmt::Formatter<W>, value: &[u8]) -> fmt::Result
+    ensures { WritesOnOk W.write_str_gives f.old result (octets_of_value value.now) f.new }
+{
+    f.write_str("#")?;
+    write_hexadecimal(f, value)
+}
+
+// A string by its characters, and another value by its octets.
+fn write_value<W: fmt::Write>(f: &mut fmt::Formatter<W>, value: &Cursor<'_>) -> fmt::Result
+    ensures { WritesOnOk W.write_str_gives f.old result
+        (value_text (left value.now) (string_of (left value.now))) f.new }
+{
+    match string_of(value) {
+        Some(string) => write_string(f, string),
+        None => write_octets(f, value.rest()),
+    }
+}
+
+// An attribute of this type and value.
+fn write_attribute<W: fmt::Write>(
+    f: &mut fmt::Formatter<W>,
+    id: &[u8],
+    value: &Cursor<'_>,
+) -> fmt::Result
+    ensures { WritesOnOk W.write_str_gives f.old result
+        (attribute_text (id.now, left value.now)) f.new }
+{
+    match short_name(id) {
+        Some(name) => {
+            f.write_str(name)?;
+            f.write_str("=")?;
+            write_value(f, value)
+        }
+        None => {
+            write_type(f, id)?;
+            f.write_str("=")?;
+            write_octets(f, value.rest())
+        }
+    }
+}
+
+// The type and the value of the attribute that stands next.
+#[tactic(auto, unfolding(crate::specs::NameTexts::attribute_value_at))]
+fn take_attribute_value<'a>(cursor: &mut Cursor<'a>) -> Result<(&'a [u8], Cursor<'a>), DecodeError>
+    ensures reads { TookBy (λ x. (x.0.now, left x.1)) attribute_value_at
+        cursor.old result cursor.new }
+    ensures keeps { Keeps result cursor.old cursor.new }
+{
+    let mut ahead = cursor.fork();
+    let mut content = ahead.take_sequence()?;
+    let id = content.take_oid()?;
+    *cursor = ahead;
+    Ok((id, content))
+}
+
+// The same, where one stands.
+fn next_attribute<'a>(cursor: &mut Cursor<'a>) -> Option<(&'a [u8], Cursor<'a>)>
+    ensures { option_map (λ x. ((x.0.now, left x.1), left cursor.new)) result
+        ≡ attribute_value_at (left cursor.old) }
+{
+    let attribute = match take_attribute_value(cursor) {
+        Ok(attribute) => attribute,
+        Err(_) => return None,
+    };
+    Some(attribute)
+}
+
+// The content of the part that stands next.
+fn next_part<'a>(cursor: &mut Cursor<'a>) -> Option<Cursor<'a>>
+    ensures { option_map (λ x. (left x, left cursor.new)) result ≡ value_at SET (left cursor.old) }
+{
+    let part = match cursor.take_value(tag::SET) {
+        Ok(part) => part,
+        Err(_) => return None,
+    };
+    Some(part)
+}
+
+// The attributes of a part.
+fn write_part<W: fmt::Write>(f: &mut fmt::Formatter<W>, part: &Cursor<'_>) -> fmt::Result
+    ensures { WritesOnOk W.write_str_gives f.old result (part_text (left part.now)) f.new }
+{
+    let mut rest = part.fork();
+    let mut before = "";
+    while let Some((id, value)) = next_attribute(&mut rest) {
+        f.write_str(before)?;
+        write_attribute(f, id, &value)?;
+        before = "+";
+    }
+    Ok(())
+}
+
+// The parts of a name.
+fn write_parts<W: fmt::Write>(f: &mut fmt::Formatter<W>, parts: &Cursor<'_>) -> fmt::Result
+    ensures { WritesOnOk W.write_str_gives f.old result (parts_text (left parts.now)) f.new }
+{
+    let mut rest = parts.fork();
+    let mut before = "";
+    while let Some(part) = next_part(&mut rest) {
+        f.write_str(before)?;
+        write_part(f, &part)?;
+        before = ", ";
+    }
+    Ok(())
+}
+
+/// The parts in the order in which they stand, as `CN=example+serialNumber=1, OU=more` (RFC 4514,
+/// which has the last part first): types that certificates have by their names with a string by its
+/// characters, and else the octets in hexadecimal.
+impl fmt::Display for Name {
+    ghost output = { λ n. Some (name_text n) };
+
+    fn fmt<W: fmt::Write>(&self, f: &mut fmt::Formatter<W>) -> fmt::Result {
+        let mut octets = self.octets.cursor();
+        let parts = match octets.take_sequence() {
+            Ok(parts) => parts,
+            Err(_) => return Ok(()),
+        };
+        write_parts(f, &parts)
+    }
+}
