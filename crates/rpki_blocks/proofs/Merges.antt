@@ -1,8 +1,8 @@
 -- Blocks in order, merged from the left.
-use Rattle.std.proofs.Common.{◌≡◌, ℕ, ◌+◌, ◌<◌, ◌≤◌, Bool, true, false, List, [], ◌∷◌, ◌++◌, length, get_or, take, drop, set, suc, subst, refl, sym, ◌∙◌, arith, inl, inr, append_assoc}
+use Rattle.std.proofs.Common.{◌≡◌, ℕ, ◌+◌, ◌<◌, ◌≤◌, Bool, true, false, List, [], ◌∷◌, ◌++◌, length, get_or, take, drop, set, suc, subst, refl, sym, ap, ◌∙◌, arith, inl, inr, append_assoc}
 use Rattle.std.specs.List.Sorted.{IsNonDecreasingBy, IsPermutation}
 use Rattle.std.proofs.lemmas.Bool.{cases_lt}
-use Rattle.std.proofs.lemmas.List.{drop_all, take_more_set, drop-set-lt}
+use Rattle.std.proofs.lemmas.List.{drop_all, take_all, take_more, take_more_set, drop-set-lt}
 use Rattle.std.proofs.lemmas.List.Sorted.{list_any-IsPermutation}
 use Rattle.rpki_blocks.specs.Sets.{Block, is_within, is_in, IsChain, AreUpTo, IsSet, HaveSameNumbers}
 use Rattle.rpki_blocks.specs.Pairs.{IsJoin}
@@ -142,3 +142,25 @@ new_at g all items kept i last b l is behind m far some small =
 pub end_at : (g : ℕ) (all sorted items : List Block) (kept i : ℕ) (last : Block) → IsPermutation all sorted → kept < length items → length items ≤ i → IsMerged g sorted (take kept items) last (drop i items) → HaveSameNumbers (take (kept + 1) (set items kept last)) all
 end_at g all sorted items kept i last p l past m =
     rw (take_more_set items kept last l) (merged_end g all sorted (take kept items) last p (subst (λ (v : List Block). IsMerged g sorted (take kept items) last v) (drop_all i items past) m))
+
+-- ---- blocks that are a set as they stand
+
+-- the first block alone is a set
+pub set_first : (g : ℕ) (items : List Block) (b : Block) → 0 < length items → b ≡ get_or items 0 b → b.min ≤ b.max → b.max ≤ g → IsSet g (take 1 items)
+set_first g [] b l is some small = absurd (omega (arith, l))
+set_first g (x ∷ items) b l is some small = let e : b ≡ x = is in subst (λ (v : Block). IsSet g (v ∷ [])) e (record { chain = some; small = (small, tt) })
+
+-- a set of the first blocks goes on with the next one, where that is apart from the last of them
+pub set_more : (g : ℕ) (items : List Block) (i : ℕ) (a b : Block) → i + 1 < length items → a ≡ get_or items i a → b ≡ get_or items (i + 1) b → IsSet g (take (i + 1) items) → a.max + 1 < b.min → b.min ≤ b.max → b.max ≤ g → IsSet g (take (i + 1 + 1) items)
+set_more g items i a b l at_i at_next h far some small =
+    let front : take (i + 1) items ≡ take i items ++ a ∷ [] = take_more items i a (omega (arith, l)) ∙ ap (λ (v : Block). take i items ++ v ∷ []) (sym at_i) in
+    let all : take (i + 1 + 1) items ≡ (take i items ++ a ∷ []) ++ b ∷ [] = take_more items (i + 1) b l ∙ (λ k. front k ++ at_next_is k ∷ []) in
+    let was : IsSet g (take i items ++ a ∷ []) = subst (λ (v : List Block). IsSet g v) front h in
+    subst (λ (v : List Block). IsSet g v) (sym all) (record { chain = followed (take i items) a b was.chain far some; small = small_more g (take i items ++ a ∷ []) b was.small small })
+  where
+    at_next_is : get_or items (i + 1) b ≡ b
+    at_next_is = sym at_next
+
+-- a set of all blocks
+pub set_all : (g : ℕ) (items : List Block) (i : ℕ) → length items ≤ i → IsSet g (take i items) → IsSet g items
+set_all g items i l h = subst (λ (v : List Block). IsSet g v) (take_all i items l) h

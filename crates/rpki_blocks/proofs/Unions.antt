@@ -1,11 +1,13 @@
 -- Blocks in any order have one chain.
-use Rattle.std.proofs.Common.{◌≡◌, ℕ, ◌+◌, ◌<◌, ◌≤◌, ltb, min, max, true, List, [], ◌∷◌, refl, sym, ap, ◌∙◌, arith, inl, inr}
+use Rattle.std.proofs.Common.{◌≡◌, ℕ, ◌+◌, ◌<◌, ◌≤◌, ltb, min, max, true, List, [], ◌∷◌, ◌++◌, Option, Some, None, refl, sym, ap, ◌∙◌, arith, inl, inr}
 use Rattle.std.proofs.lemmas.Bool.{cases_Bool, cases_lt, ltb-true, ltb-false}
 use Rattle.std.specs.Cmp.{both_ways}
+use Rattle.rpki_der.specs.Rows.Reading.{row_of}
 use Rattle.rpki_blocks.specs.Sets.{Block, is_in, IsChain, HaveSameNumbers}
 use Rattle.rpki_blocks.specs.Resources.{Resources, listed}
 use Rattle.rpki_blocks.specs.Unions.{IsUnion}
-use Rattle.rpki_blocks.specs.Unions.Reading.{added, merged}
+use Rattle.rpki_blocks.specs.Unions.Reading.{added, merged, union_of}
+use Rattle.rpki_blocks.proofs.Walks.{in_append_cases, in_append_left, in_append_right}
 use Rattle.rpki_blocks.proofs.Sets.{in_head, in_tail, in_cases, chain_head, chain_tail, one_chain}
 
 -- the first block begins past this number
@@ -171,3 +173,29 @@ union_is bs r u = u.is ∙ ap listed (chain_is_merged u.chain bs u.is_chain u.sa
 -- what a chain makes of blocks
 pub listed_merged : (chain bs : List Block) (r : Resources) → IsChain chain → HaveSameNumbers chain bs → r ≡ listed chain → listed (merged bs) ≡ r
 listed_merged chain bs r p e is = ap listed (sym (chain_is_merged chain bs p e)) ∙ sym is
+
+-- ---- blocks that were merged while a row was read
+
+-- a block more keeps numbers the same
+pub same_more : (bs cs : List Block) (b : Block) → HaveSameNumbers bs cs → HaveSameNumbers (bs ++ b ∷ []) (cs ++ b ∷ [])
+same_more bs cs b e n = both_ways _ _ (more bs cs (λ i. sym (e n) ∙ i)) (more cs bs (λ i. e n ∙ i))
+  where
+    more : (xs ys : List Block) → (is_in n xs ≡ true → is_in n ys ≡ true) → is_in n (xs ++ b ∷ []) ≡ true → is_in n (ys ++ b ∷ []) ≡ true
+    more xs ys f h =
+        elim (in_append_cases n xs (b ∷ []) h) [
+          | inl before ↦ in_append_left n ys (b ∷ []) (f before)
+          | inr here ↦ in_append_right n ys (b ∷ []) here
+        ]
+
+-- blocks with the same numbers are merged to one chain
+pub merged_one : (bs cs : List Block) → HaveSameNumbers bs cs → merged bs ≡ merged cs
+merged_one bs cs e = one_chain (merged bs) (merged cs) (merged_chain bs) (merged_chain cs) (λ n. merged_same bs n ∙ e n ∙ sym (merged_same cs n))
+
+module _ (element : List ℕ → Option (Block × List ℕ)) (octets : List ℕ) where
+  -- the union of a row is that of blocks with its elements' numbers
+  pub union_same : (elements blocks : List Block) → row_of element octets ≡ Some elements → HaveSameNumbers blocks elements → union_of element octets ≡ Some (listed (merged blocks))
+  union_same elements blocks row same = rw row (ap (λ (bs : List Block). Some (listed bs)) (merged_one elements blocks (λ n. sym (same n))))
+
+  -- what is no row has no union
+  pub union_none : row_of element octets ≡ None → union_of element octets ≡ None
+  union_none none = rw none refl

@@ -61,6 +61,11 @@ impl Elements for AsNumbers {
         take_element(cursor)
     }
 
+    // No element is shorter than three octets.
+    fn room(&self, octets: usize) -> usize {
+        octets / 3 + 1
+    }
+
     ghost shrinks = { λ _. unfold as_element_at u32_at in
         content_or_shrinks SEQUENCE as_range_of as_id
         (turned_shrinks single u32_at (content_shrinks INTEGER (number_below (2 ^ 32)))) };

@@ -25,6 +25,62 @@ pub type IpBlocks = Chain<Addr>;
 /// A set of AS numbers.
 pub type AsBlocks = Chain<Asn>;
 
+// Returns whether blocks are a set as they stand: they ascend, and neither overlap nor touch.
+fn is_set<B: Bound>(blocks: &[Block<B>]) -> bool
+    ensures { IsTrue result → IsSet B.greatest blocks.now }
+{
+    if blocks.is_empty() {
+        return true;
+    }
+    // Called for what it ensures alone.
+    blocks[0].known();
+    // Proofs name the loop by its label.
+    'check: for i in 0..blocks.len() - 1 {
+        if blocks[i].reaches(blocks[i + 1]) {
+            return false;
+        }
+    }
+    true
+}
+
+// Makes blocks a set in place: those that aren't one are sorted and merged.
+pub(crate) fn merge<B: Bound>(blocks: &mut Vec<Block<B>>)
+    ensures union { HaveSameNumbers blocks.new.items blocks.old.items }
+    ensures set { IsSet B.greatest blocks.new.items }
+{
+    if !is_set(blocks) {
+        sort_and_merge(blocks);
+    }
+}
+
+// Sorts blocks and merges them in place.
+fn sort_and_merge<B: Bound>(blocks: &mut Vec<Block<B>>)
+    ensures union { HaveSameNumbers blocks.new.items blocks.old.items }
+    ensures set { IsSet B.greatest blocks.new.items }
+{
+    if blocks.is_empty() {
+        return;
+    }
+    blocks.sort_unstable_by(|x, y| x.order(y));
+    let mut last = blocks[0];
+    // Called for what it ensures alone.
+    last.known();
+    let mut kept = 0;
+    // Proofs name the loop by its label.
+    'merge: for i in 1..blocks.len() {
+        let next = blocks[i];
+        if last.reaches(next) {
+            last = last.join(next);
+        } else {
+            blocks[kept] = last;
+            kept += 1;
+            last = next;
+        }
+    }
+    blocks[kept] = last;
+    blocks.truncate(kept + 1);
+}
+
 impl<B: Bound> Model for Chain<B> {
     ghost use Rattle.std.specs.Prelude.{List};
     ghost use Rattle.rpki_blocks.specs.Sets.{Block as Span, IsSet};
@@ -62,32 +118,16 @@ impl<B: Bound> Chain<B> {
         Ok(Chain::from_blocks(all))
     }
 
-    // Makes the set of blocks in a vector, which is sorted and merged in place.
+    // Makes the set of blocks in a vector, which is merged in place. Where few are kept, the rest of
+    // the room is given back.
     pub(crate) fn from_blocks(mut blocks: Vec<Block<B>>) -> Chain<B>
         ensures union { HaveSameNumbers result blocks.items }
         ensures set { IsSet B.greatest result }
     {
-        if blocks.is_empty() {
-            return Chain { blocks };
+        merge(&mut blocks);
+        if blocks.len() < blocks.capacity() / 4 {
+            blocks.shrink_to_fit();
         }
-        blocks.sort_unstable_by(|x, y| x.order(y));
-        let mut last = blocks[0];
-        // Called for what it ensures alone.
-        last.known();
-        let mut kept = 0;
-        // Proofs name the loop by its label.
-        'merge: for i in 1..blocks.len() {
-            let next = blocks[i];
-            if last.reaches(next) {
-                last = last.join(next);
-            } else {
-                blocks[kept] = last;
-                kept += 1;
-                last = next;
-            }
-        }
-        blocks[kept] = last;
-        blocks.truncate(kept + 1);
         Chain { blocks }
     }
 

@@ -3,12 +3,13 @@ ghost use Rattle.std.specs.Prelude.{◌≡◌, ◌++◌, ℕ, List, [], ◌∷�
 ghost use Rattle.rpki_der.specs.Place.{Place, left, Keeps};
 ghost use Rattle.rpki_der.specs.Place.Reading.{Took, TookOrMemory, ReturnsOrMemory, ReturnsOrMemoryBy};
 ghost use Rattle.rpki_der.specs.Rows.Reading.{row_of, Shrinks};
-ghost use Rattle.rpki_blocks.specs.Sets.{Block as Span};
-ghost use Rattle.rpki_blocks.specs.Unions.Reading.{union_of, choice_at};
+ghost use Rattle.rpki_blocks.specs.Resources.{listed};
+ghost use Rattle.rpki_blocks.specs.Sets.{Block as Span, HaveSameNumbers};
+ghost use Rattle.rpki_blocks.specs.Unions.Reading.{merged, union_of, choice_at};
 
 use crate::block::Block;
 use crate::bound::Bound;
-use crate::chain::Chain;
+use crate::chain::{Chain, merge};
 use crate::resources::Resources;
 use rpki_der::{Cursor, DecodeError};
 use std::alloc::{AllocError, Global};
@@ -24,33 +25,56 @@ pub(crate) trait Elements {
         ensures reads { Took (element_at self.now) cursor.old result cursor.new }
         ensures keeps { Keeps result cursor.old cursor.new };
 
+    /// For how many blocks room is made before a row of so many octets is read.
+    fn room(&self, octets: usize) -> usize;
+
     /// An element has octets.
     ghost shrinks: { (kind : Self) → Shrinks (element_at kind) };
 }
 
-// One block more.
-#[inline(always)]
-fn push<B: Bound>(blocks: &mut Vec<Block<B>>, block: Block<B>) -> Result<(), AllocError>
-    ensures { OnOk result (blocks.new.items ≡ blocks.old.items ++ block ∷ []) }
+// Merges blocks that fill their room, and makes more where that frees less than half of it. An
+// element of six octets, a usual prefix of IPv4, is the shortest of which there may be many that
+// don't merge.
+fn make_room<B: Bound>(blocks: &mut Vec<Block<B>>, octets: usize) -> Result<(), AllocError>
+    ensures { HaveSameNumbers blocks.new.items blocks.old.items }
 {
+    merge(blocks);
+    if blocks.len() > blocks.capacity() / 2 {
+        blocks.reserve_exact(octets / 6 + 1)?;
+    }
+    Ok(())
+}
+
+// One block more, before so many octets.
+#[inline(always)]
+fn push<B: Bound>(
+    blocks: &mut Vec<Block<B>>,
+    block: Block<B>,
+    octets: usize,
+) -> Result<(), AllocError>
+    ensures { OnOk result (HaveSameNumbers blocks.new.items (blocks.old.items ++ block ∷ [])) }
+{
+    if blocks.len() == blocks.capacity() {
+        make_room(blocks, octets)?;
+    }
     blocks.push(block)?;
     Ok(())
 }
 
-// The elements that a content is a row of.
+// Blocks with the numbers of the elements that a content is a row of.
 #[inline(always)]
 fn elements_in<K: Elements>(
     alloc: Global,
     kind: &K,
     mut content: Cursor<'_>,
 ) -> Result<Vec<Block<K::End>>, DecodeError>
-    ensures { ReturnsOrMemoryBy (λ v. v.items) result
-        (row_of (K.element_at kind.now) (left content.entry)) }
+    ensures { ReturnsOrMemoryBy (λ v. listed (merged v.items)) result
+        (union_of (K.element_at kind.now) (left content.entry)) }
 {
-    let mut blocks = Vec::new(alloc);
+    let mut blocks = Vec::with_capacity(alloc, kind.room(content.rest().len()))?;
     while !content.is_empty() {
         let block = kind.take_element(&mut content)?;
-        push(&mut blocks, block)?;
+        push(&mut blocks, block, content.rest().len())?;
     }
     Ok(blocks)
 }

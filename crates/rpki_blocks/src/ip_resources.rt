@@ -127,6 +127,11 @@ impl Elements for Family {
         Ok(block)
     }
 
+    // A whole address of IPv4 takes seven octets.
+    fn room(&self, octets: usize) -> usize {
+        octets / 7 + 1
+    }
+
     ghost shrinks = { λ family. unfold ip_element_at address_at bits_at in
         content_or_shrinks SEQUENCE (address_range family) (address_at family)
         (turned_shrinks (prefix_of (family_bits family)) bits_at (content_shrinks BIT_STRING _)) };

@@ -2,8 +2,8 @@ use Rattle.std.proofs.Common.{rules, arith, ◌∙◌, length-set}
 use Rattle.std.proofs.lemmas.List.Sorted.{IsNonDecreasingBy-from_sort_by}
 use Rattle.rpki_blocks.specs.Sets.{Block}
 use Rattle.rpki_blocks.proofs.Merges.{start_at, join_at, new_at, end_at}
-use Rattle.rpki_blocks.proofs.chain.Chain.from_blocks.Goals as goal
-use Rattle.rpki_blocks.proofs.chain.Chain.from_blocks.Goals.{then-reaches, else-reaches}
+use Rattle.rpki_blocks.proofs.chain.sort_and_merge.Goals as goal
+use Rattle.rpki_blocks.proofs.chain.sort_and_merge.Goals.{then-reaches, else-reaches}
 
 pub merge-init : goal.merge-init
 merge-init g c =

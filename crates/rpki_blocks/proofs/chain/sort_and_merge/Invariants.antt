@@ -1,6 +1,6 @@
 use Rattle.std.proofs.Common.{◌≡◌, ◌<◌, length, take, drop}
 use Rattle.rpki_blocks.proofs.Merges.{IsMerged}
-use Rattle.rpki_blocks.proofs.chain.Chain.from_blocks.Given as goal
+use Rattle.rpki_blocks.proofs.chain.sort_and_merge.Given as goal
 
 abbrev pub invariant-merge : goal.invariant-merge
 invariant-merge g l =
