@@ -1,6 +1,6 @@
 -- A Name is written as its definition says.
-use Rattle.std.specs.Prelude.{is_some, map}
-use Rattle.std.proofs.Common.{◌≡◌, ℕ, zero, suc, true, List, [], ◌∷◌, length, Option, Some, None, refl, ap, ◌∙◌, arith}
+use Rattle.std.specs.Prelude.{map}
+use Rattle.std.proofs.Common.{◌≡◌, ℕ, zero, suc, true, List, [], ◌∷◌, length, Option, Some, refl, ap, ◌∙◌, arith}
 use Rattle.rpki_der.specs.Primitives.Reading.{oid_at}
 use Rattle.rpki_der.specs.Reading.{both, mapped, content, ended}
 use Rattle.rpki_der.specs.Rows.Reading.{row_at, row_of, Shrinks}
@@ -13,6 +13,7 @@ use Rattle.rpki_parts.specs.Names.Reading.{tagged_at, attribute, attribute_at, a
 use Rattle.rpki_parts.specs.NameTexts.{attribute_value_at, part_values_at, name_values_at, part_text, name_text}
 use Rattle.rpki_parts.specs.NameTexts.Reading.{values_at, values_in, written_part, written_name}
 use Rattle.rpki_parts.proofs.NameForms.{set_shrinks}
+use Rattle.rpki_parts.proofs.NameReads.{some_of}
 use Rattle.rpki_parts.proofs.NameTexts.{attribute_value_shrinks, enough_values}
 
 -- what a whole row reads as in another way, where each of its values does
@@ -85,16 +86,11 @@ parts_are_written (suc n) (b ∷ bytes) parts e =
     let more : map written_part (values_at (value_at SET) n v.0.1) ≡ map part_text c.0 = ap (λ (r : List ℕ). map written_part (values_at (value_at SET) n r)) g.1 ∙ parts_are_written n a.0.1 c.0 c.1 in
     rw (v.1, first, more) (ap (map part_text) (some_is (a.0.0 ∷ c.0) parts c.2))
 
--- what is there where a test says so
-there : {X : Type 0} (o : Option X) → is_some o ≡ true → (x : X) × (o ≡ Some x)
-there (Some x) e = (x, refl)
-there None e = absurd cc
-
 -- a Name is written as its definition says
 pub name_is_written : (octets : List ℕ) → is_name octets ≡ true → written_name octets ≡ name_text octets
 unfolding name_of parts_at name_values_at row_of values_in
 name_is_written octets e =
-    let p = there (name_of octets) e in
+    let p = some_of (name_of octets) e in
     let q = bind_some (parts_at octets) (λ x. ended x.1 x.0) p.0 p.1 in
     let a = bind_some (value_at SEQUENCE octets) (λ v. row_of part_at v.0 >>= λ x. some {A = List (List Attribute) × List ℕ} (x, v.1)) q.0 q.1 in
     let b = bind_some (row_of part_at a.0.0) (λ x. some {A = List (List Attribute) × List ℕ} (x, a.0.1)) q.0 a.2 in
