@@ -10,6 +10,7 @@ pub mod Lengths
 pub mod NameReads
 pub mod NameForms
 pub mod NameTexts
+pub mod NameValues
 pub mod Slashes
 pub mod UriTests
 pub mod UriParents

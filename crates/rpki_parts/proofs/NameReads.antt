@@ -185,7 +185,8 @@ name_again parts octets s =
     let whole : parts_at octets ≡ some {A = List (List Attribute) × List ℕ} (parts, []) = ap parts_at (sym (append-nil octets)) ∙ parts_reads.again parts octets [] s in
     rw whole refl
 
-some_of : {X : Type 0} (o : Option X) → is_some o ≡ true → (x : X) × (o ≡ Some x)
+-- what is there where a test says so
+pub some_of : {X : Type 0} (o : Option X) → is_some o ≡ true → (x : X) × (o ≡ Some x)
 some_of (Some x) e = (x, refl)
 some_of None e = absurd cc
 

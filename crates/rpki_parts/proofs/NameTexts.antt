@@ -11,7 +11,8 @@ use Rattle.rpki_der.specs.Primitives.Reading.{oid_at}
 use Rattle.rpki_der.specs.Values.Reading.{◌>>=◌}
 use Rattle.rpki_der.proofs.Choices.{content_shrinks}
 use Rattle.rpki_der.proofs.Octets.{some}
-use Rattle.rpki_parts.specs.NameTexts.{or_nothing, values_at, values_in, attribute_value_at, separated, with_octet, ended_with, number_text, numbers_text}
+use Rattle.rpki_parts.specs.NameTexts.{or_nothing, attribute_value_at, separated, with_octet, ended_with, number_text, numbers_text}
+use Rattle.rpki_parts.specs.NameTexts.Reading.{values_at, values_in}
 
 -- ---- a text piece by piece
 
@@ -65,7 +66,8 @@ module _ {X : Type 0} (read : List ℕ → Option (X × List ℕ)) (less : Shrin
   at_end (Some x) f octets e p = let s : length x.1 < length octets = less octets x.0 x.1 e in absurd (omega arith)
   at_end None f octets e p = refl
 
-  enough_values : (n m : ℕ) (octets : List ℕ) → length octets ≤ n → length octets ≤ m → values_at read n octets ≡ values_at read m octets
+  -- a greater bound changes nothing
+  pub enough_values : (n m : ℕ) (octets : List ℕ) → length octets ≤ n → length octets ≤ m → values_at read n octets ≡ values_at read m octets
   enough_values zero zero octets p q = refl
   enough_values zero (suc m) octets p q = sym (at_end (read octets) (values_at read m) octets refl p)
   enough_values (suc n) zero octets p q = at_end (read octets) (values_at read n) octets refl q

@@ -1,35 +1,29 @@
 -- The text of a name (RFC 4514 2). Its parts stand in the order of the encoding, where RFC 4514 2.1
 -- begins with the last one, and with ", " between them (own).
-use Rattle.std.specs.Prelude.{ℕ, zero, suc, Bool, true, false, ◌||◌, ◌&&◌, ◌==◌, nat_lt, not, ◌+◌, ◌-◌, ◌*◌, ◌%◌, ◌^◌, if◌then◌else◌, List, [], ◌∷◌, ◌++◌, length, map, Option, Some, None, codes, bytes_eq}
+use Rattle.std.specs.Prelude.{ℕ, Bool, true, false, ◌||◌, ◌&&◌, ◌==◌, nat_lt, not, ◌+◌, ◌-◌, ◌*◌, ◌%◌, ◌^◌, if◌then◌else◌, List, [], ◌∷◌, ◌++◌, map, Option, Some, None, codes, bytes_eq}
 use Rattle.std.specs.Fmt.{decimal}
 use Rattle.rpki_der.specs.Primitives.Reading.{oid_at}
 use Rattle.rpki_der.specs.Reading.{content}
+use Rattle.rpki_der.specs.Rows.Reading.{row_of}
 use Rattle.rpki_der.specs.Tags.{SEQUENCE, SET, PRINTABLE_STRING, UTF8_STRING}
 use Rattle.rpki_der.specs.Texts.{hexadecimal}
 use Rattle.rpki_der.specs.Values.Reading.{◌>>=◌, value_at}
 use Rattle.rpki_parts.specs.Names.{common_name, serial_number}
+pub mod Reading
 
--- ---- what a name has
+-- ---- what a name has (RFC 5280 4.1.2.4)
 
--- what is there, or nothing
-abbrev pub or_nothing : {X : Type 0} → Option (List X) → List X
-or_nothing None = []
-or_nothing (Some xs) = xs
-
--- at most n values, as far as there are some
-abbrev pub values_at : {V : Type 0} → (List ℕ → Option (V × List ℕ)) → ℕ → List ℕ → List V
-values_at read zero octets = []
-values_at read (suc n) octets = or_nothing (read octets >>= λ v. Some (v.0 ∷ values_at read n v.1))
-
--- the values that stand one after the other: all values of a row
-unfoldable pub values_in : {V : Type 0} → (List ℕ → Option (V × List ℕ)) → List ℕ → List V
-values_in read octets = values_at read (length octets) octets
-
--- AttributeTypeAndValue ::= SEQUENCE {
---   type AttributeType, value AttributeValue }   (RFC 5280 4.1.2.4)
--- the content of the type, and the octets of the value
+-- AttributeTypeAndValue: the content of the type, and the octets of the value behind it
 unfoldable pub attribute_value_at : List ℕ → Option ((List ℕ × List ℕ) × List ℕ)
 attribute_value_at = content SEQUENCE oid_at
+
+-- RelativeDistinguishedName: its attributes
+unfoldable pub part_values_at : List ℕ → Option (List (List ℕ × List ℕ) × List ℕ)
+part_values_at = content SET (row_of attribute_value_at)
+
+-- RDNSequence: its parts
+unfoldable pub name_values_at : List ℕ → Option (List (List (List ℕ × List ℕ)) × List ℕ)
+name_values_at = content SEQUENCE (row_of part_values_at)
 
 -- ---- strings (RFC 4514 2.4)
 
@@ -161,14 +155,19 @@ abbrev pub separated : List ℕ → List ℕ → List (List ℕ) → List ℕ
 separated before between [] = []
 separated before between (text ∷ texts) = before ++ (text ++ separated between between texts)
 
--- a part by its content: its attributes, with + between them
-abbrev pub part_text : List ℕ → List ℕ
-part_text octets = separated [] (codes "+") (map attribute_text (values_in attribute_value_at octets))
+-- a part: its attributes, with + between them
+abbrev pub part_text : List (List ℕ × List ℕ) → List ℕ
+part_text attributes = separated [] (codes "+") (map attribute_text attributes)
 
--- the content of an RDNSequence: its parts, with a comma and a space between them
-abbrev pub parts_text : List ℕ → List ℕ
-parts_text octets = separated [] (codes ", ") (map part_text (values_in (value_at SET) octets))
+-- parts, with a comma and a space between them
+abbrev pub parts_text : List (List (List ℕ × List ℕ)) → List ℕ
+parts_text parts = separated [] (codes ", ") (map part_text parts)
+
+-- what is there, or nothing
+abbrev pub or_nothing : {X : Type 0} → Option (List X) → List X
+or_nothing None = []
+or_nothing (Some xs) = xs
 
 -- a Name
 abbrev pub name_text : List ℕ → List ℕ
-name_text octets = or_nothing (value_at SEQUENCE octets >>= λ v. Some (parts_text v.0))
+name_text octets = or_nothing (name_values_at octets >>= λ v. Some (parts_text v.0))

@@ -5,7 +5,8 @@ ghost use Rattle.rpki_der.specs.Place.{Place, left, Keeps};
 ghost use Rattle.rpki_der.specs.Place.Reading.{TookBy};
 ghost use Rattle.rpki_der.specs.Tags.{SET};
 ghost use Rattle.rpki_der.specs.Values.Reading.{value_at};
-ghost use Rattle.rpki_parts.specs.NameTexts.{with_octet, number_after, are_small, number_text, numbers_text, ended_with, dotted_text, type_text, attribute_value_at, is_special, is_visible, is_at_edge, octet_text, octets_text, string_text, short_name, string_of, value_text, octets_of_value, attribute_text, part_text, parts_text, name_text};
+ghost use Rattle.rpki_parts.specs.NameTexts.{with_octet, number_after, are_small, number_text, numbers_text, ended_with, dotted_text, type_text, attribute_value_at, is_special, is_visible, is_at_edge, octet_text, octets_text, string_text, short_name, string_of, value_text, octets_of_value, attribute_text, name_text};
+ghost use Rattle.rpki_parts.specs.NameTexts.Reading.{written_part, written_parts, written_name};
 
 use crate::name::Name;
 use rpki_der::{Cursor, DecodeError, tag, write_hexadecimal};
@@ -318,7 +319,7 @@ fn next_part<'a>(cursor: &mut Cursor<'a>) -> Option<Cursor<'a>>
 
 // The attributes of a part.
 fn write_part<W: fmt::Write>(f: &mut fmt::Formatter<W>, part: &Cursor<'_>) -> fmt::Result
-    ensures { WritesOnOk W.write_str_gives f.old result (part_text (left part.now)) f.new }
+    ensures { WritesOnOk W.write_str_gives f.old result (written_part (left part.now)) f.new }
 {
     let mut rest = part.fork();
     let mut before = "";
@@ -332,7 +333,7 @@ fn write_part<W: fmt::Write>(f: &mut fmt::Formatter<W>, part: &Cursor<'_>) -> fm
 
 // The parts of a name.
 fn write_parts<W: fmt::Write>(f: &mut fmt::Formatter<W>, parts: &Cursor<'_>) -> fmt::Result
-    ensures { WritesOnOk W.write_str_gives f.old result (parts_text (left parts.now)) f.new }
+    ensures { WritesOnOk W.write_str_gives f.old result (written_parts (left parts.now)) f.new }
 {
     let mut rest = parts.fork();
     let mut before = "";
@@ -344,18 +345,26 @@ fn write_parts<W: fmt::Write>(f: &mut fmt::Formatter<W>, parts: &Cursor<'_>) -> 
     Ok(())
 }
 
-/// The parts in the order in which they stand, as `CN=example+serialNumber=1, OU=more` (RFC 4514,
-/// which has the last part first): types that certificates have by their names with a string by its
-/// characters, and else the octets in hexadecimal.
+// A name.
+fn write_name<W: fmt::Write>(f: &mut fmt::Formatter<W>, octets: &Cursor<'_>) -> fmt::Result
+    ensures { WritesOnOk W.write_str_gives f.old result (written_name (left octets.now)) f.new }
+{
+    let mut ahead = octets.fork();
+    let parts = match ahead.take_sequence() {
+        Ok(parts) => parts,
+        Err(_) => return Ok(()),
+    };
+    write_parts(f, &parts)
+}
+
+/// The text of RFC 4514, but with the parts in the order in which they stand and a comma and a space
+/// between them, as `CN=example+serialNumber=1, OU=more`. CN, serialNumber, C, O and OU stand before
+/// the characters of a PrintableString or UTF8String, any other type by its numbers before the
+/// octets of its value, as `2.5.4.42=#130141`.
 impl fmt::Display for Name {
     ghost output = { λ n. Some (name_text n) };
 
     fn fmt<W: fmt::Write>(&self, f: &mut fmt::Formatter<W>) -> fmt::Result {
-        let mut octets = self.octets.cursor();
-        let parts = match octets.take_sequence() {
-            Ok(parts) => parts,
-            Err(_) => return Ok(()),
-        };
-        write_parts(f, &parts)
+        write_name(f, &self.octets.cursor())
     }
 }
