@@ -22,3 +22,5 @@ mod memory;
 mod paths;
 #[cfg(test)]
 mod shared;
+#[cfg(test)]
+mod texts;
