@@ -24,3 +24,5 @@ mod name_texts;
 mod paths;
 #[cfg(test)]
 mod shared;
+#[cfg(test)]
+mod texts;

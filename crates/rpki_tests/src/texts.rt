@@ -1,0 +1,120 @@
+//! What addresses, blocks and sets of them print.
+ghost use Rattle.std.specs.Prelude.{◌≤◌};
+
+use rpki_blocks::{Addr, AsBlock, AsBlocks, Asn, IpBlock, IpBlocks, Prefix};
+use std::alloc::AllocError;
+use std::process::Abort;
+
+fn assert_shown(rt: &impl Abort, shown: Result<String, AllocError>, text: &str) {
+    assert_eq!(rt; shown.expect(rt, "memory").as_str(), text);
+}
+
+fn v4(number: u32) -> Addr {
+    Addr::from(u128::from(number) << 96)
+}
+
+// Whole IPv4 addresses, from the one to the other.
+fn v4_range(low: u32, high: u32) -> IpBlock {
+    let last = (u128::from(high) << 96) + ((1 << 96) - 1);
+    IpBlock::from((v4(low), Addr::from(last)))
+}
+
+fn v4_prefix(number: u32, len: u8) -> IpBlock
+    requires { len ≤ 32 }
+{
+    IpBlock::from(Prefix::new(u128::from(number) << 96, len))
+}
+
+fn as_block(low: u32, high: u32) -> AsBlock {
+    AsBlock::from((Asn::from(low), Asn::from(high)))
+}
+
+// The recommended text of each address (RFC 5952 4.1 to 4.3, and 5 of a mapped IPv4 address).
+#[test]
+fn addresses_print_as_recommended(rt: HostRuntime) {
+    let alloc = rt.alloc();
+    let without_zeros = Addr::from(0x2001_0db8_0000_0000_0000_0000_0000_0001);
+    assert_shown(&rt, without_zeros.to_v6().to_string(alloc), "2001:db8::1");
+    let shortened = Addr::from(0x2001_0db8_0000_0000_0000_0000_0002_0001);
+    assert_shown(&rt, shortened.to_v6().to_string(alloc), "2001:db8::2:1");
+    let one_field = Addr::from(0x2001_0db8_0000_0001_0001_0001_0001_0001);
+    let text = "2001:db8:0:1:1:1:1:1";
+    assert_shown(&rt, one_field.to_v6().to_string(alloc), text);
+    let longest = Addr::from(0x2001_0000_0000_0001_0000_0000_0000_0001);
+    assert_shown(&rt, longest.to_v6().to_string(alloc), "2001:0:0:1::1");
+    let first = Addr::from(0x2001_0db8_0000_0000_0001_0000_0000_0001);
+    assert_shown(&rt, first.to_v6().to_string(alloc), "2001:db8::1:0:0:1");
+    let lower_case = Addr::from(0x2001_0db8_aaaa_bbbb_cccc_dddd_eeee_0001);
+    let text = "2001:db8:aaaa:bbbb:cccc:dddd:eeee:1";
+    assert_shown(&rt, lower_case.to_v6().to_string(alloc), text);
+    let mapped = Addr::from(0xffff_c000_0201);
+    assert_shown(&rt, mapped.to_v6().to_string(alloc), "::ffff:192.0.2.1");
+    assert_shown(&rt, Addr::from(0).to_v6().to_string(alloc), "::");
+    assert_shown(&rt, v4(0xc000_0201).to_v4().to_string(alloc), "192.0.2.1");
+}
+
+#[test]
+fn blocks_of_addresses_print(rt: HostRuntime) {
+    let alloc = rt.alloc();
+    let prefix = v4_prefix(0xc000_0200, 24);
+    assert_shown(&rt, prefix.display_v4().to_string(alloc), "192.0.2.0/24");
+    let one = v4_prefix(0xc000_0201, 32);
+    assert_shown(&rt, one.display_v4().to_string(alloc), "192.0.2.1/32");
+    let all = v4_prefix(0, 0);
+    assert_shown(&rt, all.display_v4().to_string(alloc), "0.0.0.0/0");
+    let range = v4_range(0xc000_0201, 0xc000_0209);
+    let text = "192.0.2.1-192.0.2.9";
+    assert_shown(&rt, range.display_v4().to_string(alloc), text);
+    let whole = v4_range(0xc000_0200, 0xc000_02ff);
+    assert_shown(&rt, whole.display_v4().to_string(alloc), "192.0.2.0/24");
+    let shifted = v4_range(0xc000_0204, 0xc000_020b);
+    let text = "192.0.2.4-192.0.2.11";
+    assert_shown(&rt, shifted.display_v4().to_string(alloc), text);
+}
+
+#[test]
+fn blocks_of_long_addresses_print(rt: HostRuntime) {
+    let alloc = rt.alloc();
+    let low = 0x2001_0db8 << 96;
+    let prefix = IpBlock::from(Prefix::new(low, 32));
+    assert_shown(&rt, prefix.display_v6().to_string(alloc), "2001:db8::/32");
+    let one = IpBlock::from(Prefix::new(low + 1, 128));
+    assert_shown(&rt, one.display_v6().to_string(alloc), "2001:db8::1/128");
+    let all = IpBlock::from(Prefix::new(0, 0));
+    assert_shown(&rt, all.display_v6().to_string(alloc), "::/0");
+    let range = IpBlock::from((Addr::from(low + 1), Addr::from(low + 0xa)));
+    let text = "2001:db8::1-2001:db8::a";
+    assert_shown(&rt, range.display_v6().to_string(alloc), text);
+}
+
+#[test]
+fn sets_of_addresses_print(rt: HostRuntime) {
+    let alloc = rt.alloc();
+    let none = IpBlocks::empty(alloc);
+    assert_shown(&rt, none.as_v4().to_string(alloc), "");
+    assert_shown(&rt, none.as_v6().to_string(alloc), "");
+    let net = v4_prefix(0xc000_0200, 24);
+    let some = v4_range(0x0a00_0001, 0x0a00_0002);
+    let set = IpBlocks::from_iter(alloc, [net, some]).expect(&rt, "memory");
+    let text = "10.0.0.1-10.0.0.2, 192.0.2.0/24";
+    assert_shown(&rt, set.as_v4().to_string(alloc), text);
+    let one = IpBlock::from(Prefix::new(1, 128));
+    let net = IpBlock::from(Prefix::new(0x2001_0db8 << 96, 32));
+    let set = IpBlocks::from_iter(alloc, [net, one]).expect(&rt, "memory");
+    assert_shown(&rt, set.as_v6().to_string(alloc), "::1/128, 2001:db8::/32");
+}
+
+#[test]
+fn as_numbers_print(rt: HostRuntime) {
+    let alloc = rt.alloc();
+    assert_shown(&rt, as_block(64496, 64496).to_string(alloc), "AS64496");
+    let several = as_block(64496, 64511);
+    assert_shown(&rt, several.to_string(alloc), "AS64496-AS64511");
+    let all = as_block(0, 0xffff_ffff);
+    assert_shown(&rt, all.to_string(alloc), "AS0-AS4294967295");
+    let none = AsBlocks::empty(alloc);
+    assert_shown(&rt, none.to_string(alloc), "");
+    let one = as_block(65536, 65536);
+    let set = AsBlocks::from_iter(alloc, [one, several]).expect(&rt, "memory");
+    assert_shown(&rt, set.to_string(alloc), "AS64496-AS64511, AS65536");
+}
