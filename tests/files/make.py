@@ -344,6 +344,15 @@ def odd_files(ca1, ca2, full):
     yield 'odd_version_2', made(0x4f0d, more={'version': 1})
 
 
+def router_certificate(router, issuer, issuer_name, serial, numbers):
+    """A BGPsec router's certificate (RFC 8209 3.1)."""
+    parts = leaf_extensions(router, issuer, issuer_name, '')
+    purposes = extended_key_usage('1.3.6.1.5.5.7.3.30')
+    return certificate(router, issuer, serial, changed(
+        parts, information=None, ip=None, purposes=purposes, **{'as': systems(numbers)}),
+        subject=common_name('ROUTER-0000FBF0'))
+
+
 def good_files(ta, ca1, ca2, leaf, router):
     anchor = ca_extensions('ta', ta, ta, 'ta', ['0.0.0.0/0'], ['::/0'], [(0, 2**32 - 1)])
     yield 'ta', certificate(ta, ta, 1, changed(
@@ -360,11 +369,7 @@ def good_files(ta, ca1, ca2, leaf, router):
             ('mft_ca2', ca2, 'ca2', 'ca2/ca2.mft', 0x64)):
         parts = leaf_extensions(leaf, key, above, f'{SITE}/{place}')
         yield name, certificate(leaf, key, serial, changed(parts))
-    parts = leaf_extensions(router, ca2, 'ca2', '')
-    yield 'router', certificate(router, ca2, 0x1f2e3d4c5b6a798804, changed(
-        parts, information=None, ip=None,
-        purposes=extended_key_usage('1.3.6.1.5.5.7.3.30'), **{'as': systems([64496])}),
-        subject=common_name('ROUTER-0000FBF0'))
+    yield 'router', router_certificate(router, ca2, 'ca2', 0x1f2e3d4c5b6a798804, [64496])
     # RFC 8360: its policy, and the identifiers of resources that go with it
     yield 'trim', certificate(ca2, ca1, 0x4f10, changed(
         second, policy=policy('1.3.6.1.5.5.7.14.3'),
@@ -372,10 +377,15 @@ def good_files(ta, ca1, ca2, leaf, router):
         **{'as': systems(CA2['asn'], identifier='1.3.6.1.5.5.7.1.29')}))
 
 
-def later_files(ta, ca1, full):
-    """Beside the forty: other moments, and a signer that isn't the one named."""
+def later_files(ta, ca1, ca2, leaf, router):
+    """Beside the forty: other moments, a signer that isn't the one named, or is no CA."""
+    full = ca_extensions('ca1', ca1, ta, 'ta', **CA1)
     yield 'expired', certificate(ca1, ta, 0x5f01, changed(full), end='250101000000Z')
     yield 'not_yet', certificate(ca1, ta, 0x5f02, changed(full), begin='400101000000Z')
+    full = ca_extensions('ca2', ca2, ca1, 'ca1', **CA2)
+    yield 'wrong_signer', certificate(
+        ca2, leaf, 0x5f03, changed(full), issuer_name=ca1.name())
+    yield 'router_below_ee', router_certificate(router, leaf, 'ee', 0x5f04, [64496])
 
 
 def lists(ta, ca1, ca2):
@@ -402,13 +412,10 @@ def main():
         ta, ca1, ca2, leaf = (Key(Path(room), name, *rsa)
                               for name in ('ta', 'ca1', 'ca2', 'leaf'))
         router = Key(Path(room), 'router', *curve)
-        first = ca_extensions('ca1', ca1, ta, 'ta', **CA1)
         second = ca_extensions('ca2', ca2, ca1, 'ca1', **CA2)
         certificates = [*good_files(ta, ca1, ca2, leaf, router),
                         *bad_files(ca1, ca2, second), *odd_files(ca1, ca2, second),
-                        *later_files(ta, ca1, first),
-                        ('wrong_signer', certificate(
-                            ca2, leaf, 0x5f03, changed(second), issuer_name=ca1.name()))]
+                        *later_files(ta, ca1, ca2, leaf, router)]
         for name, octets in certificates:
             (HERE / f'{name}.cer').write_bytes(octets)
         for name, octets in lists(ta, ca1, ca2):
