@@ -25,21 +25,22 @@ def main():
 
     def sized(match):
         size = lines_of(crate, match.group(1))
-        if size is None or size == int(match.group(2)):
+        if size is None or size == int(match.group(3)):
             return match.group(0)
-        told.append(f"{crate} {match.group(1)}: {match.group(2)}, has {size}")
-        return f"{match.group(1)} {size}"
+        told.append(f"{crate} {match.group(1)}: {match.group(3)}, has {size}")
+        return f"{match.group(1)}{match.group(2)}{size}"
 
-    made = []
-    for line in text[start:end].split("\n"):
-        of = re.match(r"- `(\w+)`:", line)
-        crate = of.group(1) if of else crate
-        made.append(re.sub(r"\b([A-Z]\w+(?:/\w+)?) (\d+)", sized, line) if crate else line)
+    def of_crate(match):
+        nonlocal crate
+        crate = match.group(1)
+        return re.sub(r"\b([A-Z]\w+(?:/\w+)?)(\s+)(\d+)", sized, match.group(0))
+
+    made = re.sub(r"- `(\w+)`:(?:(?!\n- `).)*", of_crate, text[start:end], flags=re.S)
     for line in told:
         print(line)
     if "--check" in sys.argv[1:]:
         sys.exit(1 if told else 0)
-    PAGE.write_text(text[:start] + "\n".join(made) + text[end:])
+    PAGE.write_text(text[:start] + made + text[end:])
 
 
 if __name__ == "__main__":
