@@ -23,7 +23,8 @@ use Rattle.rpki_ext.specs.CertificateExtensions.{extensions, parts, HasResources
 use Rattle.rpki_ext.proofs.CertificateExtensions.{known_parts, ok_contents, fields_given}
 use Rattle.rpki_ext.proofs.KindsWritten.{written, row_made, contents_short, ok_row}
 
-abbrev pieces : TbsFields → List (List ℕ)
+-- the values inside the SEQUENCE of what is written of fields
+abbrev pub pieces : TbsFields → List (List ℕ)
 pieces f = version_3 ∷ number f.serial ∷ algorithm f.algorithm ∷ f.issuer ∷ validity f.validity ∷ f.subject ∷ key f.key ∷ tagged_extensions f.extensions ∷ []
 
 module _ (f : TbsFields) (fits : Fits f) (only_v4 : AreV4 f.extensions.v4_resources) where

@@ -1,5 +1,6 @@
 pub mod CertificatesReads
 pub mod CertificatesWritten
+pub mod DataRead
 pub mod ExampleFields
 pub mod WritingSteps
 pub mod Exclusive

@@ -1,7 +1,7 @@
 -- A certificate that was made is read again from its own octets.
 use Rattle.std.specs.List.{concat}
 use Rattle.std.specs.Prelude.{Result, Ok, Err, IfOk, IfErr}
-use Rattle.std.proofs.Common.{◌≤◌, arith, ℕ, List, [], ◌≡◌, ◌<◌, ◌^◌, length, refl, sym, ◌∙◌, subst}
+use Rattle.std.proofs.Common.{◌≤◌, arith, ℕ, List, [], ◌≡◌, ◌<◌, ◌^◌, length, refl, sym, ap, ◌∙◌, subst}
 use Rattle.std.proofs.lemmas.List.{append-nil}
 use Rattle.rpki_der.specs.Values.{AreOctets, IsEnc, IsValue, enc, length_octets}
 use Rattle.rpki_der.specs.Values.Reading.{value_at}
@@ -22,13 +22,14 @@ use Rattle.rpki_der.specs.Encoding.{Means}
 use Rattle.rpki_der.specs.Tags.{SEQUENCE}
 use Rattle.rpki_der.proofs.Answering.{whole_means}
 use Rattle.rpki_ext.proofs.OneMeaning.{one_meaning}
-use Rattle.rpki_cert.specs.Certificates.{TbsFields, CertFields, IsCertificate, IsMade, encoding, tbs_content}
+use Rattle.rpki_cert.specs.Certificates.{TbsFields, CertFields, CanBeWritten, Fits, IsTbsCertificate, IsCertificate, IsMade, encoding, tbs_content}
 use Rattle.rpki_cert.specs.Certificates.Reading.{cert_at}
 use Rattle.rpki_cert.specs.Issuing.{IsMadeOf, IsUnreadable, IsNotMade, IsNoReadingFault, IsNotReadAgain}
 use Rattle.rpki_cert.specs.declared.issue.IssueCaError.{IssueCaError}
 use Rattle.rpki_cert.specs.declared.issue.IssueCaError.TheVariants.{Signing, Encode, Decode, Validation}
 use Rattle.rpki_cert.proofs.CertificatesReads.{cert_reads}
 use Rattle.rpki_cert.proofs.CertificatesWritten.{certificate_made}
+use Rattle.rpki_cert.proofs.DataRead.{can_be_written, fields_same}
 
 abbrev content_of : SignedFields → List ℕ
 content_of s = concat (signed_pieces s)
@@ -59,6 +60,10 @@ certificate_again c d made h =
     let can = made.fields_are in
     let own = certificate_made c can.fits made.message_is made.signature_is made.short can.resources can.only_v4 in
     one_meaning cert_at IsCertificate cert_reads (signed_data c.signed_data) d c h (whole_means IsCertificate c (signed_data c.signed_data) own)
+
+-- a certificate that was made of fields that can be written
+pub made_of : (f : TbsFields) (c : CertFields) → c.fields ≡ f → c.signed_data.message ≡ encoding f → AreOctets c.signed_data.signature.value → length (content_of c.signed_data) < 2 ^ 32 → CanBeWritten f → IsMade c
+made_of f c same is octets short can = record { message_is = is ∙ ap encoding (sym same); fields_are = subst CanBeWritten (sym same) can; signature_is = octets; short = short }
 
 -- ---- why it isn't
 
@@ -97,6 +102,20 @@ not_made f MayAnswer s (Decode e) made h = of_it e h
 pub if_ok : {T E : Type 0} (r : Result T E) (P Q : T → Type 0) → ((x : T) → P x → Q x) → IfOk r P → IfOk r Q
 if_ok (Ok x) P Q f h = f x h
 if_ok (Err e) P Q f h = tt
+
+-- two things that an Ok has give a third
+pub if_ok_both : {T E : Type 0} (r : Result T E) (P Q R : T → Type 0) → ((x : T) → P x → Q x → R x) → IfOk r P → IfOk r Q → IfOk r R
+if_ok_both (Ok x) P Q R f g h = f x g h
+if_ok_both (Err e) P Q R f g h = tt
+
+-- what is read again of what was made of fields that fit shows that they can be written, and has
+-- these fields
+pub fields_again : {E : Type 0} (r : Result CertFields E) (f : TbsFields) → Fits f → IfOk r (λ c. IsCertificate c (signed_data c.signed_data)) → IfOk r (λ c. c.signed_data.message ≡ encoding f)
+    → IfOk r (λ c. CanBeWritten f × (c.fields ≡ f))
+fields_again (Ok c) f fits read is =
+    let tbs : IsTbsCertificate c.fields (encoding f) = subst (λ (m : List ℕ). IsTbsCertificate c.fields m) is read.content_is.fields_are in
+    (can_be_written f c.fields fits tbs, fields_same f c.fields fits tbs)
+fields_again (Err e) f fits read is = tt
 
 -- what an Err has may be weakened
 pub if_err : {T E : Type 0} (r : Result T E) (P Q : E → Type 0) → ((e : E) → P e → Q e) → IfErr r P → IfErr r Q

@@ -21,7 +21,6 @@ use Rattle.rpki_cert.specs.declared.issue.IssueCaError.TheVariants.{Signing, Enc
 use Rattle.rpki_cert.specs.declared.validation_error.ValidationError.{ValidationError}
 use Rattle.rpki_cert.specs.declared.validation_error.ValidationError.TheVariants.{Inspection, Verification}
 use Rattle.rpki_cert.specs.declared.verification_error.VerificationError.{VerificationError}
-use Rattle.rpki_cert.specs.declared.verification_error.VerificationError.TheVariants as verifying
 use Rattle.rpki_cert.proofs.Checks.{first_not_all}
 
 module _ {E : Type 0} (f : TbsFields) (MayAnswer : Result SignatureFields (SigningError E) → Type 0) where
@@ -39,19 +38,19 @@ module _ {E : Type 0} (f : TbsFields) (MayAnswer : Result SignatureFields (Signi
 
   -- ---- it is valid
 
-  module _ (can : CanBeWritten f) where
-    made_is : (c : CertFields) → IsReadOf f MayAnswer c → c ≡ made_with f c.signed_data.signature
-    made_is c is =
-        let first : c ≡ record { fields = f; signed_data = c.signed_data } = ap (λ (g : TbsFields). let d : CertFields = record { fields = g; signed_data = c.signed_data } in d) (is.fields_are can) in
-        first ∙ ap (λ (m : List ℕ). let d : CertFields = record { fields = f; signed_data = record { message = m; signature = c.signed_data.signature } } in d) is.message_is
+  made_is : (c : CertFields) → IsReadOf f MayAnswer c → c ≡ made_with f c.signed_data.signature
+  made_is c is =
+      let first : c ≡ record { fields = f; signed_data = c.signed_data } = ap (λ (g : TbsFields). let d : CertFields = record { fields = g; signed_data = c.signed_data } in d) is.fields_are in
+      first ∙ ap (λ (m : List ℕ). let d : CertFields = record { fields = f; signed_data = record { message = m; signature = c.signed_data.signature } } in d) is.message_is
 
+  module _ (can : CanBeWritten f) where
     module _ (x : Context) (issuer : ResourceFields) (kind : Kind) where
       abbrev pub Valid : CertFields → Type 0
       Valid c = MeetsProfile kind x.strict c × IsVerified (CheckUnder x issuer c) issued_checks
 
       module _ (all_valid : (s : SignatureFields) → MayAnswer (Ok s) → Valid (made_with f s)) where
         valid : (c : CertFields) → IsReadOf f MayAnswer c → Valid c
-        valid c is = subst Valid (sym (made_is c is)) (all_valid c.signed_data.signature (is.signed can))
+        valid c is = subst Valid (sym (made_is c is)) (all_valid c.signed_data.signature is.signed)
 
         validated : (e : ValidationError) (c : CertFields) → IsReadOf f MayAnswer c → IsInvalidBelow x issuer kind c e → IsMemory {E = E} (Validation e)
         validated (Inspection e) c is h = absurd (first_not_all (Lacks kind x.strict c) (faults kind) e h (valid c is).0)

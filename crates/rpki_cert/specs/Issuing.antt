@@ -11,7 +11,7 @@ use Rattle.rpki_parts.specs.Signing.{IsRefusal}
 use Rattle.rpki_parts.specs.declared.signature.SigningError.{SigningError}
 use Rattle.rpki_parts.specs.declared.signature.SigningError.TheVariants as signing
 use Rattle.rpki_ext.specs.Kinds.{Means}
-use Rattle.rpki_cert.specs.Certificates.{TbsFields, CertFields, CanBeWritten, IsCertificate, tbs_content, encoding}
+use Rattle.rpki_cert.specs.Certificates.{TbsFields, CertFields, IsCertificate, tbs_content, encoding}
 use Rattle.rpki_cert.specs.declared.issue.IssueCaError.{IssueCaError}
 use Rattle.rpki_cert.specs.declared.issue.IssueCaError.TheVariants.{Signing, Encode, Decode, Validation}
 use Rattle.rpki_cert.specs.declared.validation_error.ValidationError.{ValidationError}
@@ -44,8 +44,8 @@ IsNotMade f MayAnswer (Validation e) = ⊥
 pub record IsReadOf {E : Type 0} (f : TbsFields) (MayAnswer : Result SignatureFields (SigningError E) → Type 0) (c : CertFields) : Type 0 where
   pub read : IsCertificate c (signed_data c.signed_data)
   pub message_is : c.signed_data.message ≡ encoding f
-  pub fields_are : CanBeWritten f → c.fields ≡ f
-  pub signed : CanBeWritten f → MayAnswer (Ok c.signed_data.signature)
+  pub fields_are : c.fields ≡ f
+  pub signed : MayAnswer (Ok c.signed_data.signature)
 
 -- Why none is issued: nothing is read again, or what is read again isn't valid.
 abbrev pub IsNotIssued : {E : Type 0} → TbsFields → (Result SignatureFields (SigningError E) → Type 0)

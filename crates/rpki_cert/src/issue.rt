@@ -1,5 +1,5 @@
 //! CAs issue certificates.
-ghost use Rattle.std.specs.Prelude.{◌≡◌, Ok, IfOk, IfErr};
+ghost use Rattle.std.specs.Prelude.{◌≡◌, Ok, IfOk, IfErr, OnOk};
 ghost use Rattle.rpki_parts.specs.SignedDatas.{signed_data};
 ghost use Rattle.rpki_cert.specs.Certificates.{TbsFields, CanBeWritten, IsCertificate, IsMade, encoding};
 ghost use Rattle.rpki_cert.specs.Issuing.{IsNotMade, IsNotReadAgain, IsNotIssued, IsNoReadingFault};
@@ -101,8 +101,9 @@ fn make_and_read<S: Signer>(
 ) -> Result<Cert, IssueCaError<S::Error>>
     ensures read { IfOk result (λ c. IsCertificate c (signed_data c.signed_data)) }
     ensures message { IfOk result (λ c. c.signed_data.message ≡ encoding tbs) }
-    ensures fields { CanBeWritten tbs → IfOk result (λ c. c.fields ≡ tbs) }
-    ensures signed { CanBeWritten tbs → IfOk result
+    ensures written { OnOk result (CanBeWritten tbs) }
+    ensures fields { IfOk result (λ c. c.fields ≡ tbs) }
+    ensures signed { IfOk result
         (λ c. S.signs signer.now key.now tbs.algorithm (encoding tbs)
         (Ok c.signed_data.signature)) }
     ensures refused { IfErr result
@@ -124,7 +125,8 @@ fn make_and_read<S: Signer>(
 /// Issues the certificate of a CA with these fields, below this issuer. It makes the certificate
 /// and signs it, captures it, reads it again from its octets, and validates it as
 /// [`Cert::validate_ca_at`] does. Errs with the error of the first of these steps that fails.
-/// Fields that can be written are read again as they are.
+/// Only fields that can be written are issued, and the certificate has exactly these; of such fields
+/// reading again fails by memory alone.
 pub fn issue_ca<S: Signer, V: Verifier>(
     alloc: Global,
     tbs: TbsCert,
@@ -137,8 +139,9 @@ pub fn issue_ca<S: Signer, V: Verifier>(
 ) -> Result<ResourceCert, IssueCaError<S::Error>>
     ensures read { IfOk result (λ r. IsCertificate r.cert (signed_data r.cert.signed_data)) }
     ensures message { IfOk result (λ r. r.cert.signed_data.message ≡ encoding tbs) }
-    ensures fields { CanBeWritten tbs → IfOk result (λ r. r.cert.fields ≡ tbs) }
-    ensures signed { CanBeWritten tbs → IfOk result
+    ensures written { OnOk result (CanBeWritten tbs) }
+    ensures fields { IfOk result (λ r. r.cert.fields ≡ tbs) }
+    ensures signed { IfOk result
         (λ r. S.signs signer.now key.now tbs.algorithm (encoding tbs)
         (Ok r.cert.signed_data.signature)) }
     ensures valid { let x = context (V.verifies verifier.now) now strict in

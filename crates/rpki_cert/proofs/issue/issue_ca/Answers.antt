@@ -10,10 +10,10 @@ pub returns-in-Ok-validate_ca_at-clause-read : goal.returns-in-Ok-validate_ca_at
 returns-in-Ok-validate_ca_at-clause-read g c = subst (λ (x : CertFields). IsCertificate x (signed_data x.signed_data)) (sym c.in-Ok-validate_ca_at.ensures.ok.issued.cert_is) c.in-Ok.ensures.read
 
 pub returns-in-Ok-validate_ca_at-clause-fields : goal.returns-in-Ok-validate_ca_at-clause-fields
-returns-in-Ok-validate_ca_at-clause-fields g c can = ap (λ (x : CertFields). x.fields) c.in-Ok-validate_ca_at.ensures.ok.issued.cert_is ∙ c.in-Ok.ensures.fields can
+returns-in-Ok-validate_ca_at-clause-fields g c = ap (λ (x : CertFields). x.fields) c.in-Ok-validate_ca_at.ensures.ok.issued.cert_is ∙ c.in-Ok.ensures.fields
 
 pub returns-in-Ok-validate_ca_at-clause-signed : goal.returns-in-Ok-validate_ca_at-clause-signed
-returns-in-Ok-validate_ca_at-clause-signed g c can = subst (λ (x : CertFields). g.S.Signer.signs c.args.signer.now c.args.key.now c.args.tbs.algorithm (encoding c.args.tbs) (Ok x.signed_data.signature)) (sym c.in-Ok-validate_ca_at.ensures.ok.issued.cert_is) (c.in-Ok.ensures.signed can)
+returns-in-Ok-validate_ca_at-clause-signed g c = subst (λ (x : CertFields). g.S.Signer.signs c.args.signer.now c.args.key.now c.args.tbs.algorithm (encoding c.args.tbs) (Ok x.signed_data.signature)) (sym c.in-Ok-validate_ca_at.ensures.ok.issued.cert_is) c.in-Ok.ensures.signed
 
 pub returns-in-Ok-validate_ca_at-clause-valid : goal.returns-in-Ok-validate_ca_at-clause-valid
 returns-in-Ok-validate_ca_at-clause-valid g c =
