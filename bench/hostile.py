@@ -4,7 +4,7 @@
 usage: hostile.py FOLDER [--sizes 4]
 
 Writes FOLDER/NN-SIZE.cer, SIZE from 0 on and each four times the one before, and FOLDER/sorts, a line for each NN: what it is. Sizes of sorts with blocks lie
-just above a power of two, where a vector that doubles has most room to spare.
+just above a power of two, where a vector that doubled would have most room to spare. At most 2^15 prefixes of five octets are apart from one another.
 """
 import argparse
 import os
@@ -102,6 +102,9 @@ SORTS = [
     ('blocks that touch', MANY, lambda n: addresses(address(i) for i in shuffled(n))),
     ('one block again and again', MANY, lambda n: addresses([address(7)] * n)),
     ('prefixes of three octets', MANY, lambda n: addresses([b'\3\1\0'] * n)),
+    ('prefixes of four octets by turns', MANY, lambda n: addresses([b'\3\2\7\0', b'\3\2\7\x80'] * (n // 2))),
+    ('prefixes of five octets, apart', MANY // 2, lambda n: addresses(b'\3\3\0' + (2 * i % 2 ** 16).to_bytes(2, 'big') for i in shuffled(n))),
+    ('prefixes of six octets, apart', MANY, lambda n: addresses(b'\3\4\0' + (2 * i).to_bytes(3, 'big') for i in shuffled(n))),
     ('ranges inside ranges', MANY, lambda n: addresses(ref.enc(0x30, address(i), address((1 << 32) - 1 - i)) for i in range(n))),
     ('AS numbers of one octet', MANY, lambda n: numbers([b'\2\1\7'] * n)),
     ('AS numbers in random order', MANY, lambda n: numbers(ref.put_unsigned(2 * i) for i in shuffled(n))),

@@ -32,15 +32,14 @@ pub(crate) trait Elements {
     ghost shrinks: { (kind : Self) → Shrinks (element_at kind) };
 }
 
-// Merges blocks that fill their room, and makes more where that frees less than half of it. An
-// element of six octets, a usual prefix of IPv4, is the shortest of which there may be many that
-// don't merge.
+// Merges blocks that fill their room, and makes more where that frees less than half of it. Elements
+// of five octets are the shortest of which more than 2^7 can be apart, so room grows once as a rule.
 fn make_room<B: Bound>(blocks: &mut Vec<Block<B>>, octets: usize) -> Result<(), AllocError>
     ensures { HaveSameNumbers blocks.new.items blocks.old.items }
 {
     merge(blocks);
     if blocks.len() > blocks.capacity() / 2 {
-        blocks.reserve_exact(octets / 6 + 1)?;
+        blocks.reserve_exact(octets / 5 + 1)?;
     }
     Ok(())
 }
