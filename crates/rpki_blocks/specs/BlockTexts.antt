@@ -37,11 +37,11 @@ prefix_text text b = text b.min ++ codes "/" ++ decimal (128 - prefix_bits b)
 abbrev pub ip_block_text : (ℕ → List ℕ) → Block → List ℕ
 ip_block_text text b = if is_prefix b (prefix_bits b) then prefix_text text b else range_text text b
 
--- the same of IPv4, whose addresses have 32 bits
+-- a block of IPv4 addresses, whose prefixes have at most 32 bits
 abbrev pub v4_block_text : Block → List ℕ
 v4_block_text b = ip_block_text v4_text b
 
--- the same of IPv6
+-- a block of IPv6 addresses
 abbrev pub v6_block_text : Block → List ℕ
 v6_block_text b = ip_block_text v6_text b
 

@@ -294,7 +294,7 @@ fn take_attribute_value<'a>(cursor: &mut Cursor<'a>) -> Result<(&'a [u8], Cursor
     Ok((id, content))
 }
 
-// The same, where one stands.
+// The attribute that stands next, if one does.
 fn next_attribute<'a>(cursor: &mut Cursor<'a>) -> Option<(&'a [u8], Cursor<'a>)>
     ensures { option_map (λ x. ((x.0.now, left x.1), left cursor.new)) result
         ≡ attribute_value_at (left cursor.old) }
