@@ -41,6 +41,7 @@ fn u32_in(content: &[u8]) -> Result<u32, DecodeError>
 }
 
 // The octets without the zeros at their front.
+#[inline(always)]
 pub(crate) fn significant(octets: &[u8]) -> &[u8]
     ensures digits { result.now ≡ digits_of 256 (number_from_digits 256 octets.now) }
 {

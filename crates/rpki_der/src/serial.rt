@@ -25,9 +25,6 @@ use std::cmp::Ordering;
 use std::fmt;
 use std::marker::Model;
 
-// What the highest octet of the low half counts: 2^120.
-const HIGH_OCTET: u128 = 0x100_0000_0000_0000_0000_0000_0000_0000;
-
 /// A serial number: a whole number below 2^160 (RFC 5280 4.1.2.2; own: 0 is one too, and so are the
 /// numbers from 2^159 on, whose INTEGER has 21 octets).
 #[derive(Clone, Copy, Hash)]
@@ -78,16 +75,28 @@ impl Serial {
         ensures some { IsSome result ↔ (number_from_digits 256 octets.now < 2 ^ 160) }
         ensures value { IfSome result (λ s. s ≡ number_from_digits 256 octets.now) }
     {
-        let mut high: u32 = 0;
-        let mut low: u128 = 0;
-        for octet in octets {
-            if high >= 0x100_0000 {
-                return None;
-            }
-            high = high * 0x100 + (low / HIGH_OCTET) as u32;
-            low = low % HIGH_OCTET * 0x100 + *octet as u128;
+        let digits = significant(octets);
+        if digits.len() > 20 {
+            return None;
         }
-        Some(Serial { high, low })
+        let mut padded = [0; 20];
+        padded[20 - digits.len()..].copy_from_slice(digits);
+        Some(Serial::of_octets(&padded))
+    }
+
+    // The number of these octets, the greatest first.
+    #[inline(always)]
+    fn of_octets(octets: &[u8; 20]) -> Serial
+        ensures { result ≡ number_from_digits 256 octets.now }
+    {
+        let mut high = [0; 4];
+        let mut low = [0; 16];
+        high.copy_from_slice(&octets[..4]);
+        low.copy_from_slice(&octets[4..]);
+        Serial {
+            high: u32::from_be_bytes(high),
+            low: u128::from_be_bytes(low),
+        }
     }
 
     /// Returns the number in 20 octets, the greatest first.
