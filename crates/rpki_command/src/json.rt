@@ -1,7 +1,7 @@
 //! Certificates and lists as JSON, with the names that rpki-client gives to what it shows too.
 use crate::blocks::{Family, ip_block, ip_end, prefix_length};
 use crate::page::Page;
-use crate::path::{Fault, Question, Verdict};
+use crate::path::{Fault, Question, Verdict, is_list};
 use crate::places::Place;
 use crate::{certificate, names};
 use base64::engine::general_purpose::STANDARD;
@@ -334,6 +334,18 @@ pub fn refused(
     Ok(Value::Object(out))
 }
 
+// The files given as lists that are none.
+fn not_lists(alloc: Global, question: &Question<'_, '_>) -> Result<Value, AllocError> {
+    let mut files = Vec::new(alloc);
+    for object in question.lists {
+        if !is_list(alloc, object) {
+            let name = String::from_str(alloc, object.name)?;
+            files.push(Value::String(name))?;
+        }
+    }
+    Ok(Value::Array(files))
+}
+
 fn member_names(alloc: Global, question: &Question<'_, '_>) -> Result<Value, AllocError> {
     let mut files = Vec::new(alloc);
     for object in question.members {
@@ -379,6 +391,8 @@ pub fn path(
     put(&mut out, alloc, "path", files)?;
     let asks = !question.lists.is_empty();
     put(&mut out, alloc, "revocation_asked", Value::Bool(asks))?;
+    let others = not_lists(alloc, question)?;
+    put(&mut out, alloc, "not_lists", others)?;
     match verdict {
         Some(Verdict::Accepted(holder)) => {
             put(&mut out, alloc, "accepted", Value::Bool(true))?;
