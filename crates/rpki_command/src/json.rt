@@ -2,7 +2,7 @@
 use crate::blocks::{Family, ip_block, ip_end, prefix_length};
 use crate::moments::seconds;
 use crate::page::Page;
-use crate::path::{Fault, Question, Verdict};
+use crate::path::{Fault, Question, Verdict, is_list};
 use crate::places::Place;
 use crate::{certificate, names};
 use base64::engine::general_purpose::STANDARD;
@@ -335,6 +335,18 @@ pub fn refused(
     Ok(Value::Object(out))
 }
 
+// The files given as lists that are none.
+fn not_lists(alloc: Global, question: &Question<'_, '_>) -> Result<Value, AllocError> {
+    let mut files = Vec::new(alloc);
+    for object in question.lists {
+        if !is_list(alloc, object) {
+            let name = String::from_str(alloc, object.name)?;
+            files.push(Value::String(name))?;
+        }
+    }
+    Ok(Value::Array(files))
+}
+
 fn member_names(alloc: Global, question: &Question<'_, '_>) -> Result<Value, AllocError> {
     let mut files = Vec::new(alloc);
     for object in question.members {
@@ -380,6 +392,8 @@ pub fn path(
     put(&mut out, alloc, "path", files)?;
     let asks = !question.lists.is_empty();
     put(&mut out, alloc, "revocation_asked", Value::Bool(asks))?;
+    let others = not_lists(alloc, question)?;
+    put(&mut out, alloc, "not_lists", others)?;
     match verdict {
         Some(Verdict::Accepted(holder)) => {
             put(&mut out, alloc, "accepted", Value::Bool(true))?;

@@ -54,6 +54,8 @@ pub fn list(page: &mut Page, it: &Crl, now: Time, all: bool) {
     page.text(" (");
     if data.is_stale(now) {
         page.text("stale");
+    } else if now < data.this_update() {
+        page.text("not yet valid");
     } else {
         until(page, data.next_update(), now);
     }

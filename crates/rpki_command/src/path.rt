@@ -92,6 +92,20 @@ fn leaf_of(alloc: Global, octets: &Bytes) -> Result<Option<Leaf>, AllocError> {
     }
 }
 
+/// Returns whether a file is a revocation list.
+pub fn is_list(alloc: Global, object: &Object<'_>) -> bool {
+    match Crl::decode(alloc, object.octets.as_slice()) {
+        Ok(list) => {
+            drop(list);
+            true
+        }
+        Err(fault) => {
+            drop(fault);
+            false
+        }
+    }
+}
+
 // Stores a list under the URI where the member names its issuer's list, if the list is that issuer's.
 fn store_for(
     alloc: Global,
@@ -159,11 +173,16 @@ fn shared(alloc: Global, objects: &[Object<'_>]) -> Result<Vec<Bytes>, AllocErro
     Ok(all)
 }
 
-// The CAs below the trust anchor, and the leaf that stands last, if one does.
+// The CAs below the trust anchor, and the leaf that stands last, if one does. Above a router all are
+// CAs, so that an end entity there is judged as one.
 fn split<'o, 'n>(
     alloc: Global,
     below: &'o [Object<'n>],
+    are_cas: bool,
 ) -> Result<(&'o [Object<'n>], Option<Leaf>), AllocError> {
+    if are_cas {
+        return Ok((below, None));
+    }
     let Some((last, others)) = below.split_last() else {
         return Ok((below, None));
     };
@@ -177,6 +196,7 @@ fn split<'o, 'n>(
 fn validated_path(
     alloc: Global,
     path: &[Object<'_>],
+    are_cas: bool,
     store: &CrlStore,
     question: &Question<'_, '_>,
 ) -> Result<Option<Result<ResourceCert, PathError>>, AllocError> {
@@ -184,7 +204,7 @@ fn validated_path(
         return Ok(None);
     };
     let anchor = &anchor.octets;
-    let (cas, leaf) = split(alloc, below)?;
+    let (cas, leaf) = split(alloc, below, are_cas)?;
     let cas = shared(alloc, cas)?;
     let tal = TalInfo::from_name(String::new(alloc)).into_rc(alloc)?;
     let (strict, now) = (question.strict, question.now);
@@ -249,29 +269,33 @@ fn of_validation(fault: &ValidationError, index: usize) -> Fault {
     }
 }
 
-// What rejects the router's file.
+// What rejects the router's file, which has been read before.
 fn router_file_fault(
     alloc: Global,
     object: &Object<'_>,
     issuer: &ResourceCert,
     store: &CrlStore,
     question: &Question<'_, '_>,
-) -> Option<Fault> {
+) -> Result<Option<Fault>, AllocError> {
     let index = question.members.len().saturating_sub(1);
     match Cert::decode(alloc, object.octets.as_slice()) {
         Ok(cert) => {
             let fault = router_fault(&cert, issuer, store, question, index);
             drop(cert);
-            fault
+            Ok(fault)
         }
         Err(fault) => {
             drop(fault);
-            None
+            Err(AllocError)
         }
     }
 }
 
-fn rejected(error: PathError) -> Verdict {
+fn rejected(error: PathError) -> Result<Verdict, AllocError> {
+    if error.is_memory() {
+        drop(error);
+        return Err(AllocError);
+    }
     let (step, name, rule) = of_path(&error.fault);
     let fault = Fault {
         index: error.index,
@@ -280,17 +304,19 @@ fn rejected(error: PathError) -> Verdict {
         rule,
     };
     drop(error);
-    Verdict::Rejected(fault)
+    Ok(Verdict::Rejected(fault))
 }
 
-// The last member where it is a router's, and those before it.
+// The last member where it is a router's and another stands above it, and those above.
 fn without_router<'o, 'n>(
     alloc: Global,
     members: &'o [Object<'n>],
     strict: bool,
 ) -> (&'o [Object<'n>], Option<&'o Object<'n>>) {
     match members.split_last() {
-        Some((last, others)) if is_router(alloc, &last.octets, strict) => (others, Some(last)),
+        Some((last, others)) if !others.is_empty() && is_router(alloc, &last.octets, strict) => {
+            (others, Some(last))
+        }
         _ => (members, None),
     }
 }
@@ -302,17 +328,21 @@ fn with_router(
     router: Option<&Object<'_>>,
     store: &CrlStore,
     question: &Question<'_, '_>,
-) -> Verdict {
-    let fault = match router {
+) -> Result<Verdict, AllocError> {
+    let answer = match router {
         Some(object) => router_file_fault(alloc, object, &holder, store, question),
-        None => None,
+        None => Ok(None),
     };
-    match fault {
-        Some(fault) => {
+    match answer {
+        Ok(None) => Ok(Verdict::Accepted(holder)),
+        Ok(Some(fault)) => {
             drop(holder);
-            Verdict::Rejected(fault)
+            Ok(Verdict::Rejected(fault))
         }
-        None => Verdict::Accepted(holder),
+        Err(error) => {
+            drop(holder);
+            Err(error)
+        }
     }
 }
 
@@ -321,12 +351,12 @@ fn with_router(
 pub fn judge(alloc: Global, question: &Question<'_, '_>) -> Result<Option<Verdict>, AllocError> {
     let store = store_of(alloc, question)?;
     let (path, router) = without_router(alloc, question.members, question.strict);
-    let answer = validated_path(alloc, path, &store, question)?;
+    let answer = validated_path(alloc, path, router.is_some(), &store, question)?;
     let verdict = match answer {
-        Some(Ok(holder)) => Some(with_router(alloc, holder, router, &store, question)),
-        Some(Err(error)) => Some(rejected(error)),
-        None => None,
+        Some(Ok(holder)) => with_router(alloc, holder, router, &store, question).map(Some),
+        Some(Err(error)) => rejected(error).map(Some),
+        None => Ok(None),
     };
     drop(store);
-    Ok(verdict)
+    verdict
 }

@@ -28,10 +28,21 @@ fn at(cursor: &Cursor<'_>) -> usize {
     from
 }
 
+// An INTEGER that is this one.
+fn number(data: &mut Cursor<'_>, wanted: u8) -> Result<(), DecodeError> {
+    match data.take_value(tag::INTEGER)?.rest() {
+        [octet] if *octet == wanted => Ok(()),
+        _ => Err(DecodeError::BadValue),
+    }
+}
+
 fn version(data: &mut Cursor<'_>) -> Result<(), DecodeError> {
     let mut outer = data.take_value(0xa0)?;
-    let _number = outer.take_value(tag::INTEGER)?;
-    Ok(())
+    number(&mut outer, 2)
+}
+
+fn list_version(data: &mut Cursor<'_>) -> Result<(), DecodeError> {
+    number(data, 1)
 }
 
 fn serial(data: &mut Cursor<'_>) -> Result<(), DecodeError> {
@@ -123,7 +134,7 @@ fn of_certificate(alloc: Global, data: &mut Cursor<'_>) -> Result<(), Place> {
 
 fn of_list(alloc: Global, data: &mut Cursor<'_>) -> Result<(), Place> {
     let octet = at(data);
-    past(serial(data), "the version", octet)?;
+    past(list_version(data), "the version", octet)?;
     let octet = at(data);
     past(algorithm(data), "the signature algorithm", octet)?;
     let octet = at(data);

@@ -1,4 +1,5 @@
 //! What a fault means for a person, and the section of the standard that it breaks.
+use rpki::der::{DecodeError, Field};
 use rpki::repository::crl::RevocationError;
 use rpki::repository::error::{InspectionError, VerificationError};
 use rpki::repository::path::PathFault;
@@ -200,14 +201,61 @@ pub fn of_revocation(fault: &RevocationError) -> Rule {
     }
 }
 
+// The section that asks for an extension.
+fn section_of(field: Field) -> &'static str {
+    match field {
+        Field::BasicConstraints => "RFC 6487 4.8.1",
+        Field::SubjectKeyIdentifier => "RFC 6487 4.8.2",
+        Field::AuthorityKeyIdentifier => "RFC 6487 4.8.3",
+        Field::KeyUsage => "RFC 6487 4.8.4",
+        Field::ExtendedKeyUsage => "RFC 6487 4.8.5",
+        Field::CrlDistributionPoints => "RFC 6487 4.8.6",
+        Field::AuthorityInformationAccess => "RFC 6487 4.8.7",
+        Field::SubjectInformationAccess => "RFC 6487 4.8.8",
+        Field::CertificatePolicies => "RFC 6487 4.8.9",
+        Field::IpResources => "RFC 6487 4.8.10",
+        Field::AsResources => "RFC 6487 4.8.11",
+        Field::Resources => "RFC 6487 4.8.10",
+        Field::CrlNumber => "RFC 6487 5",
+    }
+}
+
+/// Tells what a fault of reading a certificate means.
+pub fn of_reading(fault: &DecodeError) -> Rule {
+    match fault {
+        DecodeError::Missing(field) => {
+            meaning(
+                "an extension that must be there is missing",
+                section_of(*field),
+            )
+        }
+        DecodeError::NotCritical(field) => meaning(
+            "an extension that must be critical isn't",
+            section_of(*field),
+        ),
+        DecodeError::Critical(field) => meaning(
+            "an extension that must not be critical is",
+            section_of(*field),
+        ),
+        DecodeError::Duplicate(_) => meaning("an extension stands twice", "RFC 5280 4.2"),
+        DecodeError::UnexpectedCritical(_) => {
+            meaning("an unknown extension is critical", "RFC 6487 4.8")
+        }
+        DecodeError::WrongResources(_) => meaning(
+            "the resources stand under identifiers that its policy doesn't have",
+            "RFC 6487 4.8.9",
+        ),
+        _ => meaning(
+            "it doesn't begin with a certificate of the profile",
+            "RFC 6487 4",
+        ),
+    }
+}
+
 /// Tells of a fault of a path's member at which step it came, its name, and what it means.
 pub fn of_path(fault: &PathFault) -> (&'static str, &'static str, Rule) {
     match fault {
-        PathFault::Decode(fault) => (
-            "reading",
-            fault.name(),
-            meaning("it begins with no certificate", "RFC 6487 4"),
-        ),
+        PathFault::Decode(fault) => ("reading", fault.name(), of_reading(fault)),
         PathFault::Inspect(fault) => ("profile", fault.name(), of_inspection(*fault)),
         PathFault::Verify(fault) => ("verification", fault.name(), of_verification(fault)),
         PathFault::Revocation(fault) => ("revocation", fault.name(), of_revocation(fault)),

@@ -1,9 +1,9 @@
 //! The verdict on a path, for a person or as JSON.
 use crate::blocks::{Family, as_blocks, ip_blocks};
-use crate::files::{Form, Object, looks_like};
+use crate::files::Object;
 use crate::json;
 use crate::page::Page;
-use crate::path::{Fault, Question, Verdict, judge, member};
+use crate::path::{Fault, Question, Verdict, is_list, judge, member};
 use rpki::repository::cert::ResourceCert;
 use std::alloc::{AllocError, Global};
 
@@ -55,13 +55,21 @@ fn accepted(page: &mut Page, holder: &ResourceCert, lists: usize) {
 fn no_lists(page: &mut Page, lists: &[Object<'_>]) -> bool {
     let mut well = true;
     for object in lists {
-        let is_list = looks_like(&object.octets) == Form::List;
-        if !is_list {
+        if !is_list(page.alloc(), object) {
             page.line("Not a list", object.name);
             well = false;
         }
     }
     well
+}
+
+fn are_lists(alloc: Global, lists: &[Object<'_>]) -> bool {
+    for object in lists {
+        if !is_list(alloc, object) {
+            return false;
+        }
+    }
+    true
 }
 
 fn shown(page: &mut Page, question: &Question<'_, '_>, verdict: Option<&Verdict>) -> bool {
@@ -91,7 +99,7 @@ fn as_json(page: &mut Page, question: &Question<'_, '_>, verdict: Option<&Verdic
         }
         Err(_) => page.fail(),
     }
-    matches!(verdict, Some(Verdict::Accepted(_)))
+    are_lists(page.alloc(), question.lists) && matches!(verdict, Some(Verdict::Accepted(_)))
 }
 
 /// Validates the path and prints the verdict; tells whether the path is accepted.
