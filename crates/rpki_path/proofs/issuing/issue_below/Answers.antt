@@ -5,9 +5,6 @@ use Rattle.rpki_cert.proofs.ReadAgain.{if_ok}
 use Rattle.rpki_cert.proofs.SurelyIssued.{issued_or_memory}
 use Rattle.rpki_path.proofs.issuing.issue_below.Goals as goal
 
-pub returns-clause-fields : goal.returns-clause-fields
-returns-clause-fields g c = c.issue_ca.ensures.fields c.requires.written
-
 pub returns-clause-path : goal.returns-clause-path
 returns-clause-path g c = λ lists p tal good held.
     if_ok c.issue_ca.result _ _ (λ r valid free. c.issued_below.ensures.path c.args.verifier.now c.args.now c.args.strict lists p tal c.args.issuer.now r Authority good held valid free) c.issue_ca.ensures.valid
