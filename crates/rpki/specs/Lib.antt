@@ -37,6 +37,7 @@ pub use Rattle.rpki_blocks.specs.Systems
 pub use Rattle.rpki_blocks.specs.ResourceExtensions
 pub use Rattle.rpki_blocks.specs.IssueErrorNames
 pub use Rattle.rpki_blocks.specs.ResourceTexts
+pub use Rattle.rpki_blocks.specs.BlockTexts
 pub use Rattle.rpki_blocks.specs.declared.overclaim.Overclaim
 pub use Rattle.rpki_blocks.specs.declared.resources.IssueError
 -- ---- keys, names, URIs, signed data

@@ -55,9 +55,13 @@ pub fn of_resources() {
     same::<resources::Block<Asn>, rpki_blocks::Block<Asn>>();
     same::<resources::AsBlock, rpki_blocks::AsBlock>();
     same::<resources::IpBlock, rpki_blocks::IpBlock>();
+    same::<resources::DisplayV4Block, rpki_blocks::DisplayV4Block>();
+    same::<resources::DisplayV6Block, rpki_blocks::DisplayV6Block>();
     same::<resources::Chain<Asn>, rpki_blocks::Chain<Asn>>();
     same::<resources::AsBlocks, rpki_blocks::AsBlocks>();
     same::<resources::IpBlocks, rpki_blocks::IpBlocks>();
+    same::<resources::DisplayV4Blocks<'static>, rpki_blocks::DisplayV4Blocks<'static>>();
+    same::<resources::DisplayV6Blocks<'static>, rpki_blocks::DisplayV6Blocks<'static>>();
     same::<resources::BlocksBuilder<Asn>, rpki_blocks::BlocksBuilder<Asn>>();
     same::<resources::AsBlocksBuilder, rpki_blocks::AsBlocksBuilder>();
     same::<resources::IpBlocksBuilder, rpki_blocks::IpBlocksBuilder>();

@@ -1,5 +1,6 @@
 //! Sets of IP addresses and of AS numbers, and what certificates list of them (RFC 3779).
 pub use rpki_blocks::{
     Addr, AsBlock, AsBlocks, AsBlocksBuilder, AsResources, Asn, Block, BlocksBuilder, Bound, Chain,
-    Inherited, IpBlock, IpBlocks, IpBlocksBuilder, IpResources, IssueError, Prefix, Resources,
+    DisplayV4Block, DisplayV4Blocks, DisplayV6Block, DisplayV6Blocks, Inherited, IpBlock, IpBlocks,
+    IpBlocksBuilder, IpResources, IssueError, Prefix, Resources,
 };
