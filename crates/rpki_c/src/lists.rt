@@ -120,6 +120,11 @@ fn serial_at(serials: &[u8], at: usize) -> Option<Serial> {
     Serial::from_slice(serials.get(from..to)?)
 }
 
+// Whether there are 20 octets for each answer.
+fn add_up(serials: &[u8], answers: &[u8]) -> bool {
+    serials.len() % 20 == 0 && serials.len() / 20 == answers.len()
+}
+
 fn put_answers(list: &Crl, serials: &[u8], answers: &mut [u8]) -> u32 {
     let mut at = 0usize;
     for answer in answers.iter_mut() {
@@ -134,7 +139,8 @@ fn put_answers(list: &Crl, serials: &[u8], answers: &mut [u8]) -> u32 {
 
 /// Asks the list for serial numbers, which stand one behind the other in 20 octets each, and writes
 /// 1 where one is on the list and else 0. Where there are several a sorted table is made first, so
-/// that each further one costs little. Answers 0, or the number of a fault.
+/// that each further one costs little. Answers 0, or the number of a fault: 2 where there aren't 20
+/// octets for each answer.
 #[unsafe(no_mangle)]
 pub extern "C" fn rpki_list_ask(
     alloc: Global,
@@ -142,6 +148,9 @@ pub extern "C" fn rpki_list_ask(
     serials: &[u8],
     answers: &mut [u8],
 ) -> u32 {
+    if !add_up(serials, answers) {
+        return BAD_CALL;
+    }
     match Crl::decode(alloc, octets) {
         Ok(mut list) => {
             if answers.len() > 1 && list.cache_serials(alloc).is_err() {

@@ -1,10 +1,14 @@
 //! Paths that are validated, with and without revocation lists.
-ghost use Rattle.std.specs.Prelude.{◌≡◌, [], Ok, IfOk, OnOk, IfSome, option_map};
+ghost use Rattle.std.specs.Prelude.{◌≡◌, ◌<◌, ◌↔◌, List, ℕ, [], length, Ok, Err, IfOk, OnOk, IfErr, IfSome, IsNone, option_map};
 ghost use Rattle.std.proofs.Common.{rc_value};
+ghost use Rattle.rpki_der.specs.Encoding.{Means};
+ghost use Rattle.rpki_parts.specs.Conditions.{Tests};
+ghost use Rattle.rpki_cert.specs.Certificates.{IsCertificate};
 ghost use Rattle.rpki_cert.specs.Verification.{context};
-ghost use Rattle.rpki_path.specs.Paths.{asked, Validates, IsUnrevokedIfAsked};
+ghost use Rattle.rpki_crl.specs.Revocation.{revocation_checks};
+ghost use Rattle.rpki_path.specs.Paths.{asked, AskedCheck, Finds, Validates, IsFault};
 ghost use Rattle.rpki_path.specs.declared.path_fault.PathFault.TheVariants.{Memory};
-ghost use Rattle.rpki_c.specs.Judged.{leaf_for, EndsInLeaf, IsJudged, IsRouterUnder, IsRouter, EndsInRouter};
+ghost use Rattle.rpki_c.specs.Judged.{fewest, leaf_for, EndsInLeaf, IsJudged, router_demand, IsRouterUnder, IsRouter, EndsInRouter};
 
 use bytes::Bytes;
 use rpki_cert::{Cert, ResourceCert};
@@ -56,6 +60,10 @@ pub(crate) fn validate<V: Verifier>(
     ensures validates { let x = context (V.verifies verifier.now) now strict in
         let pairs = option_map (λ store. store.now.pairs) lists.entry in
         Validates x pairs anchor.now (asked cas.now leaf) [] result }
+    // The members before the index are a valid path, and the fault is that of the string there.
+    ensures named { let x = context (V.verifies verifier.now) now strict in
+        let pairs = option_map (λ store. store.now.pairs) lists.entry in
+        IfErr result (IsFault x pairs anchor.now (asked cas.now leaf)) }
 {
     let tal = match nameless(alloc) {
         Ok(tal) => tal,
@@ -83,7 +91,8 @@ fn leaf_of(last: Last, octets: &Bytes) -> Result<Option<Leaf>, AllocError>
     }
 }
 
-// Validates the path of the anchor and the strings below it, of which the last is a leaf.
+// Validates the path of the anchor and the strings below it, of which the last is a leaf. `None`
+// where there is none below it.
 fn judge_leaf<V: Verifier>(
     alloc: Global,
     anchor: &Bytes,
@@ -94,7 +103,8 @@ fn judge_leaf<V: Verifier>(
     now: Time,
     verifier: &V,
 ) -> Option<Result<ResourceCert, PathError>>
-    ensures { let x = context (V.verifies verifier.now) now strict in
+    ensures none { IsNone result ↔ length below.now < 1 }
+    ensures judged { let x = context (V.verifies verifier.now) now strict in
         let pairs = option_map (λ store. store.now.pairs) lists.entry in
         IfSome result (EndsInLeaf x pairs last anchor.now below.now) }
 {
@@ -116,7 +126,10 @@ pub(crate) fn judge<V: Verifier>(
     now: Time,
     verifier: &V,
 ) -> Option<Result<ResourceCert, PathError>>
-    ensures { let x = context (V.verifies verifier.now) now strict in
+    ensures none { IsNone result ↔ length strings.now < fewest last }
+    // The headline, for the strings as the kind of the last one splits them; and an error says what
+    // is wrong of the string at its index.
+    ensures judged { let x = context (V.verifies verifier.now) now strict in
         let pairs = option_map (λ store. store.now.pairs) lists.entry in
         IfSome result (IsJudged x pairs last strings.now) }
 {
@@ -140,7 +153,7 @@ fn ask_lists<V: Verifier>(
 ) -> Result<(), RevocationError>
     ensures { let x = context (V.verifies verifier.now) now strict in
         let pairs = option_map (λ store. store.now.pairs) lists.entry in
-        OnOk result (IsUnrevokedIfAsked x pairs issuer.now.cert.fields cert.now) }
+        Tests (AskedCheck x pairs issuer.now.cert.fields cert.now) revocation_checks result }
 {
     let Some(store) = lists else {
         return Ok(());
@@ -153,6 +166,7 @@ fn ask_lists<V: Verifier>(
 }
 
 // Whether the router's certificate is valid below the issuer, and not revoked where lists are given.
+// A fault is one of all octets that begin with it.
 fn check_router_cert<V: Verifier>(
     cert: &Cert,
     issuer: &ResourceCert,
@@ -161,16 +175,20 @@ fn check_router_cert<V: Verifier>(
     now: Time,
     verifier: &V,
 ) -> Result<(), PathFault>
-    ensures { let x = context (V.verifies verifier.now) now strict in
+    ensures ok { let x = context (V.verifies verifier.now) now strict in
         let pairs = option_map (λ store. store.now.pairs) lists.entry in
         OnOk result (IsRouterUnder x pairs issuer.now cert.now) }
+    ensures fault { let x = context (V.verifies verifier.now) now strict in
+        let pairs = option_map (λ store. store.now.pairs) lists.entry in
+        (octets : List ℕ) → Means IsCertificate cert.now octets
+        → IfErr result (Finds x (router_demand x pairs issuer.now) octets) }
 {
     cert.validate_router_at(issuer, strict, now, verifier)?;
     ask_lists(lists, cert, issuer, strict, now, verifier)?;
     Ok(())
 }
 
-// The member above a router at this place, where the router's test went well.
+// The member above a router at this place, where the router's test went well; else its fault.
 fn answer_of(
     issuer: ResourceCert,
     index: usize,
@@ -178,6 +196,8 @@ fn answer_of(
 ) -> Result<ResourceCert, PathError>
     ensures ok { IfOk result (λ r. r ≡ issuer) }
     ensures passed { OnOk result (test ≡ Ok tt) }
+    ensures index { IfErr result (λ e. e.index ≡ index) }
+    ensures fault { IfErr result (λ e. test ≡ Err e.fault) }
 {
     match test {
         Ok(()) => Ok(issuer),
@@ -199,9 +219,12 @@ fn check_router<V: Verifier>(
     now: Time,
     verifier: &V,
 ) -> Result<(), PathFault>
-    ensures { let x = context (V.verifies verifier.now) now strict in
+    ensures ok { let x = context (V.verifies verifier.now) now strict in
         let pairs = option_map (λ store. store.now.pairs) lists.entry in
         OnOk result (IsRouter x pairs issuer.now octets.now) }
+    ensures fault { let x = context (V.verifies verifier.now) now strict in
+        let pairs = option_map (λ store. store.now.pairs) lists.entry in
+        IfErr result (Finds x (router_demand x pairs issuer.now) octets.now) }
 {
     let cert = Cert::decode_shared(alloc, octets.clone()?)?;
     let answer = check_router_cert(&cert, issuer, lists, strict, now, verifier);
@@ -219,7 +242,10 @@ pub(crate) fn judge_router<V: Verifier>(
     now: Time,
     verifier: &V,
 ) -> Option<Result<ResourceCert, PathError>>
-    ensures { let x = context (V.verifies verifier.now) now strict in
+    ensures none { IsNone result ↔ length strings.now < 2 }
+    // An error says what is wrong of the string at its index: of the path above the router, or of
+    // the router's.
+    ensures judged { let x = context (V.verifies verifier.now) now strict in
         let pairs = option_map (λ store. store.now.pairs) lists.entry in
         IfSome result (EndsInRouter x pairs strings.now) }
 {
