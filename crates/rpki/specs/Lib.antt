@@ -11,6 +11,7 @@ pub use Rattle.rpki_der.specs.Primitives
 pub use Rattle.rpki_der.specs.Identifiers
 pub use Rattle.rpki_der.specs.Serials
 pub use Rattle.rpki_der.specs.Times
+pub use Rattle.rpki_der.specs.Timestamps
 pub use Rattle.rpki_der.specs.Rows
 pub use Rattle.rpki_der.specs.Folding
 pub use Rattle.rpki_der.specs.Encoding
