@@ -1,20 +1,29 @@
-/* Resource certificates and revocation lists of the RPKI (RFC 6487), read and judged, for C.
+/* Reads and judges resource certificates and revocation lists of the RPKI (RFC 6487), for C.
  *
- * What is proved: every function ends for all octets, lengths and numbers, without any undefined behaviour, as long as
- * the caller keeps what stands below. What it judges by is the proved library: a path is accepted exactly where the
- * members are a valid path by the definitions of crates/rpki_path/specs/Paths.antt (running out of memory aside), and
- * octets are read as a certificate or a list exactly where they begin with one. Only tested: that what is written
- * into the caller's memory are those fields, ranges and numbers.
+ * Says what is proved:
+ *   - Every function ends, for all octets, lengths and numbers. Nothing that it does is undefined,
+ *     as long as the caller keeps the rules below.
+ *   - Octets are read as a certificate or list exactly where they begin with one, unless memory
+ *     runs out.
+ *   - A path is accepted exactly where its members are a valid path, by the definitions of
+ *     crates/rpki_path/specs/Paths.antt, unless memory runs out.
+ *     Where the last member is a router's, crates/rpki_c/specs/Judged.antt says what is accepted.
+ *   - The fault of a rejected path is that of the first wrong member, whose place is the index.
+ * Says what is only tested: that the caller's memory then holds those fields, ranges and numbers.
  *
- * What the caller has to keep: each pointer points to as many elements as the length beside it says, aligned as C asks,
- * and what a function writes overlaps nothing else of the call. A pointer beside the length 0 isn't read or written,
- * and may be NULL. Every other pointer may not.
+ * Asks of the caller:
+ *   - Each pointer points to as many elements as the length beside it says, aligned as C asks.
+ *   - What a function writes overlaps nothing else of the call.
+ *   - A pointer beside the length 0 may be NULL. It is neither read nor written. No other may be.
  *
- * No function keeps a pointer, holds a lock or has state: threads may call them side by side, and nothing has to be
- * freed. Octets are DER; what follows a certificate or list in them is ignored. A function answers RPKI_OK or the
- * number of a fault, which never gets another meaning; after a fault `out` says nothing, unless its comment says more.
+ * Holds for every function:
+ *   - It keeps no pointer, holds no lock and has no state. Threads may call side by side.
+ *   - Nothing has to be freed.
+ *   - Octets are DER. What follows a certificate or list in them is ignored.
+ *   - It answers RPKI_OK or the number of a fault. A number never gets another meaning.
+ *   - After a fault, what it writes says nothing, unless its comment says more.
  *
- * Link librpki.a (with heap.c beside it, or three functions of your own in its place), or librpki.so.
+ * Comes as librpki.a and librpki.so. Both want nothing but the C library.
  */
 #ifndef RPKI_H
 #define RPKI_H
@@ -26,14 +35,16 @@
 extern "C" {
 #endif
 
-/* What rpki_abi_version answers, where this header fits the library. */
+/* Is what rpki_abi_version answers where this header fits the library. */
 #define RPKI_ABI 1
 
+/* Tells the number of the library's interface. */
 uint32_t rpki_abi_version(void);
 
 /* ---- faults */
 
-/* parts of a certificate or list, which some faults of reading speak of: the fault's number and the part's are added */
+/* Numbers the parts of a certificate or list that some faults of reading speak of. The fault's
+ * number and the part's are added. */
 enum rpki_field {
     RPKI_FIELD_BASIC_CONSTRAINTS = 0,
     RPKI_FIELD_SUBJECT_KEY_IDENTIFIER = 1,
@@ -50,12 +61,13 @@ enum rpki_field {
     RPKI_FIELD_CRL_NUMBER = 12
 };
 
+/* Numbers the faults. */
 enum rpki_fault {
     RPKI_OK = 0,
-    RPKI_MEMORY = 1,   /* out of memory */
-    RPKI_BAD_CALL = 2, /* lengths don't add up, or no such kind, moment or URI */
+    RPKI_MEMORY = 1,   /* is out of memory */
+    RPKI_BAD_CALL = 2, /* has lengths that don't add up, or no such kind, moment or URI */
 
-    /* the octets begin with no certificate, or no list */
+    /* Say that the octets begin with no certificate, or no list. */
     RPKI_DECODE_TRUNCATED = 100,
     RPKI_DECODE_BAD_LENGTH = 101,
     RPKI_DECODE_BAD_TAG = 102,
@@ -65,13 +77,13 @@ enum rpki_fault {
     RPKI_DECODE_ALGORITHM_MISMATCH = 106,
     RPKI_DECODE_UNEXPECTED_CRITICAL = 107,
     RPKI_DECODE_INVALID_EXTENSION = 108,
-    RPKI_DECODE_MISSING = 120,         /* and an enum rpki_field */
-    RPKI_DECODE_DUPLICATE = 140,       /* and an enum rpki_field */
-    RPKI_DECODE_CRITICAL = 160,        /* and an enum rpki_field */
-    RPKI_DECODE_NOT_CRITICAL = 180,    /* and an enum rpki_field */
-    RPKI_DECODE_WRONG_RESOURCES = 200, /* and an enum rpki_field */
+    RPKI_DECODE_MISSING = 120,         /* adds an enum rpki_field */
+    RPKI_DECODE_DUPLICATE = 140,       /* adds an enum rpki_field */
+    RPKI_DECODE_CRITICAL = 160,        /* adds an enum rpki_field */
+    RPKI_DECODE_NOT_CRITICAL = 180,    /* adds an enum rpki_field */
+    RPKI_DECODE_WRONG_RESOURCES = 200, /* adds an enum rpki_field */
 
-    /* the certificate doesn't meet the profile of its kind */
+    /* Say that the certificate doesn't meet the profile of its kind. */
     RPKI_INSPECTION_ALGORITHM_MISMATCH = 300,
     RPKI_INSPECTION_ISSUER = 301,
     RPKI_INSPECTION_SUBJECT = 302,
@@ -100,7 +112,7 @@ enum rpki_fault {
     RPKI_INSPECTION_MISSING_AS_RESOURCES = 325,
     RPKI_INSPECTION_INHERITED_AS_RESOURCES = 326,
 
-    /* the certificate isn't valid at the moment, or not issued by the member above it */
+    /* Say that the certificate isn't valid at the moment, or not issued by the member above it. */
     RPKI_VERIFICATION_NOT_YET_VALID = 400,
     RPKI_VERIFICATION_EXPIRED = 401,
     RPKI_VERIFICATION_INHERITED_V4 = 402,
@@ -114,7 +126,7 @@ enum rpki_fault {
     RPKI_VERIFICATION_OVERCLAIM_V6 = 410,
     RPKI_VERIFICATION_OVERCLAIM_AS = 411,
 
-    /* the certificate isn't found unrevoked on the list of the member above it */
+    /* Say that the list of the member above doesn't show the certificate to be unrevoked. */
     RPKI_REVOCATION_NO_CRL = 500,
     RPKI_REVOCATION_WRONG_KEY_ID = 501,
     RPKI_REVOCATION_BAD_SIGNATURE = 502,
@@ -122,66 +134,79 @@ enum rpki_fault {
     RPKI_REVOCATION_REVOKED = 504
 };
 
-/* The functions with `out`, `room` and `count` write as many elements as there is room for, and in *count how many
- * there are: with room 0 they count. At a fault *count is 0. Texts have no 0 at their end. */
+/* Holds for every function with `out`, `room` and `count`. It writes as many elements as there is
+ * room for, and in *count how many there are: with room 0 it counts. At a fault *count is 0. Texts
+ * have no 0 at their end. */
 
-/* the name of a fault, as the library's enums have it: "BadSignature"; RPKI_BAD_CALL where no fault has the number */
+/* Writes the name of a fault, as the library's enums have it: "BadSignature". Answers RPKI_BAD_CALL
+ * where no fault has the number. */
 uint32_t rpki_fault_name(uint32_t fault, uint8_t *out, size_t room, uint64_t *count);
 
-/* what it means: "overclaimed IPv4 resources" */
+/* Writes what the fault means: "overclaimed IPv4 resources". Answers RPKI_BAD_CALL where no fault
+ * has the number. */
 uint32_t rpki_fault_sentence(uint32_t fault, uint8_t *out, size_t room, uint64_t *count);
 
 /* ---- certificates */
 
-/* a second of UTC, in the years 0 to 9999 */
+/* Is a second of UTC in the years 0 to 9999: on a day of the calendar, with an hour below 24, and
+ * a minute and a second below 60. */
 struct rpki_time {
     uint16_t year;
     uint8_t month, day, hour, minute, second;
-    uint8_t unused; /* 0 where it is written */
+    uint8_t unused; /* is ignored, and 0 where it is written */
 };
 
+/* Numbers the kinds of certificates. */
 enum rpki_kind {
     RPKI_ANCHOR = 0,
     RPKI_AUTHORITY = 1,
     RPKI_END_ENTITY = 2,
-    RPKI_DETACHED = 3, /* an end entity that signs any object */
+    RPKI_DETACHED = 3, /* is an end entity that signs any object */
     RPKI_ROUTER = 4
 };
 
+/* Numbers how a certificate has its resources of one kind. */
 enum rpki_state { RPKI_MISSING = 0, RPKI_INHERITED = 1, RPKI_LISTED = 2 };
 
-/* serial numbers have their greatest octet first */
+/* Holds what a certificate has of a fixed size. Serial numbers have their greatest octet first. */
 struct rpki_certificate {
     struct rpki_time not_before, not_after;
     uint8_t serial[20], subject_key[20], authority_key[20];
-    uint8_t has_authority_key, is_authority;
-    uint8_t key_usage;   /* 0 of an authority, 1 of an end entity */
-    uint8_t overclaim;   /* 0 refused, 1 trimmed (RFC 8360) */
-    uint8_t v4, v6, asn; /* enum rpki_state */
+    uint8_t has_authority_key, is_authority; /* are 0 or 1 */
+    uint8_t key_usage;   /* is 0 of an authority, 1 of an end entity */
+    uint8_t overclaim;   /* is 0 where it is rejected, 1 where it is trimmed (RFC 8360) */
+    uint8_t v4, v6, asn; /* are of enum rpki_state */
 };
 
-/* addresses have their greatest octet first; one of IPv4 stands in the first four */
+/* Holds two addresses, their greatest octet first. One of IPv4 stands in the first four octets. */
 struct rpki_ip_range {
     uint8_t min[16], max[16];
 };
 
+/* Holds two AS numbers. */
 struct rpki_as_range {
     uint32_t min, max;
 };
 
+/* Reads the certificate. */
 uint32_t rpki_certificate_read(const uint8_t *octets, size_t length, struct rpki_certificate *out);
 
-/* answers RPKI_OK where the certificate meets the profile of the kind, an enum rpki_kind, and else its first fault;
- * `strict` is 1 where names have to have the strings of RFC 6487 4.4, and 0 where other strings may stand there */
-uint32_t rpki_certificate_inspect(const uint8_t *octets, size_t length, uint32_t kind, uint32_t strict);
+/* Answers RPKI_OK where the certificate meets the profile of the kind, an enum rpki_kind. Else it
+ * answers its first fault. `strict` is 1 where names have to have the strings of RFC 6487 4.4, and
+ * 0 where other strings may stand there. */
+uint32_t rpki_certificate_inspect(const uint8_t *octets, size_t length, uint32_t kind,
+                                  uint32_t strict);
 
-/* the ranges that the certificate lists, of IPv4 where `family` is 4 and else of IPv6; they ascend, apart */
-uint32_t rpki_certificate_addresses(const uint8_t *octets, size_t length, uint32_t family, struct rpki_ip_range *out,
-                                    size_t room, uint64_t *count);
+/* Writes the ranges of addresses that the certificate lists: of IPv4 where `family` is 4, and else
+ * of IPv6. They ascend, and neither overlap nor touch. */
+uint32_t rpki_certificate_addresses(const uint8_t *octets, size_t length, uint32_t family,
+                                    struct rpki_ip_range *out, size_t room, uint64_t *count);
 
-uint32_t rpki_certificate_as_numbers(const uint8_t *octets, size_t length, struct rpki_as_range *out, size_t room,
-                                     uint64_t *count);
+/* Writes the ranges of AS numbers that the certificate lists, as above. */
+uint32_t rpki_certificate_as_numbers(const uint8_t *octets, size_t length,
+                                     struct rpki_as_range *out, size_t room, uint64_t *count);
 
+/* Numbers the URIs of a certificate. */
 enum rpki_uri {
     RPKI_URI_CA_ISSUER = 0,
     RPKI_URI_CRL = 1,
@@ -191,83 +216,104 @@ enum rpki_uri {
     RPKI_URI_NOTIFY = 5
 };
 
-/* one URI; *count is 0 where the certificate has none such */
-uint32_t rpki_certificate_uri(const uint8_t *octets, size_t length, uint32_t which, uint8_t *out, size_t room,
-                              uint64_t *count);
+/* Writes one URI, an enum rpki_uri. *count is 0 where the certificate has none such. */
+uint32_t rpki_certificate_uri(const uint8_t *octets, size_t length, uint32_t which, uint8_t *out,
+                              size_t room, uint64_t *count);
 
-/* a Name in DER: of the issuer where `which` is 0, and else of the subject */
-uint32_t rpki_certificate_name(const uint8_t *octets, size_t length, uint32_t which, uint8_t *out, size_t room,
-                               uint64_t *count);
+/* Writes a Name in DER: of the issuer where `which` is 0, and else of the subject. */
+uint32_t rpki_certificate_name(const uint8_t *octets, size_t length, uint32_t which, uint8_t *out,
+                               size_t room, uint64_t *count);
 
 /* ---- revocation lists */
 
+/* Holds what a list has of a fixed size, and how many entries it has. */
 struct rpki_list {
     struct rpki_time this_update, next_update;
     uint64_t entries;
     uint8_t number[20], authority_key[20];
 };
 
+/* Holds a revoked certificate's serial number, and since when it is revoked. */
 struct rpki_entry {
     struct rpki_time date;
     uint8_t serial[20];
 };
 
+/* Reads the list. */
 uint32_t rpki_list_read(const uint8_t *octets, size_t length, struct rpki_list *out);
 
-uint32_t rpki_list_entries(const uint8_t *octets, size_t length, struct rpki_entry *out, size_t room, uint64_t *count);
+/* Writes the entries of the list, in its order. */
+uint32_t rpki_list_entries(const uint8_t *octets, size_t length, struct rpki_entry *out,
+                           size_t room, uint64_t *count);
 
-/* the issuer's Name in DER */
-uint32_t rpki_list_issuer(const uint8_t *octets, size_t length, uint8_t *out, size_t room, uint64_t *count);
+/* Writes the issuer's Name in DER. */
+uint32_t rpki_list_issuer(const uint8_t *octets, size_t length, uint8_t *out, size_t room,
+                          uint64_t *count);
 
-/* serials: 20 octets each, one behind the other; answers[i] is 1 where the i-th is on the list, else 0 */
-uint32_t rpki_list_ask(const uint8_t *octets, size_t length, const uint8_t *serials, size_t serials_length,
-                       uint8_t *answers, size_t count);
+/* Asks the list for `count` serial numbers, which stand one behind the other in 20 octets each.
+ * answers[i] is 1 where the i-th is on the list, and else 0. Answers RPKI_BAD_CALL where
+ * serials_length isn't 20 times `count`. */
+uint32_t rpki_list_ask(const uint8_t *octets, size_t length, const uint8_t *serials,
+                       size_t serials_length, uint8_t *answers, size_t count);
 
 /* ---- paths */
 
+/* Says what became of a path. A path that ends in a router's certificate holds the ranges of the
+ * member above it. */
 struct rpki_verdict {
-    uint32_t fault;       /* what the function answers */
-    uint32_t index;       /* of a fault the place of the first wrong member; the anchor's is 0 */
-    uint64_t v4, v6, asn; /* of RPKI_OK how many ranges the last member holds; of a router, the one above it */
+    uint32_t fault;       /* is what the function answers */
+    uint32_t index;       /* is the place of the first wrong member; the anchor's is 0 */
+    uint64_t v4, v6, asn; /* count the ranges that the last member holds, where the fault is 0 */
 };
 
-/* Validates a path: the members' octets stand one behind the other, the anchor first, and `lengths` has the length of
- * each. `last` is what the last one is: RPKI_AUTHORITY (also for the anchor alone) .. RPKI_ROUTER. Signatures are checked
- * as the RPKI has them (RFC 7935). Writes the ranges that are held, as many as there is room for. *out holds after
- * every fault. Not asked: whether a member is revoked, and whether names chain. */
-uint32_t rpki_path_validate(const uint8_t *octets, size_t length, const size_t *lengths, size_t members, uint32_t last,
-                            uint32_t strict, const struct rpki_time *now, struct rpki_ip_range *v4, size_t v4_room,
-                            struct rpki_ip_range *v6, size_t v6_room, struct rpki_as_range *asn, size_t asn_room,
-                            struct rpki_verdict *out);
+/* Validates a path. The members' octets stand one behind the other, the anchor first. `lengths` has
+ * the length of each. `last` says what the last one is, by an enum rpki_kind: RPKI_AUTHORITY (also
+ * for the anchor alone) to RPKI_ROUTER. Signatures are checked as the RPKI has them (RFC 7935).
+ * Writes the ranges that are held, as many as there is room for. *out holds after every fault.
+ * Doesn't ask whether a member is revoked, nor whether names chain. */
+uint32_t rpki_path_validate(const uint8_t *octets, size_t length, const size_t *lengths,
+                            size_t members, uint32_t last, uint32_t strict,
+                            const struct rpki_time *now, struct rpki_ip_range *v4, size_t v4_room,
+                            struct rpki_ip_range *v6, size_t v6_room, struct rpki_as_range *asn,
+                            size_t asn_room, struct rpki_verdict *out);
 
-/* Validates a path, and asks revocation lists of each member below the anchor: the list under the member's URI is signed by the
- * member above, isn't stale, and doesn't name the member. The lists stand one behind the other, and so do the rsync
- * URIs where they were found, one for each list. Where a list can't be read, or its URI is none, the verdict's index is
- * the number of members and the list's place. */
-uint32_t rpki_path_validate_with(const uint8_t *lists, size_t lists_length, const size_t *list_lengths, size_t list_count,
-                                 const uint8_t *uris, size_t uris_length, const size_t *uri_lengths, size_t uri_count,
-                                 const uint8_t *octets, size_t length, const size_t *lengths, size_t members,
-                                 uint32_t last, uint32_t strict, const struct rpki_time *now, struct rpki_ip_range *v4,
-                                 size_t v4_room, struct rpki_ip_range *v6, size_t v6_room, struct rpki_as_range *asn,
-                                 size_t asn_room, struct rpki_verdict *out);
+/* Validates a path as above, and asks revocation lists of each member below the anchor: the first
+ * list under the member's URI is signed by the member above, isn't stale, and doesn't name the
+ * member. The lists stand one behind the other. So do the rsync URIs where they were found, one for
+ * each list. Where a list can't be read, or its URI is none, the verdict's index is the number of
+ * members and the list's place. */
+uint32_t rpki_path_validate_with(const uint8_t *lists, size_t lists_length,
+                                 const size_t *list_lengths, size_t list_count,
+                                 const uint8_t *uris, size_t uris_length,
+                                 const size_t *uri_lengths, size_t uri_count,
+                                 const uint8_t *octets, size_t length, const size_t *lengths,
+                                 size_t members, uint32_t last, uint32_t strict,
+                                 const struct rpki_time *now, struct rpki_ip_range *v4,
+                                 size_t v4_room, struct rpki_ip_range *v6, size_t v6_room,
+                                 struct rpki_as_range *asn, size_t asn_room,
+                                 struct rpki_verdict *out);
 
-/* A caller with cryptography of its own asks for the questions, checks each signature, and hands in what it found: is
- * this a signature of the message by the key, with sha256WithRSAEncryption? All are places in the octets of the path. */
+/* Asks a caller with cryptography of its own: is this a signature of the message by the key, with
+ * sha256WithRSAEncryption? All are places in the octets of the path. */
 struct rpki_question {
-    uint64_t key_at, key_length; /* a SubjectPublicKeyInfo */
+    uint64_t key_at, key_length; /* are those of a SubjectPublicKeyInfo */
     uint64_t message_at, message_length;
     uint64_t signature_at, signature_length;
 };
 
-/* the questions, one a member, as many as there is room for: the anchor is signed by its own key */
-uint32_t rpki_path_questions(const uint8_t *octets, size_t length, const size_t *lengths, size_t members,
-                             struct rpki_question *out, size_t room);
+/* Writes the questions, one a member, as many as there is room for. The anchor is signed by its
+ * own key, each later member by that of the one above it. */
+uint32_t rpki_path_questions(const uint8_t *octets, size_t length, const size_t *lengths,
+                             size_t members, struct rpki_question *out, size_t room);
 
-/* as rpki_path_validate: yes[i] is 1 where the caller has found the i-th signature good */
-uint32_t rpki_path_validate_said(const uint8_t *octets, size_t length, const size_t *lengths, size_t members,
-                                 uint32_t last, const uint8_t *yes, size_t answers, uint32_t strict,
-                                 const struct rpki_time *now, struct rpki_ip_range *v4, size_t v4_room,
-                                 struct rpki_ip_range *v6, size_t v6_room, struct rpki_as_range *asn, size_t asn_room,
+/* Validates a path as rpki_path_validate does, with the caller's answers: yes[i] is 1 where the
+ * caller has found the i-th signature good. A signature without an answer isn't good. */
+uint32_t rpki_path_validate_said(const uint8_t *octets, size_t length, const size_t *lengths,
+                                 size_t members, uint32_t last, const uint8_t *yes, size_t answers,
+                                 uint32_t strict, const struct rpki_time *now,
+                                 struct rpki_ip_range *v4, size_t v4_room,
+                                 struct rpki_ip_range *v6, size_t v6_room,
+                                 struct rpki_as_range *asn, size_t asn_room,
                                  struct rpki_verdict *out);
 
 #ifdef __cplusplus

@@ -1,6 +1,9 @@
-/* Calls the library at its edges: lengths cut short, no room, room one too small, NULL beside the length 0, no members and
- * many. usage: edges FOLDER, with the certificates and lists of examples/. Prints what isn't as it should be, and a last
- * line `N passed, M failed`. tests/callers runs it, under valgrind where that is there. */
+/* Calls the library at its edges: lengths cut short or that don't add up, no room, room one too
+ * small, NULL beside the length 0, numbers behind the last, moments at the ends, no members and
+ * many. usage: edges EXAMPLES ROWS, which are the folders examples/ and crates/rpki_rows/data/. What
+ * is wanted follows from include/rpki.h, from what examples/make.sh writes into the files, and, of
+ * routers, from validation.rows. Prints what isn't so, and a last line `N passed, M failed`.
+ * tests/callers runs it, under valgrind where that is there. */
 #include "rpki.h"
 #include <stdio.h>
 #include <stdlib.h>
@@ -45,7 +48,7 @@ static int is_decoding(uint32_t fault) { return fault >= 100 && fault < 300; }
 
 static const struct rpki_time now = {2026, 6, 1, 0, 0, 0, 0};
 
-/* every beginning of a certificate and of a list is refused, in a block of just that length */
+/* every beginning of a certificate and of a list is rejected, in a block of just that length */
 static void cut_short(struct file cert, struct file list) {
     struct rpki_certificate certificate;
     struct rpki_list head;
@@ -55,14 +58,14 @@ static void cut_short(struct file cert, struct file list) {
     for (size_t length = 0; length < cert.length; length++) {
         uint8_t *octets = malloc(length > 0 ? length : 1);
         memcpy(octets, cert.octets, length);
-        check(is_decoding(rpki_certificate_read(octets, length, &certificate)), "a cut certificate is refused");
+        check(is_decoding(rpki_certificate_read(octets, length, &certificate)), "a cut certificate is rejected");
         check(is_decoding(rpki_certificate_uri(octets, length, 1, NULL, 0, &count)) && count == 0, "a cut certificate has no URI");
         free(octets);
     }
     for (size_t length = 0; length < list.length; length++) {
         uint8_t *octets = malloc(length > 0 ? length : 1);
         memcpy(octets, list.octets, length);
-        check(is_decoding(rpki_list_read(octets, length, &head)), "a cut list is refused");
+        check(is_decoding(rpki_list_read(octets, length, &head)), "a cut list is rejected");
         check(is_decoding(rpki_list_ask(octets, length, serial, 20, &answer, 1)), "a cut list answers nothing");
         free(octets);
     }
@@ -197,19 +200,652 @@ static void stores(struct file anchor, struct file list) {
           "a list without a URI");
 }
 
+/* ---- numbers */
+
+/* numbers that no fault has: just before, between and just behind those that are faults */
+static void numbers(void) {
+    static const uint32_t none[] = {3,   99,  109, 119, 133, 139, 153, 159, 173, 179,  193,
+                                    199, 213, 219, 220, 299, 327, 399, 412, 499, 505,  600,
+                                    1000, 0x80000000, UINT32_MAX};
+    static const uint32_t some[] = {0,   1,   2,   100, 108, 120, 132, 140, 152, 160, 172,
+                                    180, 192, 200, 212, 300, 326, 400, 411, 500, 504};
+    uint64_t count;
+    uint8_t octet = 7;
+    for (size_t i = 0; i < sizeof none / sizeof *none; i++) {
+        count = 9;
+        check(rpki_fault_name(none[i], &octet, 1, &count) == RPKI_BAD_CALL && count == 0,
+              "a number that no fault has has no name");
+        count = 9;
+        check(rpki_fault_sentence(none[i], &octet, 1, &count) == RPKI_BAD_CALL && count == 0,
+              "a number that no fault has has no sentence");
+    }
+    check(octet == 7, "nothing is written of a number that no fault has");
+    for (size_t i = 0; i < sizeof some / sizeof *some; i++) {
+        check(rpki_fault_name(some[i], NULL, 0, &count) == RPKI_OK && count > 0, "a fault has a name");
+        check(rpki_fault_sentence(some[i], NULL, 0, &count) == RPKI_OK && count > 0,
+              "a fault has a sentence");
+    }
+    uint8_t name[9];
+    memset(name, 7, sizeof name);
+    check(rpki_fault_name(RPKI_VERIFICATION_EXPIRED, name, 8, &count) == RPKI_OK && count == 7
+              && memcmp(name, "Expired\7\7", 9) == 0,
+          "a name has no 0 at its end, and nothing is written behind it");
+}
+
+/* ---- certificates */
+
+/* each certificate as each kind, in both modes, and as no kind */
+static void kinds(struct file anchor, struct file first, struct file object) {
+    const struct file certificates[] = {anchor, first, object};
+    static const uint32_t wanted[3][5] = {
+        {RPKI_OK, RPKI_INSPECTION_MISSING_CRL_URI, RPKI_INSPECTION_MISSING_CRL_URI,
+         RPKI_INSPECTION_MISSING_CRL_URI, RPKI_INSPECTION_KEY_ALGORITHM},
+        {RPKI_INSPECTION_AUTHORITY_KEY_IDENTIFIER, RPKI_OK,
+         RPKI_INSPECTION_BASIC_CONSTRAINTS_PRESENT, RPKI_INSPECTION_BASIC_CONSTRAINTS_PRESENT,
+         RPKI_INSPECTION_KEY_ALGORITHM},
+        {RPKI_INSPECTION_MISSING_BASIC_CONSTRAINTS, RPKI_INSPECTION_MISSING_BASIC_CONSTRAINTS,
+         RPKI_OK, RPKI_OK, RPKI_INSPECTION_KEY_ALGORITHM}};
+    static const uint32_t no_kinds[] = {5, 6, 255, 256, 0x80000000, UINT32_MAX};
+    for (size_t i = 0; i < 3; i++) {
+        const struct file it = certificates[i];
+        for (uint32_t kind = 0; kind < 5; kind++)
+            for (uint32_t strict = 0; strict < 2; strict++)
+                check(rpki_certificate_inspect(it.octets, it.length, kind, strict)
+                          == wanted[i][kind],
+                      "a certificate is of its kind alone");
+    }
+    for (size_t i = 0; i < sizeof no_kinds / sizeof *no_kinds; i++) {
+        check(rpki_certificate_inspect(anchor.octets, anchor.length, no_kinds[i], 0)
+                  == RPKI_BAD_CALL,
+              "there is no such kind");
+        check(rpki_certificate_inspect(NULL, 0, no_kinds[i], 1) == RPKI_BAD_CALL,
+              "there is no such kind, whatever the octets");
+    }
+    check(is_decoding(rpki_certificate_inspect(NULL, 0, RPKI_ANCHOR, 1)),
+          "no octets are of no kind");
+}
+
+/* the fields, as examples/make.sh writes them */
+static void fields(struct file anchor, struct file second, struct file object) {
+    struct rpki_certificate above, inheriting, last;
+    static const uint8_t nothing[20] = {0};
+    check(rpki_certificate_read(anchor.octets, anchor.length, &above) == RPKI_OK
+              && above.serial[19] == 1 && above.is_authority == 1 && above.key_usage == 0
+              && above.has_authority_key == 0 && memcmp(above.authority_key, nothing, 20) == 0
+              && above.overclaim == 0 && above.v4 == RPKI_LISTED && above.v6 == RPKI_LISTED
+              && above.asn == RPKI_LISTED,
+          "the anchor lists its resources, and names no authority's key");
+    check(rpki_certificate_read(second.octets, second.length, &inheriting) == RPKI_OK
+              && inheriting.serial[19] == 3 && inheriting.v4 == RPKI_INHERITED
+              && inheriting.v6 == RPKI_INHERITED && inheriting.asn == RPKI_INHERITED,
+          "the second authority inherits");
+    check(rpki_certificate_read(object.octets, object.length, &last) == RPKI_OK
+              && last.serial[19] == 4 && last.is_authority == 0 && last.key_usage == 1
+              && last.has_authority_key == 1
+              && memcmp(last.authority_key, inheriting.subject_key, 20) == 0
+              && last.v4 == RPKI_LISTED && last.v6 == RPKI_MISSING && last.asn == RPKI_MISSING,
+          "the end entity's authority is the second, and it lists IPv4 alone");
+    check(above.not_before.year == 2026 && above.not_before.month == 1 && above.not_before.day == 1
+              && above.not_after.year == 2036 && above.not_after.hour == 0
+              && above.not_after.minute == 0 && above.not_after.second == 0
+              && above.not_before.unused == 0 && above.not_after.unused == 0,
+          "the anchor is valid from 2026 to 2036");
+}
+
+/* room for exactly all, one less, one more; what is inherited or missing has no ranges */
+static void ranges(struct file anchor, struct file second, struct file object) {
+    struct rpki_ip_range out[2];
+    struct rpki_as_range asn[2];
+    uint64_t count;
+    memset(out, 0xa5, sizeof out);
+    memset(asn, 0xa5, sizeof asn);
+    check(rpki_certificate_addresses(anchor.octets, anchor.length, 6, out, 1, &count) == RPKI_OK
+              && count == 1 && memcmp(out[0].min, "\x20\x01\x0d\xb8\0\0\0\0\0\0\0\0\0\0\0\0", 16) == 0
+              && memcmp(out[0].max, "\x20\x01\x0d\xb8\xff\xff\xff\xff\xff\xff\xff\xff\xff\xff\xff\xff", 16) == 0,
+          "the anchor lists 2001:db8::/32");
+    check(out[1].min[0] == 0xa5 && out[1].max[15] == 0xa5, "nothing is written behind the room");
+    for (uint32_t family = 0; family < 8; family++)
+        if (family != 4)
+            check(rpki_certificate_addresses(anchor.octets, anchor.length, family, out, 1, &count)
+                          == RPKI_OK
+                      && count == 1 && out[0].min[0] == 0x20,
+                  "a family that isn't 4 is IPv6");
+    check(rpki_certificate_addresses(anchor.octets, anchor.length, UINT32_MAX, NULL, 0, &count)
+                  == RPKI_OK
+              && count == 1,
+          "the greatest family is IPv6");
+    check(rpki_certificate_addresses(anchor.octets, anchor.length, 4, out, 2, &count) == RPKI_OK
+              && count == 1 && out[0].min[0] == 10 && out[0].max[0] == 10 && out[0].max[3] == 255
+              && out[1].min[0] == 0xa5,
+          "the anchor lists 10.0.0.0/8, and nothing is written behind it");
+    check(rpki_certificate_as_numbers(anchor.octets, anchor.length, asn, 2, &count) == RPKI_OK
+              && count == 1 && asn[0].min == 64496 && asn[0].max == 64511
+              && asn[1].min == 0xa5a5a5a5,
+          "the anchor lists AS64496 to AS64511");
+    for (uint32_t family = 4; family < 7; family += 2)
+        check(rpki_certificate_addresses(second.octets, second.length, family, out, 2, &count)
+                      == RPKI_OK
+                  && count == 0,
+              "what is inherited isn't listed");
+    check(rpki_certificate_as_numbers(second.octets, second.length, asn, 2, &count) == RPKI_OK
+              && count == 0,
+          "AS numbers that are inherited aren't listed");
+    check(rpki_certificate_addresses(object.octets, object.length, 6, NULL, 0, &count) == RPKI_OK
+              && count == 0,
+          "what is missing isn't listed");
+    check(rpki_certificate_as_numbers(object.octets, object.length, NULL, 0, &count) == RPKI_OK
+              && count == 0,
+          "AS numbers that are missing aren't listed");
+    count = 9;
+    check(is_decoding(rpki_certificate_addresses(NULL, 0, 4, NULL, 0, &count)) && count == 0,
+          "no octets list no addresses");
+    count = 9;
+    check(is_decoding(rpki_certificate_as_numbers(NULL, 0, NULL, 0, &count)) && count == 0,
+          "no octets list no AS numbers");
+}
+
+/* one URI of a certificate: all of it, its beginning, and its length alone */
+static void uri(struct file it, uint32_t which, const char *wanted) {
+    uint8_t out[128];
+    uint64_t count = 0, length = strlen(wanted);
+    memset(out, 0xa5, sizeof out);
+    check(rpki_certificate_uri(it.octets, it.length, which, out, sizeof out, &count) == RPKI_OK
+              && count == length && memcmp(out, wanted, length) == 0 && out[length] == 0xa5,
+          wanted);
+    count = 9;
+    check(rpki_certificate_uri(it.octets, it.length, which, NULL, 0, &count) == RPKI_OK
+              && count == length,
+          "room 0 counts a URI");
+    memset(out, 0xa5, sizeof out);
+    check(rpki_certificate_uri(it.octets, it.length, which, out, 1, &count) == RPKI_OK
+              && count == length && out[0] == (length > 0 ? 'r' : 0xa5) && out[1] == 0xa5,
+          "room 1 takes one octet of a URI");
+}
+
+#define SITE "rsync://rpki.example.net/repo/"
+
+static void uris(struct file anchor, struct file first, struct file object) {
+    uri(first, RPKI_URI_CA_ISSUER, SITE "anchor.cer");
+    uri(first, RPKI_URI_CRL, SITE "anchor/anchor.crl");
+    uri(first, RPKI_URI_REPOSITORY, SITE "first/");
+    uri(first, RPKI_URI_MANIFEST, SITE "first/first.mft");
+    uri(first, RPKI_URI_SIGNED_OBJECT, "");
+    uri(object, RPKI_URI_SIGNED_OBJECT, SITE "second/object.roa");
+    uri(object, RPKI_URI_REPOSITORY, "");
+    uri(object, RPKI_URI_MANIFEST, "");
+    uri(object, RPKI_URI_NOTIFY, "");
+    uri(anchor, RPKI_URI_CA_ISSUER, "");
+    uri(anchor, RPKI_URI_CRL, "");
+    uri(anchor, RPKI_URI_NOTIFY + 1, "");
+    uri(anchor, UINT32_MAX, "");
+    uint8_t out[64];
+    uint64_t count;
+    check(rpki_certificate_uri(anchor.octets, anchor.length, RPKI_URI_NOTIFY, out, 64, &count)
+                  == RPKI_OK
+              && count == 41 && memcmp(out, "https://rpki.example.net/notification.xml", 41) == 0,
+          "the anchor's notification file");
+    count = 9;
+    check(is_decoding(rpki_certificate_uri(NULL, 0, RPKI_URI_CRL, NULL, 0, &count)) && count == 0,
+          "no octets have no URI");
+}
+
+/* names: the issuer of a certificate and of a list is the subject of the one above */
+static void names(struct file anchor, struct file first, struct file list) {
+    uint8_t above[128], issuer[128], other[128];
+    uint64_t count, again, listed;
+    memset(above, 1, sizeof above);
+    memset(issuer, 2, sizeof issuer);
+    memset(other, 3, sizeof other);
+    check(rpki_certificate_name(anchor.octets, anchor.length, 1, above, 128, &count) == RPKI_OK
+              && rpki_certificate_name(first.octets, first.length, 0, issuer, 128, &again) == RPKI_OK
+              && rpki_list_issuer(list.octets, list.length, other, 128, &listed) == RPKI_OK
+              && count < 128 && count == again && count == listed
+              && memcmp(above, issuer, count) == 0 && memcmp(above, other, count) == 0,
+          "the anchor issued the first authority and the list");
+    check(above[0] == 0x30 && (uint64_t)above[1] + 2 == count, "a name is one SEQUENCE");
+    check(above[count] == 1 && issuer[count] == 2 && other[count] == 3,
+          "nothing is written behind a name");
+    check(rpki_certificate_name(first.octets, first.length, UINT32_MAX, other, 128, &again)
+                  == RPKI_OK
+              && rpki_certificate_name(first.octets, first.length, 1, issuer, 128, &listed) == RPKI_OK
+              && again == listed && memcmp(other, issuer, again) == 0
+              && memcmp(other, above, count) != 0,
+          "each number but 0 is the subject");
+    check(rpki_certificate_name(first.octets, first.length, 0, NULL, 0, &again) == RPKI_OK
+              && again == count,
+          "room 0 counts a name");
+    check(rpki_list_issuer(list.octets, list.length, NULL, 0, &again) == RPKI_OK && again == count,
+          "room 0 counts a list's name");
+    count = 9, again = 9;
+    check(is_decoding(rpki_certificate_name(NULL, 0, 0, NULL, 0, &count)) && count == 0
+              && is_decoding(rpki_list_issuer(NULL, 0, NULL, 0, &again)) && again == 0,
+          "no octets have no name");
+}
+
+/* ---- lists */
+
+static void lists(struct file empty, struct file list, struct file cert) {
+    struct rpki_list head;
+    struct rpki_entry entries[2];
+    uint64_t count;
+    uint8_t serials[41] = {0}, answers[2] = {7, 7};
+    check(rpki_list_read(empty.octets, empty.length, &head) == RPKI_OK && head.entries == 0
+              && head.number[19] == 1,
+          "a list without entries");
+    check(rpki_list_read(list.octets, list.length, &head) == RPKI_OK && head.entries == 1
+              && head.number[19] == 2 && head.this_update.year == 2026
+              && head.next_update.year == 2036 && head.this_update.unused == 0,
+          "a list with one entry");
+    memset(entries, 0xa5, sizeof entries);
+    check(rpki_list_entries(empty.octets, empty.length, entries, 2, &count) == RPKI_OK && count == 0
+              && entries[0].serial[0] == 0xa5,
+          "no entries, and nothing is written");
+    check(rpki_list_entries(list.octets, list.length, entries, 2, &count) == RPKI_OK && count == 1
+              && entries[0].serial[19] == 3 && entries[0].date.year == 2026
+              && entries[0].date.month == 2 && entries[0].date.day == 1
+              && entries[1].serial[0] == 0xa5,
+          "3 was revoked on 2026-02-01, and nothing is written behind it");
+    serials[19] = 3, serials[39] = 3;
+    check(rpki_list_ask(list.octets, list.length, serials, 40, answers, 2) == RPKI_OK
+              && answers[0] == 1 && answers[1] == 1,
+          "3 is on the list, twice asked");
+    check(rpki_list_ask(empty.octets, empty.length, serials, 40, answers, 2) == RPKI_OK
+              && answers[0] == 0 && answers[1] == 0,
+          "nothing is on a list without entries");
+    check(rpki_list_ask(list.octets, list.length, serials, 20, answers, 1) == RPKI_OK
+              && answers[0] == 1 && answers[1] == 0,
+          "no answer is written behind the last");
+    memset(serials, 0xff, 20);
+    check(rpki_list_ask(list.octets, list.length, serials, 20, answers, 1) == RPKI_OK
+              && answers[0] == 0,
+          "the greatest serial number isn't on the list");
+    static const size_t wrong[] = {0, 1, 19, 21, 39, 40, 41};
+    for (size_t i = 0; i < sizeof wrong / sizeof *wrong; i++)
+        check(rpki_list_ask(list.octets, list.length, serials, wrong[i], answers, 1)
+                  == RPKI_BAD_CALL,
+              "one serial number has 20 octets");
+    check(rpki_list_ask(list.octets, list.length, serials, 20, NULL, 0) == RPKI_BAD_CALL,
+          "a serial number without an answer");
+    check(is_decoding(rpki_list_ask(NULL, 0, NULL, 0, NULL, 0)), "no octets are asked");
+    count = 9;
+    check(is_decoding(rpki_list_entries(NULL, 0, NULL, 0, &count)) && count == 0,
+          "no octets have no entries");
+    count = 9;
+    check(is_decoding(rpki_list_entries(cert.octets, cert.length, entries, 2, &count)) && count == 0
+              && is_decoding(rpki_list_read(cert.octets, cert.length, &head)),
+          "a certificate is no list");
+    struct rpki_certificate certificate;
+    check(is_decoding(rpki_certificate_read(list.octets, list.length, &certificate))
+              && is_decoding(rpki_certificate_inspect(list.octets, list.length, RPKI_ANCHOR, 1)),
+          "a list is no certificate");
+}
+
+/* ---- moments */
+
+/* the ends of the anchor's validity, which belong to it, and those of the calendar and the clock */
+static void moments(struct file anchor) {
+    static const struct {
+        struct rpki_time at;
+        uint32_t wanted;
+    } cases[] = {
+        {{2025, 12, 31, 23, 59, 59, 0}, RPKI_VERIFICATION_NOT_YET_VALID},
+        {{2026, 1, 1, 0, 0, 0, 0}, RPKI_OK},
+        {{2036, 1, 1, 0, 0, 0, 0}, RPKI_OK},
+        {{2036, 1, 1, 0, 0, 1, 0}, RPKI_VERIFICATION_EXPIRED},
+        {{2026, 6, 1, 23, 59, 59, 255}, RPKI_OK},
+        {{2028, 2, 29, 0, 0, 0, 0}, RPKI_OK},
+        {{0, 1, 1, 0, 0, 0, 0}, RPKI_VERIFICATION_NOT_YET_VALID},
+        {{0, 2, 29, 0, 0, 0, 0}, RPKI_VERIFICATION_NOT_YET_VALID},
+        {{2000, 2, 29, 0, 0, 0, 0}, RPKI_VERIFICATION_NOT_YET_VALID},
+        {{9999, 12, 31, 23, 59, 59, 0}, RPKI_VERIFICATION_EXPIRED},
+        {{10000, 1, 1, 0, 0, 0, 0}, RPKI_BAD_CALL},
+        {{65535, 1, 1, 0, 0, 0, 0}, RPKI_BAD_CALL},
+        {{2026, 0, 1, 0, 0, 0, 0}, RPKI_BAD_CALL},
+        {{2026, 13, 1, 0, 0, 0, 0}, RPKI_BAD_CALL},
+        {{2026, 255, 1, 0, 0, 0, 0}, RPKI_BAD_CALL},
+        {{2026, 6, 0, 0, 0, 0, 0}, RPKI_BAD_CALL},
+        {{2026, 6, 31, 0, 0, 0, 0}, RPKI_BAD_CALL},
+        {{2026, 7, 32, 0, 0, 0, 0}, RPKI_BAD_CALL},
+        {{2026, 2, 29, 0, 0, 0, 0}, RPKI_BAD_CALL},
+        {{2100, 2, 29, 0, 0, 0, 0}, RPKI_BAD_CALL},
+        {{2026, 6, 1, 24, 0, 0, 0}, RPKI_BAD_CALL},
+        {{2026, 6, 1, 0, 60, 0, 0}, RPKI_BAD_CALL},
+        {{2026, 6, 1, 23, 59, 60, 0}, RPKI_BAD_CALL},
+    };
+    for (size_t i = 0; i < sizeof cases / sizeof *cases; i++) {
+        struct rpki_verdict out = {7, 7, 7, 7, 7};
+        size_t length = anchor.length;
+        uint8_t yes = 1;
+        const struct rpki_time *at = &cases[i].at;
+        check(judge(anchor.octets, length, &length, 1, RPKI_AUTHORITY, at, &out) == cases[i].wanted
+                  && out.fault == cases[i].wanted && out.index == 0
+                  && out.v4 == (cases[i].wanted == RPKI_OK),
+              "a moment at an end");
+        check(rpki_path_validate_said(anchor.octets, length, &length, 1, RPKI_AUTHORITY, &yes, 1, 0,
+                                      at, NULL, 0, NULL, 0, NULL, 0, &out)
+                  == cases[i].wanted,
+              "a moment at an end, with the caller's answer");
+        check(rpki_path_validate_with(NULL, 0, NULL, 0, NULL, 0, NULL, 0, anchor.octets, length,
+                                      &length, 1, RPKI_AUTHORITY, 1, at, NULL, 0, NULL, 0, NULL, 0,
+                                      &out)
+                  == cases[i].wanted,
+              "a moment at an end, with lists");
+    }
+}
+
+/* ---- paths */
+
+/* two files, one behind the other */
+static struct file both(struct file one, struct file two) {
+    struct file it = {malloc(one.length + two.length), one.length + two.length};
+    memcpy(it.octets, one.octets, one.length);
+    memcpy(it.octets + one.length, two.octets, two.length);
+    return it;
+}
+
+/* lengths that add up, also where some are 0, and lengths that don't; kinds that are none */
+static void lengths(struct file anchor, struct file first) {
+    struct rpki_verdict out;
+    struct file path = both(anchor, first);
+    const size_t a = anchor.length, f = first.length, all = path.length;
+    static const uint32_t no_kinds[] = {0, 5, 6, 255, 256, 0x80000000, UINT32_MAX};
+    for (size_t i = 0; i < sizeof no_kinds / sizeof *no_kinds; i++)
+        check(judge(path.octets, all, (size_t[]){a, f}, 2, no_kinds[i], &now, &out) == RPKI_BAD_CALL,
+              "the last member is of no such kind");
+    for (uint32_t last = 1; last < 5; last++) {
+        check(judge(NULL, 0, NULL, 0, last, &now, &out) == RPKI_BAD_CALL, "no members");
+        check(judge(anchor.octets, a, (size_t[]){a}, 1, last, &now, &out)
+                  == (last == RPKI_AUTHORITY ? RPKI_OK : RPKI_BAD_CALL),
+              "the anchor alone is an authority, and no leaf");
+        check(judge(path.octets, all, (size_t[]){a, f + 1}, 2, last, &now, &out) == RPKI_BAD_CALL
+                  && judge(path.octets, all, (size_t[]){a, f - 1}, 2, last, &now, &out)
+                      == RPKI_BAD_CALL
+                  && judge(path.octets, all, (size_t[]){SIZE_MAX, all + 1}, 2, last, &now, &out)
+                      == RPKI_BAD_CALL
+                  && judge(path.octets, all, (size_t[]){all, SIZE_MAX}, 2, last, &now, &out)
+                      == RPKI_BAD_CALL
+                  && judge(path.octets, all, NULL, 0, last, &now, &out) == RPKI_BAD_CALL
+                  && judge(NULL, 0, (size_t[]){1}, 1, last, &now, &out) == RPKI_BAD_CALL,
+              "lengths that don't add up");
+        check(is_decoding(judge(path.octets, a, (size_t[]){a, 0}, 2, last, &now, &out))
+                  && out.index == 1 && is_decoding(out.fault),
+              "an empty last member");
+        check(is_decoding(judge(path.octets, a, (size_t[]){0, a}, 2, last, &now, &out))
+                  && out.index == 0,
+              "an empty anchor");
+        check(is_decoding(judge(path.octets, all, (size_t[]){a, 0, f}, 3, last, &now, &out))
+                  && out.index == 1,
+              "an empty member between two others");
+    }
+    check(is_decoding(judge(NULL, 0, (size_t[]){0}, 1, RPKI_AUTHORITY, &now, &out)) && out.index == 0,
+          "an empty anchor alone");
+    check(judge(path.octets, all, (size_t[]){a, f}, 2, RPKI_AUTHORITY, &now, &out) == RPKI_OK
+              && out.index == 0 && out.v4 == 2 && out.v6 == 1 && out.asn == 2,
+          "two members");
+    check(judge(path.octets, all, (size_t[]){all}, 1, RPKI_AUTHORITY, &now, &out) == RPKI_OK
+              && out.v4 == 1,
+          "what follows a member is ignored");
+    check(judge(path.octets, all, (size_t[]){a, f}, 2, RPKI_END_ENTITY, &now, &out)
+                  == RPKI_INSPECTION_BASIC_CONSTRAINTS_PRESENT
+              && out.index == 1 && out.v4 == 0 && out.v6 == 0 && out.asn == 0,
+          "an authority is no end entity");
+    free(path.octets);
+}
+
+/* ranges that are held: no room, less than all, more than all */
+static void held(struct file anchor, struct file first) {
+    struct file path = both(anchor, first);
+    const size_t parts[] = {anchor.length, first.length};
+    struct rpki_ip_range v4[3], v6[1];
+    struct rpki_as_range asn[1];
+    struct rpki_verdict out;
+    memset(v4, 0xa5, sizeof v4);
+    memset(v6, 0xa5, sizeof v6);
+    memset(asn, 0xa5, sizeof asn);
+    check(rpki_path_validate(path.octets, path.length, parts, 2, RPKI_AUTHORITY, 1, &now, v4, 3, v6,
+                             0, asn, 1, &out)
+                  == RPKI_OK
+              && out.v4 == 2 && out.v6 == 1 && out.asn == 2,
+          "the counts don't depend on the room");
+    check(v4[1].min[0] == 10 && v4[1].min[1] == 32 && v4[1].max[1] == 40 && v4[2].min[0] == 0xa5,
+          "two ranges of IPv4, and nothing behind them");
+    check(v6[0].min[0] == 0xa5, "nothing is written without room");
+    check(asn[0].min == 64500 && asn[0].max == 64503, "the first range of AS numbers");
+    free(path.octets);
+}
+
+/* questions: fewer and more than there are members, and of a member that is none */
+static void questions(struct file anchor, struct file first) {
+    struct file path = both(anchor, first);
+    const size_t a = anchor.length, f = first.length, all = path.length;
+    struct rpki_question out[3];
+    struct rpki_verdict verdict;
+    uint8_t yes[2] = {1, 1};
+    memset(out, 0xa5, sizeof out);
+    check(rpki_path_questions(path.octets, all, (size_t[]){a, f}, 2, out, 1) == RPKI_OK
+              && out[0].signature_at + out[0].signature_length == a
+              && out[1].key_at == 0xa5a5a5a5a5a5a5a5,
+          "room for one question");
+    check(rpki_path_questions(path.octets, all, (size_t[]){a, f}, 2, out, 3) == RPKI_OK
+              && out[1].signature_at + out[1].signature_length == all && out[1].message_at > a
+              && out[1].key_at == out[0].key_at && out[1].key_length == out[0].key_length
+              && out[2].key_at == 0xa5a5a5a5a5a5a5a5,
+          "the anchor's key signs both, and nothing is written behind the last question");
+    check(is_decoding(rpki_path_questions(path.octets, a, (size_t[]){a, 0}, 2, out, 2)),
+          "an empty member asks nothing");
+    check(rpki_path_questions(path.octets, all, (size_t[]){a, f + 1}, 2, out, 2) == RPKI_BAD_CALL
+              && rpki_path_questions(path.octets, all, (size_t[]){a}, 1, out, 2) == RPKI_BAD_CALL
+              && rpki_path_questions(path.octets, all, NULL, 0, out, 2) == RPKI_BAD_CALL,
+          "lengths of questions that don't add up");
+    for (size_t count = 0; count < 3; count++)
+        check(rpki_path_validate_said(path.octets, all, (size_t[]){a, f}, 2, RPKI_AUTHORITY, yes,
+                                      count, 1, &now, NULL, 0, NULL, 0, NULL, 0, &verdict)
+                      == (count < 2 ? RPKI_VERIFICATION_BAD_SIGNATURE : RPKI_OK)
+                  && verdict.index == (count == 1),
+              "a signature without an answer isn't good");
+    for (uint32_t answer = 0; answer < 256; answer++) {
+        yes[1] = (uint8_t)answer;
+        check((rpki_path_validate_said(path.octets, all, (size_t[]){a, f}, 2, RPKI_AUTHORITY, yes, 2,
+                                       1, &now, NULL, 0, NULL, 0, NULL, 0, &verdict)
+               == RPKI_OK)
+                  == (answer == 1),
+              "1 alone is yes");
+    }
+    free(path.octets);
+}
+
+/* asks the lists of one list, or none, about the anchor and the first authority */
+static uint32_t listed(struct file path, const size_t *parts, const uint8_t *lists,
+                       const size_t *list_lengths, size_t list_count, const char *uris,
+                       const size_t *uri_lengths, size_t uri_count, struct rpki_verdict *out) {
+    size_t lists_length = 0;
+    for (size_t i = 0; i < list_count; i++) lists_length += list_lengths[i];
+    return rpki_path_validate_with(lists, lists_length, list_lengths, list_count,
+                                   (const uint8_t *)uris, strlen(uris), uri_lengths, uri_count,
+                                   path.octets, path.length, parts, 2, RPKI_AUTHORITY, 1, &now,
+                                   NULL, 0, NULL, 0, NULL, 0, out);
+}
+
+#define LIST SITE "anchor/anchor.crl"
+#define OTHER SITE "anchor/others.crl"
+#define WEB "https://rpki.example.net/anchor.crl"
+
+/* the list of the anchor and another authority's, alone and together, and lists that are none */
+static void asked(struct file anchor, struct file first, struct file own, struct file other) {
+    struct file path = both(anchor, first), right = both(own, other), wrong = both(other, own);
+    const size_t parts[] = {anchor.length, first.length};
+    const size_t right_lengths[] = {own.length, other.length};
+    const size_t wrong_lengths[] = {other.length, own.length};
+    const size_t u = strlen(LIST), uri_lengths[] = {u, u};
+    struct rpki_verdict out;
+    check(listed(path, parts, own.octets, &own.length, 1, LIST, &u, 1, &out) == RPKI_OK
+              && out.v4 == 2,
+          "the list leaves the first authority unrevoked");
+    check(listed(path, parts, NULL, NULL, 0, "", NULL, 0, &out) == RPKI_REVOCATION_NO_CRL
+              && out.index == 1,
+          "no lists, where one is asked");
+    check(listed(path, parts, own.octets, &own.length, 1, OTHER, &u, 1, &out)
+                  == RPKI_REVOCATION_NO_CRL
+              && out.index == 1,
+          "the list under another URI");
+    check(listed(path, parts, other.octets, &other.length, 1, LIST, &u, 1, &out)
+                  == RPKI_REVOCATION_WRONG_KEY_ID
+              && out.index == 1,
+          "the list of another authority");
+    check(listed(path, parts, right.octets, right_lengths, 2, LIST LIST, uri_lengths, 2, &out)
+              == RPKI_OK,
+          "of two lists under one URI the first is asked");
+    check(listed(path, parts, wrong.octets, wrong_lengths, 2, LIST LIST, uri_lengths, 2, &out)
+              == RPKI_REVOCATION_WRONG_KEY_ID,
+          "of two lists under one URI the second isn't asked");
+    check(listed(path, parts, wrong.octets, wrong_lengths, 2, OTHER LIST, uri_lengths, 2, &out)
+              == RPKI_OK,
+          "each list under its own URI");
+    check(listed(path, parts, own.octets, &own.length, 1, LIST, NULL, 0, &out) == RPKI_BAD_CALL
+              && listed(path, parts, NULL, NULL, 0, LIST, &u, 1, &out) == RPKI_BAD_CALL
+              && listed(path, parts, own.octets, &own.length, 1, LIST LIST, uri_lengths, 2, &out)
+                  == RPKI_BAD_CALL
+              && listed(path, parts, own.octets, &own.length, 1, LIST, (size_t[]){u - 1}, 1, &out)
+                  == RPKI_BAD_CALL
+              && listed(path, parts, own.octets, &own.length, 1, LIST, (size_t[]){u + 1}, 1, &out)
+                  == RPKI_BAD_CALL,
+          "lists and URIs that don't add up");
+    check(is_decoding(listed(path, parts, own.octets, (size_t[]){own.length, 0}, 2, LIST LIST,
+                             uri_lengths, 2, &out))
+              && out.index == 3,
+          "the second list is empty");
+    check(is_decoding(listed(path, parts, first.octets, &first.length, 1, LIST, &u, 1, &out))
+              && out.index == 2,
+          "a certificate in place of a list");
+    check(listed(path, parts, right.octets, right_lengths, 2, LIST, (size_t[]){u, 0}, 2, &out)
+                  == RPKI_BAD_CALL
+              && out.index == 3,
+          "the second URI is empty");
+    check(listed(path, parts, own.octets, &own.length, 1, WEB, (size_t[]){sizeof WEB - 1}, 1,
+                 &out)
+                  == RPKI_BAD_CALL
+              && out.index == 2,
+          "a URI that isn't one of rsync");
+    free(path.octets);
+    free(right.octets);
+    free(wrong.octets);
+}
+
+/* ---- routers */
+
+static const struct rpki_time then = {2024, 1, 1, 0, 0, 0, 0};
+
+static uint32_t said(struct file path, const size_t *parts, size_t members, uint32_t last,
+                     const uint8_t *yes, size_t answers, const struct rpki_time *at,
+                     struct rpki_verdict *out) {
+    return rpki_path_validate_said(path.octets, path.length, parts, members, last, yes, answers, 1,
+                                   at, NULL, 0, NULL, 0, NULL, 0, out);
+}
+
+/* a router below an anchor of AS1 to AS10: validation.rows says what is valid there */
+static void routers(struct file anchor, struct file router, struct file trimming) {
+    struct file path = both(anchor, router), over = both(anchor, trimming);
+    const size_t parts[] = {anchor.length, router.length};
+    const size_t over_parts[] = {anchor.length, trimming.length};
+    static const uint8_t yes[] = {1, 1}, no[] = {1, 0}, neither[] = {0, 1};
+    static const struct rpki_time before = {2019, 4, 30, 23, 59, 59, 0};
+    struct rpki_as_range asn[2];
+    struct rpki_verdict out;
+    memset(asn, 0xa5, sizeof asn);
+    check(rpki_path_validate_said(path.octets, path.length, parts, 2, RPKI_ROUTER, yes, 2, 1, &then,
+                                  NULL, 0, NULL, 0, asn, 2, &out)
+                  == RPKI_OK
+              && out.v4 == 0 && out.v6 == 0 && out.asn == 1 && asn[0].min == 1 && asn[0].max == 10
+              && asn[1].min == 0xa5a5a5a5,
+          "a router is valid, and the member above it holds AS1 to AS10");
+    check(said(over, over_parts, 2, RPKI_ROUTER, yes, 2, &then, &out)
+                  == RPKI_VERIFICATION_OVERCLAIM_AS
+              && out.index == 1 && out.asn == 0,
+          "a router that overclaims");
+    check(said(path, parts, 2, RPKI_ROUTER, no, 2, &then, &out) == RPKI_VERIFICATION_BAD_SIGNATURE
+              && out.index == 1,
+          "a router's signature that isn't good");
+    check(said(path, parts, 2, RPKI_ROUTER, neither, 2, &then, &out)
+                  == RPKI_VERIFICATION_BAD_SIGNATURE
+              && out.index == 0,
+          "a router below an anchor whose signature isn't good");
+    check(said(path, parts, 2, RPKI_ROUTER, yes, 2, &before, &out)
+                  == RPKI_VERIFICATION_NOT_YET_VALID
+              && out.index == 0,
+          "a router below an anchor that isn't valid yet");
+    check(said(path, parts, 2, RPKI_END_ENTITY, yes, 2, &then, &out)
+                  == RPKI_INSPECTION_KEY_ALGORITHM
+              && out.index == 1,
+          "a router is no end entity");
+    check(said(anchor, parts, 1, RPKI_ROUTER, yes, 1, &then, &out) == RPKI_BAD_CALL,
+          "a router has a member above it");
+    check(is_decoding(said(anchor, (size_t[]){anchor.length, 0}, 2, RPKI_ROUTER, yes, 2, &then, &out))
+              && out.index == 1,
+          "an empty router");
+    check(is_decoding(said((struct file){path.octets, path.length - 1},
+                           (size_t[]){anchor.length, router.length - 1}, 2, RPKI_ROUTER, yes, 2,
+                           &then, &out))
+              && out.index == 1,
+          "a router that is cut short");
+    free(path.octets);
+    free(over.octets);
+}
+
+/* an authority as a router below authorities with real signatures, with lists and without */
+static void no_router(struct file anchor, struct file first, struct file second, struct file list) {
+    struct file above = both(anchor, first), path = both(above, second);
+    const size_t parts[] = {anchor.length, first.length, second.length};
+    const size_t u = strlen(LIST);
+    struct rpki_verdict out;
+    check(judge(path.octets, path.length, parts, 3, RPKI_ROUTER, &now, &out)
+                  == RPKI_INSPECTION_KEY_ALGORITHM
+              && out.index == 2,
+          "an authority is no router");
+    check(rpki_path_validate_with(list.octets, list.length, &list.length, 1, (const uint8_t *)LIST, u,
+                                  &u, 1, path.octets, path.length, parts, 3, RPKI_ROUTER, 1, &now,
+                                  NULL, 0, NULL, 0, NULL, 0, &out)
+                  == RPKI_INSPECTION_KEY_ALGORITHM
+              && out.index == 2,
+          "an authority is no router, where lists are asked");
+    check(rpki_path_validate_with(NULL, 0, NULL, 0, NULL, 0, NULL, 0, path.octets, path.length,
+                                  parts, 3, RPKI_ROUTER, 1, &now, NULL, 0, NULL, 0, NULL, 0, &out)
+                  == RPKI_REVOCATION_NO_CRL
+              && out.index == 1,
+          "a member above the router has no list");
+    free(above.octets);
+    free(path.octets);
+}
+
 int main(int count, char **words) {
-    if (count != 2) return 2;
+    if (count != 3) return 2;
     struct file anchor = contents(words[1], "anchor.cer"), first = contents(words[1], "first.cer");
-    struct file list = contents(words[1], "revoked.crl");
+    struct file second = contents(words[1], "second.cer"), object = contents(words[1], "object.cer");
+    struct file list = contents(words[1], "revoked.crl"), empty = contents(words[1], "first.crl");
+    struct file above = contents(words[2], "anchor-asns.der");
+    struct file router = contents(words[2], "router.der");
+    struct file trimming = contents(words[2], "router-trimming.der");
     check(rpki_abi_version() == RPKI_ABI, "the library fits the header");
     cut_short(first, list);
     more(first);
     rooms(first, list);
     members(anchor);
     stores(anchor, list);
-    free(anchor.octets);
-    free(first.octets);
-    free(list.octets);
+    numbers();
+    kinds(anchor, first, object);
+    fields(anchor, second, object);
+    ranges(anchor, second, object);
+    uris(anchor, first, object);
+    names(anchor, first, empty);
+    lists(empty, list, first);
+    moments(anchor);
+    lengths(anchor, first);
+    held(anchor, first);
+    questions(anchor, first);
+    asked(anchor, first, empty, list);
+    routers(above, router, trimming);
+    no_router(anchor, first, second, empty);
+    const struct file files[] = {anchor, first, second, object, list, empty, above, router, trimming};
+    for (size_t i = 0; i < sizeof files / sizeof *files; i++) free(files[i].octets);
     printf("%u passed, %u failed\n", passed, failed);
     return failed > 0;
 }
