@@ -48,7 +48,8 @@ pub fn issued<S: Signer, V: Verifier>(
     now: Time,
     verifier: &V,
 ) -> Result<ResourceCert, IssueCaError<S::Error>>
-    ensures { IfOk result (λ r. r.cert.signed_data.message ≡ encoding tbs) }
+    ensures fields { IfOk result (λ r. r.cert.fields ≡ tbs) }
+    ensures message { IfOk result (λ r. r.cert.signed_data.message ≡ encoding tbs) }
 {
     issue_ca(alloc, tbs, signer, key, issuer, true, now, verifier)
 }
