@@ -405,6 +405,20 @@ def lists(ta, ca1, ca2):
     yield 'ca1_bad_signature', bytes(by_other)
 
 
+def twins(ta, ca):
+    """Apart from the others: lists of one issuer with one number, which RFC 5280 5.2.3 forbids, and
+    a router's certificate with the key of a CA."""
+    anchor = ca_extensions('ta', ta, ta, 'ta', ['0.0.0.0/0'], ['::/0'], [(0, 2**32 - 1)])
+    yield 'ta.cer', certificate(ta, ta, 1, changed(anchor, aki=None, lists=None, issuer=None))
+    full = ca_extensions('ca', ca, ta, 'ta', **CA1)
+    yield 'ca.cer', certificate(ca, ta, 0x6f01, changed(full))
+    yield 'router_rsa.cer', router_certificate(ca, ta, 'ta', 0x6f02, [64496])
+    yield 'plain.crl', revocation_list(ta, 7)
+    yield 'revoking.crl', revocation_list(ta, 7, [(0x6f01, '231213120054Z')])
+    yield 'later.crl', revocation_list(ta, 7, begin='250101000000Z')
+    yield 'stale.crl', revocation_list(ta, 7, begin='230101000000Z', end='250101000000Z')
+
+
 def main():
     rsa = ('-algorithm', 'RSA', '-pkeyopt', 'rsa_keygen_bits:2048')
     curve = ('-algorithm', 'EC', '-pkeyopt', 'ec_paramgen_curve:P-256')
@@ -420,6 +434,9 @@ def main():
             (HERE / f'{name}.cer').write_bytes(octets)
         for name, octets in lists(ta, ca1, ca2):
             (HERE / f'{name}.crl').write_bytes(octets)
+        (HERE / 'twins').mkdir(exist_ok=True)
+        for name, octets in twins(*(Key(Path(room), name, *rsa) for name in ('ta', 'ca'))):
+            (HERE / 'twins' / name).write_bytes(octets)
 
 
 if __name__ == '__main__':

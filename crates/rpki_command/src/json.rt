@@ -3,6 +3,7 @@ use crate::blocks::{Family, ip_block, ip_end, is_prefix};
 use crate::page::Page;
 use crate::path::{Fault, Question, Verdict, is_list};
 use crate::places::Place;
+use crate::rules::Rule;
 use crate::{certificate, names};
 use base64::engine::general_purpose::STANDARD;
 use rpki::crypto::KeyIdentifier;
@@ -16,6 +17,14 @@ use sha2::{Digest, Sha256};
 use std::alloc::{AllocError, Global};
 
 type Members = Map<String, Value>;
+
+/// A file that is shown: its name, its octets in DER, and how many of them stand behind its object.
+#[derive(Clone, Copy)]
+pub struct Shown<'a> {
+    pub name: &'a str,
+    pub whole: &'a [u8],
+    pub left: usize,
+}
 
 fn text(out: &mut Members, alloc: Global, key: &str, value: &str) -> Result<(), AllocError> {
     let value = String::from_str(alloc, value)?;
@@ -251,8 +260,8 @@ fn keys(out: &mut Members, alloc: Global, data: &TbsCert) -> Result<(), AllocErr
     text(out, alloc, "overclaim", mode)
 }
 
-fn word(cert: &Cert, strict: bool) -> &'static str {
-    if cert.inspect_router(strict).is_ok() {
+fn word(cert: &Cert) -> &'static str {
+    if certificate::is_router(cert.as_tbs()) {
         "router_key"
     } else if cert.as_tbs().is_ca() {
         "ca_cert"
@@ -261,18 +270,27 @@ fn word(cert: &Cert, strict: bool) -> &'static str {
     }
 }
 
+// The file's name and hash, and how many octets stand behind its object, where some do.
+fn head(file: &Shown<'_>, alloc: Global) -> Result<Members, AllocError> {
+    let mut out = Map::new(alloc);
+    text(&mut out, alloc, "file", file.name)?;
+    hash(&mut out, alloc, file.whole)?;
+    if file.left > 0 {
+        let left = Value::from(file.left as u64);
+        put(&mut out, alloc, "octets_after_end", left)?;
+    }
+    Ok(out)
+}
+
 /// Makes the value of a certificate.
 pub fn certificate(
     alloc: Global,
-    file: &str,
-    whole: &[u8],
+    file: &Shown<'_>,
     cert: &Cert,
     strict: bool,
 ) -> Result<Value, AllocError> {
-    let mut out = Map::new(alloc);
-    text(&mut out, alloc, "file", file)?;
-    hash(&mut out, alloc, whole)?;
-    text(&mut out, alloc, "type", word(cert, strict))?;
+    let mut out = head(file, alloc)?;
+    text(&mut out, alloc, "type", word(cert))?;
     let data = cert.as_tbs();
     serial(&mut out, alloc, "cert_serial", data.serial_number())?;
     name(&mut out, alloc, "cert_issuer", data.issuer())?;
@@ -295,10 +313,8 @@ fn entry(alloc: Global, it: &CrlEntry) -> Result<Value, AllocError> {
 }
 
 /// Makes the value of a list.
-pub fn list(alloc: Global, file: &str, whole: &[u8], it: &Crl) -> Result<Value, AllocError> {
-    let mut out = Map::new(alloc);
-    text(&mut out, alloc, "file", file)?;
-    hash(&mut out, alloc, whole)?;
+pub fn list(alloc: Global, file: &Shown<'_>, it: &Crl) -> Result<Value, AllocError> {
+    let mut out = head(file, alloc)?;
     text(&mut out, alloc, "type", "crl")?;
     let data = it.as_cert_list();
     name(&mut out, alloc, "crl_issuer", data.issuer())?;
@@ -316,19 +332,19 @@ pub fn list(alloc: Global, file: &str, whole: &[u8], it: &Crl) -> Result<Value, 
     Ok(Value::Object(out))
 }
 
-/// Makes the value of a file that is neither: why, the field at which reading stops, and the octet
+/// Makes the value of a file that is neither: the fault and its rule, the field at which reading stops, and the octet
 /// at which that begins.
 pub fn refused(
     alloc: Global,
-    file: &str,
-    whole: &[u8],
-    why: &str,
+    file: &Shown<'_>,
+    fault: &str,
+    rule: Rule,
     place: Place,
 ) -> Result<Value, AllocError> {
-    let mut out = Map::new(alloc);
-    text(&mut out, alloc, "file", file)?;
-    hash(&mut out, alloc, whole)?;
-    text(&mut out, alloc, "fault", why)?;
+    let mut out = head(file, alloc)?;
+    text(&mut out, alloc, "fault", fault)?;
+    text(&mut out, alloc, "why", rule.says)?;
+    text(&mut out, alloc, "standard", rule.section)?;
     text(&mut out, alloc, "field", place.field)?;
     put(&mut out, alloc, "octet", Value::from(place.octet as u64))?;
     Ok(Value::Object(out))
@@ -338,7 +354,7 @@ pub fn refused(
 fn not_lists(alloc: Global, question: &Question<'_, '_>) -> Result<Value, AllocError> {
     let mut files = Vec::new(alloc);
     for object in question.lists {
-        if !is_list(alloc, object) {
+        if !is_list(alloc, object)? {
             let name = String::from_str(alloc, object.name)?;
             files.push(Value::String(name))?;
         }

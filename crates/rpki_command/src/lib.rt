@@ -6,12 +6,14 @@ mod blocks;
 mod certificate;
 mod files;
 mod json;
+mod kinds;
 mod list;
 mod moments;
 mod names;
 mod page;
 mod path;
 mod places;
+mod revocation;
 mod rules;
 mod showing;
 mod verdicts;
@@ -101,7 +103,10 @@ fn misused(rt: &impl Eprint, misuse: &Misuse<'_>) -> Result<u8> {
         Misuse::NoValue(word) => eprintln!(rt; "rpki: {word} wants a value")?,
         Misuse::NoMoment(text) => eprintln!(rt; "rpki: --at {text}: no moment")?,
         Misuse::NoFile => eprintln!(rt; "rpki: no file")?,
-        Misuse::Memory => return Ok(3),
+        Misuse::Memory => {
+            eprintln!(rt; "rpki: out of memory")?;
+            return Ok(3);
+        }
     }
     eprint!(rt; "{USAGE}")?;
     Ok(2)

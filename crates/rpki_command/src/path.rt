@@ -1,12 +1,14 @@
 //! A path of files, from a trust anchor down.
-use crate::certificate::{kind_of, serial};
-use crate::files::Object;
+
+use crate::certificate::{is_router, kind_of, serial};
+use crate::files::{Object, as_certificate, as_list};
 use crate::page::Page;
+use crate::revocation::store_of;
 use crate::rules::{Rule, of_inspection, of_path, of_revocation, of_verification};
 use bytes::Bytes;
 use rpki::crypto::RsaVerifier;
 use rpki::repository::cert::{Cert, ResourceCert};
-use rpki::repository::crl::{Crl, CrlStore};
+use rpki::repository::crl::CrlStore;
 use rpki::repository::error::ValidationError;
 use rpki::repository::path::{Leaf, PathError, validate_path, validate_path_with};
 use rpki::repository::tal::TalInfo;
@@ -39,44 +41,41 @@ pub enum Verdict {
     Rejected(Fault),
 }
 
+fn read_member(page: &mut Page, cert: &Cert, strict: bool) {
+    page.text(kind_of(cert, strict));
+    page.text(", ");
+    serial(page, cert.as_tbs().serial_number());
+    page.text(", ");
+}
+
 /// Prints a member's line: what it is by its octets, its serial number and its file.
 pub fn member(page: &mut Page, object: &Object<'_>, strict: bool) {
     page.label("Member");
-    match Cert::decode(page.alloc(), object.octets.as_slice()) {
-        Ok(cert) => {
-            page.text(kind_of(&cert, strict));
-            page.text(", ");
-            serial(page, cert.as_tbs().serial_number());
-            page.text(", ");
+    match as_certificate(page.alloc(), object) {
+        Ok(Some(cert)) => {
+            read_member(page, &cert, strict);
             drop(cert);
         }
-        Err(fault) => {
-            page.text("no certificate, ");
-            drop(fault);
-        }
+        Ok(None) => page.text("no certificate, "),
+        Err(_) => page.fail(),
     }
     page.text(object.name);
     page.end();
 }
 
-// Whether the last member is a router's, which holds no path below it.
-fn is_router(alloc: Global, octets: &Bytes, strict: bool) -> bool {
-    match Cert::decode(alloc, octets.as_slice()) {
-        Ok(cert) => {
-            let is_router = cert.inspect_router(strict).is_ok();
-            drop(cert);
-            is_router
-        }
-        Err(fault) => {
-            drop(fault);
-            false
-        }
-    }
+// Whether the last member says that it is a router's, below which no path goes.
+fn is_routers(alloc: Global, object: &Object<'_>) -> Result<bool, AllocError> {
+    let Some(cert) = as_certificate(alloc, object)? else {
+        return Ok(false);
+    };
+    let answer = is_router(cert.as_tbs());
+    drop(cert);
+    Ok(answer)
 }
 
 // What the last member is, if it is no CA.
-fn leaf_of(alloc: Global, octets: &Bytes) -> Result<Option<Leaf>, AllocError> {
-    let Ok(cert) = Cert::decode(alloc, octets.as_slice()) else {
+fn leaf_of(alloc: Global, object: &Object<'_>) -> Result<Option<Leaf>, AllocError> {
+    let Some(cert) = as_certificate(alloc, object)? else {
         return Ok(None);
     };
     let is_ca = cert.as_tbs().is_ca();
@@ -85,83 +84,23 @@ fn leaf_of(alloc: Global, octets: &Bytes) -> Result<Option<Leaf>, AllocError> {
     if is_ca {
         return Ok(None);
     }
+    let octets: Bytes = object.octets.clone()?;
     if has_object {
-        Ok(Some(Leaf::Ee(octets.clone()?)))
+        Ok(Some(Leaf::Ee(octets)))
     } else {
-        Ok(Some(Leaf::DetachedEe(octets.clone()?)))
+        Ok(Some(Leaf::DetachedEe(octets)))
     }
 }
 
 /// Returns whether a file is a revocation list.
-pub fn is_list(alloc: Global, object: &Object<'_>) -> bool {
-    match Crl::decode(alloc, object.octets.as_slice()) {
-        Ok(list) => {
+pub fn is_list(alloc: Global, object: &Object<'_>) -> Result<bool, AllocError> {
+    match as_list(alloc, object)? {
+        Some(list) => {
             drop(list);
-            true
+            Ok(true)
         }
-        Err(fault) => {
-            drop(fault);
-            false
-        }
+        None => Ok(false),
     }
-}
-
-// Stores a list under the URI where the member names its issuer's list, if the list is that issuer's.
-fn store_for(
-    alloc: Global,
-    store: &mut CrlStore,
-    member: &Cert,
-    list: Crl,
-) -> Result<(), AllocError> {
-    let data = member.as_tbs();
-    let is_issuers = data.authority_key_identifier()
-        == Some(*list.as_cert_list().authority_key_identifier());
-    let uri = match data.crl_uri() {
-        Some(uri) if is_issuers => uri.try_clone(alloc)?,
-        _ => {
-            drop(list);
-            return Ok(());
-        }
-    };
-    match store.push(uri, list) {
-        Ok(()) => Ok(()),
-        Err(pair) => {
-            drop(pair);
-            Err(AllocError)
-        }
-    }
-}
-
-// Stores each list that names the key that issued the member.
-fn store_lists_for(
-    alloc: Global,
-    store: &mut CrlStore,
-    member: &Cert,
-    lists: &[Object<'_>],
-) -> Result<(), AllocError> {
-    for object in lists {
-        match Crl::decode_shared(alloc, object.octets.clone()?) {
-            Ok(list) => store_for(alloc, store, member, list)?,
-            Err(fault) => drop(fault),
-        }
-    }
-    Ok(())
-}
-
-// The lists, each under the URI where the members below the trust anchor name it.
-fn store_of(alloc: Global, question: &Question<'_, '_>) -> Result<CrlStore, AllocError> {
-    let mut store = CrlStore::new(alloc);
-    for object in question.members.iter().skip(1) {
-        match Cert::decode_shared(alloc, object.octets.clone()?) {
-            Ok(cert) => {
-                let stored = store_lists_for(alloc, &mut store, &cert, question.lists);
-                drop(cert);
-                stored?;
-            }
-            Err(fault) => drop(fault),
-        }
-    }
-    Ok(store)
 }
 
 fn shared(alloc: Global, objects: &[Object<'_>]) -> Result<Vec<Bytes>, AllocError> {
@@ -186,7 +125,7 @@ fn split<'o, 'n>(
     let Some((last, others)) = below.split_last() else {
         return Ok((below, None));
     };
-    match leaf_of(alloc, &last.octets)? {
+    match leaf_of(alloc, last)? {
         Some(leaf) => Ok((others, Some(leaf))),
         None => Ok((below, None)),
     }
@@ -218,30 +157,21 @@ fn validated_path(
     }))
 }
 
-// What rejects a router's certificate under the CA above it.
-fn router_fault(
+// What rejects a router's certificate that is valid under the CA above it: its issuer's list.
+fn router_revocation(
     router: &Cert,
     issuer: &ResourceCert,
     store: &CrlStore,
     question: &Question<'_, '_>,
     index: usize,
 ) -> Option<Fault> {
-    let (strict, now) = (question.strict, question.now);
-    let verifier = RsaVerifier;
-    match router.validate_router_at(issuer, strict, now, &verifier) {
-        Ok(()) => {}
-        Err(fault) => {
-            let found = of_validation(&fault, index);
-            drop(fault);
-            return Some(found);
-        }
-    }
     if question.lists.is_empty() {
         return None;
     }
     let uri = router.as_tbs().crl_uri()?;
     let number = router.as_tbs().serial_number();
-    match store.check(uri, number, issuer, strict, now, &verifier) {
+    let (strict, now) = (question.strict, question.now);
+    match store.check(uri, number, issuer, strict, now, &RsaVerifier) {
         Ok(()) => None,
         Err(fault) => Some(Fault {
             index,
@@ -249,6 +179,29 @@ fn router_fault(
             name: fault.name(),
             rule: of_revocation(&fault),
         }),
+    }
+}
+
+// What rejects a router's certificate under the CA above it.
+fn router_fault(
+    router: &Cert,
+    issuer: &ResourceCert,
+    store: &CrlStore,
+    question: &Question<'_, '_>,
+    index: usize,
+) -> Result<Option<Fault>, AllocError> {
+    let (strict, now) = (question.strict, question.now);
+    match router.validate_router_at(issuer, strict, now, &RsaVerifier) {
+        Ok(()) => Ok(router_revocation(router, issuer, store, question, index)),
+        Err(fault) => {
+            let ran_out = fault.is_memory();
+            let found = of_validation(&fault, index);
+            drop(fault);
+            if ran_out {
+                return Err(AllocError);
+            }
+            Ok(Some(found))
+        }
     }
 }
 
@@ -278,46 +231,45 @@ fn router_file_fault(
     question: &Question<'_, '_>,
 ) -> Result<Option<Fault>, AllocError> {
     let index = question.members.len().saturating_sub(1);
-    match Cert::decode(alloc, object.octets.as_slice()) {
-        Ok(cert) => {
-            let fault = router_fault(&cert, issuer, store, question, index);
-            drop(cert);
-            Ok(fault)
-        }
-        Err(fault) => {
-            drop(fault);
-            Err(AllocError)
-        }
-    }
+    let Some(cert) = as_certificate(alloc, object)? else {
+        return Ok(None);
+    };
+    let fault = router_fault(&cert, issuer, store, question, index);
+    drop(cert);
+    fault
 }
 
-fn rejected(error: PathError) -> Result<Verdict, AllocError> {
-    if error.is_memory() {
-        drop(error);
-        return Err(AllocError);
-    }
-    let (step, name, rule) = of_path(&error.fault);
-    let fault = Fault {
-        index: error.index,
+fn rejected(error: PathError, members: &[Object<'_>]) -> Result<Verdict, AllocError> {
+    let index = error.index;
+    let object = match members.get(index) {
+        Some(object) if !error.is_memory() => object,
+        _ => {
+            drop(error);
+            return Err(AllocError);
+        }
+    };
+    let (step, name, rule) = of_path(&error.fault, &object.octets);
+    drop(error);
+    Ok(Verdict::Rejected(Fault {
+        index,
         step,
         name,
         rule,
-    };
-    drop(error);
-    Ok(Verdict::Rejected(fault))
+    }))
 }
 
 // The last member where it is a router's and another stands above it, and those above.
 fn without_router<'o, 'n>(
     alloc: Global,
     members: &'o [Object<'n>],
-    strict: bool,
-) -> (&'o [Object<'n>], Option<&'o Object<'n>>) {
-    match members.split_last() {
-        Some((last, others)) if !others.is_empty() && is_router(alloc, &last.octets, strict) => {
-            (others, Some(last))
-        }
-        _ => (members, None),
+) -> Result<(&'o [Object<'n>], Option<&'o Object<'n>>), AllocError> {
+    let Some((last, others)) = members.split_last() else {
+        return Ok((members, None));
+    };
+    if !others.is_empty() && is_routers(alloc, last)? {
+        Ok((others, Some(last)))
+    } else {
+        Ok((members, None))
     }
 }
 
@@ -346,17 +298,24 @@ fn with_router(
     }
 }
 
+fn judged(
+    alloc: Global,
+    question: &Question<'_, '_>,
+    store: &CrlStore,
+) -> Result<Option<Verdict>, AllocError> {
+    let (path, router) = without_router(alloc, question.members)?;
+    match validated_path(alloc, path, router.is_some(), store, question)? {
+        Some(Ok(holder)) => with_router(alloc, holder, router, store, question).map(Some),
+        Some(Err(error)) => rejected(error, question.members).map(Some),
+        None => Ok(None),
+    }
+}
+
 /// Validates a path of files with real signatures, and with the revocation lists where some are
 /// given. Gives `None` where there is no file.
 pub fn judge(alloc: Global, question: &Question<'_, '_>) -> Result<Option<Verdict>, AllocError> {
-    let store = store_of(alloc, question)?;
-    let (path, router) = without_router(alloc, question.members, question.strict);
-    let answer = validated_path(alloc, path, router.is_some(), &store, question)?;
-    let verdict = match answer {
-        Some(Ok(holder)) => with_router(alloc, holder, router, &store, question).map(Some),
-        Some(Err(error)) => rejected(error).map(Some),
-        None => Ok(None),
-    };
+    let store = store_of(alloc, question.members, question.lists)?;
+    let verdict = judged(alloc, question, &store);
     drop(store);
     verdict
 }

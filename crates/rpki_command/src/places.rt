@@ -1,9 +1,12 @@
 //! Where the reading of a file stops.
+use crate::files::unless_memory;
+use crate::kinds::Kind;
 use bytes::Bytes;
-use rpki::crypto::{KeyIdentifier, PublicKey, RpkiSignatureAlgorithm};
+use rpki::crypto::{PublicKey, RpkiSignatureAlgorithm};
 use rpki::der::{Cursor, DecodeError, tag, take_extension};
+use rpki::repository::extension::Extensions;
 use rpki::repository::x509::{Name, Serial, Time, Validity};
-use std::alloc::Global;
+use std::alloc::{AllocError, Global};
 
 /// The field at which reading stops, and the octet of the file at which that field begins.
 #[derive(Clone, Copy)]
@@ -12,14 +15,25 @@ pub struct Place {
     pub octet: usize,
 }
 
+// Why a walk through the fields ends.
+#[derive(Clone, Copy)]
+enum Stop {
+    At(Place),
+    Memory,
+}
+
+fn stop(field: &'static str, octet: usize) -> Stop {
+    Stop::At(Place { field, octet })
+}
+
 // Passes over one field, or says where it stands.
-fn past(read: Result<(), DecodeError>, field: &'static str, octet: usize) -> Result<(), Place> {
+fn past(read: Result<(), DecodeError>, field: &'static str, octet: usize) -> Result<(), Stop> {
     match read {
         Ok(()) => Ok(()),
-        Err(fault) => {
-            drop(fault);
-            Err(Place { field, octet })
-        }
+        Err(fault) => match unless_memory(fault) {
+            Ok(()) => Err(stop(field, octet)),
+            Err(_) => Err(Stop::Memory),
+        },
     }
 }
 
@@ -87,34 +101,86 @@ fn extension(row: &mut Cursor<'_>) -> Result<(), DecodeError> {
     Ok(())
 }
 
-// The extensions, each of which is well formed; what they mean isn't looked at.
-fn extensions(data: &mut Cursor<'_>, identifier: u8) -> Result<(), Place> {
+// The row of extensions inside its tags.
+fn row_of<'a>(data: &mut Cursor<'a>, identifier: u8) -> Result<Cursor<'a>, Stop> {
     let start = at(data);
     let mut outer = match data.take_value(identifier) {
         Ok(outer) => outer,
         Err(fault) => {
             drop(fault);
-            return Err(Place {
-                field: "the extensions",
-                octet: start,
-            });
+            return Err(stop("the extensions", start));
         }
     };
-    let mut row = inside(&mut outer, "the extensions")?;
-    for _ in 0..u64::MAX {
-        if row.is_empty() {
-            break;
-        }
-        let octet = at(&row);
-        past(extension(&mut row), "an extension", octet)?;
+    let row = inside(&mut outer, "the extensions")?;
+    if outer.is_empty() {
+        Ok(row)
+    } else {
+        Err(stop("the extensions", start))
     }
-    Err(Place {
-        field: "the meaning of the extensions, or what follows them",
-        octet: start,
-    })
 }
 
-fn of_certificate(alloc: Global, data: &mut Cursor<'_>) -> Result<(), Place> {
+// The extensions, each of which is well formed, may stand there, and means something.
+fn extensions(alloc: Global, row: &Cursor<'_>, is_list: bool) -> Result<(), Stop> {
+    let mut rest = row.fork();
+    while !rest.is_empty() {
+        let octet = at(&rest);
+        let (identifier, critical, mut content) = match take_extension(&mut rest) {
+            Ok(extension) => extension,
+            Err(fault) => {
+                drop(fault);
+                return Err(stop("an extension", octet));
+            }
+        };
+        let kind = Kind::of(identifier, is_list);
+        if stands_before(row, kind, is_list, octet) {
+            return Err(stop(kind.name(), octet));
+        }
+        past(kind.read(alloc, critical, &mut content), kind.name(), octet)?;
+    }
+    Ok(())
+}
+
+// Whether an extension of this kind stands before this octet.
+fn stands_before(row: &Cursor<'_>, kind: Kind, is_list: bool, octet: usize) -> bool {
+    if kind == Kind::Unknown {
+        return false;
+    }
+    let mut rest = row.fork();
+    while at(&rest) < octet {
+        match take_extension(&mut rest) {
+            Ok((identifier, _, _)) if Kind::of(identifier, is_list) == kind => return true,
+            Ok(_) => {}
+            Err(fault) => {
+                drop(fault);
+                return false;
+            }
+        }
+    }
+    false
+}
+
+// What the extensions of a certificate give together.
+fn all_extensions(alloc: Global, row: &Cursor<'_>) -> Result<(), DecodeError> {
+    let given = Extensions::from_row(alloc, row)?;
+    drop(given);
+    Ok(())
+}
+
+// Whether an extension of this kind of a list's stands in the row.
+fn has(row: &Cursor<'_>, kind: Kind) -> bool {
+    let (_, end) = row.span();
+    stands_before(row, kind, true, end)
+}
+
+fn ended(data: &Cursor<'_>) -> Result<(), Stop> {
+    if data.is_empty() {
+        Ok(())
+    } else {
+        Err(stop("what follows the extensions", at(data)))
+    }
+}
+
+fn of_certificate(alloc: Global, data: &mut Cursor<'_>) -> Result<(), Stop> {
     let octet = at(data);
     past(version(data), "the version", octet)?;
     let octet = at(data);
@@ -129,10 +195,14 @@ fn of_certificate(alloc: Global, data: &mut Cursor<'_>) -> Result<(), Place> {
     past(name(alloc, data), "the subject", octet)?;
     let octet = at(data);
     past(key(alloc, data), "the public key", octet)?;
-    extensions(data, 0xa3)
+    let octet = at(data);
+    let row = row_of(data, 0xa3)?;
+    extensions(alloc, &row, false)?;
+    past(all_extensions(alloc, &row), "the extensions", octet)?;
+    ended(data)
 }
 
-fn of_list(alloc: Global, data: &mut Cursor<'_>) -> Result<(), Place> {
+fn of_list(alloc: Global, data: &mut Cursor<'_>) -> Result<(), Stop> {
     let octet = at(data);
     past(list_version(data), "the version", octet)?;
     let octet = at(data);
@@ -145,39 +215,76 @@ fn of_list(alloc: Global, data: &mut Cursor<'_>) -> Result<(), Place> {
     past(moment(data), "next update", octet)?;
     let octet = at(data);
     past(entries(data), "the revoked certificates", octet)?;
-    extensions(data, 0xa0)
+    let octet = at(data);
+    let row = row_of(data, 0xa0)?;
+    extensions(alloc, &row, true)?;
+    if !(has(&row, Kind::AuthorityKeyIdentifier) && has(&row, Kind::CrlNumber)) {
+        return Err(stop("the extensions", octet));
+    }
+    ended(data)
 }
 
-fn inside<'a>(cursor: &mut Cursor<'a>, field: &'static str) -> Result<Cursor<'a>, Place> {
+fn inside<'a>(cursor: &mut Cursor<'a>, field: &'static str) -> Result<Cursor<'a>, Stop> {
     let octet = at(cursor);
     match cursor.take_sequence() {
         Ok(inner) => Ok(inner),
         Err(fault) => {
             drop(fault);
-            Err(Place { field, octet })
+            Err(stop(field, octet))
         }
     }
 }
 
-fn fields(alloc: Global, octets: &Bytes, is_list: bool) -> Result<(), Place> {
+// The algorithm and the signature, which follow what is signed.
+fn signature(whole: &mut Cursor<'_>) -> Result<(), Stop> {
+    let octet = at(whole);
+    past(algorithm(whole), "the algorithm of the signature", octet)?;
+    Err(stop("the signature", at(whole)))
+}
+
+fn fields(alloc: Global, octets: &Bytes, is_list: bool) -> Result<(), Stop> {
     let mut cursor = Cursor::new(octets);
     let mut whole = inside(&mut cursor, "the outer SEQUENCE")?;
     let mut data = inside(&mut whole, "what is signed")?;
     if is_list {
-        of_list(alloc, &mut data)
+        of_list(alloc, &mut data)?;
     } else {
-        of_certificate(alloc, &mut data)
+        of_certificate(alloc, &mut data)?;
     }
+    signature(&mut whole)
 }
 
 /// Tells where the reading of a file stops that is neither a certificate nor a list: the first
 /// field that has not the form that it must have.
-pub fn place_of(alloc: Global, octets: &Bytes, is_list: bool) -> Place {
+pub fn place_of(alloc: Global, octets: &Bytes, is_list: bool) -> Result<Place, AllocError> {
     match fields(alloc, octets, is_list) {
-        Err(place) => place,
-        Ok(()) => Place {
+        Err(Stop::At(place)) => Ok(place),
+        Err(Stop::Memory) => Err(AllocError),
+        Ok(()) => Ok(Place {
             field: "the signature",
             octet: 0,
-        },
+        }),
     }
+}
+
+/// Returns whether a certificate of which the extensions can be read has Certificate Policies.
+pub fn has_policy(octets: &Bytes) -> bool {
+    match policy_in(octets) {
+        Some(answer) => answer,
+        None => false,
+    }
+}
+
+// The seven fields before the extensions are passed over by their identifiers.
+fn policy_in(octets: &Bytes) -> Option<bool> {
+    let mut whole = Cursor::new(octets).take_sequence().ok()?;
+    let mut data = whole.take_sequence().ok()?;
+    let _version = data.take_value(0xa0).ok()?;
+    let _serial = data.take_value(tag::INTEGER).ok()?;
+    for _ in 0..5 {
+        let _field = data.take_sequence().ok()?;
+    }
+    let row = row_of(&mut data, 0xa3).ok()?;
+    let (_, end) = row.span();
+    Some(stands_before(&row, Kind::CertificatePolicies, false, end))
 }

@@ -1,4 +1,6 @@
 //! What a fault means for a person, and the section of the standard that it breaks.
+use crate::places::has_policy;
+use bytes::Bytes;
 use rpki::der::{DecodeError, Field};
 use rpki::repository::crl::RevocationError;
 use rpki::repository::error::{InspectionError, VerificationError};
@@ -220,8 +222,21 @@ fn section_of(field: Field) -> &'static str {
     }
 }
 
-/// Tells what a fault of reading a certificate means.
-pub fn of_reading(fault: &DecodeError) -> Rule {
+// The rule of resources whose identifiers aren't those of the policy: the fault is the same where
+// there is no policy.
+fn of_policy(octets: &Bytes) -> Rule {
+    if has_policy(octets) {
+        meaning(
+            "the resources stand under identifiers that its policy doesn't have",
+            "RFC 8360 4.2",
+        )
+    } else {
+        meaning("Certificate Policies are missing", "RFC 6487 4.8.9")
+    }
+}
+
+/// Tells what a fault of reading a certificate in these octets means.
+pub fn of_reading(fault: &DecodeError, octets: &Bytes) -> Rule {
     match fault {
         DecodeError::Missing(field) => {
             meaning(
@@ -241,10 +256,7 @@ pub fn of_reading(fault: &DecodeError) -> Rule {
         DecodeError::UnexpectedCritical(_) => {
             meaning("an unknown extension is critical", "RFC 6487 4.8")
         }
-        DecodeError::WrongResources(_) => meaning(
-            "the resources stand under identifiers that its policy doesn't have",
-            "RFC 6487 4.8.9",
-        ),
+        DecodeError::WrongResources(_) => of_policy(octets),
         _ => meaning(
             "it doesn't begin with a certificate of the profile",
             "RFC 6487 4",
@@ -252,10 +264,27 @@ pub fn of_reading(fault: &DecodeError) -> Rule {
     }
 }
 
-/// Tells of a fault of a path's member at which step it came, its name, and what it means.
-pub fn of_path(fault: &PathFault) -> (&'static str, &'static str, Rule) {
+/// Tells what a fault of reading a file means, which looks like a list, or doesn't.
+pub fn of_file(fault: &DecodeError, octets: &Bytes, is_list: bool) -> Rule {
+    if !is_list {
+        return of_reading(fault, octets);
+    }
     match fault {
-        PathFault::Decode(fault) => ("reading", fault.name(), of_reading(fault)),
+        DecodeError::Missing(_) => {
+            meaning("an extension that must be there is missing", "RFC 6487 5")
+        }
+        DecodeError::Duplicate(_) => meaning("an extension stands twice", "RFC 5280 4.2"),
+        DecodeError::InvalidExtension(_) => {
+            meaning("a list has no other extensions than two", "RFC 6487 5")
+        }
+        _ => meaning("it doesn't begin with a list of the profile", "RFC 6487 5"),
+    }
+}
+
+/// Tells of a fault of a path's member, which has these octets, at which step it came, its name, and what it means.
+pub fn of_path(fault: &PathFault, octets: &Bytes) -> (&'static str, &'static str, Rule) {
+    match fault {
+        PathFault::Decode(fault) => ("reading", fault.name(), of_reading(fault, octets)),
         PathFault::Inspect(fault) => ("profile", fault.name(), of_inspection(*fault)),
         PathFault::Verify(fault) => ("verification", fault.name(), of_verification(fault)),
         PathFault::Revocation(fault) => ("revocation", fault.name(), of_revocation(fault)),

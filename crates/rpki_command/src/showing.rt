@@ -1,7 +1,8 @@
 //! A file for a person or as JSON.
 use crate::files::{Form, Object, looks_like};
 use crate::page::Page;
-use crate::places::place_of;
+use crate::places::{Place, place_of};
+use crate::rules::{Rule, of_file};
 use crate::{certificate, json, list};
 use base64::engine::general_purpose::STANDARD;
 use bytes::Bytes;
@@ -33,8 +34,8 @@ fn begun(page: &mut Page, object: &Object<'_>) {
 fn ended(page: &mut Page, left: usize) {
     if left > 0 {
         page.label("After its end");
-        page.number(left as u64);
-        page.text(" octets that were not read\n");
+        page.count(left as u64, " octet", " octets");
+        page.text(" not read\n");
     }
 }
 
@@ -49,45 +50,60 @@ fn printed(page: &mut Page, made: Result<Value, AllocError>) {
     }
 }
 
+// What is said of a fault: its text, its rule, and where the reading stops.
+#[derive(Drop)]
+struct Refusal {
+    why: String,
+    rule: Rule,
+    place: Place,
+}
+
+fn refusal(alloc: Global, object: &Object<'_>, fault: &DecodeError) -> Result<Refusal, AllocError> {
+    if fault.is_memory() {
+        return Err(AllocError);
+    }
+    let is_list = looks_like(&object.octets) == Form::List;
+    let place = place_of(alloc, &object.octets, is_list)?;
+    let rule = of_file(fault, &object.octets, is_list);
+    let why = format!(in alloc; "{fault}")?;
+    Ok(Refusal { why, rule, place })
+}
+
+fn print_refusal(page: &mut Page, object: &Object<'_>, it: &Refusal) {
+    begun(page, object);
+    page.line("Fault", it.why.as_str());
+    page.label("Where");
+    page.text(it.place.field);
+    page.text(", from octet ");
+    page.number(it.place.octet as u64);
+    page.end();
+    page.line("Why", it.rule.says);
+    page.line("Standard", it.rule.section);
+}
+
 fn refused(page: &mut Page, object: &Object<'_>, fault: &DecodeError, options: &Options) {
-    let alloc = page.alloc();
-    let why = match format!(in alloc; "{fault}") {
-        Ok(why) => why,
+    let it = match refusal(page.alloc(), object, fault) {
+        Ok(it) => it,
         Err(_) => {
             page.fail();
             return;
         }
     };
-    let is_list = looks_like(&object.octets) == Form::List;
-    let place = place_of(alloc, &object.octets, is_list);
     if options.json {
-        let whole = object.octets.as_slice();
-        let made = json::refused(alloc, object.name, whole, why.as_str(), place);
+        let file = as_shown(object, 0);
+        let made = json::refused(page.alloc(), &file, it.why.as_str(), it.rule, it.place);
         printed(page, made);
     } else {
-        begun(page, object);
-        page.line("Fault", why.as_str());
-        page.label("Where");
-        page.text(place.field);
-        page.text(", from octet ");
-        page.number(place.octet as u64);
-        page.end();
+        print_refusal(page, object, &it);
     }
+    drop(it);
 }
 
-fn shown_certificate(page: &mut Page, object: &Object<'_>, cert: &Cert, options: &Options) {
-    if options.json {
-        let made = json::certificate(
-            page.alloc(),
-            object.name,
-            object.octets.as_slice(),
-            cert,
-            options.strict,
-        );
-        printed(page, made);
-    } else {
-        begun(page, object);
-        certificate::certificate(page, cert, options.now, options.strict);
+fn as_shown<'a>(object: &'a Object<'_>, left: usize) -> json::Shown<'a> {
+    json::Shown {
+        name: object.name,
+        whole: object.octets.as_slice(),
+        left,
     }
 }
 
@@ -105,9 +121,13 @@ fn whole_certificate(
     left: usize,
     options: &Options,
 ) {
-    shown_certificate(page, object, cert, options);
-    let is_person = !options.json;
-    if is_person {
+    if options.json {
+        let file = as_shown(object, left);
+        let made = json::certificate(page.alloc(), &file, cert, options.strict);
+        printed(page, made);
+    } else {
+        begun(page, object);
+        certificate::certificate(page, cert, options.now, options.strict);
         ended(page, left);
     }
 }
@@ -129,17 +149,6 @@ fn certificate_of(page: &mut Page, object: &Object<'_>, options: &Options) -> bo
     }
 }
 
-fn shown_list(page: &mut Page, object: &Object<'_>, it: &Crl, options: &Options) {
-    if options.json {
-        let made = json::list(page.alloc(), object.name, object.octets.as_slice(), it);
-        printed(page, made);
-    } else {
-        begun(page, object);
-        page.line("Kind", "revocation list");
-        list::list(page, it, options.now, options.all);
-    }
-}
-
 // The list that the octets begin with, and how many octets stand behind it.
 fn list_in(alloc: Global, octets: &Bytes) -> Result<(Crl, usize), DecodeError> {
     let mut cursor = Cursor::new(octets);
@@ -148,9 +157,13 @@ fn list_in(alloc: Global, octets: &Bytes) -> Result<(Crl, usize), DecodeError> {
 }
 
 fn whole_list(page: &mut Page, object: &Object<'_>, it: &Crl, left: usize, options: &Options) {
-    shown_list(page, object, it, options);
-    let is_person = !options.json;
-    if is_person {
+    if options.json {
+        let made = json::list(page.alloc(), &as_shown(object, left), it);
+        printed(page, made);
+    } else {
+        begun(page, object);
+        page.line("Kind", "revocation list");
+        list::list(page, it, options.now, options.all);
         ended(page, left);
     }
 }

@@ -51,11 +51,22 @@ fn accepted(page: &mut Page, holder: &ResourceCert, lists: usize) {
     as_blocks(page, "Holds AS numbers", holder.as_resources());
 }
 
+// Whether a file is a list; where memory runs out, the page fails.
+fn is_known_list(page: &mut Page, object: &Object<'_>) -> bool {
+    match is_list(page.alloc(), object) {
+        Ok(answer) => answer,
+        Err(_) => {
+            page.fail();
+            true
+        }
+    }
+}
+
 // Files given as lists that are none.
 fn no_lists(page: &mut Page, lists: &[Object<'_>]) -> bool {
     let mut well = true;
     for object in lists {
-        if !is_list(page.alloc(), object) {
+        if !is_known_list(page, object) {
             page.line("Not a list", object.name);
             well = false;
         }
@@ -63,9 +74,9 @@ fn no_lists(page: &mut Page, lists: &[Object<'_>]) -> bool {
     well
 }
 
-fn are_lists(alloc: Global, lists: &[Object<'_>]) -> bool {
+fn are_lists(page: &mut Page, lists: &[Object<'_>]) -> bool {
     for object in lists {
-        if !is_list(alloc, object) {
+        if !is_known_list(page, object) {
             return false;
         }
     }
@@ -99,7 +110,7 @@ fn as_json(page: &mut Page, question: &Question<'_, '_>, verdict: Option<&Verdic
         }
         Err(_) => page.fail(),
     }
-    are_lists(page.alloc(), question.lists) && matches!(verdict, Some(Verdict::Accepted(_)))
+    are_lists(page, question.lists) && matches!(verdict, Some(Verdict::Accepted(_)))
 }
 
 /// Validates the path and prints the verdict; tells whether the path is accepted.

@@ -1,0 +1,184 @@
+//! The kinds of extensions: their names, and whether one may stand as it stands.
+use rpki::der::{Cursor, DecodeError};
+use rpki::oid;
+use rpki::repository::extension::{
+    take_authority_information_access, take_authority_key_identifier, take_basic_constraints,
+    take_certificate_policies, take_crl_distribution_points, take_extended_key_usage,
+    take_key_usage, take_subject_information_access, take_subject_key_identifier,
+};
+use rpki::repository::resources::{AsResources, IpResources};
+use rpki::repository::x509::Serial;
+use std::alloc::Global;
+
+/// The kinds that certificates and lists know. Resources have two identifiers (RFC 8360 4.2).
+#[derive(Clone, Copy, PartialEq, Eq)]
+pub enum Kind {
+    BasicConstraints,
+    SubjectKeyIdentifier,
+    AuthorityKeyIdentifier,
+    KeyUsage,
+    ExtendedKeyUsage,
+    CrlDistributionPoints,
+    AuthorityInformationAccess,
+    SubjectInformationAccess,
+    CertificatePolicies,
+    IpResources,
+    AsResources,
+    CrlNumber,
+    /// One that certificates don't know.
+    Unknown,
+    /// One that lists may not have.
+    NoList,
+}
+
+fn of_key(identifier: &[u8]) -> Kind {
+    if identifier == oid::CE_BASIC_CONSTRAINTS {
+        Kind::BasicConstraints
+    } else if identifier == oid::CE_SUBJECT_KEY_IDENTIFIER {
+        Kind::SubjectKeyIdentifier
+    } else if identifier == oid::CE_AUTHORITY_KEY_IDENTIFIER {
+        Kind::AuthorityKeyIdentifier
+    } else if identifier == oid::CE_KEY_USAGE {
+        Kind::KeyUsage
+    } else if identifier == oid::CE_EXTENDED_KEY_USAGE {
+        Kind::ExtendedKeyUsage
+    } else {
+        of_place(identifier)
+    }
+}
+
+fn of_place(identifier: &[u8]) -> Kind {
+    if identifier == oid::CE_CRL_DISTRIBUTION_POINTS {
+        Kind::CrlDistributionPoints
+    } else if identifier == oid::PE_AUTHORITY_INFO_ACCESS {
+        Kind::AuthorityInformationAccess
+    } else if identifier == oid::PE_SUBJECT_INFO_ACCESS {
+        Kind::SubjectInformationAccess
+    } else if identifier == oid::CE_CERTIFICATE_POLICIES {
+        Kind::CertificatePolicies
+    } else {
+        of_resources(identifier)
+    }
+}
+
+fn of_resources(identifier: &[u8]) -> Kind {
+    if identifier == oid::PE_IP_ADDR_BLOCK || identifier == oid::PE_IP_ADDR_BLOCK_V2 {
+        Kind::IpResources
+    } else if identifier == oid::PE_AUTONOMOUS_SYS_IDS
+        || identifier == oid::PE_AUTONOMOUS_SYS_IDS_V2
+    {
+        Kind::AsResources
+    } else {
+        Kind::Unknown
+    }
+}
+
+fn of_list(identifier: &[u8]) -> Kind {
+    if identifier == oid::CE_AUTHORITY_KEY_IDENTIFIER {
+        Kind::AuthorityKeyIdentifier
+    } else if identifier == oid::CE_CRL_NUMBER {
+        Kind::CrlNumber
+    } else {
+        Kind::NoList
+    }
+}
+
+impl Kind {
+    /// Returns the kind that an identifier names in a list, or in a certificate.
+    pub fn of(identifier: &[u8], is_list: bool) -> Kind {
+        if is_list {
+            of_list(identifier)
+        } else {
+            of_key(identifier)
+        }
+    }
+
+    /// Returns its name, as RFC 6487 4.8 and 5 have it.
+    pub fn name(self) -> &'static str {
+        match self {
+            Kind::BasicConstraints => "Basic Constraints",
+            Kind::SubjectKeyIdentifier => "Subject Key Identifier",
+            Kind::AuthorityKeyIdentifier => "Authority Key Identifier",
+            Kind::KeyUsage => "Key Usage",
+            Kind::ExtendedKeyUsage => "Extended Key Usage",
+            Kind::CrlDistributionPoints => "CRL Distribution Points",
+            Kind::AuthorityInformationAccess => "Authority Information Access",
+            Kind::SubjectInformationAccess => "Subject Information Access",
+            Kind::CertificatePolicies => "Certificate Policies",
+            Kind::IpResources => "IP Resources",
+            Kind::AsResources => "AS Resources",
+            Kind::CrlNumber => "CRL Number",
+            Kind::Unknown | Kind::NoList => "an unknown extension",
+        }
+    }
+
+    // Whether the flag may be this one in a certificate (RFC 6487 4.8). Of resources, and in lists,
+    // it isn't tested.
+    fn may_be(self, critical: bool) -> bool {
+        match self {
+            Kind::BasicConstraints | Kind::KeyUsage | Kind::CertificatePolicies => critical,
+            Kind::IpResources | Kind::AsResources | Kind::CrlNumber => true,
+            Kind::NoList => false,
+            _ => !critical,
+        }
+    }
+
+    /// Reads an extension with this flag and this content. Fails where it has another form, and
+    /// where it may not stand; which error it is doesn't matter but for `Memory`.
+    pub fn read(
+        self,
+        alloc: Global,
+        critical: bool,
+        content: &mut Cursor<'_>,
+    ) -> Result<(), DecodeError> {
+        if self.may_be(critical) {
+            self.take(alloc, content)
+        } else {
+            Err(DecodeError::BadValue)
+        }
+    }
+
+    fn take(self, alloc: Global, content: &mut Cursor<'_>) -> Result<(), DecodeError> {
+        match self {
+            Kind::BasicConstraints => {
+                let _flag = take_basic_constraints(content)?;
+            }
+            Kind::SubjectKeyIdentifier => {
+                let _identifier = take_subject_key_identifier(content)?;
+            }
+            Kind::AuthorityKeyIdentifier => {
+                let _identifier = take_authority_key_identifier(content)?;
+            }
+            Kind::KeyUsage => {
+                let _usage = take_key_usage(content)?;
+            }
+            Kind::CertificatePolicies => {
+                let _mode = take_certificate_policies(content)?;
+            }
+            Kind::CrlNumber => {
+                let _number = Serial::take_from(content)?;
+            }
+            Kind::Unknown | Kind::NoList => {}
+            _ => return self.take_owned(alloc, content),
+        }
+        Ok(())
+    }
+
+    // Those whose values own memory.
+    fn take_owned(self, alloc: Global, content: &mut Cursor<'_>) -> Result<(), DecodeError> {
+        match self {
+            Kind::ExtendedKeyUsage => drop(take_extended_key_usage(alloc, content)?),
+            Kind::CrlDistributionPoints => drop(take_crl_distribution_points(alloc, content)?),
+            Kind::AuthorityInformationAccess => {
+                drop(take_authority_information_access(alloc, content)?);
+            }
+            Kind::SubjectInformationAccess => {
+                drop(take_subject_information_access(alloc, content)?);
+            }
+            Kind::IpResources => drop(IpResources::take_families_from(alloc, content)?),
+            Kind::AsResources => drop(AsResources::take_from(alloc, content)?),
+            _ => {}
+        }
+        Ok(())
+    }
+}
