@@ -12,7 +12,7 @@ pub use Rattle.rpki_der.specs.Identifiers
 pub use Rattle.rpki_der.specs.Serials
 pub use Rattle.rpki_der.specs.Times
 pub use Rattle.rpki_der.specs.Timestamps
-pub use Rattle.rpki_der.specs.Rows
+pub use Rattle.rpki_der.specs.Sequences
 pub use Rattle.rpki_der.specs.Folding
 pub use Rattle.rpki_der.specs.Encoding
 pub use Rattle.rpki_der.specs.Place
@@ -67,7 +67,7 @@ pub use Rattle.rpki_rsa.specs.Octets
 pub use Rattle.rpki_rsa.specs.RsaKeys
 pub use Rattle.rpki_rsa.specs.RsaSignatures
 -- ---- extensions
-pub use Rattle.rpki_ext.specs.Choosing
+pub use Rattle.rpki_ext.specs.OnlyElements
 pub use Rattle.rpki_ext.specs.Kinds
 pub use Rattle.rpki_ext.specs.KindTables
 pub use Rattle.rpki_ext.specs.GeneralNames

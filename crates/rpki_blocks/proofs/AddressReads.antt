@@ -8,10 +8,10 @@ use Rattle.rpki_der.specs.Primitives.{IsBits}
 use Rattle.rpki_der.specs.Primitives.Reading.{bits_at, octets_at}
 use Rattle.rpki_der.specs.Reading.{both, content, optional, Reads, ReadsWhole, Both, Inside, Optional, ReadsBefore, Anything}
 use Rattle.rpki_der.specs.Values.Reading.{◌>>=◌}
-use Rattle.rpki_der.specs.Rows.Reading.{Shrinks}
+use Rattle.rpki_der.specs.Sequences.Reading.{Shrinks}
 use Rattle.rpki_der.specs.Encoding.{BeginsOther}
 use Rattle.rpki_der.specs.Choices.{Either}
-use Rattle.rpki_der.specs.Choices.{turned, Turned, followed, Followed, whole, content_or, optional_of}
+use Rattle.rpki_der.specs.Choices.{conversion, IsConversion, followed, Followed, whole, content_or, optional_of}
 use Rattle.rpki_der.specs.Tags.{BIT_STRING, OCTET_STRING, SEQUENCE}
 use Rattle.rpki_der.proofs.Octets.{some_is, unless_some, nothing}
 use Rattle.rpki_der.proofs.Readings.{before, whole_before, both_before, followed_reads, whole_reads}
@@ -31,19 +31,19 @@ use Rattle.rpki_blocks.proofs.UnionReads.{choice_reads, ordered_is, is_ordered, 
 
 -- ---- one address, or the first bits of some
 
-address_is : (bits : ℕ) (r : Block) (b : List ℕ) → Turned (prefix_of bits) IsBits r b → IsIPAddress bits r b
+address_is : (bits : ℕ) (r : Block) (b : List ℕ) → IsConversion (prefix_of bits) IsBits r b → IsIPAddress bits r b
 address_is bits r b s =
     let g = unless_some (ltb bits (8 * length s.0.1)) (record { min = lower s.0.1; max = upper s.0.0 s.0.1 }) r s.2 in
     record { unused = s.0.0; octets = s.0.1; encoded = s.1; fits = ltb-false _ _ g.0; is = sym g.1 }
 
-is_address : (bits : ℕ) (r : Block) (b : List ℕ) → IsIPAddress bits r b → Turned (prefix_of bits) IsBits r b
+is_address : (bits : ℕ) (r : Block) (b : List ℕ) → IsIPAddress bits r b → IsConversion (prefix_of bits) IsBits r b
 is_address bits r b s = ((s.unused, s.octets), s.encoded, rw (le-ltb bits (8 * length s.octets) s.fits, s.is) refl)
 
 -- an IPAddress is read as it is encoded
 pub address_reads : (family : Family) → Reads (address_at family) (IsIPAddress (family_bits family))
 unfolding address_at
 address_reads family =
-    same_reads (turned (prefix_of (family_bits family)) bits_at) (Turned (prefix_of (family_bits family)) IsBits) (IsIPAddress (family_bits family))
+    same_reads (conversion (prefix_of (family_bits family)) bits_at) (IsConversion (prefix_of (family_bits family)) IsBits) (IsIPAddress (family_bits family))
     (turned_reads (prefix_of (family_bits family)) bits_at IsBits bits_reads)
     (λ r text s. address_is (family_bits family) r text s)
     (λ r text s. is_address (family_bits family) r text s)
@@ -54,7 +54,7 @@ abbrev spanned : Block × Block → Option Block
 spanned p = ordered p.0.min p.1.max
 
 abbrev IpRange : ℕ → Block → List ℕ → Type 0
-IpRange bits = Turned spanned (Both (IsIPAddress bits) (IsIPAddress bits))
+IpRange bits = IsConversion spanned (Both (IsIPAddress bits) (IsIPAddress bits))
 
 range_is : (bits : ℕ) (r : Block) (b : List ℕ) → Inside SEQUENCE (IpRange bits) r b → IsIPAddressOrRange bits r b
 range_is bits r b (content, ((low, high), (from, to, low_is, high_is, parts), span), sequence) =
@@ -76,7 +76,7 @@ ip_element_reads family =
     let R = IpRange (family_bits family) in
     same_reads (content_or SEQUENCE (address_range family) (address_at family)) (Either (Inside SEQUENCE R) A) (IsIPAddressOrRange (family_bits family))
     (content_or_reads SEQUENCE (address_range family) (address_at family) R A
-    (whole_reads (turned spanned (both (address_at family) (address_at family))) R
+    (whole_reads (conversion spanned (both (address_at family) (address_at family))) R
     (turned_reads spanned (both (address_at family) (address_at family)) (Both A A) (both_reads (address_at family) (address_at family) A A (address_reads family) (address_reads family))))
     (address_reads family)
     (λ r text rest s. let b = enc_begins BIT_STRING _ text s.encoded.enc in other_tag SEQUENCE BIT_STRING text rest b.0 b.1 (λ e. absurd (omega arith))))
@@ -104,10 +104,10 @@ abbrev kept : Family → Resources → Option (Family × Resources)
 kept family r = Some (family, r)
 
 abbrev Named : Family → List ℕ → Type 0
-Named = Turned family_of (IsEnc OCTET_STRING)
+Named = IsConversion family_of (IsEnc OCTET_STRING)
 
 abbrev FamilyContent : Family × Resources → List ℕ → Type 0
-FamilyContent = Followed Named (λ family. Turned (kept family) (Choice family))
+FamilyContent = Followed Named (λ family. IsConversion (kept family) (Choice family))
 
 named : (c : List ℕ) (family : Family) → family_of c ≡ Some family → c ≡ 0 ∷ number family ∷ []
 named [] family e = nothing family e
@@ -159,8 +159,8 @@ is_family x b s = (
 family_in_reads : ReadsWhole family_in FamilyContent
 unfolding family_in
 family_in_reads =
-    whole_reads (followed (turned family_of octets_at) of_family) FamilyContent
-    (followed_reads (turned family_of octets_at) of_family Named (λ family. Turned (kept family) (Choice family))
+    whole_reads (followed (conversion family_of octets_at) of_family) FamilyContent
+    (followed_reads (conversion family_of octets_at) of_family Named (λ family. IsConversion (kept family) (Choice family))
     (turned_reads family_of octets_at (IsEnc OCTET_STRING) octets_reads)
     (λ family. turned_reads (kept family) (choice_at (ip_element_at family)) (Choice family)
     (choice_reads (ip_element_at family) (IsIPAddressOrRange (family_bits family)) (ip_element_reads family) (ip_element_shrinks family))))
@@ -193,7 +193,7 @@ paired p = with_second p.0.0 p.0.1 p.1
 abbrev OneOrTwo : (Family × Resources) × Option (Family × Resources) → List ℕ → Type 0
 OneOrTwo = Both IsFamily (Optional IsFamily)
 
-families_are : (f : Families) (pieces : List (List ℕ)) → AreFamilies f pieces → Turned paired OneOrTwo f (concat pieces)
+families_are : (f : Families) (pieces : List (List ℕ)) → AreFamilies f pieces → IsConversion paired OneOrTwo f (concat pieces)
 families_are f [] h = elim h [ ]
 families_are f (a ∷ []) h =
     elim h [
@@ -215,7 +215,7 @@ families_in_reads =
     let second : ReadsBefore (BeginsOther SEQUENCE) (optional_of SEQUENCE family_in) (Optional IsFamily) =
     subst (λ (g : List ℕ → Option (Option (Family × Resources) × List ℕ)). ReadsBefore (BeginsOther SEQUENCE) g (Optional IsFamily)) same
     (optional_before SEQUENCE (content SEQUENCE family_in) IsFamily family_reads (λ x text s. enc_begins SEQUENCE _ text s.sequence)) in
-    same_whole (λ c. whole (both (content SEQUENCE family_in) (optional_of SEQUENCE family_in)) c >>= paired) (Turned paired OneOrTwo) Pieces
+    same_whole (λ c. whole (both (content SEQUENCE family_in) (optional_of SEQUENCE family_in)) c >>= paired) (IsConversion paired OneOrTwo) Pieces
     (turned_whole paired (whole (both (content SEQUENCE family_in) (optional_of SEQUENCE family_in))) OneOrTwo (whole_before (BeginsOther SEQUENCE) (both (content SEQUENCE family_in) (optional_of SEQUENCE family_in)) OneOrTwo tt
     (both_before (BeginsOther SEQUENCE) Anything (content SEQUENCE family_in) (optional_of SEQUENCE family_in) IsFamily (Optional IsFamily) (before Anything (content SEQUENCE family_in) IsFamily family_reads) second (λ y text rest s follows. tt))))
     (λ f c s. let p = second_is s.0.0 s.0.1 f s.1.0 s.1.1 s.1.2 s.1.3 s.2 in (p.0, p.1, s.1.4 ∙ p.2))

@@ -7,7 +7,7 @@ use Rattle.std.proofs.lemmas.List.Sorted.{list_any-IsPermutation}
 use Rattle.rpki_blocks.specs.Sets.{Block, is_within, is_in, IsChain, AreUpTo, IsSet, HaveSameNumbers}
 use Rattle.rpki_blocks.specs.Pairs.{IsJoin}
 use Rattle.rpki_blocks.proofs.Sets.{in_head, in_tail, in_cases}
-use Rattle.rpki_blocks.proofs.Walks.{in_append_cases, in_append_left, in_append_right, in_one, drop_read}
+use Rattle.rpki_blocks.proofs.ChainWalks.{in_append_cases, in_append_left, in_append_right, in_one, drop_read}
 
 -- the last block of a chain may be replaced by one with its lower end
 pub replaced : (bs : List Block) (a b : Block) → IsChain (bs ++ a ∷ []) → b.min ≡ a.min → b.min ≤ b.max → IsChain (bs ++ b ∷ [])

@@ -6,7 +6,7 @@ use Rattle.std.proofs.Common.{◌≡◌, ℕ, ◌^◌, ◌-◌, ◌<◌, ◌≤�
 use Rattle.std.proofs.lemmas.Bool.{eqb-true, and_parts}
 use Rattle.std.proofs.lemmas.List.{append-nil}
 use Rattle.std.proofs.lemmas.Option.{same_Some}
-use Rattle.rpki_der.specs.Rows.{IsRow}
+use Rattle.rpki_der.specs.Sequences.{AreEncodings}
 use Rattle.rpki_der.specs.Primitives.{number}
 use Rattle.rpki_der.specs.Values.{sequence, nested, sequence_of_some}
 use Rattle.rpki_der.specs.Tags.{SEQUENCE, OCTET_STRING, CONTEXT_CONSTRUCTED}
@@ -96,8 +96,8 @@ fits_v4 (blocks bs) f v = let g = fits (2 ^ 128 - 1) (blocks bs) f in (g.0, g.1,
 abbrev pub Writes : (Block → Type 0) → (Block → List ℕ) → (Block → List ℕ → Type 0) → Type 0
 Writes P write element = (b : Block) → P b → Short (write b) → element b (write b)
 
--- what is written of blocks, one after the other, is a row of them
-pub elements_made : (P : Block → Type 0) (write : Block → List ℕ) (element : Block → List ℕ → Type 0) → Writes P write element → (bs : List Block) → AllByRecursion P bs → AllByRecursion Short (map write bs) → IsRow element bs (concat (map write bs))
+-- what is written of blocks, one after the other, is a sequence of them
+pub elements_made : (P : Block → Type 0) (write : Block → List ℕ) (element : Block → List ℕ → Type 0) → Writes P write element → (bs : List Block) → AllByRecursion P bs → AllByRecursion Short (map write bs) → AreEncodings element bs (concat (map write bs))
 elements_made P write element w [] f s = refl
 elements_made P write element w (b ∷ bs) f s = (write b, concat (map write bs), w b f.0 s.0, elements_made P write element w bs f.1 s.1, refl)
 

@@ -4,9 +4,9 @@ use Rattle.rpki_der.specs.Values.{IsEnc}
 use Rattle.rpki_der.specs.Primitives.{IsU32}
 use Rattle.rpki_der.specs.Primitives.Reading.{u32_at}
 use Rattle.rpki_der.specs.Reading.{inside, both, Reads, Both, Inside}
-use Rattle.rpki_der.specs.Rows.Reading.{Shrinks}
+use Rattle.rpki_der.specs.Sequences.Reading.{Shrinks}
 use Rattle.rpki_der.specs.Choices.{Either}
-use Rattle.rpki_der.specs.Choices.{turned, Turned, content_or}
+use Rattle.rpki_der.specs.Choices.{conversion, IsConversion, content_or}
 use Rattle.rpki_der.specs.Tags.{INTEGER, SEQUENCE, CONTEXT_CONSTRUCTED}
 use Rattle.rpki_der.proofs.Octets.{some, some_is}
 use Rattle.rpki_der.proofs.Readings.{both_reads, inside_reads, same_reads, whole_reads}
@@ -23,7 +23,7 @@ abbrev between : ℕ × ℕ → Option Block
 between p = ordered p.0 p.1
 
 abbrev AsRange : Block → List ℕ → Type 0
-AsRange = Turned between (Both IsU32 IsU32)
+AsRange = IsConversion between (Both IsU32 IsU32)
 
 range_is : (r : Block) (b : List ℕ) → Inside SEQUENCE AsRange r b → IsASIdOrRange r b
 range_is r b (content, ((low, high), (from, to, from_is, to_is, parts), span), sequence) =
@@ -39,14 +39,14 @@ range_is r b (content, ((low, high), (from, to, from_is, to_is, parts), span), s
       ordered = omega arith;
     })
 
-id_is : (r : Block) (b : List ℕ) → Turned single IsU32 r b → IsASIdOrRange r b
+id_is : (r : Block) (b : List ℕ) → IsConversion single IsU32 r b → IsASIdOrRange r b
 id_is r b s =
     let same = some_is (record { min = s.0; max = s.0 }) r s.2 in
     let min : s.0 ≡ r.min = ap (λ (x : Block). x.min) same in
     let max : s.0 ≡ r.max = ap (λ (x : Block). x.max) same in
     inr (sym min ∙ max, subst (λ (n : ℕ). IsU32 n b) min s.1)
 
-is_element : (r : Block) (b : List ℕ) → IsASIdOrRange r b → Either (Inside SEQUENCE AsRange) (Turned single IsU32) r b
+is_element : (r : Block) (b : List ℕ) → IsASIdOrRange r b → Either (Inside SEQUENCE AsRange) (IsConversion single IsU32) r b
 is_element r b h =
     elim h [
       | inl s ↦ inl (s.from ++ s.to, ((r.min, r.max), (s.from, s.to, s.from_is, s.to_is, refl), is_ordered r.min r.max r s.ordered refl), pieces_two s.from s.to b s.sequence)
@@ -56,9 +56,9 @@ is_element r b h =
 as_element_reads : Reads as_element_at IsASIdOrRange
 unfolding as_element_at
 as_element_reads =
-    same_reads (content_or SEQUENCE as_range_of as_id) (Either (Inside SEQUENCE AsRange) (Turned single IsU32)) IsASIdOrRange
-    (content_or_reads SEQUENCE as_range_of as_id AsRange (Turned single IsU32)
-    (whole_reads (turned between (both u32_at u32_at)) AsRange
+    same_reads (content_or SEQUENCE as_range_of as_id) (Either (Inside SEQUENCE AsRange) (IsConversion single IsU32)) IsASIdOrRange
+    (content_or_reads SEQUENCE as_range_of as_id AsRange (IsConversion single IsU32)
+    (whole_reads (conversion between (both u32_at u32_at)) AsRange
     (turned_reads between (both u32_at u32_at) (Both IsU32 IsU32) (both_reads u32_at u32_at IsU32 IsU32 u32_reads u32_reads)))
     (turned_reads single u32_at IsU32 u32_reads)
     (λ r text rest s. let b = enc_begins INTEGER _ text s.1.number.enc in other_tag SEQUENCE INTEGER text rest b.0 b.1 (λ e. absurd (omega arith))))

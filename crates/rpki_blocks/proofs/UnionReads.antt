@@ -5,11 +5,11 @@ use Rattle.std.proofs.lemmas.List.{append-nil}
 use Rattle.rpki_der.specs.Values.{IsEnc, IsSequence}
 use Rattle.rpki_der.specs.Primitives.{IsNull}
 use Rattle.rpki_der.specs.Primitives.Reading.{null_at}
-use Rattle.rpki_der.specs.Rows.{IsRow}
-use Rattle.rpki_der.specs.Rows.Reading.{row_of, Shrinks}
+use Rattle.rpki_der.specs.Sequences.{AreEncodings}
+use Rattle.rpki_der.specs.Sequences.Reading.{row_of, Shrinks}
 use Rattle.rpki_der.specs.Reading.{Reads, Inside}
 use Rattle.rpki_der.specs.Choices.{Either}
-use Rattle.rpki_der.specs.Choices.{Turned, content_or}
+use Rattle.rpki_der.specs.Choices.{IsConversion, content_or}
 use Rattle.rpki_der.specs.Tags.{SEQUENCE, NULL}
 use Rattle.rpki_der.proofs.Octets.{some, some_is, unless_some}
 use Rattle.rpki_der.proofs.Readings.{same_reads}
@@ -30,7 +30,7 @@ abbrev inherited : Unit {0} → Option Resources
 inherited u = Some inherit
 
 module _ (element : List ℕ → Option (Block × List ℕ)) (S : Block → List ℕ → Type 0) where
-  choice_is : (r : Resources) (b : List ℕ) → Either (Inside SEQUENCE (Turned listed_of (IsRow S))) (Turned inherited IsNull) r b → IsResourceChoice S r b
+  choice_is : (r : Resources) (b : List ℕ) → Either (Inside SEQUENCE (IsConversion listed_of (AreEncodings S))) (IsConversion inherited IsNull) r b → IsResourceChoice S r b
   choice_is r b h =
       elim h [
         | inl s ↦ inl (record {
@@ -41,7 +41,7 @@ module _ (element : List ℕ → Option (Block × List ℕ)) (S : Block → List
         | inr s ↦ inr (sym (some_is inherit r s.2), s.1)
       ]
 
-  is_choice : (r : Resources) (b : List ℕ) → IsResourceChoice S r b → Either (Inside SEQUENCE (Turned listed_of (IsRow S))) (Turned inherited IsNull) r b
+  is_choice : (r : Resources) (b : List ℕ) → IsResourceChoice S r b → Either (Inside SEQUENCE (IsConversion listed_of (AreEncodings S))) (IsConversion inherited IsNull) r b
   is_choice r b h =
       elim h [
         | inl s ↦ inl (s.encoded.content, (s.elements, s.encoded.content_is, ap some (sym (union_is s.elements r s.union))), s.encoded.enc)
@@ -52,9 +52,9 @@ module _ (element : List ℕ → Option (Block × List ℕ)) (S : Block → List
   pub choice_reads : Reads element S → Shrinks element → Reads (choice_at element) (IsResourceChoice S)
   unfolding choice_at
   choice_reads law less =
-      same_reads (content_or SEQUENCE (union_of element) inherit_at) (Either (Inside SEQUENCE (Turned listed_of (IsRow S))) (Turned inherited IsNull)) (IsResourceChoice S)
-      (content_or_reads SEQUENCE (union_of element) inherit_at (Turned listed_of (IsRow S)) (Turned inherited IsNull)
-      (turned_whole listed_of (row_of element) (IsRow S) (row_reads element S law less))
+      same_reads (content_or SEQUENCE (union_of element) inherit_at) (Either (Inside SEQUENCE (IsConversion listed_of (AreEncodings S))) (IsConversion inherited IsNull)) (IsResourceChoice S)
+      (content_or_reads SEQUENCE (union_of element) inherit_at (IsConversion listed_of (AreEncodings S)) (IsConversion inherited IsNull)
+      (turned_whole listed_of (row_of element) (AreEncodings S) (row_reads element S law less))
       (turned_reads inherited null_at IsNull null_reads)
       (λ r text rest s. other_tag SEQUENCE NULL text rest (0 ∷ []) s.1 (λ e. absurd (omega arith))))
       choice_is is_choice

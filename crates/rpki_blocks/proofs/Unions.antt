@@ -2,12 +2,12 @@
 use Rattle.std.proofs.Common.{◌≡◌, ℕ, ◌+◌, ◌<◌, ◌≤◌, ltb, min, max, true, List, [], ◌∷◌, ◌++◌, Option, Some, None, refl, sym, ap, ◌∙◌, arith, inl, inr}
 use Rattle.std.proofs.lemmas.Bool.{cases_Bool, cases_lt, ltb-true, ltb-false}
 use Rattle.std.specs.Cmp.{both_ways}
-use Rattle.rpki_der.specs.Rows.Reading.{row_of}
+use Rattle.rpki_der.specs.Sequences.Reading.{row_of}
 use Rattle.rpki_blocks.specs.Sets.{Block, is_in, IsChain, HaveSameNumbers}
 use Rattle.rpki_blocks.specs.Resources.{Resources, listed}
 use Rattle.rpki_blocks.specs.Unions.{IsUnion}
 use Rattle.rpki_blocks.specs.Unions.Reading.{added, merged, union_of}
-use Rattle.rpki_blocks.proofs.Walks.{in_append_cases, in_append_left, in_append_right}
+use Rattle.rpki_blocks.proofs.ChainWalks.{in_append_cases, in_append_left, in_append_right}
 use Rattle.rpki_blocks.proofs.Sets.{in_head, in_tail, in_cases, chain_head, chain_tail, one_chain}
 
 -- the first block begins past this number
@@ -174,7 +174,7 @@ union_is bs r u = u.is ∙ ap listed (chain_is_merged u.chain bs u.is_chain u.sa
 pub listed_merged : (chain bs : List Block) (r : Resources) → IsChain chain → HaveSameNumbers chain bs → r ≡ listed chain → listed (merged bs) ≡ r
 listed_merged chain bs r p e is = ap listed (sym (chain_is_merged chain bs p e)) ∙ sym is
 
--- ---- blocks that were merged while a row was read
+-- ---- blocks that were merged while a sequence was read
 
 -- a block more keeps numbers the same
 pub same_more : (bs cs : List Block) (b : Block) → HaveSameNumbers bs cs → HaveSameNumbers (bs ++ b ∷ []) (cs ++ b ∷ [])
@@ -192,10 +192,10 @@ pub merged_one : (bs cs : List Block) → HaveSameNumbers bs cs → merged bs �
 merged_one bs cs e = one_chain (merged bs) (merged cs) (merged_chain bs) (merged_chain cs) (λ n. merged_same bs n ∙ e n ∙ sym (merged_same cs n))
 
 module _ (element : List ℕ → Option (Block × List ℕ)) (octets : List ℕ) where
-  -- the union of a row is that of blocks with its elements' numbers
+  -- the union of a sequence is that of blocks with its elements' numbers
   pub union_same : (elements blocks : List Block) → row_of element octets ≡ Some elements → HaveSameNumbers blocks elements → union_of element octets ≡ Some (listed (merged blocks))
   union_same elements blocks row same = rw row (ap (λ (bs : List Block). Some (listed bs)) (merged_one elements blocks (λ n. sym (same n))))
 
-  -- what is no row has no union
+  -- what is no sequence has no union
   pub union_none : row_of element octets ≡ None → union_of element octets ≡ None
   union_none none = rw none refl

@@ -1,7 +1,7 @@
 -- What an IPAddressChoice or an ASIdentifierChoice lists (RFC 3779 2.2.3.4, 3.2.3.2).
 use Rattle.std.specs.Prelude.{◌≡◌, ℕ, ◌⊎◌, List, [], map, Option, Some, None}
 use Rattle.rpki_der.specs.Primitives.{null}
-use Rattle.rpki_der.specs.Rows.{IsRow}
+use Rattle.rpki_der.specs.Sequences.{AreEncodings}
 use Rattle.rpki_der.specs.Values.{IsSequenceOf, sequence}
 use Rattle.rpki_blocks.specs.Sets.{Block, IsChain, HaveSameNumbers}
 use Rattle.rpki_blocks.specs.Resources.{Resources, missing, inherit, blocks, listed}
@@ -21,7 +21,7 @@ IsInherit r b = (r ≡ inherit) × (b ≡ null)
 -- addressesOrRanges SEQUENCE OF IPAddressOrRange, or asIdsOrRanges SEQUENCE OF ASIdOrRange
 pub record IsUnionOf (element : Block → List ℕ → Type 0) (r : Resources) (b : List ℕ) : Type 0 where
   pub elements : List Block
-  pub encoded : IsSequenceOf (IsRow element) elements b
+  pub encoded : IsSequenceOf (AreEncodings element) elements b
   pub union : IsUnion elements r
 
 -- IPAddressChoice ::= CHOICE {   (RFC 3779 2.2.3.4)

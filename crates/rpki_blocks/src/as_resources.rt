@@ -1,6 +1,6 @@
 //! The AS numbers that a certificate lists (RFC 3779 3.2.3).
 ghost use Rattle.std.specs.Prelude.{◌≡◌, ◌^◌, Some};
-ghost use Rattle.rpki_der.specs.Place.{Place, left, Keeps, AnswersOrMemory};
+ghost use Rattle.rpki_der.specs.Place.{Place, remaining, Keeps, AnswersOrMemory};
 ghost use Rattle.rpki_der.specs.Place.Reading.{Took, TookOrMemory, Returns};
 ghost use Rattle.rpki_der.specs.Tags.{INTEGER, SEQUENCE};
 ghost use Rattle.rpki_der.specs.Values.{AreOctets};
@@ -22,7 +22,7 @@ struct AsNumbers;
 // A range of a whole content.
 #[inline(always)]
 fn range_in(mut content: Cursor<'_>) -> Result<AsBlock, DecodeError>
-    ensures { Returns result (as_range_of (left content.entry)) }
+    ensures { Returns result (as_range_of (remaining content.entry)) }
 {
     let low = content.take_u32()?;
     let high = content.take_u32()?;
@@ -77,7 +77,7 @@ impl AsResources {
     fn read_from(alloc: Global, cursor: &mut Cursor<'_>) -> Result<AsResources, DecodeError>
         ensures reads { TookOrMemory as_identifiers_at cursor.old result cursor.new }
         ensures keeps { Keeps result cursor.old cursor.new }
-        ensures octets { AreOctets (left cursor.old) }
+        ensures octets { AreOctets (remaining cursor.old) }
     {
         let mut ahead = cursor.fork();
         let mut content = ahead.take_sequence()?;

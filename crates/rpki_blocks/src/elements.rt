@@ -1,8 +1,8 @@
 //! Lists of blocks in resources of certificates (RFC 3779 2.2.3.4, 3.2.3.2).
 ghost use Rattle.std.specs.Prelude.{◌≡◌, ◌++◌, ℕ, List, [], ◌∷◌, Option, Some, OnOk};
-ghost use Rattle.rpki_der.specs.Place.{Place, left, Keeps};
+ghost use Rattle.rpki_der.specs.Place.{Place, remaining, Keeps};
 ghost use Rattle.rpki_der.specs.Place.Reading.{Took, TookOrMemory, ReturnsOrMemory, ReturnsOrMemoryBy};
-ghost use Rattle.rpki_der.specs.Rows.Reading.{row_of, Shrinks};
+ghost use Rattle.rpki_der.specs.Sequences.Reading.{row_of, Shrinks};
 ghost use Rattle.rpki_blocks.specs.Resources.{listed};
 ghost use Rattle.rpki_blocks.specs.Sets.{Block as Span, HaveSameNumbers};
 ghost use Rattle.rpki_blocks.specs.Unions.Reading.{merged, union_of, choice_at};
@@ -25,15 +25,16 @@ pub(crate) trait Elements {
         ensures reads { Took (element_at self.now) cursor.old result cursor.new }
         ensures keeps { Keeps result cursor.old cursor.new };
 
-    /// For how many blocks room is made before a row of so many octets is read.
+    /// For how many blocks room is made before a sequence of so many octets is read.
     fn room(&self, octets: usize) -> usize;
 
     /// An element has octets.
     ghost shrinks: { (kind : Self) → Shrinks (element_at kind) };
 }
 
-// Merges blocks that fill their room, and makes more where that frees less than half of it. Elements
-// of five octets are the shortest of which more than 2^7 can be apart, so room grows once as a rule.
+// Merges blocks that fill their room, and makes more where that frees less than half of it.
+// Elements of five octets are the shortest of which more than 2^7 can be apart, so room grows once
+// as a rule.
 fn make_room<B: Bound>(blocks: &mut Vec<Block<B>>, octets: usize) -> Result<(), AllocError>
     ensures { HaveSameNumbers blocks.new.items blocks.old.items }
 {
@@ -60,7 +61,7 @@ fn push<B: Bound>(
     Ok(())
 }
 
-// Blocks with the numbers of the elements that a content is a row of.
+// Blocks with the numbers of the elements that a content is a sequence of.
 #[inline(always)]
 fn elements_in<K: Elements>(
     alloc: Global,
@@ -68,7 +69,7 @@ fn elements_in<K: Elements>(
     mut content: Cursor<'_>,
 ) -> Result<Vec<Block<K::End>>, DecodeError>
     ensures { ReturnsOrMemoryBy (λ v. listed (merged v.items)) result
-        (union_of (K.element_at kind.now) (left content.entry)) }
+        (union_of (K.element_at kind.now) (remaining content.entry)) }
 {
     let mut blocks = Vec::with_capacity(alloc, kind.room(content.rest().len()))?;
     while !content.is_empty() {
@@ -84,7 +85,7 @@ fn union_in<K: Elements>(
     kind: &K,
     content: Cursor<'_>,
 ) -> Result<Resources<K::End>, DecodeError>
-    ensures { ReturnsOrMemory result (union_of (K.element_at kind.now) (left content.entry)) }
+    ensures { ReturnsOrMemory result (union_of (K.element_at kind.now) (remaining content.entry)) }
 {
     let blocks = elements_in(alloc, kind, content)?;
     Ok(Resources::blocks(Chain::from_blocks(blocks)))

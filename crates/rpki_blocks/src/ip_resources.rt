@@ -1,7 +1,7 @@
 //! The addresses that a certificate lists (RFC 3779 2.2.3).
 ghost use Rattle.std.specs.Prelude.{◌≡◌, ◌<◌, ◌≤◌, ◌+◌, ◌-◌, ◌*◌, ◌^◌, ◌%◌, ℕ, List, [], length, Some};
 ghost use Rattle.std.specs.Int.Digits.{number_from_digits};
-ghost use Rattle.rpki_der.specs.Place.{Place, left, Keeps, AnswersOrMemoryBy};
+ghost use Rattle.rpki_der.specs.Place.{Place, remaining, Keeps, AnswersOrMemoryBy};
 ghost use Rattle.rpki_der.specs.Place.Reading.{Took, TookOrMemory, TookOrMemoryBy, Returns, ReturnsBy, ReturnsOrMemory, ReturnsOrMemoryBy};
 ghost use Rattle.rpki_der.specs.Tags.{BIT_STRING, SEQUENCE};
 ghost use Rattle.rpki_der.specs.Values.{AreOctets};
@@ -99,7 +99,7 @@ fn take_address(family: Family, cursor: &mut Cursor<'_>) -> Result<IpBlock, Deco
 // A range: from the first address of one prefix to the last of another.
 #[inline(always)]
 fn range_in(family: Family, mut content: Cursor<'_>) -> Result<IpBlock, DecodeError>
-    ensures { Returns result (address_range family (left content.entry)) }
+    ensures { Returns result (address_range family (remaining content.entry)) }
 {
     let low = take_address(family, &mut content)?.min();
     let high = take_address(family, &mut content)?.max();
@@ -140,7 +140,7 @@ impl Elements for Family {
 // A family and its resources: the content of an IPAddressFamily.
 #[tactic(auto, unfolding(crate::specs::Addresses::Reading::family_in))]
 fn family_in(alloc: Global, mut content: Cursor<'_>) -> Result<(Family, IpResources), DecodeError>
-    ensures { ReturnsOrMemory result (family_in (left content.entry)) }
+    ensures { ReturnsOrMemory result (family_in (remaining content.entry)) }
 {
     let family = Family::from_octets(content.take_octets()?.rest())?;
     let resources = take_choice(alloc, &family, &mut content)?;
@@ -183,7 +183,7 @@ fn families_in(
     alloc: Global,
     mut content: Cursor<'_>,
 ) -> Result<(Option<IpResources>, Option<IpResources>), DecodeError>
-    ensures { ReturnsOrMemoryBy families_of result (families_in (left content.entry)) }
+    ensures { ReturnsOrMemoryBy families_of result (families_in (remaining content.entry)) }
 {
     if content.is_empty() {
         return Err(DecodeError::BadValue);
@@ -203,7 +203,7 @@ impl IpResources {
     ) -> Result<(Option<IpResources>, Option<IpResources>), DecodeError>
         ensures reads { TookOrMemoryBy families_of families_at cursor.old result cursor.new }
         ensures keeps { Keeps result cursor.old cursor.new }
-        ensures octets { AreOctets (left cursor.old) }
+        ensures octets { AreOctets (remaining cursor.old) }
     {
         let mut ahead = cursor.fork();
         let content = ahead.take_sequence()?;

@@ -15,7 +15,7 @@ use Rattle.rpki_crl.specs.Revocation.{revocation_checks}
 use Rattle.rpki_crl.specs.Stores.{Stored}
 use Rattle.rpki_crl.specs.declared.revocation_error.RevocationError.{RevocationError}
 use Rattle.rpki_path.specs.FaultNames.{of_validation}
-use Rattle.rpki_path.specs.Paths.{Asked, ask, asked, AskedCheck, Finds, IsFault}
+use Rattle.rpki_path.specs.Paths.{Candidate, candidate, candidates, AskedCheck, Finds, IsFault}
 use Rattle.rpki_path.specs.declared.path_fault.PathError.{PathError}
 use Rattle.rpki_path.specs.declared.path_fault.PathFault.{PathFault}
 use Rattle.rpki_path.specs.declared.path_fault.PathFault.TheVariants.{Revocation}
@@ -41,19 +41,19 @@ module _ (x : Context) (lists : Option (List Stored)) (issuer : ResourceFields) 
 -- ---- the strings above it
 
 -- an error's index is the place of a string
-fault_place : (x : Context) (lists : Option (List Stored)) (anchor : List ℕ) (below : List Asked) (e : PathError)
+fault_place : (x : Context) (lists : Option (List Stored)) (anchor : List ℕ) (below : List Candidate) (e : PathError)
     → IsFault x lists anchor below e → e.index < length below + 1
 fault_place x lists anchor below e (inl h) = omega (arith, h.index_is)
 fault_place x lists anchor below e (inr h) =
-    let parts : length below ≡ length h.before + length (h.there ∷ h.after) = ap (λ (l : List Asked). length l) h.parts ∙ length-append h.before (h.there ∷ h.after) in
+    let parts : length below ≡ length h.before + length (h.there ∷ h.after) = ap (λ (l : List Candidate). length l) h.parts ∙ length-append h.before (h.there ∷ h.after) in
     omega (arith, h.index_is, parts)
 
--- that of authorities is below their number
+-- that of CAs is below their number
 pub place_above : (x : Context) (lists : Option (List Stored)) (above : List (List ℕ)) (e : PathError) → IsJudged x lists last.Authority above (Err e) → e.index < length above
 place_above x lists above e h =
     let strings : length above ≡ length (h.anchor ∷ h.below) = ap (λ (l : List (List ℕ)). length l) h.strings_are in
-    let askeds : length (asked h.below None) ≡ length h.below = ap (λ (l : List Asked). length l) (append-nil (map (ask Authority) h.below)) ∙ length-map h.below (ask Authority) in
-    let place = fault_place x lists h.anchor (asked h.below None) e h.judged.named in
+    let askeds : length (candidates h.below None) ≡ length h.below = ap (λ (l : List Candidate). length l) (append-nil (map (candidate Authority) h.below)) ∙ length-map h.below (candidate Authority) in
+    let place = fault_place x lists h.anchor (candidates h.below None) e h.judged.named in
     omega (arith, strings, askeds, place)
 
 -- ---- the verdict
@@ -73,16 +73,16 @@ module _ (x : Context) (lists : Option (List Stored)) (strings above : List (Lis
       → IsJudged x lists last.Authority above (Ok issuer) → OnOk test (IsRouter x lists issuer octets) → IfErr test (Finds x (router_demand x lists issuer) octets)
       → IfOk answer (λ r. r ≡ issuer) → OnOk answer (test ≡ Ok tt) → IfErr answer (λ e. e.index ≡ length above) → IfErr answer (λ e. test ≡ Err e.fault)
       → EndsInRouter x lists strings answer
-  ends_below issuer test (Ok r) judged good found same passed index fault = record {
+  ends_below issuer test (Ok r) judged is_valid found same passed index fault = record {
     above = above;
     octets = octets;
     strings_are = split;
     answer_is = (
       subst (λ (i : ResourceFields). IsJudged x lists last.Authority above (Ok i)) (sym same) judged,
-      subst (λ (i : ResourceFields). IsRouter x lists i octets) (sym same) (subst (λ (t : Result (Unit {0}) PathFault). OnOk t (IsRouter x lists issuer octets)) passed good),
+      subst (λ (i : ResourceFields). IsRouter x lists i octets) (sym same) (subst (λ (t : Result (Unit {0}) PathFault). OnOk t (IsRouter x lists issuer octets)) passed is_valid),
     );
   }
-  ends_below issuer test (Err e) judged good found same passed index fault = record {
+  ends_below issuer test (Err e) judged is_valid found same passed index fault = record {
     above = above;
     octets = octets;
     strings_are = split;

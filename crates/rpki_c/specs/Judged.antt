@@ -1,5 +1,5 @@
--- Paths that a caller of C's asks about (own): strings, of which the first begins with the anchor,
--- and the kind of the last.
+-- Paths that a caller of C's asks about (own): strings, of which the first begins with the trust
+-- anchor, and the kind of the last.
 use Rattle.std.specs.Prelude.{◌≡◌, ◌⊎◌, ◌<◌, ℕ, List, [], ◌∷◌, ◌++◌, length, Option, Some, None, Result, Ok, Err, IfErr}
 use Rattle.rpki_der.specs.Encoding.{Means}
 use Rattle.rpki_cert.specs.Certificates.{CertFields, IsCertificate}
@@ -7,40 +7,40 @@ use Rattle.rpki_cert.specs.Profiles.{MeetsProfile}
 use Rattle.rpki_cert.specs.Verification.{Context, ResourceFields, CheckUnder, IsVerified, router_checks}
 use Rattle.rpki_cert.specs.declared.inspect.Kind.TheVariants.{Router}
 use Rattle.rpki_crl.specs.Stores.{Stored}
-use Rattle.rpki_path.specs.Paths.{Asked, asked, Validates, IsFault, IsUnrevokedIfAsked, Demand, AskedCheck, Finds}
+use Rattle.rpki_path.specs.Paths.{Candidate, candidates, Validates, IsFault, IsUnrevokedIfAsked, Demand, AskedCheck, Finds}
 use Rattle.rpki_path.specs.declared.path_fault.PathError.{PathError}
 use Rattle.rpki_path.specs.declared.validating.Leaf.{Leaf}
 use Rattle.rpki_path.specs.declared.validating.Leaf.TheVariants.{Ee, DetachedEe}
 use Rattle.rpki_c.specs.declared.validating.Last.{Last}
 use Rattle.rpki_c.specs.declared.validating.Last.TheVariants.{Authority, EndEntity, Detached}
 
--- how many strings there are at least: the anchor's, and that of the leaf
+-- how many strings there are at least: the trust anchor's, and that of the leaf
 abbrev pub fewest : Last → ℕ
 fewest Authority = 1
 fewest _ = 2
 
--- the leaf that a last string of this kind is; an authority is none
+-- the leaf that a last string of this kind is; a CA is none
 abbrev pub leaf_for : Last → List ℕ → Option Leaf
 leaf_for Authority octets = None
 leaf_for EndEntity octets = Some (Ee octets)
 leaf_for Detached octets = Some (DetachedEe octets)
 
 -- the answer is that of the headline, and an error says what is wrong of the string at its index
-pub record IsVerdict (x : Context) (lists : Option (List Stored)) (anchor : List ℕ) (below : List Asked)
+pub record IsVerdict (x : Context) (lists : Option (List Stored)) (anchor : List ℕ) (below : List Candidate)
     (answer : Result ResourceFields PathError) : Type 0 where
   pub validates : Validates x lists anchor below [] answer
   pub named : IfErr answer (IsFault x lists anchor below)
 
--- below the anchor stand authorities and a leaf of this kind
+-- below the trust anchor stand CAs and a leaf of this kind
 pub record EndsInLeaf (x : Context) (lists : Option (List Stored)) (last : Last) (anchor : List ℕ) (below : List (List ℕ))
     (answer : Result ResourceFields PathError) : Type 0 where
   pub cas : List (List ℕ)
   pub octets : List ℕ
   pub below_are : below ≡ cas ++ octets ∷ []
-  pub answer_is : IsVerdict x lists anchor (asked cas (leaf_for last octets)) answer
+  pub answer_is : IsVerdict x lists anchor (candidates cas (leaf_for last octets)) answer
 
 abbrev pub EndsAs : Context → Option (List Stored) → Last → List ℕ → List (List ℕ) → Result ResourceFields PathError → Type 0
-EndsAs x lists Authority anchor below answer = IsVerdict x lists anchor (asked below None) answer
+EndsAs x lists Authority anchor below answer = IsVerdict x lists anchor (candidates below None) answer
 EndsAs x lists last anchor below answer = EndsInLeaf x lists last anchor below answer
 
 -- the verdict on the strings, as the kind of the last one splits them

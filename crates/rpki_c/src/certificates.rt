@@ -20,7 +20,7 @@ pub struct RpkiCertificate {
     pub authority_key: [u8; 20],
     pub has_authority_key: u8,
     pub is_authority: u8,
-    /// 0: of an authority, 1: of an end entity.
+    /// 0: of a CA, 1: of an end entity.
     pub key_usage: u8,
     /// 0: refused, 1: trimmed (RFC 8360).
     pub overclaim: u8,

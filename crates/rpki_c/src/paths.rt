@@ -20,7 +20,7 @@ use std::alloc::{AllocError, Global};
 pub struct RpkiVerdict {
     /// 0 where it is accepted; else the number of the fault.
     pub fault: u32,
-    /// The place of the first wrong member; the anchor's is 0.
+    /// The place of the first wrong member; the trust anchor's is 0.
     pub index: u32,
     /// How many ranges the last member (of a router: the one above it) holds of IPv4, IPv6 and AS
     /// numbers.
@@ -29,7 +29,7 @@ pub struct RpkiVerdict {
     pub asn: u64,
 }
 
-fn refused_as(fault: u32, index: usize) -> RpkiVerdict {
+fn rejected_as(fault: u32, index: usize) -> RpkiVerdict {
     RpkiVerdict {
         fault,
         index: u32::try_from(index).unwrap_or(u32::MAX),
@@ -68,11 +68,11 @@ fn verdict(
             out
         }
         Some(Err(error)) => {
-            let out = refused_as(of_path(&error.fault), error.index);
+            let out = rejected_as(of_path(&error.fault), error.index);
             drop(error);
             out
         }
-        None => refused_as(BAD_CALL, 0),
+        None => rejected_as(BAD_CALL, 0),
     }
 }
 
@@ -97,8 +97,8 @@ fn answer<V: Verifier>(
 }
 
 /// Validates the path of the members, which stand one behind the other and have these lengths, the
-/// anchor first, with real signatures (RSASSA-PKCS1-v1_5 with SHA-256). `last` says what the last
-/// one is: 1 an authority (or the anchor, alone), 2 an end entity, 3 a detached one, 4 a router.
+/// trust anchor first, with real signatures (RSASSA-PKCS1-v1_5 with SHA-256). `last` says what the
+/// last one is: 1 a CA (or the trust anchor, alone), 2 an end entity, 3 a detached one, 4 a router.
 /// Writes the ranges that the last member holds (of a router: the one above it), as many as there
 /// is room for. Answers the verdict's fault.
 #[unsafe(no_mangle)]
@@ -114,7 +114,7 @@ pub extern "C" fn rpki_path_validate(
     asn: &mut [RpkiAsRange],
     out: &mut RpkiVerdict,
 ) -> u32 {
-    *out = refused_as(BAD_CALL, 0);
+    *out = rejected_as(BAD_CALL, 0);
     let Some(now) = moment_of(now) else {
         return BAD_CALL;
     };
@@ -125,7 +125,7 @@ pub extern "C" fn rpki_path_validate(
             drop(members);
         }
         Ok(None) => {}
-        Err(_) => *out = refused_as(MEMORY, 0),
+        Err(_) => *out = rejected_as(MEMORY, 0),
     }
     out.fault
 }
@@ -205,9 +205,9 @@ fn given_lists(
 }
 
 /// Validates a path as `rpki_path_validate` does, and asks the revocation lists whether a member
-/// below the anchor is revoked. The lists stand one behind the other and have these lengths, and so
-/// do the URIs under which they are found, one for each list. Where a list can't be read or its URI
-/// is none, the verdict's index is the number of members and the list's place.
+/// below the trust anchor is revoked. The lists stand one behind the other and have these lengths,
+/// and so do the URIs under which they are found, one for each list. Where a list can't be read or
+/// its URI is none, the verdict's index is the number of members and the list's place.
 #[unsafe(no_mangle)]
 pub extern "C" fn rpki_path_validate_with(
     alloc: Global,
@@ -225,14 +225,14 @@ pub extern "C" fn rpki_path_validate_with(
     asn: &mut [RpkiAsRange],
     out: &mut RpkiVerdict,
 ) -> u32 {
-    *out = refused_as(BAD_CALL, 0);
+    *out = rejected_as(BAD_CALL, 0);
     let Some(now) = moment_of(now) else {
         return BAD_CALL;
     };
     let store = match given_lists(alloc, lists, list_lengths, uris, uri_lengths) {
         Ok(store) => store,
         Err((fault, at)) => {
-            *out = refused_as(fault, lengths.len().wrapping_add(at));
+            *out = rejected_as(fault, lengths.len().wrapping_add(at));
             return fault;
         }
     };
@@ -252,7 +252,7 @@ pub extern "C" fn rpki_path_validate_with(
             drop(members);
         }
         Ok(None) => {}
-        Err(_) => *out = refused_as(MEMORY, 0),
+        Err(_) => *out = rejected_as(MEMORY, 0),
     }
     drop(store);
     out.fault
@@ -290,7 +290,7 @@ pub extern "C" fn rpki_path_validate_said(
     asn: &mut [RpkiAsRange],
     out: &mut RpkiVerdict,
 ) -> u32 {
-    *out = refused_as(BAD_CALL, 0);
+    *out = rejected_as(BAD_CALL, 0);
     let Some(now) = moment_of(now) else {
         return BAD_CALL;
     };
@@ -298,12 +298,12 @@ pub extern "C" fn rpki_path_validate_said(
         Ok(Some(members)) => {
             match answer_said(alloc, &members, last, yes, strict != 0, now) {
                 Ok(answer) => *out = verdict(answer, v4, v6, asn),
-                Err(_) => *out = refused_as(MEMORY, 0),
+                Err(_) => *out = rejected_as(MEMORY, 0),
             }
             drop(members);
         }
         Ok(None) => {}
-        Err(_) => *out = refused_as(MEMORY, 0),
+        Err(_) => *out = rejected_as(MEMORY, 0),
     }
     out.fault
 }

@@ -101,9 +101,9 @@ fn put_questions(members: &[Bytes], out: &mut [RpkiQuestion]) -> u32 {
     NONE
 }
 
-/// Writes the signatures that a path asks for, one a member: the anchor's by its own key, each
-/// later one's by the key above it. Writes as many as there is room for. Answers 0, or the number
-/// of a fault.
+/// Writes the signatures that a path asks for, one a member: the trust anchor's by its own key,
+/// each later one's by the key above it. Writes as many as there is room for. Answers 0, or the
+/// number of a fault.
 #[unsafe(no_mangle)]
 pub extern "C" fn rpki_path_questions(
     alloc: Global,

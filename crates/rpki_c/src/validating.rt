@@ -6,7 +6,7 @@ ghost use Rattle.rpki_parts.specs.Conditions.{Tests};
 ghost use Rattle.rpki_cert.specs.Certificates.{IsCertificate};
 ghost use Rattle.rpki_cert.specs.Verification.{context};
 ghost use Rattle.rpki_crl.specs.Revocation.{revocation_checks};
-ghost use Rattle.rpki_path.specs.Paths.{asked, AskedCheck, Finds, Validates, IsFault};
+ghost use Rattle.rpki_path.specs.Paths.{candidates, AskedCheck, Finds, Validates, IsFault};
 ghost use Rattle.rpki_path.specs.declared.path_fault.PathFault.TheVariants.{Memory};
 ghost use Rattle.rpki_c.specs.Judged.{fewest, leaf_for, EndsInLeaf, IsJudged, router_demand, IsRouterUnder, IsRouter, EndsInRouter};
 
@@ -22,7 +22,7 @@ use std::rc::Rc;
 /// What the last string of a path has to begin with.
 #[derive(Clone, Copy)]
 pub(crate) enum Last {
-    /// An authority; or the anchor, where it is alone.
+    /// A CA; or the trust anchor, where it is alone.
     Authority,
     EndEntity,
     Detached,
@@ -59,11 +59,11 @@ pub(crate) fn validate<V: Verifier>(
     // where lists are given.
     ensures validates { let x = context (V.verifies verifier.now) now strict in
         let pairs = option_map (λ store. store.now.pairs) lists.entry in
-        Validates x pairs anchor.now (asked cas.now leaf) [] result }
+        Validates x pairs anchor.now (candidates cas.now leaf) [] result }
     // The members before the index are a valid path, and the fault is that of the string there.
     ensures named { let x = context (V.verifies verifier.now) now strict in
         let pairs = option_map (λ store. store.now.pairs) lists.entry in
-        IfErr result (IsFault x pairs anchor.now (asked cas.now leaf)) }
+        IfErr result (IsFault x pairs anchor.now (candidates cas.now leaf)) }
 {
     let tal = match nameless(alloc) {
         Ok(tal) => tal,
@@ -91,8 +91,8 @@ fn leaf_of(last: Last, octets: &Bytes) -> Result<Option<Leaf>, AllocError>
     }
 }
 
-// Validates the path of the anchor and the strings below it, of which the last is a leaf. `None`
-// where there is none below it.
+// Validates the path of the trust anchor and the strings below it, of which the last is a leaf.
+// `None` where there is none below it.
 fn judge_leaf<V: Verifier>(
     alloc: Global,
     anchor: &Bytes,
@@ -115,8 +115,8 @@ fn judge_leaf<V: Verifier>(
     }
 }
 
-/// Validates the path of these strings, the anchor first. `None` where there is no string, or where
-/// the anchor alone is to be a leaf.
+/// Validates the path of these strings, the trust anchor first. `None` where there is no string, or
+/// where the trust anchor alone is to be a leaf.
 pub(crate) fn judge<V: Verifier>(
     alloc: Global,
     strings: &[Bytes],
@@ -165,8 +165,8 @@ fn ask_lists<V: Verifier>(
     }
 }
 
-// Whether the router's certificate is valid below the issuer, and not revoked where lists are given.
-// A fault is one of all octets that begin with it.
+// Whether the router's certificate is valid below the issuer, and not revoked where lists are
+// given. A fault is one of all octets that begin with it.
 fn check_router_cert<V: Verifier>(
     cert: &Cert,
     issuer: &ResourceCert,
@@ -232,8 +232,8 @@ fn check_router<V: Verifier>(
     answer
 }
 
-/// Validates the path of these strings, the anchor first, of which the last is a router's. The
-/// answer is the member above the router. `None` where there are less than two strings.
+/// Validates the path of these strings, the trust anchor first, of which the last is a router's.
+/// The answer is the member above the router. `None` where there are less than two strings.
 pub(crate) fn judge_router<V: Verifier>(
     alloc: Global,
     strings: &[Bytes],

@@ -6,7 +6,7 @@ use Rattle.rpki_der.specs.Tags.{CONTEXT_CONSTRUCTED, INTEGER, SEQUENCE}
 use Rattle.rpki_der.specs.Reading.{inside, content, mapped, Inside, Reads, Both}
 use Rattle.rpki_der.specs.Values.Reading.{value_at}
 use Rattle.rpki_der.specs.Serials.{IsSerial}
-use Rattle.rpki_der.specs.Choices.{exactly, Turned, turned}
+use Rattle.rpki_der.specs.Choices.{exactly, IsConversion, conversion}
 use Rattle.rpki_der.proofs.Octets.{bind_some, some, some_is}
 use Rattle.rpki_der.proofs.Readings.{inside_reads, content_reads, mapped_reads, same_reads, both_reads}
 use Rattle.rpki_der.proofs.ValueReads.{value_reads}
@@ -81,7 +81,7 @@ fields_reads =
     (both_reads _ _ _ _ public_key_reads
     (inside_reads (CONTEXT_CONSTRUCTED 3) (value_at SEQUENCE) (IsEnc SEQUENCE) (value_reads SEQUENCE)))))))))
 
--- the row of extensions, as it stands
+-- the sequence of extensions, as it stands
 abbrev row_in : Fields → List ℕ
 row_in (_, (_, (_, (_, (_, (_, (_, row))))))) = row
 
@@ -187,13 +187,13 @@ row_again f text s = extensions_read.again f.extensions s.extensions_is.2.0 (sub
 some_made : (f : TbsFields) (row : List ℕ) → extensions_of row ≡ Some f.extensions → with_extensions (fields_of f row) ≡ Some f
 some_made f row e = rw e refl
 
-is_tbs : (f : TbsFields) (text : List ℕ) → Turned with_extensions (Inside SEQUENCE AreInOrder) f text → IsTbsCertificate f text
+is_tbs : (f : TbsFields) (text : List ℕ) → IsConversion with_extensions (Inside SEQUENCE AreInOrder) f text → IsTbsCertificate f text
 is_tbs f text (p, s, e) =
     let a = bind_some (extensions_of (row_in p)) (λ x. some (fields_made p x)) f e in
     let content : IsTbsCertificateContent (fields_made p a.0) s.0 = is_content p a.0 s.0 s.1 a.1 in
     record { content = s.0; content_is = subst (λ (g : TbsFields). IsTbsCertificateContent g s.0) (some_is (fields_made p a.0) f a.2) content; enc = s.2 }
 
-tbs_is : (f : TbsFields) (text : List ℕ) → IsTbsCertificate f text → Turned with_extensions (Inside SEQUENCE AreInOrder) f text
+tbs_is : (f : TbsFields) (text : List ℕ) → IsTbsCertificate f text → IsConversion with_extensions (Inside SEQUENCE AreInOrder) f text
 tbs_is f text s =
     let row = s.content_is.extensions_is.2.0 in
     (fields_of f row, (s.content, content_is f s.content s.content_is, s.enc), some_made f row (row_again f s.content s.content_is))
@@ -202,7 +202,7 @@ tbs_is f text s =
 pub tbs_reads : Reads tbs_at IsTbsCertificate
 unfolding tbs_at
 tbs_reads =
-    same_reads (turned with_extensions fields_at) (Turned with_extensions (Inside SEQUENCE AreInOrder)) IsTbsCertificate
+    same_reads (conversion with_extensions fields_at) (IsConversion with_extensions (Inside SEQUENCE AreInOrder)) IsTbsCertificate
     (turned_reads with_extensions fields_at (Inside SEQUENCE AreInOrder) fields_reads)
     is_tbs tbs_is
 

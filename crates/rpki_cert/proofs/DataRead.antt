@@ -2,7 +2,7 @@
 use Rattle.std.specs.List.{AllByRecursion}
 use Rattle.std.proofs.Common.{◌≡◌, ℕ, List, [], ◌∷◌, get_or, refl, sym, ap, subst, ◌∙◌, arith}
 use Rattle.rpki_der.specs.Extensions.{IsExtension}
-use Rattle.rpki_der.specs.Rows.{IsRow}
+use Rattle.rpki_der.specs.Sequences.{AreEncodings}
 use Rattle.rpki_der.specs.Tags.{CONTEXT_CONSTRUCTED, SEQUENCE}
 use Rattle.rpki_der.specs.Values.{AreOctets, IsNested, IsValue, enc, length_octets}
 use Rattle.rpki_der.proofs.Formats.{of_enc, same_enc}
@@ -86,7 +86,7 @@ module _ (f g : TbsFields) (fits : Fits f) (read : IsTbsCertificate g (encoding 
         ),
       )
 
-  -- the row that is read is the row that is written
+  -- the sequence that is read is the sequence that is written
   row_read : read.content_is.row ≡ extensions f.extensions
   row_read =
       let all = one_row read_pieces (pieces f) read_values written_values (sym read.content_is.is ∙ same) in
@@ -94,7 +94,7 @@ module _ (f g : TbsFields) (fits : Fits f) (read : IsTbsCertificate g (encoding 
       one_content tags read.content_is.row (extensions f.extensions) (tagged_extensions f.extensions) (subst (λ (b : List ℕ). IsNested tags read.content_is.row b) tagged read.content_is.extensions_is) row_nested
 
   extensions_read : AreExtensions g.extensions (extensions f.extensions)
-  extensions_read = (read.content_is.triples, subst (λ (b : List ℕ). IsRow IsExtension read.content_is.triples b) row_read read.content_is.row_is, read.content_is.gives)
+  extensions_read = (read.content_is.triples, subst (λ (b : List ℕ). AreEncodings IsExtension read.content_is.triples b) row_read read.content_is.row_is, read.content_is.gives)
 
   -- the fields can be written
   pub can_be_written : CanBeWritten f

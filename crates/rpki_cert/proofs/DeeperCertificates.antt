@@ -2,7 +2,7 @@
 use Rattle.std.specs.List.{AllByRecursion, AllZip}
 use Rattle.std.proofs.Common.{ℕ, ◌≤◌, List, [], ◌∷◌, Option, Some, None}
 use Rattle.rpki_der.specs.Extensions.{Extension}
-use Rattle.rpki_der.specs.Rows.{IsRow, IsAtMostOne}
+use Rattle.rpki_der.specs.Sequences.{AreEncodings, IsAtMostOne}
 use Rattle.rpki_der.specs.Skipping.{IsSkippableWithin}
 use Rattle.rpki_der.proofs.Lists.{weaken}
 use Rattle.rpki_der.proofs.SkippingDepths.{deeper}
@@ -16,9 +16,9 @@ use Rattle.rpki_ext.specs.SubjectAccess.{Access, IsAccessDescriptionWithin, IsSu
 use Rattle.rpki_ext.specs.declared.subject_access.AccessMethod.{AccessMethod}
 use Rattle.rpki_cert.specs.Certificates.{TbsFields, CertFields, IsTbsCertificateContentWithin, IsTbsCertificateWithin, IsCertificateWithin}
 
--- ---- rows, and the one extension of a kind
+-- ---- sequences, and the one extension of a kind
 
-more_rows : {V : Type 0} (S T : V → List ℕ → Type 0) → ((v : V) (b : List ℕ) → S v b → T v b) → (vs : List V) (b : List ℕ) → IsRow S vs b → IsRow T vs b
+more_rows : {V : Type 0} (S T : V → List ℕ → Type 0) → ((v : V) (b : List ℕ) → S v b → T v b) → (vs : List V) (b : List ℕ) → AreEncodings S vs b → AreEncodings T vs b
 more_rows S T f [] b h = h
 more_rows S T f (v ∷ vs) b h = (h.0, h.1, f v h.0 h.2, more_rows S T f vs h.1 h.3, h.4)
 

@@ -5,10 +5,10 @@ use Rattle.std.proofs.Common.{◌≡◌, ◌<◌, ◌-◌, ℕ, List, [], ◌∷
 use Rattle.std.proofs.lemmas.List.{append-nil}
 use Rattle.std.proofs.lemmas.List.Folds.{concat-append}
 use Rattle.rpki_der.specs.Extensions.{Extension, IsExtension}
-use Rattle.rpki_der.specs.Place.{Refuses}
+use Rattle.rpki_der.specs.Place.{Rejects}
 use Rattle.rpki_der.specs.Place.Reading.{ReturnsOrMemoryBy}
-use Rattle.rpki_der.specs.Rows.{IsRow}
-use Rattle.rpki_der.specs.Rows.Reading.{row_of, Shrinks}
+use Rattle.rpki_der.specs.Sequences.{AreEncodings}
+use Rattle.rpki_der.specs.Sequences.Reading.{row_of, Shrinks}
 use Rattle.rpki_der.specs.Skipping.{IsCaptured}
 use Rattle.rpki_der.specs.Skipping.Reading.{any_at, captured_at}
 use Rattle.rpki_der.specs.Encoding.{Means}
@@ -17,17 +17,17 @@ use Rattle.rpki_der.specs.Values.{enc, length_octets, IsEnc, IsValue, IsNested}
 use Rattle.rpki_der.specs.Values.Reading.{value_at}
 use Rattle.rpki_der.specs.declared.error.DecodeError.{DecodeError}
 use Rattle.rpki_der.specs.declared.error.DecodeError.TheVariants.{Memory}
-use Rattle.rpki_der.proofs.Answering.{certainly, refuses}
+use Rattle.rpki_der.proofs.Answering.{certainly, rejects}
 use Rattle.rpki_der.proofs.Formats.{of_enc}
 use Rattle.rpki_der.proofs.Octets.{bind_some, both_are, some, some_is, nothing}
-use Rattle.rpki_der.proofs.Rows.{row_again}
+use Rattle.rpki_der.proofs.Sequences.{row_again}
 use Rattle.rpki_der.proofs.SkippingReads.{captured_reads}
 use Rattle.rpki_der.proofs.SkippingSteps.{any_shrinks}
 use Rattle.rpki_der.proofs.ValueReads.{value_again}
 use Rattle.rpki_ext.proofs.Pieces.{row_pieces}
 use Rattle.rpki_cert.specs.Certificates.{CertFields, TbsFields, version_3, IsTbsCertificateContent, IsCertificate}
 use Rattle.rpki_cert.specs.Rearranged.{IsBuiltOf, IsSomeExtension}
-use Rattle.rpki_cert.specs.Rearranging.{BeginsWith, IsRefused, Parts}
+use Rattle.rpki_cert.specs.Rearranging.{BeginsWith, IsRejected, Parts}
 use Rattle.rpki_cert.specs.Rearranging.Reading.{parts_at, row_in, split_last, with_front}
 use Rattle.rpki_cert.specs.RearrangeErrors.{of_reading}
 use Rattle.rpki_cert.specs.declared.extra.Extra.{Extra}
@@ -43,7 +43,7 @@ captured_shrinks = λ octets v rest e.
     let same = both_are (take (length octets - length a.0.1) octets, a.0.1) (v, rest) a.2 in
     omega (arith, any_shrinks octets a.0.0 a.0.1 a.1, ap length same.1)
 
-captured_row : (ps : List (List ℕ)) → AllByRecursion IsValue ps → IsRow IsCaptured ps (concat ps)
+captured_row : (ps : List (List ℕ)) → AllByRecursion IsValue ps → AreEncodings IsCaptured ps (concat ps)
 captured_row [] h = refl
 captured_row (p ∷ ps) h = (p, concat ps, (h.0, refl), captured_row ps h.1, refl)
 
@@ -183,30 +183,30 @@ abbrev IsNone : List ℕ → Type 0
 IsNone octets = (x : CertFields) → Means IsCertificate x octets → ⊥
 
 -- where a certificate begins the octets, reading its parts fails only when out of memory
-pub parts_refused : (octets copy : List ℕ) (c : CertFields) → Means IsCertificate c copy → copy ≡ octets → (r : Result Parts DecodeError) → ReturnsOrMemoryBy view r (parts_at octets) → IfErr r (λ d. Refuses d (IsNone octets))
-parts_refused octets copy c m same (Ok p) e = tt
-parts_refused octets copy c m same (Err d) e =
+pub parts_rejected : (octets copy : List ℕ) (c : CertFields) → Means IsCertificate c copy → copy ≡ octets → (r : Result Parts DecodeError) → ReturnsOrMemoryBy view r (parts_at octets) → IfErr r (λ d. Rejects d (IsNone octets))
+parts_rejected octets copy c m same (Ok p) e = tt
+parts_rejected octets copy c m same (Err d) e =
     let n = subst (λ (o : List ℕ). Means IsCertificate c o) same m in
     let found = certificate_parts c octets n.1.text n.0 n.1.parts n.1.encoded in
-    refuses d (λ none. nothing (view found.parts) (sym none ∙ found.read)) e
+    rejects d (λ none. nothing (view found.parts) (sym none ∙ found.read)) e
 
 -- ---- why nothing could be read
 
 -- a refusal that is passed on says of octets what it said of their copy
-pub refusal_passed_on : {X : Type 0} (octets copy : List ℕ) (r : Result X DecodeError) (d : DecodeError) → r ≡ Err d → Refuses d (IsNone copy) → copy ≡ octets → IfErr r (λ e. Refuses e (IsNone octets))
-refusal_passed_on octets copy (Ok x) d e h same = tt
-refusal_passed_on octets copy (Err f) d e h same =
+pub rejection_passed_on : {X : Type 0} (octets copy : List ℕ) (r : Result X DecodeError) (d : DecodeError) → r ≡ Err d → Rejects d (IsNone copy) → copy ≡ octets → IfErr r (λ e. Rejects e (IsNone octets))
+rejection_passed_on octets copy (Ok x) d e h same = tt
+rejection_passed_on octets copy (Err f) d e h same =
     let error : f ≡ d = cc in
-    subst (λ (g : DecodeError). Refuses g (IsNone octets)) (sym error) (subst (λ (o : List ℕ). Refuses d (IsNone o)) same h)
+    subst (λ (g : DecodeError). Rejects g (IsNone octets)) (sym error) (subst (λ (o : List ℕ). Rejects d (IsNone o)) same h)
 
 -- it is why nothing is rearranged
-refused_by_reading : (octets : List ℕ) (d : DecodeError) → Refuses d (IsNone octets) → (order : List ℕ) (extras : List Extra) → IsRefused octets order extras (of_reading d)
-refused_by_reading octets Memory h order extras = tt
-refused_by_reading octets _ h order extras = h
+rejected_by_reading : (octets : List ℕ) (d : DecodeError) → Rejects d (IsNone octets) → (order : List ℕ) (extras : List Extra) → IsRejected octets order extras (of_reading d)
+rejected_by_reading octets Memory h order extras = tt
+rejected_by_reading octets _ h order extras = h
 
 -- a refusal to read a copy, passed on as one to rearrange, is a refusal of the octets
-pub refused_from : {X : Type 0} (octets copy : List ℕ) (r : Result X RearrangeError) (d : DecodeError) → r ≡ Err (of_reading d) → Refuses d (IsNone copy) → copy ≡ octets → IfErr r (λ e. (order : List ℕ) (extras : List Extra) → IsRefused octets order extras e)
-refused_from octets copy (Ok x) d e h same = tt
-refused_from octets copy (Err f) d e h same =
+pub rejected_from : {X : Type 0} (octets copy : List ℕ) (r : Result X RearrangeError) (d : DecodeError) → r ≡ Err (of_reading d) → Rejects d (IsNone copy) → copy ≡ octets → IfErr r (λ e. (order : List ℕ) (extras : List Extra) → IsRejected octets order extras e)
+rejected_from octets copy (Ok x) d e h same = tt
+rejected_from octets copy (Err f) d e h same =
     let error : f ≡ of_reading d = cc in
-    subst (λ (g : RearrangeError). (order : List ℕ) (extras : List Extra) → IsRefused octets order extras g) (sym error) (refused_by_reading octets d (subst (λ (o : List ℕ). Refuses d (IsNone o)) same h))
+    subst (λ (g : RearrangeError). (order : List ℕ) (extras : List Extra) → IsRejected octets order extras g) (sym error) (rejected_by_reading octets d (subst (λ (o : List ℕ). Rejects d (IsNone o)) same h))

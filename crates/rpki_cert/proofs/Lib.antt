@@ -17,5 +17,5 @@ pub mod RearrangedCertificates
 pub mod DeeperCertificates
 pub mod Orders
 pub mod FrameReads
-pub mod RowsMade
-pub mod RowsBuilt
+pub mod SequencesMade
+pub mod SequencesBuilt

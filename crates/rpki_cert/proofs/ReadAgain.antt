@@ -5,7 +5,7 @@ use Rattle.std.proofs.Common.{◌≤◌, arith, ℕ, List, [], ◌≡◌, ◌<�
 use Rattle.std.proofs.lemmas.List.{append-nil}
 use Rattle.rpki_der.specs.Values.{AreOctets, IsEnc, IsValue, enc, length_octets}
 use Rattle.rpki_der.specs.Values.Reading.{value_at}
-use Rattle.rpki_der.specs.Place.{Refuses}
+use Rattle.rpki_der.specs.Place.{Rejects}
 use Rattle.rpki_der.specs.declared.error.DecodeError.{DecodeError}
 use Rattle.rpki_der.specs.declared.error.DecodeError.TheVariants as reading
 use Rattle.rpki_der.specs.declared.error.EncodeError.{EncodeError}
@@ -73,7 +73,7 @@ captured_or_memory E s writing.TooLong long short = let h = long refl in omega a
 captured_or_memory E s writing.Memory long short = tt
 
 -- it can be read
-pub read_or_memory : (E : Type 0) {P : Type 0} (e : DecodeError) → Refuses e P → (P → ⊥) → IsNoReadingFault {E = E} (Decode e)
+pub read_or_memory : (E : Type 0) {P : Type 0} (e : DecodeError) → Rejects e P → (P → ⊥) → IsNoReadingFault {E = E} (Decode e)
 read_or_memory E reading.Memory h no_p = tt
 read_or_memory E _ h no_p = no_p h
 
@@ -92,7 +92,7 @@ not_made f MayAnswer s (Encode writing.Memory) made h = tt
 not_made f MayAnswer s (Validation e) made h = absurd h
 not_made f MayAnswer s (Decode e) made h = of_it e h
   where
-    of_it : (e : DecodeError) → Refuses e (IsUnreadable s) → Refuses e ((t : SignedFields) × IsMadeOf f MayAnswer t × IsUnreadable t)
+    of_it : (e : DecodeError) → Rejects e (IsUnreadable s) → Rejects e ((t : SignedFields) × IsMadeOf f MayAnswer t × IsUnreadable t)
     of_it reading.Memory h = tt
     of_it _ h = (s, made, h)
 

@@ -4,7 +4,7 @@ use Rattle.std.proofs.Common.{◌≡◌, false, refl, ℕ, zero, suc, ◌≤◌,
 use Rattle.std.proofs.lemmas.Bool.{or_parts, or_from}
 use Rattle.rpki_der.specs.Extensions.{Extension, IsExtension}
 use Rattle.rpki_der.specs.Extensions.Reading.{extension_at}
-use Rattle.rpki_der.specs.Rows.{IsAtMostOne}
+use Rattle.rpki_der.specs.Sequences.{IsAtMostOne}
 use Rattle.rpki_der.proofs.ExtensionReads.{extension_reads}
 use Rattle.rpki_blocks.specs.declared.overclaim.Overclaim.{Overclaim}
 use Rattle.rpki_ext.specs.CertificateExtensions.{ExtensionFields, GiveFields}
@@ -37,7 +37,7 @@ none_behind (suc place) (id ∷ ids) x e = none_behind place ids x (or_parts _ _
 at : (place count : ℕ) → AreKnown (take count (drop place known))
 at place count x e = none_before count (drop place known) x (none_behind place known x e)
 
--- ---- what a row gives
+-- ---- what a sequence gives
 
 -- of each known kind of which there is at most one, the extensions are the same
 abbrev SameKinds : List Extension → List Extension → Type 0
@@ -94,7 +94,7 @@ same_kinds_back xs ys r ids in_known short =
 
 -- ---- pieces
 
--- what the extensions of one row of pieces give, those of the other give
+-- what the extensions of one sequence of pieces give, those of the other give
 abbrev pub GiveAlike : List (List ℕ) → List (List ℕ) → Type 0
 GiveAlike old new = (xs : List Extension) (f : ExtensionFields) → AllZip IsExtension xs old → GiveFields xs f → (ys : List Extension) × AllZip IsExtension ys new × GiveFields ys f
 

@@ -30,10 +30,10 @@ module _ {E : Type 0} (f : TbsFields) (MayAnswer : Result SignatureFields (Signi
     signed : (e : SigningError E) → IsRefusal (tbs_content f) MayAnswer e → IsMemory {E = E} (Signing e)
     signed signing.Memory h = tt
     signed signing.TooLong (inl long) = omega arith
-    signed signing.TooLong (inr (inl refused)) = absurd (cc (signs signing.TooLong refused))
+    signed signing.TooLong (inr (inl rejected)) = absurd (cc (signs signing.TooLong rejected))
     signed signing.TooLong (inr (inr (s, may, long))) = let fit = fits s may in omega arith
     signed (signing.Signer e) (inl h) = absurd h
-    signed (signing.Signer e) (inr (inl refused)) = absurd (cc (signs (signing.Signer e) refused))
+    signed (signing.Signer e) (inr (inl rejected)) = absurd (cc (signs (signing.Signer e) rejected))
     signed (signing.Signer e) (inr (inr (s, may, h))) = absurd h
 
   -- ---- it is valid

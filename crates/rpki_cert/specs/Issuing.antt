@@ -2,7 +2,7 @@
 -- (RFC 6487 4).
 use Rattle.std.specs.Prelude.{◌≡◌, ℕ, codes, ◌^◌, ◌≤◌, ◌<◌, List, length, Result, Ok}
 use Rattle.std.specs.List.{concat}
-use Rattle.rpki_der.specs.Place.{Refuses}
+use Rattle.rpki_der.specs.Place.{Rejects}
 use Rattle.rpki_der.specs.declared.error.DecodeError.TheVariants as reading
 use Rattle.rpki_der.specs.declared.error.EncodeError.TheVariants as writing
 use Rattle.rpki_parts.specs.Signatures.{SignatureFields}
@@ -36,7 +36,7 @@ abbrev pub IsNotMade : {E : Type 0} → TbsFields → (Result SignatureFields (S
 IsNotMade f MayAnswer (Signing e) = IsRefusal (tbs_content f) MayAnswer e
 IsNotMade f MayAnswer (Encode writing.TooLong) = ⊥
 IsNotMade f MayAnswer (Encode writing.Memory) = Unit {0}
-IsNotMade f MayAnswer (Decode e) = Refuses e ((s : SignedFields) × IsMadeOf f MayAnswer s × IsUnreadable s)
+IsNotMade f MayAnswer (Decode e) = Rejects e ((s : SignedFields) × IsMadeOf f MayAnswer s × IsUnreadable s)
 IsNotMade f MayAnswer (Validation e) = ⊥
 
 -- a certificate that was read again, from its own octets, of what was made of the fields, with a
@@ -68,7 +68,7 @@ abbrev pub IsNotReadAgain : {E : Type 0} → SignedFields → IssueCaError E →
 IsNotReadAgain s (Signing e) = ⊥
 IsNotReadAgain s (Encode writing.TooLong) = 2 ^ 32 ≤ length (concat (signed_pieces s))
 IsNotReadAgain s (Encode writing.Memory) = Unit {0}
-IsNotReadAgain s (Decode e) = Refuses e (IsUnreadable s)
+IsNotReadAgain s (Decode e) = Rejects e (IsUnreadable s)
 IsNotReadAgain s (Validation e) = ⊥
 
 -- what is made of the fields with this signature

@@ -40,7 +40,7 @@ is_known x = list_any (bytes_eq x.oid) known
 abbrev pub AreUnknown : List Extra → Type 0
 AreUnknown extras = AllByRecursion (λ x. is_known x ≡ false) extras
 
--- ---- the row of extensions that is made
+-- ---- the sequence of extensions that is made
 
 -- as it is written: without a flag, since it isn't critical (X.690 11.5)
 abbrev pub written : Extra → List ℕ
@@ -50,8 +50,8 @@ written x = extension x.oid false x.value
 abbrev pub added_at : ℕ → List Extra → List (List ℕ)
 added_at place extras = map written (filter (λ x. nat_eq x.at place) extras)
 
--- The row from this place on: at each place the old extension that the order names, behind what is
--- added there. What is added at the place behind the last stands last.
+-- The sequence from this place on: at each place the old extension that the order names, behind
+-- what is added there. What is added at the place behind the last stands last.
 abbrev pub row_from : ℕ → List ℕ → List Extra → List (List ℕ) → List (List ℕ)
 row_from place [] extras old = added_at place extras
 row_from place (named ∷ order) extras old = added_at place extras ++ (get_or old named [] ∷ row_from (place + 1) order extras old)
@@ -79,15 +79,15 @@ pub record BeginsWith (octets : List ℕ) (p : Parts) : Type 0 where
   pub extensions_are : AllByRecursion IsSomeExtension p.old
   pub octets_are : octets ≡ front ++ rest
 
--- what stands inside the SEQUENCE of the TBSCertificate with the octets of another row
+-- what stands inside the SEQUENCE of the TBSCertificate with the octets of another sequence
 abbrev pub tbs_content_with : List ℕ → Parts → List ℕ
 tbs_content_with row p = concat p.before ++ nested (CONTEXT_CONSTRUCTED 3 ∷ SEQUENCE ∷ []) row
 
--- what stands inside the SEQUENCE of the certificate with that row
+-- what stands inside the SEQUENCE of the certificate with that sequence
 abbrev pub content_with : List ℕ → Parts → List ℕ
 content_with row p = enc SEQUENCE (tbs_content_with row p) ++ p.behind
 
--- The answer is the certificate that the octets begin with, with the new row in place of its
+-- The answer is the certificate that the octets begin with, with the new sequence in place of its
 -- extensions: what stood before and behind them is unchanged, also the signature's value. What
 -- followed the certificate is dropped.
 pub record IsRearranged (octets : List ℕ) (order : List ℕ) (extras : List Extra) (answer : List ℕ) : Type 0 where
@@ -99,12 +99,12 @@ pub record IsRearranged (octets : List ℕ) (order : List ℕ) (extras : List Ex
 
 -- Why there is none, each where no earlier one is: no certificate, no plan, an extra of a known
 -- kind, 2^32 octets or more in its SEQUENCE (own).
-abbrev pub IsRefused : List ℕ → List ℕ → List Extra → RearrangeError → Type 0
-IsRefused octets order extras NoCertificate = (c : CertFields) → Means IsCertificate c octets → ⊥
-IsRefused octets order extras NotAnOrder = (p : Parts) × BeginsWith octets p × (IsPlan (length p.old) order extras → ⊥)
-IsRefused octets order extras KnownExtra =
+abbrev pub IsRejected : List ℕ → List ℕ → List Extra → RearrangeError → Type 0
+IsRejected octets order extras NoCertificate = (c : CertFields) → Means IsCertificate c octets → ⊥
+IsRejected octets order extras NotAnOrder = (p : Parts) × BeginsWith octets p × (IsPlan (length p.old) order extras → ⊥)
+IsRejected octets order extras KnownExtra =
     (p : Parts) × BeginsWith octets p × IsPlan (length p.old) order extras × (AreUnknown extras → ⊥)
-IsRefused octets order extras TooLong =
+IsRejected octets order extras TooLong =
     (p : Parts) × BeginsWith octets p × IsPlan (length p.old) order extras × AreUnknown extras
     × (2 ^ 32 ≤ length (content_with (concat (new_row order extras p.old)) p))
-IsRefused octets order extras Memory = Unit {0}
+IsRejected octets order extras Memory = Unit {0}

@@ -1,8 +1,9 @@
--- Which certificates are valid, and why one isn't: the inspection of its kind comes first, then its checks are verified (RFC 6487 7.2).
+-- Which certificates are valid, and why one isn't: the inspection of its kind comes first, then its
+-- checks are verified (RFC 6487 7.2).
 use Rattle.std.specs.Prelude.{Bool, List, ℕ, codes}
 use Rattle.rpki_cert.specs.Certificates.{CertFields}
 use Rattle.rpki_cert.specs.Profiles.{MeetsProfile, IsFirstFault}
-use Rattle.rpki_cert.specs.Verification.{Context, CheckUnder, AnchorCheck, IsVerified, IsFirstFalseOrMemory, ResourceFields, HasListed, HasIssued, issued_checks, anchor_checks}
+use Rattle.rpki_cert.specs.Verification.{Context, CheckUnder, TrustAnchorCheck, IsVerified, IsFirstFalseOrMemory, ResourceFields, HasListed, HasIssued, issued_checks, trust_anchor_checks}
 use Rattle.rpki_cert.specs.declared.inspect.Kind.{Kind}
 use Rattle.rpki_cert.specs.declared.inspect.Kind.TheVariants.{Anchor}
 use Rattle.rpki_cert.specs.declared.validation_error.ValidationError.{ValidationError}
@@ -16,7 +17,8 @@ IsInvalid kind strict c Fails (Verification e) = MeetsProfile kind strict c × F
 
 -- ---- below an issuer
 
--- c is a certificate of this kind that is valid below the issuer, and r has what it gets of the issuer's numbers
+-- c is a certificate of this kind that is valid below the issuer, and r has what it gets of the
+-- issuer's numbers
 pub record IsValidBelow (x : Context) (issuer : ResourceFields) (kind : Kind) (c : CertFields) (r : ResourceFields) : Type 0 where
   pub meets : MeetsProfile kind x.strict c
   pub checks : IsVerified (CheckUnder x issuer c) issued_checks
@@ -26,17 +28,17 @@ pub record IsValidBelow (x : Context) (issuer : ResourceFields) (kind : Kind) (c
 abbrev pub IsInvalidBelow : Context → ResourceFields → Kind → CertFields → ValidationError → Type 0
 IsInvalidBelow x issuer kind c = IsInvalid kind x.strict c (IsFirstFalseOrMemory (CheckUnder x issuer c) issued_checks)
 
--- ---- an anchor
+-- ---- a trust anchor
 
--- c is an anchor that is valid, and r has what it lists, with this locator
-pub record IsValidAnchor (x : Context) (tal : List ℕ) (c : CertFields) (r : ResourceFields) : Type 0 where
+-- c is a trust anchor that is valid, and r has what it lists, with this locator
+pub record IsValidTrustAnchor (x : Context) (tal : List ℕ) (c : CertFields) (r : ResourceFields) : Type 0 where
   pub meets : MeetsProfile Anchor x.strict c
-  pub checks : IsVerified (AnchorCheck x c) anchor_checks
+  pub checks : IsVerified (TrustAnchorCheck x c) trust_anchor_checks
   pub listed : HasListed c tal r
 
 -- why it isn't; or memory was wanted
-abbrev pub IsInvalidAnchor : Context → CertFields → ValidationError → Type 0
-IsInvalidAnchor x c = IsInvalid Anchor x.strict c (IsFirstFalseOrMemory (AnchorCheck x c) anchor_checks)
+abbrev pub IsInvalidTrustAnchor : Context → CertFields → ValidationError → Type 0
+IsInvalidTrustAnchor x c = IsInvalid Anchor x.strict c (IsFirstFalseOrMemory (TrustAnchorCheck x c) trust_anchor_checks)
 
 -- ---- names
 

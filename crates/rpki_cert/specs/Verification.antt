@@ -1,5 +1,5 @@
--- What is verified of a certificate, check by check (RFC 6487 7.2, RFC 8360 4.2.4.4; own: the order of the checks, and that revocation and the
--- chaining of names are the caller's to ask).
+-- What is verified of a certificate, check by check (RFC 6487 7.2, RFC 8360 4.2.4.4; own: the order
+-- of the checks, and that revocation and the chaining of names are the caller's to ask).
 use Rattle.std.specs.Prelude.{◌≡◌, ◌≢◌, ◌↔◌, ◌⊎◌, ◌≤◌, ◌^◌, ◌-◌, ℕ, Bool, List, [], ◌∷◌, IsSome, IfSome, Result, Ok, Err, codes}
 use Rattle.std.specs.List.{AllByRecursion}
 use Rattle.rpki_der.specs.Times.{Moment}
@@ -115,9 +115,9 @@ held_checks = OverclaimV4 ∷ OverclaimV6 ∷ OverclaimAs ∷ []
 abbrev pub basis_checks : List VerificationError
 basis_checks = NotYetValid ∷ Expired ∷ MissingKeyId ∷ WrongKeyId ∷ MissingIssuerUri ∷ BadSignature ∷ []
 
--- of an anchor, whose issuer it is itself
-abbrev pub anchor_checks : List VerificationError
-anchor_checks = NotYetValid ∷ Expired ∷ InheritedV4 ∷ InheritedV6 ∷ InheritedAs ∷ BadSignature ∷ []
+-- of a trust anchor, whose issuer it is itself
+abbrev pub trust_anchor_checks : List VerificationError
+trust_anchor_checks = NotYetValid ∷ Expired ∷ InheritedV4 ∷ InheritedV6 ∷ InheritedAs ∷ BadSignature ∷ []
 
 -- of a certificate that another one issued
 abbrev pub issued_checks : List VerificationError
@@ -135,7 +135,8 @@ IsVerified check checks = AllByRecursion check checks
 abbrev pub IsFirstFalseOrMemory : (VerificationError → Type 0) → List VerificationError → VerificationError → Type 0
 IsFirstFalseOrMemory check checks e = (e ≡ Memory) ⊎ IsFirstFalse check checks e
 
--- what a test of these checks answers that may allocate: Ok where all are true, else the first that isn't, or that memory was wanted
+-- what a test of these checks answers that may allocate: Ok where all are true, else the first that
+-- isn't, or that memory was wanted
 abbrev pub TestsOrMemory : {T : Type 0} → (VerificationError → Type 0) → List VerificationError → Result T VerificationError → Type 0
 TestsOrMemory check checks (Ok v) = IsVerified check checks
 TestsOrMemory check checks (Err e) = IsFirstFalseOrMemory check checks e
@@ -173,15 +174,15 @@ held_by r = record { v4 = Has r.v4; v6 = Has r.v6; as_numbers = Has r.as_numbers
 abbrev pub CheckUnder : Context → ResourceFields → CertFields → VerificationError → Type 0
 CheckUnder x issuer c = Check x issuer.cert.fields (held_by issuer) c
 
--- the checks of an anchor, which issued itself
-abbrev pub AnchorCheck : Context → CertFields → VerificationError → Type 0
-AnchorCheck x c = Check x c.fields nothing_held c
+-- the checks of a trust anchor, which issued itself
+abbrev pub TrustAnchorCheck : Context → CertFields → VerificationError → Type 0
+TrustAnchorCheck x c = Check x c.fields nothing_held c
 
 -- the set has the numbers that are listed
 abbrev pub ListsNumbers : Resources → List Block → Type 0
 ListsNumbers r set = (n : ℕ) → Has set n ↔ IsListed n r
 
--- of an anchor: what it lists
+-- of a trust anchor: what it lists
 pub record HasListed (c : CertFields) (tal : List ℕ) (r : ResourceFields) : Type 0 where
   pub cert_is : r.cert ≡ c
   pub v4_is : ListsNumbers c.fields.extensions.v4_resources r.v4

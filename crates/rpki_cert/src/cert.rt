@@ -1,7 +1,7 @@
 //! Certificates, read and written.
 ghost use Rattle.std.specs.Prelude.{◌≡◌, ◌^◌, ◌<◌, ◌≤◌, ◌++◌, length, IfOk, IsOk, OnOk, OnErr, IsErrOf, option_map};
 ghost use Rattle.std.specs.List.{concat};
-ghost use Rattle.rpki_der.specs.Place.{Place, left, Keeps, AnswersOrMemory, AnswersOptionalOrMemory, MeansOrMemory};
+ghost use Rattle.rpki_der.specs.Place.{Place, remaining, Keeps, AnswersOrMemory, AnswersOptionalOrMemory, MeansOrMemory};
 ghost use Rattle.rpki_der.specs.Place.Reading.{TookOrMemory};
 ghost use Rattle.rpki_der.specs.Reading.{optional};
 ghost use Rattle.rpki_der.specs.Tags.{SEQUENCE};
@@ -42,7 +42,7 @@ impl Cert {
     fn read_content(alloc: Global, content: &mut Cursor<'_>) -> Result<Cert, DecodeError>
         ensures reads { TookOrMemory cert_content_at content.old result content.new }
         ensures keeps { Keeps result content.old content.new }
-        ensures octets { AreOctets (left content.old) }
+        ensures octets { AreOctets (remaining content.old) }
     {
         let mut ahead = content.fork();
         let signed_data = SignedData::from_constructed(alloc, &mut ahead)?;
@@ -57,7 +57,7 @@ impl Cert {
     fn read(alloc: Global, cursor: &mut Cursor<'_>) -> Result<Cert, DecodeError>
         ensures reads { TookOrMemory cert_at cursor.old result cursor.new }
         ensures keeps { Keeps result cursor.old cursor.new }
-        ensures octets { AreOctets (left cursor.old) }
+        ensures octets { AreOctets (remaining cursor.old) }
     {
         let mut ahead = cursor.fork();
         let mut content = ahead.take_sequence()?;

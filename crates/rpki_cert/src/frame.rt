@@ -4,13 +4,13 @@ ghost use Rattle.std.specs.List.{concat};
 ghost use Rattle.rpki_der.specs.Tags.{CONTEXT_CONSTRUCTED, SEQUENCE};
 ghost use Rattle.rpki_der.specs.Values.{enc, nested};
 ghost use Rattle.rpki_der.specs.Writers.{SaysLong};
-ghost use Rattle.rpki_der.specs.Place.{Place, left, Refuses};
+ghost use Rattle.rpki_der.specs.Place.{Place, remaining, Rejects};
 ghost use Rattle.rpki_der.specs.Place.Reading.{ReturnsOrMemory, ReturnsOrMemoryBy};
-ghost use Rattle.rpki_der.specs.Rows.Reading.{row_of};
+ghost use Rattle.rpki_der.specs.Sequences.Reading.{row_of};
 ghost use Rattle.rpki_der.specs.Skipping.Reading.{captured_at};
 ghost use Rattle.rpki_der.specs.Encoding.{Means};
 ghost use Rattle.rpki_cert.specs.Certificates.{CertFields, IsCertificate};
-ghost use Rattle.rpki_cert.specs.Rearranging.{BeginsWith, IsRefused, tbs_content_with, content_with};
+ghost use Rattle.rpki_cert.specs.Rearranging.{BeginsWith, IsRejected, tbs_content_with, content_with};
 ghost use Rattle.rpki_cert.specs.Rearranging.Reading.{row_in, parts_at, split_last};
 ghost use Rattle.rpki_cert.specs.declared.extra.Extra.{Extra};
 
@@ -46,9 +46,9 @@ fn push(values: &mut Vec<Piece>, value: Piece) -> Result<(), AllocError>
     Ok(())
 }
 
-// The values that the octets are a row of.
+// The values that the octets are a sequence of.
 fn values_in(alloc: Global, mut row: Cursor<'_>) -> Result<Vec<Piece>, DecodeError>
-    ensures { ReturnsOrMemoryBy (λ v. v.items) result (row_of captured_at (left row.entry)) }
+    ensures { ReturnsOrMemoryBy (λ v. v.items) result (row_of captured_at (remaining row.entry)) }
 {
     let mut values = Vec::new(alloc);
     while !row.is_empty() {
@@ -99,7 +99,7 @@ fn read(alloc: Global, octets: &Bytes) -> Result<Frame, DecodeError>
 // What the certificate at the beginning of the octets is built of.
 fn certificate_frame(alloc: Global, octets: &Bytes) -> Result<Frame, DecodeError>
     ensures ok { IfOk result (λ frame. BeginsWith octets.now frame) }
-    ensures refused { IfErr result (λ e. Refuses e
+    ensures rejected { IfErr result (λ e. Rejects e
         ((c : CertFields) → Means IsCertificate c octets.now → ⊥)) }
 {
     let cert = Cert::decode_shared(alloc, octets.clone()?)?;
@@ -111,15 +111,15 @@ fn certificate_frame(alloc: Global, octets: &Bytes) -> Result<Frame, DecodeError
 /// where they begin with none, or with `Memory`.
 pub(crate) fn frame_of(alloc: Global, octets: &[u8]) -> Result<Frame, RearrangeError>
     ensures ok { IfOk result (λ frame. BeginsWith octets.now frame) }
-    ensures refused { IfErr result (λ e. (order : List ℕ) (extras : List Extra)
-        → IsRefused octets.now order extras e) }
+    ensures rejected { IfErr result (λ e. (order : List ℕ) (extras : List Extra)
+        → IsRejected octets.now order extras e) }
 {
     let octets = Bytes::copy_from_slice(alloc, octets)?;
     Ok(certificate_frame(alloc, &octets)?)
 }
 
 // The octets of the pieces, one after the other.
-#[tactic(auto, using(crate::proofs::RowsMade::concat_more))]
+#[tactic(auto, using(crate::proofs::SequencesMade::concat_more))]
 fn concatenated(alloc: Global, pieces: &[Piece]) -> Result<Vec<u8>, AllocError>
     ensures { IfOk result (λ octets. octets.items ≡ concat pieces.now) }
 {
@@ -130,7 +130,7 @@ fn concatenated(alloc: Global, pieces: &[Piece]) -> Result<Vec<u8>, AllocError>
     Ok(octets)
 }
 
-// Appends the row inside the two tags of extensions.
+// Appends the sequence inside the two tags of extensions.
 fn put_row(alloc: Global, row: &[u8], out: &mut Vec<u8>) -> Result<(), EncodeError>
     ensures ok { OnOk result (out.new.items ≡ out.old.items
         ++ nested (CONTEXT_CONSTRUCTED 3 ∷ SEQUENCE ∷ []) row.now) }
@@ -149,7 +149,7 @@ impl Frame {
         self.extensions.len()
     }
 
-    // What stands inside the SEQUENCE of the TBSCertificate with the octets of another row.
+    // What stands inside the SEQUENCE of the TBSCertificate with the octets of another sequence.
     fn tbs_content(&self, alloc: Global, row: &[u8]) -> Result<Vec<u8>, EncodeError>
         ensures ok { IfOk result (λ content. content.items ≡ tbs_content_with row.now self.now) }
         ensures too_long { SaysLong result (tbs_content_with row.now self.now) }
@@ -159,7 +159,7 @@ impl Frame {
         Ok(content)
     }
 
-    // What stands inside the SEQUENCE of the certificate with the octets of another row.
+    // What stands inside the SEQUENCE of the certificate with the octets of another sequence.
     fn content(&self, alloc: Global, row: &[u8]) -> Result<Vec<u8>, EncodeError>
         ensures ok { IfOk result (λ content. content.items ≡ content_with row.now self.now) }
         ensures too_long { SaysLong result (content_with row.now self.now) }

@@ -77,7 +77,7 @@ fn read_again<E>(alloc: Global, made: &Cert) -> Result<Cert, IssueCaError<E>>
         → made.now.signed_data.message ≡ encoding f → c.signed_data.message ≡ encoding f) }
     ensures read { IfOk result (λ c. IsCertificate c (signed_data c.signed_data)) }
     ensures same { IfOk result (λ c. IsMade made.now → c ≡ made.now) }
-    ensures refused { IfErr result (IsNotReadAgain made.now.signed_data) }
+    ensures rejected { IfErr result (IsNotReadAgain made.now.signed_data) }
     ensures readable { IsMade made.now → IfErr result IsNoReadingFault }
 {
     let octets = match made.to_captured(alloc) {
@@ -106,7 +106,7 @@ fn make_and_read<S: Signer>(
     ensures signed { IfOk result
         (λ c. S.signs signer.now key.now tbs.algorithm (encoding tbs)
         (Ok c.signed_data.signature)) }
-    ensures refused { IfErr result
+    ensures rejected { IfErr result
         (IsNotMade tbs (S.signs signer.now key.now tbs.algorithm (encoding tbs))) }
     ensures readable { CanBeWritten tbs → IfErr result IsNoReadingFault }
 {
@@ -124,8 +124,8 @@ fn make_and_read<S: Signer>(
 
 /// Issues the certificate of a CA with these fields, below this issuer. It makes the certificate
 /// and signs it, captures it, reads it again from its octets, and validates it as
-/// [`Cert::validate_ca_at`] does. Errs with the error of the first of these steps that fails.
-/// Only fields that can be written are issued, and the certificate has exactly these; of such fields
+/// [`Cert::validate_ca_at`] does. Errs with the error of the first of these steps that fails. Only
+/// fields that can be written are issued, and the certificate has exactly these; of such fields
 /// reading again fails by memory alone.
 pub fn issue_ca<S: Signer, V: Verifier>(
     alloc: Global,
@@ -146,7 +146,7 @@ pub fn issue_ca<S: Signer, V: Verifier>(
         (Ok r.cert.signed_data.signature)) }
     ensures valid { let x = context (V.verifies verifier.now) now strict in
         IfOk result (λ r. IsValidBelow x issuer.now Authority r.cert r) }
-    ensures refused { let x = context (V.verifies verifier.now) now strict in
+    ensures rejected { let x = context (V.verifies verifier.now) now strict in
         IfErr result (IsNotIssued tbs (S.signs signer.now key.now tbs.algorithm (encoding tbs))
         (IsInvalidBelow x issuer.now Authority)) }
     ensures readable { CanBeWritten tbs → IfErr result IsNoReadingFault }

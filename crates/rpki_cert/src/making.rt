@@ -79,7 +79,7 @@ impl TbsCert {
             (λ s. S.signs signer.now key.now self.now.algorithm (encoding self.now)
             (Ok s.signature)) }
         ensures fits { IfOk result (λ s. length (concat (signed_pieces s)) < 2 ^ 32) }
-        ensures refused { IfErr result (IsRefusal (tbs_content self.now)
+        ensures rejected { IfErr result (IsRefusal (tbs_content self.now)
             (S.signs signer.now key.now self.now.algorithm (encoding self.now))) }
     {
         let mut octets = Vec::new(alloc);
@@ -105,7 +105,7 @@ impl TbsCert {
             (λ c. S.signs signer.now key.now self.algorithm (encoding self)
             (Ok c.signed_data.signature)) }
         ensures fits { IfOk result (λ c. length (concat (signed_pieces c.signed_data)) < 2 ^ 32) }
-        ensures refused { IfErr result (IsRefusal (tbs_content self)
+        ensures rejected { IfErr result (IsRefusal (tbs_content self)
             (S.signs signer.now key.now self.algorithm (encoding self))) }
     {
         let signed = self.sign(alloc, signer, key);

@@ -6,7 +6,7 @@ ghost use Rattle.rpki_der.specs.Tags.{SEQUENCE};
 ghost use Rattle.rpki_der.specs.Values.{AreOctets, enc};
 ghost use Rattle.rpki_der.specs.Writers.{SaysLong};
 ghost use Rattle.rpki_cert.specs.Rearranged.{IsRearrangement};
-ghost use Rattle.rpki_cert.specs.Rearranging.{IsPlan, IsRearranged, IsRefused, content_with, new_row};
+ghost use Rattle.rpki_cert.specs.Rearranging.{IsPlan, IsRearranged, IsRejected, content_with, new_row};
 
 use crate::extra::{Extra, are_placed, are_unknown};
 use crate::frame::{Frame, frame_of};
@@ -16,7 +16,8 @@ use crate::row::{gathered, row_octets};
 use rpki_der::{EncodeError, Piece};
 use std::alloc::{AllocError, Global};
 
-// Whether the order names each of so many places once, and each extension is to be added at one of them or behind the last.
+// Whether the order names each of so many places once, and each extension is to be added at one of
+// them or behind the last.
 fn is_plan(
     alloc: Global,
     order: &[usize],
@@ -31,7 +32,7 @@ fn is_plan(
     Ok(are_placed(extras, count))
 }
 
-// The octets of the new row.
+// The octets of the new sequence.
 fn make_row(
     alloc: Global,
     order: &[usize],
@@ -55,7 +56,7 @@ fn known(octets: &[u8])
     let _octets = octets;
 }
 
-// The certificate with the new row.
+// The certificate with the new sequence.
 fn make(
     alloc: Global,
     frame: &Frame,
@@ -96,7 +97,7 @@ pub fn rearrange(
         (λ answer. IsRearranged octets.now order.now extras.now answer.items) }
     ensures rearrangement { IfOk result (λ answer. (front : List ℕ) × (rest : List ℕ)
         × (octets.now ≡ front ++ rest) × IsRearrangement front answer.items) }
-    ensures refused { IfErr result (IsRefused octets.now order.now extras.now) }
+    ensures rejected { IfErr result (IsRejected octets.now order.now extras.now) }
 {
     let frame = frame_of(alloc, octets)?;
     if !is_plan(alloc, order, extras, frame.count())? {

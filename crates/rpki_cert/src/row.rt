@@ -1,4 +1,5 @@
-//! The row of extensions that is made of a certificate's, in another order and with others among them.
+//! The sequence of extensions that is made of a certificate's, in another order and with others
+//! among them.
 ghost use Rattle.std.specs.Prelude.{◌≡◌, ◌+◌, ◌≤◌, ◌<◌, ◌++◌, ℕ, List, [], ◌∷◌, length, replicate, IfOk, OnOk, IsErrOf};
 ghost use Rattle.std.specs.List.{AllByRecursion, concat};
 ghost use Rattle.rpki_der.specs.Primitives.{IsOid};
@@ -63,7 +64,7 @@ fn push_place(places: &mut Vec<Added>, place: Added) -> Result<(), AllocError>
 }
 
 // So many places and one behind them, with no extension.
-#[tactic(auto, using(crate::proofs::RowsMade::replicate_more))]
+#[tactic(auto, using(crate::proofs::SequencesMade::replicate_more))]
 fn empty_places(alloc: Global, count: usize) -> Result<Vec<Added>, AllocError>
     ensures { IfOk result (λ places. places.items ≡ replicate (count + 1) []) }
 {

@@ -1,11 +1,11 @@
-//! Certificates are validated: inspected, then verified (RFC 6487 7.2; own: revocation and the chaining of names are the caller's
-//! to ask).
+//! Certificates are validated: inspected, then verified (RFC 6487 7.2; own: revocation and the
+//! chaining of names are the caller's to ask).
 ghost use Rattle.std.specs.Prelude.{◌≡◌, OnOk, IfOk, IfErr};
 ghost use Rattle.std.proofs.Common.{rc_value};
 ghost use Rattle.rpki_parts.specs.Conditions.{IsFirstFalse};
 ghost use Rattle.rpki_cert.specs.Profiles.{MeetsProfile, IsFirstFault};
 ghost use Rattle.rpki_cert.specs.Verification.{context, CheckUnder, IsVerified, router_checks};
-ghost use Rattle.rpki_cert.specs.Validation.{IsInvalid, IsValidAnchor, IsInvalidAnchor, IsValidBelow, IsInvalidBelow};
+ghost use Rattle.rpki_cert.specs.Validation.{IsInvalid, IsValidTrustAnchor, IsInvalidTrustAnchor, IsValidBelow, IsInvalidBelow};
 ghost use Rattle.rpki_cert.specs.declared.inspect.Kind.TheVariants.{Anchor, Authority, EndEntity, Detached, Router};
 
 use crate::cert::Cert;
@@ -50,7 +50,7 @@ impl Cert {
     }
 
     /// Uses the certificate up, also where it is rejected, and validates it as one of a trust
-    /// anchor: inspects it as one, then verifies it as [`Cert::verify_ta_at`] does.
+    /// trust anchor: inspects it as one, then verifies it as [`Cert::verify_ta_at`] does.
     /// [`Cert::inspect_ta`] and its siblings borrow, so that several kinds can be asked for first.
     pub fn validate_ta_at<V: Verifier>(
         self,
@@ -61,9 +61,9 @@ impl Cert {
         verifier: &V,
     ) -> Result<ResourceCert, ValidationError>
         ensures ok { let x = context (V.verifies verifier.now) now strict in
-            IfOk result (IsValidAnchor x (rc_value tal) self) }
+            IfOk result (IsValidTrustAnchor x (rc_value tal) self) }
         ensures fault { let x = context (V.verifies verifier.now) now strict in
-            IfErr result (IsInvalidAnchor x self) }
+            IfErr result (IsInvalidTrustAnchor x self) }
     {
         let cert = self.inspected(Kind::Anchor, strict)?;
         Ok(cert.verify_ta_at(alloc, tal, strict, now, verifier)?)

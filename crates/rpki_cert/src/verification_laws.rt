@@ -1,10 +1,11 @@
-//! Laws about certificates that were verified. Each is the contract of a function with no parameters and an empty body.
+//! Laws about certificates that were verified. Each is the contract of a function with no
+//! parameters and an empty body.
 ghost use Rattle.std.specs.Prelude.{◌≡◌, ℕ, Bool, Result, List};
 ghost use Rattle.rpki_der.specs.Times.{Moment};
 ghost use Rattle.rpki_blocks.specs.Sets.{AreIn};
 ghost use Rattle.rpki_parts.specs.Conditions.{Tests};
 ghost use Rattle.rpki_cert.specs.Certificates.{CertFields};
-ghost use Rattle.rpki_cert.specs.Verification.{context, CheckUnder, AnchorCheck, TestsOrMemory, issued_checks, anchor_checks};
+ghost use Rattle.rpki_cert.specs.Verification.{context, CheckUnder, TrustAnchorCheck, TestsOrMemory, issued_checks, trust_anchor_checks};
 ghost use Rattle.rpki_cert.specs.Verification.{AreAlike, IsAnswerOrMemory};
 ghost use Rattle.rpki_cert.specs.Verification.{ResourceFields, HasListed, HasIssued, HasSets};
 ghost use Rattle.rpki_cert.specs.declared.verification_error.VerificationError.{VerificationError};
@@ -21,9 +22,11 @@ pub fn issued_are_held()
         → HasIssued c issuer r → AreIn r.as_numbers issuer.as_numbers }
 {}
 
-/// Says that two calls answer alike of one certificate in one context, out of memory aside: `Cert::verify_ca_at` and `Cert::verify_ee_at` below
-/// one issuer are both Ok, or both Err with one error (`issued`), and `Cert::verify_ta_at` accepts an anchor exactly where
-/// `Cert::verify_ta_ref_at` does, else with its error (`anchors`). The premises are what the calls promise of their checks.
+/// Says that two calls answer alike of one certificate in one context, out of memory aside:
+/// `Cert::verify_ca_at` and `Cert::verify_ee_at` below one issuer are both Ok, or both Err with one
+/// error (`issued`), and `Cert::verify_ta_at` accepts a trust anchor exactly where
+/// `Cert::verify_ta_ref_at` does, else with its error (`anchors`). The premises are what the calls
+/// promise of their checks.
 pub fn one_verdict<V: Verifier>()
     ensures issued { (verifier : V) (now : Moment) (strict : Bool) (issuer : ResourceFields)
         (c : CertFields) (r s : Result ResourceFields VerificationError)
@@ -33,12 +36,13 @@ pub fn one_verdict<V: Verifier>()
     ensures anchors { (verifier : V) (now : Moment) (strict : Bool) (c : CertFields)
         (r : Result (Unit {0}) VerificationError) (s : Result ResourceFields VerificationError)
         → let x = context (V.verifies verifier) now strict in
-        Tests (AnchorCheck x c) anchor_checks r
-        → TestsOrMemory (AnchorCheck x c) anchor_checks s → IsAnswerOrMemory r s }
+        Tests (TrustAnchorCheck x c) trust_anchor_checks r
+        → TestsOrMemory (TrustAnchorCheck x c) trust_anchor_checks s → IsAnswerOrMemory r s }
 {}
 
-/// Says that what is verified has one result: two that are issued of one issuer for one certificate are equal, and so are two of one anchor
-/// with one locator. The premises are the clauses `gives` of the calls, and that of `Chain::iter` on each set (`HasSets`).
+/// Says that what is verified has one result: two that are issued of one issuer for one certificate
+/// are equal, and so are two of one trust anchor with one locator. The premises are the clauses
+/// `gives` of the calls, and that of `Chain::iter` on each set (`HasSets`).
 pub fn one_result()
     ensures issued { (c : CertFields) (issuer r s : ResourceFields)
         → HasIssued c issuer r → HasIssued c issuer s → HasSets r → HasSets s → r ≡ s }

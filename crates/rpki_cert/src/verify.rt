@@ -1,12 +1,12 @@
-//! Certificates are verified, at a moment and under an issuer (RFC 6487 7.2; own: revocation and the chaining of names are the
-//! caller's to ask).
+//! Certificates are verified, at a moment and under an issuer (RFC 6487 7.2; own: revocation and
+//! the chaining of names are the caller's to ask).
 ghost use Rattle.std.specs.Prelude.{◌≡◌, ◌↔◌, ◌⊎◌, IsTrue, IsOk, OnOk, IfOk, IfErr};
 ghost use Rattle.rpki_blocks.specs.Sets.{Has};
 ghost use Rattle.rpki_parts.specs.Conditions.{Tests};
 ghost use Rattle.rpki_blocks.specs.IssuedSets.{IsIssued};
 ghost use Rattle.rpki_cert.specs.Verification.{IsSignedBy, ListsOnlyHeld, ListsNumbers, held_by, IsVerified, IsFirstFalseOrMemory};
-ghost use Rattle.rpki_cert.specs.Verification.{context, TimeCheck, ClaimCheck, OwnCheck, HeldCheck, CheckUnder, AnchorCheck};
-ghost use Rattle.rpki_cert.specs.Verification.{validity_checks, claim_checks, own_checks, held_checks, basis_checks, anchor_checks, router_checks};
+ghost use Rattle.rpki_cert.specs.Verification.{context, TimeCheck, ClaimCheck, OwnCheck, HeldCheck, CheckUnder, TrustAnchorCheck};
+ghost use Rattle.rpki_cert.specs.Verification.{validity_checks, claim_checks, own_checks, held_checks, basis_checks, trust_anchor_checks, router_checks};
 ghost use Rattle.rpki_cert.specs.declared.verification_error.VerificationError.TheVariants.{Memory};
 
 use crate::cert::Cert;
@@ -31,7 +31,8 @@ fn lists_only_held<B: Bound>(listed: &Resources<B>, held: &Chain<B>, mode: Overc
     }
 }
 
-// The numbers that are issued of those that are held; errs with this fault where some are overclaimed.
+// The numbers that are issued of those that are held; errs with this fault where some are
+// overclaimed.
 fn issued<B: Bound>(
     alloc: Global,
     held: &Chain<B>,
@@ -165,7 +166,7 @@ impl Cert {
         verifier: &V,
     ) -> Result<(), VerificationError>
         ensures { let x = context (V.verifies verifier.now) now strict in
-            Tests (AnchorCheck x self.now) anchor_checks result }
+            Tests (TrustAnchorCheck x self.now) trust_anchor_checks result }
     {
         self.verify_validity(now)?;
         self.verify_inherits_nothing()?;

@@ -2,7 +2,7 @@
 ghost use Rattle.std.specs.Prelude.{◌≡◌, IfOk};
 ghost use Rattle.std.proofs.Common.{rc_value};
 ghost use Rattle.rpki_blocks.specs.IssuedSets.{IsIssued};
-ghost use Rattle.rpki_cert.specs.Verification.{context, CheckUnder, AnchorCheck, TestsOrMemory, ListsNumbers, HasListed, HasIssued, issued_checks, anchor_checks};
+ghost use Rattle.rpki_cert.specs.Verification.{context, CheckUnder, TrustAnchorCheck, TestsOrMemory, ListsNumbers, HasListed, HasIssued, issued_checks, trust_anchor_checks};
 
 use crate::cert::Cert;
 use crate::resource_cert::{ResourceCert, Sets};
@@ -108,7 +108,7 @@ impl Cert {
         verifier: &V,
     ) -> Result<Sets, VerificationError>
         ensures checks { let x = context (V.verifies verifier.now) now strict in
-            TestsOrMemory (AnchorCheck x self.now) anchor_checks result }
+            TestsOrMemory (TrustAnchorCheck x self.now) trust_anchor_checks result }
         ensures v4 { IfOk result
             (λ s. ListsNumbers self.now.fields.extensions.v4_resources s.v4) }
         ensures v6 { IfOk result
@@ -134,7 +134,7 @@ impl Cert {
         verifier: &V,
     ) -> Result<ResourceCert, VerificationError>
         ensures checks { let x = context (V.verifies verifier.now) now strict in
-            TestsOrMemory (AnchorCheck x self) anchor_checks result }
+            TestsOrMemory (TrustAnchorCheck x self) trust_anchor_checks result }
         ensures gives { IfOk result (HasListed self (rc_value tal)) }
     {
         let tested = self.kept_of_anchor(alloc, strict, now, verifier);

@@ -10,7 +10,7 @@ use Rattle.rpki_der.specs.Encoding.{BeginsOther}
 use Rattle.rpki_der.specs.Reading.{inside, content, Inside, Reads, Both}
 use Rattle.rpki_der.specs.Values.Reading.{value_at}
 use Rattle.rpki_der.specs.Times.{IsTime}
-use Rattle.rpki_der.specs.Choices.{exactly, Turned, turned}
+use Rattle.rpki_der.specs.Choices.{exactly, IsConversion, conversion}
 use Rattle.rpki_der.proofs.Octets.{bind_some, some, some_is, chosen}
 use Rattle.rpki_der.proofs.Formats.{of_enc}
 use Rattle.rpki_der.proofs.Readings.{inside_reads, content_reads, mapped_reads, same_reads, both_reads, before_then}
@@ -85,7 +85,7 @@ fields_reads =
     (before_then (BeginsOther SEQUENCE) revoked_at (inside (CONTEXT_CONSTRUCTED 0) (value_at SEQUENCE)) IsRevokedCertificates IsTagged (absent_before SEQUENCE revoked_at IsRevokedCertificates list_reads)
     (inside_reads (CONTEXT_CONSTRUCTED 0) (value_at SEQUENCE) (IsEnc SEQUENCE) (value_reads SEQUENCE)) tagged_other))))))
 
--- the row of extensions, as it stands
+-- the sequence of extensions, as it stands
 abbrev row_in : ListParts → List ℕ
 row_in (_, (_, (_, (_, (_, (_, row)))))) = row
 
@@ -180,13 +180,13 @@ row_again f text s = list_extensions_read.again f.extensions s.extensions_is.2.0
 some_made : (f : ListFields Revoked) (row : List ℕ) → list_extensions_of row ≡ Some f.extensions → fields_from (fields_of f row) ≡ Some f
 some_made f row e = rw e refl
 
-is_list : (f : ListFields Revoked) (text : List ℕ) → Turned fields_from (Inside SEQUENCE AreInOrder) f text → IsTbsCertList f text
+is_list : (f : ListFields Revoked) (text : List ℕ) → IsConversion fields_from (Inside SEQUENCE AreInOrder) f text → IsTbsCertList f text
 is_list f text (p, s, e) =
     let a = bind_some (list_extensions_of (row_in p)) (λ x. some (fields_made p x)) f e in
     let content : IsTbsCertListContent (fields_made p a.0) s.0 = is_content p a.0 s.0 s.1 a.1 in
     record { content = s.0; content_is = subst (λ (g : ListFields Revoked). IsTbsCertListContent g s.0) (some_is (fields_made p a.0) f a.2) content; enc = s.2 }
 
-list_is : (f : ListFields Revoked) (text : List ℕ) → IsTbsCertList f text → Turned fields_from (Inside SEQUENCE AreInOrder) f text
+list_is : (f : ListFields Revoked) (text : List ℕ) → IsTbsCertList f text → IsConversion fields_from (Inside SEQUENCE AreInOrder) f text
 list_is f text s =
     let row = s.content_is.extensions_is.2.0 in
     (fields_of f row, (s.content, content_is f s.content s.content_is, s.enc), some_made f row (row_again f s.content s.content_is))
@@ -195,7 +195,7 @@ list_is f text s =
 pub tbs_reads : Reads list_at IsTbsCertList
 unfolding list_at
 tbs_reads =
-    same_reads (turned fields_from list_parts_at) (Turned fields_from (Inside SEQUENCE AreInOrder)) IsTbsCertList
+    same_reads (conversion fields_from list_parts_at) (IsConversion fields_from (Inside SEQUENCE AreInOrder)) IsTbsCertList
     (turned_reads fields_from list_parts_at (Inside SEQUENCE AreInOrder) fields_reads)
     is_list list_is
 
@@ -218,20 +218,20 @@ same_true a b e = ap (λ (n : Bool). record { has_null = n }) {x = a.has_null} (
 same_self : (a : Algorithm) → same_algorithm a a ≡ true
 same_self a = (booleans_Decides a.has_null a.has_null).1 refl
 
-is_crl_content : (r : CrlFields) (text : List ℕ) → Turned with_same_algorithm IsKept r text → IsCertificateListContent r text
+is_crl_content : (r : CrlFields) (text : List ℕ) → IsConversion with_same_algorithm IsKept r text → IsCertificateListContent r text
 is_crl_content r text (q, s, e) =
     let a = chosen (same_algorithm q.fields.algorithm q.signed_data.signature.algorithm) (some q) r e in
     let content : IsCertificateListContent q text = record { signed_is = s.0; fields_are = s.1; same_algorithm = same_true q.fields.algorithm q.signed_data.signature.algorithm a.0 } in
     subst (λ (g : CrlFields). IsCertificateListContent g text) (some_is q r a.1) content
 
-crl_content_is : (r : CrlFields) (text : List ℕ) → IsCertificateListContent r text → Turned with_same_algorithm IsKept r text
+crl_content_is : (r : CrlFields) (text : List ℕ) → IsCertificateListContent r text → IsConversion with_same_algorithm IsKept r text
 crl_content_is r text s = (r, (s.signed_is, s.fields_are), rw (s.same_algorithm, same_self r.signed_data.signature.algorithm) refl)
 
 -- the content of a CertificateList is read as it is encoded
 pub crl_content_reads : Reads crl_content_at IsCertificateListContent
 unfolding crl_content_at
 crl_content_reads =
-    same_reads (turned with_same_algorithm kept_at) (Turned with_same_algorithm IsKept) IsCertificateListContent
+    same_reads (conversion with_same_algorithm kept_at) (IsConversion with_same_algorithm IsKept) IsCertificateListContent
     (turned_reads with_same_algorithm kept_at IsKept kept_reads)
     is_crl_content crl_content_is
 

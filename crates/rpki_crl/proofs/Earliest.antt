@@ -2,7 +2,7 @@
 use Rattle.std.specs.List.{AllByRecursion}
 use Rattle.std.specs.Prelude.{Result}
 use Rattle.std.proofs.Common.{◌≡◌, ℕ, List, [], ◌∷◌, ◌++◌, None, refl, sym, ap, subst, ◌∙◌, inl}
-use Rattle.rpki_der.specs.Rows.{IsFirstWith}
+use Rattle.rpki_der.specs.Sequences.{IsFirstWith}
 use Rattle.rpki_parts.specs.Conditions.{IsFirstFalse, Tests}
 use Rattle.rpki_cert.specs.Certificates.{TbsFields}
 use Rattle.rpki_cert.specs.Verification.{Context}

@@ -4,11 +4,11 @@ use Rattle.rpki_der.specs.Tags.{SEQUENCE}
 use Rattle.rpki_der.specs.Reading.{both, Both, Inside, Reads}
 use Rattle.rpki_der.specs.Serials.Reading.{serial_at}
 use Rattle.rpki_der.specs.Times.Reading.{time_at}
-use Rattle.rpki_der.specs.Rows.Reading.{Shrinks}
+use Rattle.rpki_der.specs.Sequences.Reading.{Shrinks}
 use Rattle.rpki_der.specs.Serials.{IsSerial}
 use Rattle.rpki_der.specs.Times.{Moment, IsTime}
 use Rattle.rpki_der.proofs.Readings.{both_reads, inside_reads, mapped_reads, same_reads}
-use Rattle.rpki_der.proofs.Rows.{inside_shrinks}
+use Rattle.rpki_der.proofs.Sequences.{inside_shrinks}
 use Rattle.rpki_der.proofs.SerialReads.{serial_reads}
 use Rattle.rpki_der.proofs.TimeReads.{time_reads}
 use Rattle.rpki_crl.specs.RevokedEntries.{Entry, IsEntry, IsEntryContent}

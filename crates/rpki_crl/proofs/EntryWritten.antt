@@ -6,11 +6,11 @@ use Rattle.std.proofs.lemmas.Int.Digits.{length-digits_of-le}
 use Rattle.std.proofs.lemmas.List.{append-nil, length-append}
 use Rattle.rpki_der.specs.Primitives.{unsigned, number}
 use Rattle.rpki_der.specs.Times.{Moment, time}
-use Rattle.rpki_der.specs.Rows.Reading.{row_of}
+use Rattle.rpki_der.specs.Sequences.Reading.{row_of}
 use Rattle.rpki_der.proofs.Octets.{some}
 use Rattle.rpki_der.proofs.RoundTrips.{enc_small, moment_made, serial_made, unsigned_small}
-use Rattle.rpki_der.proofs.Rows.{row_again}
-use Rattle.rpki_der.proofs.Walking.{passed}
+use Rattle.rpki_der.proofs.Sequences.{row_again}
+use Rattle.rpki_der.proofs.SequenceWalks.{passed}
 use Rattle.rpki_der.proofs.WrittenOctets.{ok_append, ok_number, ok_time}
 use Rattle.rpki_parts.proofs.Lengths.{time_short}
 use Rattle.rpki_crl.specs.RevokedEntries.{Entry, IsEntry, AreEntries, FitsEntry, entry, entry_content, entries}
@@ -40,7 +40,7 @@ entry_made e fits =
       enc = record { octet = omega arith; low_tag = omega arith; octets = ok_append (number e.serial) (time e.date) (ok_number e.serial) (ok_time e.date fits.1) (omega arith); short = omega arith; is = refl };
     }
 
--- a row of them
+-- a sequence of them
 pub row_made : (es : List Entry) → AllByRecursion FitsEntry es → AreEntries es (entries es)
 row_made [] all = refl
 row_made (e ∷ es) all = (entry e, entries es, entry_made e all.0, row_made es all.1, refl)

@@ -1,5 +1,5 @@
 pub mod EntryReads
-pub mod EntryRows
+pub mod EntrySequences
 pub mod ListReads
 pub mod EntryWritten
 pub mod Halvings

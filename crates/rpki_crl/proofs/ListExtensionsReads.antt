@@ -4,7 +4,7 @@ use Rattle.rpki_der.specs.Extensions.{Extension, IsExtension}
 use Rattle.rpki_der.specs.Extensions.Reading.{extension_at}
 use Rattle.rpki_der.specs.Folding.{IsLawful, IsFolded, over}
 use Rattle.rpki_der.specs.Values.Reading.{◌>>=◌}
-use Rattle.rpki_der.specs.Rows.{IsRow}
+use Rattle.rpki_der.specs.Sequences.{AreEncodings}
 use Rattle.rpki_der.specs.Reading.{ReadsWhole}
 use Rattle.rpki_der.proofs.Folding.{beside_law, each_law, over_reads}
 use Rattle.rpki_der.proofs.Octets.{bind_some, some, some_is}
@@ -39,9 +39,9 @@ give xs identifier number f e (others, (identifier_given, (number_given, _))) =
       crl_number_is = subst (λ (v : Option ℕ). Gives (with_any_flag crl_number) xs v) n.1 number_given;
     })
 
--- the octets are a row of extensions that give these values
+-- the octets are a sequence of extensions that give these values
 abbrev pub AreExtensions : ListExtensions → List ℕ → Type 0
-AreExtensions f row = (xs : List Extension) × IsRow IsExtension xs row × GiveListExtensions xs f
+AreExtensions f row = (xs : List Extension) × AreEncodings IsExtension xs row × GiveListExtensions xs f
 
 -- the extensions of a revocation list are read as they are encoded
 pub list_extensions_read : ReadsWhole list_extensions_of AreExtensions

@@ -3,18 +3,18 @@ use Rattle.std.proofs.Common.{◌≡◌, ℕ, List, [], Option, Some, None, refl
 use Rattle.rpki_der.specs.Tags.{SEQUENCE}
 use Rattle.rpki_der.specs.Choices.{optional_of}
 use Rattle.rpki_der.specs.Reading.{content, optional, Inside, Optional, ReadsOrAbsent, ReadsWhole}
-use Rattle.rpki_der.specs.Rows.Reading.{row_of}
+use Rattle.rpki_der.specs.Sequences.Reading.{row_of}
 use Rattle.rpki_der.specs.Values.{AreOctets, IsEnc}
 use Rattle.rpki_der.proofs.Choices.{inside_begins, optional_of_is}
 use Rattle.rpki_der.proofs.Octets.{bind_some, some, some_is}
 use Rattle.rpki_der.proofs.Optionals.{mapped_or_absent, optional_or_absent}
 use Rattle.rpki_der.proofs.Readings.{content_reads}
-use Rattle.rpki_der.proofs.Rows.{row_again, row_is}
-use Rattle.rpki_der.proofs.Walking.{passed}
+use Rattle.rpki_der.proofs.Sequences.{row_again, row_is}
+use Rattle.rpki_der.proofs.SequenceWalks.{passed}
 use Rattle.rpki_crl.specs.RevokedEntries.{AreEntries, Entry, IsEntry, IsRevokedCertificates, Revoked}
 use Rattle.rpki_crl.specs.RevokedEntries.Reading.{entry_at, entries_in, entries_pass, no_entries, or_no_entries, revoked_at, revoked_of}
 use Rattle.rpki_crl.proofs.EntryReads.{entry_reads, entry_shrinks}
-use Rattle.rpki_crl.proofs.EntryRows.{all_read, entries_are}
+use Rattle.rpki_crl.proofs.EntrySequences.{all_read, entries_are}
 
 -- ---- a whole content
 

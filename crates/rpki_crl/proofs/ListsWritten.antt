@@ -15,20 +15,20 @@ use Rattle.rpki_crl.specs.ListExtensions.{ListExtensions}
 use Rattle.rpki_crl.specs.Lists.{ListFields, version_2, list_row, tagged_list_extensions, list_content}
 use Rattle.rpki_crl.specs.RevokedEntries.{Revoked, revoked}
 
--- each extension, in the row
+-- each extension, in the sequence
 pub identifier_longer : (x : ListExtensions) → length (concat (extension_pieces authority_key_identifier.identifier false (authority_key_identifier_content x.authority_key_identifier))) ≤ length (list_row x)
 identifier_longer x =
     let pieces = concat (extension_pieces authority_key_identifier.identifier false (authority_key_identifier_content x.authority_key_identifier)) in
     omega (arith, enc_longer SEQUENCE pieces, length-append (enc SEQUENCE pieces) (extension crl_number.identifier false (number x.crl_number)))
 
--- the extension of a CRL number isn't longer than the row
+-- the extension of a CRL number isn't longer than the sequence
 pub number_longer : (x : ListExtensions) → length (concat (extension_pieces crl_number.identifier false (number x.crl_number))) ≤ length (list_row x)
 number_longer x =
     let pieces = concat (extension_pieces crl_number.identifier false (number x.crl_number)) in
     let front = extension authority_key_identifier.identifier false (authority_key_identifier_content x.authority_key_identifier) in
     omega (arith, enc_longer SEQUENCE pieces, length-append front (enc SEQUENCE pieces))
 
--- the row, and its SEQUENCE, in the tag
+-- the sequence, and its SEQUENCE, in the tag
 pub row_longer : (x : ListExtensions) → length (list_row x) ≤ length (tagged_list_extensions x)
 unfolding tagged_list_extensions
 row_longer x = omega (arith, enc_longer (CONTEXT_CONSTRUCTED 0) (enc SEQUENCE (list_row x)), enc_longer SEQUENCE (list_row x))

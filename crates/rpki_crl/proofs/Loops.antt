@@ -1,7 +1,7 @@
 -- Loops over a list: what was gone over, and the first element that is found.
 use Rattle.std.proofs.Common.{◌≡◌, ℕ, zero, suc, ◌<◌, List, [], ◌∷◌, ◌++◌, length, take, drop, get_or, map, ◌≤◌, refl, sym, ap, subst, arith}
 use Rattle.std.specs.List.{AllByRecursion}
-use Rattle.rpki_der.specs.Rows.{IsFirstWith}
+use Rattle.rpki_der.specs.Sequences.{IsFirstWith}
 
 module _ {X : Type 0} (P : X → Type 0) where
   -- one element more

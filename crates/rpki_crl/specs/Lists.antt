@@ -3,7 +3,7 @@ use Rattle.std.specs.Prelude.{◌≡◌, ℕ, ◌^◌, ◌<◌, Bool, false, Lis
 use Rattle.std.specs.List.{concat}
 use Rattle.rpki_der.specs.Extensions.{Extension, IsExtension, extension}
 use Rattle.rpki_der.specs.Primitives.{number}
-use Rattle.rpki_der.specs.Rows.{IsRow}
+use Rattle.rpki_der.specs.Sequences.{AreEncodings}
 use Rattle.rpki_der.specs.Skipping.{levels}
 use Rattle.rpki_der.specs.Tags.{CONTEXT_CONSTRUCTED, INTEGER, SEQUENCE}
 use Rattle.rpki_der.specs.Times.{Moment, IsTime, IsMoment, time}
@@ -52,7 +52,7 @@ pub record IsTbsCertListContentWithin (depth : ℕ) (f : ListFields Revoked) (co
   pub revoked_is : IsRevokedCertificates f.revoked revoked
   pub row : List ℕ
   pub triples : List Extension
-  pub row_is : IsRow IsExtension triples row
+  pub row_is : AreEncodings IsExtension triples row
   pub extensions_is : IsNested (CONTEXT_CONSTRUCTED 0 ∷ SEQUENCE ∷ []) row extensions
   pub gives : GiveListExtensions triples f.extensions
   pub is : content ≡ concat (version_2 ∷ algorithm ∷ issuer ∷ this_update ∷ next_update ∷ revoked ∷ extensions ∷ [])

@@ -3,7 +3,7 @@ use Rattle.std.specs.Prelude.{◌≡◌, ℕ, ◌^◌, ◌<◌, ◌⊎◌, List,
 use Rattle.std.specs.List.{concat}
 use Rattle.rpki_der.specs.Tags.{SEQUENCE}
 use Rattle.rpki_der.specs.Values.{IsEnc, IsSequenceOf, enc, sequence}
-use Rattle.rpki_der.specs.Rows.{IsRow}
+use Rattle.rpki_der.specs.Sequences.{AreEncodings}
 use Rattle.rpki_der.specs.Serials.{IsSerial}
 use Rattle.rpki_der.specs.Primitives.{number}
 use Rattle.rpki_der.specs.Times.{Moment, IsTime, IsMoment, time}
@@ -33,7 +33,7 @@ IsEntry = IsSequenceOf IsEntryContent
 
 -- the octets are these entries, one after the other
 abbrev pub AreEntries : List Entry → List ℕ → Type 0
-AreEntries = IsRow IsEntry
+AreEntries = AreEncodings IsEntry
 
 -- some entry has the serial
 abbrev pub IsRevoked : ℕ → List Entry → Type 0
@@ -64,7 +64,8 @@ entry e = enc SEQUENCE (entry_content e)
 abbrev pub entries : List Entry → List ℕ
 entries es = concat (map entry es)
 
--- the serial is below 2^160 (RFC 5280 4.1.2.2; its INTEGER has 21 octets from 2^159 on), and the moment exists
+-- the serial is below 2^160 (RFC 5280 4.1.2.2; its INTEGER has 21 octets from 2^159 on), and the
+-- moment exists
 abbrev pub FitsEntry : Entry → Type 0
 FitsEntry e = (e.serial < 2 ^ 160) × IsMoment e.date
 

@@ -1,7 +1,7 @@
 -- Stores of revocation lists (own).
 use Rattle.std.specs.Prelude.{◌≡◌, ℕ, Bool, ◌||◌, List, Option, Some, None, codes}
 use Rattle.std.specs.List.{AllByRecursion}
-use Rattle.rpki_der.specs.Rows.{IsFirstWith}
+use Rattle.rpki_der.specs.Sequences.{IsFirstWith}
 use Rattle.rpki_parts.specs.Uris.{AreEqual}
 use Rattle.rpki_crl.specs.Lists.{CrlState}
 

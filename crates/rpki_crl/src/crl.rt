@@ -1,7 +1,7 @@
 //! Revocation lists, read and asked.
 ghost use Rattle.std.specs.Prelude.{◌≡◌, ◌↔◌, ◌^◌, ◌<◌, ◌≤◌, true, false, length, IsTrue, IfOk, IsOk, OnOk, OnErr, IsErrOf, IfSome};
 ghost use Rattle.std.specs.List.{concat};
-ghost use Rattle.rpki_der.specs.Place.{Place, left, Keeps, AnswersOrMemoryBy, AnswersOptionalOrMemoryBy, MeansOrMemoryBy};
+ghost use Rattle.rpki_der.specs.Place.{Place, remaining, Keeps, AnswersOrMemoryBy, AnswersOptionalOrMemoryBy, MeansOrMemoryBy};
 ghost use Rattle.rpki_der.specs.Place.Reading.{TookOrMemoryBy};
 ghost use Rattle.rpki_der.specs.Tags.{SEQUENCE};
 ghost use Rattle.rpki_der.specs.Values.{AreOctets};
@@ -69,7 +69,7 @@ impl Crl {
         ensures reads { TookOrMemoryBy (λ c. c.list) crl_content_at content.old result content.new }
         ensures keeps { Keeps result content.old content.new }
         ensures uncached { IfOk result (λ c. c.is_cached ≡ false) }
-        ensures octets { AreOctets (left content.old) }
+        ensures octets { AreOctets (remaining content.old) }
     {
         let mut ahead = content.fork();
         let signed_data = SignedData::from_constructed(alloc, &mut ahead)?;
@@ -93,7 +93,7 @@ impl Crl {
         ensures reads { TookOrMemoryBy (λ c. c.list) crl_at cursor.old result cursor.new }
         ensures keeps { Keeps result cursor.old cursor.new }
         ensures uncached { IfOk result (λ c. c.is_cached ≡ false) }
-        ensures octets { AreOctets (left cursor.old) }
+        ensures octets { AreOctets (remaining cursor.old) }
     {
         let mut ahead = cursor.fork();
         let mut content = ahead.take_sequence()?;

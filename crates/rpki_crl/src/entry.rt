@@ -1,6 +1,6 @@
 //! An entry of a certificate revocation list.
 ghost use Rattle.std.specs.Prelude.{◌≡◌, ◌<◌, ◌^◌, ◌++◌, ℕ, OnOk, OnErr, IfErr, option_map};
-ghost use Rattle.rpki_der.specs.Place.{Place, left, Keeps, AnswersBy, AnswersOptionalBy};
+ghost use Rattle.rpki_der.specs.Place.{Place, remaining, Keeps, AnswersBy, AnswersOptionalBy};
 ghost use Rattle.rpki_der.specs.Place.Reading.{TookBy};
 ghost use Rattle.rpki_der.specs.Values.{AreOctets};
 ghost use Rattle.rpki_der.specs.Tags.{SEQUENCE};
@@ -39,7 +39,7 @@ impl CrlEntry {
     fn take_content(content: &mut Cursor<'_>) -> Result<CrlEntry, DecodeError>
         ensures reads { TookBy entry_of entry_content_at content.old result content.new }
         ensures keeps { Keeps result content.old content.new }
-        ensures octets { AreOctets (left content.old) }
+        ensures octets { AreOctets (remaining content.old) }
     {
         let mut ahead = content.fork();
         let user_certificate = Serial::take_from(&mut ahead)?;
@@ -57,7 +57,7 @@ impl CrlEntry {
     fn take_entry(cursor: &mut Cursor<'_>) -> Result<CrlEntry, DecodeError>
         ensures reads { TookBy entry_of entry_at cursor.old result cursor.new }
         ensures keeps { Keeps result cursor.old cursor.new }
-        ensures octets { AreOctets (left cursor.old) }
+        ensures octets { AreOctets (remaining cursor.old) }
     {
         let mut ahead = cursor.fork();
         let mut content = ahead.take_sequence()?;

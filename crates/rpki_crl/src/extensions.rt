@@ -1,7 +1,7 @@
 //! The extensions of a revocation list, in one pass, whatever order they stand in.
 ghost use Rattle.std.specs.Prelude.{◌≡◌, ◌⊎◌, codes, string_bytes, IfOk, IfErr};
 ghost use Rattle.rpki_der.specs.Primitives.{IsOid};
-ghost use Rattle.rpki_der.specs.Place.{Place, left, Refuses};
+ghost use Rattle.rpki_der.specs.Place.{Place, remaining, Rejects};
 ghost use Rattle.rpki_der.specs.Place.Reading.{Returns, ReturnsBy, ReturnsOrMemoryBy};
 ghost use Rattle.rpki_der.specs.Extensions.Reading.{extension_at};
 ghost use Rattle.rpki_der.specs.Folding.{over};
@@ -87,7 +87,7 @@ impl Seen {
             (list_fold.step (sights_of self.old) (record {
               identifier = identifier.now;
               critical = critical;
-              content = left content.old;
+              content = remaining content.old;
             })) }
     {
         let Some(kind) = kind_of(identifier) else {
@@ -111,10 +111,10 @@ impl Seen {
         }
     }
 
-    // A row of extensions, one after the other.
+    // A sequence of extensions, one after the other.
     fn from_row(alloc: Global, row: &Cursor<'_>) -> Result<Seen, DecodeError>
         ensures { ReturnsOrMemoryBy sights_of result
-            (over extension_at list_fold.step list_fold.start (left row.now)) }
+            (over extension_at list_fold.step list_fold.start (remaining row.now)) }
     {
         let mut rest = row.fork();
         let mut seen = Seen::nothing();
@@ -153,7 +153,7 @@ impl Extensions {
     #[tactic(auto, unfolding(crate::specs::ListExtensions::Reading::list_extensions_of))]
     pub(crate) fn from_row(alloc: Global, row: &Cursor<'_>) -> Result<Extensions, DecodeError>
         ensures reads { ReturnsOrMemoryBy extensions_view result
-            (list_extensions_of (left row.now)) }
+            (list_extensions_of (remaining row.now)) }
     {
         Extensions::complete(Seen::from_row(alloc, row)?)
     }

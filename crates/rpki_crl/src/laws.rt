@@ -1,4 +1,5 @@
-//! Laws about the definitions. Each is the contract of a function with no parameters and an empty body.
+//! Laws about the definitions. Each is the contract of a function with no parameters and an empty
+//! body.
 ghost use Rattle.std.specs.Prelude.{◌≡◌, ℕ, ◌≤◌, List};
 ghost use Rattle.std.specs.List.{AllByRecursion};
 ghost use Rattle.rpki_der.specs.Encoding.{Begins, BeginsOrAbsent};
@@ -20,7 +21,7 @@ pub fn unambiguous()
         → BeginsOrAbsent SEQUENCE IsRevokedCertificates b s tail → (r ≡ s) × (rest ≡ tail) }
 {}
 
-/// Says that a row of octets is at most one list of entries.
+/// Says that a sequence of octets is at most one list of entries.
 pub fn one_row()
     ensures { (ds es : List Entry) (b : List ℕ) → AreEntries ds b → AreEntries es b → ds ≡ es }
 {}

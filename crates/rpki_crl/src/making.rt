@@ -31,7 +31,7 @@ impl TbsCertList<RevokedCertificates> {
             (λ s. S.signs signer.now key.now self.now.algorithm (list_encoding self.now)
             (Ok s.signature)) }
         ensures fits { IfOk result (λ s. length (concat (signed_pieces s)) < 2 ^ 32) }
-        ensures refused { IfErr result (IsRefusal (list_content self.now)
+        ensures rejected { IfErr result (IsRefusal (list_content self.now)
             (S.signs signer.now key.now self.now.algorithm (list_encoding self.now))) }
     {
         let mut octets = Vec::new(alloc);
@@ -56,7 +56,7 @@ impl TbsCertList<RevokedCertificates> {
             (Ok c.list.signed_data.signature)) }
         ensures fits { IfOk result
             (λ c. length (concat (signed_pieces c.list.signed_data)) < 2 ^ 32) }
-        ensures refused { IfErr result (IsRefusal (list_content self)
+        ensures rejected { IfErr result (IsRefusal (list_content self)
             (S.signs signer.now key.now self.algorithm (list_encoding self))) }
     {
         match self.sign(alloc, signer, key) {
@@ -122,7 +122,7 @@ impl<C: IntoIterator<Item = CrlEntry>> TbsCertList<C> {
             (Ok c.list.signed_data.signature)) }
         ensures fits { IfOk result
             (λ c. length (concat (signed_pieces c.list.signed_data)) < 2 ^ 32) }
-        ensures refused { IfErr result (IsListRefusal self
+        ensures rejected { IfErr result (IsListRefusal self
             (AreGiven C.into_iter_gives C.IntoIter.next_gives self.revoked)
             (S.signs signer.now key.now self.algorithm)) }
     {

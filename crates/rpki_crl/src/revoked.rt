@@ -1,7 +1,7 @@
 //! The list of entries of a certificate revocation list.
 ghost use Rattle.std.specs.Prelude.{◌≡◌, ◌↔◌, IsTrue, IfOk, IfErr, map};
 ghost use Rattle.rpki_der.specs.declared.error.EncodeError.TheVariants.{Memory};
-ghost use Rattle.rpki_der.specs.Place.{Place, left, Keeps, AnswersOrAbsentOrMemory};
+ghost use Rattle.rpki_der.specs.Place.{Place, remaining, Keeps, AnswersOrAbsentOrMemory};
 ghost use Rattle.rpki_der.specs.Place.Reading.{Returns, ReturnsOrMemory, TookOrMemory};
 ghost use Rattle.rpki_der.specs.Tags.{SEQUENCE};
 ghost use Rattle.rpki_der.specs.Values.{AreOctets};
@@ -44,15 +44,15 @@ pub struct RevokedCertificatesIter<'a> {
 
 impl<'a> Model for RevokedCertificatesIter<'a> {
     ghost use Rattle.std.specs.Prelude.{◌≡◌, List, Some};
-    ghost use Rattle.rpki_der.specs.Place.{left};
+    ghost use Rattle.rpki_der.specs.Place.{remaining};
     ghost use Rattle.rpki_crl.specs.RevokedEntries.{Entry};
     ghost use Rattle.rpki_crl.specs.RevokedEntries.Reading.{entries_in, entries_pass};
 
     ghost Value = { List Entry };
 
-    ghost view = { λ i. entries_in (left i.rest) };
+    ghost view = { λ i. entries_in (remaining i.rest) };
 
-    ghost invariant = { λ i. entries_pass (left i.rest) ≡ Some tt };
+    ghost invariant = { λ i. entries_pass (remaining i.rest) ≡ Some tt };
 }
 
 impl<'a> Iterator for RevokedCertificatesIter<'a> {
@@ -78,7 +78,7 @@ impl<'a> Iterator for RevokedCertificatesIter<'a> {
 
 // Checks that the remaining octets are a sequence of entries.
 fn check(cursor: &Cursor<'_>) -> Result<(), DecodeError>
-    ensures { Returns result (entries_pass (left cursor.now)) }
+    ensures { Returns result (entries_pass (remaining cursor.now)) }
 {
     let mut rest = cursor.fork();
     while !rest.is_empty() {
@@ -87,10 +87,10 @@ fn check(cursor: &Cursor<'_>) -> Result<(), DecodeError>
     Ok(())
 }
 
-// The content of the SEQUENCE, if it is a row of entries.
+// The content of the SEQUENCE, if it is a sequence of entries.
 #[tactic(auto, unfolding(crate::specs::RevokedEntries::Reading::revoked_of))]
 fn kept(alloc: Global, content: &mut Cursor<'_>) -> Result<RevokedCertificates, DecodeError>
-    ensures { ReturnsOrMemory result (revoked_of (left content.old)) }
+    ensures { ReturnsOrMemory result (revoked_of (remaining content.old)) }
 {
     check(content)?;
     let octets = content.capture_rest(alloc)?;
@@ -141,7 +141,7 @@ impl RevokedCertificates {
     ) -> Result<RevokedCertificates, DecodeError>
         ensures reads { TookOrMemory revoked_at cursor.old result cursor.new }
         ensures keeps { Keeps result cursor.old cursor.new }
-        ensures octets { AreOctets (left cursor.old) }
+        ensures octets { AreOctets (remaining cursor.old) }
     {
         let mut ahead = cursor.fork();
         let list = match ahead.take_opt_sequence()? {

@@ -1,7 +1,7 @@
 //! The data of a revocation list: its fields, and how it is read.
 ghost use Rattle.std.specs.Prelude.{◌≡◌, IfOk};
 ghost use Rattle.std.specs.Borrow.{sem};
-ghost use Rattle.rpki_der.specs.Place.{Place, left, Keeps, AnswersOrMemory};
+ghost use Rattle.rpki_der.specs.Place.{Place, remaining, Keeps, AnswersOrMemory};
 ghost use Rattle.rpki_der.specs.Place.Reading.{Took, TookBy, TookOrMemory, TookOrMemoryBy};
 ghost use Rattle.rpki_der.specs.Reading.{inside, both};
 ghost use Rattle.rpki_der.specs.Values.Reading.{value_at};
@@ -73,9 +73,9 @@ struct Head {
     revoked_certs: RevokedCertificates,
 }
 
-// The row of extensions, as it stands inside its tags.
+// The sequence of extensions, as it stands inside its tags.
 fn take_row<'a>(cursor: &mut Cursor<'a>) -> Result<Cursor<'a>, DecodeError>
-    ensures reads { TookBy left (inside (CONTEXT_CONSTRUCTED 0) (value_at SEQUENCE))
+    ensures reads { TookBy remaining (inside (CONTEXT_CONSTRUCTED 0) (value_at SEQUENCE))
         cursor.old result cursor.new }
     ensures keeps { Keeps result cursor.old cursor.new }
 {
@@ -87,7 +87,7 @@ fn take_row<'a>(cursor: &mut Cursor<'a>) -> Result<Cursor<'a>, DecodeError>
     Ok(row)
 }
 
-// These fields, and the row of extensions as it stands.
+// These fields, and the sequence of extensions as it stands.
 #[tactic(auto, unfolding(crate::specs::Lists::Reading::list_parts_in_order))]
 fn take_in_order<'a>(
     alloc: Global,
@@ -145,7 +145,7 @@ impl TbsCertList<RevokedCertificates> {
     ) -> Result<TbsCertList<RevokedCertificates>, DecodeError>
         ensures reads { TookOrMemory list_at cursor.old result cursor.new }
         ensures keeps { Keeps result cursor.old cursor.new }
-        ensures octets { AreOctets (left cursor.old) }
+        ensures octets { AreOctets (remaining cursor.old) }
     {
         let mut ahead = cursor.fork();
         let (head, row) = take_fields(alloc, &mut ahead)?;

@@ -3,17 +3,17 @@ use Rattle.std.specs.Prelude.{bytes_eq}
 use Rattle.std.proofs.Common.{◌≡◌, ℕ, eqb, List, [], ◌∷◌, ◌++◌, length, Option, Some, None, refl, sym, ap, subst, ◌∙◌, inl, inr, arith}
 use Rattle.std.proofs.lemmas.Bool.{cases_Bool, eq-eqb, ne_eqb}
 use Rattle.std.proofs.lemmas.Slice.Eq.{bytes_eq-Decides}
-use Rattle.rpki_der.specs.Choices.{exactly, choice, Either, turned, Turned, picked, content_or, maybe, optional_of}
+use Rattle.rpki_der.specs.Choices.{exactly, choice, Either, conversion, IsConversion, content_case, content_or, maybe, optional_of}
 use Rattle.rpki_der.specs.Reading.{optional, content, Reads, ReadsWhole, Inside, BeginWith}
 use Rattle.rpki_der.specs.Values.Reading.{value_at, ◌>>=◌}
-use Rattle.rpki_der.specs.Rows.{IsRow}
-use Rattle.rpki_der.specs.Rows.Reading.{row_of, Shrinks}
+use Rattle.rpki_der.specs.Sequences.{AreEncodings}
+use Rattle.rpki_der.specs.Sequences.Reading.{row_of, Shrinks}
 use Rattle.rpki_der.specs.Encoding.{Begins, BeginsOther}
 use Rattle.rpki_der.specs.Values.{AreOctets, length_octets, enc, IsEnc}
 use Rattle.rpki_der.proofs.Octets.{nothing, bind_some, some, some_is, both_are}
 use Rattle.rpki_der.proofs.Readings.{begins_same, content_reads}
 use Rattle.rpki_der.proofs.ValueReads.{value_shorter}
-use Rattle.rpki_der.proofs.Rows.{row_is, row_again}
+use Rattle.rpki_der.proofs.Sequences.{row_is, row_again}
 
 by_first : {X : Type 0} (t : ℕ) (f g : List ℕ → Option X) (bytes tail : List ℕ) → bytes ≡ t ∷ tail → choice t f g bytes ≡ f bytes
 by_first t f g [] tail e = absurd cc
@@ -46,14 +46,14 @@ choice_reads t f g S T F G begin other = record {
 -- ---- what a function makes of a value
 
 -- a lawful reading stays lawful where a function turns what it reads
-pub turned_reads : {X Y : Type 0} (f : X → Option Y) (read : List ℕ → Option (X × List ℕ)) (S : X → List ℕ → Type 0) → Reads read S → Reads (turned f read) (Turned f S)
+pub turned_reads : {X Y : Type 0} (f : X → Option Y) (read : List ℕ → Option (X × List ℕ)) (S : X → List ℕ → Type 0) → Reads read S → Reads (conversion f read) (IsConversion f S)
 turned_reads {X} {Y} f read S F = record {
   takes = λ bytes y rest fits e.
       let a = bind_some (read bytes) (λ x. f x.0 >>= λ z. Some (z, x.1)) (y, rest) e in
       let b = bind_some (f a.0.0) (λ z. Some (z, a.0.1)) (y, rest) a.2 in
       let one = F.takes bytes a.0.0 a.0.1 fits a.1 in
       let made : Y × List ℕ = (b.0, a.0.1) in
-      begins_same (Turned f S) bytes made (y, rest) (some_is made (y, rest) b.2) (record {
+      begins_same (IsConversion f S) bytes made (y, rest) (some_is made (y, rest) b.2) (record {
         text = one.text;
         encoded = (a.0.0, one.encoded, b.1);
         parts = one.parts;
@@ -62,7 +62,7 @@ turned_reads {X} {Y} f read S F = record {
 }
 
 -- what a function makes of a whole
-pub turned_whole : {X Y : Type 0} (f : X → Option Y) (read : List ℕ → Option X) (S : X → List ℕ → Type 0) → ReadsWhole read S → ReadsWhole (λ c. read c >>= f) (Turned f S)
+pub turned_whole : {X Y : Type 0} (f : X → Option Y) (read : List ℕ → Option X) (S : X → List ℕ → Type 0) → ReadsWhole read S → ReadsWhole (λ c. read c >>= f) (IsConversion f S)
 turned_whole {X} {Y} f read S F = record {
   takes = λ octets y fits e.
       let a = bind_some (read octets) f y e in
@@ -72,8 +72,8 @@ turned_whole {X} {Y} f read S F = record {
 
 -- ---- the whole of some octets
 
--- a row is a whole
-pub row_reads : {X : Type 0} (read : List ℕ → Option (X × List ℕ)) (S : X → List ℕ → Type 0) → Reads read S → Shrinks read → ReadsWhole (row_of read) (IsRow S)
+-- a sequence is a whole
+pub row_reads : {X : Type 0} (read : List ℕ → Option (X × List ℕ)) (S : X → List ℕ → Type 0) → Reads read S → Shrinks read → ReadsWhole (row_of read) (AreEncodings S)
 row_reads read S F less = record { takes = λ octets xs fits e. row_is read S F octets xs fits e; again = λ xs octets s. row_again read S F less xs octets s }
 
 -- these octets, and no others
@@ -117,7 +117,7 @@ of_value f None = refl
 of_value f (Some v) = of_content f v.0 v.1 (f v.0)
 
 of_picked : {X : Type 0} (f : List ℕ → Option X) (g : List ℕ → Option (X × List ℕ)) (v : Option (List ℕ × List ℕ))
-    → ((v >>= λ x. some {A = Option (List ℕ) × List ℕ} (Some x.0, x.1)) >>= λ c. picked f g c.0 c.1) ≡ (v >>= λ w. f w.0 >>= λ x. some {A = X × List ℕ} (x, w.1))
+    → ((v >>= λ x. some {A = Option (List ℕ) × List ℕ} (Some x.0, x.1)) >>= λ c. content_case f g c.0 c.1) ≡ (v >>= λ w. f w.0 >>= λ x. some {A = X × List ℕ} (x, w.1))
 of_picked f g None = refl
 of_picked f g (Some v) = refl
 
@@ -158,7 +158,7 @@ content_shrinks {X} t f = λ bytes x rest e.
     omega (arith, value_shorter t bytes a.0.0 a.0.1 a.1, ap length same)
 
 -- a reading that is turned uses octets up where the reading does
-pub turned_shrinks : {X Y : Type 0} (f : X → Option Y) (read : List ℕ → Option (X × List ℕ)) → Shrinks read → Shrinks (turned f read)
+pub turned_shrinks : {X Y : Type 0} (f : X → Option Y) (read : List ℕ → Option (X × List ℕ)) → Shrinks read → Shrinks (conversion f read)
 turned_shrinks {X} {Y} f read less = λ bytes y rest e.
     let a = bind_some (read bytes) (λ x. f x.0 >>= λ z. some {A = Y × List ℕ} (z, x.1)) (y, rest) e in
     let b = bind_some (f a.0.0) (λ z. some {A = Y × List ℕ} (z, a.0.1)) (y, rest) a.2 in

@@ -8,7 +8,7 @@ use Rattle.rpki_der.specs.Primitives.{IsBoolOrFalse, IsObjectIdentifier}
 use Rattle.rpki_der.specs.Primitives.Reading.{bool_or_false_at, oid_at}
 use Rattle.rpki_der.specs.Reading.{inside, both, mapped, Reads, Both, Inside}
 use Rattle.rpki_der.specs.Values.Reading.{value_at}
-use Rattle.rpki_der.specs.Rows.Reading.{Shrinks}
+use Rattle.rpki_der.specs.Sequences.Reading.{Shrinks}
 use Rattle.rpki_der.specs.Encoding.{BeginsOther}
 use Rattle.rpki_der.specs.Tags.{BOOLEAN, OCTET_STRING, SEQUENCE}
 use Rattle.rpki_der.proofs.Readings.{before_then}
@@ -16,7 +16,7 @@ use Rattle.rpki_der.proofs.IdentifierReads.{oid_reads}
 use Rattle.rpki_der.proofs.Readings.{both_reads, inside_reads, mapped_reads, same_reads}
 use Rattle.rpki_der.proofs.PrimitiveReads.{bool_or_false_reads}
 use Rattle.rpki_der.proofs.ValueReads.{value_reads}
-use Rattle.rpki_der.proofs.Rows.{inside_shrinks}
+use Rattle.rpki_der.proofs.Sequences.{inside_shrinks}
 
 abbrev Parts : List ℕ × (Bool × List ℕ) → List ℕ → Type 0
 Parts = Both IsObjectIdentifier (Both IsBoolOrFalse (IsEnc OCTET_STRING))

@@ -3,7 +3,7 @@ use Rattle.std.proofs.Common.{◌≡◌, ℕ, ◌+◌, ◌-◌, ◌≤◌, List,
 use Rattle.std.proofs.lemmas.List.{length-append, take_at, drop_at, take-take}
 use Rattle.std.proofs.lemmas.List.Edits.{length-between}
 use Rattle.bytes.proofs.Ranges.{drop-slice_range}
-use Rattle.rpki_der.specs.Place.{Place, left, MovesOn}
+use Rattle.rpki_der.specs.Place.{Place, remaining, MovesOn}
 use Rattle.rpki_der.specs.Values.Reading.{value_at}
 use Rattle.rpki_der.proofs.ValueReads.{value_parts}
 
@@ -31,9 +31,9 @@ pub record IsPlaced (p : Place) (c rest : List ℕ) : Type 0 where
   pub after : slice_range p.source (p.to - length rest) p.to ≡ rest
 
 -- where a value that was read lies in the source
-pub placed : (t : ℕ) (p : Place) (c rest : List ℕ) → p.from ≤ p.to → p.to ≤ length p.source → value_at t (left p) ≡ Some (c, rest) → IsPlaced p c rest
+pub placed : (t : ℕ) (p : Place) (c rest : List ℕ) → p.from ≤ p.to → p.to ≤ length p.source → value_at t (remaining p) ≡ Some (c, rest) → IsPlaced p c rest
 placed t p c rest a b e =
-    let v = value_parts t (left p) c rest e in
+    let v = value_parts t (remaining p) c rest e in
     let head = v.head in
     let one = cut p.source p.from p.to head (c ++ rest) a b v.whole in
     let two = cut p.source (p.from + length head) p.to c rest (omega (arith, one.fits)) b one.back in
@@ -46,10 +46,10 @@ placed t p c rest a b e =
     }
 
 -- from a place to a later one
-pub until_is : (p q : Place) → MovesOn p q → q.from ≤ q.to → q.to ≤ length q.source → slice_range p.source p.from q.from ≡ take (length (left p) - length (left q)) (left p)
+pub until_is : (p q : Place) → MovesOn p q → q.from ≤ q.to → q.to ≤ length q.source → slice_range p.source p.from q.from ≡ take (length (remaining p) - length (remaining q)) (remaining p)
 until_is p q m a b =
     let long : length p.source ≡ length q.source = ap length (sym m.source) in
-    let all : length (left p) ≡ p.to - p.from = omega (arith, long, m.to, m.from, length-between p.source p.from p.to) in
-    let later : length (left q) ≡ q.to - q.from = omega (arith, length-between q.source q.from q.to) in
-    let count : q.from - p.from ≡ length (left p) - length (left q) = omega (arith, all, later, m.to, m.from) in
-    sym (take-take (q.from - p.from) (p.to - p.from) (drop p.from p.source) (omega (arith, m.to, m.from))) ∙ ap (λ (n : ℕ). take n (left p)) count
+    let all : length (remaining p) ≡ p.to - p.from = omega (arith, long, m.to, m.from, length-between p.source p.from p.to) in
+    let later : length (remaining q) ≡ q.to - q.from = omega (arith, length-between q.source q.from q.to) in
+    let count : q.from - p.from ≡ length (remaining p) - length (remaining q) = omega (arith, all, later, m.to, m.from) in
+    sym (take-take (q.from - p.from) (p.to - p.from) (drop p.from p.source) (omega (arith, m.to, m.from))) ∙ ap (λ (n : ℕ). take n (remaining p)) count

@@ -5,7 +5,7 @@ use Rattle.rpki_der.specs.Choices.{followed, Followed, whole}
 use Rattle.rpki_der.specs.Reading.{ended, inside, both, mapped, content, ReadsBefore, Anything, Reads, ReadsWhole, Both, Inside}
 use Rattle.rpki_der.specs.Values.Reading.{value_at, ◌>>=◌}
 use Rattle.rpki_der.specs.Encoding.{Begins}
-use Rattle.rpki_der.specs.Place.{Place, left}
+use Rattle.rpki_der.specs.Place.{Place, remaining}
 use Rattle.rpki_der.specs.Values.{AreOctets, length_octets, enc, IsEnc}
 use Rattle.rpki_der.proofs.Octets.{AreOctets-after, AreOctets-front, bind_some, some, some_is, both_are, nothing}
 use Rattle.rpki_der.proofs.ValueReads.{value_takes, value_again}
@@ -57,9 +57,9 @@ both_begin S T octets x next y rest one two = record {
 
 -- a content that isn't used up
 pub not_used_up : {X : Type 0} {c rest more : List ℕ} {x : X} {now ahead : Place} (t : ℕ) (f : List ℕ → Option (X × List ℕ))
-    → ahead ≡ now → value_at t (left ahead) ≡ Some (c, rest) → f c ≡ Some (x, more) → (more ≡ [] → ⊥) → inside t f (left now) ≡ None
+    → ahead ≡ now → value_at t (remaining ahead) ≡ Some (c, rest) → f c ≡ Some (x, more) → (more ≡ [] → ⊥) → inside t f (remaining now) ≡ None
 not_used_up {X} {c} {rest} {more} {x} {now} {ahead} t f same v e h =
-    let here : value_at t (left now) ≡ Some (c, rest) = subst (λ (p : Place). value_at t (left p) ≡ Some (c, rest)) same v in
+    let here : value_at t (remaining now) ≡ Some (c, rest) = subst (λ (p : Place). value_at t (remaining p) ≡ Some (c, rest)) same v in
     rw (here, e) (unended more (x, rest) h)
   where
     unended : {X : Type 0} (more : List ℕ) (x : X) → (more ≡ [] → ⊥) → ended more x ≡ None

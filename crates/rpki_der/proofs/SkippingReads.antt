@@ -7,17 +7,17 @@ use Rattle.std.proofs.lemmas.List.{length-append, take_at}
 use Rattle.rpki_der.specs.Values.{AreOctets, enc, IsEnc, IsValue}
 use Rattle.rpki_der.specs.Reading.{Reads, ReadsWhole}
 use Rattle.rpki_der.specs.Values.Reading.{value_at, ◌>>=◌}
-use Rattle.rpki_der.specs.Rows.{IsRow}
-use Rattle.rpki_der.specs.Rows.Reading.{row_of}
+use Rattle.rpki_der.specs.Sequences.{AreEncodings}
+use Rattle.rpki_der.specs.Sequences.Reading.{row_of}
 use Rattle.rpki_der.specs.Place.Reading.{Returns}
 use Rattle.rpki_der.specs.declared.error.DecodeError.{DecodeError}
 use Rattle.rpki_der.specs.Encoding.{Begins}
-use Rattle.rpki_der.specs.Skipping.{IsSkippableWithin, IsSkippableRow, IsSkipped, IsCaptured, levels}
+use Rattle.rpki_der.specs.Skipping.{IsSkippableWithin, IsSkippableSequence, IsSkipped, IsCaptured, levels}
 use Rattle.rpki_der.specs.Skipping.Reading.{any_at, captured_at, is_primitive, skip_within, skip_row_within, skip_at, skip_all_of}
 use Rattle.rpki_der.proofs.Octets.{bind_some, if_some, some, some_is, nothing}
 use Rattle.rpki_der.proofs.Readings.{begins_same}
 use Rattle.rpki_der.proofs.ValueReads.{value_takes, value_again}
-use Rattle.rpki_der.proofs.Rows.{row_is, row_again}
+use Rattle.rpki_der.proofs.Sequences.{row_is, row_again}
 use Rattle.rpki_der.proofs.SkippingSteps.{within_shrinks}
 
 -- ---- a value of any identifier octet
@@ -74,18 +74,18 @@ captured_reads = record {
 abbrev Within : ℕ → Unit {0} → List ℕ → Type 0
 Within d u b = IsSkippableWithin d b
 
--- a row of them, as its pieces
-row_to : (P : List ℕ → Type 0) (us : List (Unit {0})) (b : List ℕ) → IsRow {V = Unit {0}} (λ u x. P x) us b → (row : List (List ℕ)) × (b ≡ concat row) × AllByRecursion P row
+-- a sequence of them, as its pieces
+row_to : (P : List ℕ → Type 0) (us : List (Unit {0})) (b : List ℕ) → AreEncodings {V = Unit {0}} (λ u x. P x) us b → (row : List (List ℕ)) × (b ≡ concat row) × AllByRecursion P row
 row_to P [] b h = ([], h, tt)
 row_to P (u ∷ us) b h =
     let r = row_to P us h.1 h.3 in
     (h.0 ∷ r.0, h.4 ∙ ap (λ (x : List ℕ). h.0 ++ x) r.1, (h.2, r.2))
 
-row_from : (P : List ℕ → Type 0) (row : List (List ℕ)) → AllByRecursion P row → (us : List (Unit {0})) × IsRow {V = Unit {0}} (λ u x. P x) us (concat row)
+row_from : (P : List ℕ → Type 0) (row : List (List ℕ)) → AllByRecursion P row → (us : List (Unit {0})) × AreEncodings {V = Unit {0}} (λ u x. P x) us (concat row)
 row_from P [] h = ([], refl)
 row_from P (b ∷ row) h = let r = row_from P row h.1 in (tt ∷ r.0, (b, concat row, h.0, r.1, refl))
 
--- a row of skipped values is read lawfully where one of them is
+-- a sequence of skipped values is read lawfully where one of them is
 pub row_reads : (d : ℕ) → Reads (skip_within d) (Within d) → ReadsWhole (skip_row_within d) (λ u b. (row : List (List ℕ)) × (b ≡ concat row) × AllByRecursion (IsSkippableWithin d) row)
 row_reads d R = record {
   takes = λ octets u fits e.
@@ -157,12 +157,12 @@ pub skip_reads : Reads skip_at IsSkipped
 unfolding skip_at
 skip_reads = within_reads levels
 
--- a row of values is skipped where each of them can be
-pub skip_all_reads : ReadsWhole skip_all_of (λ u b. IsSkippableRow b)
+-- a sequence of values is skipped where each of them can be
+pub skip_all_reads : ReadsWhole skip_all_of (λ u b. IsSkippableSequence b)
 unfolding skip_all_of
 skip_all_reads = row_reads levels (within_reads levels)
 
 -- what a reader of the whole gave, both ways
-pub skips_all : (r : Result (Unit {0}) DecodeError) (octets : List ℕ) → AreOctets octets → Returns r (skip_all_of octets) → IsOk r ↔ IsSkippableRow octets
+pub skips_all : (r : Result (Unit {0}) DecodeError) (octets : List ℕ) → AreOctets octets → Returns r (skip_all_of octets) → IsOk r ↔ IsSkippableSequence octets
 skips_all (Ok u) octets fits e = (λ _. skip_all_reads.takes octets u fits e, λ _. refl)
 skips_all (Err d) octets fits e = (λ h. absurd cc, λ row. nothing tt (sym e.1 ∙ skip_all_reads.again tt octets row))

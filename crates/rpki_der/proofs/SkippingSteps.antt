@@ -2,7 +2,7 @@
 use Rattle.std.proofs.Common.{◌≡◌, ◌≢◌, ℕ, zero, suc, ◌-◌, ◌/◌, ◌%◌, ◌<◌, Bool, true, false, cond, List, [], ◌∷◌, length, Option, Some, None, refl, ap, ◌∙◌, arith}
 use Rattle.std.proofs.lemmas.Bool.{eq-eqb, ne_eqb}
 use Rattle.rpki_der.specs.Values.Reading.{value_at, ◌>>=◌}
-use Rattle.rpki_der.specs.Rows.Reading.{row_of, Shrinks}
+use Rattle.rpki_der.specs.Sequences.Reading.{row_of, Shrinks}
 use Rattle.rpki_der.specs.Skipping.Reading.{any_at, is_primitive, skip_within, skip_row_within}
 use Rattle.rpki_der.proofs.Octets.{bind_some, some, both_are, nothing}
 use Rattle.rpki_der.proofs.ValueReads.{value_shorter}
@@ -92,5 +92,5 @@ pub skips_inside : (levels : ℕ) (octets : List ℕ) (tag : ℕ) (content rest 
 skips_inside levels octets tag content rest some_level e p row = constructed_at levels octets tag content rest some_level e p ∙ rw row refl
 
 -- a constructed value isn't skipped where its content wasn't
-pub skips_refused : (levels : ℕ) (octets : List ℕ) (tag : ℕ) (content rest : List ℕ) → 0 < levels → IsNext octets tag content rest → tag / 32 % 2 ≡ 1 → skip_row_within (levels - 1) content ≡ None → skip_within levels octets ≡ None
-skips_refused levels octets tag content rest some_level e p row = constructed_at levels octets tag content rest some_level e p ∙ rw row refl
+pub skips_rejected : (levels : ℕ) (octets : List ℕ) (tag : ℕ) (content rest : List ℕ) → 0 < levels → IsNext octets tag content rest → tag / 32 % 2 ≡ 1 → skip_row_within (levels - 1) content ≡ None → skip_within levels octets ≡ None
+skips_rejected levels octets tag content rest some_level e p row = constructed_at levels octets tag content rest some_level e p ∙ rw row refl

@@ -188,12 +188,12 @@ digits_are text m exists is = moment_again [] m text (exists, is)
 -- what is found in digits
 pub found_digits : (text : List ℕ) (r : Result Moment DecodeError) → Returns r (moment_at [] text) → IfSome (result_ok r) (λ m. IsMoment m × (text ≡ fourteen_digits m))
 found_digits text (Ok m) found = moment_takes [] text m found
-found_digits text (Err e) refused = tt
+found_digits text (Err e) rejected = tt
 
 -- a text that isn't read as fourteen digits is that of no moment
 pub no_digits : (text : List ℕ) (r : Result Moment DecodeError) → Returns r (moment_at [] text) → IfNone (result_ok r) ((m : Moment) → IsMoment m → text ≡ fourteen_digits m → ⊥)
 no_digits text (Ok m) found = tt
-no_digits text (Err e) refused = λ m exists is.
+no_digits text (Err e) rejected = λ m exists is.
     let found : moment_at [] text ≡ Some m = digits_are text m exists is in
     absurd cc
 

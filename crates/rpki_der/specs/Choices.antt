@@ -16,15 +16,15 @@ abbrev pub Either : {V : Type 0} → (V → List ℕ → Type 0) → (V → List
 Either first second v text = first v text ⊎ second v text
 
 -- what a whole content gives, or what is read before another tag
-abbrev pub picked : {X : Type 0} → (List ℕ → Option X) → (List ℕ → Option (X × List ℕ)) → Option (List ℕ) → List ℕ → Option (X × List ℕ)
-picked of other (Some c) rest = of c >>= λ x. Some (x, rest)
-picked of other None rest = other rest
+abbrev pub content_case : {X : Type 0} → (List ℕ → Option X) → (List ℕ → Option (X × List ℕ)) → Option (List ℕ) → List ℕ → Option (X × List ℕ)
+content_case of other (Some c) rest = of c >>= λ x. Some (x, rest)
+content_case of other None rest = other rest
 
 -- reads a whole content behind this tag, or by the other before another tag
 abbrev pub content_or : {X : Type 0} → ℕ → (List ℕ → Option X) → (List ℕ → Option (X × List ℕ)) → List ℕ → Option (X × List ℕ)
 content_or tag of other bytes = do
   c ← optional tag (value_at tag) bytes
-  picked of other c.0 c.1
+  content_case of other c.0 c.1
 
 -- what a whole content gives, or nothing before another tag
 abbrev pub maybe : {X : Type 0} → (List ℕ → Option X) → Option (List ℕ) → List ℕ → Option (Option X × List ℕ)
@@ -58,15 +58,15 @@ always x bytes = Some (x, bytes)
 -- ---- what was read decides
 
 -- what a function makes of the value, if it makes anything
-abbrev pub turned : {X Y : Type 0} → (X → Option Y) → (List ℕ → Option (X × List ℕ)) → List ℕ → Option (Y × List ℕ)
-turned f read bytes = do
+abbrev pub conversion : {X Y : Type 0} → (X → Option Y) → (List ℕ → Option (X × List ℕ)) → List ℕ → Option (Y × List ℕ)
+conversion f read bytes = do
   x ← read bytes
   y ← f x.0
   Some (y, x.1)
 
 -- what a function makes of a value that is encoded so
-abbrev pub Turned : {X Y : Type 0} → (X → Option Y) → (X → List ℕ → Type 0) → Y → List ℕ → Type 0
-Turned {X} f encodes y text = (x : X) × encodes x text × (f x ≡ Some y)
+abbrev pub IsConversion : {X Y : Type 0} → (X → Option Y) → (X → List ℕ → Type 0) → Y → List ℕ → Type 0
+IsConversion {X} f encodes y text = (x : X) × encodes x text × (f x ≡ Some y)
 
 -- one value, and then one that depends on it
 abbrev pub followed : {X Y : Type 0} → (List ℕ → Option (X × List ℕ)) → (X → List ℕ → Option (Y × List ℕ)) → List ℕ → Option (Y × List ℕ)

@@ -12,8 +12,8 @@ pub record Place : Type 0 where
   pub to : ℕ
 
 -- the remaining octets
-abbrev pub left : Place → List ℕ
-left p = slice_range p.source p.from p.to
+abbrev pub remaining : Place → List ℕ
+remaining p = slice_range p.source p.from p.to
 
 -- both lie in one source, the inner one inside the outer one
 pub record IsWithin (inner outer : Place) : Type 0 where
@@ -38,17 +38,17 @@ pub record EndsAt (inner outer : Place) : Type 0 where
   pub end : inner.to ≡ outer.from
 
 -- what `out of memory` may stand in place of: every other error says P
-abbrev pub Refuses : DecodeError → Type 0 → Type 0
-Refuses Memory P = Unit {0}
-Refuses _ P = P
+abbrev pub Rejects : DecodeError → Type 0 → Type 0
+Rejects Memory P = Unit {0}
+Rejects _ P = P
 
 -- ---- both directions of a relation
 
 -- A reader's answer, seen by view: a value that a front encodes, and the cursor stands behind it;
 -- or no front encodes any value. It takes no memory.
 abbrev pub AnswersBy : {X Y : Type 0} → (X → Y) → (Y → List ℕ → Type 0) → Place → Result X DecodeError → Place → Type 0
-AnswersBy view encodes old (Ok x) new = Begins encodes (left old) (view x) (left new)
-AnswersBy {X} {Y} view encodes old (Err e) new = (e ≢ Memory) × ((y : Y) (rest : List ℕ) → Begins encodes (left old) y rest → ⊥)
+AnswersBy view encodes old (Ok x) new = Begins encodes (remaining old) (view x) (remaining new)
+AnswersBy {X} {Y} view encodes old (Err e) new = (e ≢ Memory) × ((y : Y) (rest : List ℕ) → Begins encodes (remaining old) y rest → ⊥)
 
 -- a reader's answer without a view
 abbrev pub Answers : {X : Type 0} → (X → List ℕ → Type 0) → Place → Result X DecodeError → Place → Type 0
@@ -56,15 +56,15 @@ Answers encodes = AnswersBy (λ x. x) encodes
 
 -- The answer of a reader that answers None at the end and before another identifier, seen by view.
 abbrev pub AnswersOptionalBy : {X Y : Type 0} → (X → Y) → ℕ → (Y → List ℕ → Type 0) → Place → Result (Option X) DecodeError → Place → Type 0
-AnswersOptionalBy view tag encodes old (Ok None) new = BeginsOther tag (left old) × (new ≡ old)
-AnswersOptionalBy view tag encodes old (Ok (Some x)) new = Begins encodes (left old) (view x) (left new)
+AnswersOptionalBy view tag encodes old (Ok None) new = BeginsOther tag (remaining old) × (new ≡ old)
+AnswersOptionalBy view tag encodes old (Ok (Some x)) new = Begins encodes (remaining old) (view x) (remaining new)
 AnswersOptionalBy {X} {Y} view tag encodes old (Err e) new =
-    (e ≢ Memory) × (BeginsOther tag (left old) → ⊥) × ((y : Y) (rest : List ℕ) → Begins encodes (left old) y rest → ⊥)
+    (e ≢ Memory) × (BeginsOther tag (remaining old) → ⊥) × ((y : Y) (rest : List ℕ) → Begins encodes (remaining old) y rest → ⊥)
 
 -- the answer of a reader that may run out of memory, seen by view
 abbrev pub AnswersOrMemoryBy : {X Y : Type 0} → (X → Y) → (Y → List ℕ → Type 0) → Place → Result X DecodeError → Place → Type 0
-AnswersOrMemoryBy view encodes old (Ok x) new = Begins encodes (left old) (view x) (left new)
-AnswersOrMemoryBy {X} {Y} view encodes old (Err e) new = Refuses e ((y : Y) (rest : List ℕ) → Begins encodes (left old) y rest → ⊥)
+AnswersOrMemoryBy view encodes old (Ok x) new = Begins encodes (remaining old) (view x) (remaining new)
+AnswersOrMemoryBy {X} {Y} view encodes old (Err e) new = Rejects e ((y : Y) (rest : List ℕ) → Begins encodes (remaining old) y rest → ⊥)
 
 -- the answer of a reader that may run out of memory
 abbrev pub AnswersOrMemory : {X : Type 0} → (X → List ℕ → Type 0) → Place → Result X DecodeError → Place → Type 0
@@ -72,10 +72,10 @@ AnswersOrMemory encodes = AnswersOrMemoryBy (λ x. x) encodes
 
 -- the answer of a reader whose value may be absent, and that may run out of memory, seen by view
 abbrev pub AnswersOptionalOrMemoryBy : {X Y : Type 0} → (X → Y) → ℕ → (Y → List ℕ → Type 0) → Place → Result (Option X) DecodeError → Place → Type 0
-AnswersOptionalOrMemoryBy view tag encodes old (Ok None) new = BeginsOther tag (left old) × (new ≡ old)
-AnswersOptionalOrMemoryBy view tag encodes old (Ok (Some x)) new = Begins encodes (left old) (view x) (left new)
+AnswersOptionalOrMemoryBy view tag encodes old (Ok None) new = BeginsOther tag (remaining old) × (new ≡ old)
+AnswersOptionalOrMemoryBy view tag encodes old (Ok (Some x)) new = Begins encodes (remaining old) (view x) (remaining new)
 AnswersOptionalOrMemoryBy {X} {Y} view tag encodes old (Err e) new =
-    (BeginsOther tag (left old) → ⊥) × Refuses e ((y : Y) (rest : List ℕ) → Begins encodes (left old) y rest → ⊥)
+    (BeginsOther tag (remaining old) → ⊥) × Rejects e ((y : Y) (rest : List ℕ) → Begins encodes (remaining old) y rest → ⊥)
 
 -- the answer of a reader whose value may be absent, and that may run out of memory
 abbrev pub AnswersOptionalOrMemory : {X : Type 0} → ℕ → (X → List ℕ → Type 0) → Place → Result (Option X) DecodeError → Place → Type 0
@@ -84,19 +84,19 @@ AnswersOptionalOrMemory tag encodes = AnswersOptionalOrMemoryBy (λ x. x) tag en
 -- a reader's answer where a value may be absent before another identifier, and what is then read is
 -- a value too
 abbrev pub AnswersOrAbsent : {X : Type 0} → ℕ → (X → List ℕ → Type 0) → Place → Result X DecodeError → Place → Type 0
-AnswersOrAbsent tag encodes old (Ok x) new = BeginsOrAbsent tag encodes (left old) x (left new)
-AnswersOrAbsent {X} tag encodes old (Err e) new = (e ≢ Memory) × ((x : X) (rest : List ℕ) → BeginsOrAbsent tag encodes (left old) x rest → ⊥)
+AnswersOrAbsent tag encodes old (Ok x) new = BeginsOrAbsent tag encodes (remaining old) x (remaining new)
+AnswersOrAbsent {X} tag encodes old (Err e) new = (e ≢ Memory) × ((x : X) (rest : List ℕ) → BeginsOrAbsent tag encodes (remaining old) x rest → ⊥)
 
 -- the answer of a reader where an absent value is a value too, and that may run out of memory
 abbrev pub AnswersOrAbsentOrMemory : {X : Type 0} → ℕ → (X → List ℕ → Type 0) → Place → Result X DecodeError → Place → Type 0
-AnswersOrAbsentOrMemory tag encodes old (Ok x) new = BeginsOrAbsent tag encodes (left old) x (left new)
-AnswersOrAbsentOrMemory {X} tag encodes old (Err e) new = Refuses e ((x : X) (rest : List ℕ) → BeginsOrAbsent tag encodes (left old) x rest → ⊥)
+AnswersOrAbsentOrMemory tag encodes old (Ok x) new = BeginsOrAbsent tag encodes (remaining old) x (remaining new)
+AnswersOrAbsentOrMemory {X} tag encodes old (Err e) new = Rejects e ((x : X) (rest : List ℕ) → BeginsOrAbsent tag encodes (remaining old) x rest → ⊥)
 
 -- a call's answer on whole octets, seen by view: a value that they encode; or they encode none, or
 -- it ran out of memory
 abbrev pub MeansOrMemoryBy : {X Y : Type 0} → (X → Y) → (Y → List ℕ → Type 0) → Result X DecodeError → List ℕ → Type 0
 MeansOrMemoryBy view encodes (Ok x) octets = encodes (view x) octets
-MeansOrMemoryBy {X} {Y} view encodes (Err e) octets = Refuses e ((y : Y) → encodes y octets → ⊥)
+MeansOrMemoryBy {X} {Y} view encodes (Err e) octets = Rejects e ((y : Y) → encodes y octets → ⊥)
 
 -- a call's answer on whole octets, without a view
 abbrev pub MeansOrMemory : {X : Type 0} → (X → List ℕ → Type 0) → Result X DecodeError → List ℕ → Type 0

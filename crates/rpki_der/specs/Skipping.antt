@@ -13,7 +13,7 @@ levels = 32
 abbrev pub IsPrimitive : ℕ → Type 0
 IsPrimitive tag = (tag / 32) % 2 ≡ 0
 
--- primitive, or its content is a row of values with one level less
+-- primitive, or its content is a sequence of values with one level less
 unfoldable pub IsSkippableWithin : ℕ → List ℕ → Type 0
 IsSkippableWithin zero b = (v : IsValue b) × IsPrimitive v.tag
 IsSkippableWithin (suc depth) b =
@@ -25,8 +25,8 @@ abbrev pub IsSkippable : List ℕ → Type 0
 IsSkippable b = IsSkippableWithin levels b
 
 -- such values one after the other, and nothing else
-abbrev pub IsSkippableRow : List ℕ → Type 0
-IsSkippableRow b = (row : List (List ℕ)) × (b ≡ concat row) × AllByRecursion IsSkippable row
+abbrev pub IsSkippableSequence : List ℕ → Type 0
+IsSkippableSequence b = (row : List (List ℕ)) × (b ≡ concat row) × AllByRecursion IsSkippable row
 
 -- a value that can be skipped, as a format of which nothing is kept
 abbrev pub IsSkipped : Unit {0} → List ℕ → Type 0

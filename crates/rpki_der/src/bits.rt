@@ -1,6 +1,6 @@
 //! BIT STRING.
 ghost use Rattle.std.specs.Prelude.{◌≡◌, IfOk};
-ghost use Rattle.rpki_der.specs.Place.{Place, left, IsWithin, EndsAt, Keeps, AnswersBy};
+ghost use Rattle.rpki_der.specs.Place.{Place, remaining, IsWithin, EndsAt, Keeps, AnswersBy};
 ghost use Rattle.rpki_der.specs.Place.Reading.{TookBy};
 ghost use Rattle.rpki_der.specs.Primitives.{IsBits};
 ghost use Rattle.rpki_der.specs.Primitives.Reading.{has_zero_bits, bits_at};
@@ -26,11 +26,11 @@ impl<'a> Cursor<'a> {
     #[tactic(auto, unfolding(crate::specs::Primitives::Reading::bits_at))]
     #[inline(always)]
     fn next_bits(&mut self) -> Result<(u8, Cursor<'a>), DecodeError>
-        ensures reads { TookBy (λ x. (x.0, left x.1)) bits_at self.old result self.new }
+        ensures reads { TookBy (λ x. (x.0, remaining x.1)) bits_at self.old result self.new }
         ensures keeps { Keeps result self.old self.new }
         ensures inside { IfOk result (λ x. IsWithin x.1 self.old) }
         ensures placed { IfOk result (λ x. EndsAt x.1 self.new) }
-        ensures octets { AreOctets (left self.old) }
+        ensures octets { AreOctets (remaining self.old) }
     {
         let mut ahead = self.fork();
         let mut octets = ahead.take_value(tag::BIT_STRING)?;
@@ -47,8 +47,8 @@ impl<'a> Cursor<'a> {
     /// its end, and a cursor over its octets. The unused bits are 0 (X.690 11.2.1).
     #[inline(always)]
     pub fn take_bits(&mut self) -> Result<(u8, Cursor<'a>), DecodeError>
-        ensures answers { AnswersBy (λ x. (x.0, left x.1)) IsBits self.old result self.new }
-        ensures reads { TookBy (λ x. (x.0, left x.1)) bits_at self.old result self.new }
+        ensures answers { AnswersBy (λ x. (x.0, remaining x.1)) IsBits self.old result self.new }
+        ensures reads { TookBy (λ x. (x.0, remaining x.1)) bits_at self.old result self.new }
         ensures keeps { Keeps result self.old self.new }
         ensures inside { IfOk result (λ x. IsWithin x.1 self.old) }
         ensures placed { IfOk result (λ x. EndsAt x.1 self.new) }

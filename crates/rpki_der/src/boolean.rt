@@ -1,6 +1,6 @@
 //! BOOLEAN.
 ghost use Rattle.std.specs.Prelude.{◌≡◌, Ok, option_map};
-ghost use Rattle.rpki_der.specs.Place.{Place, left, Keeps, AnswersOrAbsent};
+ghost use Rattle.rpki_der.specs.Place.{Place, remaining, Keeps, AnswersOrAbsent};
 ghost use Rattle.rpki_der.specs.Place.Reading.{Took, Returns};
 ghost use Rattle.rpki_der.specs.Reading.{optional};
 ghost use Rattle.rpki_der.specs.Primitives.{IsBoolOrFalse};
@@ -45,7 +45,7 @@ impl<'a> Cursor<'a> {
     fn next_bool_or_false(&mut self) -> Result<bool, DecodeError>
         ensures reads { Took bool_or_false_at self.old result self.new }
         ensures keeps { Keeps result self.old self.new }
-        ensures octets { AreOctets (left self.old) }
+        ensures octets { AreOctets (remaining self.old) }
     {
         match self.fork().rest() {
             [tag::BOOLEAN, ..] => self.next_bool(),

@@ -1,6 +1,6 @@
 //! A cursor over shared octets.
 ghost use Rattle.std.specs.Prelude.{◌≡◌, ℕ, ◌≤◌, ◌-◌, List, [], length, take, drop, slice_range, IfOk, IfSome, IfErr, IsOk, OnOk, IsTrue, ◌↔◌, option_map};
-ghost use Rattle.rpki_der.specs.Place.{Place, left, IsWithin, EndsAt, MovesOn, Keeps, AnswersBy, AnswersOptionalBy};
+ghost use Rattle.rpki_der.specs.Place.{Place, remaining, IsWithin, EndsAt, MovesOn, Keeps, AnswersBy, AnswersOptionalBy};
 ghost use Rattle.rpki_der.specs.Place.Reading.{TookBy};
 ghost use Rattle.rpki_der.specs.Reading.{optional};
 ghost use Rattle.rpki_der.specs.Values.Reading.{value_at};
@@ -39,7 +39,7 @@ impl<'a> Cursor<'a> {
     pub fn new(source: &'a Bytes) -> Cursor<'a>
         ensures whole { result
             ≡ record { source = source.now; from = 0; to = length source.now } }
-        ensures all { left result ≡ source.now }
+        ensures all { remaining result ≡ source.now }
     {
         Cursor {
             source,
@@ -62,7 +62,7 @@ impl<'a> Cursor<'a> {
     #[inline(always)]
     pub fn fork(&self) -> Cursor<'a>
         ensures same { result ≡ self.now }
-        ensures octets { AreOctets (left self.now) }
+        ensures octets { AreOctets (remaining self.now) }
     {
         // For the proof only: what remains are octets.
         let _octets = self.rest();
@@ -86,7 +86,7 @@ impl<'a> Cursor<'a> {
     /// Returns the remaining octets.
     #[inline(always)]
     pub fn rest(&self) -> &'a [u8]
-        ensures left { result.now ≡ left self.now }
+        ensures remaining { result.now ≡ remaining self.now }
         ensures octets { AreOctets result.now }
     {
         let octets = self.source.as_slice();
@@ -97,7 +97,7 @@ impl<'a> Cursor<'a> {
     /// Returns whether no octet remains.
     #[inline(always)]
     pub fn is_empty(&self) -> bool
-        ensures { IsTrue result ↔ (left self.now ≡ []) }
+        ensures { IsTrue result ↔ (remaining self.now ≡ []) }
     {
         self.from == self.to
     }
@@ -105,7 +105,7 @@ impl<'a> Cursor<'a> {
     /// Ends the reading of these octets. Errs with `Trailing` where some remain.
     #[inline(always)]
     pub fn finish(self) -> Result<(), DecodeError>
-        ensures end { IsOk result ↔ (left self.entry ≡ []) }
+        ensures end { IsOk result ↔ (remaining self.entry ≡ []) }
         ensures at_end { OnOk result (self.entry.from ≡ self.entry.to) }
         ensures trailing { IfErr result (λ e. e ≡ Trailing) }
     {
@@ -119,8 +119,8 @@ impl<'a> Cursor<'a> {
     // Passes over remaining octets.
     #[inline(always)]
     pub(crate) fn advance(&mut self, count: usize)
-        requires { count ≤ length (left self.old) }
-        ensures left { left self.new ≡ drop count (left self.old) }
+        requires { count ≤ length (remaining self.old) }
+        ensures remaining { remaining self.new ≡ drop count (remaining self.old) }
         ensures keeps { MovesOn self.old self.new }
     {
         self.from += count;
@@ -130,8 +130,8 @@ impl<'a> Cursor<'a> {
     #[inline(always)]
     pub(crate) fn until(&self, later: &Cursor<'a>) -> Cursor<'a>
         requires { MovesOn self.now later.now }
-        ensures { left result
-            ≡ take (length (left self.now) - length (left later.now)) (left self.now) }
+        ensures { remaining result
+            ≡ take (length (remaining self.now) - length (remaining later.now)) (remaining self.now) }
     {
         Cursor {
             source: self.source,
@@ -143,11 +143,11 @@ impl<'a> Cursor<'a> {
     // The next value, by the reading function.
     #[inline(always)]
     fn next_value(&mut self, tag: u8) -> Result<Cursor<'a>, DecodeError>
-        ensures reads { TookBy left (value_at tag) self.old result self.new }
+        ensures reads { TookBy remaining (value_at tag) self.old result self.new }
         ensures keeps { Keeps result self.old self.new }
         ensures inside { IfOk result (λ c. IsWithin c self.old) }
         ensures placed { IfOk result (λ c. EndsAt c self.new) }
-        ensures octets { AreOctets (left self.old) }
+        ensures octets { AreOctets (remaining self.old) }
     {
         let rest = self.rest();
         let (content, after) = value_of(tag, rest)?;
@@ -165,8 +165,8 @@ impl<'a> Cursor<'a> {
     /// cursor over its content.
     #[inline(always)]
     pub fn take_value(&mut self, tag: u8) -> Result<Cursor<'a>, DecodeError>
-        ensures answers { AnswersBy left (IsEnc tag) self.old result self.new }
-        ensures reads { TookBy left (value_at tag) self.old result self.new }
+        ensures answers { AnswersBy remaining (IsEnc tag) self.old result self.new }
+        ensures reads { TookBy remaining (value_at tag) self.old result self.new }
         ensures keeps { Keeps result self.old self.new }
         ensures inside { IfOk result (λ c. IsWithin c self.old) }
         ensures placed { IfOk result (λ c. EndsAt c self.new) }
@@ -178,9 +178,9 @@ impl<'a> Cursor<'a> {
     /// content. Returns `None` at the end and before another identifier octet.
     #[inline(always)]
     pub fn take_opt_value(&mut self, tag: u8) -> Result<Option<Cursor<'a>>, DecodeError>
-        ensures answers { AnswersOptionalBy left tag (IsEnc tag) self.old result self.new }
+        ensures answers { AnswersOptionalBy remaining tag (IsEnc tag) self.old result self.new }
         ensures reads { let reading = optional tag (value_at tag) in
-            TookBy (option_map left) reading self.old result self.new }
+            TookBy (option_map remaining) reading self.old result self.new }
         ensures keeps { Keeps result self.old self.new }
         ensures inside { IfOk result (λ o. IfSome o (λ c. IsWithin c self.old)) }
         ensures placed { IfOk result (λ o. IfSome o (λ c. EndsAt c self.new)) }
@@ -194,8 +194,8 @@ impl<'a> Cursor<'a> {
     /// Reads the SEQUENCE that must stand next. Returns a cursor over its content.
     #[inline(always)]
     pub fn take_sequence(&mut self) -> Result<Cursor<'a>, DecodeError>
-        ensures answers { AnswersBy left (IsEnc SEQUENCE) self.old result self.new }
-        ensures reads { TookBy left (value_at SEQUENCE) self.old result self.new }
+        ensures answers { AnswersBy remaining (IsEnc SEQUENCE) self.old result self.new }
+        ensures reads { TookBy remaining (value_at SEQUENCE) self.old result self.new }
         ensures keeps { Keeps result self.old self.new }
         ensures inside { IfOk result (λ c. IsWithin c self.old) }
         ensures placed { IfOk result (λ c. EndsAt c self.new) }
@@ -208,9 +208,9 @@ impl<'a> Cursor<'a> {
     #[inline(always)]
     pub fn take_opt_sequence(&mut self) -> Result<Option<Cursor<'a>>, DecodeError>
         ensures answers { let encodes = IsEnc SEQUENCE in
-            AnswersOptionalBy left SEQUENCE encodes self.old result self.new }
+            AnswersOptionalBy remaining SEQUENCE encodes self.old result self.new }
         ensures reads { let reading = optional SEQUENCE (value_at SEQUENCE) in
-            TookBy (option_map left) reading self.old result self.new }
+            TookBy (option_map remaining) reading self.old result self.new }
         ensures keeps { Keeps result self.old self.new }
         ensures inside { IfOk result (λ o. IfSome o (λ c. IsWithin c self.old)) }
         ensures placed { IfOk result (λ o. IfSome o (λ c. EndsAt c self.new)) }
@@ -221,7 +221,7 @@ impl<'a> Cursor<'a> {
     /// Keeps all remaining octets. The cursor then stands at the end; the only error is `Memory`.
     #[inline(always)]
     pub fn capture_rest(&mut self, _alloc: Global) -> Result<Piece, DecodeError>
-        ensures ok { IfOk result (λ p. (p ≡ left self.old) × (left self.new ≡ [])) }
+        ensures ok { IfOk result (λ p. (p ≡ remaining self.old) × (remaining self.new ≡ [])) }
         ensures keeps { Keeps result self.old self.new }
         ensures memory { IfErr result (λ e. e ≡ Memory) }
     {

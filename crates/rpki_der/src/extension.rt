@@ -4,7 +4,7 @@ ghost use Rattle.std.specs.List.{concat};
 ghost use Rattle.rpki_der.specs.Primitives.{IsOid, bool_or_false};
 ghost use Rattle.rpki_der.specs.Extensions.Reading.{extension_at};
 ghost use Rattle.rpki_der.specs.Extensions.Views.{extension_view};
-ghost use Rattle.rpki_der.specs.Place.{Place, left, IsWithin, EndsAt, Keeps, AnswersBy};
+ghost use Rattle.rpki_der.specs.Place.{Place, remaining, IsWithin, EndsAt, Keeps, AnswersBy};
 ghost use Rattle.rpki_der.specs.Place.Reading.{TookBy};
 ghost use Rattle.rpki_der.specs.Values.{AreOctets, length_octets, sequence};
 ghost use Rattle.rpki_der.specs.Extensions.{IsExtension, extension_part, pieces_with};
@@ -113,7 +113,7 @@ fn read<'a>(cursor: &mut Cursor<'a>) -> Result<(&'a [u8], bool, Cursor<'a>), Dec
     ensures keeps { Keeps result cursor.old cursor.new }
     ensures inside { IfOk result (λ x. IsWithin x.2 cursor.old) }
     ensures placed { IfOk result (λ x. EndsAt x.2 cursor.new) }
-    ensures octets { AreOctets (left cursor.old) }
+    ensures octets { AreOctets (remaining cursor.old) }
 {
     let mut ahead = cursor.fork();
     let mut inner = ahead.take_sequence()?;

@@ -1,7 +1,7 @@
 //! INTEGER of a number that is not negative.
 ghost use Rattle.std.specs.Prelude.{◌≡◌, ◌^◌, ◌≤◌, ◌++◌, length};
 ghost use Rattle.std.specs.Int.Digits.{digits_of, number_from_digits};
-ghost use Rattle.rpki_der.specs.Place.{Place, left, Keeps, Answers};
+ghost use Rattle.rpki_der.specs.Place.{Place, remaining, Keeps, Answers};
 ghost use Rattle.rpki_der.specs.Place.Reading.{Took, Returns};
 ghost use Rattle.rpki_der.specs.Primitives.{IsU32, unsigned};
 ghost use Rattle.rpki_der.specs.Primitives.Reading.{is_unsigned, number_below, u32_at};
@@ -70,7 +70,7 @@ impl<'a> Cursor<'a> {
     fn next_u32(&mut self) -> Result<u32, DecodeError>
         ensures reads { Took u32_at self.old result self.new }
         ensures keeps { Keeps result self.old self.new }
-        ensures octets { AreOctets (left self.old) }
+        ensures octets { AreOctets (remaining self.old) }
     {
         let mut ahead = self.fork();
         let content = ahead.take_value(tag::INTEGER)?;

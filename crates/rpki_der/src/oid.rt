@@ -4,7 +4,7 @@ ghost use Rattle.std.proofs.Common.{rules};
 ghost use Rattle.std.specs.Cmp.Rules.{comparing};
 ghost use Rattle.rpki_der.specs.Identifiers.{id_ce, pkix};
 ghost use Rattle.rpki_der.specs.Primitives.{IsOid, IsObjectIdentifier};
-ghost use Rattle.rpki_der.specs.Place.{Place, left, Keeps, AnswersBy};
+ghost use Rattle.rpki_der.specs.Place.{Place, remaining, Keeps, AnswersBy};
 ghost use Rattle.rpki_der.specs.Place.Reading.{TookBy};
 ghost use Rattle.rpki_der.specs.Primitives.Reading.{is_oid, oid_at};
 ghost use Rattle.rpki_der.specs.Values.{AreOctets};
@@ -144,7 +144,7 @@ impl Oid {
     pub fn new(content: Bytes) -> Result<Oid, DecodeError>
         ensures ok { IfOk result (λ o. o ≡ content) }
         ensures accepted { IsOk result ↔ IsOid content }
-        ensures refused { IfErr result (λ e. e ≡ BadValue) }
+        ensures rejected { IfErr result (λ e. e ≡ BadValue) }
     {
         Oid::from_piece(Piece::from(content))
     }
@@ -153,7 +153,7 @@ impl Oid {
     pub fn from_piece(content: Piece) -> Result<Oid, DecodeError>
         ensures ok { IfOk result (λ o. o ≡ content) }
         ensures accepted { IsOk result ↔ IsOid content }
-        ensures refused { IfErr result (λ e. e ≡ BadValue) }
+        ensures rejected { IfErr result (λ e. e ≡ BadValue) }
     {
         if is_oid(content.as_bytes()) {
             Ok(Oid { content })
@@ -186,7 +186,7 @@ impl<'a> Cursor<'a> {
     fn next_oid(&mut self) -> Result<&'a [u8], DecodeError>
         ensures reads { TookBy (λ id. id.now) oid_at self.old result self.new }
         ensures keeps { Keeps result self.old self.new }
-        ensures octets { AreOctets (left self.old) }
+        ensures octets { AreOctets (remaining self.old) }
     {
         let mut ahead = self.fork();
         let content = ahead.take_value(tag::OBJECT_IDENTIFIER)?.rest();

@@ -2,7 +2,7 @@
 ghost use Rattle.std.specs.Prelude.{◌≡◌, ◌≤◌, List, ℕ, length, slice_range, IfOk, bytes_eq};
 ghost use Rattle.std.proofs.Common.{rules};
 ghost use Rattle.std.specs.Cmp.Rules.{comparing};
-ghost use Rattle.rpki_der.specs.Place.{Place, left};
+ghost use Rattle.rpki_der.specs.Place.{Place, remaining};
 ghost use Rattle.rpki_der.specs.Values.{AreOctets};
 
 use crate::cursor::Cursor;
@@ -57,7 +57,7 @@ impl Piece {
 
     /// Returns a cursor over all of the octets.
     pub fn cursor(&self) -> Cursor<'_>
-        ensures all { left result ≡ self.now }
+        ensures all { remaining result ≡ self.now }
         ensures octets { AreOctets self.now }
     {
         let cursor = Cursor::of_span(&self.source, self.from, self.to);

@@ -4,7 +4,7 @@ ghost use Rattle.std.specs.Ordering.{nat_cmp};
 ghost use Rattle.std.specs.Int.Digits.{digits_of, number_from_digits};
 ghost use Rattle.std.proofs.Common.{rules};
 ghost use Rattle.std.specs.Cmp.Rules.{comparing};
-ghost use Rattle.rpki_der.specs.Place.{Place, left, Keeps, Answers};
+ghost use Rattle.rpki_der.specs.Place.{Place, remaining, Keeps, Answers};
 ghost use Rattle.rpki_der.specs.Place.Reading.{Took, Returns};
 ghost use Rattle.rpki_der.specs.Values.{AreOctets};
 ghost use Rattle.rpki_der.specs.Serials.{IsSerial};
@@ -127,7 +127,7 @@ impl Serial {
     fn take_number(cursor: &mut Cursor<'_>) -> Result<Serial, DecodeError>
         ensures reads { Took serial_at cursor.old result cursor.new }
         ensures keeps { Keeps result cursor.old cursor.new }
-        ensures octets { AreOctets (left cursor.old) }
+        ensures octets { AreOctets (remaining cursor.old) }
     {
         let mut ahead = cursor.fork();
         let content = ahead.take_value(tag::INTEGER)?;

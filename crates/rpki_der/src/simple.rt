@@ -1,6 +1,6 @@
 //! OCTET STRING and NULL.
 ghost use Rattle.std.specs.Prelude.{◌≡◌, IfOk};
-ghost use Rattle.rpki_der.specs.Place.{Place, left, IsWithin, EndsAt, Keeps, Answers, AnswersBy};
+ghost use Rattle.rpki_der.specs.Place.{Place, remaining, IsWithin, EndsAt, Keeps, Answers, AnswersBy};
 ghost use Rattle.rpki_der.specs.Place.Reading.{Took, TookBy};
 ghost use Rattle.rpki_der.specs.Primitives.{IsNull};
 ghost use Rattle.rpki_der.specs.Primitives.Reading.{octets_at, null_at};
@@ -15,8 +15,8 @@ impl<'a> Cursor<'a> {
     /// Reads the OCTET STRING that must stand next. Returns a cursor over its octets (X.690 8.7).
     #[inline(always)]
     pub fn take_octets(&mut self) -> Result<Cursor<'a>, DecodeError>
-        ensures answers { AnswersBy left (IsEnc OCTET_STRING) self.old result self.new }
-        ensures reads { TookBy left octets_at self.old result self.new }
+        ensures answers { AnswersBy remaining (IsEnc OCTET_STRING) self.old result self.new }
+        ensures reads { TookBy remaining octets_at self.old result self.new }
         ensures keeps { Keeps result self.old self.new }
         ensures inside { IfOk result (λ c. IsWithin c self.old) }
         ensures placed { IfOk result (λ c. EndsAt c self.new) }
@@ -30,7 +30,7 @@ impl<'a> Cursor<'a> {
     fn next_null(&mut self) -> Result<(), DecodeError>
         ensures reads { Took null_at self.old result self.new }
         ensures keeps { Keeps result self.old self.new }
-        ensures octets { AreOctets (left self.old) }
+        ensures octets { AreOctets (remaining self.old) }
     {
         let mut ahead = self.fork();
         if !ahead.take_value(tag::NULL)?.is_empty() {

@@ -1,8 +1,8 @@
 //! Values of any kind: passed over, or kept whole.
 ghost use Rattle.std.specs.Prelude.{◌≡◌, ◌↔◌, [], IsOk, IsSome, OnOk};
-ghost use Rattle.rpki_der.specs.Place.{Place, left, Keeps, Answers, AnswersOrMemory};
+ghost use Rattle.rpki_der.specs.Place.{Place, remaining, Keeps, Answers, AnswersOrMemory};
 ghost use Rattle.rpki_der.specs.Place.Reading.{Took, TookBy, TookOrMemory, Returns};
-ghost use Rattle.rpki_der.specs.Skipping.{IsSkipped, IsSkippableRow, IsCaptured};
+ghost use Rattle.rpki_der.specs.Skipping.{IsSkipped, IsSkippableSequence, IsCaptured};
 ghost use Rattle.rpki_der.specs.Skipping.Reading.{any_at, captured_at, skip_within, skip_row_within, skip_at, skip_all_of};
 ghost use Rattle.rpki_der.specs.Values.{AreOctets};
 
@@ -19,9 +19,9 @@ impl<'a> Cursor<'a> {
     // The identifier octet and the content of the next value.
     #[inline(always)]
     fn next_any(&mut self) -> Result<(u8, Cursor<'a>), DecodeError>
-        ensures reads { TookBy (λ x. (x.0, left x.1)) any_at self.old result self.new }
+        ensures reads { TookBy (λ x. (x.0, remaining x.1)) any_at self.old result self.new }
         ensures keeps { Keeps result self.old self.new }
-        ensures octets { AreOctets (left self.old) }
+        ensures octets { AreOctets (remaining self.old) }
     {
         let octets = self.fork().rest();
         match octets {
@@ -51,7 +51,7 @@ impl<'a> Cursor<'a> {
     // Passes over all remaining values, each with at most so many levels.
     #[cycle(skipping)]
     fn skip_row_within(mut self, levels: u8) -> Result<(), DecodeError>
-        ensures { Returns result (skip_row_within levels (left self.entry)) }
+        ensures { Returns result (skip_row_within levels (remaining self.entry)) }
     {
         while !self.is_empty() {
             self.skip_within(levels)?;
@@ -64,7 +64,7 @@ impl<'a> Cursor<'a> {
     fn next_skippable(&mut self) -> Result<(), DecodeError>
         ensures reads { Took skip_at self.old result self.new }
         ensures keeps { Keeps result self.old self.new }
-        ensures octets { AreOctets (left self.old) }
+        ensures octets { AreOctets (remaining self.old) }
     {
         // For the proof only: the remaining octets are octets.
         let _here = self.fork();
@@ -85,10 +85,10 @@ impl<'a> Cursor<'a> {
     // Passes over all remaining values, by the reading function.
     #[tactic(auto, unfolding(crate::specs::Skipping::Reading::skip_at, crate::specs::Skipping::Reading::skip_all_of))]
     fn rest_skippable(&mut self) -> Result<(), DecodeError>
-        ensures reads { Returns result (skip_all_of (left self.old)) }
-        ensures end { OnOk result (left self.new ≡ []) }
+        ensures reads { Returns result (skip_all_of (remaining self.old)) }
+        ensures end { OnOk result (remaining self.new ≡ []) }
         ensures keeps { Keeps result self.old self.new }
-        ensures octets { AreOctets (left self.old) }
+        ensures octets { AreOctets (remaining self.old) }
     {
         self.fork().skip_row_within(LEVELS)?;
         self.advance(self.rest().len());
@@ -98,9 +98,9 @@ impl<'a> Cursor<'a> {
     /// Passes over all remaining values, each as [`Cursor::skip_one`] does. The cursor then stands
     /// at the end.
     pub fn skip_all(&mut self) -> Result<(), DecodeError>
-        ensures skippable { IsOk result ↔ IsSkippableRow (left self.old) }
-        ensures reads { Returns result (skip_all_of (left self.old)) }
-        ensures end { OnOk result (left self.new ≡ []) }
+        ensures skippable { IsOk result ↔ IsSkippableSequence (remaining self.old) }
+        ensures reads { Returns result (skip_all_of (remaining self.old)) }
+        ensures end { OnOk result (remaining self.new ≡ []) }
         ensures keeps { Keeps result self.old self.new }
     {
         self.rest_skippable()
@@ -112,7 +112,7 @@ impl<'a> Cursor<'a> {
     fn next_captured(&mut self, alloc: Global) -> Result<Piece, DecodeError>
         ensures reads { TookOrMemory captured_at self.old result self.new }
         ensures keeps { Keeps result self.old self.new }
-        ensures octets { AreOctets (left self.old) }
+        ensures octets { AreOctets (remaining self.old) }
     {
         let mut ahead = self.fork();
         ahead.next_any()?;

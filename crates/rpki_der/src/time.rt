@@ -9,7 +9,7 @@ ghost use Rattle.jiff_core.specs.Date.{IsYmd};
 ghost use Rattle.jiff_core.specs.Time.{IsHms};
 ghost use Rattle.jiff_core.specs.Time.{IsTime as IsClock};
 ghost use Rattle.rpki_der.specs.Timestamps.{timestamp};
-ghost use Rattle.rpki_der.specs.Place.{Place, left, Keeps, Answers};
+ghost use Rattle.rpki_der.specs.Place.{Place, remaining, Keeps, Answers};
 ghost use Rattle.rpki_der.specs.Place.Reading.{Took, Returns, ReturnsBy};
 ghost use Rattle.rpki_der.specs.Values.{AreOctets};
 ghost use Rattle.rpki_der.specs.Times.{Moment, moment, IsMoment, IsTime, second_number, two, after_year, fourteen_digits, time};
@@ -70,7 +70,8 @@ fn year_part(year: u32) -> i16
     year as i16
 }
 
-// The date and the time of day with these parts, where the calendar has the one and a clock the other.
+// The date and the time of day with these parts, where the calendar has the one and a clock the
+// other.
 #[inline(always)]
 fn civil(
     year: i16,
@@ -171,7 +172,7 @@ impl Time {
     fn take_time(cursor: &mut Cursor<'_>) -> Result<Time, DecodeError>
         ensures reads { Took time_at cursor.old result cursor.new }
         ensures keeps { Keeps result cursor.old cursor.new }
-        ensures octets { AreOctets (left cursor.old) }
+        ensures octets { AreOctets (remaining cursor.old) }
     {
         let mut ahead = cursor.fork();
         let time = match ahead.rest() {

@@ -1,6 +1,6 @@
 -- What an answer about a path says.
 use Rattle.std.specs.Prelude.{◌↔◌, ℕ, Bool, List, Result, Ok, Err, Some, None, IsTrue}
-use Rattle.rpki.specs.Paths.{Path, last, asked, IsPathOf, IsValidPath, IsNoValidPath, Holds, system_numbers, UnlessMemory}
+use Rattle.rpki.specs.Paths.{Path, last, candidates, IsPathOf, IsValidPath, IsNoValidPath, Holds, system_numbers, UnlessMemory}
 use Rattle.rpki.specs.PathError.{PathError}
 use Rattle.rpki.specs.Stores.{Stored}
 use Rattle.rpki.specs.Verification.{Context}
@@ -9,11 +9,11 @@ use Rattle.rpki.specs.Verification.{Context}
 -- its last member holds the AS number
 pub record IsHeld (x : Context) (lists : List Stored) (anchor : List ℕ) (cas : List (List ℕ)) (asn : ℕ) (answer : Bool) : Type 0 where
   pub path : Path
-  pub path_of : IsPathOf anchor (asked cas None) path
-  pub good : IsValidPath x (Some lists) path
+  pub path_of : IsPathOf anchor (candidates cas None) path
+  pub is_valid : IsValidPath x (Some lists) path
   pub held : IsTrue answer ↔ Holds path (last path) system_numbers asn
 
 -- an error, that the strings are no such path, unless it ran out of memory
 abbrev pub TellsHeld : Context → List Stored → List ℕ → List (List ℕ) → ℕ → Result Bool PathError → Type 0
 TellsHeld x lists anchor cas asn (Ok answer) = IsHeld x lists anchor cas asn answer
-TellsHeld x lists anchor cas asn (Err e) = UnlessMemory e.fault (IsNoValidPath x (Some lists) anchor (asked cas None))
+TellsHeld x lists anchor cas asn (Err e) = UnlessMemory e.fault (IsNoValidPath x (Some lists) anchor (candidates cas None))

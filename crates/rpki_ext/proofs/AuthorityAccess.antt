@@ -11,7 +11,7 @@ use Rattle.rpki_der.specs.Values.{AreOctets, IsEnc, enc, IsNested}
 use Rattle.rpki_der.specs.Primitives.Reading.{oid_at}
 use Rattle.rpki_der.specs.Values.Reading.{value_at}
 use Rattle.rpki_der.specs.Reading.{Inside, Reads}
-use Rattle.rpki_der.specs.Choices.{turned, Turned}
+use Rattle.rpki_der.specs.Choices.{conversion, IsConversion}
 use Rattle.rpki_der.proofs.Octets.{AreOctets-after, bind_some, nothing}
 use Rattle.rpki_der.proofs.IdentifierReads.{oid_reads}
 use Rattle.rpki_der.proofs.ValueReads.{value_reads}
@@ -54,7 +54,7 @@ only_description_reads = inside_reads SEQUENCE (value_at SEQUENCE) (IsEnc SEQUEN
 pub authority_information_access_reads : Reads authority_information_access_at IsAuthorityInformationAccess
 unfolding authority_information_access_at
 authority_information_access_reads =
-    same_reads (turned issuers_of only_description_at) (Turned issuers_of IsOnlyDescription) IsAuthorityInformationAccess (turned_reads issuers_of only_description_at IsOnlyDescription only_description_reads)
+    same_reads (conversion issuers_of only_description_at) (IsConversion issuers_of IsOnlyDescription) IsAuthorityInformationAccess (turned_reads issuers_of only_description_at IsOnlyDescription only_description_reads)
     (λ v text (inside, (row, one, sequence), read).
     let (_, names, encoded, given, is) = issuers_takes inside v one.octets read in
     (names, given, (row, sequence, (inside, one, is ∙ ap (λ (m : List ℕ). m ++ names) encoded.enc.is))))

@@ -1,4 +1,4 @@
--- The extensions of a certificate: what a row of them gives, both ways, and what is written of
+-- The extensions of a certificate: what a sequence of them gives, both ways, and what is written of
 -- their fields.
 use Rattle.std.specs.List.{AllByRecursion, list_all}
 use Rattle.std.specs.Prelude.{unwrap_or, filter, IfSome, is_some}
@@ -13,7 +13,7 @@ use Rattle.rpki_der.specs.Reading.{ReadsWhole}
 use Rattle.rpki_der.specs.Values.{AreOctets}
 use Rattle.rpki_der.specs.Values.Reading.{◌>>=◌}
 use Rattle.rpki_der.specs.declared.error.DecodeError.{DecodeError}
-use Rattle.rpki_der.proofs.Answering.{refuses}
+use Rattle.rpki_der.proofs.Answering.{rejects}
 use Rattle.rpki_der.proofs.ExtensionReads.{HasOctets, extension_reads, extension_shrinks, extension_octets}
 use Rattle.rpki_der.proofs.Folding.{beside_law, each_law, over_reads}
 use Rattle.rpki_der.proofs.Lists.{weaken}
@@ -61,10 +61,10 @@ kinds_are = (basic_constraints_is, (subject_key_identifier_is, (authority_key_id
 
 -- ---- a second extension of a kind, and one with another flag than its kind's, is refused
 
-abbrev IsRefused : Seen → List ℕ → Bool → List ℕ → Type 0
-IsRefused s id critical content = all_kinds.step (state_of s) (record { identifier = id; critical = critical; content = content }) ≡ None
+abbrev IsRejected : Seen → List ℕ → Bool → List ℕ → Type 0
+IsRejected s id critical content = all_kinds.step (state_of s) (record { identifier = id; critical = critical; content = content }) ≡ None
 
-second : (s : Seen) (kind : Named) (id : List ℕ) (critical : Bool) (content : List ℕ) → Names id (Some kind) → is_seen s kind ≡ true → IsRefused s id critical content
+second : (s : Seen) (kind : Named) (id : List ℕ) (critical : Bool) (content : List ℕ) → Names id (Some kind) → is_seen s kind ≡ true → IsRejected s id critical content
 second s BasicConstraints id critical content n h = rw (n, h) refl
 second s SubjectKeyIdentifier id critical content n h = rw (n, h) refl
 second s AuthorityKeyIdentifier id critical content n h = rw (n, h) refl
@@ -84,7 +84,7 @@ neither : {V : Type 0} (seen : Bool) → cond {A = Option V} seen None None ≡ 
 neither true = refl
 neither false = refl
 
-unflagged : (s : Seen) (kind : Named) (id : List ℕ) (critical : Bool) (content : List ℕ) → Names id (Some kind) → (HasFlag (wanted kind) critical → ⊥) → IsRefused s id critical content
+unflagged : (s : Seen) (kind : Named) (id : List ℕ) (critical : Bool) (content : List ℕ) → Names id (Some kind) → (HasFlag (wanted kind) critical → ⊥) → IsRejected s id critical content
 unflagged s BasicConstraints id critical content n h = rw (n, false_from_ne_true critical h, neither (is_some s.basic_ca)) refl
 unflagged s SubjectKeyIdentifier id critical content n h = rw (n, true_from_ne_false critical h, neither (is_some s.subject_key_identifier)) refl
 unflagged s AuthorityKeyIdentifier id critical content n h = rw (n, true_from_ne_false critical h, neither (is_some s.authority_key_identifier)) refl
@@ -98,8 +98,8 @@ unflagged s (IpResources mode) id critical content n h = absurd (h tt)
 unflagged s (AsResources mode) id critical content n h = absurd (h tt)
 
 -- an extension of a kind that was seen, or with a wrong flag, ends the walk
-pub refused : (s : Seen) (kind : Named) (id : List ℕ) (critical : Bool) (content : List ℕ) → Names id (Some kind) → (is_seen s kind ≡ true) ⊎ (HasFlag (wanted kind) critical → ⊥) → IsRefused s id critical content
-refused s kind id critical content n h = elim h [ inl seen ↦ second s kind id critical content n seen | inr flag ↦ unflagged s kind id critical content n flag ]
+pub rejected : (s : Seen) (kind : Named) (id : List ℕ) (critical : Bool) (content : List ℕ) → Names id (Some kind) → (is_seen s kind ≡ true) ⊎ (HasFlag (wanted kind) critical → ⊥) → IsRejected s id critical content
+rejected s kind id critical content n h = elim h [ inl seen ↦ second s kind id critical content n seen | inr flag ↦ unflagged s kind id critical content n flag ]
 
 -- resources that are not read, whatever the mode of their identifier
 pub unread_ip : (s : Seen) (mode : Overclaim) (x : Extension) → x.identifier ≡ (ip_resources mode).identifier → is_some (ip_of s.ip_resources) ≡ false → families_at x.content ≡ None → all_kinds.step (state_of s) x ≡ None
@@ -111,7 +111,7 @@ pub unread_as : (s : Seen) (mode : Overclaim) (x : Extension) → x.identifier �
 unread_as s Refuse x named first none = rw (named, first, none) refl
 unread_as s Trim x named first none = rw (named, first, none) refl
 
--- ---- what a row gives
+-- ---- what a sequence gives
 
 all_kinds_law : IsLawful HasOctets all_kinds
 all_kinds_law = beside_law _ _ (each_law may_stand) (table_law certificate_kinds kinds_are)
@@ -203,7 +203,7 @@ extensions_read = record {
 -- a function that returns what reading gives answers both ways for whole octets
 pub row_means : (r : Result ExtensionFields DecodeError) (octets : List ℕ) → AreOctets octets → ReturnsOrMemory r (extensions_of octets) → MeansOrMemory AreExtensions r octets
 row_means (Ok f) octets low e = extensions_read.takes octets f low e
-row_means (Err d) octets low e = refuses d (λ none f a. nothing f (sym none ∙ extensions_read.again f octets a)) e
+row_means (Err d) octets low e = rejects d (λ none f a. nothing f (sym none ∙ extensions_read.again f octets a)) e
 
 -- ---- what is written
 

@@ -5,7 +5,7 @@ use Rattle.std.proofs.lemmas.List.{append-nil}
 use Rattle.rpki_der.specs.Tags.{SEQUENCE, OBJECT_IDENTIFIER}
 use Rattle.rpki_der.specs.Values.{enc, AreOctets, IsNested}
 use Rattle.rpki_der.specs.Primitives.{IsObjectIdentifier}
-use Rattle.rpki_der.specs.Skipping.{IsSkippableRow, levels}
+use Rattle.rpki_der.specs.Skipping.{IsSkippableSequence, levels}
 use Rattle.rpki_der.specs.Skipping.Reading.{skip_all_of}
 use Rattle.rpki_der.specs.Reading.{content, inside, Reads, Inside}
 use Rattle.rpki_der.specs.Primitives.Reading.{oid_at}
@@ -34,7 +34,7 @@ policy_encoded Refuse = encoded_oid (policy_identifier Refuse) refl refl (omega 
 policy_encoded Trim = encoded_oid (policy_identifier Trim) refl refl (omega arith)
 
 abbrev IsPolicy : Overclaim → List ℕ → Type 0
-IsPolicy overclaim c = (rest : List ℕ) × IsSkippableRow rest × (c ≡ enc OBJECT_IDENTIFIER (policy_identifier overclaim) ++ rest)
+IsPolicy overclaim c = (rest : List ℕ) × IsSkippableSequence rest × (c ≡ enc OBJECT_IDENTIFIER (policy_identifier overclaim) ++ rest)
 
 policy_takes : (c : List ℕ) (overclaim : Overclaim) → AreOctets c → policy_of c ≡ Some overclaim → IsPolicy overclaim c
 policy_takes c overclaim low e =

@@ -5,8 +5,8 @@ use Rattle.std.proofs.Common.{arith, ◌≡◌, ℕ, List, ◌∷◌, true, [], 
 use Rattle.rpki_der.specs.Tags.{SEQUENCE, OBJECT_IDENTIFIER}
 use Rattle.rpki_der.specs.Reading.{content, ReadsWhole, Inside, Reads}
 use Rattle.rpki_der.specs.Primitives.Reading.{oid_of, oid_at}
-use Rattle.rpki_der.specs.Rows.{IsRow}
-use Rattle.rpki_der.specs.Rows.Reading.{Shrinks}
+use Rattle.rpki_der.specs.Sequences.{AreEncodings}
+use Rattle.rpki_der.specs.Sequences.Reading.{Shrinks}
 use Rattle.rpki_der.specs.Primitives.{IsObjectIdentifier}
 use Rattle.rpki_der.specs.Folding.{each_fold, IsFolded, each, over}
 use Rattle.rpki_der.specs.Values.{enc, AreOctets, IsEnc}
@@ -27,7 +27,7 @@ unfolding oid_at
 oid_shrinks = content_shrinks OBJECT_IDENTIFIER oid_of
 
 abbrev AreSome : List ℕ → List ℕ → Type 0
-AreSome kept c = (id : List ℕ) × (more : List (List ℕ)) × IsRow IsObjectIdentifier (id ∷ more) c × (kept ≡ c)
+AreSome kept c = (id : List ℕ) × (more : List (List ℕ)) × AreEncodings IsObjectIdentifier (id ∷ more) c × (kept ≡ c)
 
 abbrev AnyRow : Unit {0} → List ℕ → Type 0
 AnyRow = IsFolded IsObjectIdentifier (each_fold (λ id. true))
@@ -43,7 +43,7 @@ not_nil : (id b : List ℕ) → IsObjectIdentifier id b → (rest : List ℕ) �
 unfolding enc
 not_nil id b s rest e = let f : [] ≡ enc OBJECT_IDENTIFIER id ++ rest = rw s.enc.is at e in absurd cc
 
-some_from : (b : ℕ) (c : List ℕ) (ids : List (List ℕ)) → IsRow IsObjectIdentifier ids (b ∷ c) → AreSome (b ∷ c) (b ∷ c)
+some_from : (b : ℕ) (c : List ℕ) (ids : List (List ℕ)) → AreEncodings IsObjectIdentifier ids (b ∷ c) → AreSome (b ∷ c) (b ∷ c)
 some_from b c [] s = absurd cc
 some_from b c (id ∷ ids) s = (id, ids, s, refl)
 
@@ -76,7 +76,7 @@ is_usage : (kept text : List ℕ) → IsExtendedKeyUsage kept text → Inside SE
 is_usage kept text s =
     let p = s.purposes in
     let row = pieces_row IsObjectIdentifier (p.id ∷ p.more) p.pieces p.identifiers in
-    (kept, (p.id, p.more, subst (λ (c : List ℕ). IsRow IsObjectIdentifier (p.id ∷ p.more) c) (sym p.is) row, refl), s.sequence)
+    (kept, (p.id, p.more, subst (λ (c : List ℕ). AreEncodings IsObjectIdentifier (p.id ∷ p.more) c) (sym p.is) row, refl), s.sequence)
 
 -- an ExtKeyUsageSyntax is read as it is encoded
 pub extended_key_usage_reads : Reads extended_key_usage_at IsExtendedKeyUsage

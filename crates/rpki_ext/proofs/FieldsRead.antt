@@ -1,15 +1,15 @@
--- Fields of which the row that is written is read as a certificate's have resources, and what they
--- have as IPv4 are whole IPv4 addresses.
+-- Fields of which the sequence that is written is read as a certificate's have resources, and what
+-- they have as IPv4 are whole IPv4 addresses.
 use Rattle.std.specs.List.{AllByRecursion, AllZip}
 use Rattle.std.specs.Prelude.{IfSome}
 use Rattle.std.proofs.Common.{◌≡◌, ℕ, ◌-◌, ◌^◌, List, [], ◌∷◌, Option, Some, None, refl, subst, sym, ◌∙◌, ap, map, inl, inr}
 use Rattle.std.proofs.lemmas.Option.{same_Some}
 use Rattle.rpki_der.specs.Extensions.{Extension, OptionalExtension, IsExtension, text}
 use Rattle.rpki_der.specs.Extensions.Reading.{extension_at}
-use Rattle.rpki_der.specs.Rows.{IsAtMostOne}
+use Rattle.rpki_der.specs.Sequences.{IsAtMostOne}
 use Rattle.rpki_der.proofs.ExtensionReads.{extension_reads, extension_shrinks}
 use Rattle.rpki_der.proofs.Octets.{some_is}
-use Rattle.rpki_der.proofs.Rows.{row_again}
+use Rattle.rpki_der.proofs.Sequences.{row_again}
 use Rattle.rpki_der.proofs.ValueWritten.{Short, pieces_short}
 use Rattle.rpki_blocks.specs.Addresses.{Ip, ip}
 use Rattle.rpki_blocks.specs.Prefixes.{AreV4}

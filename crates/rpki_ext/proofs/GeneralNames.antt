@@ -10,8 +10,8 @@ use Rattle.rpki_der.specs.Values.{enc, AreOctets}
 use Rattle.rpki_der.specs.Primitives.{IsObjectIdentifier}
 use Rattle.rpki_der.specs.Reading.{content, Reads, Inside, ReadsWhole}
 use Rattle.rpki_der.specs.Primitives.Reading.{is_oid}
-use Rattle.rpki_der.specs.Rows.{IsRow, IsAtMostOne}
-use Rattle.rpki_der.specs.Rows.Reading.{Shrinks}
+use Rattle.rpki_der.specs.Sequences.{AreEncodings, IsAtMostOne}
+use Rattle.rpki_der.specs.Sequences.Reading.{Shrinks}
 use Rattle.rpki_der.specs.Folding.{Fold, once_fold, over, IsFolded}
 use Rattle.rpki_der.proofs.IdentifierReads.{oid_takes}
 use Rattle.rpki_der.proofs.Octets.{if_some, some, some_is, bind_some}
@@ -24,7 +24,7 @@ use Rattle.rpki_parts.specs.Uris.Tests.{is_rsync}
 use Rattle.rpki_parts.specs.Uris.{IsRsync, ArePrintable}
 use Rattle.rpki_parts.proofs.UriTests.{all_decides, rsync_decides}
 use Rattle.rpki_ext.specs.GeneralNames.{ascii_of, IsUniformResourceIdentifier, uri_name_at, keep_rsync, IsGeneralNames, names_of, uri_name}
-use Rattle.rpki_ext.proofs.Choosing.{only_from, only_to, one_from, one_to}
+use Rattle.rpki_ext.proofs.OnlyElements.{only_from, only_to, one_from, one_to}
 use Rattle.rpki_ext.proofs.Pieces.{row_pieces, pieces_row}
 
 -- an identifier that is a constant
@@ -81,7 +81,7 @@ names_read = record {
       let one : IsAtMostOne (λ x w. x ≡ w) (filter is_rsync m.0) (Some v) = subst (λ (o : Option (List ℕ)). IsAtMostOne (λ x w. x ≡ w) (filter is_rsync m.0) o) a.2 m.2 in
       record { texts = m.0; pieces = row.0; encoded = row.1; is = row.2; one = only_from is_rsync IsRsync rsync_decides m.0 v (one_from (filter is_rsync m.0) v one) };
   again = λ v c s.
-      let row : IsRow IsUniformResourceIdentifier s.texts c = subst (λ (t : List ℕ). IsRow IsUniformResourceIdentifier s.texts t) (sym s.is) (pieces_row IsUniformResourceIdentifier s.texts s.pieces s.encoded) in
+      let row : AreEncodings IsUniformResourceIdentifier s.texts c = subst (λ (t : List ℕ). AreEncodings IsUniformResourceIdentifier s.texts t) (sym s.is) (pieces_row IsUniformResourceIdentifier s.texts s.pieces s.encoded) in
       let one = one_to (filter is_rsync s.texts) v (only_to is_rsync IsRsync rsync_decides s.texts v s.one) in
       rw (kept_reads.again (Some v) c (s.texts, row, one)) refl;
 }

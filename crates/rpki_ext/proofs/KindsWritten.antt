@@ -1,11 +1,11 @@
--- What is written of a kind gives its value, and what is written of all known ones is a row.
+-- What is written of a kind gives its value, and what is written of all known ones is a sequence.
 use Rattle.std.specs.List.{flat_map, list_any, AllByRecursion, AllZip, list_all, concat}
 use Rattle.std.specs.Prelude.{unwrap_or, bytes_eq, filter, IfSome, ◌≢◌, ◌&&◌}
 use Rattle.std.proofs.Common.{ℕ, Bool, List, Option, [], ◌∷◌, Some, None, ◌≡◌, true, false, cond, ◌++◌, ap, refl, map, subst}
 use Rattle.std.proofs.lemmas.Bool.{and_parts}
 use Rattle.rpki_der.specs.Extensions.{OptionalExtension, Extension, extension_of_some, IsExtension, text}
 use Rattle.rpki_der.specs.Primitives.Reading.{is_oid}
-use Rattle.rpki_der.specs.Rows.{IsRow, IsAtMostOne}
+use Rattle.rpki_der.specs.Sequences.{AreEncodings, IsAtMostOne}
 use Rattle.rpki_der.specs.Values.Reading.{◌>>=◌}
 use Rattle.rpki_der.proofs.Answering.{whole_means}
 use Rattle.rpki_der.proofs.ExtensionWritten.{extension_made, extension_content_short, ok_extension}
@@ -143,12 +143,12 @@ none_unknown (p ∷ ps) k = here p.content (none_unknown ps k.1)
     here None more = more
     here (Some c) more = ((λ u. absurd cc (k.0.kind, u)), more)
 
--- what is written of known parts is a row of their extensions
-pub row_made : (ps : List OptionalExtension) → AllByRecursion IsKnown ps → AllByRecursion Short (map text ps) → IsRow IsExtension (written ps) (concat (map text ps))
+-- what is written of known parts is a sequence of their extensions
+pub row_made : (ps : List OptionalExtension) → AllByRecursion IsKnown ps → AllByRecursion Short (map text ps) → AreEncodings IsExtension (written ps) (concat (map text ps))
 row_made [] k h = refl
 row_made (p ∷ ps) k h = here p.content h.0 (row_made ps k.1 h.1)
   where
-    here : (o : Option (List ℕ)) → Short (extension_of_some p.identifier p.critical o) → IsRow IsExtension (written ps) (concat (map text ps)) → IsRow IsExtension (written (raw p.identifier p.critical o ∷ ps)) (concat (map text (raw p.identifier p.critical o ∷ ps)))
+    here : (o : Option (List ℕ)) → Short (extension_of_some p.identifier p.critical o) → AreEncodings IsExtension (written ps) (concat (map text ps)) → AreEncodings IsExtension (written (raw p.identifier p.critical o ∷ ps)) (concat (map text (raw p.identifier p.critical o ∷ ps)))
     here None short more = more
     here (Some c) short more = (_, _, extension_made (record { identifier = p.identifier; critical = p.critical; content = c }) (oid_takes p.identifier k.0.oid) short, more, refl)
 

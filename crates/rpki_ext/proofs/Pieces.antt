@@ -1,22 +1,22 @@
--- A row, by its pieces.
+-- A sequence, by its pieces.
 use Rattle.std.specs.List.{AllZip, concat}
 use Rattle.std.proofs.Common.{◌≡◌, ℕ, List, [], ◌∷◌, ◌++◌, refl, ap, ◌∙◌}
-use Rattle.rpki_der.specs.Rows.{IsRow}
+use Rattle.rpki_der.specs.Sequences.{AreEncodings}
 
 -- the octets are the encodings of these values, one after the other
 abbrev pub HasPieces : {X : Type 0} → (X → List ℕ → Type 0) → List X → List ℕ → Type 0
 HasPieces encodes xs text = (pieces : List (List ℕ)) × AllZip encodes xs pieces × (text ≡ concat pieces)
 
 module _ {X : Type 0} (encodes : X → List ℕ → Type 0) where
-  -- a row of values has a piece for each
-  pub row_pieces : (xs : List X) (text : List ℕ) → IsRow encodes xs text → HasPieces encodes xs text
+  -- a sequence of values has a piece for each
+  pub row_pieces : (xs : List X) (text : List ℕ) → AreEncodings encodes xs text → HasPieces encodes xs text
   row_pieces [] text s = ([], tt, s)
   row_pieces (x ∷ xs) text s =
       let m = row_pieces xs s.1 s.3 in
       (s.0 ∷ m.0, (s.2, m.1), s.4 ∙ ap (λ (t : List ℕ). s.0 ++ t) m.2)
 
-  -- pieces that encode values are a row of them
-  pub pieces_row : (xs : List X) (pieces : List (List ℕ)) → AllZip encodes xs pieces → IsRow encodes xs (concat pieces)
+  -- pieces that encode values are a sequence of them
+  pub pieces_row : (xs : List X) (pieces : List (List ℕ)) → AllZip encodes xs pieces → AreEncodings encodes xs (concat pieces)
   pieces_row [] [] z = refl
   pieces_row [] (p ∷ ps) z = elim z [ ]
   pieces_row (x ∷ xs) [] z = elim z [ ]

@@ -4,11 +4,11 @@ use Rattle.std.proofs.Common.{◌≡◌, ℕ, Bool, true, false, ◌||◌, List,
 use Rattle.rpki_der.specs.Folding.{steps, over}
 use Rattle.rpki_der.specs.Primitives.{IsObjectIdentifier}
 use Rattle.rpki_der.specs.Primitives.Reading.{oid_at}
-use Rattle.rpki_der.specs.Rows.Reading.{row_of}
+use Rattle.rpki_der.specs.Sequences.Reading.{row_of}
 use Rattle.rpki_der.specs.Values.{AreOctets}
 use Rattle.rpki_der.proofs.IdentifierReads.{oid_reads}
 use Rattle.rpki_der.proofs.Octets.{bind_some, some, some_is}
-use Rattle.rpki_der.proofs.Rows.{row_is, row_again}
+use Rattle.rpki_der.proofs.Sequences.{row_is, row_again}
 use Rattle.rpki_ext.specs.RouterPurposes.{HasRouterPurpose, is_router_purpose, or_router}
 use Rattle.rpki_ext.proofs.ExtendedKeyUsages.{oid_shrinks}
 

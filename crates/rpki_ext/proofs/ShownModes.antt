@@ -3,7 +3,7 @@ use Rattle.std.specs.Prelude.{◌≢◌, is_some}
 use Rattle.std.proofs.Common.{List, Option, [], ◌∷◌, Some, None, ◌≡◌, true, cond, ap, refl, sym, subst, inl, inr}
 use Rattle.std.proofs.lemmas.Bool.{cases_Bool}
 use Rattle.rpki_der.specs.Extensions.{Extension}
-use Rattle.rpki_der.specs.Rows.{IsAtMostOne}
+use Rattle.rpki_der.specs.Sequences.{IsAtMostOne}
 use Rattle.rpki_der.proofs.Octets.{some, some_is, nothing}
 use Rattle.rpki_blocks.specs.declared.overclaim.Overclaim.{Overclaim}
 use Rattle.rpki_blocks.specs.declared.overclaim.Overclaim.TheVariants.{Refuse, Trim}

@@ -7,11 +7,11 @@ use Rattle.std.proofs.lemmas.Slice.Eq.{bytes_eq-Decides}
 use Rattle.std.proofs.lemmas.List.{append-nil}
 use Rattle.std.proofs.lemmas.Option.{IfSome_then}
 use Rattle.rpki_der.specs.Tags.{SEQUENCE, OBJECT_IDENTIFIER}
-use Rattle.rpki_der.specs.Rows.{IsRow, IsFirstOf}
-use Rattle.rpki_der.specs.Rows.Reading.{Shrinks}
+use Rattle.rpki_der.specs.Sequences.{AreEncodings, IsFirstOf}
+use Rattle.rpki_der.specs.Sequences.Reading.{Shrinks}
 use Rattle.rpki_der.specs.Values.{enc, AreOctets, IsEnc, IsSequence, sequence, sequence_of_some}
 use Rattle.rpki_der.specs.Primitives.{IsObjectIdentifier}
-use Rattle.rpki_der.specs.Skipping.{IsSkippableRow, levels}
+use Rattle.rpki_der.specs.Skipping.{IsSkippableSequence, levels}
 use Rattle.rpki_der.specs.Skipping.Reading.{skip_all_of}
 use Rattle.rpki_der.specs.Reading.{ended, content, Inside, Reads, ReadsWhole}
 use Rattle.rpki_der.specs.Primitives.Reading.{oid_at}
@@ -92,7 +92,7 @@ unknown_method id h (Some m) e = absurd (h m (method_is id m e))
 -- a whole description
 abbrev IsDescribed : Description → List ℕ → Type 0
 IsDescribed (Some (method, uri)) c = (name : List ℕ) × IsUniformResourceIdentifier uri name × (c ≡ enc OBJECT_IDENTIFIER (method_identifier method) ++ name)
-IsDescribed None c = (id : List ℕ) × (method : List ℕ) × (rest : List ℕ) × IsObjectIdentifier id method × ((known : AccessMethod) → id ≢ method_identifier known) × IsSkippableRow rest × (c ≡ method ++ rest)
+IsDescribed None c = (id : List ℕ) × (method : List ℕ) × (rest : List ℕ) × IsObjectIdentifier id method × ((known : AccessMethod) → id ≢ method_identifier known) × IsSkippableSequence rest × (c ≡ method ++ rest)
 
 location_takes : (id text rest : List ℕ) (r : Option AccessMethod) (d : Description) → method_of id ≡ r → AreOctets rest → IsObjectIdentifier id text → location_of r rest ≡ Some d → IsDescribed d (text ++ rest)
 location_takes id text rest (Some m) d is low encoded e =
@@ -179,14 +179,14 @@ uris_read = over_reads description_at (IsAccessDescriptionWithin levels) Any acc
 -- ---- the extension
 
 abbrev IsAccess : Access → List ℕ → Type 0
-IsAccess a c = (d : Description) × (ds : List Description) × IsRow (IsAccessDescriptionWithin levels) (d ∷ ds) c × access_fold.means (d ∷ ds) (uris_of a)
+IsAccess a c = (d : Description) × (ds : List Description) × AreEncodings (IsAccessDescriptionWithin levels) (d ∷ ds) c × access_fold.means (d ∷ ds) (uris_of a)
 
 not_nil : (d : Description) (text rest : List ℕ) → IsAccessDescriptionWithin levels d text → [] ≡ text ++ rest → ⊥
 unfolding enc
 not_nil (Some x) text rest s e = let f : [] ≡ enc SEQUENCE (concat (enc OBJECT_IDENTIFIER (method_identifier x.0) ∷ s.0 ∷ [])) ++ rest = rw s.2.is at e in absurd cc
 not_nil None text rest s e = let f : [] ≡ enc SEQUENCE (concat (s.method ∷ s.row)) ++ rest = rw s.sequence.is at e in absurd cc
 
-access_from : (b : ℕ) (c : List ℕ) (uris : Uris) (ds : List Description) → IsRow (IsAccessDescriptionWithin levels) ds (b ∷ c) → access_fold.means ds uris → IsAccess (access_made uris) (b ∷ c)
+access_from : (b : ℕ) (c : List ℕ) (uris : Uris) (ds : List Description) → AreEncodings (IsAccessDescriptionWithin levels) ds (b ∷ c) → access_fold.means ds uris → IsAccess (access_made uris) (b ∷ c)
 access_from b c uris [] s m = absurd cc
 access_from b c uris (d ∷ ds) s m = (d, ds, s, m)
 

@@ -27,7 +27,7 @@ pub row_longer : (x : ExtensionFields) (k : ℕ) → length (part_of (get_or (pa
 unfolding extensions
 row_longer x k = longer_at (parts x) k
 
--- ---- a row that grows
+-- ---- a sequence that grows
 
 -- the first k extensions
 abbrev pub written_before : ExtensionFields → ℕ → List ℕ

@@ -6,7 +6,7 @@ use Rattle.rpki_der.specs.Values.{enc, IsNested, sequence}
 use Rattle.rpki_der.specs.Reading.{inside}
 use Rattle.rpki_der.specs.Primitives.Reading.{oid_at}
 use Rattle.rpki_der.specs.Values.Reading.{◌>>=◌, value_at}
-use Rattle.rpki_der.specs.Choices.{turned}
+use Rattle.rpki_der.specs.Choices.{conversion}
 use Rattle.rpki_parts.specs.Uris.{IsRsync}
 use Rattle.rpki_ext.specs.GeneralNames.{IsGeneralNames, uri_name, names_of}
 use Rattle.rpki_ext.specs.Kinds.{ExtensionKind, required}
@@ -43,7 +43,7 @@ only_description_at = inside SEQUENCE (value_at SEQUENCE)
 
 -- reads an AuthorityInfoAccessSyntax
 unfoldable pub authority_information_access_at : List ℕ → Option (List ℕ × List ℕ)
-authority_information_access_at = turned issuers_of only_description_at
+authority_information_access_at = conversion issuers_of only_description_at
 
 -- ---- the kind
 

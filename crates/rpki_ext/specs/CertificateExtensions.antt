@@ -2,7 +2,7 @@
 -- is own).
 use Rattle.std.specs.Prelude.{unwrap_or, ℕ, Bool, List, Option, None, ◌≡◌, ◌≢◌, ◌⊎◌, false, Some, ◌-◌, [], ◌∷◌, map, ◌^◌, IfSome}
 use Rattle.std.specs.List.{AllByRecursion, concat}
-use Rattle.rpki_der.specs.Rows.{IsRow}
+use Rattle.rpki_der.specs.Sequences.{AreEncodings}
 use Rattle.rpki_der.specs.Extensions.{IsExtension, Extension, OptionalExtension, text}
 use Rattle.rpki_der.specs.Skipping.{levels}
 use Rattle.rpki_der.specs.Writers.{Part}
@@ -89,9 +89,9 @@ pub record GiveFieldsWithin (depth : ℕ) (xs : List Extension) (f : ExtensionFi
 abbrev pub GiveFields : List Extension → ExtensionFields → Type 0
 GiveFields = GiveFieldsWithin levels
 
--- the octets are a row of extensions that give these fields
+-- the octets are a sequence of extensions that give these fields
 abbrev pub AreExtensions : ExtensionFields → List ℕ → Type 0
-AreExtensions f row = (xs : List Extension) × IsRow IsExtension xs row × GiveFields xs f
+AreExtensions f row = (xs : List Extension) × AreEncodings IsExtension xs row × GiveFields xs f
 
 -- ---- what is written
 
@@ -137,7 +137,7 @@ parts x = parts_of certificate_kinds (values_of x)
 unfoldable pub extensions : ExtensionFields → List ℕ
 extensions x = concat (map text (parts x))
 
--- the row, which stands in one SEQUENCE as its content
+-- the sequence, which stands in one SEQUENCE as its content
 abbrev pub row_part : ExtensionFields → Part
 row_part x = record { written = extensions x; inside = extensions x }
 

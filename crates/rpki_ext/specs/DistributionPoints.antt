@@ -4,7 +4,7 @@ use Rattle.rpki_der.specs.Tags.{SEQUENCE, CONTEXT_CONSTRUCTED}
 use Rattle.rpki_der.specs.Values.{IsNested, nested}
 use Rattle.rpki_der.specs.Reading.{inside}
 use Rattle.rpki_der.specs.Values.Reading.{value_at}
-use Rattle.rpki_der.specs.Choices.{turned}
+use Rattle.rpki_der.specs.Choices.{conversion}
 use Rattle.rpki_der.specs.Identifiers.{id_ce}
 use Rattle.rpki_parts.specs.Uris.{IsRsync}
 use Rattle.rpki_ext.specs.GeneralNames.{IsGeneralNames, uri_name, names_of}
@@ -31,7 +31,7 @@ full_name_at = inside SEQUENCE (inside SEQUENCE (inside (CONTEXT_CONSTRUCTED 0) 
 
 -- reads CRLDistributionPoints: the rsync URI of the only point
 unfoldable pub crl_distribution_points_at : List ℕ → Option (List ℕ × List ℕ)
-crl_distribution_points_at = turned names_of full_name_at
+crl_distribution_points_at = conversion names_of full_name_at
 
 -- ---- the kind
 

@@ -9,7 +9,7 @@ use Rattle.rpki_der.specs.Values.Reading.{◌>>=◌}
 use Rattle.rpki_der.specs.Folding.{Step, once, over}
 use Rattle.rpki_parts.specs.Uris.{IsRsync}
 use Rattle.rpki_parts.specs.Uris.Tests.{is_rsync, is_https}
-use Rattle.rpki_ext.specs.Choosing.{IsOnlyWith}
+use Rattle.rpki_ext.specs.OnlyElements.{IsOnlyWith}
 
 -- uniformResourceIdentifier [6] IA5String, of GeneralName (RFC 5280 4.2.1.6)
 abbrev pub IsUniformResourceIdentifier : List ℕ → List ℕ → Type 0

@@ -3,7 +3,7 @@
 use Rattle.std.specs.Prelude.{◌<◌, ◌^◌, length, Bool, Option, Some, None, ◌≡◌, ℕ, List, bytes_eq, filter, [], ◌∷◌}
 use Rattle.std.specs.List.{list_any}
 use Rattle.rpki_der.specs.Extensions.{Extension, OptionalExtension, part_of}
-use Rattle.rpki_der.specs.Rows.{IsAtMostOne}
+use Rattle.rpki_der.specs.Sequences.{IsAtMostOne}
 use Rattle.rpki_der.specs.Values.Reading.{◌>>=◌}
 use Rattle.rpki_der.specs.Writers.{Part}
 use Rattle.rpki_blocks.specs.declared.overclaim.Overclaim.{Overclaim}

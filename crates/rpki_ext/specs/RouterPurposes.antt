@@ -4,7 +4,7 @@ use Rattle.std.specs.List.{list_any}
 use Rattle.rpki_der.specs.Folding.{Step}
 use Rattle.rpki_der.specs.Identifiers.{pkix}
 use Rattle.rpki_der.specs.Primitives.{IsObjectIdentifier}
-use Rattle.rpki_der.specs.Rows.{IsRow}
+use Rattle.rpki_der.specs.Sequences.{AreEncodings}
 
 -- id-kp-bgpsec-router
 abbrev pub router_purpose : List ℕ
@@ -17,7 +17,7 @@ is_router_purpose id = bytes_eq id router_purpose
 -- the identifiers that are kept have the router's purpose among them
 pub record HasRouterPurpose (kept : List ℕ) : Type 0 where
   pub ids : List (List ℕ)
-  pub row : IsRow IsObjectIdentifier ids kept
+  pub row : AreEncodings IsObjectIdentifier ids kept
   pub among : IsTrue (list_any is_router_purpose ids)
 
 -- ---- how it is searched for

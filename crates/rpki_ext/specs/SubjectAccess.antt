@@ -10,11 +10,11 @@ use Rattle.rpki_der.specs.Primitives.{IsObjectIdentifier}
 use Rattle.rpki_der.specs.Skipping.{IsSkippableWithin, levels}
 use Rattle.rpki_der.specs.Skipping.Reading.{skip_all_of}
 use Rattle.rpki_der.specs.Folding.{Fold, beside, first_fold, over}
-use Rattle.rpki_der.specs.Rows.{IsFirstOf}
+use Rattle.rpki_der.specs.Sequences.{IsFirstOf}
 use Rattle.rpki_der.specs.Reading.{ended, content}
 use Rattle.rpki_der.specs.Primitives.Reading.{oid_at}
 use Rattle.rpki_der.specs.Values.Reading.{◌>>=◌}
-use Rattle.rpki_der.specs.Place.{Place, left}
+use Rattle.rpki_der.specs.Place.{Place, remaining}
 use Rattle.rpki_parts.specs.Uris.{IsRsync, IsHttps}
 use Rattle.rpki_ext.specs.declared.subject_access.AccessMethod.{AccessMethod}
 use Rattle.rpki_ext.specs.declared.subject_access.AccessMethod.TheVariants.{CaRepository, RpkiManifest, SignedObject, RpkiNotify}
@@ -183,7 +183,7 @@ subject_information_access = subject_information_access_within levels
 -- what the code hands out of a description
 abbrev pub description_view : Option (AccessMethod × Place) → Option (AccessMethod × List ℕ)
 description_view None = None
-description_view (Some (method, text)) = Some (method, left text)
+description_view (Some (method, text)) = Some (method, remaining text)
 
 -- the URIs that are there, behind references
 abbrev pub access_behind : Option (Bor (List ℕ)) → Option (Bor (List ℕ)) → Option (Bor (List ℕ)) → Option (Bor (List ℕ)) → Access

@@ -1,6 +1,6 @@
 //! Authority Information Access (RFC 6487 4.8.7).
 ghost use Rattle.std.specs.Prelude.{Some, option_map};
-ghost use Rattle.rpki_der.specs.Place.{Place, left, Keeps, AnswersOrMemory};
+ghost use Rattle.rpki_der.specs.Place.{Place, remaining, Keeps, AnswersOrMemory};
 ghost use Rattle.rpki_der.specs.Place.Reading.{TookBy, ReturnsOrMemory, TookOrMemory};
 ghost use Rattle.rpki_der.specs.Values.{AreOctets};
 ghost use Rattle.rpki_der.specs.Writers.{Writes};
@@ -16,7 +16,7 @@ use std::alloc::Global;
 // The only description.
 #[tactic(auto, unfolding(crate::specs::AuthorityAccess::only_description_at))]
 fn take_only_description<'a>(cursor: &mut Cursor<'a>) -> Result<Cursor<'a>, DecodeError>
-    ensures reads { TookBy left only_description_at cursor.old result cursor.new }
+    ensures reads { TookBy remaining only_description_at cursor.old result cursor.new }
     ensures keeps { Keeps result cursor.old cursor.new }
 {
     let mut ahead = cursor.fork();
@@ -29,7 +29,7 @@ fn take_only_description<'a>(cursor: &mut Cursor<'a>) -> Result<Cursor<'a>, Deco
 
 // The only rsync URI of a description that says where certificates of issuers are.
 fn issuer_in(alloc: Global, mut description: Cursor<'_>) -> Result<Rsync, DecodeError>
-    ensures { ReturnsOrMemory result (issuers_of (left description.entry)) }
+    ensures { ReturnsOrMemory result (issuers_of (remaining description.entry)) }
 {
     if description.take_oid()? != oid::AD_CA_ISSUERS {
         return Err(DecodeError::BadValue);
@@ -42,7 +42,7 @@ fn issuer_in(alloc: Global, mut description: Cursor<'_>) -> Result<Rsync, Decode
 fn read(alloc: Global, cursor: &mut Cursor<'_>) -> Result<Rsync, DecodeError>
     ensures reads { TookOrMemory authority_information_access.reads cursor.old result cursor.new }
     ensures keeps { Keeps result cursor.old cursor.new }
-    ensures octets { AreOctets (left cursor.old) }
+    ensures octets { AreOctets (remaining cursor.old) }
 {
     let mut ahead = cursor.fork();
     let description = take_only_description(&mut ahead)?;

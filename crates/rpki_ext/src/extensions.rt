@@ -10,10 +10,10 @@ ghost use Rattle.rpki_ext.specs.CertificateExtensions.{bare, ExtensionsFit, exte
 use crate::authority_access::put_authority_information_access;
 use crate::basic_constraints::put_basic_constraints;
 use crate::distribution_points::put_crl_distribution_points;
+use crate::early_exits::beside;
 use crate::extended_key_usage::{ExtendedKeyUsage, put_extended_key_usage};
 use crate::key_identifiers::{encode_subject_key_identifier, put_authority_key_identifier};
 use crate::key_usage::{KeyUsage, encode_key_usage};
-use crate::letting_go::beside;
 use crate::policies::encode_certificate_policies;
 use crate::subject_access::encode_subject_information_access;
 use rpki_blocks::{AsResources, IpResources, Overclaim};

@@ -1,11 +1,12 @@
-//! Single extensions of certificates and revocation lists, the row of them that a certificate has, and the faults of inspection.
+//! Single extensions of certificates and revocation lists, the sequence of them that a certificate
+//! has, and the faults of inspection.
 #![tactic(auto)]
 
-mod agreement;
 mod authority_access;
 mod basic_constraints;
 pub mod comparing;
 mod distribution_points;
+mod early_exits;
 mod encode;
 mod extended_key_usage;
 mod extensions;
@@ -13,7 +14,7 @@ mod inspection;
 mod key_identifiers;
 mod key_usage;
 pub mod laws;
-mod letting_go;
+mod listed_resources;
 mod names;
 mod policies;
 mod reading;
@@ -25,6 +26,7 @@ pub use authority_access::{
 };
 pub use basic_constraints::{encode_basic_constraints, take_basic_constraints};
 pub use distribution_points::{encode_crl_distribution_points, take_crl_distribution_points};
+pub use early_exits::beside;
 pub use extended_key_usage::{
     ExtendedKeyUsage, encode_extended_key_usage, take_extended_key_usage,
 };
@@ -35,7 +37,6 @@ pub use key_identifiers::{
     take_subject_key_identifier,
 };
 pub use key_usage::{KeyUsage, encode_key_usage, take_key_usage};
-pub use letting_go::beside;
 pub use policies::{encode_certificate_policies, take_certificate_policies};
 pub use rpki_der::take_extension;
 pub use subject_access::{Sia, encode_subject_information_access, take_subject_information_access};

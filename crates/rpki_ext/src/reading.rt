@@ -1,6 +1,6 @@
 //! The extensions of a certificate, in one pass, whatever order they stand in.
 ghost use Rattle.std.specs.Prelude.{◌≡◌, ◌⊎◌, true, false, OnOk, OnErr, IfOk, IfErr, Some, None, unwrap_or};
-ghost use Rattle.rpki_der.specs.Place.{Place, left, MeansOrMemory, Refuses};
+ghost use Rattle.rpki_der.specs.Place.{Place, remaining, MeansOrMemory, Rejects};
 ghost use Rattle.rpki_der.specs.Place.Reading.{Returns, ReturnsOrMemory, ReturnsOrMemoryBy};
 ghost use Rattle.rpki_der.specs.Extensions.{Extension};
 ghost use Rattle.rpki_der.specs.Extensions.Reading.{extension_at};
@@ -11,15 +11,15 @@ ghost use Rattle.rpki_ext.specs.CertificateExtensions.{AreExtensions, no_access}
 ghost use Rattle.rpki_ext.specs.CertificateExtensions.Reading.{Names, wanted, HasFlag, field_of, all_kinds, state_of, is_seen, completed, extensions_of};
 ghost use Rattle.rpki_ext.specs.CertificateExtensions.Views.{access_with};
 
-use crate::agreement::agreed;
 use crate::authority_access::take_authority_information_access;
 use crate::basic_constraints::take_basic_constraints;
 use crate::distribution_points::take_crl_distribution_points;
+use crate::early_exits::beside;
 use crate::extended_key_usage::{ExtendedKeyUsage, take_extended_key_usage};
 use crate::extensions::Extensions;
 use crate::key_identifiers::{take_authority_key_identifier, take_subject_key_identifier};
 use crate::key_usage::{KeyUsage, take_key_usage};
-use crate::letting_go::beside;
+use crate::listed_resources::agreed;
 use crate::policies::take_certificate_policies;
 use crate::subject_access::{Sia, take_subject_information_access};
 use bytes::Bytes;
@@ -122,7 +122,7 @@ impl Named {
 // 4.2).
 fn pass_over(alloc: Global, identifier: &[u8], critical: bool) -> Result<(), DecodeError>
     ensures ok { OnOk result (critical ≡ false) }
-    ensures err { IfErr result (λ e. Refuses e (critical ≡ true)) }
+    ensures err { IfErr result (λ e. Rejects e (critical ≡ true)) }
 {
     if !critical {
         return Ok(());
@@ -198,7 +198,7 @@ impl Seen {
     fn check(&self, kind: Named, critical: bool) -> Result<(), DecodeError>
         ensures first { OnOk result (is_seen self.now kind ≡ false) }
         ensures flag { OnOk result (HasFlag (wanted kind) critical) }
-        ensures refused { OnErr result
+        ensures rejected { OnErr result
             ((is_seen self.now kind ≡ true) ⊎ (HasFlag (wanted kind) critical → ⊥)) }
     {
         if self.has(kind) {
@@ -211,11 +211,12 @@ impl Seen {
         }
     }
 
-    // Reads the content of an extension of this kind, where it is the first and has the kind's flag.
+    // Reads the content of an extension of this kind, where it is the first and has the kind's
+    // flag.
     fn take(&mut self, alloc: Global, kind: Named, content: &mut Cursor<'_>) -> Taken
         ensures { (x : Extension) → Names x.identifier (Some kind)
             → HasFlag (wanted kind) x.critical → is_seen self.old kind ≡ false
-            → x.content ≡ left content.old → ReturnsOrMemoryBy (λ _. state_of self.new) result
+            → x.content ≡ remaining content.old → ReturnsOrMemoryBy (λ _. state_of self.new) result
             (all_kinds.step (state_of self.old) x) }
     {
         match kind {
@@ -273,10 +274,10 @@ impl Seen {
         self.take(alloc, kind, &mut content)
     }
 
-    // A row of extensions, one after the other.
+    // A sequence of extensions, one after the other.
     fn from_row(alloc: Global, row: &Cursor<'_>) -> Result<Seen, DecodeError>
         ensures { ReturnsOrMemoryBy state_of result
-            (over extension_at all_kinds.step all_kinds.start (left row.now)) }
+            (over extension_at all_kinds.step all_kinds.start (remaining row.now)) }
     {
         let mut rest = row.fork();
         let mut seen = Seen::nothing();
@@ -322,8 +323,8 @@ fn required<T: Drop>(value: Option<T>, field: Field) -> Result<T, DecodeError>
 }
 
 impl Extensions {
-    // What was seen, if all is there that must be, and the identifiers of the resources are those of
-    // the policy.
+    // What was seen, if all is there that must be, and the identifiers of the resources are those
+    // of the policy.
     fn complete(seen: Seen) -> Result<Extensions, DecodeError>
         ensures { Returns result (completed (state_of seen)) }
     {
@@ -369,7 +370,7 @@ impl Extensions {
     // Reads as `from_row` does, by the reading function.
     #[tactic(auto, unfolding(crate::specs::CertificateExtensions::Reading::extensions_of))]
     fn read(alloc: Global, row: &Cursor<'_>) -> Result<Extensions, DecodeError>
-        ensures { ReturnsOrMemory result (extensions_of (left row.now)) }
+        ensures { ReturnsOrMemory result (extensions_of (remaining row.now)) }
     {
         Extensions::complete(Seen::from_row(alloc, row)?)
     }
@@ -378,8 +379,8 @@ impl Extensions {
     /// a fault where they give no fields; which of several is unspecified.
     #[tactic(auto, using(crate::proofs::CertificateExtensions::row_means))]
     pub fn from_row(alloc: Global, row: &Cursor<'_>) -> Result<Extensions, DecodeError>
-        ensures means { MeansOrMemory AreExtensions result (left row.now) }
-        ensures reads { ReturnsOrMemory result (extensions_of (left row.now)) }
+        ensures means { MeansOrMemory AreExtensions result (remaining row.now) }
+        ensures reads { ReturnsOrMemory result (extensions_of (remaining row.now)) }
     {
         // Called for what it ensures alone.
         let _octets = row.rest();

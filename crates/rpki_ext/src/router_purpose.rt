@@ -1,7 +1,7 @@
 //! The purposes of a router's key are inspected (RFC 8209 3.1.3.2).
 ghost use Rattle.std.specs.Prelude.{◌≡◌, ◌↔◌, ◌||◌, IsOk, IfErr, false};
 ghost use Rattle.rpki_der.specs.Folding.{over};
-ghost use Rattle.rpki_der.specs.Place.{left};
+ghost use Rattle.rpki_der.specs.Place.{remaining};
 ghost use Rattle.rpki_der.specs.Primitives.Reading.{oid_at};
 ghost use Rattle.rpki_ext.specs.RouterPurposes.{HasRouterPurpose, is_router_purpose, or_router};
 ghost use Rattle.rpki_ext.specs.declared.inspection.InspectionError.TheVariants.{MissingRouterPurpose};
@@ -19,7 +19,7 @@ fn or_router(found: bool, id: &[u8]) -> bool
 
 // Whether the router's purpose is among these identifiers; `None` where they aren't identifiers.
 fn find_router(identifiers: &Cursor<'_>) -> Option<bool>
-    ensures { result ≡ over oid_at or_router false (left identifiers.now) }
+    ensures { result ≡ over oid_at or_router false (remaining identifiers.now) }
 {
     let mut rest = identifiers.fork();
     let mut found = false;

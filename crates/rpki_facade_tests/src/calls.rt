@@ -1,12 +1,13 @@
-//! Signatures, certificates, paths, the program: what the facade's calls answer is what the layer says.
+//! Signatures, certificates, paths, the program: what the facade's calls answer is what the layer
+//! says.
 ghost use Rattle.std.specs.Prelude.{◌≡◌, ◌↔◌, ◌^◌, ◌+◌, IsTrue, IfOk, IfErr, None, Some};
 ghost use Rattle.std.proofs.Common.{rc_value};
 ghost use Rattle.rpki_rsa.specs.RsaKeys.{IsRpkiKey};
 ghost use Rattle.rpki_rsa.specs.RsaSignatures.{IsRsaSignature};
 ghost use Rattle.rpki_cert.specs.Certificates.{encoding};
-ghost use Rattle.rpki_cert.specs.Rearranging.{IsRefused};
+ghost use Rattle.rpki_cert.specs.Rearranging.{IsRejected};
 ghost use Rattle.rpki_cert.specs.Verification.{context};
-ghost use Rattle.rpki_path.specs.Paths.{asked, Validates};
+ghost use Rattle.rpki_path.specs.Paths.{candidates, Validates};
 ghost use Rattle.rpki_path.specs.Watching.{device, HasFailed, TakesAtMost};
 
 use bytes::Bytes;
@@ -61,7 +62,7 @@ pub fn rearranged(
     order: &[usize],
     extras: &[Extra],
 ) -> Result<Vec<u8>, RearrangeError>
-    ensures { IfErr result (IsRefused octets.now order.now extras.now) }
+    ensures { IfErr result (IsRejected octets.now order.now extras.now) }
 {
     rearrange(alloc, octets, order, extras)
 }
@@ -78,7 +79,7 @@ pub fn validated<V: Verifier>(
     verifier: &V,
 ) -> Result<ResourceCert, PathError>
     ensures { let x = context (V.verifies verifier.now) now strict in
-        Validates x None anchor.now (asked cas.now leaf) (rc_value tal) result }
+        Validates x None anchor.now (candidates cas.now leaf) (rc_value tal) result }
 {
     validate_path(alloc, anchor, cas, leaf, tal, strict, now, verifier)
 }
@@ -97,7 +98,7 @@ pub fn validated_with<V: Verifier>(
 ) -> Result<ResourceCert, PathError>
     ensures { let x = context (V.verifies verifier.now) now strict in
         let pairs = Some store.now.pairs in
-        Validates x pairs anchor.now (asked cas.now leaf) (rc_value tal) result }
+        Validates x pairs anchor.now (candidates cas.now leaf) (rc_value tal) result }
 {
     validate_path_with(alloc, store, anchor, cas, leaf, tal, strict, now, verifier)
 }

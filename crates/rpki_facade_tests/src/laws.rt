@@ -11,7 +11,7 @@ ghost use Rattle.rpki_cert.specs.Profiles.{MeetsProfile, group};
 ghost use Rattle.rpki_cert.specs.Verification.{ResourceFields, HasIssued};
 ghost use Rattle.rpki_cert.specs.declared.inspect.Kind.{Kind};
 ghost use Rattle.rpki_crl.specs.Lists.{IsCertificateList};
-ghost use Rattle.rpki_path.specs.Paths.{Path, Asked, IsPathOf};
+ghost use Rattle.rpki_path.specs.Paths.{Path, Candidate, IsPathOf};
 
 use rpki::crypto::RpkiSignatureAlgorithm;
 use rpki::program::Status;
@@ -82,7 +82,7 @@ pub fn of_lists()
 
 /// Tells that strings are at most one path.
 pub fn of_paths()
-    ensures { (anchor : List ℕ) (below : List Asked) (p q : Path)
+    ensures { (anchor : List ℕ) (below : List Candidate) (p q : Path)
         → IsPathOf anchor below p → IsPathOf anchor below q → p ≡ q }
 {
     laws::paths::one_path();

@@ -5,15 +5,15 @@ use Rattle.std.proofs.Common.{arith, ◌≡◌, ◌≤◌, ◌+◌, ◌⊎◌, �
 use Rattle.std.proofs.lemmas.Bool.{cases_Bool}
 use Rattle.std.proofs.lemmas.List.{append-nil}
 use Rattle.rpki_der.specs.Folding.{Step, steps, over}
-use Rattle.rpki_der.specs.Rows.{IsRow}
-use Rattle.rpki_der.specs.Rows.Reading.{Shrinks}
+use Rattle.rpki_der.specs.Sequences.{AreEncodings}
+use Rattle.rpki_der.specs.Sequences.Reading.{Shrinks}
 use Rattle.rpki_der.specs.Tags.{SEQUENCE, SET}
 use Rattle.rpki_der.specs.Values.Reading.{◌>>=◌, value_at}
 use Rattle.std.proofs.lemmas.Slice.Eq.{bytes_eq-Decides}
 use Rattle.rpki_der.proofs.Octets.{bind_some, some, some_is, both_are, nothing, chosen, unless_some}
-use Rattle.rpki_der.proofs.Rows.{row_again}
+use Rattle.rpki_der.proofs.Sequences.{row_again}
 use Rattle.rpki_der.proofs.ValueReads.{value_again, value_shorter}
-use Rattle.rpki_der.proofs.Walking.{goes_on, refused, over_end}
+use Rattle.rpki_der.proofs.SequenceWalks.{goes_on, rejected, over_end}
 use Rattle.rpki_parts.specs.Names.{common_name, serial_number, Attribute, IsName}
 use Rattle.rpki_parts.specs.Names.Reading.{attribute_at}
 use Rattle.rpki_parts.specs.NameForms.{of_type, IsTextTag, AreNameAttributes, IsRpkiName}
@@ -46,16 +46,16 @@ module _ (strict : Bool) where
       → ((t : Seen) → over (value_at SET) (seen_in strict) t rest ≡ steps (seen_with strict) t (all_of parts))
       → (r : Option Seen) → steps (seen_with strict) s part ≡ r
       → over (value_at SET) (seen_in strict) s text ≡ (r >>= λ t. steps (seen_with strict) t (all_of parts))
-  next s text c rest part parts was is more None e = refused (value_at SET) (seen_in strict) set_shrinks s text c rest was (is ∙ e)
+  next s text c rest part parts was is more None e = rejected (value_at SET) (seen_in strict) set_shrinks s text c rest was (is ∙ e)
   next s text c rest part parts was is more (Some t) e = goes_on (value_at SET) (seen_in strict) set_shrinks s text c rest was t (is ∙ e) ∙ more t
 
   -- the walk over a part takes a step for each of its attributes
-  pub in_part : (s : Seen) (part : List Attribute) (c : List ℕ) → IsRow IsAttribute part c → seen_in strict s c ≡ steps (seen_with strict) s part
+  pub in_part : (s : Seen) (part : List Attribute) (c : List ℕ) → AreEncodings IsAttribute part c → seen_in strict s c ≡ steps (seen_with strict) s part
   unfolding over
   in_part s part c r = rw (row_again attribute_at IsAttribute attribute_reads attribute_shrinks part c r) refl
 
   -- the walk over the parts takes a step for each attribute
-  pub seen_in_parts : (parts : List (List Attribute)) (text : List ℕ) (s : Seen) → IsRow IsPart parts text → over (value_at SET) (seen_in strict) s text ≡ steps (seen_with strict) s (all_of parts)
+  pub seen_in_parts : (parts : List (List Attribute)) (text : List ℕ) (s : Seen) → AreEncodings IsPart parts text → over (value_at SET) (seen_in strict) s text ≡ steps (seen_with strict) s (all_of parts)
   seen_in_parts [] text s r = rw r (over_end (value_at SET) (seen_in strict) s)
   seen_in_parts (part ∷ parts) text s (a, b, p, more, e) =
       let was : value_at SET text ≡ some {A = List ℕ × List ℕ} (p.content, b) = ap (value_at SET) e ∙ value_again SET p.content a b p.set in
@@ -194,7 +194,7 @@ module _ (strict : Bool) where
     row parts s =
         let whole : value_at SEQUENCE name ≡ some {A = List ℕ × List ℕ} (s.content, []) = ap (value_at SEQUENCE) (sym (append-nil name)) ∙ value_again SEQUENCE s.content name [] s.sequence in
         let same : s.content ≡ c = (both_are {A = List ℕ} {B = List ℕ} (s.content, []) (c, rest) (sym whole ∙ was)).0 in
-        seen_in_parts strict parts c nothing_seen (subst (λ (b : List ℕ). IsRow IsPart parts b) same s.row)
+        seen_in_parts strict parts c nothing_seen (subst (λ (b : List ℕ). AreEncodings IsPart parts b) same s.row)
 
     -- a name that passes the walk with a CommonName has the form of the RPKI
     pub form_is : (t : Seen) → IsName name name → over (value_at SET) (seen_in strict) nothing_seen c ≡ Some t → t.name ≡ true → IsRpkiName strict name

@@ -4,8 +4,8 @@ use Rattle.std.proofs.Common.{◌≡◌, ℕ, ◌+◌, ◌≤◌, zero, suc, tru
 use Rattle.std.proofs.lemmas.List.{append-nil, length-append}
 use Rattle.rpki_der.specs.Values.{AreOctets, enc, length_octets, IsEnc, IsValue}
 use Rattle.rpki_der.specs.Primitives.{IsObjectIdentifier}
-use Rattle.rpki_der.specs.Rows.{IsRow}
-use Rattle.rpki_der.specs.Rows.Reading.{row_of, Shrinks}
+use Rattle.rpki_der.specs.Sequences.{AreEncodings}
+use Rattle.rpki_der.specs.Sequences.Reading.{row_of, Shrinks}
 use Rattle.rpki_der.specs.Skipping.{levels, IsSkippableWithin, IsSkippable}
 use Rattle.rpki_der.specs.Skipping.Reading.{skip_at, captured_at}
 use Rattle.rpki_der.specs.Encoding.{Begins}
@@ -18,7 +18,7 @@ use Rattle.rpki_der.proofs.IdentifierReads.{oid_reads}
 use Rattle.rpki_der.proofs.ValueReads.{value_reads}
 use Rattle.rpki_der.proofs.Choices.{content_shrinks}
 use Rattle.rpki_der.proofs.SkippingReads.{skip_reads, captured_reads, begins_tag}
-use Rattle.rpki_der.proofs.Rows.{row_is, row_again, inside_shrinks}
+use Rattle.rpki_der.proofs.Sequences.{row_is, row_again, inside_shrinks}
 use Rattle.rpki_der.proofs.Readings.{both_reads, inside_reads, mapped_reads, content_reads, same_reads, ended_some}
 use Rattle.rpki_parts.specs.Names.{Attribute, IsAttributeTypeAndValueWithin, IsRelativeDistinguishedNameWithin, IsRdnSequenceWithin, IsName}
 use Rattle.rpki_parts.specs.Names.Reading.{tagged_at, attribute, attribute_at, attributes_of, part_at, parts_at, name_of, is_name, name_at}
@@ -114,9 +114,9 @@ abbrev pub IsPart : List Attribute → List ℕ → Type 0
 IsPart = IsRelativeDistinguishedNameWithin levels
 
 abbrev PartContent : List Attribute → List ℕ → Type 0
-PartContent attributes c = IsRow IsAttribute attributes c × (1 ≤ length attributes)
+PartContent attributes c = AreEncodings IsAttribute attributes c × (1 ≤ length attributes)
 
-some_part : (b : ℕ) (bytes : List ℕ) (xs : List Attribute) → IsRow IsAttribute xs (b ∷ bytes) → 1 ≤ length xs
+some_part : (b : ℕ) (bytes : List ℕ) (xs : List Attribute) → AreEncodings IsAttribute xs (b ∷ bytes) → 1 ≤ length xs
 some_part b bytes [] r = absurd cc
 some_part b bytes (x ∷ xs) r = omega arith
 
@@ -124,7 +124,7 @@ part_takes : (c : List ℕ) (xs : List Attribute) → AreOctets c → attributes
 part_takes [] xs fits e = nothing xs e
 part_takes (b ∷ bytes) xs fits e = let r = row_is attribute_at IsAttribute attribute_reads (b ∷ bytes) xs fits e in (r, some_part b bytes xs r)
 
-some_octets : (xs : List Attribute) → IsRow IsAttribute xs [] → 1 ≤ length xs → ⊥
+some_octets : (xs : List Attribute) → AreEncodings IsAttribute xs [] → 1 ≤ length xs → ⊥
 unfolding enc
 some_octets [] r h = omega arith
 some_octets (x ∷ xs) r h =
@@ -160,8 +160,8 @@ AreParts = IsRdnSequenceWithin levels
 pub parts_reads : Reads parts_at AreParts
 unfolding parts_at
 parts_reads =
-    same_reads (content SEQUENCE (row_of part_at)) (Inside SEQUENCE (IsRow IsPart)) AreParts
-    (content_reads SEQUENCE (row_of part_at) (IsRow IsPart) (record {
+    same_reads (content SEQUENCE (row_of part_at)) (Inside SEQUENCE (AreEncodings IsPart)) AreParts
+    (content_reads SEQUENCE (row_of part_at) (AreEncodings IsPart) (record {
       takes = λ c parts fits e. row_is part_at IsPart part_reads c parts fits e;
       again = λ parts c s. row_again part_at IsPart part_reads part_shrinks parts c s;
     }))
@@ -247,7 +247,7 @@ pub no_sequence : (octets : List ℕ) → value_at SEQUENCE octets ≡ None → 
 unfolding name_of parts_at
 no_sequence octets e = rw e refl
 
--- a SEQUENCE with nothing behind it is a Name where its content is a row of parts
+-- a SEQUENCE with nothing behind it is a Name where its content is a sequence of parts
 pub name_more : (octets c rest : List ℕ) → value_at SEQUENCE octets ≡ some {A = List ℕ × List ℕ} (c, rest) → rest ≡ [] → is_name octets ≡ is_some (row_of part_at c)
 unfolding name_of parts_at
 name_more octets c rest e end = rw (e, end) (is_whole (row_of part_at c))

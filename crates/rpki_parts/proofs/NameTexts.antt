@@ -1,11 +1,11 @@
--- A text that is written piece by piece, and the values of a row one after the other.
+-- A text that is written piece by piece, and the values of a sequence one after the other.
 use Rattle.std.specs.Prelude.{◌&&◌, not, nat_lt, if◌then◌else◌}
 use Rattle.std.proofs.Common.{◌≡◌, ℕ, zero, suc, Bool, true, false, ◌<◌, ◌≤◌, List, [], ◌∷◌, ◌++◌, length, Option, Some, None, refl, sym, ap, ◌∙◌, append_assoc, arith}
 use Rattle.std.proofs.lemmas.List.{append-nil}
 use Rattle.std.proofs.Output.{has_written_append, has_written_of_eq, writes_in_calls_nil}
 use Rattle.std.specs.Fmt.{HasWritten, IsPlainFormatter}
 use Rattle.std.specs.declared.fmt.Formatter.{Formatter}
-use Rattle.rpki_der.specs.Rows.Reading.{Shrinks}
+use Rattle.rpki_der.specs.Sequences.Reading.{Shrinks}
 use Rattle.rpki_der.specs.Tags.{SEQUENCE}
 use Rattle.rpki_der.specs.Primitives.Reading.{oid_at}
 use Rattle.rpki_der.specs.Values.Reading.{◌>>=◌}
@@ -38,7 +38,7 @@ module _ {W : Type 0} (took : W → List ℕ → W → Type 0) where
       let a = piece_written f text g before (one ++ separated between between more) h so_far (first so_far.1.plain) in
       piece_written f text h one (separated between between more) i a (second a.1.plain)
 
--- ---- the values of a row
+-- ---- the values of a sequence
 
 -- reading an attribute uses octets up
 pub attribute_value_shrinks : Shrinks attribute_value_at

@@ -3,7 +3,7 @@ use Rattle.std.specs.Prelude.{map}
 use Rattle.std.proofs.Common.{◌≡◌, ℕ, zero, suc, true, List, [], ◌∷◌, length, Option, Some, refl, ap, ◌∙◌, arith}
 use Rattle.rpki_der.specs.Primitives.Reading.{oid_at}
 use Rattle.rpki_der.specs.Reading.{both, mapped, content, ended}
-use Rattle.rpki_der.specs.Rows.Reading.{row_at, row_of, Shrinks}
+use Rattle.rpki_der.specs.Sequences.Reading.{row_at, row_of, Shrinks}
 use Rattle.rpki_der.specs.Tags.{SEQUENCE, SET}
 use Rattle.rpki_der.specs.Values.Reading.{◌>>=◌, value_at}
 use Rattle.rpki_der.proofs.Octets.{bind_some, some, some_is, both_are, nothing}
@@ -16,7 +16,7 @@ use Rattle.rpki_parts.proofs.NameForms.{set_shrinks}
 use Rattle.rpki_parts.proofs.NameReads.{some_of}
 use Rattle.rpki_parts.proofs.NameTexts.{attribute_value_shrinks, enough_values}
 
--- what a whole row reads as in another way, where each of its values does
+-- what a whole sequence reads as in another way, where each of its values does
 row_other : {X Y : Type 0} (read : List ℕ → Option (X × List ℕ)) (other : List ℕ → Option (Y × List ℕ))
     → ((octets : List ℕ) (x : X) (rest : List ℕ) → read octets ≡ some {A = X × List ℕ} (x, rest) → (y : Y) × (other octets ≡ some {A = Y × List ℕ} (y, rest)))
     → (n : ℕ) (octets : List ℕ) (xs : List X) → row_at read n octets ≡ some xs → (ys : List Y) × (row_at other n octets ≡ some ys)
@@ -29,7 +29,7 @@ row_other {X} read other step (suc n) (b ∷ bytes) xs e =
     let r = row_other read other step n a.0.1 c.0 c.1 in
     (o.0 ∷ r.0, rw (o.1, r.1) refl)
 
--- the values of a whole row
+-- the values of a whole sequence
 row_values : {X : Type 0} (read : List ℕ → Option (X × List ℕ)) → Shrinks read → (n : ℕ) (octets : List ℕ) (xs : List X) → row_at read n octets ≡ some xs → values_at read n octets ≡ xs
 row_values read less n [] xs e = enough_values read less n zero [] (omega arith) (omega arith) ∙ some_is [] xs e
 row_values read less zero (b ∷ bytes) xs e = nothing xs e

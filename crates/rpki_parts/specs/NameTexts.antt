@@ -4,7 +4,7 @@ use Rattle.std.specs.Prelude.{ℕ, Bool, true, false, ◌||◌, ◌&&◌, ◌==�
 use Rattle.std.specs.Fmt.{decimal}
 use Rattle.rpki_der.specs.Primitives.Reading.{oid_at}
 use Rattle.rpki_der.specs.Reading.{content}
-use Rattle.rpki_der.specs.Rows.Reading.{row_of}
+use Rattle.rpki_der.specs.Sequences.Reading.{row_of}
 use Rattle.rpki_der.specs.Tags.{SEQUENCE, SET, PRINTABLE_STRING, UTF8_STRING}
 use Rattle.rpki_der.specs.Texts.{hexadecimal}
 use Rattle.rpki_der.specs.Values.Reading.{◌>>=◌, value_at}

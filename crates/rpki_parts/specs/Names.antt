@@ -2,7 +2,7 @@
 use Rattle.std.specs.Prelude.{◌≡◌, ℕ, ◌≤◌, List, [], ◌∷◌, length}
 use Rattle.rpki_der.specs.Values.{IsEnc, IsSequence}
 use Rattle.rpki_der.specs.Primitives.{IsObjectIdentifier}
-use Rattle.rpki_der.specs.Rows.{IsRow}
+use Rattle.rpki_der.specs.Sequences.{AreEncodings}
 use Rattle.rpki_der.specs.Skipping.{levels, IsSkippableWithin}
 use Rattle.rpki_der.specs.Tags.{SEQUENCE, SET}
 use Rattle.rpki_der.specs.Writers.{Part}
@@ -38,14 +38,14 @@ pub record IsAttributeTypeAndValueWithin (depth : ℕ) (a : Attribute) (b : List
 -- the order of the attributes isn't tested (own)
 pub record IsRelativeDistinguishedNameWithin (depth : ℕ) (attributes : List Attribute) (b : List ℕ) : Type 0 where
   pub content : List ℕ
-  pub row : IsRow (IsAttributeTypeAndValueWithin depth) attributes content
+  pub row : AreEncodings (IsAttributeTypeAndValueWithin depth) attributes content
   pub some : 1 ≤ length attributes
   pub set : IsEnc SET content b
 
 -- RDNSequence ::= SEQUENCE OF RelativeDistinguishedName   (RFC 5280 4.1.2.4)
 pub record IsRdnSequenceWithin (depth : ℕ) (parts : List (List Attribute)) (b : List ℕ) : Type 0 where
   pub content : List ℕ
-  pub row : IsRow (IsRelativeDistinguishedNameWithin depth) parts content
+  pub row : AreEncodings (IsRelativeDistinguishedNameWithin depth) parts content
   pub sequence : IsEnc SEQUENCE content b
 
 -- Name ::= CHOICE { rdnSequence RDNSequence }   (RFC 5280 4.1.2.4)

@@ -1,7 +1,7 @@
 //! The signature algorithm, read and written.
 ghost use Rattle.std.specs.Prelude.{◌≡◌, IfErr};
 ghost use Rattle.rpki_der.specs.declared.error.EncodeError.TheVariants.{Memory};
-ghost use Rattle.rpki_der.specs.Place.{Place, left, Keeps, Answers};
+ghost use Rattle.rpki_der.specs.Place.{Place, remaining, Keeps, Answers};
 ghost use Rattle.rpki_der.specs.Place.Reading.{Took};
 ghost use Rattle.rpki_der.specs.Values.{AreOctets};
 ghost use Rattle.rpki_der.specs.Writers.{Writes};
@@ -80,7 +80,7 @@ impl RpkiSignatureAlgorithm {
     fn read(cursor: &mut Cursor<'_>) -> Result<RpkiSignatureAlgorithm, DecodeError>
         ensures reads { Took algorithm_at cursor.old result cursor.new }
         ensures keeps { Keeps result cursor.old cursor.new }
-        ensures octets { AreOctets (left cursor.old) }
+        ensures octets { AreOctets (remaining cursor.old) }
     {
         let mut ahead = cursor.fork();
         let mut content = ahead.take_sequence()?;

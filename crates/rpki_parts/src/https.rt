@@ -59,7 +59,7 @@ impl Https {
     pub fn from_text(alloc: Global, text: &str) -> Result<Https, UriError>
         ensures ok { IfOk result (λ u. u ≡ text.now) }
         ensures accepted { OnOk result (IsHttps text.now) }
-        ensures refused { (result ≡ Err error.BadUri) ↔ ¬ (IsHttps text.now) }
+        ensures rejected { (result ≡ Err error.BadUri) ↔ ¬ (IsHttps text.now) }
     {
         if !is_https(text.as_bytes()) {
             return Err(UriError::BadUri);

@@ -3,7 +3,7 @@ ghost use Rattle.std.specs.Prelude.{◌≡◌, ◌↔◌, ◌%◌, ◌^◌, ◌<
 ghost use Rattle.rpki_der.specs.Values.{AreOctets};
 ghost use Rattle.rpki_der.specs.Tags.{OCTET_STRING};
 ghost use Rattle.rpki_der.specs.Writers.{Writes, value};
-ghost use Rattle.rpki_der.specs.Place.{Place, left, IsWithin, Keeps, Answers, AnswersOrMemory, MeansOrMemory};
+ghost use Rattle.rpki_der.specs.Place.{Place, remaining, IsWithin, Keeps, Answers, AnswersOrMemory, MeansOrMemory};
 ghost use Rattle.rpki_der.specs.Place.Reading.{Took, TookBy, TookOrMemory};
 ghost use Rattle.rpki_parts.specs.Keys.{KeyFields, IsPublicKey, key_identifier, IsKeyIdentifier, key_algorithm, key_part};
 ghost use Rattle.rpki_parts.specs.Keys.Reading.{key_identifier_at, format_at, whole_bits_at, public_key_at};
@@ -100,7 +100,7 @@ impl KeyIdentifier {
     fn read(cursor: &mut Cursor<'_>) -> Result<KeyIdentifier, DecodeError>
         ensures reads { Took key_identifier_at cursor.old result cursor.new }
         ensures keeps { Keeps result cursor.old cursor.new }
-        ensures octets { AreOctets (left cursor.old) }
+        ensures octets { AreOctets (remaining cursor.old) }
     {
         let mut ahead = cursor.fork();
         let content = ahead.take_value(tag::OCTET_STRING)?;
@@ -211,7 +211,7 @@ fn take_format(cursor: &mut Cursor<'_>) -> Result<PublicKeyFormat, DecodeError>
 // A cursor over the octets of the BIT STRING that stands next, of which no bits are unused.
 #[tactic(auto, unfolding(crate::specs::Keys::Reading::whole_bits_at))]
 pub(crate) fn take_whole_bits<'a>(cursor: &mut Cursor<'a>) -> Result<Cursor<'a>, DecodeError>
-    ensures reads { TookBy left whole_bits_at cursor.old result cursor.new }
+    ensures reads { TookBy remaining whole_bits_at cursor.old result cursor.new }
     ensures keeps { Keeps result cursor.old cursor.new }
     ensures inside { IfOk result (λ c. IsWithin c cursor.old) }
 {
@@ -258,7 +258,7 @@ impl PublicKey {
     fn read(alloc: Global, cursor: &mut Cursor<'_>) -> Result<PublicKey, DecodeError>
         ensures reads { TookOrMemory public_key_at cursor.old result cursor.new }
         ensures keeps { Keeps result cursor.old cursor.new }
-        ensures octets { AreOctets (left cursor.old) }
+        ensures octets { AreOctets (remaining cursor.old) }
     {
         let mut ahead = cursor.fork();
         let mut content = ahead.take_sequence()?;

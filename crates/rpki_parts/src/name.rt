@@ -1,10 +1,10 @@
 //! Names, kept as they stand.
 ghost use Rattle.rpki_parts.specs.KeyNames.{digit, hexadecimal, name_of_digits};
 ghost use Rattle.std.specs.Prelude.{◌≡◌, ◌≢◌, ◌<◌, ◌++◌, IfOk, IfErr, OnOk, is_ok, is_some};
-ghost use Rattle.rpki_der.specs.Place.{Place, left, Keeps, AnswersOrMemory, MeansOrMemory};
+ghost use Rattle.rpki_der.specs.Place.{Place, remaining, Keeps, AnswersOrMemory, MeansOrMemory};
 ghost use Rattle.rpki_der.specs.Place.Reading.{Took, TookBy, TookOrMemory};
 ghost use Rattle.rpki_der.specs.Reading.{mapped};
-ghost use Rattle.rpki_der.specs.Rows.Reading.{row_of};
+ghost use Rattle.rpki_der.specs.Sequences.Reading.{row_of};
 ghost use Rattle.rpki_der.specs.Values.{AreOctets};
 ghost use Rattle.rpki_der.specs.Writers.{Writes};
 ghost use Rattle.rpki_der.specs.declared.error.DecodeError.TheVariants as decoding;
@@ -74,8 +74,8 @@ pub(crate) fn take_attribute<'a>(cursor: &mut Cursor<'a>) -> Result<(&'a [u8], u
 
 // Whether these are attributes.
 fn check_attributes(mut row: Cursor<'_>) -> Result<(), DecodeError>
-    ensures row { is_ok result ≡ is_some (row_of attribute_at (left row.entry)) }
-    ensures refused { IfErr result (λ e. e ≢ decoding.Memory) }
+    ensures row { is_ok result ≡ is_some (row_of attribute_at (remaining row.entry)) }
+    ensures rejected { IfErr result (λ e. e ≢ decoding.Memory) }
 {
     while !row.is_empty() {
         take_attribute(&mut row)?;
@@ -101,7 +101,7 @@ fn skip_part(cursor: &mut Cursor<'_>) -> Result<(), DecodeError>
 
 // Whether these are parts of a name.
 fn check_parts(mut row: Cursor<'_>) -> Result<(), DecodeError>
-    ensures { is_ok result ≡ is_some (row_of part_at (left row.entry)) }
+    ensures { is_ok result ≡ is_some (row_of part_at (remaining row.entry)) }
 {
     while !row.is_empty() {
         skip_part(&mut row)?;
@@ -112,7 +112,7 @@ fn check_parts(mut row: Cursor<'_>) -> Result<(), DecodeError>
 // Whether the octets are a name.
 #[tactic(auto, unfolding(crate::specs::Names::Reading::name_of))]
 fn check_name(mut octets: Cursor<'_>) -> Result<(), DecodeError>
-    ensures { is_ok result ≡ is_name (left octets.entry) }
+    ensures { is_ok result ≡ is_name (remaining octets.entry) }
 {
     let parts = octets.take_sequence()?;
     octets.finish()?;
@@ -154,7 +154,7 @@ impl Name {
     fn read(alloc: Global, cursor: &mut Cursor<'_>) -> Result<Name, DecodeError>
         ensures reads { TookOrMemory name_at cursor.old result cursor.new }
         ensures keeps { Keeps result cursor.old cursor.new }
-        ensures octets { AreOctets (left cursor.old) }
+        ensures octets { AreOctets (remaining cursor.old) }
     {
         let mut ahead = cursor.fork();
         // Another identifier is rejected as such, before its length is read.

@@ -1,7 +1,7 @@
 //! Names of certificates are inspected.
 ghost use Rattle.std.specs.Prelude.{◌≡◌, ◌↔◌, false, IsOk, IsTrue};
 ghost use Rattle.rpki_der.specs.Folding.{over};
-ghost use Rattle.rpki_der.specs.Place.{Place, left};
+ghost use Rattle.rpki_der.specs.Place.{Place, remaining};
 ghost use Rattle.rpki_der.specs.Values.Reading.{value_at};
 ghost use Rattle.rpki_parts.specs.Names.Reading.{attribute_at};
 ghost use Rattle.rpki_parts.specs.NameForms.{IsRpkiName, IsRouterName};
@@ -22,7 +22,8 @@ struct Seen {
     number: bool,
 }
 
-// Whether a value with this identifier octet may stand: PrintableString, or UTF8String where inspection isn't strict.
+// Whether a value with this identifier octet may stand: PrintableString, or UTF8String where
+// inspection isn't strict.
 fn is_text_tag(strict: bool, octet: u8) -> bool
     ensures { result ≡ is_text_tag strict octet }
 {
@@ -60,7 +61,7 @@ impl Seen {
 
     // Adds the attributes of a part.
     fn with_part(self, strict: bool, part: &Cursor<'_>) -> Option<Seen>
-        ensures { result ≡ seen_in strict self (left part.now) }
+        ensures { result ≡ seen_in strict self (remaining part.now) }
     {
         let mut rest = part.fork();
         let mut seen = self;
@@ -77,7 +78,7 @@ impl Seen {
     // What is seen in these parts of a name.
     fn in_parts(strict: bool, parts: &Cursor<'_>) -> Option<Seen>
         ensures { result ≡ over (value_at 0x31) (seen_in strict)
-            (record { name = false; number = false }) (left parts.now) }
+            (record { name = false; number = false }) (remaining parts.now) }
     {
         let mut rest = parts.fork();
         let mut seen = Seen {

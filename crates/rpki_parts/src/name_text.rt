@@ -1,7 +1,7 @@
 //! Names print themselves.
 ghost use Rattle.std.specs.Prelude.{◌≡◌, ◌<◌, ◌^◌, ◌||◌, ◌&&◌, not, nat_lt, true, option_map, Some};
 ghost use Rattle.std.specs.Fmt.{WritesOnOk};
-ghost use Rattle.rpki_der.specs.Place.{Place, left, Keeps};
+ghost use Rattle.rpki_der.specs.Place.{Place, remaining, Keeps};
 ghost use Rattle.rpki_der.specs.Place.Reading.{TookBy};
 ghost use Rattle.rpki_der.specs.Tags.{SET};
 ghost use Rattle.rpki_der.specs.Values.Reading.{value_at};
@@ -221,7 +221,7 @@ fn write_type<W: fmt::Write>(f: &mut fmt::Formatter<W>, id: &[u8]) -> fmt::Resul
 
 // The content of a PrintableString or UTF8String.
 fn string_of<'a>(value: &Cursor<'a>) -> Option<&'a [u8]>
-    ensures { option_map (λ s. s.now) result ≡ string_of (left value.now) }
+    ensures { option_map (λ s. s.now) result ≡ string_of (remaining value.now) }
 {
     let tag = match value.rest() {
         [] => return None,
@@ -249,7 +249,7 @@ fn write_octets<W: fmt::Write>(f: &mut fmt::Formatter<W>, value: &[u8]) -> fmt::
 // A string by its characters, and another value by its octets.
 fn write_value<W: fmt::Write>(f: &mut fmt::Formatter<W>, value: &Cursor<'_>) -> fmt::Result
     ensures { WritesOnOk W.write_str_gives f.old result
-        (value_text (left value.now) (string_of (left value.now))) f.new }
+        (value_text (remaining value.now) (string_of (remaining value.now))) f.new }
 {
     match string_of(value) {
         Some(string) => write_string(f, string),
@@ -264,7 +264,7 @@ fn write_attribute<W: fmt::Write>(
     value: &Cursor<'_>,
 ) -> fmt::Result
     ensures { WritesOnOk W.write_str_gives f.old result
-        (attribute_text (id.now, left value.now)) f.new }
+        (attribute_text (id.now, remaining value.now)) f.new }
 {
     match short_name(id) {
         Some(name) => {
@@ -283,7 +283,7 @@ fn write_attribute<W: fmt::Write>(
 // The type and the value of the attribute that stands next.
 #[tactic(auto, unfolding(crate::specs::NameTexts::attribute_value_at))]
 fn take_attribute_value<'a>(cursor: &mut Cursor<'a>) -> Result<(&'a [u8], Cursor<'a>), DecodeError>
-    ensures reads { TookBy (λ x. (x.0.now, left x.1)) attribute_value_at
+    ensures reads { TookBy (λ x. (x.0.now, remaining x.1)) attribute_value_at
         cursor.old result cursor.new }
     ensures keeps { Keeps result cursor.old cursor.new }
 {
@@ -296,8 +296,8 @@ fn take_attribute_value<'a>(cursor: &mut Cursor<'a>) -> Result<(&'a [u8], Cursor
 
 // The attribute that stands next, if one does.
 fn next_attribute<'a>(cursor: &mut Cursor<'a>) -> Option<(&'a [u8], Cursor<'a>)>
-    ensures { option_map (λ x. ((x.0.now, left x.1), left cursor.new)) result
-        ≡ attribute_value_at (left cursor.old) }
+    ensures { option_map (λ x. ((x.0.now, remaining x.1), remaining cursor.new)) result
+        ≡ attribute_value_at (remaining cursor.old) }
 {
     let attribute = match take_attribute_value(cursor) {
         Ok(attribute) => attribute,
@@ -308,7 +308,7 @@ fn next_attribute<'a>(cursor: &mut Cursor<'a>) -> Option<(&'a [u8], Cursor<'a>)>
 
 // The content of the part that stands next.
 fn next_part<'a>(cursor: &mut Cursor<'a>) -> Option<Cursor<'a>>
-    ensures { option_map (λ x. (left x, left cursor.new)) result ≡ value_at SET (left cursor.old) }
+    ensures { option_map (λ x. (remaining x, remaining cursor.new)) result ≡ value_at SET (remaining cursor.old) }
 {
     let part = match cursor.take_value(tag::SET) {
         Ok(part) => part,
@@ -319,7 +319,7 @@ fn next_part<'a>(cursor: &mut Cursor<'a>) -> Option<Cursor<'a>>
 
 // The attributes of a part.
 fn write_part<W: fmt::Write>(f: &mut fmt::Formatter<W>, part: &Cursor<'_>) -> fmt::Result
-    ensures { WritesOnOk W.write_str_gives f.old result (written_part (left part.now)) f.new }
+    ensures { WritesOnOk W.write_str_gives f.old result (written_part (remaining part.now)) f.new }
 {
     let mut rest = part.fork();
     let mut before = "";
@@ -333,7 +333,7 @@ fn write_part<W: fmt::Write>(f: &mut fmt::Formatter<W>, part: &Cursor<'_>) -> fm
 
 // The parts of a name.
 fn write_parts<W: fmt::Write>(f: &mut fmt::Formatter<W>, parts: &Cursor<'_>) -> fmt::Result
-    ensures { WritesOnOk W.write_str_gives f.old result (written_parts (left parts.now)) f.new }
+    ensures { WritesOnOk W.write_str_gives f.old result (written_parts (remaining parts.now)) f.new }
 {
     let mut rest = parts.fork();
     let mut before = "";
@@ -347,7 +347,7 @@ fn write_parts<W: fmt::Write>(f: &mut fmt::Formatter<W>, parts: &Cursor<'_>) -> 
 
 // A name.
 fn write_name<W: fmt::Write>(f: &mut fmt::Formatter<W>, octets: &Cursor<'_>) -> fmt::Result
-    ensures { WritesOnOk W.write_str_gives f.old result (written_name (left octets.now)) f.new }
+    ensures { WritesOnOk W.write_str_gives f.old result (written_name (remaining octets.now)) f.new }
 {
     let mut ahead = octets.fork();
     let parts = match ahead.take_sequence() {
@@ -357,10 +357,10 @@ fn write_name<W: fmt::Write>(f: &mut fmt::Formatter<W>, octets: &Cursor<'_>) -> 
     write_parts(f, &parts)
 }
 
-/// The text of RFC 4514, but with the parts in the order in which they stand and a comma and a space
-/// between them, as `CN=example+serialNumber=1, OU=more`. CN, serialNumber, C, O and OU stand before
-/// the characters of a PrintableString or UTF8String, any other type by its numbers before the
-/// octets of its value, as `2.5.4.42=#130141`.
+/// The text of RFC 4514, but with the parts in the order in which they stand and a comma and a
+/// space between them, as `CN=example+serialNumber=1, OU=more`. CN, serialNumber, C, O and OU stand
+/// before the characters of a PrintableString or UTF8String, any other type by its numbers before
+/// the octets of its value, as `2.5.4.42=#130141`.
 impl fmt::Display for Name {
     ghost output = { λ n. Some (name_text n) };
 

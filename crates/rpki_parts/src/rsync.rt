@@ -60,7 +60,7 @@ impl Rsync {
     pub fn from_text(alloc: Global, text: &str) -> Result<Rsync, UriError>
         ensures ok { IfOk result (λ u. u ≡ text.now) }
         ensures accepted { OnOk result (IsRsync text.now) }
-        ensures refused { (result ≡ Err error.BadUri) ↔ ¬ (IsRsync text.now) }
+        ensures rejected { (result ≡ Err error.BadUri) ↔ ¬ (IsRsync text.now) }
     {
         if !is_rsync(text.as_bytes()) {
             return Err(UriError::BadUri);

@@ -2,7 +2,7 @@
 ghost use Rattle.std.specs.Prelude.{◌≡◌, ◌↔◌, ◌^◌, ◌<◌, ◌++◌, Ok, IfOk, IfErr, IsOk, OnOk, length};
 ghost use Rattle.std.specs.List.{concat};
 ghost use Rattle.rpki_der.specs.Writers.{SaysLong, Writes};
-ghost use Rattle.rpki_der.specs.Place.{Place, left, Keeps, AnswersOrMemory};
+ghost use Rattle.rpki_der.specs.Place.{Place, remaining, Keeps, AnswersOrMemory};
 ghost use Rattle.rpki_der.specs.Place.Reading.{TookOrMemory};
 ghost use Rattle.rpki_der.specs.Values.{AreOctets};
 ghost use Rattle.rpki_parts.specs.SignedDatas.{IsSignedDataContent, signed_part, signed_pieces};
@@ -48,7 +48,7 @@ impl SignedData {
     fn read(alloc: Global, content: &mut Cursor<'_>) -> Result<SignedData, DecodeError>
         ensures reads { TookOrMemory signed_content_at content.old result content.new }
         ensures keeps { Keeps result content.old content.new }
-        ensures octets { AreOctets (left content.old) }
+        ensures octets { AreOctets (remaining content.old) }
     {
         let mut ahead = content.fork();
         let data = ahead.capture_one(alloc)?;
@@ -144,7 +144,7 @@ impl SignedData {
         ensures signed { IfOk result
             (λ s. S.signs signer.now key.now algorithm octets (Ok s.signature)) }
         ensures fits { IfOk result (λ s. length (concat (signed_pieces s)) < 2 ^ 32) }
-        ensures refused { IfErr result
+        ensures rejected { IfErr result
             (IsRefusalOnceAsked octets (S.signs signer.now key.now algorithm octets)) }
     {
         let signature = signer.sign(alloc, key, algorithm, &octets)?;

@@ -1,7 +1,7 @@
 //! Periods of validity.
 ghost use Rattle.std.specs.Prelude.{◌≡◌, IfErr};
 ghost use Rattle.rpki_der.specs.Values.{AreOctets};
-ghost use Rattle.rpki_der.specs.Place.{Place, left, Keeps, Answers};
+ghost use Rattle.rpki_der.specs.Place.{Place, remaining, Keeps, Answers};
 ghost use Rattle.rpki_der.specs.Place.Reading.{Took};
 ghost use Rattle.rpki_der.specs.declared.error.EncodeError.TheVariants.{Memory};
 ghost use Rattle.rpki_parts.specs.Validities.{IsValidity, validity_part};
@@ -61,7 +61,7 @@ impl Validity {
     fn read(cursor: &mut Cursor<'_>) -> Result<Validity, DecodeError>
         ensures reads { Took validity_at cursor.old result cursor.new }
         ensures keeps { Keeps result cursor.old cursor.new }
-        ensures octets { AreOctets (left cursor.old) }
+        ensures octets { AreOctets (remaining cursor.old) }
     {
         let mut ahead = cursor.fork();
         let mut content = ahead.take_sequence()?;

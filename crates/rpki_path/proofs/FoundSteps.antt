@@ -1,7 +1,7 @@
 -- What a step finds wrong, from what its calls find.
 use Rattle.std.specs.Prelude.{Option}
 use Rattle.std.proofs.Common.{◌≡◌, ℕ, List, sym, subst, inl, inr}
-use Rattle.rpki_der.specs.Place.{Refuses}
+use Rattle.rpki_der.specs.Place.{Rejects}
 use Rattle.rpki_der.specs.declared.error.DecodeError.{DecodeError}
 use Rattle.rpki_der.specs.declared.error.DecodeError.TheVariants as decoding
 use Rattle.rpki_ext.specs.Kinds.{Means}
@@ -25,7 +25,7 @@ use Rattle.rpki_path.specs.Paths.Steps.{IsUnread, IsIssuedBy, demand_under}
 use Rattle.rpki_path.proofs.ValidPaths.{unrevoked_asked}
 
 -- an error of reading says that no certificate begins the string
-pub not_decoded : (octets : List ℕ) (e : DecodeError) → Refuses e ((c : CertFields) → Means IsCertificate c octets → ⊥) → IsUnread octets (of_decoding e)
+pub not_decoded : (octets : List ℕ) (e : DecodeError) → Rejects e ((c : CertFields) → Means IsCertificate c octets → ⊥) → IsUnread octets (of_decoding e)
 not_decoded octets decoding.Memory h = tt
 not_decoded octets e h = ((λ same. absurd (cc same)), h)
 

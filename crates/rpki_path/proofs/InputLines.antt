@@ -96,7 +96,7 @@ not_both : (now : Moment) (list : List ℕ) (serial : ℕ) (line : List ℕ) →
 unfolding head
 not_both now list serial line m r = let same : 97 ≡ 114 = ap head (sym m.is ∙ r.is) in absurd (omega (arith, same))
 
--- a line of an authority is none of a leaf
+-- a line of a CA is none of a leaf
 pub other_name : (leaf : Leaf) (octets line : List ℕ) → IsLine (end_entity leaf) line → IsLine (authority octets) line → ⊥
 unfolding head
 other_name (Ee o) octets line l a = let same : 101 ≡ 99 = ap head (sym l.is ∙ a.is) in absurd (omega (arith, same))

@@ -11,7 +11,7 @@ pub mod Reports
 pub mod FoundSteps
 pub mod LongerPaths
 pub mod ValidPaths
-pub mod Refusals
+pub mod Rejections
 pub mod PathSteps
 pub mod MoreNumbers
 pub mod Headlines

@@ -1,4 +1,4 @@
--- The lines of the strings below an anchor.
+-- The lines of the strings below a trust anchor.
 use Rattle.std.specs.List.{AllZip}
 use Rattle.std.specs.Prelude.{Bool}
 use Rattle.std.proofs.Common.{◌≡◌, ℕ, ◌+◌, List, [], ◌∷◌, ◌++◌, length, map, Option, Some, None, refl, sym, ap, subst, ◌∙◌, arith, codes}
@@ -37,7 +37,7 @@ as_many [] (line ∷ lines) is = absurd is
 as_many (c ∷ cas) [] is = absurd is
 as_many (c ∷ cas) (line ∷ lines) is = let rest = as_many cas lines is.1 in omega (arith, rest)
 
--- a line that is no line of an authority nor of a leaf
+-- a line that is no line of a CA nor of a leaf
 pub no_member : (line : List ℕ) → ((octets : List ℕ) → IsOctetsLine (codes "ca ") octets line → ⊥) → ((octets : List ℕ) → IsOctetsLine (codes "ee ") octets line → ⊥) → ((octets : List ℕ) → IsOctetsLine (codes "detached ") octets line → ⊥) → (member : Member) → IsLine (member_line member) line → ⊥
 no_member line ca ee detached (Authority octets) h = ca octets h
 no_member line ca ee detached (Last (Ee octets)) h = ee octets h
@@ -121,7 +121,7 @@ module _ (now : Moment) (strict : Bool) (octets : List ℕ) where
           regrouped (length cas + 4)
           (bad_line (before ++ lines) (whole_begins (before ++ lines) (is_valid_path (question cas None), asks_so_far)) (length cas + 4) count rest line others first (members_unfit line none))
 
-      -- no further line: the path ends with an authority, or the anchor
+      -- no further line: the path ends with a CA, or the trust anchor
       pub ended : (q : declared.PathQuestion) → path_question q ≡ question cas None → rest ≡ [] → IsReadBehind before text (input.Path q)
       ended q same none = (
         lines ++ [],

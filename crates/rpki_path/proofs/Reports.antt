@@ -5,7 +5,7 @@ use Rattle.std.proofs.lemmas.Bool.{false≢true}
 use Rattle.rpki_der.specs.declared.error.DecodeError.{DecodeError}
 use Rattle.rpki_der.specs.declared.error.DecodeError.TheVariants.{Truncated, BadLength, BadTag, BadValue, Trailing, TooDeep, Missing, Duplicate, Critical, NotCritical, UnexpectedCritical, InvalidExtension, WrongResources, AlgorithmMismatch, Memory}
 use Rattle.rpki_der.specs.ErrorNames.{decode_error_name}
-use Rattle.rpki_der.specs.Place.{Refuses}
+use Rattle.rpki_der.specs.Place.{Rejects}
 use Rattle.rpki_cert.specs.Verification.{ResourceFields}
 use Rattle.rpki_crl.specs.RevokedEntries.{IsRevoked, IsRevokedCertificates, Revoked}
 use Rattle.rpki_path.specs.declared.running.Status.{Status}
@@ -16,11 +16,11 @@ use Rattle.rpki_path.specs.declared.path_fault.PathFault.{PathFault}
 use Rattle.rpki_path.specs.declared.path_fault.PathFault.TheVariants as fault
 use Rattle.rpki_path.specs.Paths.{IsAccepted, IsFault, IsNoValidPath}
 use Rattle.rpki_path.specs.Paths as paths
-use Rattle.rpki_path.specs.PrintedSets.{v4_end, v6_end, ranges, worded}
+use Rattle.rpki_path.specs.PrintedSets.{v4_end, v6_end, ranges, name_and_words}
 use Rattle.rpki_path.specs.Program.{PathQuestion, question_context, asked_below, decode_faults, printed, IsToldBy, PrintsFault, SaysOfList, SaysOfPath}
 use Rattle.rpki_path.specs.Reports.{accepted_text, HasSortedSets}
 
-other_fault : {P : Type 0} (e : DecodeError) → (e ≡ Memory → ⊥) → Refuses e P → P
+other_fault : {P : Type 0} (e : DecodeError) → (e ≡ Memory → ⊥) → Rejects e P → P
 other_fault Memory other h = absurd (other refl)
 other_fault _ other h = h
 
@@ -65,11 +65,11 @@ abbrev NamesFault : List ℕ → Type 0
 NamesFault text = (name : List ℕ) × Contains decode_faults name × (text ≡ printed (codes "refused decode " ∷ name ∷ []))
 
 -- a report of a list that wasn't read says that it is none
-pub refused_says : {E : Type 0} (list : List ℕ) (serial : ℕ) (e : DecodeError) (r : Result Report E) → Refuses e ((r : Revoked) → IsRevokedCertificates r list → ⊥) → OnOk r (e ≡ Memory → ⊥)
+pub rejected_says : {E : Type 0} (list : List ℕ) (serial : ℕ) (e : DecodeError) (r : Result Report E) → Rejects e ((r : Revoked) → IsRevokedCertificates r list → ⊥) → OnOk r (e ≡ Memory → ⊥)
     → IfOk r (λ report. report.status ≡ status.Refused) → IfOk r (λ report. NamesFault (string_bytes report.text)) → IfOk r (λ report. SaysOfList list serial (string_bytes report.text) report.status)
-refused_says list serial e (Ok report) none other s named =
+rejected_says list serial e (Ok report) none other s named =
     subst (λ (x : Status). SaysOfList list serial (string_bytes report.text) x) (sym s) (other_fault e other none, named.0, named.1, named.2)
-refused_says list serial e (Err x) none other s named = tt
+rejected_says list serial e (Err x) none other s named = tt
 
 -- ---- paths
 
@@ -77,11 +77,11 @@ accepted_says : (q : PathQuestion) (tal : List ℕ) (r : ResourceFields) → IsA
 accepted_says q tal r a sorted = (
   a.path,
   a.path_of,
-  a.good,
+  a.is_valid,
   record {
-    v4_line = worded (codes "v4") (ranges v4_end r.v4);
-    v6_line = worded (codes "v6") (ranges v6_end r.v6);
-    as_line = worded (codes "as") (ranges Rattle.std.specs.Prelude.decimal r.as_numbers);
+    v4_line = name_and_words (codes "v4") (ranges v4_end r.v4);
+    v6_line = name_and_words (codes "v6") (ranges v6_end r.v6);
+    as_line = name_and_words (codes "as") (ranges Rattle.std.specs.Prelude.decimal r.as_numbers);
     v4_is = record { blocks = r.v4; sorted = sorted.v4_sorted; numbers = a.held.v4_is; is = refl };
     v6_is = record { blocks = r.v6; sorted = sorted.v6_sorted; numbers = a.held.v6_is; is = refl };
     as_is = record { blocks = r.as_numbers; sorted = sorted.as_sorted; numbers = a.held.as_is; is = refl };

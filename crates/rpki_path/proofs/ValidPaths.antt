@@ -16,8 +16,8 @@ use Rattle.rpki_crl.specs.Revocation.{revocation_checks}
 use Rattle.rpki_crl.specs.Stores.{Stored}
 use Rattle.rpki_crl.specs.declared.revocation_error.RevocationError.{RevocationError}
 use Rattle.rpki_cert.proofs.Checks.{all_map}
-use Rattle.rpki_path.specs.Paths.{Member, Path, member, longer, last, certificate_at, NumberKind, v4_addresses, v6_addresses, system_numbers, kind_resources, Holds, HeldAt, CheckBelow, AskedCheck, IsUnrevokedIfAsked, IsValidPath, Asked, ask, IsMember, HasHeld, IsAccepted}
-use Rattle.rpki_path.specs.Paths.Steps.{IsAnchor, IsIssuedBy}
+use Rattle.rpki_path.specs.Paths.{Member, Path, member, longer, last, certificate_at, NumberKind, v4_addresses, v6_addresses, system_numbers, kind_resources, Holds, HeldAt, CheckBelow, AskedCheck, IsUnrevokedIfAsked, IsValidPath, Candidate, candidate, IsMember, HasHeld, IsAccepted}
+use Rattle.rpki_path.specs.Paths.Steps.{IsTrustAnchor, IsIssuedBy}
 use Rattle.rpki_path.proofs.LongerPaths.{extended, above, there, last_extended, holds_above, holds_there, gets_passed, zip_more, all_more}
 
 -- ---- lists
@@ -88,15 +88,15 @@ module _ (x : Context) where
   -- ---- a further member
 
   module _ (lists : Option (List Stored)) where
-    -- an anchor alone
-    pub anchor_alone : (anchor tal : List ℕ) (r : ResourceFields) → IsAnchor x anchor tal r → IsAccepted x lists anchor [] tal r
+    -- a trust anchor alone
+    pub anchor_alone : (anchor tal : List ℕ) (r : ResourceFields) → IsTrustAnchor x anchor tal r → IsAccepted x lists anchor [] tal r
     anchor_alone anchor tal r is =
         let p : Path = record { anchor = r.cert; below = [] } in
         let holds : (k : NumberKind) (n : ℕ) → Rattle.rpki_path.specs.Paths.Lists r.cert k n ↔ Holds p 0 k n = λ k n. ((λ l. record { listed = l; passed_on = λ j low high. absurd (omega arith) }), (λ h. h.listed)) in
         record {
           path = p;
           path_of = record { anchor_begins = is.begins; members = tt };
-          good = record {
+          is_valid = record {
             anchor_meets = is.valid.meets;
             members_meet = tt;
             anchor_verified = is.valid.checks;
@@ -138,7 +138,7 @@ module _ (x : Context) where
         tal_is = issued.tal_is ∙ held.tal_is;
       }
 
-      module _ (good : IsValidPath x lists p) (is : IsValidBelow x issuer k r.cert r) (free : IsUnrevokedIfAsked x lists issuer.cert.fields r.cert) where
+      module _ (is_valid : IsValidPath x lists p) (is : IsValidBelow x issuer k r.cert r) (free : IsUnrevokedIfAsked x lists issuer.cert.fields r.cert) where
         verified : (i : ℕ) → (i ≡ last p) ⊎ (i < last p) → IsVerified (CheckBelow x more i (certificate_at more (i + 1))) issued_checks
         verified i (inl e) =
             let h : last p ≤ last p = omega arith in
@@ -151,7 +151,7 @@ module _ (x : Context) where
             let next : i + 1 ≤ last p = omega arith in
             let c = certificate_at p (i + 1) in
             subst (λ (c : CertFields). IsVerified (CheckBelow x more i c) issued_checks) (sym (above p m [] (i + 1) next))
-            (all_map (CheckBelow x p i c) (CheckBelow x more i c) issued_checks (λ l. (check_above p m [] i low c l).0) (good.members_verified i h))
+            (all_map (CheckBelow x p i c) (CheckBelow x more i c) issued_checks (λ l. (check_above p m [] i low c l).0) (is_valid.members_verified i h))
 
         -- a certificate that isn't revoked below another
         abbrev Free : CertFields → CertFields → Type 0
@@ -168,27 +168,27 @@ module _ (x : Context) where
             let low : i ≤ last p = omega arith in
             let next : i + 1 ≤ last p = omega arith in
             subst (λ (c : CertFields). Free (certificate_at more i) c) (sym (above p m [] (i + 1) next))
-            (subst (λ (c : CertFields). Free c (certificate_at p (i + 1))) (sym (above p m [] i low)) (good.members_unrevoked i h))
+            (subst (λ (c : CertFields). Free c (certificate_at p (i + 1))) (sym (above p m [] i low)) (is_valid.members_unrevoked i h))
 
-        pub good_then : IsValidPath x lists more
-        good_then = record {
-          anchor_meets = good.anchor_meets;
-          members_meet = all_more (λ (m : Member). MeetsProfile m.kind x.strict m.cert) p.below m good.members_meet is.meets;
-          anchor_verified = good.anchor_verified;
+        pub valid_then : IsValidPath x lists more
+        valid_then = record {
+          anchor_meets = is_valid.anchor_meets;
+          members_meet = all_more (λ (m : Member). MeetsProfile m.kind x.strict m.cert) p.below m is_valid.members_meet is.meets;
+          anchor_verified = is_valid.anchor_verified;
           members_verified = λ i h. let low : i ≤ last p = omega (arith, last_extended p m) in verified i (eq-or-lt_of_le low);
           members_unrevoked = λ i h. let low : i ≤ last p = omega (arith, last_extended p m) in unrevoked i (eq-or-lt_of_le low);
         }
 
     -- the path with one member more
-    pub one_more : (anchor : List ℕ) (below : List Asked) (tal : List ℕ) (issuer : ResourceFields) (k : Kind) (octets : List ℕ) (r : ResourceFields) → IsAccepted x lists anchor below tal issuer → IsIssuedBy x lists issuer k octets r → IsAccepted x lists anchor (below ++ ask k octets ∷ []) tal r
+    pub one_more : (anchor : List ℕ) (below : List Candidate) (tal : List ℕ) (issuer : ResourceFields) (k : Kind) (octets : List ℕ) (r : ResourceFields) → IsAccepted x lists anchor below tal issuer → IsIssuedBy x lists issuer k octets r → IsAccepted x lists anchor (below ++ candidate k octets ∷ []) tal r
     one_more anchor below tal issuer k octets r a is =
         let p = a.path in
         record {
           path = longer p (member k r.cert);
           path_of = record {
             anchor_begins = a.path_of.anchor_begins;
-            members = zip_more IsMember p.below below (member k r.cert) (ask k octets) a.path_of.members (record { kind_is = refl; begins = is.begins });
+            members = zip_more IsMember p.below below (member k r.cert) (candidate k octets) a.path_of.members (record { kind_is = refl; begins = is.begins });
           };
-          good = good_then p tal issuer a.held k r a.good is.below is.unrevoked;
+          is_valid = valid_then p tal issuer a.held k r a.is_valid is.below is.unrevoked;
           held = held_then p tal issuer a.held k r is.below.issued;
         }

@@ -4,9 +4,9 @@ use Rattle.std.proofs.Common.{◌≡◌, List, [], Result, Ok, Err, sym, ℕ}
 use Rattle.std.proofs.lemmas.List.{append-nil}
 use Rattle.rpki_der.specs.Tags.{SEQUENCE}
 use Rattle.rpki_der.specs.declared.error.DecodeError.{DecodeError}
-use Rattle.rpki_der.specs.Place.{Refuses, MeansOrMemory}
+use Rattle.rpki_der.specs.Place.{Rejects, MeansOrMemory}
 use Rattle.rpki_der.specs.Encoding.{BeginsOrAbsent}
-use Rattle.rpki_der.proofs.Answering.{refuses, certainly}
+use Rattle.rpki_der.proofs.Answering.{rejects, certainly}
 use Rattle.rpki_crl.specs.RevokedEntries.{IsRevokedCertificates, Revoked}
 
 abbrev Begins : List ℕ → Revoked → List ℕ → Type 0
@@ -16,12 +16,12 @@ whole_begins : (octets : List ℕ) (r : Revoked) → IsRevokedCertificates r oct
 whole_begins octets r is = record { text = octets; encoded = is; parts = sym (append-nil octets); absent = λ none. rw none tt }
 
 -- an error where no list begins the octets is a true answer on the whole of them
-pub list_refused : (octets : List ℕ) (result : Result Revoked DecodeError) (d : DecodeError) → result ≡ Err d
-    → Refuses d ((r : Revoked) (rest : List ℕ) → Begins octets r rest → ⊥) → MeansOrMemory IsRevokedCertificates result octets
-list_refused octets (Ok x) d e none = absurd cc
-list_refused octets (Err f) d e none =
+pub list_rejected : (octets : List ℕ) (result : Result Revoked DecodeError) (d : DecodeError) → result ≡ Err d
+    → Rejects d ((r : Revoked) (rest : List ℕ) → Begins octets r rest → ⊥) → MeansOrMemory IsRevokedCertificates result octets
+list_rejected octets (Ok x) d e none = absurd cc
+list_rejected octets (Err f) d e none =
     let same : f ≡ d = cc in
-    rw same (refuses d (λ h r is. h r [] (whole_begins octets r is)) none)
+    rw same (rejects d (λ h r is. h r [] (whole_begins octets r is)) none)
 
 -- no more than one list, with what follows it, begins these octets
 abbrev pub IsOneList : Type 0

@@ -12,7 +12,7 @@ use Rattle.rpki_ext.specs.Kinds.{Means}
 use Rattle.rpki_cert.specs.Certificates.{TbsFields, CertFields, IsCertificate}
 use Rattle.rpki_cert.specs.Profiles.{MeetsProfile}
 use Rattle.rpki_cert.specs.Validation.{IsInvalid}
-use Rattle.rpki_cert.specs.Verification.{Context, Held, Check, AnchorCheck, anchor_checks, issued_checks, IsVerified, ResourceFields}
+use Rattle.rpki_cert.specs.Verification.{Context, Held, Check, TrustAnchorCheck, trust_anchor_checks, issued_checks, IsVerified, ResourceFields}
 use Rattle.rpki_cert.specs.declared.inspect.Kind.{Kind}
 use Rattle.rpki_cert.specs.declared.inspect.Kind.TheVariants.{Anchor, Authority, EndEntity, Detached}
 use Rattle.rpki_cert.specs.declared.validation_error.ValidationError.{ValidationError}
@@ -30,12 +30,12 @@ pub mod Steps
 
 -- ---- members
 
--- a certificate below the anchor, with the kind that it has to be of
+-- a certificate below the trust anchor, with the kind that it has to be of
 pub record Member : Type 0 where
   pub kind : Kind
   pub cert : CertFields
 
--- the anchor, and the members below it, from the top down
+-- the trust anchor, and the members below it, from the top down
 pub record Path : Type 0 where
   pub anchor : CertFields
   pub below : List Member
@@ -47,7 +47,7 @@ member kind cert = record { kind = kind; cert = cert }
 abbrev pub longer : Path → Member → Path
 longer p m = record { anchor = p.anchor; below = p.below ++ m ∷ [] }
 
--- the place of the last member; the anchor is at place 0
+-- the place of the last member; the trust anchor is at place 0
 abbrev pub last : Path → ℕ
 last p = length p.below
 
@@ -79,7 +79,7 @@ Inherits c k = kind_resources k c ≡ inherit
 abbrev pub PassesOn : CertFields → NumberKind → ℕ → Type 0
 PassesOn c k n = Lists c k n ⊎ Inherits c k
 
--- the anchor lists n, and every later member down to place i lists n or inherits
+-- the trust anchor lists n, and every later member down to place i lists n or inherits
 pub record Holds (p : Path) (i : ℕ) (k : NumberKind) (n : ℕ) : Type 0 where
   pub listed : Lists p.anchor k n
   pub passed_on : (j : ℕ) → 1 ≤ j → j ≤ i → PassesOn (certificate_at p j) k n
@@ -109,44 +109,45 @@ abbrev pub IsUnrevokedIfAsked : Context → Option (List Stored) → TbsFields �
 IsUnrevokedIfAsked x None issuer c = Unit {0}
 IsUnrevokedIfAsked x (Some lists) issuer c = IsUnrevoked x lists issuer c
 
--- every member meets the profile of its kind, the anchor's checks are true of itself, and those of each later member under the one above it;
--- where lists are given, none of the later members is revoked
+-- every member meets the profile of its kind, the trust anchor's checks are true of itself, and
+-- those of each later member under the one above it; where lists are given, none of the later
+-- members is revoked
 pub record IsValidPath (x : Context) (lists : Option (List Stored)) (p : Path) : Type 0 where
   pub anchor_meets : MeetsProfile Anchor x.strict p.anchor
   pub members_meet : AllByRecursion (λ m. MeetsProfile m.kind x.strict m.cert) p.below
-  pub anchor_verified : IsVerified (AnchorCheck x p.anchor) anchor_checks
+  pub anchor_verified : IsVerified (TrustAnchorCheck x p.anchor) trust_anchor_checks
   pub members_verified : (i : ℕ) → i < last p → IsVerified (CheckBelow x p i (certificate_at p (i + 1))) issued_checks
   pub members_unrevoked : (i : ℕ) → i < last p → IsUnrevokedIfAsked x lists (certificate_at p i).fields (certificate_at p (i + 1))
 
 -- ---- strings
 
 -- a string that has to begin with a certificate of a kind
-pub record Asked : Type 0 where
+pub record Candidate : Type 0 where
   pub kind : Kind
   pub octets : List ℕ
 
 -- the string of a member of this kind
-abbrev pub ask : Kind → List ℕ → Asked
-ask kind octets = record { kind = kind; octets = octets }
+abbrev pub candidate : Kind → List ℕ → Candidate
+candidate kind octets = record { kind = kind; octets = octets }
 
 -- the string of the leaf, if there is one
-abbrev pub ask_leaf : Option Leaf → List Asked
-ask_leaf None = []
-ask_leaf (Some (Ee octets)) = ask EndEntity octets ∷ []
-ask_leaf (Some (DetachedEe octets)) = ask Detached octets ∷ []
+abbrev pub leaf_candidates : Option Leaf → List Candidate
+leaf_candidates None = []
+leaf_candidates (Some (Ee octets)) = candidate EndEntity octets ∷ []
+leaf_candidates (Some (DetachedEe octets)) = candidate Detached octets ∷ []
 
--- below the anchor: authorities, and then at most one leaf
-abbrev pub asked : List (List ℕ) → Option Leaf → List Asked
-asked authorities leaf = map (ask Authority) authorities ++ ask_leaf leaf
+-- below the trust anchor: CAs, and then at most one leaf
+abbrev pub candidates : List (List ℕ) → Option Leaf → List Candidate
+candidates authorities leaf = map (candidate Authority) authorities ++ leaf_candidates leaf
 
 -- the string begins with the member, which is of the kind that is asked for; what follows it is
 -- ignored
-pub record IsMember (m : Member) (s : Asked) : Type 0 where
+pub record IsMember (m : Member) (s : Candidate) : Type 0 where
   pub kind_is : m.kind ≡ s.kind
   pub begins : Means IsCertificate m.cert s.octets
 
 -- each of the strings begins with the member at its place
-pub record IsPathOf (anchor : List ℕ) (below : List Asked) (p : Path) : Type 0 where
+pub record IsPathOf (anchor : List ℕ) (below : List Candidate) (p : Path) : Type 0 where
   pub anchor_begins : Means IsCertificate p.anchor anchor
   pub members : AllZip IsMember p.below below
 
@@ -161,14 +162,14 @@ pub record HasHeld (p : Path) (tal : List ℕ) (r : ResourceFields) : Type 0 whe
   pub tal_is : r.tal ≡ tal
 
 -- the strings are a valid path, and the result is what its last member holds
-pub record IsAccepted (x : Context) (lists : Option (List Stored)) (anchor : List ℕ) (below : List Asked) (tal : List ℕ) (r : ResourceFields) : Type 0 where
+pub record IsAccepted (x : Context) (lists : Option (List Stored)) (anchor : List ℕ) (below : List Candidate) (tal : List ℕ) (r : ResourceFields) : Type 0 where
   pub path : Path
   pub path_of : IsPathOf anchor below path
-  pub good : IsValidPath x lists path
+  pub is_valid : IsValidPath x lists path
   pub held : HasHeld path tal r
 
 -- the strings are not a valid path
-abbrev pub IsNoValidPath : Context → Option (List Stored) → List ℕ → List Asked → Type 0
+abbrev pub IsNoValidPath : Context → Option (List Stored) → List ℕ → List Candidate → Type 0
 IsNoValidPath x lists anchor below = (p : Path) → IsPathOf anchor below p → IsValidPath x lists p → ⊥
 
 -- what `out of memory` may stand in place of
@@ -178,7 +179,7 @@ UnlessMemory _ P = P
 
 -- Ok exactly where the strings are a valid path, with what its last member holds, unless it runs
 -- out of memory
-abbrev pub Validates : Context → Option (List Stored) → List ℕ → List Asked → List ℕ → Result ResourceFields PathError → Type 0
+abbrev pub Validates : Context → Option (List Stored) → List ℕ → List Candidate → List ℕ → Result ResourceFields PathError → Type 0
 Validates x lists anchor below tal (Ok r) = IsAccepted x lists anchor below tal r
 Validates x lists anchor below tal (Err e) = UnlessMemory e.fault (IsNoValidPath x lists anchor below)
 
@@ -190,9 +191,9 @@ pub record Demand : Type 1 where
   pub checks : List VerificationError
   pub asked_check : CertFields → RevocationError → Type 0
 
--- of an anchor, for which no lists are asked
-abbrev pub anchor_demand : Context → Demand
-anchor_demand x = record { kind = Anchor; check = AnchorCheck x; checks = anchor_checks; asked_check = λ c e. Unit {0} }
+-- of a trust anchor, for which no lists are asked
+abbrev pub trust_anchor_demand : Context → Demand
+trust_anchor_demand x = record { kind = Anchor; check = TrustAnchorCheck x; checks = trust_anchor_checks; asked_check = λ c e. Unit {0} }
 
 -- of a member of this kind below the member at place i
 abbrev pub demand_below : Context → Option (List Stored) → Path → ℕ → Kind → Demand
@@ -220,26 +221,26 @@ Finds x d octets (Verify e) = BeginsInvalid x d octets (Verification e)
 Finds x d octets (Revocation e) = BeginsRevoked x d octets e
 Finds x d octets Memory = Unit {0}
 
--- the error is one of the anchor
-pub record IsFaultOfAnchor (x : Context) (anchor : List ℕ) (e : PathError) : Type 0 where
+-- the error is one of the trust anchor
+pub record IsFaultOfTrustAnchor (x : Context) (anchor : List ℕ) (e : PathError) : Type 0 where
   pub index_is : e.index ≡ 0
-  pub fault_is : Finds x (anchor_demand x) anchor e.fault
+  pub fault_is : Finds x (trust_anchor_demand x) anchor e.fault
 
 -- the members before the index are a valid path, and the error is one of the string there
-pub record IsFaultBelow (x : Context) (lists : Option (List Stored)) (anchor : List ℕ) (below : List Asked) (e : PathError) : Type 0 where
-  pub before : List Asked
-  pub there : Asked
-  pub after : List Asked
+pub record IsFaultBelow (x : Context) (lists : Option (List Stored)) (anchor : List ℕ) (below : List Candidate) (e : PathError) : Type 0 where
+  pub before : List Candidate
+  pub there : Candidate
+  pub after : List Candidate
   pub parts : below ≡ before ++ there ∷ after
   pub path : Path
   pub path_of : IsPathOf anchor before path
-  pub good : IsValidPath x lists path
+  pub is_valid : IsValidPath x lists path
   pub index_is : e.index ≡ length before + 1
   pub fault_is : Finds x (demand_below x lists path (last path) there.kind) there.octets e.fault
 
 -- the error says what is wrong of the string at its index
-abbrev pub IsFault : Context → Option (List Stored) → List ℕ → List Asked → PathError → Type 0
-IsFault x lists anchor below e = IsFaultOfAnchor x anchor e ⊎ IsFaultBelow x lists anchor below e
+abbrev pub IsFault : Context → Option (List Stored) → List ℕ → List Candidate → PathError → Type 0
+IsFault x lists anchor below e = IsFaultOfTrustAnchor x anchor e ⊎ IsFaultBelow x lists anchor below e
 
 -- the fault isn't one of revocation
 abbrev pub IsUnasked : PathFault → Type 0
@@ -254,8 +255,8 @@ greatest_number v4_addresses = 2 ^ 128 - 1
 greatest_number v6_addresses = 2 ^ 128 - 1
 greatest_number system_numbers = 2 ^ 32 - 1
 
--- of two paths of one length the anchor of the second lists what that of the first lists, and each
--- later member of the second lists or inherits what the one of the first at its place lists or
+-- of two paths of one length the trust anchor of the second lists what that of the first lists, and
+-- each later member of the second lists or inherits what the one of the first at its place lists or
 -- inherits
 pub record PassesMore (p q : Path) : Type 0 where
   pub same_length : last p ≡ last q

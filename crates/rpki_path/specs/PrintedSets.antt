@@ -24,8 +24,8 @@ ranges end_of [] = codes "none" ∷ []
 ranges end_of (b ∷ bs) = map (range end_of) (b ∷ bs)
 
 -- a name, and words behind it, each behind a space
-abbrev pub worded : List ℕ → List (List ℕ) → List ℕ
-worded name words = name ++ concat (map (λ word. space ∷ word) words)
+abbrev pub name_and_words : List ℕ → List (List ℕ) → List ℕ
+name_and_words name words = name ++ concat (map (λ word. space ∷ word) words)
 
 -- the line has the numbers that are held, in ranges that ascend, with a number that isn't held
 -- between any two
@@ -33,4 +33,4 @@ pub record IsSetLine (name : List ℕ) (end_of : ℕ → List ℕ) (held : ℕ �
   pub blocks : List Block
   pub sorted : IsChain blocks
   pub numbers : (n : ℕ) → Has blocks n ↔ held n
-  pub is : line ≡ worded name (ranges end_of blocks)
+  pub is : line ≡ name_and_words name (ranges end_of blocks)

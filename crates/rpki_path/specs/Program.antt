@@ -14,14 +14,14 @@ use Rattle.rpki_path.specs.declared.running.Status.{Status}
 use Rattle.rpki_path.specs.declared.running.Status.TheVariants.{Done, Refused, BadInput}
 use Rattle.rpki_path.specs.declared.validating.Leaf.{Leaf}
 use Rattle.rpki_path.specs.InputLines.{InputLine, seeks, at_moment, strictness, anchor, authority, end_entity, IsLine}
-use Rattle.rpki_path.specs.Paths.{Path, Holds, v4_addresses, v6_addresses, system_numbers, asked, Asked, IsPathOf, IsValidPath, IsNoValidPath, IsFault}
+use Rattle.rpki_path.specs.Paths.{Path, Holds, v4_addresses, v6_addresses, system_numbers, candidates, Candidate, IsPathOf, IsValidPath, IsNoValidPath, IsFault}
 use Rattle.rpki_path.specs.Paths as paths
 use Rattle.rpki_path.specs.PrintedSets.{v4_end, v6_end, IsSetLine}
 use Rattle.rpki_path.specs.TextLines.{line_end, AreLines}
 
 -- ---- the input
 
--- whether the strings of an anchor, of authorities below it and of a leaf are a valid path
+-- whether the strings of a trust anchor, of CAs below it and of a leaf are a valid path
 pub record PathQuestion : Type 0 where
   pub now : Moment
   pub strict : Bool
@@ -120,16 +120,16 @@ IsToldBy (Verify e) stage name = (stage ≡ codes "verify") × (name ≡ verific
 IsToldBy (Revocation e) stage name = ⊥
 IsToldBy Memory stage name = ⊥
 
--- at which place a path is wrong, the anchor at 0, and how
+-- at which place a path is wrong, the trust anchor at 0, and how
 pub record PrintsFault (e : PathError) (output : List ℕ) : Type 0 where
   pub stage : List ℕ
   pub name : List ℕ
   pub told : IsToldBy e.fault stage name
   pub is : output ≡ stand_in ++ printed (codes "refused " ∷ decimal e.index ∷ codes " " ∷ stage ∷ codes " " ∷ name ∷ [])
 
--- the strings of a question that stand below the anchor
-abbrev pub asked_below : PathQuestion → List Asked
-asked_below q = asked q.authorities q.leaf
+-- the strings of a question that stand below the trust anchor
+abbrev pub asked_below : PathQuestion → List Candidate
+asked_below q = candidates q.authorities q.leaf
 
 -- in which context the strings are judged
 abbrev pub question_context : PathQuestion → Context

@@ -17,7 +17,7 @@ IsFirstLine line rest text =
     IsWithout line_end line
     × (((rest ≡ []) × (line ≢ []) × (text ≡ line)) ⊎ (text ≡ line ++ line_end ∷ rest))
 
--- what the line of a member below the anchor tells
+-- what the line of a member below the trust anchor tells
 abbrev pub member_line : Member → InputLine
 member_line (Authority octets) = authority octets
 member_line (Last leaf) = end_entity leaf

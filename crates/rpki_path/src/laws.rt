@@ -1,4 +1,5 @@
-//! Laws about paths. Each is the contract of a function with no parameters, whose body names at most the law that it stands on.
+//! Laws about paths. Each is the contract of a function with no parameters, whose body names at
+//! most the law that it stands on.
 ghost use Rattle.std.specs.Prelude.{◌≡◌, ◌≤◌, ℕ, Bool, List, [], ◌∷◌, ◌++◌, Option};
 ghost use Rattle.rpki_der.specs.Times.{Moment};
 ghost use Rattle.rpki_cert.specs.Certificates.{CertFields, IsCertificate};
@@ -7,15 +8,15 @@ ghost use Rattle.rpki_cert.specs.Verification.{HeldCheck, ResourceFields, contex
 ghost use Rattle.rpki_cert.specs.declared.inspect.Kind.{Kind};
 ghost use Rattle.rpki_cert.specs.declared.verification_error.VerificationError.{VerificationError};
 ghost use Rattle.rpki_crl.specs.Stores.{Stored};
-ghost use Rattle.rpki_path.specs.Paths.{member, longer, ask, HasHeld, IsValidPath, IsAccepted, IsUnrevokedIfAsked};
-ghost use Rattle.rpki_path.specs.Paths.{Path, last, NumberKind, greatest_number, Holds, HeldAt, Asked, IsPathOf, PassesMore};
+ghost use Rattle.rpki_path.specs.Paths.{member, longer, candidate, HasHeld, IsValidPath, IsAccepted, IsUnrevokedIfAsked};
+ghost use Rattle.rpki_path.specs.Paths.{Path, last, NumberKind, greatest_number, Holds, HeldAt, Candidate, IsPathOf, PassesMore};
 
 use rpki_cert::laws;
 use rpki_parts::Verifier;
 
 /// Says that strings begin with the members of at most one path.
 pub fn one_path()
-    ensures { (anchor : List ℕ) (below : List Asked) (p q : Path)
+    ensures { (anchor : List ℕ) (below : List Candidate) (p q : Path)
         → IsPathOf anchor below p → IsPathOf anchor below q → p ≡ q }
 {
     laws::unambiguous();
@@ -31,10 +32,12 @@ pub fn monotone()
         → HeldCheck (HeldAt p i) c e → HeldCheck (HeldAt q i) c e }
 {}
 
-/// Says that issuing goes on from a valid path: what is valid below the last member, with what it gets of the numbers that this member has, is
-/// the last member of a valid path that is longer by it, and has exactly what that path holds (`path`). So where strings are accepted, they and
-/// the octets of the new certificate are accepted with what was issued (`strings`). The premises are what [`crate::validate_path`] and
-/// [`rpki_cert::issue_ca`] promise, and, where lists are given, what [`rpki_crl::CrlStore::check`] does.
+/// Says that issuing goes on from a valid path: what is valid below the last member, with what it
+/// gets of the numbers that this member has, is the last member of a valid path that is longer by
+/// it, and has exactly what that path holds (`path`). So where strings are accepted, they and the
+/// octets of the new certificate are accepted with what was issued (`strings`). The premises are
+/// what [`crate::validate_path`] and [`rpki_cert::issue_ca`] promise, and, where lists are given,
+/// what [`rpki_crl::CrlStore::check`] does.
 pub fn issued_below<V: Verifier>()
     ensures path { (verifier : V) (now : Moment) (strict : Bool) (lists : Option (List Stored))
         (p : Path) (tal : List ℕ) (issuer r : ResourceFields) (kind : Kind)
@@ -44,10 +47,10 @@ pub fn issued_below<V: Verifier>()
         → IsValidPath x lists (longer p (member kind r.cert))
         × HasHeld (longer p (member kind r.cert)) tal r }
     ensures strings { (verifier : V) (now : Moment) (strict : Bool) (lists : Option (List Stored))
-        (anchor : List ℕ) (below : List Asked) (tal : List ℕ) (issuer r : ResourceFields)
+        (anchor : List ℕ) (below : List Candidate) (tal : List ℕ) (issuer r : ResourceFields)
         (kind : Kind) (octets : List ℕ)
         → let x = context (V.verifies verifier) now strict in
         IsAccepted x lists anchor below tal issuer → IsValidBelow x issuer kind r.cert r
         → IsUnrevokedIfAsked x lists issuer.cert.fields r.cert → IsCertificate r.cert octets
-        → IsAccepted x lists anchor (below ++ ask kind octets ∷ []) tal r }
+        → IsAccepted x lists anchor (below ++ candidate kind octets ∷ []) tal r }
 {}

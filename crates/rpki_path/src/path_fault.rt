@@ -129,7 +129,7 @@ impl From<RevocationError> for PathFault {
 #[derive(Debug, Drop, Error)]
 #[error("certificate {index}: {fault}")]
 pub struct PathError {
-    /// The member's place; the anchor is at place 0.
+    /// The member's place; the trust anchor is at place 0.
     pub index: usize,
     /// What is wrong with it.
     pub fault: PathFault,

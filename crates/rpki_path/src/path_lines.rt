@@ -75,7 +75,7 @@ fn member_from(alloc: Global, line: &[u8]) -> Result<Option<Member>, AllocError>
     Ok(Some(Member::Last(Leaf::DetachedEe(octets))))
 }
 
-// The lines from the fourth on: those of the strings below the anchor.
+// The lines from the fourth on: those of the strings below the trust anchor.
 fn members_from(
     alloc: Global,
     now: Time,
@@ -119,7 +119,7 @@ fn members_from(
     }))
 }
 
-// The lines from the third on: first that of the anchor.
+// The lines from the third on: first that of the trust anchor.
 fn anchor_from(alloc: Global, now: Time, strict: bool, text: &[u8]) -> Result<Input, AllocError>
     ensures { (before : List (List ℕ))
         → AllZip IsLine (at_moment now ∷ strictness strict ∷ []) before

@@ -2,7 +2,7 @@
 ghost use Rattle.std.specs.Prelude.{◌≡◌, ℕ, List, [], ◌∷◌, ◌++◌, OnOk, IfOk, map, codes, decimal, string_bytes};
 ghost use Rattle.std.specs.List.{concat};
 ghost use Rattle.rpki_path.specs.TextLines.{space};
-ghost use Rattle.rpki_path.specs.PrintedSets.{v4_end, v6_end, range, ranges, worded};
+ghost use Rattle.rpki_path.specs.PrintedSets.{v4_end, v6_end, range, ranges, name_and_words};
 ghost use Rattle.rpki_path.specs.Program.{printed};
 ghost use Rattle.rpki_blocks.specs.Sets.{between, IsChain};
 
@@ -112,7 +112,7 @@ fn put_words<E: Ends>(
     chain: &Chain<E::Number>,
 ) -> Result<(), AllocError>
     ensures put { OnOk result (string_bytes out.new
-        ≡ worded (string_bytes out.old) (ranges E.text chain.now)) }
+        ≡ name_and_words (string_bytes out.old) (ranges E.text chain.now)) }
     ensures sorted { OnOk result (IsChain chain.now) }
 {
     if chain.is_empty() {
@@ -129,7 +129,7 @@ pub(crate) fn set_line<E: Ends>(
     chain: &Chain<E::Number>,
 ) -> Result<String, AllocError>
     ensures line { IfOk result (λ text. string_bytes text
-        ≡ printed (worded name.now (ranges E.text chain.now) ∷ [])) }
+        ≡ printed (name_and_words name.now (ranges E.text chain.now) ∷ [])) }
     ensures sorted { OnOk result (IsChain chain.now) }
 {
     let mut line = String::from_str(alloc, name)?;

@@ -1,4 +1,5 @@
-//! Whole paths: from an anchor down to the last member (RFC 6487 7.2; own: the chaining of names is the caller's to ask).
+//! Whole paths: from a trust anchor down to the last member (RFC 6487 7.2; own: the chaining of
+//! names is the caller's to ask).
 ghost use Rattle.std.specs.Prelude.{◌≡◌, Ok, Err, None, Some, IfOk, OnOk, IfErr, map, option_map};
 ghost use Rattle.std.proofs.Common.{rc_value};
 ghost use Rattle.rpki_ext.specs.Kinds.{Means};
@@ -8,8 +9,8 @@ ghost use Rattle.rpki_cert.specs.Validation.{IsValidBelow, IsInvalidBelow};
 ghost use Rattle.rpki_cert.specs.Verification.{context};
 ghost use Rattle.rpki_cert.specs.declared.inspect.Kind.TheVariants.{Authority as authority};
 ghost use Rattle.rpki_crl.specs.Revocation.{revocation_checks};
-ghost use Rattle.rpki_path.specs.Paths.{ask, asked, anchor_demand, AskedCheck, Finds, IsFault, IsAccepted, IsUnasked, Validates};
-ghost use Rattle.rpki_path.specs.Paths.Steps.{kind_of, IsUnread, IsAnchor, IsIssuedBy, demand_under};
+ghost use Rattle.rpki_path.specs.Paths.{candidate, candidates, trust_anchor_demand, AskedCheck, Finds, IsFault, IsAccepted, IsUnasked, Validates};
+ghost use Rattle.rpki_path.specs.Paths.Steps.{kind_of, IsUnread, IsTrustAnchor, IsIssuedBy, demand_under};
 
 use crate::path_fault::{PathError, PathFault};
 use bytes::Bytes;
@@ -29,7 +30,7 @@ pub enum Leaf {
     DetachedEe(Bytes),
 }
 
-// What a member below the anchor is.
+// What a member below the trust anchor is.
 #[derive(Clone, Copy)]
 enum Role {
     Authority,
@@ -41,7 +42,7 @@ enum Role {
 fn tested<T: Drop, E>(value: T, test: Result<(), E>) -> Result<T, E>
     ensures ok { IfOk result (λ r. r ≡ value) }
     ensures passed { OnOk result (test ≡ Ok tt) }
-    ensures refused { IfErr result (λ e. test ≡ Err e) }
+    ensures rejected { IfErr result (λ e. test ≡ Err e) }
 {
     match test {
         Ok(()) => Ok(value),
@@ -69,7 +70,7 @@ fn decoded(alloc: Global, octets: &Bytes) -> Result<Cert, PathFault>
     Ok(Cert::decode_shared(alloc, octets.clone()?)?)
 }
 
-// The anchor of a path.
+// The trust anchor of a path.
 fn validate_anchor<V: Verifier>(
     alloc: Global,
     octets: &Bytes,
@@ -79,9 +80,9 @@ fn validate_anchor<V: Verifier>(
     verifier: &V,
 ) -> Result<ResourceCert, PathFault>
     ensures ok { let x = context (V.verifies verifier.now) now strict in
-        IfOk result (IsAnchor x octets.now (rc_value tal)) }
+        IfOk result (IsTrustAnchor x octets.now (rc_value tal)) }
     ensures fault { let x = context (V.verifies verifier.now) now strict in
-        IfErr result (Finds x (anchor_demand x) octets.now) }
+        IfErr result (Finds x (trust_anchor_demand x) octets.now) }
 {
     let cert = decoded(alloc, octets)?;
     Ok(cert.validate_ta_at(alloc, tal, strict, now, verifier)?)
@@ -201,10 +202,10 @@ fn validate_authorities<V: Verifier>(
 ) -> Result<ResourceCert, PathError>
     ensures ok { let x = context (V.verifies verifier.now) now strict in
         let pairs = option_map (λ store. store.now.pairs) lists.entry in
-        IfOk result (IsAccepted x pairs anchor.now (map (ask authority) cas.now) (rc_value tal)) }
+        IfOk result (IsAccepted x pairs anchor.now (map (candidate authority) cas.now) (rc_value tal)) }
     ensures named { let x = context (V.verifies verifier.now) now strict in
         let pairs = option_map (λ store. store.now.pairs) lists.entry in
-        IfErr result (IsFault x pairs anchor.now (map (ask authority) cas.now)) }
+        IfErr result (IsFault x pairs anchor.now (map (candidate authority) cas.now)) }
 {
     let first = validate_anchor(alloc, anchor, tal, strict, now, verifier);
     let mut issuer = placed(0, first)?;
@@ -238,10 +239,10 @@ fn validate_members<V: Verifier>(
 ) -> Result<ResourceCert, PathError>
     ensures ok { let x = context (V.verifies verifier.now) now strict in
         let pairs = option_map (λ store. store.now.pairs) lists.entry in
-        IfOk result (IsAccepted x pairs anchor.now (asked cas.now leaf.now) (rc_value tal)) }
+        IfOk result (IsAccepted x pairs anchor.now (candidates cas.now leaf.now) (rc_value tal)) }
     ensures named { let x = context (V.verifies verifier.now) now strict in
         let pairs = option_map (λ store. store.now.pairs) lists.entry in
-        IfErr result (IsFault x pairs anchor.now (asked cas.now leaf.now)) }
+        IfErr result (IsFault x pairs anchor.now (candidates cas.now leaf.now)) }
 {
     let last = validate_authorities(alloc, anchor, cas, tal, lists, strict, now, verifier)?;
     let below = cas.len() + 1;
@@ -295,10 +296,10 @@ pub fn validate_path<V: Verifier>(
 ) -> Result<ResourceCert, PathError>
     // Ok exactly where each string begins with a member of a valid path: the headline.
     ensures validates { let x = context (V.verifies verifier.now) now strict in
-        Validates x None anchor.now (asked cas.now leaf) (rc_value tal) result }
+        Validates x None anchor.now (candidates cas.now leaf) (rc_value tal) result }
     // The members before the index are a valid path, and the fault is that of the string there.
     ensures named { let x = context (V.verifies verifier.now) now strict in
-        IfErr result (IsFault x None anchor.now (asked cas.now leaf)) }
+        IfErr result (IsFault x None anchor.now (candidates cas.now leaf)) }
     ensures unasked { IfErr result (λ e. IsUnasked e.fault) }
 {
     laws::unambiguous();
@@ -326,12 +327,12 @@ pub fn validate_path_with<V: Verifier>(
     // Ok exactly where each string begins with a member of a valid path, none of which is revoked.
     ensures validates { let x = context (V.verifies verifier.now) now strict in
         let pairs = Some store.now.pairs in
-        Validates x pairs anchor.now (asked cas.now leaf) (rc_value tal) result }
+        Validates x pairs anchor.now (candidates cas.now leaf) (rc_value tal) result }
     // The members before the index are a valid path, unrevoked, and the fault is that of the string
     // there.
     ensures named { let x = context (V.verifies verifier.now) now strict in
         let pairs = Some store.now.pairs in
-        IfErr result (IsFault x pairs anchor.now (asked cas.now leaf)) }
+        IfErr result (IsFault x pairs anchor.now (candidates cas.now leaf)) }
 {
     laws::unambiguous();
     validate_members(

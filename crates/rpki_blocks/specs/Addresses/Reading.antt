@@ -1,6 +1,6 @@
 -- The reading functions of addresses.
 use Rattle.std.specs.Prelude.{ℕ, ◌*◌, ◌&&◌, nat_lt, nat_eq, if◌then◌else◌, List, [], ◌∷◌, length, Option, Some, None}
-use Rattle.rpki_der.specs.Choices.{turned, followed, whole, content_or, optional_of}
+use Rattle.rpki_der.specs.Choices.{conversion, followed, whole, content_or, optional_of}
 use Rattle.rpki_der.specs.Primitives.Reading.{octets_at, bits_at}
 use Rattle.rpki_der.specs.Reading.{both, content}
 use Rattle.rpki_der.specs.Values.Reading.{◌>>=◌}
@@ -23,11 +23,11 @@ prefix_of bits x = if nat_lt bits (8 * length x.1) then None else Some (record {
 
 -- reads an IPAddress
 unfoldable pub address_at : Family → List ℕ → Option (Block × List ℕ)
-address_at family = turned (prefix_of (family_bits family)) bits_at
+address_at family = conversion (prefix_of (family_bits family)) bits_at
 
 -- reads what stands inside an IPAddressRange
 abbrev pub address_range : Family → List ℕ → Option Block
-address_range family = whole (turned (λ p. ordered p.0.min p.1.max) (both (address_at family) (address_at family)))
+address_range family = whole (conversion (λ p. ordered p.0.min p.1.max) (both (address_at family) (address_at family)))
 
 -- reads an IPAddressOrRange
 unfoldable pub ip_element_at : Family → List ℕ → Option (Block × List ℕ)
@@ -42,11 +42,11 @@ family_of (a ∷ b ∷ c ∷ more) = None
 
 -- reads an IPAddressChoice of the family
 abbrev pub of_family : Family → List ℕ → Option ((Family × Resources) × List ℕ)
-of_family family = turned (λ r. Some (family, r)) (choice_at (ip_element_at family))
+of_family family = conversion (λ r. Some (family, r)) (choice_at (ip_element_at family))
 
 -- reads what stands inside an IPAddressFamily
 unfoldable pub family_in : List ℕ → Option (Family × Resources)
-family_in = whole (followed (turned family_of octets_at) of_family)
+family_in = whole (followed (conversion family_of octets_at) of_family)
 
 -- the families of an extension that has one
 abbrev pub alone : Family → Resources → Families

@@ -1,6 +1,6 @@
 -- The reading functions of AS numbers.
 use Rattle.std.specs.Prelude.{ℕ, List, Option, Some}
-use Rattle.rpki_der.specs.Choices.{turned, whole, content_or}
+use Rattle.rpki_der.specs.Choices.{conversion, whole, content_or}
 use Rattle.rpki_der.specs.Primitives.Reading.{u32_at}
 use Rattle.rpki_der.specs.Reading.{inside, both}
 use Rattle.rpki_der.specs.Tags.{CONTEXT_CONSTRUCTED, SEQUENCE}
@@ -10,7 +10,7 @@ use Rattle.rpki_blocks.specs.Unions.Reading.{choice_at, ordered}
 
 -- reads what stands inside an ASRange
 abbrev pub as_range_of : List ℕ → Option Block
-as_range_of = whole (turned (λ p. ordered p.0 p.1) (both u32_at u32_at))
+as_range_of = whole (conversion (λ p. ordered p.0 p.1) (both u32_at u32_at))
 
 -- the block of one number
 abbrev pub single : ℕ → Option Block
@@ -18,7 +18,7 @@ single n = Some (record { min = n; max = n })
 
 -- reads an ASId, as the block of its number
 abbrev pub as_id : List ℕ → Option (Block × List ℕ)
-as_id = turned single u32_at
+as_id = conversion single u32_at
 
 -- reads an ASIdOrRange
 unfoldable pub as_element_at : List ℕ → Option (Block × List ℕ)

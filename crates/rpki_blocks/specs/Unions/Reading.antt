@@ -1,9 +1,9 @@
 -- The reading functions of an IPAddressChoice or an ASIdentifierChoice.
 use Rattle.std.specs.Prelude.{ℕ, ◌+◌, min, max, nat_lt, if◌then◌else◌, List, [], ◌∷◌, Option, Some, None}
-use Rattle.rpki_der.specs.Choices.{turned, content_or}
+use Rattle.rpki_der.specs.Choices.{conversion, content_or}
 use Rattle.rpki_der.specs.Primitives.Reading.{null_at}
 use Rattle.rpki_der.specs.Values.Reading.{◌>>=◌}
-use Rattle.rpki_der.specs.Rows.Reading.{row_of}
+use Rattle.rpki_der.specs.Sequences.Reading.{row_of}
 use Rattle.rpki_der.specs.Tags.{SEQUENCE}
 use Rattle.rpki_blocks.specs.Resources.{Resources, inherit, listed}
 use Rattle.rpki_blocks.specs.Sets.{Block}
@@ -25,13 +25,13 @@ merged (b ∷ bs) = if nat_lt b.max b.min then merged bs else added b (merged bs
 
 -- ---- choices
 
--- a row of elements, merged
+-- a sequence of elements, merged
 abbrev pub union_of : (List ℕ → Option (Block × List ℕ)) → List ℕ → Option Resources
 union_of element c = row_of element c >>= λ bs. Some (listed (merged bs))
 
 -- reads inherit NULL
 abbrev pub inherit_at : List ℕ → Option (Resources × List ℕ)
-inherit_at = turned (λ _. Some inherit) null_at
+inherit_at = conversion (λ _. Some inherit) null_at
 
 -- reads an IPAddressChoice or an ASIdentifierChoice with these elements
 unfoldable pub choice_at : (List ℕ → Option (Block × List ℕ)) → List ℕ → Option (Resources × List ℕ)

@@ -4,7 +4,7 @@ use Rattle.rpki_der.specs.Tags.{CONTEXT_CONSTRUCTED, INTEGER, SEQUENCE}
 use Rattle.rpki_der.specs.Reading.{inside, content, both, mapped}
 use Rattle.rpki_der.specs.Values.Reading.{◌>>=◌, value_at}
 use Rattle.rpki_der.specs.Serials.Reading.{serial_at}
-use Rattle.rpki_der.specs.Choices.{turned, exactly}
+use Rattle.rpki_der.specs.Choices.{conversion, exactly}
 use Rattle.rpki_parts.specs.Algorithms.{Algorithm}
 use Rattle.rpki_parts.specs.Validities.{ValidityFields}
 use Rattle.rpki_parts.specs.Validities.Reading.{validity_at}
@@ -23,7 +23,7 @@ use Rattle.rpki_ext.specs.CertificateExtensions.Reading.{extensions_of}
 unfoldable pub version_at : List ℕ → Option (Unit {0} × List ℕ)
 version_at = inside (CONTEXT_CONSTRUCTED 0) (content INTEGER (exactly (2 ∷ [])))
 
--- the fields in their order, and the row of extensions as it stands
+-- the fields in their order, and the sequence of extensions as it stands
 abbrev pub Fields : Type 0
 Fields = Unit {0} × (ℕ × (Algorithm × (List ℕ × (ValidityFields × (List ℕ × (KeyFields × List ℕ))))))
 
@@ -33,7 +33,7 @@ with_extensions (_, (serial, (algorithm, (issuer, (validity, (subject, (key, row
   x ← extensions_of row
   Some (record { serial = serial; algorithm = algorithm; issuer = issuer; validity = validity; subject = subject; key = key; extensions = x })
 
--- the row of extensions, as it stands inside its two tags
+-- the sequence of extensions, as it stands inside its two tags
 abbrev pub tagged_row_at : List ℕ → Option (List ℕ × List ℕ)
 tagged_row_at = inside (CONTEXT_CONSTRUCTED 3) (value_at SEQUENCE)
 
@@ -48,7 +48,7 @@ fields_at = inside SEQUENCE fields_in_order
 
 -- reads a TBSCertificate
 unfoldable pub tbs_at : List ℕ → Option (TbsFields × List ℕ)
-tbs_at = turned with_extensions fields_at
+tbs_at = conversion with_extensions fields_at
 
 -- ---- certificates
 

@@ -1,4 +1,5 @@
--- Steps of making a row of extensions: what is gathered for each place, and how it is put together.
+-- Steps of making a sequence of extensions: what is gathered for each place, and how it is put
+-- together.
 use Rattle.std.specs.Prelude.{ℕ, List, [], ◌∷◌, ◌++◌, ◌≡◌, ◌^◌, ◌<◌, ◌≤◌, ◌⊎◌, length, get_or}
 use Rattle.std.specs.List.{concat}
 use Rattle.rpki_cert.specs.Rearranging.{added_at, written}

@@ -1,7 +1,7 @@
 -- Reading functions of revocation lists.
 use Rattle.std.specs.Bool.{beq}
 use Rattle.std.specs.Prelude.{ℕ, Bool, if◌then◌else◌, List, [], ◌∷◌, Option, Some, None}
-use Rattle.rpki_der.specs.Choices.{turned, exactly}
+use Rattle.rpki_der.specs.Choices.{conversion, exactly}
 use Rattle.rpki_der.specs.Reading.{inside, content, both, mapped}
 use Rattle.rpki_der.specs.Tags.{CONTEXT_CONSTRUCTED, INTEGER, SEQUENCE}
 use Rattle.rpki_der.specs.Times.{Moment}
@@ -23,7 +23,7 @@ use Rattle.rpki_crl.specs.RevokedEntries.Reading.{revoked_at}
 unfoldable pub list_version_at : List ℕ → Option (Unit {0} × List ℕ)
 list_version_at = content INTEGER (exactly (1 ∷ []))
 
--- the fields in their order, and the row of extensions as it stands
+-- the fields in their order, and the sequence of extensions as it stands
 abbrev pub ListParts : Type 0
 ListParts = Unit {0} × (Algorithm × (List ℕ × (Moment × (Moment × (Revoked × List ℕ)))))
 
@@ -43,7 +43,7 @@ list_parts_at = inside SEQUENCE list_parts_in_order
 
 -- reads a TBSCertList
 unfoldable pub list_at : List ℕ → Option (ListFields Revoked × List ℕ)
-list_at = turned fields_from list_parts_at
+list_at = conversion fields_from list_parts_at
 
 -- ---- lists
 
@@ -65,7 +65,7 @@ with_same_algorithm r = if same_algorithm r.fields.algorithm r.signed_data.signa
 
 -- reads the content of a CertificateList
 unfoldable pub crl_content_at : List ℕ → Option (CrlFields × List ℕ)
-crl_content_at = turned with_same_algorithm kept_at
+crl_content_at = conversion with_same_algorithm kept_at
 
 -- reads a CertificateList
 unfoldable pub crl_at : List ℕ → Option (CrlFields × List ℕ)

@@ -4,7 +4,7 @@ use Rattle.rpki_der.specs.Choices.{optional_of}
 use Rattle.rpki_der.specs.Folding.{over, pass}
 use Rattle.rpki_der.specs.Reading.{inside, both, mapped}
 use Rattle.rpki_der.specs.Values.Reading.{◌>>=◌}
-use Rattle.rpki_der.specs.Rows.Reading.{row_of}
+use Rattle.rpki_der.specs.Sequences.Reading.{row_of}
 use Rattle.rpki_der.specs.Serials.Reading.{serial_at}
 use Rattle.rpki_der.specs.Times.Reading.{time_at}
 use Rattle.rpki_der.specs.Tags.{SEQUENCE}
@@ -28,7 +28,7 @@ abbrev pub or_none : Option (List Entry) → List Entry
 or_none (Some entries) = entries
 or_none None = []
 
--- the entries of a row; none where the octets are no row of entries
+-- the entries of a sequence; none where the octets are no sequence of entries
 abbrev pub entries_in : List ℕ → List Entry
 entries_in octets = or_none (row_of entry_at octets)
 
@@ -40,7 +40,7 @@ entries_pass = over entry_at pass tt
 abbrev pub no_entries : Revoked
 no_entries = record { entries = []; octets = [] }
 
--- a whole content as a row of entries
+-- a whole content as a sequence of entries
 unfoldable pub revoked_of : List ℕ → Option Revoked
 revoked_of content = entries_pass content >>= λ row. Some (record { entries = entries_in content; octets = content })
 

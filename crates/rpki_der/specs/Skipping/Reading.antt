@@ -1,6 +1,6 @@
 -- The reading functions of values that are skipped.
 use Rattle.std.specs.Prelude.{ℕ, List, [], ◌∷◌, Option, Some, None, ◌-◌, length, take, ◌/◌, ◌%◌, Bool, nat_eq, zero, suc, if◌then◌else◌}
-use Rattle.rpki_der.specs.Rows.Reading.{row_of}
+use Rattle.rpki_der.specs.Sequences.Reading.{row_of}
 use Rattle.rpki_der.specs.Skipping.{levels}
 use Rattle.rpki_der.specs.Values.Reading.{◌>>=◌, value_at}
 

@@ -4,14 +4,14 @@ use Rattle.rpki.specs.RsaSignatures.{IsSignedByRsa}
 use Rattle.rpki.specs.Sets.{is_in}
 use Rattle.rpki.specs.Stores.{Stored}
 use Rattle.rpki.specs.Verification.{Context, context, ResourceFields}
-use Rattle.rpki.specs.Paths.{asked, IsAccepted}
+use Rattle.rpki.specs.Paths.{candidates, IsAccepted}
 use Rattle.rpki_example.specs.Answers.{IsHeld}
 use Rattle.rpki_example.proofs.holds_as.Goals as goal
 
 -- what was accepted holds exactly the numbers of the result
-answered : (x : Context) (lists : List Stored) (anchor : List ℕ) (cas : List (List ℕ)) (tal : List ℕ) (asn : ℕ) (r : ResourceFields) (answer : Bool) → answer ≡ is_in asn r.as_numbers → IsAccepted x (Some lists) anchor (asked cas None) tal r → IsHeld x lists anchor cas asn answer
+answered : (x : Context) (lists : List Stored) (anchor : List ℕ) (cas : List (List ℕ)) (tal : List ℕ) (asn : ℕ) (r : ResourceFields) (answer : Bool) → answer ≡ is_in asn r.as_numbers → IsAccepted x (Some lists) anchor (candidates cas None) tal r → IsHeld x lists anchor cas asn answer
 answered x lists anchor cas tal asn r answer is a =
-    record { path = a.path; path_of = a.path_of; good = a.good; held = rw is (a.held.as_is asn) }
+    record { path = a.path; path_of = a.path_of; is_valid = a.is_valid; held = rw is (a.held.as_is asn) }
 
 pub returns : goal.returns
 returns c =

@@ -3,7 +3,7 @@ use Rattle.std.specs.Prelude.{ℕ, Bool, List, [], ◌∷◌, if◌then◌else�
 use Rattle.rpki_der.specs.Reading.{inside, both, mapped, content, ended}
 use Rattle.rpki_der.specs.Primitives.Reading.{oid_at}
 use Rattle.rpki_der.specs.Values.Reading.{◌>>=◌}
-use Rattle.rpki_der.specs.Rows.Reading.{row_of}
+use Rattle.rpki_der.specs.Sequences.Reading.{row_of}
 use Rattle.rpki_der.specs.Skipping.Reading.{skip_at, captured_at}
 use Rattle.rpki_der.specs.Tags.{SEQUENCE, SET}
 use Rattle.rpki_parts.specs.Names.{Attribute}

@@ -3,7 +3,7 @@ use Rattle.std.specs.Prelude.{ℕ, List, Option, ◌≢◌}
 use Rattle.rpki_der.specs.declared.error.DecodeError.TheVariants as decoding
 use Rattle.rpki_ext.specs.Kinds.{Means}
 use Rattle.rpki_cert.specs.Certificates.{CertFields, IsCertificate}
-use Rattle.rpki_cert.specs.Validation.{IsValidAnchor, IsValidBelow}
+use Rattle.rpki_cert.specs.Validation.{IsValidTrustAnchor, IsValidBelow}
 use Rattle.rpki_cert.specs.Verification.{Context, CheckUnder, issued_checks, ResourceFields}
 use Rattle.rpki_cert.specs.declared.inspect.Kind.{Kind}
 use Rattle.rpki_cert.specs.declared.inspect.Kind.TheVariants.{Authority, EndEntity, Detached}
@@ -14,7 +14,7 @@ use Rattle.rpki_path.specs.declared.validating.Role.{Role}
 use Rattle.rpki_path.specs.declared.validating.Role.TheVariants as role
 use Rattle.rpki_path.specs.Paths.{Demand, AskedCheck, IsUnrevokedIfAsked}
 
--- the kind of a member below the anchor
+-- the kind of a member below the trust anchor
 abbrev pub kind_of : Role → Kind
 kind_of role.Authority = Authority
 kind_of role.EndEntity = EndEntity
@@ -26,10 +26,10 @@ IsUnread octets (Decode e) = (e ≢ decoding.Memory) × ((c : CertFields) → Me
 IsUnread octets Memory = Unit {0}
 IsUnread octets _ = ⊥
 
--- the anchor of a path, with what it lists
-pub record IsAnchor (x : Context) (octets tal : List ℕ) (r : ResourceFields) : Type 0 where
+-- the trust anchor of a path, with what it lists
+pub record IsTrustAnchor (x : Context) (octets tal : List ℕ) (r : ResourceFields) : Type 0 where
   pub begins : Means IsCertificate r.cert octets
-  pub valid : IsValidAnchor x tal r.cert r
+  pub valid : IsValidTrustAnchor x tal r.cert r
 
 -- a member that stands below the issuer, and that the lists don't revoke
 pub record IsIssuedBy (x : Context) (lists : Option (List Stored)) (issuer : ResourceFields) (k : Kind) (octets : List ℕ) (r : ResourceFields) : Type 0 where

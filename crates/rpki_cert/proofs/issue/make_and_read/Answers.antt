@@ -33,10 +33,10 @@ returns-in-Ok-clause-signed g c =
     (fields_again c.read_again-cert.result c.args.tbs c.in-Ok.ensures.written c.read_again-cert.ensures.read message)
     c.read_again-cert.ensures.same
 
-pub returns-in-Ok-clause-refused : goal.returns-in-Ok-clause-refused
-returns-in-Ok-clause-refused g c =
+pub returns-in-Ok-clause-rejected : goal.returns-in-Ok-clause-rejected
+returns-in-Ok-clause-rejected g c =
     let answers = g.S.Signer.signs c.args.signer.now c.args.key.now c.args.tbs.algorithm (encoding c.args.tbs) in
-    if_err c.read_again-cert.result _ _ (λ e h. not_made c.args.tbs answers c.in-Ok.made.signed_data e (record { message_is = c.in-Ok.ensures.message; signed = c.in-Ok.ensures.signed; short = c.in-Ok.ensures.fits }) h) c.read_again-cert.ensures.refused
+    if_err c.read_again-cert.result _ _ (λ e h. not_made c.args.tbs answers c.in-Ok.made.signed_data e (record { message_is = c.in-Ok.ensures.message; signed = c.in-Ok.ensures.signed; short = c.in-Ok.ensures.fits }) h) c.read_again-cert.ensures.rejected
 
 pub returns-in-Ok-clause-readable : goal.returns-in-Ok-clause-readable
 returns-in-Ok-clause-readable g c can =

@@ -1,5 +1,5 @@
 use Rattle.std.proofs.Common.{arith, ◌≡◌, refl, subst}
-use Rattle.rpki_der.specs.Place.{Refuses}
+use Rattle.rpki_der.specs.Place.{Rejects}
 use Rattle.rpki_der.specs.Values.{AreOctets}
 use Rattle.rpki_parts.specs.SignedDatas.{signed_data}
 use Rattle.rpki_ext.specs.Kinds.{Means}
@@ -10,7 +10,7 @@ use Rattle.rpki_cert.proofs.issue.read_again.Goals as goal
 
 pub returns-in-Ok-decode-clause-message : goal.returns-in-Ok-decode-clause-message
 returns-in-Ok-decode-clause-message g c f is =
-    let all : c.rest-octets.result.now ≡ signed_data c.args.made.now.signed_data = grind (arith, c.rest-octets.ensures.left, c.new.ensures.all, c.in-Ok.ensures.ok, c.octets.view_is) in
+    let all : c.rest-octets.result.now ≡ signed_data c.args.made.now.signed_data = grind (arith, c.rest-octets.ensures.remaining, c.new.ensures.all, c.in-Ok.ensures.ok, c.octets.view_is) in
     let octets : AreOctets (signed_data c.args.made.now.signed_data) = subst AreOctets all c.rest-octets.ensures.octets in
     let same : c.deref.result.now ≡ signed_data c.args.made.now.signed_data = grind (arith, c.deref.ensures, c.in-Ok.ensures.ok, c.octets.view_is) in
     message_again c.args.made.now.signed_data f c.in-Ok-decode.cert is octets (c.in-Ok.ensures.fits refl) (subst (λ o. Means IsCertificate c.in-Ok-decode.cert o) same c.in-Ok-decode.ensures)
@@ -26,12 +26,12 @@ returns-in-Ok-decode-clause-same g c made =
     let same : c.deref.result.now ≡ signed_data c.args.made.now.signed_data = grind (arith, c.deref.ensures, c.in-Ok.ensures.ok, c.octets.view_is) in
     certificate_again c.args.made.now c.in-Ok-decode.cert made (subst (λ o. Means IsCertificate c.in-Ok-decode.cert o) same c.in-Ok-decode.ensures)
 
-pub returns-clause-refused : goal.returns-clause-refused
-returns-clause-refused g c =
+pub returns-clause-rejected : goal.returns-clause-rejected
+returns-clause-rejected g c =
     let same : c.deref.result.now ≡ signed_data c.args.made.now.signed_data = grind (arith, c.deref.ensures, c.in-Ok.ensures.ok, c.octets.view_is) in
-    subst (λ o. Refuses c.in-Err-decode.error ((d : CertFields) → Means IsCertificate d o → ⊥)) same c.in-Err-decode.ensures
+    subst (λ o. Rejects c.in-Err-decode.error ((d : CertFields) → Means IsCertificate d o → ⊥)) same c.in-Err-decode.ensures
 
 pub returns-clause-readable : goal.returns-clause-readable
 returns-clause-readable g c made =
     let same : c.deref.result.now ≡ signed_data c.args.made.now.signed_data = grind (arith, c.deref.ensures, c.in-Ok.ensures.ok, c.octets.view_is) in
-    read_or_memory g.row.E.Denot c.in-Err-decode.error (subst (λ o. Refuses c.in-Err-decode.error ((d : CertFields) → Means IsCertificate d o → ⊥)) same c.in-Err-decode.ensures) (readable c.args.made.now made)
+    read_or_memory g.row.E.Denot c.in-Err-decode.error (subst (λ o. Rejects c.in-Err-decode.error ((d : CertFields) → Means IsCertificate d o → ⊥)) same c.in-Err-decode.ensures) (readable c.args.made.now made)

@@ -2,7 +2,7 @@ use Rattle.std.proofs.Common.{rules, ◌≡◌}
 use Rattle.std.specs.List.{concat}
 use Rattle.rpki_der.proofs.TooLong.{passed_long}
 use Rattle.rpki_cert.specs.Rearranging.{content_with, new_row}
-use Rattle.rpki_cert.proofs.RowsBuilt.{row_longer}
+use Rattle.rpki_cert.proofs.SequencesBuilt.{row_longer}
 use Rattle.rpki_cert.proofs.rearranging.make.Goals as goal
 
 pub returns-in_err-row-clause-too_long : goal.returns-in_err-row-clause-too_long

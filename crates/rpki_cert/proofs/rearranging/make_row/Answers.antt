@@ -1,6 +1,6 @@
 use Rattle.std.proofs.Common.{rules, ◌≡◌, List, ℕ, ap, ◌∙◌}
 use Rattle.rpki_cert.specs.Rearranging.Steps.{joined}
-use Rattle.rpki_cert.proofs.RowsBuilt.{passed_on_long, row_made, row_too_long}
+use Rattle.rpki_cert.proofs.SequencesBuilt.{passed_on_long, row_made, row_too_long}
 use Rattle.rpki_cert.proofs.rearranging.make_row.Goals as goal
 
 pub returns-in_err-places-clause-too_long : goal.returns-in_err-places-clause-too_long

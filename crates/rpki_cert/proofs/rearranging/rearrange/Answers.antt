@@ -2,13 +2,13 @@ use Rattle.std.proofs.Common.{rules, ◌≡◌, ◌<◌, ◌^◌, Err, ap, lengt
 use Rattle.rpki_der.specs.declared.error.EncodeError.{EncodeError}
 use Rattle.rpki_cert.specs.RearrangeErrors.{of_writing}
 use Rattle.rpki_cert.specs.Rearranging.{AreUnknown, IsPlan}
-use Rattle.rpki_cert.proofs.RowsBuilt.{is_rearrangement, rearranged, refused_by_writing}
+use Rattle.rpki_cert.proofs.SequencesBuilt.{is_rearrangement, rearranged, rejected_by_writing}
 use Rattle.rpki_cert.proofs.rearranging.rearrange.Goals as goal
 
-pub returns-in_err-frame-clause-refused : goal.returns-in_err-frame-clause-refused
-returns-in_err-frame-clause-refused c =
+pub returns-in_err-frame-clause-rejected : goal.returns-in_err-frame-clause-rejected
+returns-in_err-frame-clause-rejected c =
     let same : c.from_residual.result ≡ Err c.in_err-frame.field-0.0 = search rules in
-    rw same (c.in_err-frame.ensures.refused c.args.order.now c.args.extras.now)
+    rw same (c.in_err-frame.ensures.rejected c.args.order.now c.args.extras.now)
 
 pub returns-in-Ok-clause-ok : goal.returns-in-Ok-clause-ok
 returns-in-Ok-clause-ok c =
@@ -22,9 +22,9 @@ returns-in-Ok-clause-rearrangement c =
     let unknown : AreUnknown c.args.extras.now = search rules in
     is_rearrangement c.args.octets.now c.args.order.now c.args.extras.now c.in_ok-frame.frame c.in_ok-frame.ensures.ok plan unknown c.in-Ok.ensures.valid c.in-Ok.answer.items c.in-Ok.ensures.ok (c.in-Ok.ensures.fits (search rules)) c.in-Ok.ensures.octets
 
-pub returns-clause-refused : goal.returns-clause-refused
-returns-clause-refused c =
+pub returns-clause-rejected : goal.returns-clause-rejected
+returns-clause-rejected c =
     let plan : IsPlan (length c.in_ok-frame.frame.old) c.args.order.now c.args.extras.now = search rules in
     let unknown : AreUnknown c.args.extras.now = search rules in
     let same : c.from.result ≡ of_writing c.in-Err.error = search rules in
-    rw same (refused_by_writing c.args.octets.now c.args.order.now c.args.extras.now c.in_ok-frame.frame c.in_ok-frame.ensures.ok plan unknown c.in-Err.error (λ is. c.in-Err.ensures.too_long (ap (λ (e : EncodeError). Err e) is)))
+    rw same (rejected_by_writing c.args.octets.now c.args.order.now c.args.extras.now c.in_ok-frame.frame c.in_ok-frame.ensures.ok plan unknown c.in-Err.error (λ is. c.in-Err.ensures.too_long (ap (λ (e : EncodeError). Err e) is)))

@@ -3,8 +3,8 @@ use Rattle.std.proofs.lemmas.List.{get_or_read}
 use Rattle.rpki_cert.specs.Rearranging.{written}
 use Rattle.rpki_cert.specs.declared.extra.Extra.{Extra}
 use Rattle.rpki_cert.proofs.Orders.{all_get}
-use Rattle.rpki_cert.proofs.RowsBuilt.{passed_on_long}
-use Rattle.rpki_cert.proofs.RowsMade.{added_starts, added_goes_on, long_at}
+use Rattle.rpki_cert.proofs.SequencesBuilt.{passed_on_long}
+use Rattle.rpki_cert.proofs.SequencesMade.{added_starts, added_goes_on, long_at}
 use Rattle.rpki_cert.proofs.row.gathered.Goals as goal
 
 pub loop-extra-init : goal.loop-extra-init

@@ -1,5 +1,5 @@
 use Rattle.std.proofs.Common.{◌+◌}
-use Rattle.rpki_cert.proofs.RowsMade.{AreAddedSoFar}
+use Rattle.rpki_cert.proofs.SequencesMade.{AreAddedSoFar}
 use Rattle.rpki_cert.proofs.row.gathered.Given as goal
 
 abbrev pub invariant-loop-extra : goal.invariant-loop-extra

@@ -1,6 +1,6 @@
 use Rattle.std.proofs.Common.{sym, ◌∙◌}
 use Rattle.rpki_der.proofs.Octets.{some_is}
-use Rattle.rpki_der.proofs.Rows.{row_again}
+use Rattle.rpki_der.proofs.Sequences.{row_again}
 use Rattle.rpki_crl.specs.RevokedEntries.{IsEntry}
 use Rattle.rpki_crl.specs.RevokedEntries.Reading.{entry_at}
 use Rattle.rpki_crl.proofs.EntryReads.{entry_reads, entry_shrinks}

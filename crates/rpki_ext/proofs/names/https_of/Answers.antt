@@ -1,6 +1,6 @@
 use Rattle.std.proofs.Common.{sym, subst}
 use Rattle.std.proofs.lemmas.Bool.{false≢true}
-use Rattle.rpki_der.specs.Place.{left}
+use Rattle.rpki_der.specs.Place.{remaining}
 use Rattle.rpki_parts.specs.Uris.{IsHttps}
 use Rattle.rpki_parts.specs.Uris.Tests.{is_https}
 use Rattle.rpki_parts.proofs.UriTests.{https_decides}
@@ -8,4 +8,4 @@ use Rattle.rpki_ext.proofs.GeneralNames.{text_is_not}
 use Rattle.rpki_ext.proofs.names.https_of.Goals as goal
 
 pub returns-in-Err-clause-ok : goal.returns-in-Err-clause-ok
-returns-in-Err-clause-ok c = sym (text_is_not is_https IsHttps https_decides (left c.args.text) (λ u. false≢true (c.in-Err.ensures.accepted.1 (subst IsHttps (sym c.in_ok-capture_rest.ensures.ok.0) u))))
+returns-in-Err-clause-ok c = sym (text_is_not is_https IsHttps https_decides (remaining c.args.text) (λ u. false≢true (c.in-Err.ensures.accepted.1 (subst IsHttps (sym c.in_ok-capture_rest.ensures.ok.0) u))))

@@ -1,4 +1,4 @@
-use Rattle.rpki_der.specs.Place.{left}
+use Rattle.rpki_der.specs.Place.{remaining}
 use Rattle.std.proofs.Common.{rules, ◌∙◌, sym, ◌≡◌, ℕ, true, false, List, Option, Some, None, refl}
 use Rattle.std.specs.Prelude.{is_some}
 use Rattle.rpki_der.proofs.Octets.{if_some}
@@ -13,7 +13,7 @@ only : (v : Option (List ℕ)) (text w : List ℕ) → rsync_of text ≡ Some w 
 only v text w e h = let g = if_some (is_rsync text) text w e in rw (g.0, h, g.1) refl
 
 pub returns : goal.returns
-returns c = only c.args.uri.now (left c.args.text) c.in-Some.read (sym c.in_ok-read.ensures.ok ∙ c.in-Some.is) (search rules)
+returns c = only c.args.uri.now (remaining c.args.text) c.in-Some.read (sym c.in_ok-read.ensures.ok ∙ c.in-Some.is) (search rules)
 
 pub returns-then-is_some : goal.returns-then-is_some
-returns-then-is_some c = second c.args.uri.now (left c.args.text) c.in-Some.read (sym c.in_ok-read.ensures.ok ∙ c.in-Some.is) (search rules)
+returns-then-is_some c = second c.args.uri.now (remaining c.args.text) c.in-Some.read (sym c.in_ok-read.ensures.ok ∙ c.in-Some.is) (search rules)

@@ -1,6 +1,6 @@
 use Rattle.std.proofs.Common.{refl, sym, ap, ◌∙◌}
 use Rattle.rpki_der.proofs.Octets.{some}
-use Rattle.rpki_der.proofs.Walking.{shorter, goes_on, ends, over_end, some_left}
+use Rattle.rpki_der.proofs.SequenceWalks.{shorter, goes_on, ends, over_end, some_left}
 use Rattle.rpki_der.specs.Primitives.Reading.{oid_at}
 use Rattle.rpki_ext.specs.RouterPurposes.{or_router}
 use Rattle.rpki_ext.proofs.ExtendedKeyUsages.{oid_shrinks}

@@ -1,27 +1,27 @@
 use Rattle.std.specs.Prelude.{is_some}
 use Rattle.std.proofs.Common.{sym, refl, ap, ◌∙◌, ◌≡◌, ℕ, List}
 use Rattle.rpki_der.specs.Folding.{over, pass}
-use Rattle.rpki_der.specs.Place.{left}
+use Rattle.rpki_der.specs.Place.{remaining}
 use Rattle.rpki_der.proofs.Octets.{some}
-use Rattle.rpki_der.proofs.Walking.{shorter, goes_on, ends, over_end, whole_row, some_left, unmapped, nothing_mapped}
+use Rattle.rpki_der.proofs.SequenceWalks.{shorter, goes_on, ends, over_end, whole_row, some_left, unmapped, nothing_mapped}
 use Rattle.rpki_parts.specs.Names.{Attribute}
 use Rattle.rpki_parts.specs.Names.Reading.{part_at}
 use Rattle.rpki_parts.proofs.NameReads.{part_shrinks, not_ok}
 use Rattle.rpki_parts.proofs.name.check_parts.Goals as goal
 
-was : (c : goal.In_ok-skip_part) → (x : List Attribute) × (part_at (left c.loop-row.row) ≡ some {A = List Attribute × List ℕ} (x, left c.skip_part.new.cursor))
-was c = unmapped (λ _. tt) part_at (left c.loop-row.row) tt (left c.skip_part.new.cursor) c.in_ok-skip_part.ensures.reads
+was : (c : goal.In_ok-skip_part) → (x : List Attribute) × (part_at (remaining c.loop-row.row) ≡ some {A = List Attribute × List ℕ} (x, remaining c.skip_part.new.cursor))
+was c = unmapped (λ _. tt) part_at (remaining c.loop-row.row) tt (remaining c.skip_part.new.cursor) c.in_ok-skip_part.ensures.reads
 
 pub loop-row-smaller : goal.loop-row-smaller
-loop-row-smaller c = shorter part_at pass part_shrinks tt (left c.loop-row.row) (was c).0 (left c.skip_part.new.cursor) (was c).1
+loop-row-smaller c = shorter part_at pass part_shrinks tt (remaining c.loop-row.row) (was c).0 (remaining c.skip_part.new.cursor) (was c).1
 
 pub loop-row-preserved : goal.loop-row-preserved
-loop-row-preserved c = sym (goes_on part_at pass part_shrinks tt (left c.loop-row.row) (was c).0 (left c.skip_part.new.cursor) (was c).1 tt refl) ∙ c.loop-row.invariant
+loop-row-preserved c = sym (goes_on part_at pass part_shrinks tt (remaining c.loop-row.row) (was c).0 (remaining c.skip_part.new.cursor) (was c).1 tt refl) ∙ c.loop-row.invariant
 
 pub returns-in_err-skip_part : goal.returns-in_err-skip_part
 returns-in_err-skip_part c =
-    let none = ends part_at pass part_shrinks tt (left c.loop-row.row) (some_left (left c.loop-row.row) c.loop-row-test.ensures.1) (nothing_mapped (λ _. tt) part_at (left c.loop-row.row) c.in_err-skip_part.ensures.reads.1) in
-    not_ok c.from_residual.result c.from_residual.ensures.0 _ (whole_row part_at (left c.args.row) ∙ ap is_some (sym c.loop-row.invariant ∙ none))
+    let none = ends part_at pass part_shrinks tt (remaining c.loop-row.row) (some_left (remaining c.loop-row.row) c.loop-row-test.ensures.1) (nothing_mapped (λ _. tt) part_at (remaining c.loop-row.row) c.in_err-skip_part.ensures.reads.1) in
+    not_ok c.from_residual.result c.from_residual.ensures.0 _ (whole_row part_at (remaining c.args.row) ∙ ap is_some (sym c.loop-row.invariant ∙ none))
 
 pub returns : goal.returns
-returns c = sym (whole_row part_at (left c.args.row) ∙ ap is_some (sym c.loop-row.invariant ∙ ap (over part_at pass tt) (c.loop-row-test.ensures.0 refl) ∙ over_end part_at pass tt))
+returns c = sym (whole_row part_at (remaining c.args.row) ∙ ap is_some (sym c.loop-row.invariant ∙ ap (over part_at pass tt) (c.loop-row-test.ensures.0 refl) ∙ over_end part_at pass tt))

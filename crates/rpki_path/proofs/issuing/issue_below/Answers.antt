@@ -6,12 +6,12 @@ use Rattle.rpki_cert.proofs.SurelyIssued.{issued_or_memory}
 use Rattle.rpki_path.proofs.issuing.issue_below.Goals as goal
 
 pub returns-clause-path : goal.returns-clause-path
-returns-clause-path g c = λ lists p tal good held.
-    if_ok c.issue_ca.result _ _ (λ r valid free. c.issued_below.ensures.path c.args.verifier.now c.args.now c.args.strict lists p tal c.args.issuer.now r Authority good held valid free) c.issue_ca.ensures.valid
+returns-clause-path g c = λ lists p tal is_valid held.
+    if_ok c.issue_ca.result _ _ (λ r valid free. c.issued_below.ensures.path c.args.verifier.now c.args.now c.args.strict lists p tal c.args.issuer.now r Authority is_valid held valid free) c.issue_ca.ensures.valid
 
 pub returns-clause-memory : goal.returns-clause-memory
 returns-clause-memory g c =
     let x = context (g.V.Verifier.verifies c.args.verifier.now) c.args.now c.args.strict in
     let tbs = c.args.tbs in
     let answers = g.S.Signer.signs c.args.signer.now c.args.key.now tbs.algorithm (encoding tbs) in
-    issued_or_memory tbs answers c.requires.written x c.args.issuer.now Authority (λ s may. (c.requires.profile s may, c.requires.checks s may)) c.requires.signs c.requires.fits c.issue_ca.result c.issue_ca.ensures.refused (c.issue_ca.ensures.readable c.requires.written)
+    issued_or_memory tbs answers c.requires.written x c.args.issuer.now Authority (λ s may. (c.requires.profile s may, c.requires.checks s may)) c.requires.signs c.requires.fits c.issue_ca.result c.issue_ca.ensures.rejected (c.issue_ca.ensures.readable c.requires.written)

@@ -1,13 +1,13 @@
 use Rattle.rpki_der.proofs.Answering.{whole_means}
 use Rattle.rpki_cert.specs.Certificates.{IsCertificate}
 use Rattle.rpki_cert.specs.Verification.{context}
-use Rattle.rpki_path.proofs.ValidPaths.{good_then, held_then, one_more}
+use Rattle.rpki_path.proofs.ValidPaths.{valid_then, held_then, one_more}
 use Rattle.rpki_path.proofs.laws.issued_below.Goals as goal
 
 pub returns-clause-path : goal.returns-clause-path
-returns-clause-path g c = λ verifier now strict lists p tal issuer r kind good held below free.
+returns-clause-path g c = λ verifier now strict lists p tal issuer r kind is_valid held below free.
     let x = context (g.V.Verifier.verifies verifier) now strict in (
-      good_then x lists p tal issuer held kind r good below free,
+      valid_then x lists p tal issuer held kind r is_valid below free,
       held_then x lists p tal issuer held kind r below.issued,
     )
 

@@ -1,4 +1,4 @@
-use Rattle.rpki_path.proofs.Refusals.{one_path}
+use Rattle.rpki_path.proofs.Rejections.{one_path}
 use Rattle.rpki_path.proofs.laws.one_path.Goals as goal
 
 pub returns : goal.returns

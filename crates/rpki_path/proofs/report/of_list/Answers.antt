@@ -1,7 +1,7 @@
 use Rattle.std.specs.Prelude.{[], ◌∷◌, cond, codes}
 use Rattle.rpki_path.specs.Program.{printed, SaysOfList}
 use Rattle.rpki_path.specs.declared.running.Status.TheVariants.{Done}
-use Rattle.rpki_path.proofs.Reports.{answered, found_says, refused_says}
+use Rattle.rpki_path.proofs.Reports.{answered, found_says, rejected_says}
 use Rattle.rpki_path.proofs.report.of_list.Goals as goal
 
 pub returns-in-Ok : goal.returns-in-Ok
@@ -12,4 +12,4 @@ returns-in-Ok c =
 
 pub returns-in-Err : goal.returns-in-Err
 returns-in-Err c =
-    refused_says c.args.question.now.list c.args.question.now.serial c.in-Err.error c.no_list.result c.in-Err.ensures c.no_list.ensures.other c.no_list.ensures.status c.no_list.ensures.text
+    rejected_says c.args.question.now.list c.args.question.now.serial c.in-Err.error c.no_list.result c.in-Err.ensures c.no_list.ensures.other c.no_list.ensures.status c.no_list.ensures.text

@@ -34,7 +34,7 @@ returns-in_err-tested-clause-fault g c =
     let e = c.in_err-tested.field-0.0 in
     let same : c.from_residual-in_err-tested.result ≡ Err (Revocation e) = search rules in
     let tests = subst (λ (d : CertFields). Tests (AskedCheck x pairs issuer.cert.fields d) revocation_checks c.ask_lists-test.result) c.as_cert.ensures c.ask_lists-test.ensures in
-    let first : IsFirstFalse (AskedCheck x pairs issuer.cert.fields member.cert) revocation_checks e = rw c.in_err-tested.ensures.refused at tests in
+    let first : IsFirstFalse (AskedCheck x pairs issuer.cert.fields member.cert) revocation_checks e = rw c.in_err-tested.ensures.rejected at tests in
     rw same (revoked_below x pairs issuer (kind_of c.args.role) c.args.octets.now c.in_ok-cert.cert member c.in_ok-cert.ensures.ok c.in_ok-member.ensures.ok e first)
 
 pub returns-clause-ok : goal.returns-clause-ok

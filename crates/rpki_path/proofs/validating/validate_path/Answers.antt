@@ -1,14 +1,14 @@
 use Rattle.std.specs.Prelude.{None}
 use Rattle.std.proofs.Common.{rc_value}
 use Rattle.rpki_cert.specs.Verification.{context}
-use Rattle.rpki_path.specs.Paths.{asked}
+use Rattle.rpki_path.specs.Paths.{candidates}
 use Rattle.rpki_path.proofs.Headlines.{headline, never_asked}
 use Rattle.rpki_path.proofs.validating.validate_path.Goals as goal
 
 pub returns-clause-validates : goal.returns-clause-validates
 returns-clause-validates g c =
-    headline (context (g.V.Verifier.verifies c.args.verifier.now) c.args.now c.args.strict) None c.unambiguous.ensures.certificate c.args.anchor.now (asked c.args.cas.now c.args.leaf) (rc_value c.args.tal) c.validate_members.result c.validate_members.ensures.ok c.validate_members.ensures.named
+    headline (context (g.V.Verifier.verifies c.args.verifier.now) c.args.now c.args.strict) None c.unambiguous.ensures.certificate c.args.anchor.now (candidates c.args.cas.now c.args.leaf) (rc_value c.args.tal) c.validate_members.result c.validate_members.ensures.ok c.validate_members.ensures.named
 
 pub returns-clause-unasked : goal.returns-clause-unasked
 returns-clause-unasked g c =
-    never_asked (context (g.V.Verifier.verifies c.args.verifier.now) c.args.now c.args.strict) c.args.anchor.now (asked c.args.cas.now c.args.leaf) c.validate_members.result c.validate_members.ensures.named
+    never_asked (context (g.V.Verifier.verifies c.args.verifier.now) c.args.now c.args.strict) c.args.anchor.now (candidates c.args.cas.now c.args.leaf) c.validate_members.result c.validate_members.ensures.named

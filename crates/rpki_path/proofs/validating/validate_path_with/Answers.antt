@@ -1,10 +1,10 @@
 use Rattle.std.specs.Prelude.{Some}
 use Rattle.std.proofs.Common.{rc_value}
 use Rattle.rpki_cert.specs.Verification.{context}
-use Rattle.rpki_path.specs.Paths.{asked}
+use Rattle.rpki_path.specs.Paths.{candidates}
 use Rattle.rpki_path.proofs.Headlines.{headline}
 use Rattle.rpki_path.proofs.validating.validate_path_with.Goals as goal
 
 pub returns-clause-validates : goal.returns-clause-validates
 returns-clause-validates g c =
-    headline (context (g.V.Verifier.verifies c.args.verifier.now) c.args.now c.args.strict) (Some c.args.store.now.pairs) c.unambiguous.ensures.certificate c.args.anchor.now (asked c.args.cas.now c.args.leaf) (rc_value c.args.tal) c.validate_members.result c.validate_members.ensures.ok c.validate_members.ensures.named
+    headline (context (g.V.Verifier.verifies c.args.verifier.now) c.args.now c.args.strict) (Some c.args.store.now.pairs) c.unambiguous.ensures.certificate c.args.anchor.now (candidates c.args.cas.now c.args.leaf) (rc_value c.args.tal) c.validate_members.result c.validate_members.ensures.ok c.validate_members.ensures.named

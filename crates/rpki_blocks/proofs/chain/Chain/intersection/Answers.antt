@@ -1,5 +1,5 @@
 use Rattle.std.proofs.Common.{rules, arith, inl, inr, ap}
-use Rattle.rpki_blocks.proofs.Walks.{IsAt, IsGrown, left_at, right_at, walk_set}
+use Rattle.rpki_blocks.proofs.ChainWalks.{IsAt, IsGrown, left_at, right_at, walk_set}
 use Rattle.rpki_blocks.proofs.chain.Chain.intersection.Goals as goal
 use Rattle.rpki_blocks.proofs.chain.Chain.intersection.Goals.{in-Some+in_ok-push-in-Some, in-None}
 

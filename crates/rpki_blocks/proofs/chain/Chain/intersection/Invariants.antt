@@ -1,5 +1,5 @@
 use Rattle.std.proofs.Common.{◌+◌, ◌-◌, length, drop}
-use Rattle.rpki_blocks.proofs.Walks.{IsWalk}
+use Rattle.rpki_blocks.proofs.ChainWalks.{IsWalk}
 use Rattle.rpki_blocks.proofs.chain.Chain.intersection.Given as goal
 
 abbrev pub invariant-walk : goal.invariant-walk

@@ -1,5 +1,5 @@
 use Rattle.std.proofs.Common.{rules, arith}
-use Rattle.rpki_blocks.proofs.Walks.{IsAt, IsDecided, past_at, held_at, none_at, at_both, decided_escapes, says_no}
+use Rattle.rpki_blocks.proofs.ChainWalks.{IsAt, IsDecided, past_at, held_at, none_at, at_both, decided_escapes, says_no}
 use Rattle.rpki_blocks.proofs.chain.Chain.is_encompassed.Goals as goal
 
 pub walk-preserved-then-is_before : goal.walk-preserved-then-is_before

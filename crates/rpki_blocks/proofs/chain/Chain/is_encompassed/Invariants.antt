@@ -1,5 +1,5 @@
 use Rattle.std.proofs.Common.{◌+◌, ◌-◌, ◌≤◌, length, drop}
-use Rattle.rpki_blocks.proofs.Walks.{IsDecided}
+use Rattle.rpki_blocks.proofs.ChainWalks.{IsDecided}
 use Rattle.rpki_blocks.proofs.chain.Chain.is_encompassed.Given as goal
 
 abbrev pub invariant-walk : goal.invariant-walk

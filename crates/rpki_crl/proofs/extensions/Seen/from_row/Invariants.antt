@@ -1,5 +1,5 @@
 use Rattle.std.proofs.Common.{◌≡◌, length}
-use Rattle.rpki_der.specs.Place.{left}
+use Rattle.rpki_der.specs.Place.{remaining}
 use Rattle.rpki_der.specs.Folding.{over}
 use Rattle.rpki_der.specs.Extensions.Reading.{extension_at}
 use Rattle.rpki_crl.specs.ListExtensions.Reading.{list_fold}
@@ -7,7 +7,7 @@ use Rattle.rpki_crl.specs.ListExtensions.Views.{sights_of}
 use Rattle.rpki_crl.proofs.extensions.Seen.from_row.Given as goal
 
 abbrev pub invariant-loop-rest : goal.invariant-loop-rest
-invariant-loop-rest l = over extension_at list_fold.step (sights_of l.seen) (left l.rest) ≡ over extension_at list_fold.step list_fold.start (left l.row)
+invariant-loop-rest l = over extension_at list_fold.step (sights_of l.seen) (remaining l.rest) ≡ over extension_at list_fold.step list_fold.start (remaining l.row)
 
 abbrev pub decreases-loop-rest : goal.decreases-loop-rest
-decreases-loop-rest l = length (left l.rest)
+decreases-loop-rest l = length (remaining l.rest)

@@ -1,4 +1,4 @@
-use Rattle.rpki_crl.proofs.EntryRows.{kept_entries}
+use Rattle.rpki_crl.proofs.EntrySequences.{kept_entries}
 use Rattle.rpki_crl.proofs.revoked.RevokedCertificates.iter.Goals as goal
 
 pub returns-clause-entries : goal.returns-clause-entries

@@ -1,8 +1,8 @@
 use Rattle.std.proofs.Common.{◌≡◌, [], refl, ◌∙◌}
 use Rattle.rpki_der.specs.Folding.{pass}
-use Rattle.rpki_der.proofs.Walking.{over_end}
+use Rattle.rpki_der.proofs.SequenceWalks.{over_end}
 use Rattle.rpki_crl.specs.RevokedEntries.Reading.{entry_at, entries_pass}
-use Rattle.rpki_crl.proofs.EntryRows.{all_read}
+use Rattle.rpki_crl.proofs.EntrySequences.{all_read}
 use Rattle.rpki_crl.proofs.revoked.RevokedCertificates.none.Goals as goal
 
 pub invariant_of-result : goal.invariant_of-result

@@ -1,7 +1,7 @@
 use Rattle.std.proofs.Common.{rules, ◌≡◌, Err}
 use Rattle.std.proofs.lemmas.Bool.{false≢true}
-use Rattle.rpki_der.specs.Place.{left}
-use Rattle.rpki_der.proofs.Answering.{all_refused, none_encoded}
+use Rattle.rpki_der.specs.Place.{remaining}
+use Rattle.rpki_der.proofs.Answering.{all_rejected, none_encoded}
 use Rattle.rpki_parts.specs.Keys.{IsPublicKey}
 use Rattle.rpki_parts.specs.Keys.Reading.{public_key_at}
 use Rattle.rpki_parts.proofs.KeyReads.{public_key_reads}
@@ -10,9 +10,9 @@ use Rattle.rpki_parts.proofs.key.PublicKey.from_bytes.Goals as goal
 pub returns-in_err-key : goal.returns-in_err-key
 returns-in_err-key c =
     let same : c.from_residual.result ≡ Err c.in_err-key.field-0.0 = search rules in
-    all_refused (λ x. x) IsPublicKey _ _ (left c.new-cursor.result) c.args.octets c.new-cursor.ensures.all same c.in_err-key.ensures.answers
+    all_rejected (λ x. x) IsPublicKey _ _ (remaining c.new-cursor.result) c.args.octets c.new-cursor.ensures.all same c.in_err-key.ensures.answers
 
 pub returns-then-not-is_empty : goal.returns-then-not-is_empty
 returns-then-not-is_empty c = λ y encoded.
-    none_encoded public_key_at IsPublicKey public_key_reads c.in_ok-key.key y (left c.new-cursor.result) c.args.octets (left c.take_from.new.cursor) c.new-cursor.ensures.all
+    none_encoded public_key_at IsPublicKey public_key_reads c.in_ok-key.key y (remaining c.new-cursor.result) c.args.octets (remaining c.take_from.new.cursor) c.new-cursor.ensures.all
     (λ nil. false≢true (c.if-not-is_empty.ensures.1 nil)) c.in_ok-key.ensures.answers encoded

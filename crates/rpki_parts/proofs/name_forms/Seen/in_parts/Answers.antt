@@ -1,5 +1,5 @@
 use Rattle.std.proofs.Common.{rules, ◌≡◌, None, refl, sym, ◌∙◌}
-use Rattle.rpki_der.proofs.Walking.{shorter, goes_on, refused, ends, over_end, some_left}
+use Rattle.rpki_der.proofs.SequenceWalks.{shorter, goes_on, rejected, ends, over_end, some_left}
 use Rattle.rpki_der.specs.Tags.{SET}
 use Rattle.rpki_der.specs.Values.Reading.{value_at}
 use Rattle.rpki_parts.specs.NameForms.Reading.{seen_in}
@@ -18,7 +18,7 @@ returns-in-Err c = sym (sym c.loop-rest.invariant ∙ ends (value_at SET) (seen_
 pub returns-in_err-seen : goal.returns-in_err-seen
 returns-in_err-seen c =
     let none : c.from_residual.result ≡ None = search rules in
-    none ∙ sym (sym c.loop-rest.invariant ∙ refused (value_at SET) (seen_in c.args.strict) set_shrinks c.loop-rest.seen _ _ _ c.in-Ok.ensures.reads (sym c.with_part.ensures ∙ c.in_err-seen.was))
+    none ∙ sym (sym c.loop-rest.invariant ∙ rejected (value_at SET) (seen_in c.args.strict) set_shrinks c.loop-rest.seen _ _ _ c.in-Ok.ensures.reads (sym c.with_part.ensures ∙ c.in_err-seen.was))
 
 pub returns : goal.returns
 returns c = let nil = c.loop-rest-test.ensures.0 refl in sym (sym c.loop-rest.invariant ∙ rw nil (over_end (value_at SET) (seen_in c.args.strict) c.loop-rest.seen))

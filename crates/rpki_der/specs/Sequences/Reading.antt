@@ -1,4 +1,4 @@
--- The reading function of a row.
+-- The reading function of a sequence.
 use Rattle.std.specs.Prelude.{ℕ, suc, zero, List, [], ◌∷◌, Option, Some, None, length, ◌≡◌, ◌<◌}
 use Rattle.rpki_der.specs.Values.Reading.{◌>>=◌}
 
@@ -11,7 +11,7 @@ row_at read (suc n) (b ∷ bytes) = do
   vs ← row_at read n v.1
   Some (v.0 ∷ vs)
 
--- the row that the octets are
+-- the sequence that the octets are
 unfoldable pub row_of : {V : Type 0} → (List ℕ → Option (V × List ℕ)) → List ℕ → Option (List V)
 row_of read octets = row_at read (length octets) octets
 

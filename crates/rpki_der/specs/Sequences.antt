@@ -4,9 +4,9 @@ use Rattle.std.specs.Prelude.{◌≡◌, ℕ, List, [], ◌∷◌, ◌++◌, Opt
 pub mod Reading
 
 -- the text is the encodings of these values, one after the other
-abbrev pub IsRow : {V : Type 0} → (V → List ℕ → Type 0) → List V → List ℕ → Type 0
-IsRow encodes [] text = text ≡ []
-IsRow encodes (v ∷ vs) text = (a : List ℕ) × (b : List ℕ) × encodes v a × IsRow encodes vs b × (text ≡ a ++ b)
+abbrev pub AreEncodings : {V : Type 0} → (V → List ℕ → Type 0) → List V → List ℕ → Type 0
+AreEncodings encodes [] text = text ≡ []
+AreEncodings encodes (v ∷ vs) text = (a : List ℕ) × (b : List ℕ) × encodes v a × AreEncodings encodes vs b × (text ≡ a ++ b)
 
 -- ---- one of the values
 

@@ -5,7 +5,7 @@ ghost use Rattle.std.specs.Prelude.{◌≡◌, Ok, Err, IfOk, IfErr};
 #[inline(always)]
 pub fn beside<T: Drop, S, E>(value: T, step: Result<S, E>) -> Result<(T, S), E>
     ensures ok { IfOk result (λ r. (r.0 ≡ value) × (step ≡ Ok r.1)) }
-    ensures refused { IfErr result (λ e. step ≡ Err e) }
+    ensures rejected { IfErr result (λ e. step ≡ Err e) }
 {
     match step {
         Ok(given) => Ok((value, given)),

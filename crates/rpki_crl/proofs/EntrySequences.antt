@@ -1,13 +1,13 @@
--- A row of entries, gone over one entry at a time.
+-- A sequence of entries, gone over one entry at a time.
 use Rattle.std.specs.Prelude.{nat_eq, not, map}
 use Rattle.std.proofs.Common.{◌≡◌, ℕ, zero, suc, ◌<◌, Bool, List, [], ◌∷◌, length, get_or, Option, Some, None, refl, sym, ap, subst, ◌∙◌, inl, inr, arith}
 use Rattle.std.proofs.lemmas.Bool.{cases_Bool, eqb-true, eqb-false, eq-eqb, ne_eqb}
 use Rattle.rpki_der.specs.Folding.{each, over, pass, steps}
-use Rattle.rpki_der.specs.Rows.Reading.{row_of}
+use Rattle.rpki_der.specs.Sequences.Reading.{row_of}
 use Rattle.rpki_der.specs.Values.{AreOctets}
 use Rattle.rpki_der.proofs.Octets.{bind_some, nothing, some}
-use Rattle.rpki_der.proofs.Rows.{row_is, row_steps}
-use Rattle.rpki_der.proofs.Walking.{passed, ends, goes_on}
+use Rattle.rpki_der.proofs.Sequences.{row_is, row_steps}
+use Rattle.rpki_der.proofs.SequenceWalks.{passed, ends, goes_on}
 use Rattle.rpki_crl.specs.RevokedEntries.{Entry, Revoked, IsEntry, AreEntries, IsRevoked}
 use Rattle.rpki_crl.specs.RevokedEntries.Reading.{entry_at, or_none, entries_in, entries_pass}
 use Rattle.rpki_crl.specs.SerialTables.{looks}

@@ -1,10 +1,10 @@
--- A row is its first value and a row.
+-- A sequence is its first value and a sequence.
 use Rattle.std.proofs.Common.{◌≡◌, ℕ, zero, suc, ◌<◌, ◌≤◌, List, [], ◌∷◌, length, Option, Some, None, refl, ap, subst, ◌∙◌, arith}
 use Rattle.rpki_der.specs.Reading.{ended, inside, Reads}
 use Rattle.rpki_der.specs.Values.Reading.{value_at, ◌>>=◌}
 use Rattle.rpki_der.specs.Values.{AreOctets}
-use Rattle.rpki_der.specs.Rows.{IsRow}
-use Rattle.rpki_der.specs.Rows.Reading.{row_at, row_of, Shrinks}
+use Rattle.rpki_der.specs.Sequences.{AreEncodings}
+use Rattle.rpki_der.specs.Sequences.Reading.{row_at, row_of, Shrinks}
 use Rattle.rpki_der.proofs.Octets.{AreOctets-after, bind_some, some, some_is, nothing}
 use Rattle.rpki_der.proofs.ValueReads.{value_shorter}
 
@@ -22,7 +22,7 @@ enough read less (suc n) (suc m) (b ∷ bytes) p q =
     same_after (read (b ∷ bytes)) (row_at read n) (row_at read m)
     (λ x e. let s : length x.1 < length (b ∷ bytes) = less (b ∷ bytes) x.0 x.1 e in enough read less n m x.1 (omega arith) (omega arith))
 
--- one value, and the row after it
+-- one value, and the sequence after it
 pub row_steps : {X : Type 0} (read : List ℕ → Option (X × List ℕ)) → Shrinks read → (bytes : List ℕ) → 0 < length bytes → row_of read bytes ≡ (read bytes >>= λ x. row_of read x.1 >>= λ xs. Some (x.0 ∷ xs))
 unfolding row_of
 row_steps read less [] p = absurd (omega arith)
@@ -30,23 +30,23 @@ row_steps read less (b ∷ bytes) p =
     same_after (read (b ∷ bytes)) (row_at read (length bytes)) (λ rest. row_at read (length rest) rest)
     (λ x e. let s : length x.1 < length (b ∷ bytes) = less (b ∷ bytes) x.0 x.1 e in enough read less (length bytes) (length x.1) x.1 (omega arith) (omega arith))
 
-row_takes : {X : Type 0} (read : List ℕ → Option (X × List ℕ)) (S : X → List ℕ → Type 0) → Reads read S → (n : ℕ) (bytes : List ℕ) (xs : List X) → AreOctets bytes → row_at read n bytes ≡ some xs → IsRow S xs bytes
-row_takes {X} read S law n [] xs fits e = subst (λ (ys : List X). IsRow S ys []) (some_is [] xs e) refl
+row_takes : {X : Type 0} (read : List ℕ → Option (X × List ℕ)) (S : X → List ℕ → Type 0) → Reads read S → (n : ℕ) (bytes : List ℕ) (xs : List X) → AreOctets bytes → row_at read n bytes ≡ some xs → AreEncodings S xs bytes
+row_takes {X} read S law n [] xs fits e = subst (λ (ys : List X). AreEncodings S ys []) (some_is [] xs e) refl
 row_takes read S law zero (b ∷ bytes) xs fits e = nothing xs e
 row_takes {X} read S law (suc n) (b ∷ bytes) xs fits e =
     let a = bind_some (read (b ∷ bytes)) (λ x. row_at read n x.1 >>= λ ys. Some (x.0 ∷ ys)) xs e in
     let c = bind_some (row_at read n a.0.1) (λ ys. Some (a.0.0 ∷ ys)) xs a.2 in
     let one = law.takes (b ∷ bytes) a.0.0 a.0.1 fits a.1 in
     let two = row_takes read S law n a.0.1 c.0 (AreOctets-after (b ∷ bytes) one.text a.0.1 one.parts fits) c.1 in
-    subst (λ (ys : List X). IsRow S ys (b ∷ bytes)) (some_is (a.0.0 ∷ c.0) xs c.2) (one.text, a.0.1, one.encoded, two, one.parts)
+    subst (λ (ys : List X). AreEncodings S ys (b ∷ bytes)) (some_is (a.0.0 ∷ c.0) xs c.2) (one.text, a.0.1, one.encoded, two, one.parts)
 
--- octets that read as a row are the row of these values
-pub row_is : {X : Type 0} (read : List ℕ → Option (X × List ℕ)) (S : X → List ℕ → Type 0) → Reads read S → (bytes : List ℕ) (xs : List X) → AreOctets bytes → row_of read bytes ≡ some xs → IsRow S xs bytes
+-- octets that read as a sequence are the sequence of these values
+pub row_is : {X : Type 0} (read : List ℕ → Option (X × List ℕ)) (S : X → List ℕ → Type 0) → Reads read S → (bytes : List ℕ) (xs : List X) → AreOctets bytes → row_of read bytes ≡ some xs → AreEncodings S xs bytes
 unfolding row_of
 row_is read S law bytes xs fits e = row_takes read S law (length bytes) bytes xs fits e
 
--- and a row of values is read so
-pub row_again : {X : Type 0} (read : List ℕ → Option (X × List ℕ)) (S : X → List ℕ → Type 0) → Reads read S → Shrinks read → (xs : List X) (bytes : List ℕ) → IsRow S xs bytes → row_of read bytes ≡ some xs
+-- and a sequence of values is read so
+pub row_again : {X : Type 0} (read : List ℕ → Option (X × List ℕ)) (S : X → List ℕ → Type 0) → Reads read S → Shrinks read → (xs : List X) (bytes : List ℕ) → AreEncodings S xs bytes → row_of read bytes ≡ some xs
 unfolding row_of
 row_again read S law less [] bytes s = rw s refl
 row_again {X} read S law less (x ∷ xs) bytes s =

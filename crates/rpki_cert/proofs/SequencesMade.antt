@@ -1,4 +1,4 @@
--- The row of extensions that is made, step by step.
+-- The sequence of extensions that is made, step by step.
 use Rattle.std.specs.List.{AllByRecursion, IsDistinct, concat, filter, sum_by}
 use Rattle.std.specs.Prelude.{nat_eq}
 use Rattle.std.proofs.Common.{◌≡◌, ◌≢◌, ◌⊎◌, ℕ, zero, suc, ◌+◌, ◌^◌, ◌<◌, ◌≤◌, Bool, true, false, cond, List, [], ◌∷◌, ◌++◌, length, map, get_or, take, drop, set, replicate, add-one, drop-cons, refl, sym, ap, subst, ◌∙◌, arith, inl, inr, append_assoc}
@@ -88,9 +88,9 @@ long_at [] i x inside is long = absurd (omega arith)
 long_at (y ∷ extras) zero x inside is long = inl (rw (← is) long)
 long_at (y ∷ extras) (suc i) x inside is long = inr (long_at extras i x (omega arith) is long)
 
--- ---- the row
+-- ---- the sequence
 
--- the row goes on with what is added at a place, and the extension that the order names there
+-- the sequence goes on with what is added at a place, and the extension that the order names there
 pub joined_goes_on : (order : List ℕ) (places old : List (List ℕ)) (i : ℕ) (row total : List ℕ) → i < length order → length places ≡ length order + 1
     → row ++ joined (drop i order) (drop i places) old ≡ total
     → ((row ++ get_or places i []) ++ get_or old (get_or order i 0) []) ++ joined (drop (i + 1) order) (drop (i + 1) places) old ≡ total
@@ -101,7 +101,7 @@ joined_goes_on order places old i row total inside many h =
     let rest = joined (drop (suc i) order) (drop (suc i) places) old in
     rw (add-one i) (append_assoc (row ++ get_or places i []) (get_or old (get_or order i 0) []) rest ∙ append_assoc row (get_or places i []) (get_or old (get_or order i 0) [] ++ rest) ∙ ap (λ (s : List ℕ). row ++ s) (sym step) ∙ h)
 
--- the row ends with what is added behind the last extension
+-- the sequence ends with what is added behind the last extension
 pub joined_ends : (order : List ℕ) (places old : List (List ℕ)) (i : ℕ) (row total : List ℕ) → i ≡ length order → length places ≡ length order + 1
     → row ++ joined (drop i order) (drop i places) old ≡ total → row ++ get_or places i [] ≡ total
 joined_ends order places old i row total end many h =
@@ -116,7 +116,7 @@ joined_ends order places old i row total end many h =
     drop_end (x ∷ xs) zero h = absurd (omega arith)
     drop_end (x ∷ xs) (suc n) h = drop_end xs n (omega arith)
 
--- what is joined are the octets of the row
+-- what is joined are the octets of the sequence
 pub joined_is : (order : List ℕ) (places old : List (List ℕ)) (extras : List Extra) (place : ℕ) → length places ≡ length order + 1
     → ((i : ℕ) → i < length places → get_or places i [] ≡ concat (added_at (place + i) extras)) → joined order places old ≡ concat (row_from place order extras old)
 joined_is order [] old extras place many have = absurd (omega (arith, many))
@@ -129,7 +129,7 @@ joined_is (named ∷ order) (added ∷ places) old extras place many have =
     ∙ ap (λ (s : List ℕ). concat (added_at place extras) ++ (get_or old named [] ++ s)) rest
     ∙ sym (concat-append (added_at place extras) (get_or old named [] ∷ row_from (place + 1) order extras old))
 
--- ---- what holds of all of the row
+-- ---- what holds of all of the sequence
 
 all_parts : {X : Type 0} (P : X → Type 0) (xs ys : List X) → AllByRecursion P (xs ++ ys) → AllByRecursion P xs × AllByRecursion P ys
 all_parts P [] ys h = (tt, h)
@@ -173,7 +173,7 @@ all_from P place (named ∷ order) extras old h =
           b (omega (arith, low, apart)) (omega (arith, high))
     ]) extras here later
 
--- each that is added is in the row
+-- each that is added is in the sequence
 pub all_added : (P : List ℕ → Type 0) (order : List ℕ) (extras : List Extra) (old : List (List ℕ)) → ArePlaced (length order) extras → AllByRecursion P (row_from 0 order extras old) → AllByRecursion (λ x. P (written x)) extras
 all_added P order extras old placed h =
     let A : Extra → Type 0 = λ x. 0 ≤ x.at → x.at ≤ 0 + length order → P (written x) in
@@ -193,12 +193,12 @@ some_long [] n h a = absurd h
 some_long (x ∷ extras) n (inl h) a = omega (arith, h, a.0)
 some_long (x ∷ extras) n (inr h) a = some_long extras n h a.1
 
--- where one alone is too long, so is the row
+-- where one alone is too long, so is the sequence
 pub long_row : (order : List ℕ) (extras : List Extra) (old : List (List ℕ)) → ArePlaced (length order) extras → HasLong extras → 2 ^ 32 ≤ length (concat (row_from 0 order extras old))
 long_row order extras old placed h =
     some_long extras (length (concat (row_from 0 order extras old))) h (all_added (λ p. length p ≤ length (concat (row_from 0 order extras old))) order extras old placed (piece_longer (row_from 0 order extras old)))
 
--- ---- how often a piece stands in the row
+-- ---- how often a piece stands in the sequence
 
 added_sums : (f : List ℕ → ℕ) (P : Type 0) (place : ℕ) (extras : List Extra) → AllByRecursion (λ x. (f (written x) ≡ 0) ⊎ P) extras → (sum_by f (added_at place extras) ≡ 0) ⊎ P
 added_sums f P place [] h = inl refl

@@ -1,4 +1,4 @@
--- The certificate with the new row is a rearrangement of the one that was read.
+-- The certificate with the new sequence is a rearrangement of the one that was read.
 use Rattle.std.specs.List.{AllByRecursion, concat, sum_by}
 use Rattle.std.specs.Prelude.{bytes_eq, IsErrAnd, IsErrOf}
 use Rattle.std.proofs.Common.{◌≡◌, ◌⊎◌, ℕ, ◌+◌, ◌^◌, ◌%◌, ◌<◌, ◌≤◌, true, false, cond, List, [], ◌∷◌, ◌++◌, length, get_or, Result, Ok, Err, refl, sym, ap, subst, ◌∙◌, arith, inl, inr}
@@ -15,12 +15,12 @@ use Rattle.rpki_der.proofs.ExtensionWritten.{extension_made}
 use Rattle.rpki_der.proofs.Octets.{AreOctets-parts}
 use Rattle.rpki_der.proofs.ValueWritten.{Short, content_short, enc_longer, made, nested_made, nested_short, pieces_short}
 use Rattle.rpki_cert.specs.Rearranged.{IsBuiltOf, IsPassedOver, IsRearrangement, IsSomeExtension, times}
-use Rattle.rpki_cert.specs.Rearranging.{ArePlaced, AreUnknown, BeginsWith, IsPlan, IsRearranged, IsRefused, Parts, added_at, content_with, is_known, new_row, tbs_content_with, written}
+use Rattle.rpki_cert.specs.Rearranging.{ArePlaced, AreUnknown, BeginsWith, IsPlan, IsRearranged, IsRejected, Parts, added_at, content_with, is_known, new_row, tbs_content_with, written}
 use Rattle.rpki_cert.specs.Rearranging.Steps.{HaveAdded, HasLong, joined}
 use Rattle.rpki_cert.specs.RearrangeErrors.{of_writing}
 use Rattle.rpki_cert.specs.declared.extra.Extra.{Extra}
 use Rattle.rpki_cert.proofs.Orders.{order_sums, sum_of_places}
-use Rattle.rpki_cert.proofs.RowsMade.{all_added, joined_is, long_row, row_sums}
+use Rattle.rpki_cert.proofs.SequencesMade.{all_added, joined_is, long_row, row_sums}
 
 -- ---- errors that are passed on
 
@@ -31,9 +31,9 @@ passed_on_long {T} {U} P (Err d) e same says = λ long.
     let is : IsErrOf {T = U} {E = EncodeError} (Err e) TooLong = cc in
     says is
 
--- ---- the octets of the row
+-- ---- the octets of the sequence
 
--- the row that is put together is the new row of the plan
+-- the sequence that is put together is the new sequence of the plan
 pub row_made : (order : List ℕ) (places old : List (List ℕ)) (extras : List Extra) → IsPlan (length old) order extras → length places ≡ length old + 1 → HaveAdded (length old + 1) extras places → joined order places old ≡ concat (new_row order extras old)
 row_made order places old extras plan many have =
     joined_is order places old extras 0 (omega (arith, many, plan.order_is.as_many)) (λ i below. have i (omega (arith, below, many)) ∙ ap (λ (k : ℕ). concat (added_at k extras)) (omega arith))
@@ -41,11 +41,11 @@ row_made order places old extras plan many have =
 placed_in : (order : List ℕ) (count : ℕ) (extras : List Extra) → IsPlan count order extras → ArePlaced (length order) extras
 placed_in order count extras plan = subst (λ (n : ℕ). ArePlaced n extras) (sym plan.order_is.as_many) plan.extras_are
 
--- a new row with an added extension that is too long is too long
+-- a new sequence with an added extension that is too long is too long
 pub row_too_long : (order : List ℕ) (old : List (List ℕ)) (extras : List Extra) → IsPlan (length old) order extras → HasLong extras → 2 ^ 32 ≤ length (concat (new_row order extras old))
 row_too_long order old extras plan h = long_row order extras old (placed_in order (length old) extras plan) h
 
--- the row stands inside
+-- the sequence stands inside
 pub row_longer : (row : List ℕ) (p : Parts) → length row ≤ length (content_with row p)
 row_longer row p =
     omega (arith, length-append (enc SEQUENCE (tbs_content_with row p)) p.behind, enc_longer SEQUENCE (tbs_content_with row p), length-append (concat p.before) (enc (CONTEXT_CONSTRUCTED 3) (enc SEQUENCE row)), enc_longer (CONTEXT_CONSTRUCTED 3) (enc SEQUENCE row), enc_longer SEQUENCE row)
@@ -72,7 +72,7 @@ module _ (p : Parts) (row : List (List ℕ)) (answer : List ℕ) (is : answer �
       let extensions = nested (CONTEXT_CONSTRUCTED 3 ∷ SEQUENCE ∷ []) (concat row) in
       (omega (arith, content.0, length-append (concat p.before) extensions), (AreOctets-parts (concat p.before) extensions content.1).1)
 
-  -- each piece of the new row is short
+  -- each piece of the new sequence is short
   pub row_fits : AllByRecursion Short row
   row_fits = pieces_short row (nested_short (CONTEXT_CONSTRUCTED 3 ∷ SEQUENCE ∷ []) (concat row) extensions_fit)
 
@@ -150,6 +150,6 @@ module _ (octets : List ℕ) (order : List ℕ) (extras : List Extra) (p : Parts
     )
 
   -- why it could not be written is why nothing is rearranged
-  pub refused_by_writing : (e : EncodeError) → (e ≡ TooLong → 2 ^ 32 ≤ length (content_with (concat (new_row order extras p.old)) p)) → IsRefused octets order extras (of_writing e)
-  refused_by_writing TooLong long = (p, begins, plan, unknown, long refl)
-  refused_by_writing Memory long = tt
+  pub rejected_by_writing : (e : EncodeError) → (e ≡ TooLong → 2 ^ 32 ≤ length (content_with (concat (new_row order extras p.old)) p)) → IsRejected octets order extras (of_writing e)
+  rejected_by_writing TooLong long = (p, begins, plan, unknown, long refl)
+  rejected_by_writing Memory long = tt

@@ -19,7 +19,7 @@ use Rattle.rpki_der.proofs.Formats.{one_meant}
 use Rattle.rpki_path.specs.declared.path_fault.PathFault.{PathFault}
 use Rattle.rpki_path.specs.declared.path_fault.PathFault.TheVariants.{Decode, Inspect, Verify, Revocation, Memory}
 use Rattle.rpki_path.specs.declared.path_fault.PathError.{PathError}
-use Rattle.rpki_path.specs.Paths.{Member, Path, last, certificate_at, CheckBelow, AskedCheck, AskedBelow, IsUnrevokedIfAsked, IsValidPath, Asked, ask, IsMember, IsPathOf, IsAccepted, IsNoValidPath, UnlessMemory, Demand, anchor_demand, demand_below, Finds, IsFaultOfAnchor, IsFaultBelow, IsFault, IsUnasked}
+use Rattle.rpki_path.specs.Paths.{Member, Path, last, certificate_at, CheckBelow, AskedCheck, AskedBelow, IsUnrevokedIfAsked, IsValidPath, Candidate, candidate, IsMember, IsPathOf, IsAccepted, IsNoValidPath, UnlessMemory, Demand, trust_anchor_demand, demand_below, Finds, IsFaultOfTrustAnchor, IsFaultBelow, IsFault, IsUnasked}
 use Rattle.rpki_path.specs.Paths.Steps.{demand_under}
 use Rattle.rpki_path.proofs.LongerPaths.{extended, above, there, Parted, parted, zip_one, all_at}
 use Rattle.rpki_path.proofs.ValidPaths.{unasked_checks, unrevoked_asked, check_last, check_above}
@@ -30,7 +30,7 @@ module _ (law : IsUnambiguous IsCertificate) where
   one_certificate : (c d : CertFields) (octets : List ℕ) → Means IsCertificate c octets → Means IsCertificate d octets → c ≡ d
   one_certificate c d octets m n = one_meant IsCertificate law c d octets m n
 
-  one_member : (m n : Member) (s : Asked) → IsMember m s → IsMember n s → m ≡ n
+  one_member : (m n : Member) (s : Candidate) → IsMember m s → IsMember n s → m ≡ n
   one_member m n s p q =
       let kinds : m.kind ≡ n.kind = p.kind_is ∙ sym q.kind_is in
       let certs : m.cert ≡ n.cert = one_certificate m.cert n.cert s.octets p.begins q.begins in
@@ -39,7 +39,7 @@ module _ (law : IsUnambiguous IsCertificate) where
       first ∙ second
 
   -- strings begin with the members of one path at most
-  pub one_path : (anchor : List ℕ) (below : List Asked) (p q : Path) → IsPathOf anchor below p → IsPathOf anchor below q → p ≡ q
+  pub one_path : (anchor : List ℕ) (below : List Candidate) (p q : Path) → IsPathOf anchor below p → IsPathOf anchor below q → p ≡ q
   one_path anchor below p q of other =
       let anchors : p.anchor ≡ q.anchor = one_certificate p.anchor q.anchor anchor of.anchor_begins other.anchor_begins in
       let belows : p.below ≡ q.below = zip_one IsMember one_member p.below q.below below of.members other.members in
@@ -74,42 +74,42 @@ module _ (x : Context) where
   unasked_demand d all octets Memory h = tt
 
   -- without revocation lists no fault is one of revocation
-  pub unasked : (anchor : List ℕ) (below : List Asked) (e : PathError) → IsFault x None anchor below e → IsUnasked e.fault
-  unasked anchor below e (inl h) = unasked_demand (anchor_demand x) (λ c. unasked_checks revocation_checks) anchor e.fault h.fault_is
+  pub unasked : (anchor : List ℕ) (below : List Candidate) (e : PathError) → IsFault x None anchor below e → IsUnasked e.fault
+  unasked anchor below e (inl h) = unasked_demand (trust_anchor_demand x) (λ c. unasked_checks revocation_checks) anchor e.fault h.fault_is
   unasked anchor below e (inr h) = unasked_demand (demand_below x None h.path (last h.path) h.there.kind) (λ c. unasked_checks revocation_checks) h.there.octets e.fault h.fault_is
 
 module _ (x : Context) (lists : Option (List Stored)) where
   -- ---- errors
 
   -- an error of the string below an accepted path
-  pub fault_there : (anchor : List ℕ) (before : List Asked) (kind : Kind) (octets : List ℕ) (after : List Asked) (tal : List ℕ) (issuer : ResourceFields) → IsAccepted x lists anchor before tal issuer → (e : PathError) → e.index ≡ length before + 1 → Finds x (demand_under x lists issuer kind) octets e.fault → IsFault x lists anchor (before ++ ask kind octets ∷ after) e
+  pub fault_there : (anchor : List ℕ) (before : List Candidate) (kind : Kind) (octets : List ℕ) (after : List Candidate) (tal : List ℕ) (issuer : ResourceFields) → IsAccepted x lists anchor before tal issuer → (e : PathError) → e.index ≡ length before + 1 → Finds x (demand_under x lists issuer kind) octets e.fault → IsFault x lists anchor (before ++ candidate kind octets ∷ after) e
   fault_there anchor before kind octets after tal issuer a e at found =
       let p = a.path in
       let asked_same : (c : CertFields) (l : RevocationError) → AskedCheck x lists issuer.cert.fields c l ↔ AskedBelow x lists p (last p) c l =
       λ c l. subst (λ (d : CertFields). AskedCheck x lists issuer.cert.fields c l ↔ AskedCheck x lists d.fields c l) a.held.cert_is ((λ h. h), (λ h. h)) in
       inr (record {
         before = before;
-        there = ask kind octets;
+        there = candidate kind octets;
         after = after;
         parts = refl;
         path = p;
         path_of = a.path_of;
-        good = a.good;
+        is_valid = a.is_valid;
         index_is = at;
         fault_is = finds_map x kind (CheckUnder x issuer) (CheckBelow x p (last p)) issued_checks (AskedCheck x lists issuer.cert.fields) (AskedBelow x lists p (last p)) octets e.fault (check_last x p tal issuer a.held) asked_same found;
       })
 
   -- it is one of more strings
-  pub fault_of_more : (anchor : List ℕ) (below more : List Asked) (e : PathError) → IsFault x lists anchor below e → IsFault x lists anchor (below ++ more) e
+  pub fault_of_more : (anchor : List ℕ) (below more : List Candidate) (e : PathError) → IsFault x lists anchor below e → IsFault x lists anchor (below ++ more) e
   fault_of_more anchor below more e (inl h) = inl h
   fault_of_more anchor below more e (inr h) = inr (record {
     before = h.before;
     there = h.there;
     after = h.after ++ more;
-    parts = ap (λ (l : List Asked). l ++ more) h.parts ∙ append_assoc h.before (h.there ∷ h.after) more;
+    parts = ap (λ (l : List Candidate). l ++ more) h.parts ∙ append_assoc h.before (h.there ∷ h.after) more;
     path = h.path;
     path_of = h.path_of;
-    good = h.good;
+    is_valid = h.is_valid;
     index_is = h.index_is;
     fault_is = h.fault_is;
   })
@@ -132,19 +132,19 @@ module _ (x : Context) (lists : Option (List Stored)) where
     found_against d octets Memory h c m meets all free = tt
 
     -- a refusal that holds of each path
-    for_each : (e : PathFault) (anchor : List ℕ) (below : List Asked) → ((p : Path) → IsPathOf anchor below p → IsValidPath x lists p → UnlessMemory e ⊥) → UnlessMemory e (IsNoValidPath x lists anchor below)
+    for_each : (e : PathFault) (anchor : List ℕ) (below : List Candidate) → ((p : Path) → IsPathOf anchor below p → IsValidPath x lists p → UnlessMemory e ⊥) → UnlessMemory e (IsNoValidPath x lists anchor below)
     for_each (Decode e) anchor below h = h
     for_each (Inspect e) anchor below h = h
     for_each (Verify e) anchor below h = h
     for_each (Revocation e) anchor below h = h
     for_each Memory anchor below h = tt
 
-    no_anchor : (anchor : List ℕ) (below : List Asked) (e : PathError) → IsFaultOfAnchor x anchor e → (p : Path) → IsPathOf anchor below p → IsValidPath x lists p → UnlessMemory e.fault ⊥
-    no_anchor anchor below e h p of good = found_against (anchor_demand x) anchor e.fault h.fault_is p.anchor of.anchor_begins good.anchor_meets good.anchor_verified (unasked_checks revocation_checks)
+    no_anchor : (anchor : List ℕ) (below : List Candidate) (e : PathError) → IsFaultOfTrustAnchor x anchor e → (p : Path) → IsPathOf anchor below p → IsValidPath x lists p → UnlessMemory e.fault ⊥
+    no_anchor anchor below e h p of is_valid = found_against (trust_anchor_demand x) anchor e.fault h.fault_is p.anchor of.anchor_begins is_valid.anchor_meets is_valid.anchor_verified (unasked_checks revocation_checks)
 
-    module _ (anchor : List ℕ) (below : List Asked) (e : PathError) (h : IsFaultBelow x lists anchor below e) (p : Path) (of : IsPathOf anchor below p) where
+    module _ (anchor : List ℕ) (below : List Candidate) (e : PathError) (h : IsFaultBelow x lists anchor below e) (p : Path) (of : IsPathOf anchor below p) where
       split : Parted IsMember p.below h.before h.there
-      split = parted IsMember p.below h.before h.there h.after (subst (λ (l : List Asked). AllZip IsMember p.below l) h.parts of.members)
+      split = parted IsMember p.below h.before h.there h.after (subst (λ (l : List Candidate). AllZip IsMember p.below l) h.parts of.members)
 
       -- the path goes on from the one before the error
       goes_on : p ≡ extended h.path split.item split.more
@@ -156,11 +156,11 @@ module _ (x : Context) (lists : Option (List Stored)) where
           first ∙ ap (λ (l : List Member). let y : Path = record { anchor = h.path.anchor; below = l } in y) belows
 
       no_member : IsValidPath x lists p → UnlessMemory e.fault ⊥
-      no_member good =
+      no_member is_valid =
           let q = h.path in
           let m = split.item in
           let all = extended q m split.more in
-          let longer : IsValidPath x lists all = subst (λ (y : Path). IsValidPath x lists y) goes_on good in
+          let longer : IsValidPath x lists all = subst (λ (y : Path). IsValidPath x lists y) goes_on is_valid in
           let low : last q < last all = omega (arith, length-append q.below (m ∷ split.more)) in
           let same : last q ≤ last q = omega arith in
           let meets : MeetsProfile m.kind x.strict m.cert = all_at (λ (y : Member). MeetsProfile y.kind x.strict y.cert) q.below m split.more longer.members_meet in
@@ -173,6 +173,6 @@ module _ (x : Context) (lists : Option (List Stored)) where
           found_against (demand_below x lists q (last q) h.there.kind) h.there.octets e.fault h.fault_is m.cert split.items.begins (subst (λ (k : Kind). MeetsProfile k x.strict m.cert) kind_is meets) checks free
 
     -- a fault says that the strings are no valid path, unless it ran out of memory
-    pub no_valid_path : (anchor : List ℕ) (below : List Asked) (e : PathError) → IsFault x lists anchor below e → UnlessMemory e.fault (IsNoValidPath x lists anchor below)
+    pub no_valid_path : (anchor : List ℕ) (below : List Candidate) (e : PathError) → IsFault x lists anchor below e → UnlessMemory e.fault (IsNoValidPath x lists anchor below)
     no_valid_path anchor below e (inl h) = for_each e.fault anchor below (no_anchor anchor below e h)
     no_valid_path anchor below e (inr h) = for_each e.fault anchor below (no_member anchor below e h)
