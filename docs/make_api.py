@@ -17,6 +17,11 @@ FACADE = CRATES / "rpki" / "src"
 PAGES = ROOT / "docs" / "api"
 ITEM = re.compile(r"(\s*)pub (fn|struct|enum|trait|type|const) ([A-Za-z_0-9]+)")
 IMPL = re.compile(r"impl(?:<[^{]*?>)? ([A-Z][A-Za-z0-9]*)(?:<.*>)?(?: where .*)? \{?$")
+OF_TRAIT = re.compile(r"impl(?:<[^{]*?>)? ((?:fmt::)?[A-Z][A-Za-z]*(?:<[^{]*>)?) for ([A-Z][A-Za-z0-9]*)(?:<.*>)? ?(?:where .*)?\{?$")
+# What an impl says to a proof that isn't a promise to a caller.
+PRIVATE = {"view", "inverse", "inverse_ok", "laws", "Value", "invariant"}
+# Views, which definitions have, and comparing, which the page of that name has.
+ELSEWHERE = {"Model", "PartialEq", "Eq", "PartialOrd", "Ord", "Hash", "Clone"}
 FROM = re.compile(r"impl(?:<[^{]*?>)? (From<.*>|FromIterator<.*>|fmt::Display|Display) for ([A-Z][A-Za-z0-9]*)")
 
 
@@ -61,6 +66,19 @@ class Source:
             taken.append(bare)
         return taken
 
+    def promises(self, at):
+        """What an impl of a trait promises in its own words: its lines `ghost NAME = { .. };`."""
+        taken, taking = [], False
+        for line in self.lines[at + 1:]:
+            if line == "}":
+                break
+            begun = re.match(r"    ghost (\w+) = ", line)
+            taking = taking or bool(begun and begun.group(1) not in PRIVATE and "Prim.search" not in line)
+            if taking:
+                taken.append(line[4:])
+            taking = taking and not line.rstrip().endswith("};")
+        return taken
+
     def whole(self, at):
         """A declaration to its closing brace."""
         if self.lines[at].rstrip().endswith(";"):
@@ -82,7 +100,7 @@ class Library:
 
     def __init__(self, crate):
         self.crate = crate
-        self.items, self.calls, self.modules, self.gives = {}, {}, {}, {}
+        self.items, self.calls, self.modules, self.gives, self.promised = {}, {}, {}, {}, {}
         for source in sources(crate):
             self.read(source)
 
@@ -96,6 +114,9 @@ class Library:
                 of = FROM.match(line)
                 if of:
                     self.gives.setdefault(of.group(2), []).append(of.group(1))
+                trait = OF_TRAIT.match(line)
+                if trait and trait.group(1) not in ELSEWHERE and source.promises(at):
+                    self.promised.setdefault(trait.group(2), []).append((trait.group(1), source, at))
             elif line == "}":
                 owner = None
             found = ITEM.match(line)
@@ -175,6 +196,9 @@ def of_item(page, crate, name, public):
     gives = [f"`{what}`" for what in lib.gives.get(name, [])]
     if gives:
         out += wrapped("Implements " + ", ".join(gives) + ".") + [""]
+    for trait, where, line in lib.promised.get(name, []):
+        code = [where.lines[line].rstrip(" {")] + where.promises(line)
+        out += entry(page, f"`{trait}` of `{public}`", where, line, code, 3)
     for _, call, where, line in lib.calls.get(name, []):
         out += entry(page, f"`{public}::{call}`", where, line, where.signature(line), 3)
     return out
@@ -243,13 +267,37 @@ def pages():
             yield page, module, head, "\n".join(out + body).rstrip() + "\n"
 
 
+def calls_of(page, text):
+    """The calls and items of a page, each with its place."""
+    for name in re.findall(r"^##+ `([\w:]+)`$", text, flags=re.M):
+        yield name, f"{page.relative_to(PAGES)}#" + re.sub(r"[^\w]", "", name.lower())
+
+
+def by_name(calls):
+    """A line for each item, with the calls of a type behind it."""
+    lines = {}
+    for name, place in calls:
+        owner, _, call = name.rpartition("::")
+        if owner and owner[0].isupper():
+            lines.setdefault(owner, []).append(f"[`{call}`]({place})")
+        else:
+            lines.setdefault(name, []).insert(0, f"[`{name}`]({place})")
+    for name in sorted(lines, key=str.lower):
+        first, *rest = lines[name]
+        text = wrapped(first + (": " + ", ".join(rest) if rest else ""), 98)
+        yield from [f"- {text[0]}"] + [f"  {line}" for line in text[1:]]
+
+
 def main():
-    made = {}
+    made, calls = {}, []
     index = ["# The public calls", "", "A page for each public module, with the contract of each call."]
     index += ["Made by `docs/make_api.py` from the sources; edit those.", "", "| Module | What it has |", "|---|---|"]
     for page, module, head, text in pages():
         made[page] = text
+        calls += calls_of(page, text)
         index.append(f"| [`{module}`]({page.relative_to(PAGES)}) | {head} |")
+    index += ["", "## By name", ""]
+    index += by_name(calls)
     made[PAGES / "README.md"] = "\n".join(index) + "\n"
     if "--check" in sys.argv[1:]:
         stale = [page for page, text in made.items() if not page.exists() or page.read_text() != text]
