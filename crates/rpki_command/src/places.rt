@@ -22,7 +22,7 @@ enum Stop {
     Memory,
 }
 
-fn stop(field: &'static str, octet: usize) -> Stop {
+fn stopped_at(field: &'static str, octet: usize) -> Stop {
     Stop::At(Place { field, octet })
 }
 
@@ -31,7 +31,7 @@ fn past(read: Result<(), DecodeError>, field: &'static str, octet: usize) -> Res
     match read {
         Ok(()) => Ok(()),
         Err(fault) => match unless_memory(fault) {
-            Ok(()) => Err(stop(field, octet)),
+            Ok(()) => Err(stopped_at(field, octet)),
             Err(_) => Err(Stop::Memory),
         },
     }
@@ -108,32 +108,35 @@ fn row_of<'a>(data: &mut Cursor<'a>, identifier: u8) -> Result<Cursor<'a>, Stop>
         Ok(outer) => outer,
         Err(fault) => {
             drop(fault);
-            return Err(stop("the extensions", start));
+            return Err(stopped_at("the extensions", start));
         }
     };
     let row = inside(&mut outer, "the extensions")?;
     if outer.is_empty() {
         Ok(row)
     } else {
-        Err(stop("the extensions", start))
+        Err(stopped_at("the extensions", start))
     }
 }
 
 // The extensions, each of which is well formed, may stand there, and means something.
 fn extensions(alloc: Global, row: &Cursor<'_>, is_list: bool) -> Result<(), Stop> {
     let mut rest = row.fork();
-    while !rest.is_empty() {
+    for _ in 0..u64::MAX {
+        if rest.is_empty() {
+            break;
+        }
         let octet = at(&rest);
         let (identifier, critical, mut content) = match take_extension(&mut rest) {
             Ok(extension) => extension,
             Err(fault) => {
                 drop(fault);
-                return Err(stop("an extension", octet));
+                return Err(stopped_at("an extension", octet));
             }
         };
         let kind = Kind::of(identifier, is_list);
         if stands_before(row, kind, is_list, octet) {
-            return Err(stop(kind.name(), octet));
+            return Err(stopped_at(kind.name(), octet));
         }
         past(kind.read(alloc, critical, &mut content), kind.name(), octet)?;
     }
@@ -146,7 +149,10 @@ fn stands_before(row: &Cursor<'_>, kind: Kind, is_list: bool, octet: usize) -> b
         return false;
     }
     let mut rest = row.fork();
-    while at(&rest) < octet {
+    for _ in 0..u64::MAX {
+        if at(&rest) >= octet {
+            break;
+        }
         match take_extension(&mut rest) {
             Ok((identifier, _, _)) if Kind::of(identifier, is_list) == kind => return true,
             Ok(_) => {}
@@ -166,7 +172,7 @@ fn all_extensions(alloc: Global, row: &Cursor<'_>) -> Result<(), DecodeError> {
     Ok(())
 }
 
-// Whether an extension of this kind of a list's stands in the row.
+// Whether an extension of this kind of a list's stands in the sequence.
 fn has(row: &Cursor<'_>, kind: Kind) -> bool {
     let (_, end) = row.span();
     stands_before(row, kind, true, end)
@@ -176,7 +182,7 @@ fn ended(data: &Cursor<'_>) -> Result<(), Stop> {
     if data.is_empty() {
         Ok(())
     } else {
-        Err(stop("what follows the extensions", at(data)))
+        Err(stopped_at("what follows the extensions", at(data)))
     }
 }
 
@@ -219,7 +225,7 @@ fn of_list(alloc: Global, data: &mut Cursor<'_>) -> Result<(), Stop> {
     let row = row_of(data, 0xa0)?;
     extensions(alloc, &row, true)?;
     if !(has(&row, Kind::AuthorityKeyIdentifier) && has(&row, Kind::CrlNumber)) {
-        return Err(stop("the extensions", octet));
+        return Err(stopped_at("the extensions", octet));
     }
     ended(data)
 }
@@ -230,7 +236,7 @@ fn inside<'a>(cursor: &mut Cursor<'a>, field: &'static str) -> Result<Cursor<'a>
         Ok(inner) => Ok(inner),
         Err(fault) => {
             drop(fault);
-            Err(stop(field, octet))
+            Err(stopped_at(field, octet))
         }
     }
 }
@@ -239,7 +245,7 @@ fn inside<'a>(cursor: &mut Cursor<'a>, field: &'static str) -> Result<Cursor<'a>
 fn signature(whole: &mut Cursor<'_>) -> Result<(), Stop> {
     let octet = at(whole);
     past(algorithm(whole), "the algorithm of the signature", octet)?;
-    Err(stop("the signature", at(whole)))
+    Err(stopped_at("the signature", at(whole)))
 }
 
 fn fields(alloc: Global, octets: &Bytes, is_list: bool) -> Result<(), Stop> {

@@ -52,13 +52,17 @@ fn printed(page: &mut Page, made: Result<Value, AllocError>) {
 
 // What is said of a fault: its text, its rule, and where the reading stops.
 #[derive(Drop)]
-struct Refusal {
+struct Rejection {
     why: String,
     rule: Rule,
     place: Place,
 }
 
-fn refusal(alloc: Global, object: &Object<'_>, fault: &DecodeError) -> Result<Refusal, AllocError> {
+fn rejection_of(
+    alloc: Global,
+    object: &Object<'_>,
+    fault: &DecodeError,
+) -> Result<Rejection, AllocError> {
     if fault.is_memory() {
         return Err(AllocError);
     }
@@ -66,10 +70,10 @@ fn refusal(alloc: Global, object: &Object<'_>, fault: &DecodeError) -> Result<Re
     let place = place_of(alloc, &object.octets, is_list)?;
     let rule = of_file(fault, &object.octets, is_list);
     let why = format!(in alloc; "{fault}")?;
-    Ok(Refusal { why, rule, place })
+    Ok(Rejection { why, rule, place })
 }
 
-fn print_refusal(page: &mut Page, object: &Object<'_>, it: &Refusal) {
+fn print_rejection(page: &mut Page, object: &Object<'_>, it: &Rejection) {
     begun(page, object);
     page.line("Fault", it.why.as_str());
     page.label("Where");
@@ -82,7 +86,7 @@ fn print_refusal(page: &mut Page, object: &Object<'_>, it: &Refusal) {
 }
 
 fn refused(page: &mut Page, object: &Object<'_>, fault: &DecodeError, options: &Options) {
-    let it = match refusal(page.alloc(), object, fault) {
+    let it = match rejection_of(page.alloc(), object, fault) {
         Ok(it) => it,
         Err(_) => {
             page.fail();
@@ -94,7 +98,7 @@ fn refused(page: &mut Page, object: &Object<'_>, fault: &DecodeError, options: &
         let made = json::refused(page.alloc(), &file, it.why.as_str(), it.rule, it.place);
         printed(page, made);
     } else {
-        print_refusal(page, object, &it);
+        print_rejection(page, object, &it);
     }
     drop(it);
 }
