@@ -2,16 +2,18 @@
  *
  * REFUSE=N refuses the Nth request of the call that the program makes, and REFUSE_REST=1 all that follow it too; with 0
  * or nothing none is refused. Where the call begins and ends the program marks by two requests of lengths that nothing
- * else asks for; they are refused, which the program doesn't mind. At the end of the process four numbers are
+ * else asks for; they are refused, which the program doesn't mind. At the end of the process five numbers are
  * written to standard error: the requests of the call, how many of them were refused, how many blocks more were
- * held where the call ended than where it began, and how many were held at the end of the process. */
+ * held where the call ended than where it began, how many were held at the end of the process, and how many of the
+ * refused requests only gave room back: they asked for less than their block had, by more than the C library rounds. */
 #include <errno.h>
+#include <malloc.h>
 #include <stddef.h>
 #include <stdio.h>
 #include <stdlib.h>
 #include <unistd.h>
 
-enum { BEGIN = 7340033, END = 7340035 };
+enum { BEGIN = 7340033, END = 7340035, ROUNDING = 48 };
 
 void *__libc_malloc(size_t);
 void *__libc_realloc(void *, size_t);
@@ -19,7 +21,7 @@ void *__libc_memalign(size_t, size_t);
 void *__libc_calloc(size_t, size_t);
 void __libc_free(void *);
 
-static long asked, refused, live, before, held, nth, is_inside, refuses_rest;
+static long asked, refused, returned, live, before, held, nth, is_inside, refuses_rest;
 
 __attribute__((constructor)) static void start(void)
 {
@@ -32,7 +34,7 @@ __attribute__((destructor)) static void finish(void)
 {
     char line[100];
     long left = live;
-    int length = snprintf(line, sizeof line, "%ld %ld %ld %ld\n", asked, refused, held, left);
+    int length = snprintf(line, sizeof line, "%ld %ld %ld %ld %ld\n", asked, refused, held, left, returned);
     if (length < 0 || write(2, line, length) != length)
         _exit(99);
 }
@@ -114,5 +116,8 @@ void *realloc(void *block, size_t size)
         free(block);
         return NULL;
     }
-    return is_refused(size) ? nothing() : __libc_realloc(block, size);
+    if (!is_refused(size))
+        return __libc_realloc(block, size);
+    returned += size + ROUNDING < malloc_usable_size(block);
+    return nothing();
 }
