@@ -1,6 +1,6 @@
 /* Reads and judges resource certificates and revocation lists of the RPKI (RFC 6487), for C.
  *
- * Says what is proved:
+ * What is proved:
  *   - Every function ends, for all octets, lengths and numbers. Nothing that it does is undefined,
  *     as long as the caller keeps the rules below.
  *   - Octets are read as a certificate or list exactly where they begin with one, unless memory
@@ -9,14 +9,14 @@
  *     crates/rpki_path/specs/Paths.antt, unless memory runs out.
  *     Where the last member is a router's, crates/rpki_c/specs/Judged.antt says what is accepted.
  *   - The fault of a rejected path is that of the first wrong member, whose place is the index.
- * Says what is only tested: that the caller's memory then holds those fields, ranges and numbers.
+ * Only tested is that the caller's memory then holds those fields, ranges and numbers.
  *
- * Asks of the caller:
+ * What the caller has to keep:
  *   - Each pointer points to as many elements as the length beside it says, aligned as C asks.
  *   - What a function writes overlaps nothing else of the call.
  *   - A pointer beside the length 0 may be NULL. It is neither read nor written. No other may be.
  *
- * Holds for every function:
+ * Every function:
  *   - It keeps no pointer, holds no lock and has no state. Threads may call side by side.
  *   - Nothing has to be freed.
  *   - Octets are DER. What follows a certificate or list in them is ignored.
@@ -35,7 +35,7 @@
 extern "C" {
 #endif
 
-/* Is what rpki_abi_version answers where this header fits the library. */
+/* What rpki_abi_version answers where this header fits the library. */
 #define RPKI_ABI 1
 
 /* Tells the number of the library's interface. */
@@ -64,10 +64,10 @@ enum rpki_field {
 /* Numbers the faults. */
 enum rpki_fault {
     RPKI_OK = 0,
-    RPKI_MEMORY = 1,   /* is out of memory */
-    RPKI_BAD_CALL = 2, /* has lengths that don't add up, or no such kind, moment or URI */
+    RPKI_MEMORY = 1,   /* memory ran out */
+    RPKI_BAD_CALL = 2, /* lengths don't add up, or no such kind, moment or URI */
 
-    /* Say that the octets begin with no certificate, or no list. */
+    /* The octets begin with no certificate, or no list. */
     RPKI_DECODE_TRUNCATED = 100,
     RPKI_DECODE_BAD_LENGTH = 101,
     RPKI_DECODE_BAD_TAG = 102,
@@ -77,13 +77,13 @@ enum rpki_fault {
     RPKI_DECODE_ALGORITHM_MISMATCH = 106,
     RPKI_DECODE_UNEXPECTED_CRITICAL = 107,
     RPKI_DECODE_INVALID_EXTENSION = 108,
-    RPKI_DECODE_MISSING = 120,         /* adds an enum rpki_field */
-    RPKI_DECODE_DUPLICATE = 140,       /* adds an enum rpki_field */
-    RPKI_DECODE_CRITICAL = 160,        /* adds an enum rpki_field */
-    RPKI_DECODE_NOT_CRITICAL = 180,    /* adds an enum rpki_field */
-    RPKI_DECODE_WRONG_RESOURCES = 200, /* adds an enum rpki_field */
+    RPKI_DECODE_MISSING = 120,         /* and an enum rpki_field */
+    RPKI_DECODE_DUPLICATE = 140,       /* and an enum rpki_field */
+    RPKI_DECODE_CRITICAL = 160,        /* and an enum rpki_field */
+    RPKI_DECODE_NOT_CRITICAL = 180,    /* and an enum rpki_field */
+    RPKI_DECODE_WRONG_RESOURCES = 200, /* and an enum rpki_field */
 
-    /* Say that the certificate doesn't meet the profile of its kind. */
+    /* The certificate doesn't meet the profile of its kind. */
     RPKI_INSPECTION_ALGORITHM_MISMATCH = 300,
     RPKI_INSPECTION_ISSUER = 301,
     RPKI_INSPECTION_SUBJECT = 302,
@@ -112,7 +112,7 @@ enum rpki_fault {
     RPKI_INSPECTION_MISSING_AS_RESOURCES = 325,
     RPKI_INSPECTION_INHERITED_AS_RESOURCES = 326,
 
-    /* Say that the certificate isn't valid at the moment, or not issued by the member above it. */
+    /* The certificate isn't valid at the moment, or not issued by the member above it. */
     RPKI_VERIFICATION_NOT_YET_VALID = 400,
     RPKI_VERIFICATION_EXPIRED = 401,
     RPKI_VERIFICATION_INHERITED_V4 = 402,
@@ -126,7 +126,7 @@ enum rpki_fault {
     RPKI_VERIFICATION_OVERCLAIM_V6 = 410,
     RPKI_VERIFICATION_OVERCLAIM_AS = 411,
 
-    /* Say that the list of the member above doesn't show the certificate to be unrevoked. */
+    /* The list of the member above doesn't show the certificate to be unrevoked. */
     RPKI_REVOCATION_NO_CRL = 500,
     RPKI_REVOCATION_WRONG_KEY_ID = 501,
     RPKI_REVOCATION_BAD_SIGNATURE = 502,
@@ -134,7 +134,7 @@ enum rpki_fault {
     RPKI_REVOCATION_REVOKED = 504
 };
 
-/* Holds for every function with `out`, `room` and `count`. It writes as many elements as there is
+/* Every function with `out`, `room` and `count` writes as many elements as there is
  * room for, and in *count how many there are: with room 0 it counts. At a fault *count is 0. Texts
  * have no 0 at their end. */
 
