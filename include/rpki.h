@@ -148,7 +148,7 @@ uint32_t rpki_fault_sentence(uint32_t fault, uint8_t *out, size_t room, uint64_t
 
 /* ---- certificates */
 
-/* Is a second of UTC in the years 0 to 9999: on a day of the calendar, with an hour below 24, and
+/* A second of UTC in the years 0 to 9999: on a day of the calendar, with an hour below 24, and
  * a minute and a second below 60. */
 struct rpki_time {
     uint16_t year;
