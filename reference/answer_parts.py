@@ -450,9 +450,9 @@ def key_usage(usage):
             ('written-bits', show.hexed(bits))]
 
 
-def purposes(row):
-    return [('extended-key-usage', show.hexed(row)),
-            ('written', put_kind('ExtendedKeyUsage', ref.enc(0x30, row))),
+def purposes(vector):
+    return [('extended-key-usage', show.hexed(vector)),
+            ('written', put_kind('ExtendedKeyUsage', ref.enc(0x30, vector))),
             ('copy', 'same')]
 
 
@@ -469,12 +469,12 @@ def authority_access(octets):
 
 
 def subject_access(found):
-    rows = [ref.enc(0x30, ref.enc(0x06, method), ref.put_uri_name(found[field]))
+    vectors = [ref.enc(0x30, ref.enc(0x06, method), ref.put_uri_name(found[field]))
             for field, method, _ in ref.SIA_METHODS if found[field] is not None]
     fields = [(field.replace('_', '-'), show.uri(found[field]))
               for field, _, _ in ref.SIA_METHODS]
-    written = put_kind('SubjectInformationAccess', ref.enc(0x30, *rows))
-    return fields + [('written', written if rows else '-')]
+    written = put_kind('SubjectInformationAccess', ref.enc(0x30, *vectors))
+    return fields + [('written', written if vectors else '-')]
 
 
 def policies(found):

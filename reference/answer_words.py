@@ -1,8 +1,8 @@
-"""How questions of the rows are taken apart, and values of their answers shown.
+"""How questions of the vectors are taken apart, and values of their answers shown.
 
-A question is a row of words; HEX is octets in hexadecimal digits, `-` for
+A question is a vector of words; HEX is octets in hexadecimal digits, `-` for
 none; TEXT stands as it is, or is `octets:HEX`. The head of
-`crates/rpki_rows/src/main.rt` lists the words.
+`crates/rpki_vectors/src/main.rt` lists the words.
 """
 
 import reference as ref

@@ -1,4 +1,4 @@
-"""What the reference answers to each question of the rows, in their words."""
+"""What the reference answers to each question of the vectors, in their words."""
 
 import answer_words as show
 import reference as ref

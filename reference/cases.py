@@ -85,8 +85,8 @@ def random_list(rng):
     """Octets of a list, its serials, and the number asked for."""
     entries = [random_entry(rng) for _ in range(rng.choice(
         [0, 1, 2, 3, 7, 8, 40]))]
-    row = b''.join(octets for _, octets in entries)
-    octets = ref.enc(0x30, row) if row or sound.chance(rng, 0.5) else b''
+    vector = b''.join(octets for _, octets in entries)
+    octets = ref.enc(0x30, vector) if vector or sound.chance(rng, 0.5) else b''
     serials = [serial for serial, _ in entries]
     if serials and sound.chance(rng, 0.6):
         return octets, serials, rng.choice(serials)
@@ -111,11 +111,11 @@ def bad_entry_lists():
     time = ref.enc(0x17, b'190501000000Z')
     serial, entry = b'\2\1\x0c', ref.enc(0x30, b'\2\1\x0c', time)
     table = faults.bad_header_values()
-    rows = [ref.enc(0x30, bad, time) for bad in table[1]]
-    rows += [ref.enc(0x30, serial, bad) for bad in faults.bad_times(b'') if bad]
-    rows += [ref.enc(0x30), ref.enc(0x30, serial), ref.enc(0x31, serial, time),
+    vectors = [ref.enc(0x30, bad, time) for bad in table[1]]
+    vectors += [ref.enc(0x30, serial, bad) for bad in faults.bad_times(b'') if bad]
+    vectors += [ref.enc(0x30), ref.enc(0x30, serial), ref.enc(0x31, serial, time),
              ref.enc(0x30, serial, time, ref.enc(0x30)), serial + time]
-    lists = [ref.enc(0x30, entry, row) for row in rows]
+    lists = [ref.enc(0x30, entry, vector) for vector in vectors]
     return lists + [entry + b'\0', b'\x31\0', b'\5\0', entry, b'\x30\0\x30\0',
                     b'\x30', b'\x30\x80\0\0', b'\x30\x81\0', b'\x1f\0',
                     ref.enc(0x30, entry) + entry]

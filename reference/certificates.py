@@ -220,9 +220,9 @@ def cert_pieces(octets, depth=DEPTH):
     for _ in range(7):
         tbs.capture_one()
     head = octets[start:tbs.place]
-    row, pieces = tbs.take_value(0xA3).take_sequence(), []
-    while not row.is_empty():
-        pieces.append(row.capture_one())
+    vector, pieces = tbs.take_value(0xA3).take_sequence(), []
+    while not vector.is_empty():
+        pieces.append(vector.capture_one())
     return head, pieces, whole.rest()
 
 
@@ -246,9 +246,9 @@ def rearrange(octets, order, extras, depth=DEPTH):
         raise RearrangeError('NotAnOrder')
     if any(kind_of(identifier) for _, identifier, _ in extras):
         raise RearrangeError('KnownExtra')
-    row = []
+    vector = []
     for place in range(count + 1):
-        row += [put_extension(identifier, False, content)
+        vector += [put_extension(identifier, False, content)
                 for at, identifier, content in extras if at == place]
-        row += [pieces[order[place]]] if place < count else []
-    return with_pieces(head, row, tail)
+        vector += [pieces[order[place]]] if place < count else []
+    return with_pieces(head, vector, tail)

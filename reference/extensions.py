@@ -97,15 +97,15 @@ def take_key_usage(cursor):
 def take_extended_key_usage(cursor):
     """The identifiers' octets."""
     sequence = cursor.take_sequence()
-    row = sequence.rest()
-    require(row)
+    vector = sequence.rest()
+    require(vector)
     while not sequence.is_empty():
         take_oid(sequence)
-    return row
+    return vector
 
 
-def identifiers_of(row):
-    cursor, found = Cursor(row), []
+def identifiers_of(vector):
+    cursor, found = Cursor(vector), []
     while not cursor.is_empty():
         found.append(take_oid(cursor))
     return found
@@ -143,22 +143,22 @@ def take_crl_distribution_points(cursor):
 
 @reader
 def take_authority_information_access(cursor):
-    row = cursor.take_sequence()
-    description = row.take_sequence()
+    vector = cursor.take_sequence()
+    description = vector.take_sequence()
     require(take_oid(description) == OID_CA_ISSUERS)
     uri = take_one_rsync(description)
-    row.finish()
+    vector.finish()
     return uri
 
 
 @reader
 def take_subject_information_access(cursor):
     """The four URIs, first of each that reads, by field name."""
-    row, pairs = cursor.take_sequence(), []
-    require(not row.is_empty())
+    vector, pairs = cursor.take_sequence(), []
+    require(not vector.is_empty())
     known = [method for _, method, _ in SIA_METHODS]
-    while not row.is_empty():
-        description = row.take_sequence()
+    while not vector.is_empty():
+        description = vector.take_sequence()
         method = take_oid(description)
         if method in known:
             pairs.append((method, take_uri_name(description)))
@@ -171,13 +171,13 @@ def take_subject_information_access(cursor):
 
 @reader
 def take_certificate_policies(cursor):
-    row = cursor.take_sequence()
-    policy = row.take_sequence()
+    vector = cursor.take_sequence()
+    policy = vector.take_sequence()
     identifier = take_oid(policy)
     modes = [m for m, known in OID_POLICY.items() if known == identifier]
     require(modes)
     policy.skip_all()
-    row.finish()
+    vector.finish()
     return modes[0]
 
 
@@ -219,11 +219,11 @@ def only(triples, kind):
     return [triple for triple in triples if kind_of(triple[0]) == kind]
 
 
-def take_cert_extensions(row):
-    """A row of extensions: kind to identifier and value."""
+def take_cert_extensions(vector):
+    """A vector of extensions: kind to identifier and value."""
     triples, values = [], {}
-    while not row.is_empty():
-        identifier, critical, content = take_extension(row)
+    while not vector.is_empty():
+        identifier, critical, content = take_extension(vector)
         triples.append((identifier, critical, content))
         kind = kind_of(identifier)
         if kind is None:
@@ -248,7 +248,7 @@ def check_use(members, kind):
 
 
 def check_presence(values):
-    """Refuses a row that lacks what has to be there (RFC 6487 4.8)."""
+    """Refuses a vector that lacks what has to be there (RFC 6487 4.8)."""
     if 'IpResources' not in values and 'AsResources' not in values:
         raise DecodeError('Missing', 'Resources')
     mode = values.get('CertificatePolicies', (None, None))[1]

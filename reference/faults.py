@@ -45,7 +45,7 @@ def bad_name(rng, path):
     text = ref.enc(0x13, b'AB')
     common = (ref.OID_COMMON_NAME, text)
     serial = (ref.OID_SERIAL_NUMBER, text)
-    rows = [[[common, common]], [[common], [common]], [[serial]], [],
+    vectors = [[[common, common]], [[common], [common]], [[serial]], [],
             [[common, (ref.hex_octets('550406'), text)]],
             [[common], [serial], [serial]],
             [[(ref.OID_COMMON_NAME, ref.enc(0x33, text))]],
@@ -53,9 +53,9 @@ def bad_name(rng, path):
             [[common, (ref.OID_SERIAL_NUMBER, ref.enc(0x14, b'AB'))]],
             [[(ref.OID_COMMON_NAME, sound.tower(rng, depth))]]]
     if strict and sound.chance(rng, 0.5):
-        rows = [[[(ref.OID_COMMON_NAME, ref.enc(0x0C, b'AB'))]],
+        vectors = [[[(ref.OID_COMMON_NAME, ref.enc(0x0C, b'AB'))]],
                  [[common], [(ref.OID_SERIAL_NUMBER, ref.enc(0x0C, b'A'))]]]
-    return ref.put_name(rng.choice(rows))
+    return ref.put_name(rng.choice(vectors))
 
 
 def not_a_child(rng, path, index):
@@ -186,8 +186,8 @@ def either_flag(rng, *_):
 
 
 def purposes(rng, *_):
-    row = [ref.enc(0x06, i) for i in (ref.OID_ROUTER, ref.hex_octets('2A03'))]
-    return {'extended_key_usage': b''.join(row[:rng.randint(1, 2)])}
+    vector = [ref.enc(0x06, i) for i in (ref.OID_ROUTER, ref.hex_octets('2A03'))]
+    return {'extended_key_usage': b''.join(vector[:rng.randint(1, 2)])}
 
 
 def anchor_other_id(rng, *_):
@@ -350,13 +350,13 @@ def two_uris(rng, draft, _depth):
     place = ensure_kind(rng, draft, kind)
     texts = [sound.random_uri(rng), sound.random_uri(rng)]
     texts.insert(rng.randrange(3), b'x')
-    row = b''.join(ref.put_uri_name(text) for text in texts)
+    vector = b''.join(ref.put_uri_name(text) for text in texts)
     if kind == 'CrlDistributionPoints':
-        row = ref.enc(0xA0, ref.enc(0xA0, row))
+        vector = ref.enc(0xA0, ref.enc(0xA0, vector))
     else:
-        row = ref.enc(0x06, ref.OID_CA_ISSUERS) + row
+        vector = ref.enc(0x06, ref.OID_CA_ISSUERS) + vector
     draft.pieces[place] = ref.put_extension(
-        ref.OID[kind], False, ref.enc(0x30, ref.enc(0x30, row)))
+        ref.OID[kind], False, ref.enc(0x30, ref.enc(0x30, vector)))
 
 
 def bad_piece(rng, draft, _depth):
@@ -383,8 +383,8 @@ def h(*texts):
     return [ref.hex_octets(text) for text in texts]
 
 
-def bad_uri_rows():
-    """Rows of names of which none, two or a broken one reads."""
+def bad_uri_vectors():
+    """Vectors of names of which none, two or a broken one reads."""
     uri, name = b'rsync://h/m/p', ref.put_uri_name
     return [b'', name(b'x'), name(uri) * 2, name(uri) + name(uri.upper()),
             name(uri) + ref.enc(0x82, uri), name(uri + b'\xc3'), b'\x86',
@@ -393,8 +393,8 @@ def bad_uri_rows():
 
 
 def bad_points():
-    inner = [ref.enc(0xA0, row) for row in bad_uri_rows()]
-    points = [ref.enc(0x30, ref.enc(0x30, ref.enc(0xA0, row))) for row in inner]
+    inner = [ref.enc(0xA0, vector) for vector in bad_uri_vectors()]
+    points = [ref.enc(0x30, ref.enc(0x30, ref.enc(0xA0, vector))) for vector in inner]
     good = ref.enc(0xA0, ref.enc(0xA0, ref.put_uri_name(b'rsync://h/m/p')))
     return points + [
         ref.enc(0x30), ref.enc(0x30, ref.enc(0x30)), ref.enc(0x31, ref.enc(0x30, good)),
@@ -406,17 +406,17 @@ def bad_points():
 def bad_access():
     method = ref.enc(0x06, ref.OID_CA_ISSUERS)
     good = ref.enc(0x30, method, ref.put_uri_name(b'rsync://h/m/p'))
-    rows = [ref.enc(0x30, method, row) for row in bad_uri_rows()]
+    vectors = [ref.enc(0x30, method, vector) for vector in bad_uri_vectors()]
     other = ref.enc(0x30, ref.enc(0x06, ref.OID_NOTIFY),
                     ref.put_uri_name(b'rsync://h/m/p'))
-    return [ref.enc(0x30, row) for row in rows + [other, b'', good + good,
+    return [ref.enc(0x30, vector) for vector in vectors + [other, b'', good + good,
                                                   good + other, other + good]]
 
 
 def bad_sia():
     repository, name = ref.enc(0x06, ref.OID_CA_REPOSITORY), ref.put_uri_name
     uri = name(b'rsync://h/m/p')
-    rows = [b'', ref.enc(0x30), ref.enc(0x30, repository), ref.enc(0x31, repository),
+    vectors = [b'', ref.enc(0x30), ref.enc(0x30, repository), ref.enc(0x31, repository),
             ref.enc(0x30, repository, uri, uri), ref.enc(0x30, uri),
             ref.enc(0x30, repository, name(b'\x80')),
             ref.enc(0x30, repository, ref.enc(0x82, b'h')),
@@ -424,7 +424,7 @@ def bad_sia():
             ref.enc(0x30, ref.enc(0x06, b'\x2a'), b'\x30\1'),
             ref.enc(0x30, repository, uri) + b'\5\0',
             ref.enc(0x30, ref.enc(0x06, b'\xaa'), uri)]
-    return [ref.enc(0x30, row) for row in rows]
+    return [ref.enc(0x30, vector) for vector in vectors]
 
 
 def bad_policies(depth):
@@ -432,13 +432,13 @@ def bad_policies(depth):
     nested = b''
     for _ in range(depth + 1):
         nested = ref.enc(0x30, nested)
-    rows = [b'', ref.enc(0x30), ref.enc(0x30, good) * 2, good,
+    vectors = [b'', ref.enc(0x30), ref.enc(0x30, good) * 2, good,
             ref.enc(0x30, ref.enc(0x06, sound.UNKNOWN_OIDS[0])),
             ref.enc(0x30, ref.enc(0x06, ref.OID_ROUTER)), ref.enc(0x30, good, nested),
             ref.enc(0x30, good, b'\x30\x02\x05'), ref.enc(0x30, good, b'\x1f\0'),
             ref.enc(0x30, good, b'\x30\x81\x00'), ref.enc(0x30, good, b'\x30\x80'),
             ref.enc(0x30, good, ref.enc(0x30, b'\xff\0'))]
-    return [ref.enc(0x30, row) for row in rows]
+    return [ref.enc(0x30, vector) for vector in vectors]
 
 
 def bad_families():
@@ -465,9 +465,9 @@ def bad_as():
     elements = h('0200', '020180', '02050100000000', '0202007F', '3003020101',
                  '3006020105020104', '3009020101020102020103', '0500',
                  '3006020101020180', '0A0101', '030100')
-    rows = [ref.enc(0xA0, ref.enc(0x30, e)) for e in elements]
+    vectors = [ref.enc(0xA0, ref.enc(0x30, e)) for e in elements]
     null = ref.enc(0xA0, ref.enc(0x05))
-    return [ref.enc(0x30, row) for row in rows + [
+    return [ref.enc(0x30, vector) for vector in vectors + [
         b'', ref.enc(0xA1, ref.enc(0x05)), null + ref.enc(0xA1, ref.enc(0x05)),
         null + null, ref.enc(0xA0), ref.enc(0xA0, b'\5\0\5\0'),
         ref.enc(0xA0, b'\5\1\0'), ref.enc(0x05), ref.enc(0xA0, ref.enc(0x31))]] + [
@@ -591,8 +591,8 @@ def bad_frame(rng, draft, _depth):
     elif way == 2:
         values.insert(7, rng.choice([b'\x81\2\0\1', b'\x82\2\0\1']))
     else:
-        row = values[7]
-        inner = ref.Cursor(row).take_value(0xA3)
+        vector = values[7]
+        inner = ref.Cursor(vector).take_value(0xA3)
         values[7] = rng.choice([
             ref.enc(0xA3, inner.rest(), b'\5\0'), ref.enc(0xA3), inner.rest(),
             ref.enc(0xA3, inner.rest(), inner.rest()), ref.enc(0xA0, inner.rest()),
@@ -665,7 +665,7 @@ class Node:
 
 
 def forest(octets):
-    """Nodes of a row of values; an OCTET STRING of values is opened too."""
+    """Nodes of a vector of values; an OCTET STRING of values is opened too."""
     cursor, nodes = ref.Cursor(octets), []
     while not cursor.is_empty():
         tag = cursor.peek()
@@ -682,12 +682,12 @@ def opened(octets):
         return octets
 
 
-def all_rows(nodes):
+def all_vectors(nodes):
     """Every list of nodes in a forest."""
     found = [nodes]
     for node in nodes:
         if isinstance(node.content, list):
-            found += all_rows(node.content)
+            found += all_vectors(node.content)
     return found
 
 
@@ -726,10 +726,10 @@ def random_node(rng):
 
 def change_tree(rng, nodes):
     """One change of one place in a forest."""
-    rows = [row for row in all_rows(nodes) if row]
-    row = rng.choice(rows)
-    place = rng.randrange(len(row))
-    node = row[place]
+    vectors = [vector for vector in all_vectors(nodes) if vector]
+    vector = rng.choice(vectors)
+    place = rng.randrange(len(vector))
+    node = vector[place]
 
     def tag():
         new = rng.choice(TAGS)
@@ -740,18 +740,18 @@ def change_tree(rng, nodes):
         node.content = changed_content(rng, node)
 
     def wrap():
-        row[place] = Node(rng.choice((0x30, 0x31, 0xA0, 0x04)), [node])
+        vector[place] = Node(rng.choice((0x30, 0x31, 0xA0, 0x04)), [node])
 
     def swap():
-        other = rng.randrange(len(row))
-        row[place], row[other] = row[other], row[place]
+        other = rng.randrange(len(vector))
+        vector[place], vector[other] = vector[other], vector[place]
 
     def length():
         node.raw = odd_length(rng, node)
     rng.choice([tag, content, content, wrap, swap, length,
-                lambda: row.pop(place), lambda: row.insert(place, node),
-                lambda: row.insert(place, random_node(rng)),
-                lambda: row.append(random_node(rng))])()
+                lambda: vector.pop(place), lambda: vector.insert(place, node),
+                lambda: vector.insert(place, random_node(rng)),
+                lambda: vector.append(random_node(rng))])()
 
 
 def change_octets(rng, octets):

@@ -41,13 +41,13 @@ def entries_of(octets):
 
 @reader
 def take_revoked(cursor):
-    """The row of entries of an optional SEQUENCE, as octets."""
-    row = cursor.take_opt_sequence()
-    if row is None:
+    """The vector of entries of an optional SEQUENCE, as octets."""
+    vector = cursor.take_opt_sequence()
+    if vector is None:
         return b''
-    octets = row.rest()
-    while not row.is_empty():
-        take_entry(row)
+    octets = vector.rest()
+    while not vector.is_empty():
+        take_entry(vector)
     return octets
 
 
@@ -94,10 +94,10 @@ CRL_KINDS = {'AuthorityKeyIdentifier': take_authority_key_identifier,
              'CrlNumber': take_serial}
 
 
-def take_crl_extensions(row):
+def take_crl_extensions(vector):
     values = {}
-    while not row.is_empty():
-        identifier, _, content = take_extension(row)
+    while not vector.is_empty():
+        identifier, _, content = take_extension(vector)
         kinds = [kind for kind in CRL_KINDS if OID[kind] == identifier]
         if not kinds:
             raise DecodeError('InvalidExtension', identifier.hex())

@@ -1,19 +1,19 @@
 #!/usr/bin/env python3
-"""Makes the files of made rows again, to the same octets.
+"""Makes the files of made vectors again, to the same octets.
 
-    python3 reference/make.py NAME > crates/rpki_rows/data/made-NAME.rows
+    python3 reference/make.py NAME > crates/rpki_vectors/data/made-NAME.vectors
     python3 reference/make.py --all         # writes all of them
     python3 reference/make.py --check       # makes all, and compares
-    python3 reference/make.py --judge       # asks the reference all other rows
-    python3 reference/make.py --counts > crates/rpki_rows/stdout
+    python3 reference/make.py --judge       # asks the reference all other vectors
+    python3 reference/make.py --counts > crates/rpki_vectors/stdout
 
 A file depends on its name, its seed, this folder, and on the other files of
-rows, whose questions it doesn't ask again. `--check` makes all files in memory
+vectors, whose questions it doesn't ask again. `--check` makes all files in memory
 and compares them with those that stand; `--judge` asks the reference the
 questions of all other files, whose answers are from elsewhere, and tells of
 questions that are asked twice. Both print each difference, `N passed,
 M failed`, and exit with 1 where anything differs. `--counts` prints how many
-rows each file of `crates/rpki_rows/args` has, as the program does that passes.
+vectors each file of `crates/rpki_vectors/args` has, as the program does that passes.
 """
 
 import collections
@@ -25,11 +25,11 @@ from typing import Callable, NamedTuple
 import answers
 import questions as q
 import questions_parts as p
-import rows
+import vectors
 
 
 class Block(NamedTuple):
-    """What a file is about, how many rows it has, and what makes a question."""
+    """What a file is about, how many vectors it has, and what makes a question."""
     about: str
     count: int
     make: Callable
@@ -72,14 +72,14 @@ BLOCKS = {
 
 
 def verdict(answer):
-    """What an answer is counted under, so that no sort takes all the rows."""
+    """What an answer is counted under, so that no sort takes all the vectors."""
     words = answer.split(' ')
     if words[0] != 'refused':
         return words[0]
     return ' '.join(w for w in words[:4] if not w.isdigit() and '=' not in w)
 
 
-def random_row(name, index):
+def random_vector(name, index):
     block = BLOCKS[name]
     rng = random.Random(f'{name} {block.seed} {index}')
     label, question = block.make(rng)
@@ -90,17 +90,17 @@ def random_row(name, index):
 def asked_elsewhere():
     """The questions of the files that are not made here."""
     made = [file_of(name) for name in BLOCKS]
-    return {rows.with_octets(row.question)
-            for path in rows.DATA.glob('*.rows') if path not in made
-            for row in rows.read(path)}
+    return {vectors.with_octets(vector.question)
+            for path in vectors.DATA.glob('*.vectors') if path not in made
+            for vector in vectors.read(path)}
 
 
-def rows_of(name):
-    """The rows of a file: questions in turn, none twice, of all verdicts."""
+def vectors_of(name):
+    """The vectors of a file: questions in turn, none twice, of all verdicts."""
     block, made, seen = BLOCKS[name], [], set(asked_elsewhere())
     kinds, index = collections.Counter(), 0
     while len(made) < block.count:
-        label, question = random_row(name, index)
+        label, question = random_vector(name, index)
         index += 1
         if question in seen or len(question) > block.most:
             continue
@@ -109,13 +109,13 @@ def rows_of(name):
         if kinds[verdict(answer)] >= most_of(name, verdict(answer)):
             continue
         kinds[verdict(answer)] += 1
-        made.append(rows.Row(f'{name} {len(made) + 1}: {label}', question,
+        made.append(vectors.Vector(f'{name} {len(made) + 1}: {label}', question,
                              answer))
     return made
 
 
 def most_of(name, kind):
-    """How many rows may have a verdict."""
+    """How many vectors may have a verdict."""
     count = BLOCKS[name].count
     if name in ('inspect', 'written', 'prefixes', 'addresses', 'asns', 'runs',
                 'making'):
@@ -124,18 +124,18 @@ def most_of(name, kind):
 
 
 def file_of(name):
-    return rows.DATA / f'made-{name}.rows'
+    return vectors.DATA / f'made-{name}.vectors'
 
 
 def text_of(name):
     block = BLOCKS[name]
     heading = (f'Made by reference/make.py {name} from the seed {block.seed}: '
                f'{block.about}.')
-    return rows.written(heading, rows_of(name))
+    return vectors.written(heading, vectors_of(name))
 
 
 def check():
-    """Compares each file of made rows with what is made again."""
+    """Compares each file of made vectors with what is made again."""
     failed = 0
     for name in BLOCKS:
         path = file_of(name)
@@ -147,38 +147,38 @@ def check():
     return len(BLOCKS) - failed, failed
 
 
-def judge_row(path, row):
-    """Whether a row's answer is the reference's; None where it has no word."""
-    answer = answers.answer(rows.with_octets(row.question))
-    if answer is not None and answer != row.answer:
-        print(f'{path.name}: {row.name}\n  stands     {row.answer}\n'
+def judge_vector(path, vector):
+    """Whether a vector's answer is the reference's; None where it has no word."""
+    answer = answers.answer(vectors.with_octets(vector.question))
+    if answer is not None and answer != vector.answer:
+        print(f'{path.name}: {vector.name}\n  stands     {vector.answer}\n'
               f'  reference  {answer}')
-    return None if answer is None else answer == row.answer
+    return None if answer is None else answer == vector.answer
 
 
 def judge():
-    """Asks the reference each row that it didn't make."""
+    """Asks the reference each vector that it didn't make."""
     asked, verdicts = collections.Counter(), collections.Counter()
     made = [file_of(name) for name in BLOCKS]
-    for path in sorted(rows.DATA.glob('*.rows')):
-        for row in rows.read(path):
-            asked[rows.with_octets(row.question)] += 1
+    for path in sorted(vectors.DATA.glob('*.vectors')):
+        for vector in vectors.read(path):
+            asked[vectors.with_octets(vector.question)] += 1
             if path not in made:
-                verdicts[judge_row(path, row)] += 1
+                verdicts[judge_vector(path, vector)] += 1
     twice = [question for question, count in asked.items() if count > 1]
     for question in twice:
         print(f'asked twice: {question[:120]}')
     if verdicts[None]:
-        print(f'{verdicts[None]} rows have words that the reference has not')
+        print(f'{verdicts[None]} vectors have words that the reference has not')
     return verdicts[True], verdicts[False] + len(twice)
 
 
 def counts():
-    """What the program prints that passes all rows."""
-    names = (rows.DATA.parent / 'args').read_text().split()
-    found = {name: len(rows.read(rows.DATA / name)) for name in names}
+    """What the program prints that passes all vectors."""
+    names = (vectors.DATA.parent / 'args').read_text().split()
+    found = {name: len(vectors.read(vectors.DATA / name)) for name in names}
     found['all'] = sum(found.values())
-    return ''.join(f'{name}: {count} rows, {count} passed\n'
+    return ''.join(f'{name}: {count} vectors, {count} passed\n'
                    for name, count in found.items())
 
 

@@ -139,9 +139,9 @@ class Bench:
 
     def crl(self, name, issuer, reason=''):
         """A CRL of two entries, made with the issuer's configuration."""
-        rows = [f'R\t290501000000Z\t200101000000Z{reason}\t{n:02X}\tunknown'
+        vectors = [f'R\t290501000000Z\t200101000000Z{reason}\t{n:02X}\tunknown'
                 f'\t/CN=gone{n}\n' for n in (1, 2)]
-        self.write(f'{issuer}.index', ''.join(rows))
+        self.write(f'{issuer}.index', ''.join(vectors))
         self.write(f'{issuer}.crlnumber', '0C\n')
         self.run('ca', '-gencrl', '-config', f'{issuer}.cnf', '-crlexts',
                  'crl_ext', '-cert', f'{issuer}.pem', '-keyfile',

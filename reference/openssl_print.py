@@ -112,15 +112,15 @@ def listed(lines, label, block):
     """The resources below a label, MISSING where it is absent."""
     for place, line in enumerate(lines):
         if line.startswith(label):
-            rows = [line[len(label):].strip()]
-            for row in lines[place + 1:]:
-                if row.startswith(LABELS):
+            vectors = [line[len(label):].strip()]
+            for vector in lines[place + 1:]:
+                if vector.startswith(LABELS):
                     break
-                rows.append(row)
-            rows = [row for row in rows if row]
-            if rows == ['inherit']:
+                vectors.append(vector)
+            vectors = [vector for vector in vectors if vector]
+            if vectors == ['inherit']:
                 return ref.INHERIT
-            return ref.blocks([block(row) for row in rows])
+            return ref.blocks([block(vector) for vector in vectors])
     return ref.MISSING
 
 
@@ -219,18 +219,18 @@ NAMES = {ref.OID_COMMON_NAME: 'CN', ref.OID_SERIAL_NUMBER: 'serialNumber'}
 
 def name_text(name):
     """A name as the command shows it, None where it has other attributes."""
-    sets, rows = ref.Cursor(name).take_sequence(), []
+    sets, vectors = ref.Cursor(name).take_sequence(), []
     while not sets.is_empty():
-        row, parts = sets.take_value(0x31), []
-        while not row.is_empty():
-            attribute = row.take_sequence()
+        vector, parts = sets.take_value(0x31), []
+        while not vector.is_empty():
+            attribute = vector.take_sequence()
             label = NAMES.get(ref.take_oid(attribute))
             if label is None or attribute.peek() not in (0x13, 0x0C):
                 return None
             text = attribute.take_value(attribute.peek()).rest().decode()
             parts.append(f'{label} = {text}')
-        rows.append(' + '.join(parts))
-    return ', '.join(rows)
+        vectors.append(' + '.join(parts))
+    return ', '.join(vectors)
 
 
 def known_certificate(f):

@@ -40,7 +40,7 @@ class Key(NamedTuple):
 def put_name(sets):
     """A name of sets of attributes: pairs of identifier and written value."""
     return enc(0x30, *(enc(0x31, *(enc(0x30, enc(0x06, oid), value)
-                                   for oid, value in row)) for row in sets))
+                                   for oid, value in vector)) for vector in sets))
 
 
 @reader
@@ -49,10 +49,10 @@ def take_name(cursor):
     place = cursor.place
     sets = cursor.take_sequence()
     while not sets.is_empty():
-        row = sets.take_value(0x31)
-        require(not row.is_empty())
-        while not row.is_empty():
-            attribute = row.take_sequence()
+        vector = sets.take_value(0x31)
+        require(not vector.is_empty())
+        while not vector.is_empty():
+            attribute = vector.take_sequence()
             take_oid(attribute)
             attribute.skip_one()
             attribute.finish()
@@ -63,9 +63,9 @@ def name_attributes(name):
     """Pairs of identifier and the value's identifier octet."""
     sets, found = Cursor(name).take_sequence(), []
     while not sets.is_empty():
-        row = sets.take_value(0x31)
-        while not row.is_empty():
-            attribute = row.take_sequence()
+        vector = sets.take_value(0x31)
+        while not vector.is_empty():
+            attribute = vector.take_sequence()
             found.append((take_oid(attribute), attribute.peek()))
     return found
 

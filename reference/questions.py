@@ -76,10 +76,10 @@ def set_words(rng, f):
                               ('asn', 'asns', 'as-resources')):
         words.append(f'{name}={given_resources(kind, getattr(f, field))}')
     if chance(rng, 0.2):
-        row = [ref.enc(0x06, o) for o in rng.sample(
+        vector = [ref.enc(0x06, o) for o in rng.sample(
             [ref.OID_ROUTER, *sound.UNKNOWN_OIDS], rng.randint(1, 3))]
         words.append(rng.choice(['extended-key-usage=router', 'extended-key-'
-                                 f'usage={ref.enc(0x30, *row).hex()}']))
+                                 f'usage={ref.enc(0x30, *vector).hex()}']))
     return words
 
 
@@ -219,8 +219,8 @@ def run_question(rng):
 # ------------------------------------------------------- revocation lists ---
 
 def list_fields(rng):
-    row, serials, _ = cases.random_list(rng)
-    entries = ref.Cursor(row).take_sequence().rest() if row else b''
+    vector, serials, _ = cases.random_list(rng)
+    entries = ref.Cursor(vector).take_sequence().rest() if vector else b''
     return ref.TbsCertList(
         issuer=sound.random_name(rng, True),
         this_update=sound.random_time(rng, [1949, 2019, 2050]),

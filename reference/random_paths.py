@@ -218,7 +218,7 @@ def names_around(rng, uri):
 
 def encoded_sia(rng, f):
     """The kept URIs, each perhaps after ones that don't read."""
-    rows = []
+    vectors = []
     for name, method, _ in ref.SIA_METHODS:
         uri = getattr(f, name)
         bad = NOT_HTTPS if name == 'rpki_notify' else NOT_RSYNC
@@ -227,14 +227,14 @@ def encoded_sia(rng, f):
             texts.append(uri)
             if chance(rng, 0.1):
                 texts.append(rng.choice([uri, b'x', random_uri(rng)]))
-        rows.append([ref.enc(0x30, ref.enc(0x06, method), ref.put_uri_name(text))
+        vectors.append([ref.enc(0x30, ref.enc(0x06, method), ref.put_uri_name(text))
                      for text in texts])
     if chance(rng, 0.15):
-        rows.append([ref.enc(0x30, ref.enc(0x06, rng.choice(UNKNOWN_OIDS)),
+        vectors.append([ref.enc(0x30, ref.enc(0x06, rng.choice(UNKNOWN_OIDS)),
                              *(skippable(rng, 3)
                                for _ in range(rng.randrange(3))))])
-    rng.shuffle(rows)
-    return ref.enc(0x30, *(description for row in rows for description in row))
+    rng.shuffle(vectors)
+    return ref.enc(0x30, *(description for vector in vectors for description in vector))
 
 
 def encoded_basic(rng, f):
@@ -306,12 +306,12 @@ def random_name(rng, strict):
     def attribute(identifier):
         value = bytes(rng.choices(b'ABCDEF0123456789', k=rng.randrange(1, 9)))
         return identifier, ref.enc(rng.choice(tags), value)
-    row = [attribute(ref.OID_COMMON_NAME)]
+    vector = [attribute(ref.OID_COMMON_NAME)]
     if chance(rng, 0.3):
-        row.append(attribute(ref.OID_SERIAL_NUMBER))
-    rng.shuffle(row)
+        vector.append(attribute(ref.OID_SERIAL_NUMBER))
+    rng.shuffle(vector)
     one_set = chance(rng, 0.5)
-    return ref.put_name([row] if one_set else [[part] for part in row])
+    return ref.put_name([vector] if one_set else [[part] for part in vector])
 
 
 def random_time(rng, years):

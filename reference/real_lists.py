@@ -1,10 +1,10 @@
-"""Rows of whole paths with real signatures, whose members are looked for on real lists.
+"""Vectors of whole paths with real signatures, whose members are looked for on real lists.
 
     python3 reference/real_lists.py [SEED]
 
 Takes the path that `real_paths.py` made from the seed, makes a revocation list of each issuer by
-the profile of RFC 6487 5 with the `openssl` command, and writes them and `real-revocation.rows`
-into `crates/rpki_rows/data`. Each list with one bit changed, signed by another key or of another
+the profile of RFC 6487 5 with the `openssl` command, and writes them and `real-revocation.vectors`
+into `crates/rpki_vectors/data`. Each list with one bit changed, signed by another key or of another
 key is refused. The answers are worked by hand from RFC 6487 7.2 and RFC 5280 6.3.3: the list under
 the URI that a member names is its issuer's by the key that it names, is signed by it, is not stale
 and doesn't have the member's serial number, asked in this order once the member is verified.
@@ -122,8 +122,8 @@ def changes(octets):
             ('signature\'s first octet', flipped(octets, last - 255, 0), 'BadSignature'))
 
 
-class Rows:
-    """What is written of `real-revocation.rows`; OpenSSL has to say the same of each row."""
+class Vectors:
+    """What is written of `real-revocation.vectors`; OpenSSL has to say the same of each vector."""
 
     def __init__(self, openssl, lists, words):
         self.openssl, self.lists, self.words, self.lines = openssl, lists, words, []
@@ -131,8 +131,8 @@ class Rows:
     def heading(self, sentence):
         self.lines += [f'# {sentence}', '']
 
-    def row(self, name, lists, wanted, mode='strict', moment=MOMENT, uris=ISSUERS):
-        """A row whose lists are named where they are the path's own."""
+    def vector(self, name, lists, wanted, mode='strict', moment=MOMENT, uris=ISSUERS):
+        """A vector whose lists are named where they are the path's own."""
         if accepts(self.openssl, lists, moment) != (wanted == HELD):
             raise SystemExit(f'OpenSSL says otherwise: {name}')
         known = dict(zip(self.lists, self.words))
@@ -140,35 +140,35 @@ class Rows:
         self.lines += [name, asked, f'{wanted} cached=same', '']
 
     def changed(self, name, place, octets, fault, moment=MOMENT):
-        """A row where one list is another, of which the member below its issuer is asked."""
+        """A vector where one list is another, of which the member below its issuer is asked."""
         lists = self.lists[:place] + [octets] + self.lists[place + 1:]
-        self.row(name, lists, f'refused {place + 1} revocation {fault}', moment=moment)
+        self.vector(name, lists, f'refused {place + 1} revocation {fault}', moment=moment)
 
 
-def of_changes(rows, keys):
-    rows.heading('One bit changed in a list, and the member below its issuer is refused.')
-    for place, (issuer, octets) in enumerate(zip(ISSUERS, rows.lists)):
+def of_changes(vectors, keys):
+    vectors.heading('One bit changed in a list, and the member below its issuer is refused.')
+    for place, (issuer, octets) in enumerate(zip(ISSUERS, vectors.lists)):
         for what, changed, fault in changes(octets):
-            rows.changed(f'list of the {issuer} with another {what}', place, changed, fault)
-    rows.heading('A list that another key signed is refused, and one that names that key.')
-    for place, (issuer, octets) in enumerate(zip(ISSUERS, rows.lists)):
-        rows.changed(f'list of the {issuer} signed by another key', place,
-                     signed_by(rows.openssl, keys[4], octets), 'BadSignature')
-        other_authority(rows.openssl, issuer, keys[4])
-        other = made_list(rows.openssl, 'other', keys[4], REVOKED[place])
-        rows.changed(f'list of another {issuer} with another key', place, other, 'WrongKeyId')
+            vectors.changed(f'list of the {issuer} with another {what}', place, changed, fault)
+    vectors.heading('A list that another key signed is refused, and one that names that key.')
+    for place, (issuer, octets) in enumerate(zip(ISSUERS, vectors.lists)):
+        vectors.changed(f'list of the {issuer} signed by another key', place,
+                     signed_by(vectors.openssl, keys[4], octets), 'BadSignature')
+        other_authority(vectors.openssl, issuer, keys[4])
+        other = made_list(vectors.openssl, 'other', keys[4], REVOKED[place])
+        vectors.changed(f'list of another {issuer} with another key', place, other, 'WrongKeyId')
 
 
-def of_entries(rows, keys):
-    rows.heading('A list that has the serial number of the member, is stale or absent.')
+def of_entries(vectors, keys):
+    vectors.heading('A list that has the serial number of the member, is stale or absent.')
     for place, issuer in enumerate(ISSUERS):
         serials = (*REVOKED[place], 0x12 + place)
-        revoking = made_list(rows.openssl, issuer, keys[place], serials)
-        rows.changed(f'list of the {issuer} that revokes', place, revoking, 'Revoked')
-    rows.row('behind the moments of the next updates', rows.lists, 'refused 1 revocation Stale', moment=LATER)
+        revoking = made_list(vectors.openssl, issuer, keys[place], serials)
+        vectors.changed(f'list of the {issuer} that revokes', place, revoking, 'Revoked')
+    vectors.vector('behind the moments of the next updates', vectors.lists, 'refused 1 revocation Stale', moment=LATER)
     for place, issuer in enumerate(ISSUERS):
         uris = ISSUERS[:place] + ISSUERS[place + 1:]
-        rows.row(f'no list of the {issuer}', rows.lists[:place] + rows.lists[place + 1:],
+        vectors.vector(f'no list of the {issuer}', vectors.lists[:place] + vectors.lists[place + 1:],
                  f'refused {place + 1} revocation NoCrl', uris=uris)
 
 
@@ -188,14 +188,14 @@ def main():
         words = [f'@real-{issuer}-list' for issuer in ISSUERS]
         for word, octets in zip(words, lists):
             (DATA / f'{word[1:]}.der').write_bytes(octets)
-        rows = Rows(openssl, lists, words)
-        rows.lines += [f'# Made by reference/real_lists.py from the seed {SEED}; OpenSSL accepts and refuses the same.', '']
-        rows.heading('A path and lists that OpenSSL signed by RSA keys are accepted, under RsaVerifier.')
-        rows.row('real path with its lists', lists, HELD)
-        rows.row('real path with its lists, leniently', lists, HELD, mode='lenient')
-        of_changes(rows, keys)
-        of_entries(rows, keys)
-        (DATA / 'real-revocation.rows').write_text('\n'.join(rows.lines))
+        vectors = Vectors(openssl, lists, words)
+        vectors.lines += [f'# Made by reference/real_lists.py from the seed {SEED}; OpenSSL accepts and refuses the same.', '']
+        vectors.heading('A path and lists that OpenSSL signed by RSA keys are accepted, under RsaVerifier.')
+        vectors.vector('real path with its lists', lists, HELD)
+        vectors.vector('real path with its lists, leniently', lists, HELD, mode='lenient')
+        of_changes(vectors, keys)
+        of_entries(vectors, keys)
+        (DATA / 'real-revocation.vectors').write_text('\n'.join(vectors.lines))
 
 
 if __name__ == '__main__':

@@ -1,10 +1,10 @@
-"""Rows of whole paths with real signatures.
+"""Vectors of whole paths with real signatures.
 
     python3 reference/real_paths.py [SEED]
 
 Makes an anchor, two authorities and an end entity by the profile of RFC 6487, with keys from the
-seed, signed by the `openssl` command, and writes them and `real-paths.rows` into
-`crates/rpki_rows/data`. Each member with one bit changed is refused. The answers are worked by hand
+seed, signed by the `openssl` command, and writes them and `real-paths.vectors` into
+`crates/rpki_vectors/data`. Each member with one bit changed is refused. The answers are worked by hand
 from RFC 6487 4.8.2, 4.8.3 and 7.2: what is decoded is inspected, and then verified; the key
 identifier that a certificate names for its own key is inspected, and a signature is verified last
 but for the resources. OpenSSL has to accept the path, and none with a changed member.
@@ -160,7 +160,7 @@ def main():
                   'refused 2 verify WrongKeyId', '',
                   'end entity signed by a key of 1024 bits, which RFC 7935 3 forbids',
                   question([words[0], small.hex(), below.hex()]), 'refused 2 verify BadSignature', '']
-        (DATA / 'real-paths.rows').write_text('\n'.join(lines))
+        (DATA / 'real-paths.vectors').write_text('\n'.join(lines))
 
 
 if __name__ == '__main__':

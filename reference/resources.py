@@ -97,9 +97,9 @@ def take_choice(cursor, take_element):
     if cursor.peek() == 0x05:
         take_null(cursor)
         return INHERIT
-    row, elements = cursor.take_sequence(), []
-    while not row.is_empty():
-        elements.append(take_element(row))
+    vector, elements = cursor.take_sequence(), []
+    while not vector.is_empty():
+        elements.append(take_element(vector))
     return blocks(elements)
 
 
@@ -109,10 +109,10 @@ IP_FAMILIES = {b'\x00\x01': ('v4', 32), b'\x00\x02': ('v6', 128)}
 @reader
 def take_families(cursor):
     """Resources of IPv4 and IPv6, None where a family is absent (RFC 3779 2.2.3)."""
-    row, found = cursor.take_sequence(), {}
-    require(not row.is_empty())
-    while not row.is_empty():
-        family = row.take_sequence()
+    vector, found = cursor.take_sequence(), {}
+    require(not vector.is_empty())
+    while not vector.is_empty():
+        family = vector.take_sequence()
         name = family.take_value(0x04).rest()
         require(name in IP_FAMILIES)
         kind, limit = IP_FAMILIES[name]

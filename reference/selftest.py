@@ -13,7 +13,7 @@ from dataclasses import replace
 
 import random_paths as sound
 import reference as ref
-import rows
+import vectors
 import rsa
 import worked
 
@@ -283,9 +283,9 @@ def subject_information():
 def searches():
     lists = [(), (1,), tuple(range(1, 8)), (*range(1, 8), 7)]
     for serials, bound in zip(lists, (0, 1, 3, 4)):
-        row = worked.entry_row(*serials)
-        answers = [(ref.contains_counted(row, s, False)[0],
-                    *ref.contains_counted(row, s, True)) for s in range(10)]
+        vector = worked.entry_row(*serials)
+        answers = [(ref.contains_counted(vector, s, False)[0],
+                    *ref.contains_counted(vector, s, True)) for s in range(10)]
         yield (f'search {len(serials)} answers', [b for _, b, _ in answers],
                [a for a, _, _ in answers])
         yield (f'search {len(serials)} count',
@@ -587,10 +587,10 @@ def cursors():
 
 @checks
 def counted_searches():
-    row = worked.entry_row(*range(1, 8), 7)
+    vector = worked.entry_row(*range(1, 8), 7)
     for octets, serial, uncached, cached, bound in (
-            (b'', 1, (False, 0), False, 0), (row, 1, (True, 1), True, 4),
-            (row, 7, (True, 7), True, 4), (row, 9, (False, 8), False, 4)):
+            (b'', 1, (False, 0), False, 0), (vector, 1, (True, 1), True, 4),
+            (vector, 7, (True, 7), True, 4), (vector, 9, (False, 8), False, 4)):
         label = f'search {len(octets) // 20} entries, serial {serial}'
         yield label, ref.contains_counted(octets, serial, False), uncached
         hit, count = ref.contains_counted(octets, serial, True)
@@ -775,7 +775,7 @@ def laws_by_chance():
 def signed_by_openssl():
     """An anchor, an authority, an end entity and the anchor's list."""
     names = ('ta', 'ca', 'ee', 'ta-crl')
-    return [(rows.DATA / f'openssl-{name}.der').read_bytes()
+    return [(vectors.DATA / f'openssl-{name}.der').read_bytes()
             for name in names]
 
 

@@ -1,8 +1,8 @@
 /* Calls the library at its edges: lengths cut short or that don't add up, no room, room one too
  * small, NULL beside the length 0, numbers behind the last, moments at the ends, no members and
- * many. usage: edges EXAMPLES ROWS, which are the folders examples/ and crates/rpki_rows/data/. What
+ * many. usage: edges EXAMPLES ROWS, which are the folders examples/ and crates/rpki_vectors/data/. What
  * is wanted follows from include/rpki.h, from what examples/make.sh writes into the files, and, of
- * routers, from validation.rows. Prints what isn't so, and a last line `N passed, M failed`.
+ * routers, from validation.vectors. Prints what isn't so, and a last line `N passed, M failed`.
  * tests/callers runs it, under valgrind where that is there. */
 #include "rpki.h"
 #include <stdio.h>
@@ -742,7 +742,7 @@ static uint32_t said(struct file path, const size_t *parts, size_t members, uint
                                    at, NULL, 0, NULL, 0, NULL, 0, out);
 }
 
-/* a router below an anchor of AS1 to AS10: validation.rows says what is valid there */
+/* a router below an anchor of AS1 to AS10: validation.vectors says what is valid there */
 static void routers(struct file anchor, struct file router, struct file trimming) {
     struct file path = both(anchor, router), over = both(anchor, trimming);
     const size_t parts[] = {anchor.length, router.length};

@@ -4,7 +4,7 @@
     RPKI_LIBRARY=FOLDER python3 tests/random_paths.py [COUNT]
 
 FOLDER has librpki.so (`./rpki library FOLDER`). Each path is made by
-reference/, from a seed of its own, as those of made-path.rows are; about half
+reference/, from a seed of its own, as those of made-path.vectors are; about half
 of them are no valid paths. Its signatures are the stand-in of the tests, so
 the library is asked for its questions, and handed the answers. Compares the
 whole answer: the fault with its member, or the ranges that are held. Prints

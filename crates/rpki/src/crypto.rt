@@ -1,4 +1,5 @@
-//! Keys, algorithms and signatures. What a signature is, a `Verifier` and a `Signer` say: for the RPKI's own, `RsaVerifier`.
+//! Keys, algorithms and signatures. A `Verifier` says what a valid signature is, a `Signer` makes
+//! one; `RsaVerifier` verifies those of the RPKI.
 pub mod rsa;
 
 pub use rpki_parts::{

@@ -11,12 +11,12 @@ use Rattle.rpki_der.specs.Values.Reading.{◌>>=◌}
 use Rattle.rpki_der.specs.Sequences.Reading.{Shrinks}
 use Rattle.rpki_der.specs.Encoding.{BeginsOther}
 use Rattle.rpki_der.specs.Choices.{Either}
-use Rattle.rpki_der.specs.Choices.{conversion, IsConversion, followed, Followed, whole, content_or, optional_of}
+use Rattle.rpki_der.specs.Choices.{conversion, IsConversion, and_then, AndThen, whole, content_or, optional_of}
 use Rattle.rpki_der.specs.Tags.{BIT_STRING, OCTET_STRING, SEQUENCE}
 use Rattle.rpki_der.proofs.Octets.{some_is, unless_some, nothing}
-use Rattle.rpki_der.proofs.Readings.{before, whole_before, both_before, followed_reads, whole_reads}
+use Rattle.rpki_der.proofs.Readings.{before, whole_before, both_before, and_then_reads, whole_reads}
 use Rattle.rpki_der.proofs.Optionals.{optional_before}
-use Rattle.rpki_der.proofs.Readings.{both_reads, content_reads, same_reads, followed_reads, whole_reads}
+use Rattle.rpki_der.proofs.Readings.{both_reads, content_reads, same_reads, and_then_reads, whole_reads}
 use Rattle.rpki_der.proofs.PrimitiveReads.{bits_reads, octets_reads}
 use Rattle.rpki_der.proofs.Choices.{turned_reads, turned_whole, same_whole, content_or_reads, enc_begins, other_tag, optional_of_is, content_shrinks, turned_shrinks, content_or_shrinks}
 use Rattle.rpki_blocks.specs.declared.ip_resources.Family.{Family}
@@ -107,7 +107,7 @@ abbrev Named : Family → List ℕ → Type 0
 Named = IsConversion family_of (IsEnc OCTET_STRING)
 
 abbrev FamilyContent : Family × Resources → List ℕ → Type 0
-FamilyContent = Followed Named (λ family. IsConversion (kept family) (Choice family))
+FamilyContent = AndThen Named (λ family. IsConversion (kept family) (Choice family))
 
 named : (c : List ℕ) (family : Family) → family_of c ≡ Some family → c ≡ 0 ∷ number family ∷ []
 named [] family e = nothing family e
@@ -159,8 +159,8 @@ is_family x b s = (
 family_in_reads : ReadsWhole family_in FamilyContent
 unfolding family_in
 family_in_reads =
-    whole_reads (followed (conversion family_of octets_at) of_family) FamilyContent
-    (followed_reads (conversion family_of octets_at) of_family Named (λ family. IsConversion (kept family) (Choice family))
+    whole_reads (and_then (conversion family_of octets_at) of_family) FamilyContent
+    (and_then_reads (conversion family_of octets_at) of_family Named (λ family. IsConversion (kept family) (Choice family))
     (turned_reads family_of octets_at (IsEnc OCTET_STRING) octets_reads)
     (λ family. turned_reads (kept family) (choice_at (ip_element_at family)) (Choice family)
     (choice_reads (ip_element_at family) (IsIPAddressOrRange (family_bits family)) (ip_element_reads family) (ip_element_shrinks family))))

@@ -65,8 +65,8 @@ module _ (unused : ℕ) (octets : List ℕ) (few : unused < 8) (none : octets �
       let q = n / u in
       let size : count ≡ u * 2 ^ k = sym counted ∙ pow-add 2 k unused ∙ mul_comm (2 ^ k) u in
       let low : lower octets ≡ q * (u * 2 ^ k) = ap (λ (j : ℕ). j * 2 ^ k) (div-mul_exact n u zero_bits) ∙ mul_assoc q u (2 ^ k) in
-      let rows : lower octets ≡ q * count = low ∙ ap (λ (j : ℕ). q * j) (sym size) in
-      ap (λ (j : ℕ). j / count * count) rows ∙ ap (λ (j : ℕ). j * count) (mul-div_cancel q (pow_pos (128 - (8 * length octets - unused)))) ∙ sym rows
+      let product_is : lower octets ≡ q * count = low ∙ ap (λ (j : ℕ). q * j) (sym size) in
+      ap (λ (j : ℕ). j / count * count) product_is ∙ ap (λ (j : ℕ). j * count) (mul-div_cancel q (pow_pos (128 - (8 * length octets - unused)))) ∙ sym product_is
 
   -- a prefix whose other bits are zero is from the lower to the upper address
   pub prefix_is : (b : Block) → IsPrefixBlock (lower octets) (8 * length octets - unused) b → b ≡ record { min = lower octets; max = upper unused octets }

@@ -3,7 +3,7 @@ use Rattle.std.specs.Prelude.{bytes_eq}
 use Rattle.std.proofs.Common.{◌≡◌, ◌≢◌, ℕ, false, List, Option, inl, inr, subst, sym}
 use Rattle.std.proofs.lemmas.Bool.{cases_Bool}
 use Rattle.std.proofs.lemmas.Slice.Eq.{bytes_eq-Decides}
-use Rattle.rpki_blocks.specs.Overclaims.Reading.{named}
+use Rattle.rpki_blocks.specs.Overclaims.Reading.{mode_of}
 use Rattle.rpki_blocks.specs.Overclaims.{IsNamed}
 use Rattle.rpki_blocks.specs.declared.overclaim.Overclaim.{Overclaim}
 use Rattle.rpki_blocks.specs.declared.overclaim.Overclaim.TheVariants.{Refuse, Trim}
@@ -16,7 +16,7 @@ neither identifier id r t Refuse = other id (identifier Refuse) r
 neither identifier id r t Trim = other id (identifier Trim) t
 
 -- the function names the mode that the identifier names
-pub is_named : (identifier : Overclaim → List ℕ) (id : List ℕ) → IsNamed identifier id (named identifier id)
+pub is_named : (identifier : Overclaim → List ℕ) (id : List ℕ) → IsNamed identifier id (mode_of identifier id)
 is_named identifier id =
     elim (cases_Bool (bytes_eq id (identifier Refuse))) [
       | inl y ↦ rw y ((bytes_eq-Decides id (identifier Refuse)).0 y)
@@ -27,5 +27,5 @@ is_named identifier id =
     ]
 
 -- an answer of the function names the mode
-pub was_named : (identifier : Overclaim → List ℕ) (id : List ℕ) (r : Option Overclaim) → r ≡ named identifier id → IsNamed identifier id r
+pub was_named : (identifier : Overclaim → List ℕ) (id : List ℕ) (r : Option Overclaim) → r ≡ mode_of identifier id → IsNamed identifier id r
 was_named identifier id r e = subst (λ (o : Option Overclaim). IsNamed identifier id o) (sym e) (is_named identifier id)

@@ -14,7 +14,7 @@ use Rattle.rpki_der.specs.Tags.{OCTET_STRING, SEQUENCE}
 use Rattle.rpki_der.specs.Values.{IsEnc, IsValue, enc, sequence}
 use Rattle.rpki_der.proofs.Formats.{of_enc, same_enc}
 use Rattle.rpki_der.proofs.Octets.{some_is}
-use Rattle.rpki_der.proofs.Sequences.{row_again}
+use Rattle.rpki_der.proofs.Sequences.{sequence_again}
 use Rattle.rpki_der.proofs.ValueWritten.{Short, made, content_short, pieces_short}
 use Rattle.rpki_der.proofs.Values.{one_value}
 use Rattle.rpki_blocks.specs.AddressBits.{ip_block}
@@ -82,17 +82,17 @@ element_wider r b h =
 
 -- ---- a sequence of elements
 
-row_v4 : (rs : List Block) (b : List ℕ) → AreEncodings (IsIPAddressOrRange 32) rs b → list_all is_v4_block rs ≡ true
-row_v4 [] b h = refl
-row_v4 (r ∷ rs) b h = and_from (is_v4_block r) (list_all is_v4_block rs) (whole_v4 r (element_whole r h.0 h.2)) (row_v4 rs h.1 h.3)
+sequence_v4 : (rs : List Block) (b : List ℕ) → AreEncodings (IsIPAddressOrRange 32) rs b → list_all is_v4_block rs ≡ true
+sequence_v4 [] b h = refl
+sequence_v4 (r ∷ rs) b h = and_from (is_v4_block r) (list_all is_v4_block rs) (whole_v4 r (element_whole r h.0 h.2)) (sequence_v4 rs h.1 h.3)
 
-row_wider : (rs : List Block) (b : List ℕ) → AreEncodings (IsIPAddressOrRange 32) rs b → AreEncodings (IsIPAddressOrRange 128) rs b
-row_wider [] b h = h
-row_wider (r ∷ rs) b h = (h.0, h.1, element_wider r h.0 h.2, row_wider rs h.1 h.3, h.4)
+sequence_wider : (rs : List Block) (b : List ℕ) → AreEncodings (IsIPAddressOrRange 32) rs b → AreEncodings (IsIPAddressOrRange 128) rs b
+sequence_wider [] b h = h
+sequence_wider (r ∷ rs) b h = (h.0, h.1, element_wider r h.0 h.2, sequence_wider rs h.1 h.3, h.4)
 
 one_row : (rs ss : List Block) (b : List ℕ) → AreEncodings (IsIPAddressOrRange 128) rs b → AreEncodings (IsIPAddressOrRange 128) ss b → rs ≡ ss
 one_row rs ss b g h =
-    let read = row_again (ip_element_at V6) (IsIPAddressOrRange 128) (ip_element_reads V6) (ip_element_shrinks V6) in
+    let read = sequence_again (ip_element_at V6) (IsIPAddressOrRange 128) (ip_element_reads V6) (ip_element_shrinks V6) in
     some_is rs ss (sym (read rs b g) ∙ read ss b h)
 
 -- ---- a choice
@@ -105,8 +105,8 @@ choice_v4 bs r kind short h =
           let content = same_enc s.encoded.enc (made SEQUENCE (concat (map ip_block bs)) (omega arith) short) in
           let read = subst (λ (c : List ℕ). AreEncodings (IsIPAddressOrRange 32) s.elements c) content.1 s.encoded.content_is in
           let wrote = elements_made IsV6Block ip_block (IsIPAddressOrRange 128) v6_writes bs (fits_v6 (blocks bs) kind).2 (pieces_short (map ip_block bs) (content_short SEQUENCE _ short)) in
-          let same = one_row s.elements bs (concat (map ip_block bs)) (row_wider s.elements _ read) wrote in
-          subst (λ (es : List Block). list_all is_v4_block es ≡ true) same (row_v4 s.elements _ read)
+          let same = one_row s.elements bs (concat (map ip_block bs)) (sequence_wider s.elements _ read) wrote in
+          subst (λ (es : List Block). list_all is_v4_block es ≡ true) same (sequence_v4 s.elements _ read)
       | inr s ↦ absurd cc (s.1)
     ]
 

@@ -108,10 +108,10 @@ choice_made P write element w (blocks []) c e f s = absurd (f.0 refl)
 choice_made P write element w (blocks (b ∷ bs)) c e f s =
     let is : sequence (map write (b ∷ bs)) ≡ c = same_Some _ _ e in
     let short : Short (sequence (map write (b ∷ bs))) = subst Short (sym is) s in
-    let row = elements_made P write element w (b ∷ bs) f.2 (pieces_short (map write (b ∷ bs)) (content_short SEQUENCE _ short)) in
+    let sequence_is = elements_made P write element w (b ∷ bs) f.2 (pieces_short (map write (b ∷ bs)) (content_short SEQUENCE _ short)) in
     subst (λ (x : List ℕ). IsResourceChoice element (blocks (b ∷ bs)) x) is (inl (record {
       elements = b ∷ bs;
-      encoded = record { content = concat (map write (b ∷ bs)); content_is = row; enc = made SEQUENCE _ (omega arith) short };
+      encoded = record { content = concat (map write (b ∷ bs)); content_is = sequence_is; enc = made SEQUENCE _ (omega arith) short };
       union = record { chain = b ∷ bs; is_chain = f.1; same = λ n. refl; is = refl };
     }))
 

@@ -2,7 +2,7 @@
 use Rattle.std.proofs.Common.{◌≡◌, ℕ, ◌+◌, ◌<◌, ◌≤◌, ltb, min, max, true, List, [], ◌∷◌, ◌++◌, Option, Some, None, refl, sym, ap, ◌∙◌, arith, inl, inr}
 use Rattle.std.proofs.lemmas.Bool.{cases_Bool, cases_lt, ltb-true, ltb-false}
 use Rattle.std.specs.Cmp.{both_ways}
-use Rattle.rpki_der.specs.Sequences.Reading.{row_of}
+use Rattle.rpki_der.specs.Sequences.Reading.{sequence_of}
 use Rattle.rpki_blocks.specs.Sets.{Block, is_in, IsChain, HaveSameNumbers}
 use Rattle.rpki_blocks.specs.Resources.{Resources, listed}
 use Rattle.rpki_blocks.specs.Unions.{IsUnion}
@@ -193,9 +193,9 @@ merged_one bs cs e = one_chain (merged bs) (merged cs) (merged_chain bs) (merged
 
 module _ (element : List ℕ → Option (Block × List ℕ)) (octets : List ℕ) where
   -- the union of a sequence is that of blocks with its elements' numbers
-  pub union_same : (elements blocks : List Block) → row_of element octets ≡ Some elements → HaveSameNumbers blocks elements → union_of element octets ≡ Some (listed (merged blocks))
-  union_same elements blocks row same = rw row (ap (λ (bs : List Block). Some (listed bs)) (merged_one elements blocks (λ n. sym (same n))))
+  pub union_same : (elements blocks : List Block) → sequence_of element octets ≡ Some elements → HaveSameNumbers blocks elements → union_of element octets ≡ Some (listed (merged blocks))
+  union_same elements blocks sequence_is same = rw sequence_is (ap (λ (bs : List Block). Some (listed bs)) (merged_one elements blocks (λ n. sym (same n))))
 
   -- what is no sequence has no union
-  pub union_none : row_of element octets ≡ None → union_of element octets ≡ None
+  pub union_none : sequence_of element octets ≡ None → union_of element octets ≡ None
   union_none none = rw none refl

@@ -2,7 +2,7 @@
 ghost use Rattle.std.specs.Prelude.{◌≡◌, ◌++◌, ℕ, List, [], ◌∷◌, Option, Some, OnOk};
 ghost use Rattle.rpki_der.specs.Place.{Place, remaining, Keeps};
 ghost use Rattle.rpki_der.specs.Place.Reading.{Took, TookOrMemory, ReturnsOrMemory, ReturnsOrMemoryBy};
-ghost use Rattle.rpki_der.specs.Sequences.Reading.{row_of, Shrinks};
+ghost use Rattle.rpki_der.specs.Sequences.Reading.{sequence_of, Shrinks};
 ghost use Rattle.rpki_blocks.specs.Resources.{listed};
 ghost use Rattle.rpki_blocks.specs.Sets.{Block as Span, HaveSameNumbers};
 ghost use Rattle.rpki_blocks.specs.Unions.Reading.{merged, union_of, choice_at};

@@ -3,7 +3,7 @@ ghost use Rattle.std.specs.Prelude.{◌≡◌, Some};
 ghost use Rattle.rpki_der.specs.Primitives.{IsOid};
 ghost use Rattle.rpki_blocks.specs.Overclaims.{ip_identifier, as_identifier, policy_identifier, IsNamed};
 ghost use Rattle.rpki_blocks.specs.ResourceTexts.{overclaim_text};
-ghost use Rattle.rpki_blocks.specs.Overclaims.Reading.{which, named};
+ghost use Rattle.rpki_blocks.specs.Overclaims.Reading.{which, mode_of};
 
 use rpki_der::oid;
 use std::fmt;
@@ -58,7 +58,7 @@ impl Overclaim {
     /// [`Overclaim::policy_id`] of one.
     pub fn from_policy(identifier: &[u8]) -> Option<Overclaim>
         ensures named { IsNamed policy_identifier identifier.now result }
-        ensures reads { result ≡ named policy_identifier identifier.now }
+        ensures reads { result ≡ mode_of policy_identifier identifier.now }
     {
         which(
             identifier,
@@ -71,7 +71,7 @@ impl Overclaim {
     /// [`Overclaim::ip_res_id`] of one.
     pub fn from_ip_res(identifier: &[u8]) -> Option<Overclaim>
         ensures named { IsNamed ip_identifier identifier.now result }
-        ensures reads { result ≡ named ip_identifier identifier.now }
+        ensures reads { result ≡ mode_of ip_identifier identifier.now }
     {
         which(identifier, oid::PE_IP_ADDR_BLOCK, oid::PE_IP_ADDR_BLOCK_V2)
     }
@@ -80,7 +80,7 @@ impl Overclaim {
     /// [`Overclaim::as_res_id`] of one.
     pub fn from_as_res(identifier: &[u8]) -> Option<Overclaim>
         ensures named { IsNamed as_identifier identifier.now result }
-        ensures reads { result ≡ named as_identifier identifier.now }
+        ensures reads { result ≡ mode_of as_identifier identifier.now }
     {
         which(
             identifier,

@@ -14,7 +14,7 @@ use thiserror::Error;
 /// Why a certificate gets no set of numbers.
 #[derive(Debug, Drop, Error)]
 pub enum IssueError {
-    /// It lists a number that its issuer doesn't have, and must not.
+    /// It lists a number that its issuer doesn't have, and its policy rejects that.
     #[error("resources overclaimed")]
     Overclaimed,
     #[error("out of memory")]

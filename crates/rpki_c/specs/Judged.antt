@@ -88,7 +88,7 @@ pub record IsFaultOfRouter (x : Context) (lists : Option (List Stored)) (above :
   pub fault_is : Finds x (router_demand x lists issuer) octets e.fault
 
 -- an Ok says that the strings above the router are a valid path to the member that is answered, and
--- the router's is good below it; an error says which string is wrong, and why
+-- the router's is valid below it; an error says which string is wrong, and why
 abbrev pub AnswersRouter : Context → Option (List Stored) → List (List ℕ) → List ℕ → Result ResourceFields PathError → Type 0
 AnswersRouter x lists above octets (Ok issuer) = IsJudged x lists Authority above (Ok issuer) × IsRouter x lists issuer octets
 AnswersRouter x lists above octets (Err e) = IsFaultAbove x lists above e ⊎ IsFaultOfRouter x lists above octets e

@@ -3,12 +3,12 @@ use Rattle.std.proofs.Common.{◌≡◌, ℕ, List, [], ◌∷◌, Option, Some,
 use Rattle.std.proofs.lemmas.List.{append-nil}
 use Rattle.rpki_der.specs.Values.{enc, length_octets, IsEnc}
 use Rattle.rpki_der.specs.Tags.{CONTEXT_CONSTRUCTED, INTEGER, SEQUENCE}
-use Rattle.rpki_der.specs.Reading.{inside, content, mapped, Inside, Reads, Both}
+use Rattle.rpki_der.specs.Reading.{inside, content, map_value, Inside, Reads, Both}
 use Rattle.rpki_der.specs.Values.Reading.{value_at}
 use Rattle.rpki_der.specs.Serials.{IsSerial}
 use Rattle.rpki_der.specs.Choices.{exactly, IsConversion, conversion}
 use Rattle.rpki_der.proofs.Octets.{bind_some, some, some_is}
-use Rattle.rpki_der.proofs.Readings.{inside_reads, content_reads, mapped_reads, same_reads, both_reads}
+use Rattle.rpki_der.proofs.Readings.{inside_reads, content_reads, map_value_reads, same_reads, both_reads}
 use Rattle.rpki_der.proofs.ValueReads.{value_reads}
 use Rattle.rpki_der.proofs.SerialReads.{serial_reads}
 use Rattle.rpki_der.proofs.Choices.{exactly_reads, turned_reads}
@@ -82,14 +82,14 @@ fields_reads =
     (inside_reads (CONTEXT_CONSTRUCTED 3) (value_at SEQUENCE) (IsEnc SEQUENCE) (value_reads SEQUENCE)))))))))
 
 -- the sequence of extensions, as it stands
-abbrev row_in : Fields → List ℕ
-row_in (_, (_, (_, (_, (_, (_, (_, row))))))) = row
+abbrev sequence_in : Fields → List ℕ
+sequence_in (_, (_, (_, (_, (_, (_, (_, elements))))))) = elements
 
 abbrev fields_made : Fields → ExtensionFields → TbsFields
 fields_made (_, (serial, (algorithm, (issuer, (validity, (subject, (key, _))))))) x =
     record { serial = serial; algorithm = algorithm; issuer = issuer; validity = validity; subject = subject; key = key; extensions = x }
 
-is_content : (p : Fields) (x : ExtensionFields) (text : List ℕ) → AreInOrder p text → extensions_of (row_in p) ≡ Some x → IsTbsCertificateContent (fields_made p x) text
+is_content : (p : Fields) (x : ExtensionFields) (text : List ℕ) → AreInOrder p text → extensions_of (sequence_in p) ≡ Some x → IsTbsCertificateContent (fields_made p x) text
 is_content p x text (version, after_version, version_is, fields, text_is) e =
     let (serial, _, serial_is, after_serial, from_serial) = fields in
     let (algorithm, _, algorithm_is, after_algorithm, from_algorithm) = after_serial in
@@ -98,7 +98,7 @@ is_content p x text (version, after_version, version_is, fields, text_is) e =
     let (subject, _, subject_is, after_subject, from_subject) = after_validity in
     let (key, extensions, key_is, tagged, from_key) = after_subject in
     let (sequence, sequence_is, tagged_is) = tagged in
-    let (triples, row_is, gives) = extensions_read.takes (row_in p) x sequence_is.octets e in
+    let (triples, elements_are, gives) = extensions_read.takes (sequence_in p) x sequence_is.octets e in
     record {
       serial = serial;
       algorithm = algorithm;
@@ -113,10 +113,10 @@ is_content p x text (version, after_version, version_is, fields, text_is) e =
       validity_is = validity_is;
       subject_is = subject_is;
       key_is = key_is;
-      row = row_in p;
+      elements = sequence_in p;
       triples = triples;
-      row_is = row_is;
-      extensions_is = (sequence, tagged_is, (row_in p, sequence_is, refl));
+      elements_are = elements_are;
+      extensions_is = (sequence, tagged_is, (sequence_in p, sequence_is, refl));
       gives = gives;
       is =
           text_is ∙ ap (λ (t : List ℕ). t ++ after_version) version_is
@@ -130,7 +130,7 @@ is_content p x text (version, after_version, version_is, fields, text_is) e =
     }
 
 abbrev fields_of : (f : TbsFields) → List ℕ → Fields
-fields_of f row = (tt, (f.serial, (f.algorithm, (f.issuer, (f.validity, (f.subject, (f.key, row)))))))
+fields_of f elements = (tt, (f.serial, (f.algorithm, (f.issuer, (f.validity, (f.subject, (f.key, elements)))))))
 
 content_is : (f : TbsFields) (text : List ℕ) → (s : IsTbsCertificateContent f text) → AreInOrder (fields_of f s.extensions_is.2.0) text
 content_is f text s =
@@ -181,22 +181,22 @@ content_is f text s =
     )
 
 -- the extensions of a content are read again
-row_again : (f : TbsFields) (text : List ℕ) → (s : IsTbsCertificateContent f text) → extensions_of s.extensions_is.2.0 ≡ Some f.extensions
-row_again f text s = extensions_read.again f.extensions s.extensions_is.2.0 (subst (λ (row : List ℕ). AreExtensions f.extensions row) (sym s.extensions_is.2.2) (s.triples, s.row_is, s.gives))
+sequence_again : (f : TbsFields) (text : List ℕ) → (s : IsTbsCertificateContent f text) → extensions_of s.extensions_is.2.0 ≡ Some f.extensions
+sequence_again f text s = extensions_read.again f.extensions s.extensions_is.2.0 (subst (λ (elements : List ℕ). AreExtensions f.extensions elements) (sym s.extensions_is.2.2) (s.triples, s.elements_are, s.gives))
 
-some_made : (f : TbsFields) (row : List ℕ) → extensions_of row ≡ Some f.extensions → with_extensions (fields_of f row) ≡ Some f
-some_made f row e = rw e refl
+some_made : (f : TbsFields) (elements : List ℕ) → extensions_of elements ≡ Some f.extensions → with_extensions (fields_of f elements) ≡ Some f
+some_made f elements e = rw e refl
 
 is_tbs : (f : TbsFields) (text : List ℕ) → IsConversion with_extensions (Inside SEQUENCE AreInOrder) f text → IsTbsCertificate f text
 is_tbs f text (p, s, e) =
-    let a = bind_some (extensions_of (row_in p)) (λ x. some (fields_made p x)) f e in
+    let a = bind_some (extensions_of (sequence_in p)) (λ x. some (fields_made p x)) f e in
     let content : IsTbsCertificateContent (fields_made p a.0) s.0 = is_content p a.0 s.0 s.1 a.1 in
     record { content = s.0; content_is = subst (λ (g : TbsFields). IsTbsCertificateContent g s.0) (some_is (fields_made p a.0) f a.2) content; enc = s.2 }
 
 tbs_is : (f : TbsFields) (text : List ℕ) → IsTbsCertificate f text → IsConversion with_extensions (Inside SEQUENCE AreInOrder) f text
 tbs_is f text s =
-    let row = s.content_is.extensions_is.2.0 in
-    (fields_of f row, (s.content, content_is f s.content s.content_is, s.enc), some_made f row (row_again f s.content s.content_is))
+    let elements = s.content_is.extensions_is.2.0 in
+    (fields_of f elements, (s.content, content_is f s.content s.content_is, s.enc), some_made f elements (sequence_again f s.content s.content_is))
 
 -- a TBSCertificate is read as it is encoded
 pub tbs_reads : Reads tbs_at IsTbsCertificate
@@ -212,8 +212,8 @@ tbs_reads =
 pub cert_content_reads : Reads cert_content_at IsCertificateContent
 unfolding cert_content_at
 cert_content_reads =
-    same_reads (mapped certificate (signed_at tbs_at)) (λ c. AreSigned IsTbsCertificate (c.fields, c.signed_data)) IsCertificateContent
-    (mapped_reads (signed_at tbs_at) (AreSigned IsTbsCertificate) certificate (λ c. (c.fields, c.signed_data)) (λ p. refl) (λ c. refl)
+    same_reads (map_value certificate (signed_at tbs_at)) (λ c. AreSigned IsTbsCertificate (c.fields, c.signed_data)) IsCertificateContent
+    (map_value_reads (signed_at tbs_at) (AreSigned IsTbsCertificate) certificate (λ c. (c.fields, c.signed_data)) (λ p. refl) (λ c. refl)
     (signed_reads tbs_at IsTbsCertificate tbs_reads (λ f text s. of_enc s.enc)))
     (λ c text s. record { signed_is = s.0; fields_are = s.1 })
     (λ c text s. (s.signed_is, s.fields_are))

@@ -21,7 +21,7 @@ use Rattle.rpki_parts.proofs.AlgorithmWritten.{algorithm_made, ok_algorithm}
 use Rattle.rpki_cert.specs.Certificates.{TbsFields, version_3, IsTbsCertificate, tagged_extensions, tbs_content, encoding, Fits, CertFields, IsCertificate}
 use Rattle.rpki_ext.specs.CertificateExtensions.{extensions, parts, HasResources}
 use Rattle.rpki_ext.proofs.CertificateExtensions.{known_parts, ok_contents, fields_given}
-use Rattle.rpki_ext.proofs.KindsWritten.{written, row_made, contents_short, ok_row}
+use Rattle.rpki_ext.proofs.KindsWritten.{written, elements_made, contents_short, ok_sequence}
 
 -- the values inside the SEQUENCE of what is written of fields
 abbrev pub pieces : TbsFields → List (List ℕ)
@@ -45,7 +45,7 @@ module _ (f : TbsFields) (fits : Fits f) (only_v4 : AreV4 f.extensions.v4_resour
                   (λ l. value_octets fits.subject_is.parts_are.sequence),
                   (
                     ok_key f.key fits.key_is,
-                    (ok_nested (CONTEXT_CONSTRUCTED 3 ∷ SEQUENCE ∷ []) (extensions f.extensions) (literal (CONTEXT_CONSTRUCTED 3 ∷ SEQUENCE ∷ []) refl) (ok_row (parts f.extensions) (known_parts f.extensions) (ok_contents f.extensions fits.extensions_are only_v4)), tt),
+                    (ok_nested (CONTEXT_CONSTRUCTED 3 ∷ SEQUENCE ∷ []) (extensions f.extensions) (literal (CONTEXT_CONSTRUCTED 3 ∷ SEQUENCE ∷ []) refl) (ok_sequence (parts f.extensions) (known_parts f.extensions) (ok_contents f.extensions fits.extensions_are only_v4)), tt),
                   ),
                 ),
               ),
@@ -63,7 +63,7 @@ module _ (f : TbsFields) (fits : Fits f) (only_v4 : AreV4 f.extensions.v4_resour
   unfolding extensions
   tbs_made b is some =
       let (_, (serial_short, (algorithm_short, (_, (validity_short, (_, (key_short, (last, _)))))))) = pieces_short (pieces f) (fits.short, content_octets) in
-      let row = pieces_short (map text (parts f.extensions)) (nested_short (CONTEXT_CONSTRUCTED 3 ∷ SEQUENCE ∷ []) (extensions f.extensions) last) in
+      let elements = pieces_short (map text (parts f.extensions)) (nested_short (CONTEXT_CONSTRUCTED 3 ∷ SEQUENCE ∷ []) (extensions f.extensions) last) in
       record {
         content = tbs_content f;
         content_is = record {
@@ -80,11 +80,11 @@ module _ (f : TbsFields) (fits : Fits f) (only_v4 : AreV4 f.extensions.v4_resour
           validity_is = validity_made f.validity fits.not_before_is fits.not_after_is validity_short;
           subject_is = fits.subject_is;
           key_is = key_made f.key key_short;
-          row = extensions f.extensions;
+          elements = extensions f.extensions;
           triples = written (parts f.extensions);
-          row_is = row_made (parts f.extensions) (known_parts f.extensions) row;
+          elements_are = elements_made (parts f.extensions) (known_parts f.extensions) elements;
           extensions_is = nested_made (CONTEXT_CONSTRUCTED 3 ∷ SEQUENCE ∷ []) (extensions f.extensions) (omega arith, (omega arith, tt)) last;
-          gives = fields_given f.extensions fits.extensions_are only_v4 some (contents_short (parts f.extensions) row);
+          gives = fields_given f.extensions fits.extensions_are only_v4 some (contents_short (parts f.extensions) elements);
           is = refl;
         };
         enc = enc_made b is;

@@ -42,11 +42,11 @@ module _ (f g : TbsFields) (fits : Fits f) (read : IsTbsCertificate g (encoding 
   shorts : AllByRecursion Short (pieces f)
   shorts = pieces_short (pieces f) (fits.short, subst AreOctets same read.enc.octets)
 
-  row_tagged : Short (tagged_extensions f.extensions)
-  row_tagged = let (_, (_, (_, (_, (_, (_, (_, (last, _)))))))) = shorts in last
+  sequence_tagged : Short (tagged_extensions f.extensions)
+  sequence_tagged = let (_, (_, (_, (_, (_, (_, (_, (last, _)))))))) = shorts in last
 
-  row_nested : IsNested tags (extensions f.extensions) (tagged_extensions f.extensions)
-  row_nested = nested_made tags (extensions f.extensions) (omega arith, (omega arith, tt)) row_tagged
+  sequence_nested : IsNested tags (extensions f.extensions) (tagged_extensions f.extensions)
+  sequence_nested = nested_made tags (extensions f.extensions) (omega arith, (omega arith, tt)) sequence_tagged
 
   abbrev read_pieces : List (List ℕ)
   read_pieces = let s = read.content_is in version_3 ∷ s.serial ∷ s.algorithm ∷ s.issuer ∷ s.validity ∷ s.subject ∷ s.key ∷ s.extensions ∷ []
@@ -63,7 +63,7 @@ module _ (f g : TbsFields) (fits : Fits f) (read : IsTbsCertificate g (encoding 
               of_enc fits.issuer_is.parts_are.sequence,
               (
                 of_enc (validity_made f.validity fits.not_before_is fits.not_after_is validity).sequence,
-                (of_enc fits.subject_is.parts_are.sequence, (of_enc (key_made f.key key).sequence, (of_enc row_nested.1, tt))),
+                (of_enc fits.subject_is.parts_are.sequence, (of_enc (key_made f.key key).sequence, (of_enc sequence_nested.1, tt))),
               ),
             ),
           ),
@@ -87,23 +87,23 @@ module _ (f g : TbsFields) (fits : Fits f) (read : IsTbsCertificate g (encoding 
       )
 
   -- the sequence that is read is the sequence that is written
-  row_read : read.content_is.row ≡ extensions f.extensions
-  row_read =
+  sequence_read : read.content_is.elements ≡ extensions f.extensions
+  sequence_read =
       let all = one_row read_pieces (pieces f) read_values written_values (sym read.content_is.is ∙ same) in
       let tagged : read.content_is.extensions ≡ tagged_extensions f.extensions = ap (λ (ps : List (List ℕ)). get_or ps 7 []) all in
-      one_content tags read.content_is.row (extensions f.extensions) (tagged_extensions f.extensions) (subst (λ (b : List ℕ). IsNested tags read.content_is.row b) tagged read.content_is.extensions_is) row_nested
+      one_content tags read.content_is.elements (extensions f.extensions) (tagged_extensions f.extensions) (subst (λ (b : List ℕ). IsNested tags read.content_is.elements b) tagged read.content_is.extensions_is) sequence_nested
 
   extensions_read : AreExtensions g.extensions (extensions f.extensions)
-  extensions_read = (read.content_is.triples, subst (λ (b : List ℕ). AreEncodings IsExtension read.content_is.triples b) row_read read.content_is.row_is, read.content_is.gives)
+  extensions_read = (read.content_is.triples, subst (λ (b : List ℕ). AreEncodings IsExtension read.content_is.triples b) sequence_read read.content_is.elements_are, read.content_is.gives)
 
   -- the fields can be written
   pub can_be_written : CanBeWritten f
   can_be_written =
-      let row = nested_short tags (extensions f.extensions) row_tagged in
+      let elements = nested_short tags (extensions f.extensions) sequence_tagged in
       record {
         fits = fits;
-        resources = resources_read f.extensions g.extensions row extensions_read;
-        only_v4 = v4_read f.extensions g.extensions row extensions_read fits.extensions_are.v4_is;
+        resources = resources_read f.extensions g.extensions elements extensions_read;
+        only_v4 = v4_read f.extensions g.extensions elements extensions_read fits.extensions_are.v4_is;
       }
 
   -- and are those that are read

@@ -18,9 +18,9 @@ use Rattle.rpki_cert.specs.Certificates.{TbsFields, CertFields, IsTbsCertificate
 
 -- ---- sequences, and the one extension of a kind
 
-more_rows : {V : Type 0} (S T : V → List ℕ → Type 0) → ((v : V) (b : List ℕ) → S v b → T v b) → (vs : List V) (b : List ℕ) → AreEncodings S vs b → AreEncodings T vs b
-more_rows S T f [] b h = h
-more_rows S T f (v ∷ vs) b h = (h.0, h.1, f v h.0 h.2, more_rows S T f vs h.1 h.3, h.4)
+more_sequences : {V : Type 0} (S T : V → List ℕ → Type 0) → ((v : V) (b : List ℕ) → S v b → T v b) → (vs : List V) (b : List ℕ) → AreEncodings S vs b → AreEncodings T vs b
+more_sequences S T f [] b h = h
+more_sequences S T f (v ∷ vs) b h = (h.0, h.1, f v h.0 h.2, more_sequences S T f vs h.1 h.3, h.4)
 
 more_pieces : {V : Type 0} (S T : V → List ℕ → Type 0) → ((v : V) (b : List ℕ) → S v b → T v b) → (vs : List V) (pieces : List (List ℕ)) → AllZip S vs pieces → AllZip T vs pieces
 more_pieces S T f [] [] h = h
@@ -34,8 +34,8 @@ more_of_one P Q f (x ∷ []) v h = (h.0, f x h.0 h.1, h.2)
 more_of_one P Q f (x ∷ y ∷ more) v h = h
 
 module _ (d e : ℕ) (le : d ≤ e) where
-  skipped : (row : List (List ℕ)) → AllByRecursion (IsSkippableWithin d) row → AllByRecursion (IsSkippableWithin e) row
-  skipped row h = weaken (IsSkippableWithin d) (IsSkippableWithin e) (λ b s. deeper d e b le s) row h
+  skipped : (elements : List (List ℕ)) → AllByRecursion (IsSkippableWithin d) elements → AllByRecursion (IsSkippableWithin e) elements
+  skipped elements h = weaken (IsSkippableWithin d) (IsSkippableWithin e) (λ b s. deeper d e b le s) elements h
 
   -- ---- names
 
@@ -51,14 +51,14 @@ module _ (d e : ℕ) (le : d ≤ e) where
   }
 
   name_part : (attributes : List Attribute) (b : List ℕ) → IsRelativeDistinguishedNameWithin d attributes b → IsRelativeDistinguishedNameWithin e attributes b
-  name_part attributes b h = record { content = h.content; row = more_rows _ _ attribute attributes h.content h.row; some = h.some; set = h.set }
+  name_part attributes b h = record { content = h.content; elements = more_sequences _ _ attribute attributes h.content h.elements; some = h.some; set = h.set }
 
   -- a Name under one bound of depth is one under a greater bound
   pub deeper_name : (name b : List ℕ) → IsNameWithin d name b → IsNameWithin e name b
   deeper_name name b h =
       let parts = h.parts_are in record {
         parts = h.parts;
-        parts_are = record { content = parts.content; row = more_rows _ _ name_part h.parts parts.content parts.row; sequence = parts.sequence };
+        parts_are = record { content = parts.content; elements = more_sequences _ _ name_part h.parts parts.content parts.elements; sequence = parts.sequence };
         kept = h.kept;
       }
 
@@ -66,7 +66,7 @@ module _ (d e : ℕ) (le : d ≤ e) where
 
   description : (v : Option (AccessMethod × List ℕ)) (b : List ℕ) → IsAccessDescriptionWithin d v b → IsAccessDescriptionWithin e v b
   description (Some v) b h = h
-  description None b h = record { id = h.id; method = h.method; row = h.row; method_is = h.method_is; unknown = h.unknown; skipped = skipped h.row h.skipped; sequence = h.sequence }
+  description None b h = record { id = h.id; method = h.method; elements = h.elements; method_is = h.method_is; unknown = h.unknown; skipped = skipped h.elements h.skipped; sequence = h.sequence }
 
   access : (v : Access) (b : List ℕ) → IsSubjectInformationAccessWithin d v b → IsSubjectInformationAccessWithin e v b
   access v b h = record {
@@ -137,9 +137,9 @@ module _ (d e : ℕ) (le : d ≤ e) where
     validity_is = h.validity_is;
     subject_is = deeper_name f.subject h.subject h.subject_is;
     key_is = h.key_is;
-    row = h.row;
+    elements = h.elements;
     triples = h.triples;
-    row_is = h.row_is;
+    elements_are = h.elements_are;
     extensions_is = h.extensions_is;
     gives = gives h.triples f.extensions h.gives;
     is = h.is;

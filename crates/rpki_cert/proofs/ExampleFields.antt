@@ -40,7 +40,7 @@ some_fields = record {
 
 is_name : IsName no_name no_name
 unfolding enc length_octets
-is_name = record { parts = []; parts_are = record { content = []; row = refl; sequence = record { octet = omega arith; low_tag = omega arith; octets = tt; short = omega arith; is = refl } }; kept = refl }
+is_name = record { parts = []; parts_are = record { content = []; elements = refl; sequence = record { octet = omega arith; low_tag = omega arith; octets = tt; short = omega arith; is = refl } }; kept = refl }
 
 is_moment : IsMoment year_2000
 is_moment = record { year = omega arith; month = (omega arith, omega arith); day = (omega arith, omega arith); hour = omega arith; minute = omega arith; second = omega arith }

@@ -8,7 +8,7 @@ use Rattle.rpki_der.specs.Extensions.{Extension, IsExtension}
 use Rattle.rpki_der.specs.Place.{Rejects}
 use Rattle.rpki_der.specs.Place.Reading.{ReturnsOrMemoryBy}
 use Rattle.rpki_der.specs.Sequences.{AreEncodings}
-use Rattle.rpki_der.specs.Sequences.Reading.{row_of, Shrinks}
+use Rattle.rpki_der.specs.Sequences.Reading.{sequence_of, Shrinks}
 use Rattle.rpki_der.specs.Skipping.{IsCaptured}
 use Rattle.rpki_der.specs.Skipping.Reading.{any_at, captured_at}
 use Rattle.rpki_der.specs.Encoding.{Means}
@@ -20,15 +20,15 @@ use Rattle.rpki_der.specs.declared.error.DecodeError.TheVariants.{Memory}
 use Rattle.rpki_der.proofs.Answering.{certainly, rejects}
 use Rattle.rpki_der.proofs.Formats.{of_enc}
 use Rattle.rpki_der.proofs.Octets.{bind_some, both_are, some, some_is, nothing}
-use Rattle.rpki_der.proofs.Sequences.{row_again}
+use Rattle.rpki_der.proofs.Sequences.{sequence_again}
 use Rattle.rpki_der.proofs.SkippingReads.{captured_reads}
 use Rattle.rpki_der.proofs.SkippingSteps.{any_shrinks}
 use Rattle.rpki_der.proofs.ValueReads.{value_again}
-use Rattle.rpki_ext.proofs.Pieces.{row_pieces}
+use Rattle.rpki_ext.proofs.Pieces.{sequence_pieces}
 use Rattle.rpki_cert.specs.Certificates.{CertFields, TbsFields, version_3, IsTbsCertificateContent, IsCertificate}
 use Rattle.rpki_cert.specs.Rearranged.{IsBuiltOf, IsSomeExtension}
 use Rattle.rpki_cert.specs.Rearranging.{BeginsWith, IsRejected, Parts}
-use Rattle.rpki_cert.specs.Rearranging.Reading.{parts_at, row_in, split_last, with_front}
+use Rattle.rpki_cert.specs.Rearranging.Reading.{parts_at, sequence_in, split_last, with_front}
 use Rattle.rpki_cert.specs.RearrangeErrors.{of_reading}
 use Rattle.rpki_cert.specs.declared.extra.Extra.{Extra}
 use Rattle.rpki_cert.specs.declared.rearrange_error.RearrangeError.{RearrangeError}
@@ -43,12 +43,12 @@ captured_shrinks = λ octets v rest e.
     let same = both_are (take (length octets - length a.0.1) octets, a.0.1) (v, rest) a.2 in
     omega (arith, any_shrinks octets a.0.0 a.0.1 a.1, ap length same.1)
 
-captured_row : (ps : List (List ℕ)) → AllByRecursion IsValue ps → AreEncodings IsCaptured ps (concat ps)
-captured_row [] h = refl
-captured_row (p ∷ ps) h = (p, concat ps, (h.0, refl), captured_row ps h.1, refl)
+captured_sequence : (ps : List (List ℕ)) → AllByRecursion IsValue ps → AreEncodings IsCaptured ps (concat ps)
+captured_sequence [] h = refl
+captured_sequence (p ∷ ps) h = (p, concat ps, (h.0, refl), captured_sequence ps h.1, refl)
 
-values_are_read : (ps : List (List ℕ)) (octets : List ℕ) → AllByRecursion IsValue ps → octets ≡ concat ps → row_of captured_at octets ≡ some ps
-values_are_read ps octets h e = rw e (row_again captured_at IsCaptured captured_reads captured_shrinks ps (concat ps) (captured_row ps h))
+values_are_read : (ps : List (List ℕ)) (octets : List ℕ) → AllByRecursion IsValue ps → octets ≡ concat ps → sequence_of captured_at octets ≡ some ps
+values_are_read ps octets h e = rw e (sequence_again captured_at IsCaptured captured_reads captured_shrinks ps (concat ps) (captured_sequence ps h))
 
 -- ---- the last of them
 
@@ -70,10 +70,10 @@ zipped_values (x ∷ xs) (p ∷ ps) h = let r = zipped_values xs ps h.1 in ((of_
 whole_value : (t : ℕ) (c text : List ℕ) → IsEnc t c text → value_at t text ≡ some {A = List ℕ × List ℕ} (c, [])
 whole_value t c text s = ap (value_at t) (sym (append-nil text)) ∙ value_again t c text [] s
 
-row_is_read : (ps : List (List ℕ)) (row value : List ℕ) → AllByRecursion IsValue ps → row ≡ concat ps → IsNested (CONTEXT_CONSTRUCTED 3 ∷ SEQUENCE ∷ []) row value → row_in value ≡ some ps
-unfolding row_in
-row_is_read ps row value h e (inner, outer_is, (content, inner_is, same)) =
-    let values : row_of captured_at content ≡ some ps = values_are_read ps content h (same ∙ e) in
+sequence_is_read : (ps : List (List ℕ)) (elements value : List ℕ) → AllByRecursion IsValue ps → elements ≡ concat ps → IsNested (CONTEXT_CONSTRUCTED 3 ∷ SEQUENCE ∷ []) elements value → sequence_in value ≡ some ps
+unfolding sequence_in
+sequence_is_read ps elements value h e (inner, outer_is, (content, inner_is, same)) =
+    let values : sequence_of captured_at content ≡ some ps = values_are_read ps content h (same ∙ e) in
     rw (whole_value (CONTEXT_CONSTRUCTED 3) inner value outer_is, whole_value SEQUENCE content inner inner_is) values
 
 -- ---- a certificate
@@ -110,11 +110,11 @@ module _ {f : TbsFields} {content : List ℕ} (t : IsTbsCertificateContent f con
 concat_last : (before : List (List ℕ)) (last : List ℕ) → concat (before ++ last ∷ []) ≡ concat before ++ last
 concat_last before last = concat-append before (last ∷ []) ∙ ap (λ (s : List ℕ). concat before ++ s) (append-nil last)
 
-parts_from : (octets content rest tbs behind last : List ℕ) (values before row : List (List ℕ)) → value_at SEQUENCE octets ≡ some {A = List ℕ × List ℕ} (content, rest) → value_at SEQUENCE content ≡ some {A = List ℕ × List ℕ} (tbs, behind)
-    → row_of captured_at tbs ≡ some values → split_last values ≡ some {A = List (List ℕ) × List ℕ} (before, last) → row_in last ≡ some row
-    → parts_at octets ≡ some {A = List (List ℕ) × (List (List ℕ) × List ℕ)} (before, (row, behind))
+parts_from : (octets content rest tbs behind last : List ℕ) (values before elements : List (List ℕ)) → value_at SEQUENCE octets ≡ some {A = List ℕ × List ℕ} (content, rest) → value_at SEQUENCE content ≡ some {A = List ℕ × List ℕ} (tbs, behind)
+    → sequence_of captured_at tbs ≡ some values → split_last values ≡ some {A = List (List ℕ) × List ℕ} (before, last) → sequence_in last ≡ some elements
+    → parts_at octets ≡ some {A = List (List ℕ) × (List (List ℕ) × List ℕ)} (before, (elements, behind))
 unfolding parts_at
-parts_from octets content rest tbs behind last values before row a b c d e = rw (a, b, c, d, e) refl
+parts_from octets content rest tbs behind last values before elements a b c d e = rw (a, b, c, d, e) refl
 
 -- of a certificate the parts are read that it is built of
 record AreParts (octets front : List ℕ) : Type 0 where
@@ -130,13 +130,13 @@ certificate_parts c octets front rest e s =
     let inside = tbs.content_is in
     let behind = signed.algorithm ++ (signed.signature ++ []) in
     let before = front_of inside in
-    let found = row_pieces IsExtension inside.triples inside.row inside.row_is in
+    let found = sequence_pieces IsExtension inside.triples inside.elements inside.elements_are in
     let zipped = zipped_values inside.triples found.0 found.1 in
     let message = c.signed_data.message in
     let first : value_at SEQUENCE octets ≡ some {A = List ℕ × List ℕ} (s.content, rest) = ap (value_at SEQUENCE) e ∙ value_again SEQUENCE s.content front rest s.enc in
     let second : value_at SEQUENCE s.content ≡ some {A = List ℕ × List ℕ} (tbs.content, behind) = ap (value_at SEQUENCE) signed.is ∙ value_again SEQUENCE tbs.content message behind tbs.enc in
-    let third : row_of captured_at tbs.content ≡ some (before ++ inside.extensions ∷ []) = values_are_read (before ++ inside.extensions ∷ []) tbs.content (all_values inside) inside.is in
-    let fourth : row_in inside.extensions ≡ some found.0 = row_is_read found.0 inside.row inside.extensions zipped.0 found.2 inside.extensions_is in
+    let third : sequence_of captured_at tbs.content ≡ some (before ++ inside.extensions ∷ []) = values_are_read (before ++ inside.extensions ∷ []) tbs.content (all_values inside) inside.is in
+    let fourth : sequence_in inside.extensions ≡ some found.0 = sequence_is_read found.0 inside.elements inside.extensions zipped.0 found.2 inside.extensions_is in
     record {
       parts = record { before = before; old = found.0; behind = behind };
       read = parts_from octets s.content rest tbs.content behind inside.extensions (before ++ inside.extensions ∷ []) before found.0 first second third (split_push before inside.extensions) fourth;
@@ -144,7 +144,7 @@ certificate_parts c octets front rest e s =
         extensions = inside.extensions;
         tbs = message;
         before_are = front_values inside;
-        extensions_is = subst (λ (row : List ℕ). IsNested (CONTEXT_CONSTRUCTED 3 ∷ SEQUENCE ∷ []) row inside.extensions) found.2 inside.extensions_is;
+        extensions_is = subst (λ (elements : List ℕ). IsNested (CONTEXT_CONSTRUCTED 3 ∷ SEQUENCE ∷ []) elements inside.extensions) found.2 inside.extensions_is;
         tbs_is = subst (λ (d : List ℕ). IsEnc SEQUENCE d message) (inside.is ∙ concat_last before inside.extensions) tbs.enc;
         whole = subst (λ (d : List ℕ). IsEnc SEQUENCE d front) signed.is s.enc;
       };

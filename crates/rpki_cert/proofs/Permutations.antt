@@ -10,13 +10,13 @@ use Rattle.rpki_cert.specs.Rearranged.{times, IsPassedOver}
 use Rattle.rpki_cert.proofs.Reordering.{hit}
 
 -- what stands among strings that all have P has P
-stands : (P : List ℕ → Type 0) (e : List ℕ) (row : List (List ℕ)) → AllByRecursion P row → (times e row ≡ 0) ⊎ P e
+stands : (P : List ℕ → Type 0) (e : List ℕ) (elements : List (List ℕ)) → AllByRecursion P elements → (times e elements ≡ 0) ⊎ P e
 stands P e [] h = inl refl
-stands P e (x ∷ row) h =
+stands P e (x ∷ elements) h =
     elim (cases_Bool (bytes_eq e x)) [
       | inl t ↦ inr (subst P (sym ((bytes_eq-Decides e x).0 t)) h.0)
-      | inr f ↦ elim (stands P e row h.1) [
-        | inl none ↦ let miss : hit e x ≡ 0 = rw f in inl (omega (arith, sum_by-cons (hit e) x row, miss, none))
+      | inr f ↦ elim (stands P e elements h.1) [
+        | inl none ↦ let miss : hit e x ≡ 0 = rw f in inl (omega (arith, sum_by-cons (hit e) x elements, miss, none))
         | inr p ↦ inr p
       ]
     ]

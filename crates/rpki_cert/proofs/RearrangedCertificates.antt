@@ -10,7 +10,7 @@ use Rattle.rpki_der.proofs.Formats.{of_enc, same_enc}
 use Rattle.rpki_der.proofs.Lists.{weaken}
 use Rattle.rpki_der.proofs.Values.{one_value, one_row}
 use Rattle.rpki_parts.specs.Signatures.{SignatureFields}
-use Rattle.rpki_ext.proofs.Pieces.{row_pieces, pieces_row}
+use Rattle.rpki_ext.proofs.Pieces.{sequence_pieces, pieces_sequence}
 use Rattle.rpki_cert.specs.Certificates.{TbsFields, version_3, IsTbsCertificateContent, IsTbsCertificate}
 use Rattle.rpki_cert.specs.Rearranged.{IsBuiltOf, IsSomeExtension, IsPassedOver, IsRearrangement, IsCertificateOf}
 use Rattle.rpki_cert.proofs.Reordering.{all_append, all_moved, from_times}
@@ -72,14 +72,14 @@ module _ (before old new : List (List ℕ)) (behind b c : List ℕ) (p : IsBuilt
       let tbs_is : IsEnc SEQUENCE (concat before ++ p.extensions) w.message = subst (λ (m : List ℕ). IsEnc SEQUENCE (concat before ++ p.extensions) m) parts.0 p.tbs_is in
       let contents : concat (before ++ p.extensions ∷ []) ≡ concat (front inside ++ inside.extensions ∷ []) = concat_push before p.extensions ∙ (same_enc tbs_is fields.enc).1 ∙ inside.is in
       let values = all_append IsValue before (p.extensions ∷ []) p.before_are (of_enc p.extensions_is.1, tt) in
-      let rows = one_row (before ++ p.extensions ∷ []) (front inside ++ inside.extensions ∷ []) values (all_values inside) contents in
-      let ends = same_from_push before (front inside) p.extensions inside.extensions rows in
+      let same_elements = one_row (before ++ p.extensions ∷ []) (front inside ++ inside.extensions ∷ []) values (all_values inside) contents in
+      let ends = same_from_push before (front inside) p.extensions inside.extensions same_elements in
       let nested : IsNested (CONTEXT_CONSTRUCTED 3 ∷ SEQUENCE ∷ []) (concat old) inside.extensions = subst (λ (e : List ℕ). IsNested (CONTEXT_CONSTRUCTED 3 ∷ SEQUENCE ∷ []) (concat old) e) ends.1 p.extensions_is in
-      let found = row_pieces IsExtension inside.triples inside.row inside.row_is in
+      let found = sequence_pieces IsExtension inside.triples inside.elements inside.elements_are in
       let outer : inside.extensions_is.0 ≡ nested.0 = (same_enc inside.extensions_is.1 nested.1).1 in
-      let rows_same : inside.row ≡ concat old =
+      let sequences_same : inside.elements ≡ concat old =
       sym inside.extensions_is.2.2 ∙ (same_enc inside.extensions_is.2.1 (subst (λ (i : List ℕ). IsEnc SEQUENCE nested.2.0 i) (sym outer) nested.2.1)).1 ∙ nested.2.2 in
-      let pieces : found.0 ≡ old = one_row found.0 old (zipped_values inside.triples found.0 found.1) old_values (sym found.2 ∙ rows_same) in
+      let pieces : found.0 ≡ old = one_row found.0 old (zipped_values inside.triples found.0 found.1) old_values (sym found.2 ∙ sequences_same) in
       let given = alike inside.triples f.extensions (subst (λ (s : List (List ℕ)). AllZip IsExtension inside.triples s) pieces found.1) inside.gives in
       let content : IsTbsCertificateContent f (concat before ++ q.extensions) = record {
         serial = inside.serial;
@@ -95,9 +95,9 @@ module _ (before old new : List (List ℕ)) (behind b c : List ℕ) (p : IsBuilt
         validity_is = inside.validity_is;
         subject_is = inside.subject_is;
         key_is = inside.key_is;
-        row = concat new;
+        elements = concat new;
         triples = given.0;
-        row_is = pieces_row IsExtension given.0 new given.1;
+        elements_are = pieces_sequence IsExtension given.0 new given.1;
         extensions_is = q.extensions_is;
         gives = given.2;
         is = sym (concat_push before q.extensions) ∙ ap (λ (s : List (List ℕ)). concat (s ++ q.extensions ∷ [])) ends.0;

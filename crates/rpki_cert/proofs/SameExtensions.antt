@@ -108,27 +108,27 @@ new_give old new r xs f zipped g =
     let passed_over = all_moved IsPassed (λ x. is_of known x ≡ false → x.critical ≡ false) (λ x h _. h.1) xs carried.0 carried.2 g.passed_over in
     (carried.0, carried.1, same_fields xs carried.0 (same_kinds xs carried.0 carried.2) f passed_over g)
 
-some_row : (pieces : List (List ℕ)) → AllByRecursion IsSomeExtension pieces → (xs : List Extension) × AllZip IsExtension xs pieces
-some_row [] h = ([], tt)
-some_row (p ∷ ps) h = let r = some_row ps h.1 in (h.0.0 ∷ r.0, (h.0.1, r.1))
+some_sequence : (pieces : List (List ℕ)) → AllByRecursion IsSomeExtension pieces → (xs : List Extension) × AllZip IsExtension xs pieces
+some_sequence [] h = ([], tt)
+some_sequence (p ∷ ps) h = let r = some_sequence ps h.1 in (h.0.0 ∷ r.0, (h.0.1, r.1))
 
 -- a piece is one extension
-one_row_of : (xs ys : List Extension) (pieces : List (List ℕ)) → AllZip IsExtension xs pieces → AllZip IsExtension ys pieces → xs ≡ ys
-one_row_of [] [] [] p q = refl
-one_row_of [] (y ∷ ys) [] p q = elim q [ ]
-one_row_of (x ∷ xs) ys [] p q = elim p [ ]
-one_row_of [] ys (b ∷ bs) p q = elim p [ ]
-one_row_of (x ∷ xs) [] (b ∷ bs) p q = elim q [ ]
-one_row_of (x ∷ xs) (y ∷ ys) (b ∷ bs) p q =
+one_sequence_of : (xs ys : List Extension) (pieces : List (List ℕ)) → AllZip IsExtension xs pieces → AllZip IsExtension ys pieces → xs ≡ ys
+one_sequence_of [] [] [] p q = refl
+one_sequence_of [] (y ∷ ys) [] p q = elim q [ ]
+one_sequence_of (x ∷ xs) ys [] p q = elim p [ ]
+one_sequence_of [] ys (b ∷ bs) p q = elim p [ ]
+one_sequence_of (x ∷ xs) [] (b ∷ bs) p q = elim q [ ]
+one_sequence_of (x ∷ xs) (y ∷ ys) (b ∷ bs) p q =
     let first : x ≡ y = (unambiguous extension_at IsExtension extension_reads x y b b [] [] p.0 q.0 refl).0 in
-    let rest = one_row_of xs ys bs p.1 q.1 in cc (first, rest)
+    let rest = one_sequence_of xs ys bs p.1 q.1 in cc (first, rest)
 
 -- what rearranged extensions give, they gave before
 pub old_give : (old new : List (List ℕ)) → AllByRecursion IsSomeExtension old → IsReordered IsPassedOver old new → GiveAlike new old
 old_give old new pieces_are r ys f zipped g =
-    let xs = some_row old pieces_are in
+    let xs = some_sequence old pieces_are in
     let carried = carry IsExtension IsPassedOver IsPassed passed_is xs.0 old new xs.1 r in
-    let same : carried.0 ≡ ys = one_row_of carried.0 ys new carried.1 zipped in
+    let same : carried.0 ≡ ys = one_sequence_of carried.0 ys new carried.1 zipped in
     let moved : IsReordered IsPassed xs.0 ys = subst (λ (s : List Extension). IsReordered IsPassed xs.0 s) same carried.2 in
     let passed_over = all_moved_back IsPassed (λ x. is_of known x ≡ false → x.critical ≡ false) xs.0 ys moved g.passed_over in
     (xs.0, xs.1, same_fields ys xs.0 (same_kinds_back xs.0 ys moved) f passed_over g)

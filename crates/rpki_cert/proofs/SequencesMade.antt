@@ -8,7 +8,7 @@ use Rattle.std.proofs.lemmas.List.Elements.{filter-append}
 use Rattle.std.proofs.lemmas.List.Folds.{concat-append}
 use Rattle.std.proofs.lemmas.List.Sums.{sum_by-append, sum_by-cons}
 use Rattle.rpki_der.specs.Primitives.{IsOid}
-use Rattle.rpki_cert.specs.Rearranging.{ArePlaced, added_at, row_from, written}
+use Rattle.rpki_cert.specs.Rearranging.{ArePlaced, added_at, sequence_from, written}
 use Rattle.rpki_cert.specs.Rearranging.Steps.{HaveAdded, HasLong, joined}
 use Rattle.rpki_cert.specs.declared.extra.Extra.{Extra}
 use Rattle.rpki_cert.proofs.Orders.{all_get, all_more, all_now}
@@ -91,24 +91,24 @@ long_at (y ∷ extras) (suc i) x inside is long = inr (long_at extras i x (omega
 -- ---- the sequence
 
 -- the sequence goes on with what is added at a place, and the extension that the order names there
-pub joined_goes_on : (order : List ℕ) (places old : List (List ℕ)) (i : ℕ) (row total : List ℕ) → i < length order → length places ≡ length order + 1
-    → row ++ joined (drop i order) (drop i places) old ≡ total
-    → ((row ++ get_or places i []) ++ get_or old (get_or order i 0) []) ++ joined (drop (i + 1) order) (drop (i + 1) places) old ≡ total
-joined_goes_on order places old i row total inside many h =
+pub joined_goes_on : (order : List ℕ) (places old : List (List ℕ)) (i : ℕ) (elements total : List ℕ) → i < length order → length places ≡ length order + 1
+    → elements ++ joined (drop i order) (drop i places) old ≡ total
+    → ((elements ++ get_or places i []) ++ get_or old (get_or order i 0) []) ++ joined (drop (i + 1) order) (drop (i + 1) places) old ≡ total
+joined_goes_on order places old i elements total inside many h =
     let o : drop i order ≡ get_or order i 0 ∷ drop (suc i) order = drop-cons order i 0 inside in
     let p : drop i places ≡ get_or places i [] ∷ drop (suc i) places = drop-cons places i [] (omega (arith, many)) in
     let step : joined (drop i order) (drop i places) old ≡ get_or places i [] ++ (get_or old (get_or order i 0) [] ++ joined (drop (suc i) order) (drop (suc i) places) old) = rw (o, p) refl in
     let rest = joined (drop (suc i) order) (drop (suc i) places) old in
-    rw (add-one i) (append_assoc (row ++ get_or places i []) (get_or old (get_or order i 0) []) rest ∙ append_assoc row (get_or places i []) (get_or old (get_or order i 0) [] ++ rest) ∙ ap (λ (s : List ℕ). row ++ s) (sym step) ∙ h)
+    rw (add-one i) (append_assoc (elements ++ get_or places i []) (get_or old (get_or order i 0) []) rest ∙ append_assoc elements (get_or places i []) (get_or old (get_or order i 0) [] ++ rest) ∙ ap (λ (s : List ℕ). elements ++ s) (sym step) ∙ h)
 
 -- the sequence ends with what is added behind the last extension
-pub joined_ends : (order : List ℕ) (places old : List (List ℕ)) (i : ℕ) (row total : List ℕ) → i ≡ length order → length places ≡ length order + 1
-    → row ++ joined (drop i order) (drop i places) old ≡ total → row ++ get_or places i [] ≡ total
-joined_ends order places old i row total end many h =
+pub joined_ends : (order : List ℕ) (places old : List (List ℕ)) (i : ℕ) (elements total : List ℕ) → i ≡ length order → length places ≡ length order + 1
+    → elements ++ joined (drop i order) (drop i places) old ≡ total → elements ++ get_or places i [] ≡ total
+joined_ends order places old i elements total end many h =
     let o : drop i order ≡ [] = drop_end order i (omega (arith, end)) in
     let p : drop i places ≡ get_or places i [] ∷ drop (suc i) places = drop-cons places i [] (omega (arith, many, end)) in
     let last : joined (drop i order) (drop i places) old ≡ get_or places i [] = rw (o, p) refl in
-    ap (λ (s : List ℕ). row ++ s) (sym last) ∙ h
+    ap (λ (s : List ℕ). elements ++ s) (sym last) ∙ h
   where
     drop_end : (xs : List ℕ) (n : ℕ) → length xs ≤ n → drop n xs ≡ []
     drop_end [] zero h = refl
@@ -118,16 +118,16 @@ joined_ends order places old i row total end many h =
 
 -- what is joined are the octets of the sequence
 pub joined_is : (order : List ℕ) (places old : List (List ℕ)) (extras : List Extra) (place : ℕ) → length places ≡ length order + 1
-    → ((i : ℕ) → i < length places → get_or places i [] ≡ concat (added_at (place + i) extras)) → joined order places old ≡ concat (row_from place order extras old)
+    → ((i : ℕ) → i < length places → get_or places i [] ≡ concat (added_at (place + i) extras)) → joined order places old ≡ concat (sequence_from place order extras old)
 joined_is order [] old extras place many have = absurd (omega (arith, many))
 joined_is [] (added ∷ places) old extras place many have = have 0 (omega arith) ∙ ap (λ (k : ℕ). concat (added_at k extras)) (omega arith)
 joined_is (named ∷ order) (added ∷ places) old extras place many have =
     let first : added ≡ concat (added_at place extras) = have 0 (omega arith) ∙ ap (λ (k : ℕ). concat (added_at k extras)) (omega arith) in
-    let rest : joined order places old ≡ concat (row_from (place + 1) order extras old) =
+    let rest : joined order places old ≡ concat (sequence_from (place + 1) order extras old) =
     joined_is order places old extras (place + 1) (omega (arith, many)) (λ i below. have (suc i) (omega (arith, below)) ∙ ap (λ (k : ℕ). concat (added_at k extras)) (omega arith)) in
     ap (λ (s : List ℕ). s ++ (get_or old named [] ++ joined order places old)) first
     ∙ ap (λ (s : List ℕ). concat (added_at place extras) ++ (get_or old named [] ++ s)) rest
-    ∙ sym (concat-append (added_at place extras) (get_or old named [] ∷ row_from (place + 1) order extras old))
+    ∙ sym (concat-append (added_at place extras) (get_or old named [] ∷ sequence_from (place + 1) order extras old))
 
 -- ---- what holds of all of the sequence
 
@@ -153,14 +153,14 @@ all_joined : (A B C : Extra → Type 0) → ((x : Extra) → A x → B x → C x
 all_joined A B C f [] a b = tt
 all_joined A B C f (x ∷ xs) a b = (f x a.0 b.0, all_joined A B C f xs a.1 b.1)
 
-all_from : (P : List ℕ → Type 0) (place : ℕ) (order : List ℕ) (extras : List Extra) (old : List (List ℕ)) → AllByRecursion P (row_from place order extras old)
+all_from : (P : List ℕ → Type 0) (place : ℕ) (order : List ℕ) (extras : List Extra) (old : List (List ℕ)) → AllByRecursion P (sequence_from place order extras old)
     → AllByRecursion (λ x. place ≤ x.at → x.at ≤ place + length order → P (written x)) extras
 all_from P place [] extras old h =
     let here = all_here P place extras h in
     let C : Extra → Type 0 = λ x. place ≤ x.at → x.at ≤ place + 0 → P (written x) in
     all_joined (λ x. x.at ≡ place → P (written x)) (λ x. x.at ≡ place → P (written x)) C (λ x a b low high. a (omega (arith, low, high))) extras here here
 all_from P place (named ∷ order) extras old h =
-    let parts = all_parts P (added_at place extras) (get_or old named [] ∷ row_from (place + 1) order extras old) h in
+    let parts = all_parts P (added_at place extras) (get_or old named [] ∷ sequence_from (place + 1) order extras old) h in
     let here = all_here P place extras parts.0 in
     let later = all_from P (place + 1) order extras old parts.1.1 in
     let A : Extra → Type 0 = λ x. x.at ≡ place → P (written x) in
@@ -174,7 +174,7 @@ all_from P place (named ∷ order) extras old h =
     ]) extras here later
 
 -- each that is added is in the sequence
-pub all_added : (P : List ℕ → Type 0) (order : List ℕ) (extras : List Extra) (old : List (List ℕ)) → ArePlaced (length order) extras → AllByRecursion P (row_from 0 order extras old) → AllByRecursion (λ x. P (written x)) extras
+pub all_added : (P : List ℕ → Type 0) (order : List ℕ) (extras : List Extra) (old : List (List ℕ)) → ArePlaced (length order) extras → AllByRecursion P (sequence_from 0 order extras old) → AllByRecursion (λ x. P (written x)) extras
 all_added P order extras old placed h =
     let A : Extra → Type 0 = λ x. 0 ≤ x.at → x.at ≤ 0 + length order → P (written x) in
     let B : Extra → Type 0 = λ x. x.at ≤ length order in
@@ -194,9 +194,9 @@ some_long (x ∷ extras) n (inl h) a = omega (arith, h, a.0)
 some_long (x ∷ extras) n (inr h) a = some_long extras n h a.1
 
 -- where one alone is too long, so is the sequence
-pub long_row : (order : List ℕ) (extras : List Extra) (old : List (List ℕ)) → ArePlaced (length order) extras → HasLong extras → 2 ^ 32 ≤ length (concat (row_from 0 order extras old))
-long_row order extras old placed h =
-    some_long extras (length (concat (row_from 0 order extras old))) h (all_added (λ p. length p ≤ length (concat (row_from 0 order extras old))) order extras old placed (piece_longer (row_from 0 order extras old)))
+pub long_sequence : (order : List ℕ) (extras : List Extra) (old : List (List ℕ)) → ArePlaced (length order) extras → HasLong extras → 2 ^ 32 ≤ length (concat (sequence_from 0 order extras old))
+long_sequence order extras old placed h =
+    some_long extras (length (concat (sequence_from 0 order extras old))) h (all_added (λ p. length p ≤ length (concat (sequence_from 0 order extras old))) order extras old placed (piece_longer (sequence_from 0 order extras old)))
 
 -- ---- how often a piece stands in the sequence
 
@@ -217,16 +217,16 @@ added_sums f P place (x ∷ extras) h =
     ]
 
 -- of the old ones as many as the order names, and perhaps some that are added
-pub row_sums : (f : List ℕ → ℕ) (P : Type 0) (place : ℕ) (order : List ℕ) (extras : List Extra) (old : List (List ℕ)) → AllByRecursion (λ x. (f (written x) ≡ 0) ⊎ P) extras
-    → (sum_by f (row_from place order extras old) ≡ sum_by (λ named. f (get_or old named [])) order) ⊎ (P × (sum_by (λ named. f (get_or old named [])) order ≤ sum_by f (row_from place order extras old)))
-row_sums f P place [] extras old h = elim (added_sums f P place extras h) [ inl zeros ↦ inl zeros | inr p ↦ inr (p, omega arith) ]
-row_sums f P place (named ∷ order) extras old h =
+pub sequence_sums : (f : List ℕ → ℕ) (P : Type 0) (place : ℕ) (order : List ℕ) (extras : List Extra) (old : List (List ℕ)) → AllByRecursion (λ x. (f (written x) ≡ 0) ⊎ P) extras
+    → (sum_by f (sequence_from place order extras old) ≡ sum_by (λ named. f (get_or old named [])) order) ⊎ (P × (sum_by (λ named. f (get_or old named [])) order ≤ sum_by f (sequence_from place order extras old)))
+sequence_sums f P place [] extras old h = elim (added_sums f P place extras h) [ inl zeros ↦ inl zeros | inr p ↦ inr (p, omega arith) ]
+sequence_sums f P place (named ∷ order) extras old h =
     let g : ℕ → ℕ = λ named. f (get_or old named []) in
-    let rest = row_from (place + 1) order extras old in
-    let whole : sum_by f (row_from place (named ∷ order) extras old) ≡ sum_by f (added_at place extras) + (f (get_or old named []) + sum_by f rest) =
+    let rest = sequence_from (place + 1) order extras old in
+    let whole : sum_by f (sequence_from place (named ∷ order) extras old) ≡ sum_by f (added_at place extras) + (f (get_or old named []) + sum_by f rest) =
     sum_by-append f (added_at place extras) (get_or old named [] ∷ rest) ∙ ap (λ (n : ℕ). sum_by f (added_at place extras) + n) (sum_by-cons f (get_or old named []) rest) in
     let picked : sum_by g (named ∷ order) ≡ f (get_or old named []) + sum_by g order = sum_by-cons g named order in
-    elim (row_sums f P (place + 1) order extras old h) [
+    elim (sequence_sums f P (place + 1) order extras old h) [
       | inl same ↦ elim (added_sums f P place extras h) [
         | inl zeros ↦ inl (omega (arith, whole, picked, same, zeros))
         | inr p ↦ inr (p, omega (arith, whole, picked, same))

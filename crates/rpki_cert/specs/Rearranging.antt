@@ -52,13 +52,13 @@ added_at place extras = map written (filter (λ x. nat_eq x.at place) extras)
 
 -- The sequence from this place on: at each place the old extension that the order names, behind
 -- what is added there. What is added at the place behind the last stands last.
-abbrev pub row_from : ℕ → List ℕ → List Extra → List (List ℕ) → List (List ℕ)
-row_from place [] extras old = added_at place extras
-row_from place (named ∷ order) extras old = added_at place extras ++ (get_or old named [] ∷ row_from (place + 1) order extras old)
+abbrev pub sequence_from : ℕ → List ℕ → List Extra → List (List ℕ) → List (List ℕ)
+sequence_from place [] extras old = added_at place extras
+sequence_from place (named ∷ order) extras old = added_at place extras ++ (get_or old named [] ∷ sequence_from (place + 1) order extras old)
 
 -- the extensions in their new order, with the added ones among them
-abbrev pub new_row : List ℕ → List Extra → List (List ℕ) → List (List ℕ)
-new_row order extras old = row_from 0 order extras old
+abbrev pub new_extensions : List ℕ → List Extra → List (List ℕ) → List (List ℕ)
+new_extensions order extras old = sequence_from 0 order extras old
 
 -- ---- the certificate that is made
 
@@ -81,11 +81,11 @@ pub record BeginsWith (octets : List ℕ) (p : Parts) : Type 0 where
 
 -- what stands inside the SEQUENCE of the TBSCertificate with the octets of another sequence
 abbrev pub tbs_content_with : List ℕ → Parts → List ℕ
-tbs_content_with row p = concat p.before ++ nested (CONTEXT_CONSTRUCTED 3 ∷ SEQUENCE ∷ []) row
+tbs_content_with elements p = concat p.before ++ nested (CONTEXT_CONSTRUCTED 3 ∷ SEQUENCE ∷ []) elements
 
 -- what stands inside the SEQUENCE of the certificate with that sequence
 abbrev pub content_with : List ℕ → Parts → List ℕ
-content_with row p = enc SEQUENCE (tbs_content_with row p) ++ p.behind
+content_with elements p = enc SEQUENCE (tbs_content_with elements p) ++ p.behind
 
 -- The answer is the certificate that the octets begin with, with the new sequence in place of its
 -- extensions: what stood before and behind them is unchanged, also the signature's value. What
@@ -95,7 +95,7 @@ pub record IsRearranged (octets : List ℕ) (order : List ℕ) (extras : List Ex
   pub begins : BeginsWith octets parts
   pub plan : IsPlan (length parts.old) order extras
   pub unknown : AreUnknown extras
-  pub built : IsBuiltOf parts.before (new_row order extras parts.old) parts.behind answer
+  pub built : IsBuiltOf parts.before (new_extensions order extras parts.old) parts.behind answer
 
 -- Why there is none, each where no earlier one is: no certificate, no plan, an extra of a known
 -- kind, 2^32 octets or more in its SEQUENCE (own).
@@ -106,5 +106,5 @@ IsRejected octets order extras KnownExtra =
     (p : Parts) × BeginsWith octets p × IsPlan (length p.old) order extras × (AreUnknown extras → ⊥)
 IsRejected octets order extras TooLong =
     (p : Parts) × BeginsWith octets p × IsPlan (length p.old) order extras × AreUnknown extras
-    × (2 ^ 32 ≤ length (content_with (concat (new_row order extras p.old)) p))
+    × (2 ^ 32 ≤ length (content_with (concat (new_extensions order extras p.old)) p))
 IsRejected octets order extras Memory = Unit {0}

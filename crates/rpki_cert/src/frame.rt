@@ -6,12 +6,12 @@ ghost use Rattle.rpki_der.specs.Values.{enc, nested};
 ghost use Rattle.rpki_der.specs.Writers.{SaysLong};
 ghost use Rattle.rpki_der.specs.Place.{Place, remaining, Rejects};
 ghost use Rattle.rpki_der.specs.Place.Reading.{ReturnsOrMemory, ReturnsOrMemoryBy};
-ghost use Rattle.rpki_der.specs.Sequences.Reading.{row_of};
+ghost use Rattle.rpki_der.specs.Sequences.Reading.{sequence_of};
 ghost use Rattle.rpki_der.specs.Skipping.Reading.{captured_at};
 ghost use Rattle.rpki_der.specs.Encoding.{Means};
 ghost use Rattle.rpki_cert.specs.Certificates.{CertFields, IsCertificate};
 ghost use Rattle.rpki_cert.specs.Rearranging.{BeginsWith, IsRejected, tbs_content_with, content_with};
-ghost use Rattle.rpki_cert.specs.Rearranging.Reading.{row_in, parts_at, split_last};
+ghost use Rattle.rpki_cert.specs.Rearranging.Reading.{sequence_in, parts_at, split_last};
 ghost use Rattle.rpki_cert.specs.declared.extra.Extra.{Extra};
 
 use crate::cert::Cert;
@@ -47,12 +47,12 @@ fn push(values: &mut Vec<Piece>, value: Piece) -> Result<(), AllocError>
 }
 
 // The values that the octets are a sequence of.
-fn values_in(alloc: Global, mut row: Cursor<'_>) -> Result<Vec<Piece>, DecodeError>
-    ensures { ReturnsOrMemoryBy (λ v. v.items) result (row_of captured_at (remaining row.entry)) }
+fn values_in(alloc: Global, mut elements: Cursor<'_>) -> Result<Vec<Piece>, DecodeError>
+    ensures { ReturnsOrMemoryBy (λ v. v.items) result (sequence_of captured_at (remaining elements.entry)) }
 {
     let mut values = Vec::new(alloc);
-    while !row.is_empty() {
-        let value = row.capture_one(alloc)?;
+    while !elements.is_empty() {
+        let value = elements.capture_one(alloc)?;
         push(&mut values, value)?;
     }
     Ok(values)
@@ -67,13 +67,13 @@ fn without_last(mut values: Vec<Piece>) -> Option<(Vec<Piece>, Piece)>
 }
 
 // The extensions that stand inside the two tags of a value.
-#[tactic(auto, unfolding(crate::specs::Rearranging::Reading::row_in))]
+#[tactic(auto, unfolding(crate::specs::Rearranging::Reading::sequence_in))]
 fn extensions_in(alloc: Global, value: &Piece) -> Result<Vec<Piece>, DecodeError>
-    ensures { ReturnsOrMemoryBy (λ v. v.items) result (row_in value.now) }
+    ensures { ReturnsOrMemoryBy (λ v. v.items) result (sequence_in value.now) }
 {
     let mut tagged = value.cursor().take_value(tag::CONTEXT_CONSTRUCTED + 3)?;
-    let row = tagged.take_sequence()?;
-    values_in(alloc, row)
+    let elements = tagged.take_sequence()?;
+    values_in(alloc, elements)
 }
 
 // What the certificate at the beginning of the octets is built of, by the reading function.
@@ -131,13 +131,13 @@ fn concatenated(alloc: Global, pieces: &[Piece]) -> Result<Vec<u8>, AllocError>
 }
 
 // Appends the sequence inside the two tags of extensions.
-fn put_row(alloc: Global, row: &[u8], out: &mut Vec<u8>) -> Result<(), EncodeError>
+fn put_sequence(alloc: Global, elements: &[u8], out: &mut Vec<u8>) -> Result<(), EncodeError>
     ensures ok { OnOk result (out.new.items ≡ out.old.items
-        ++ nested (CONTEXT_CONSTRUCTED 3 ∷ SEQUENCE ∷ []) row.now) }
-    ensures too_long { SaysLong result (nested (CONTEXT_CONSTRUCTED 3 ∷ SEQUENCE ∷ []) row.now) }
+        ++ nested (CONTEXT_CONSTRUCTED 3 ∷ SEQUENCE ∷ []) elements.now) }
+    ensures too_long { SaysLong result (nested (CONTEXT_CONSTRUCTED 3 ∷ SEQUENCE ∷ []) elements.now) }
 {
     let mut sequence = Vec::new(alloc);
-    put_value(&mut sequence, tag::SEQUENCE, row)?;
+    put_value(&mut sequence, tag::SEQUENCE, elements)?;
     put_value(out, tag::CONTEXT_CONSTRUCTED + 3, &sequence)
 }
 
@@ -150,21 +150,21 @@ impl Frame {
     }
 
     // What stands inside the SEQUENCE of the TBSCertificate with the octets of another sequence.
-    fn tbs_content(&self, alloc: Global, row: &[u8]) -> Result<Vec<u8>, EncodeError>
-        ensures ok { IfOk result (λ content. content.items ≡ tbs_content_with row.now self.now) }
-        ensures too_long { SaysLong result (tbs_content_with row.now self.now) }
+    fn tbs_content(&self, alloc: Global, elements: &[u8]) -> Result<Vec<u8>, EncodeError>
+        ensures ok { IfOk result (λ content. content.items ≡ tbs_content_with elements.now self.now) }
+        ensures too_long { SaysLong result (tbs_content_with elements.now self.now) }
     {
         let mut content = concatenated(alloc, &self.before)?;
-        put_row(alloc, row, &mut content)?;
+        put_sequence(alloc, elements, &mut content)?;
         Ok(content)
     }
 
     // What stands inside the SEQUENCE of the certificate with the octets of another sequence.
-    fn content(&self, alloc: Global, row: &[u8]) -> Result<Vec<u8>, EncodeError>
-        ensures ok { IfOk result (λ content. content.items ≡ content_with row.now self.now) }
-        ensures too_long { SaysLong result (content_with row.now self.now) }
+    fn content(&self, alloc: Global, elements: &[u8]) -> Result<Vec<u8>, EncodeError>
+        ensures ok { IfOk result (λ content. content.items ≡ content_with elements.now self.now) }
+        ensures too_long { SaysLong result (content_with elements.now self.now) }
     {
-        let tbs_content = self.tbs_content(alloc, row)?;
+        let tbs_content = self.tbs_content(alloc, elements)?;
         let mut content = Vec::new(alloc);
         put_value(&mut content, tag::SEQUENCE, &tbs_content)?;
         content.extend_from_slice(self.behind.as_bytes())?;
@@ -173,13 +173,17 @@ impl Frame {
 
     /// Writes the certificate with the octets of other extensions. Errs with `TooLong` where its
     /// content would have 2^32 octets or more.
-    pub(crate) fn with_row(&self, alloc: Global, row: &[u8]) -> Result<Vec<u8>, EncodeError>
+    pub(crate) fn with_extensions(
+        &self,
+        alloc: Global,
+        elements: &[u8],
+    ) -> Result<Vec<u8>, EncodeError>
         ensures ok { IfOk result
-            (λ answer. answer.items ≡ enc SEQUENCE (content_with row.now self.now)) }
-        ensures fits { IsOk result → length (content_with row.now self.now) < 2 ^ 32 }
-        ensures too_long { SaysLong result (content_with row.now self.now) }
+            (λ answer. answer.items ≡ enc SEQUENCE (content_with elements.now self.now)) }
+        ensures fits { IsOk result → length (content_with elements.now self.now) < 2 ^ 32 }
+        ensures too_long { SaysLong result (content_with elements.now self.now) }
     {
-        let content = self.content(alloc, row)?;
+        let content = self.content(alloc, elements)?;
         let mut answer = Vec::new(alloc);
         put_value(&mut answer, tag::SEQUENCE, &content)?;
         Ok(answer)

@@ -19,7 +19,7 @@ use thiserror::Error;
 /// Why no certificate was issued: which of the steps failed.
 #[derive(Debug, Drop, Error)]
 pub enum IssueCaError<E> {
-    /// None was made.
+    /// No certificate was made of the fields, or it wasn't signed.
     #[error("certificate not signed")]
     Signing(SigningError<E>),
     /// What was made could not be captured.

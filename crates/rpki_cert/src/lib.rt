@@ -3,6 +3,7 @@
 
 mod cert;
 pub mod comparing;
+mod elements;
 mod extra;
 mod fields;
 mod frame;
@@ -17,7 +18,6 @@ mod rearranging;
 mod resource_cert;
 mod resources;
 pub mod round_trip;
-mod row;
 mod tbs;
 mod validate;
 mod validation_error;

@@ -6,13 +6,13 @@ ghost use Rattle.rpki_der.specs.Tags.{SEQUENCE};
 ghost use Rattle.rpki_der.specs.Values.{AreOctets, enc};
 ghost use Rattle.rpki_der.specs.Writers.{SaysLong};
 ghost use Rattle.rpki_cert.specs.Rearranged.{IsRearrangement};
-ghost use Rattle.rpki_cert.specs.Rearranging.{IsPlan, IsRearranged, IsRejected, content_with, new_row};
+ghost use Rattle.rpki_cert.specs.Rearranging.{IsPlan, IsRearranged, IsRejected, content_with, new_extensions};
 
+use crate::elements::{gathered, sequence_octets};
 use crate::extra::{Extra, are_placed, are_unknown};
 use crate::frame::{Frame, frame_of};
 use crate::order::is_order;
 use crate::rearrange_error::RearrangeError;
-use crate::row::{gathered, row_octets};
 use rpki_der::{EncodeError, Piece};
 use std::alloc::{AllocError, Global};
 
@@ -33,7 +33,7 @@ fn is_plan(
 }
 
 // The octets of the new sequence.
-fn make_row(
+fn make_sequence(
     alloc: Global,
     order: &[usize],
     extras: &[Extra],
@@ -41,12 +41,12 @@ fn make_row(
 ) -> Result<Vec<u8>, EncodeError>
     requires { IsPlan (length old.now) order.now extras.now }
     ensures ok { IfOk result
-        (λ row. row.items ≡ concat (new_row order.now extras.now old.now)) }
-    ensures valid { IfOk result (λ row. AllByRecursion (λ x. IsOid x.oid) extras.now) }
-    ensures too_long { SaysLong result (concat (new_row order.now extras.now old.now)) }
+        (λ elements. elements.items ≡ concat (new_extensions order.now extras.now old.now)) }
+    ensures valid { IfOk result (λ elements. AllByRecursion (λ x. IsOid x.oid) extras.now) }
+    ensures too_long { SaysLong result (concat (new_extensions order.now extras.now old.now)) }
 {
     let places = gathered(alloc, extras, old.len())?;
-    Ok(row_octets(alloc, order, &places, old)?)
+    Ok(sequence_octets(alloc, order, &places, old)?)
 }
 
 // Octets are below 256. Called for what it ensures alone.
@@ -64,17 +64,17 @@ fn make(
     extras: &[Extra],
 ) -> Result<Vec<u8>, EncodeError>
     requires { IsPlan (length frame.now.old) order.now extras.now }
-    ensures ok { let row = concat (new_row order.now extras.now frame.now.old) in IfOk result
-        (λ answer. answer.items ≡ enc SEQUENCE (content_with row frame.now)) }
-    ensures fits { let row = concat (new_row order.now extras.now frame.now.old) in
-        IsOk result → length (content_with row frame.now) < 2 ^ 32 }
+    ensures ok { let elements = concat (new_extensions order.now extras.now frame.now.old) in IfOk result
+        (λ answer. answer.items ≡ enc SEQUENCE (content_with elements frame.now)) }
+    ensures fits { let elements = concat (new_extensions order.now extras.now frame.now.old) in
+        IsOk result → length (content_with elements frame.now) < 2 ^ 32 }
     ensures valid { IfOk result (λ answer. AllByRecursion (λ x. IsOid x.oid) extras.now) }
     ensures octets { IfOk result (λ answer. AreOctets answer.items) }
-    ensures too_long { let row = concat (new_row order.now extras.now frame.now.old) in
-        SaysLong result (content_with row frame.now) }
+    ensures too_long { let elements = concat (new_extensions order.now extras.now frame.now.old) in
+        SaysLong result (content_with elements frame.now) }
 {
-    let row = make_row(alloc, order, extras, &frame.extensions)?;
-    let answer = frame.with_row(alloc, &row)?;
+    let elements = make_sequence(alloc, order, extras, &frame.extensions)?;
+    let answer = frame.with_extensions(alloc, &elements)?;
     known(&answer);
     Ok(answer)
 }

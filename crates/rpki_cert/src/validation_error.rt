@@ -11,7 +11,7 @@ pub enum ValidationError {
     /// It doesn't meet the profile of its kind.
     #[error("{0}")]
     Inspection(InspectionError),
-    /// It meets the profile, and isn't verified.
+    /// It meets the profile, but a check of verification fails.
     #[error("{0}")]
     Verification(VerificationError),
 }

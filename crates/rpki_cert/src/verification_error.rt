@@ -30,13 +30,13 @@ pub enum VerificationError {
     MissingIssuerUri,
     #[error("bad signature")]
     BadSignature,
-    /// It lists IPv4 addresses that the issuer doesn't have, and must not.
+    /// It lists IPv4 addresses that the issuer doesn't have, and its policy rejects that.
     #[error("overclaimed IPv4 resources")]
     OverclaimV4,
-    /// It lists IPv6 addresses that the issuer doesn't have, and must not.
+    /// It lists IPv6 addresses that the issuer doesn't have, and its policy rejects that.
     #[error("overclaimed IPv6 resources")]
     OverclaimV6,
-    /// It lists AS numbers that the issuer doesn't have, and must not.
+    /// It lists AS numbers that the issuer doesn't have, and its policy rejects that.
     #[error("overclaimed AS resources")]
     OverclaimAs,
     #[error("out of memory")]

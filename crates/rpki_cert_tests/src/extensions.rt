@@ -1,4 +1,4 @@
-//! The row of a certificate's extensions, by itself.
+//! The extensions of a certificate, by themselves.
 
 use rpki_blocks::Overclaim;
 use rpki_der::Cursor;
@@ -18,36 +18,36 @@ const UNORDERED: &str =
 const ORDERED: &str =
     "301d0603551d0e04160414a9993e364706816aba3e25717850c26c9cd0d89d300e0603551d0f0101ff04040302078030180603551d200101ff040e300c300a06082b06010505070e03301506082b0601050507011d0101ff04063004a0020500";
 
-fn assert_row(rt: &impl Abort, alloc: Global, row: &Extensions, digits: &str) {
+fn assert_written(rt: &impl Abort, alloc: Global, extensions: &Extensions, digits: &str) {
     let mut out = Vec::new(alloc);
-    row.encode_row(alloc, &mut out).expect(rt, "memory");
+    extensions.encode_row(alloc, &mut out).expect(rt, "memory");
     assert!(rt; rpki_samples::has_digits(alloc, &out, digits));
 }
 
 #[test]
-fn a_bare_row_is_written(rt: HostRuntime) {
+fn bare_extensions_are_written(rt: HostRuntime) {
     let id = rpki_samples::rsa(b"abc").key_identifier();
-    let row = Extensions::bare(id, KeyUsage::Ee, Overclaim::Trim);
-    assert_row(&rt, rt.alloc(), &row, BARE);
-    drop(row);
+    let extensions = Extensions::bare(id, KeyUsage::Ee, Overclaim::Trim);
+    assert_written(&rt, rt.alloc(), &extensions, BARE);
+    drop(extensions);
 }
 
-fn row(rt: &impl Abort, alloc: Global) -> Extensions {
+fn extensions(rt: &impl Abort, alloc: Global) -> Extensions {
     let octets = rpki_samples::shared(alloc, UNORDERED).expect(rt, "digits");
     let cursor = Cursor::new(&octets);
-    Extensions::from_row(alloc, &cursor).expect(rt, "a row")
+    Extensions::from_row(alloc, &cursor).expect(rt, "extensions")
 }
 
 fn assert_copy(rt: &impl Abort, alloc: Global, copy: Result<Extensions, AllocError>) {
     let copy = copy.expect(rt, "memory");
-    assert_row(rt, alloc, &copy, ORDERED);
+    assert_written(rt, alloc, &copy, ORDERED);
     drop(copy);
 }
 
 #[test]
-fn a_row_is_read(rt: HostRuntime) {
-    let row = row(&rt, rt.alloc());
-    assert_row(&rt, rt.alloc(), &row, ORDERED);
-    assert_copy(&rt, rt.alloc(), row.try_clone(rt.alloc()));
-    drop(row);
+fn extensions_are_read(rt: HostRuntime) {
+    let extensions = extensions(&rt, rt.alloc());
+    assert_written(&rt, rt.alloc(), &extensions, ORDERED);
+    assert_copy(&rt, rt.alloc(), extensions.try_clone(rt.alloc()));
+    drop(extensions);
 }

@@ -23,13 +23,13 @@ fn the_stand_in_signs(rt: HostRuntime) {
 
 #[test]
 fn the_stand_in_tells_its_relation(rt: HostRuntime) {
-    let rows: [(&'static [u8], &'static [u8], bool); 4] = [
+    let cases: [(&'static [u8], &'static [u8], bool); 4] = [
         (b"a", b"a\x30\x00", true),
         (b"a", b"a\x30", false),
         (b"", b"\x30\x00", true),
         (b"a", b"", false),
     ];
-    for (bits, signature, holds) in rows {
+    for (bits, signature, holds) in cases {
         let answer = signed_data(b"\x30\x00", signature).verify_signature(&rsa(bits), &StandIn);
         assert_eq!(rt; answer.is_ok(), holds, "{signature:?}");
     }

@@ -96,13 +96,13 @@ fn entries(data: &mut Cursor<'_>) -> Result<(), DecodeError> {
     Ok(())
 }
 
-fn extension(row: &mut Cursor<'_>) -> Result<(), DecodeError> {
-    let _extension = take_extension(row)?;
+fn extension(elements: &mut Cursor<'_>) -> Result<(), DecodeError> {
+    let _extension = take_extension(elements)?;
     Ok(())
 }
 
-// The row of extensions inside its tags.
-fn row_of<'a>(data: &mut Cursor<'a>, identifier: u8) -> Result<Cursor<'a>, Stop> {
+// The extensions inside their tags.
+fn sequence_of<'a>(data: &mut Cursor<'a>, identifier: u8) -> Result<Cursor<'a>, Stop> {
     let start = at(data);
     let mut outer = match data.take_value(identifier) {
         Ok(outer) => outer,
@@ -111,17 +111,17 @@ fn row_of<'a>(data: &mut Cursor<'a>, identifier: u8) -> Result<Cursor<'a>, Stop>
             return Err(stopped_at("the extensions", start));
         }
     };
-    let row = inside(&mut outer, "the extensions")?;
+    let elements = inside(&mut outer, "the extensions")?;
     if outer.is_empty() {
-        Ok(row)
+        Ok(elements)
     } else {
         Err(stopped_at("the extensions", start))
     }
 }
 
 // The extensions, each of which is well formed, may stand there, and means something.
-fn extensions(alloc: Global, row: &Cursor<'_>, is_list: bool) -> Result<(), Stop> {
-    let mut rest = row.fork();
+fn extensions(alloc: Global, elements: &Cursor<'_>, is_list: bool) -> Result<(), Stop> {
+    let mut rest = elements.fork();
     for _ in 0..u64::MAX {
         if rest.is_empty() {
             break;
@@ -135,7 +135,7 @@ fn extensions(alloc: Global, row: &Cursor<'_>, is_list: bool) -> Result<(), Stop
             }
         };
         let kind = Kind::of(identifier, is_list);
-        if stands_before(row, kind, is_list, octet) {
+        if stands_before(elements, kind, is_list, octet) {
             return Err(stopped_at(kind.name(), octet));
         }
         past(kind.read(alloc, critical, &mut content), kind.name(), octet)?;
@@ -144,11 +144,11 @@ fn extensions(alloc: Global, row: &Cursor<'_>, is_list: bool) -> Result<(), Stop
 }
 
 // Whether an extension of this kind stands before this octet.
-fn stands_before(row: &Cursor<'_>, kind: Kind, is_list: bool, octet: usize) -> bool {
+fn stands_before(elements: &Cursor<'_>, kind: Kind, is_list: bool, octet: usize) -> bool {
     if kind == Kind::Unknown {
         return false;
     }
-    let mut rest = row.fork();
+    let mut rest = elements.fork();
     for _ in 0..u64::MAX {
         if at(&rest) >= octet {
             break;
@@ -166,16 +166,16 @@ fn stands_before(row: &Cursor<'_>, kind: Kind, is_list: bool, octet: usize) -> b
 }
 
 // What the extensions of a certificate give together.
-fn all_extensions(alloc: Global, row: &Cursor<'_>) -> Result<(), DecodeError> {
-    let given = Extensions::from_row(alloc, row)?;
+fn all_extensions(alloc: Global, elements: &Cursor<'_>) -> Result<(), DecodeError> {
+    let given = Extensions::from_row(alloc, elements)?;
     drop(given);
     Ok(())
 }
 
 // Whether an extension of this kind of a list's stands in the sequence.
-fn has(row: &Cursor<'_>, kind: Kind) -> bool {
-    let (_, end) = row.span();
-    stands_before(row, kind, true, end)
+fn has(elements: &Cursor<'_>, kind: Kind) -> bool {
+    let (_, end) = elements.span();
+    stands_before(elements, kind, true, end)
 }
 
 fn ended(data: &Cursor<'_>) -> Result<(), Stop> {
@@ -202,9 +202,9 @@ fn of_certificate(alloc: Global, data: &mut Cursor<'_>) -> Result<(), Stop> {
     let octet = at(data);
     past(key(alloc, data), "the public key", octet)?;
     let octet = at(data);
-    let row = row_of(data, 0xa3)?;
-    extensions(alloc, &row, false)?;
-    past(all_extensions(alloc, &row), "the extensions", octet)?;
+    let elements = sequence_of(data, 0xa3)?;
+    extensions(alloc, &elements, false)?;
+    past(all_extensions(alloc, &elements), "the extensions", octet)?;
     ended(data)
 }
 
@@ -222,9 +222,9 @@ fn of_list(alloc: Global, data: &mut Cursor<'_>) -> Result<(), Stop> {
     let octet = at(data);
     past(entries(data), "the revoked certificates", octet)?;
     let octet = at(data);
-    let row = row_of(data, 0xa0)?;
-    extensions(alloc, &row, true)?;
-    if !(has(&row, Kind::AuthorityKeyIdentifier) && has(&row, Kind::CrlNumber)) {
+    let elements = sequence_of(data, 0xa0)?;
+    extensions(alloc, &elements, true)?;
+    if !(has(&elements, Kind::AuthorityKeyIdentifier) && has(&elements, Kind::CrlNumber)) {
         return Err(stopped_at("the extensions", octet));
     }
     ended(data)
@@ -290,7 +290,7 @@ fn policy_in(octets: &Bytes) -> Option<bool> {
     for _ in 0..5 {
         let _field = data.take_sequence().ok()?;
     }
-    let row = row_of(&mut data, 0xa3).ok()?;
-    let (_, end) = row.span();
-    Some(stands_before(&row, Kind::CertificatePolicies, false, end))
+    let elements = sequence_of(&mut data, 0xa3).ok()?;
+    let (_, end) = elements.span();
+    Some(stands_before(&elements, Kind::CertificatePolicies, false, end))
 }

@@ -13,7 +13,7 @@ use Rattle.rpki_der.specs.Times.{IsTime}
 use Rattle.rpki_der.specs.Choices.{exactly, IsConversion, conversion}
 use Rattle.rpki_der.proofs.Octets.{bind_some, some, some_is, chosen}
 use Rattle.rpki_der.proofs.Formats.{of_enc}
-use Rattle.rpki_der.proofs.Readings.{inside_reads, content_reads, mapped_reads, same_reads, both_reads, before_then}
+use Rattle.rpki_der.proofs.Readings.{inside_reads, content_reads, map_value_reads, same_reads, both_reads, before_then}
 use Rattle.rpki_der.proofs.Optionals.{absent_before}
 use Rattle.rpki_der.proofs.ValueReads.{value_reads}
 use Rattle.rpki_der.proofs.TimeReads.{time_reads}
@@ -86,14 +86,14 @@ fields_reads =
     (inside_reads (CONTEXT_CONSTRUCTED 0) (value_at SEQUENCE) (IsEnc SEQUENCE) (value_reads SEQUENCE)) tagged_other))))))
 
 -- the sequence of extensions, as it stands
-abbrev row_in : ListParts → List ℕ
-row_in (_, (_, (_, (_, (_, (_, row)))))) = row
+abbrev sequence_in : ListParts → List ℕ
+sequence_in (_, (_, (_, (_, (_, (_, elements)))))) = elements
 
 abbrev fields_made : ListParts → ListExtensions → ListFields Revoked
 fields_made (_, (algorithm, (issuer, (this_update, (next_update, (revoked, _)))))) x =
     record { algorithm = algorithm; issuer = issuer; this_update = this_update; next_update = next_update; revoked = revoked; extensions = x }
 
-is_content : (p : ListParts) (x : ListExtensions) (text : List ℕ) → AreInOrder p text → list_extensions_of (row_in p) ≡ Some x → IsTbsCertListContent (fields_made p x) text
+is_content : (p : ListParts) (x : ListExtensions) (text : List ℕ) → AreInOrder p text → list_extensions_of (sequence_in p) ≡ Some x → IsTbsCertListContent (fields_made p x) text
 is_content p x text (version, after_version, version_is, fields, text_is) e =
     let (algorithm, _, algorithm_is, after_algorithm, from_algorithm) = fields in
     let (issuer, _, issuer_is, after_issuer, from_issuer) = after_algorithm in
@@ -101,7 +101,7 @@ is_content p x text (version, after_version, version_is, fields, text_is) e =
     let (next_update, _, next_update_is, after_next_update, from_next_update) = after_this_update in
     let (revoked, extensions, revoked_is, tagged, from_revoked) = after_next_update in
     let (sequence, sequence_is, tagged_is) = tagged in
-    let (triples, row_is, gives) = list_extensions_read.takes (row_in p) x sequence_is.octets e in
+    let (triples, elements_are, gives) = list_extensions_read.takes (sequence_in p) x sequence_is.octets e in
     record {
       algorithm = algorithm;
       issuer = issuer;
@@ -114,10 +114,10 @@ is_content p x text (version, after_version, version_is, fields, text_is) e =
       this_update_is = this_update_is;
       next_update_is = next_update_is;
       revoked_is = revoked_is;
-      row = row_in p;
+      elements = sequence_in p;
       triples = triples;
-      row_is = row_is;
-      extensions_is = (sequence, tagged_is, (row_in p, sequence_is, refl));
+      elements_are = elements_are;
+      extensions_is = (sequence, tagged_is, (sequence_in p, sequence_is, refl));
       gives = gives;
       is =
           text_is ∙ ap (λ (t : List ℕ). t ++ after_version) version_is
@@ -130,7 +130,7 @@ is_content p x text (version, after_version, version_is, fields, text_is) e =
     }
 
 abbrev fields_of : ListFields Revoked → List ℕ → ListParts
-fields_of f row = (tt, (f.algorithm, (f.issuer, (f.this_update, (f.next_update, (f.revoked, row))))))
+fields_of f elements = (tt, (f.algorithm, (f.issuer, (f.this_update, (f.next_update, (f.revoked, elements))))))
 
 content_is : (f : ListFields Revoked) (text : List ℕ) → (s : IsTbsCertListContent f text) → AreInOrder (fields_of f s.extensions_is.2.0) text
 content_is f text s =
@@ -174,22 +174,22 @@ content_is f text s =
     )
 
 -- the extensions of a content are read again
-row_again : (f : ListFields Revoked) (text : List ℕ) → (s : IsTbsCertListContent f text) → list_extensions_of s.extensions_is.2.0 ≡ Some f.extensions
-row_again f text s = list_extensions_read.again f.extensions s.extensions_is.2.0 (subst (λ (row : List ℕ). AreExtensions f.extensions row) (sym s.extensions_is.2.2) (s.triples, s.row_is, s.gives))
+sequence_again : (f : ListFields Revoked) (text : List ℕ) → (s : IsTbsCertListContent f text) → list_extensions_of s.extensions_is.2.0 ≡ Some f.extensions
+sequence_again f text s = list_extensions_read.again f.extensions s.extensions_is.2.0 (subst (λ (elements : List ℕ). AreExtensions f.extensions elements) (sym s.extensions_is.2.2) (s.triples, s.elements_are, s.gives))
 
-some_made : (f : ListFields Revoked) (row : List ℕ) → list_extensions_of row ≡ Some f.extensions → fields_from (fields_of f row) ≡ Some f
-some_made f row e = rw e refl
+some_made : (f : ListFields Revoked) (elements : List ℕ) → list_extensions_of elements ≡ Some f.extensions → fields_from (fields_of f elements) ≡ Some f
+some_made f elements e = rw e refl
 
 is_list : (f : ListFields Revoked) (text : List ℕ) → IsConversion fields_from (Inside SEQUENCE AreInOrder) f text → IsTbsCertList f text
 is_list f text (p, s, e) =
-    let a = bind_some (list_extensions_of (row_in p)) (λ x. some (fields_made p x)) f e in
+    let a = bind_some (list_extensions_of (sequence_in p)) (λ x. some (fields_made p x)) f e in
     let content : IsTbsCertListContent (fields_made p a.0) s.0 = is_content p a.0 s.0 s.1 a.1 in
     record { content = s.0; content_is = subst (λ (g : ListFields Revoked). IsTbsCertListContent g s.0) (some_is (fields_made p a.0) f a.2) content; enc = s.2 }
 
 list_is : (f : ListFields Revoked) (text : List ℕ) → IsTbsCertList f text → IsConversion fields_from (Inside SEQUENCE AreInOrder) f text
 list_is f text s =
-    let row = s.content_is.extensions_is.2.0 in
-    (fields_of f row, (s.content, content_is f s.content s.content_is, s.enc), some_made f row (row_again f s.content s.content_is))
+    let elements = s.content_is.extensions_is.2.0 in
+    (fields_of f elements, (s.content, content_is f s.content s.content_is, s.enc), some_made f elements (sequence_again f s.content s.content_is))
 
 -- a TBSCertList is read as it is encoded
 pub tbs_reads : Reads list_at IsTbsCertList
@@ -210,7 +210,7 @@ IsKept r content = AreSigned IsTbsCertList (parts_of r) content
 
 kept_reads : Reads kept_at IsKept
 unfolding kept_at
-kept_reads = mapped_reads (signed_at list_at) (AreSigned IsTbsCertList) crl_from parts_of (λ p. refl) (λ r. refl) (signed_reads list_at IsTbsCertList tbs_reads (λ f text s. of_enc s.enc))
+kept_reads = map_value_reads (signed_at list_at) (AreSigned IsTbsCertList) crl_from parts_of (λ p. refl) (λ r. refl) (signed_reads list_at IsTbsCertList tbs_reads (λ f text s. of_enc s.enc))
 
 same_true : (a b : Algorithm) → same_algorithm a b ≡ true → a ≡ b
 same_true a b e = ap (λ (n : Bool). record { has_null = n }) {x = a.has_null} ((booleans_Decides a.has_null b.has_null).0 e)

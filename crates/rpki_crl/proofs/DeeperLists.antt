@@ -19,9 +19,9 @@ module _ (d e : ℕ) (le : d ≤ e) where
     this_update_is = h.this_update_is;
     next_update_is = h.next_update_is;
     revoked_is = h.revoked_is;
-    row = h.row;
+    elements = h.elements;
     triples = h.triples;
-    row_is = h.row_is;
+    elements_are = h.elements_are;
     extensions_is = h.extensions_is;
     gives = h.gives;
     is = h.is;

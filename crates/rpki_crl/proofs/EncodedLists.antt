@@ -19,14 +19,14 @@ use Rattle.rpki_ext.specs.KeyIdentifiers.{authority_key_identifier, authority_ke
 use Rattle.rpki_ext.proofs.CrlNumbers.{crl_number_is}
 use Rattle.rpki_ext.proofs.KeyIdentifiers.{authority_key_identifier_is}
 use Rattle.rpki_crl.specs.ListExtensions.{ListExtensions, GiveListExtensions}
-use Rattle.rpki_crl.specs.Lists.{ListFields, ListFits, IsTbsCertList, version_2, list_row, list_content, list_encoding, tagged_list_extensions}
+use Rattle.rpki_crl.specs.Lists.{ListFields, ListFits, IsTbsCertList, version_2, list_sequence, list_content, list_encoding, tagged_list_extensions}
 use Rattle.rpki_crl.specs.RevokedEntries.{Entry, Revoked, AreEntries, revoked}
 
 -- ---- entries
 
-row_octets : (es : List Entry) (b : List ℕ) → AreEntries es b → AreOctets b
-row_octets [] b s = subst AreOctets (sym s) tt
-row_octets (e ∷ es) b s = subst AreOctets (sym s.4) (AreOctets-append s.0 s.1 (value_octets s.2.enc) (row_octets es s.1 s.3))
+sequence_octets : (es : List Entry) (b : List ℕ) → AreEntries es b → AreOctets b
+sequence_octets [] b s = subst AreOctets (sym s) tt
+sequence_octets (e ∷ es) b s = subst AreOctets (sym s.4) (AreOctets-append s.0 s.1 (value_octets s.2.enc) (sequence_octets es s.1 s.3))
 
 ok_revoked : (octets : List ℕ) → AreOctets octets → IfShort (revoked octets)
 ok_revoked [] low = λ l. tt
@@ -51,8 +51,8 @@ abbrev second : ListExtensions → List ℕ
 second x = extension crl_number.identifier false (number x.crl_number)
 
 module _ (f : ListFields Revoked) (fits : ListFits f) where
-  ok_row : IfShort (list_row f.extensions)
-  ok_row =
+  ok_sequence : IfShort (list_sequence f.extensions)
+  ok_sequence =
       ok_append (first f.extensions) (second f.extensions)
       (ok_extension authority_key_identifier.identifier false (authority_key_identifier_content f.extensions.authority_key_identifier) (literal authority_key_identifier.identifier refl) (authority_key_identifier_is.octets f.extensions.authority_key_identifier fits.identifier_is))
       (ok_extension crl_number.identifier false (number f.extensions.crl_number) (literal crl_number.identifier refl) (crl_number_is.octets f.extensions.crl_number fits.number_is))
@@ -74,8 +74,8 @@ module _ (f : ListFields Revoked) (fits : ListFits f) where
               (
                 ok_time f.next_update fits.next_update_is,
                 (
-                  ok_revoked f.revoked.octets (row_octets f.revoked.entries f.revoked.octets fits.entries_are),
-                  (ok_nested (CONTEXT_CONSTRUCTED 0 ∷ SEQUENCE ∷ []) (list_row f.extensions) (literal (CONTEXT_CONSTRUCTED 0 ∷ SEQUENCE ∷ []) refl) ok_row, tt),
+                  ok_revoked f.revoked.octets (sequence_octets f.revoked.entries f.revoked.octets fits.entries_are),
+                  (ok_nested (CONTEXT_CONSTRUCTED 0 ∷ SEQUENCE ∷ []) (list_sequence f.extensions) (literal (CONTEXT_CONSTRUCTED 0 ∷ SEQUENCE ∷ []) refl) ok_sequence, tt),
                 ),
               ),
             ),
@@ -88,9 +88,9 @@ module _ (f : ListFields Revoked) (fits : ListFits f) where
   pub data_made : (b : List ℕ) → b ≡ list_encoding f → IsEnc SEQUENCE (list_content f) b
   data_made b is = record { octet = omega arith; low_tag = omega arith; octets = content_octets; short = fits.short; is = is }
 
-  module _ (row : Short (list_row f.extensions)) where
+  module _ (elements : Short (list_sequence f.extensions)) where
     parts_short : Short (first f.extensions) × (Short (second f.extensions) × Unit {0})
-    parts_short = pieces_short (first f.extensions ∷ second f.extensions ∷ []) (subst Short (ap (λ (t : List ℕ). first f.extensions ++ t) (sym (append-nil (second f.extensions)))) row)
+    parts_short = pieces_short (first f.extensions ∷ second f.extensions ∷ []) (subst Short (ap (λ (t : List ℕ). first f.extensions ++ t) (sym (append-nil (second f.extensions)))) elements)
 
     given : GiveListExtensions (identifier_of f.extensions ∷ number_of f.extensions ∷ []) f.extensions
     given =
@@ -107,7 +107,7 @@ module _ (f : ListFields Revoked) (fits : ListFits f) where
   unfolding tagged_list_extensions
   list_made =
       let (_, (algorithm_short, (_, (_, (_, (revoked_short, (last, _))))))) = pieces_short pieces (fits.short, content_octets) in
-      let row = nested_short (CONTEXT_CONSTRUCTED 0 ∷ SEQUENCE ∷ []) (list_row f.extensions) last in
+      let elements = nested_short (CONTEXT_CONSTRUCTED 0 ∷ SEQUENCE ∷ []) (list_sequence f.extensions) last in
       let x = f.extensions in
       record {
         content = list_content f;
@@ -123,17 +123,17 @@ module _ (f : ListFields Revoked) (fits : ListFits f) where
           this_update_is = moment_made f.this_update fits.this_update_is;
           next_update_is = moment_made f.next_update fits.next_update_is;
           revoked_is = record { entries = fits.entries_are; sequence = form f.revoked.octets revoked_short };
-          row = list_row x;
+          elements = list_sequence x;
           triples = identifier_of x ∷ number_of x ∷ [];
-          row_is = (
+          elements_are = (
             first x,
             second x,
-            extension_made (identifier_of x) (plain_oid 0x55 (0x1D ∷ 0x23 ∷ []) (omega arith, (omega arith, (omega arith, tt)))) (parts_short row).0,
-            (second x, [], extension_made (number_of x) (plain_oid 0x55 (0x1D ∷ 0x14 ∷ []) (omega arith, (omega arith, (omega arith, tt)))) (parts_short row).1.0, refl, sym (append-nil (second x))),
+            extension_made (identifier_of x) (plain_oid 0x55 (0x1D ∷ 0x23 ∷ []) (omega arith, (omega arith, (omega arith, tt)))) (parts_short elements).0,
+            (second x, [], extension_made (number_of x) (plain_oid 0x55 (0x1D ∷ 0x14 ∷ []) (omega arith, (omega arith, (omega arith, tt)))) (parts_short elements).1.0, refl, sym (append-nil (second x))),
             refl,
           );
-          extensions_is = nested_made (CONTEXT_CONSTRUCTED 0 ∷ SEQUENCE ∷ []) (list_row x) (omega arith, (omega arith, tt)) last;
-          gives = given row;
+          extensions_is = nested_made (CONTEXT_CONSTRUCTED 0 ∷ SEQUENCE ∷ []) (list_sequence x) (omega arith, (omega arith, tt)) last;
+          gives = given elements;
           is = refl;
         };
         enc = data_made (list_encoding f) refl;

@@ -7,7 +7,7 @@ use Rattle.rpki_der.specs.Times.Reading.{time_at}
 use Rattle.rpki_der.specs.Sequences.Reading.{Shrinks}
 use Rattle.rpki_der.specs.Serials.{IsSerial}
 use Rattle.rpki_der.specs.Times.{Moment, IsTime}
-use Rattle.rpki_der.proofs.Readings.{both_reads, inside_reads, mapped_reads, same_reads}
+use Rattle.rpki_der.proofs.Readings.{both_reads, inside_reads, map_value_reads, same_reads}
 use Rattle.rpki_der.proofs.Sequences.{inside_shrinks}
 use Rattle.rpki_der.proofs.SerialReads.{serial_reads}
 use Rattle.rpki_der.proofs.TimeReads.{time_reads}
@@ -22,7 +22,7 @@ pub entry_content_reads : Reads entry_content_at IsEntryContent
 unfolding entry_content_at
 entry_content_reads =
     same_reads entry_content_at (λ (e : Entry). Both IsSerial IsTime (parts e)) IsEntryContent
-    (mapped_reads (both serial_at time_at) (Both IsSerial IsTime) entry_from parts (λ p. refl) (λ e. refl) (both_reads serial_at time_at IsSerial IsTime serial_reads time_reads))
+    (map_value_reads (both serial_at time_at) (Both IsSerial IsTime) entry_from parts (λ p. refl) (λ e. refl) (both_reads serial_at time_at IsSerial IsTime serial_reads time_reads))
     (λ e text s. record { serial = s.0; date = s.1; serial_is = s.2; date_is = s.3; is = s.4 })
     (λ e text s. (s.serial, s.date, s.serial_is, s.date_is, s.is))
 

@@ -3,10 +3,10 @@ use Rattle.std.specs.Prelude.{nat_eq, not, map}
 use Rattle.std.proofs.Common.{◌≡◌, ℕ, zero, suc, ◌<◌, Bool, List, [], ◌∷◌, length, get_or, Option, Some, None, refl, sym, ap, subst, ◌∙◌, inl, inr, arith}
 use Rattle.std.proofs.lemmas.Bool.{cases_Bool, eqb-true, eqb-false, eq-eqb, ne_eqb}
 use Rattle.rpki_der.specs.Folding.{each, over, pass, steps}
-use Rattle.rpki_der.specs.Sequences.Reading.{row_of}
+use Rattle.rpki_der.specs.Sequences.Reading.{sequence_of}
 use Rattle.rpki_der.specs.Values.{AreOctets}
 use Rattle.rpki_der.proofs.Octets.{bind_some, nothing, some}
-use Rattle.rpki_der.proofs.Sequences.{row_is, row_steps}
+use Rattle.rpki_der.proofs.Sequences.{elements_are, sequence_steps}
 use Rattle.rpki_der.proofs.SequenceWalks.{passed, ends, goes_on}
 use Rattle.rpki_crl.specs.RevokedEntries.{Entry, Revoked, IsEntry, AreEntries, IsRevoked}
 use Rattle.rpki_crl.specs.RevokedEntries.Reading.{entry_at, or_none, entries_in, entries_pass}
@@ -14,21 +14,21 @@ use Rattle.rpki_crl.specs.SerialTables.{looks}
 use Rattle.rpki_crl.proofs.EntryReads.{entry_reads, entry_shrinks}
 
 -- no octets are read as no entries
-pub all_read : row_of entry_at [] ≡ Some []
-unfolding row_of
+pub all_read : sequence_of entry_at [] ≡ Some []
+unfolding sequence_of
 all_read = refl
 
 -- octets that pass are their entries
-pub entries_are : (octets : List ℕ) → entries_pass octets ≡ Some tt → row_of entry_at octets ≡ Some (entries_in octets)
+pub entries_are : (octets : List ℕ) → entries_pass octets ≡ Some tt → sequence_of entry_at octets ≡ Some (entries_in octets)
 unfolding entries_pass
 entries_are octets whole =
-    let row = bind_some (row_of entry_at octets) (λ entries. Some tt) tt (sym (passed entry_at octets) ∙ whole) in
-    rw row.1 refl
+    let elements = bind_some (sequence_of entry_at octets) (λ entries. Some tt) tt (sym (passed entry_at octets) ∙ whole) in
+    rw elements.1 refl
 
 -- and they are encoded so
 pub kept_entries : (octets : List ℕ) (r : Revoked) → record { entries = entries_in octets; octets = octets } ≡ r → entries_pass octets ≡ Some tt → AreOctets octets → AreEntries r.entries r.octets
 kept_entries octets r view whole fits =
-    subst (λ (s : Revoked). AreEntries s.entries s.octets) view (row_is entry_at IsEntry entry_reads octets (entries_in octets) fits (entries_are octets whole))
+    subst (λ (s : Revoked). AreEntries s.entries s.octets) view (elements_are entry_at IsEntry entry_reads octets (entries_in octets) fits (entries_are octets whole))
 
 -- ---- one entry after the other
 
@@ -56,8 +56,8 @@ module _ (octets : List ℕ) (whole : entries_pass octets ≡ Some tt) where
     pub first_entry : entries_in octets ≡ e ∷ entries_in rest
     first_entry =
         let less : length rest < length octets = entry_shrinks octets e rest was in
-        let row : row_of entry_at octets ≡ Some (e ∷ entries_in rest) = row_steps entry_at entry_shrinks octets (omega (arith, less)) ∙ rw (was, entries_are rest others_pass) refl in
-        ap or_none row
+        let elements : sequence_of entry_at octets ≡ Some (e ∷ entries_in rest) = sequence_steps entry_at entry_shrinks octets (omega (arith, less)) ∙ rw (was, entries_are rest others_pass) refl in
+        ap or_none elements
 
 -- ---- a serial among those of entries
 

@@ -6,10 +6,10 @@ use Rattle.std.proofs.lemmas.Int.Digits.{length-digits_of-le}
 use Rattle.std.proofs.lemmas.List.{append-nil, length-append}
 use Rattle.rpki_der.specs.Primitives.{unsigned, number}
 use Rattle.rpki_der.specs.Times.{Moment, time}
-use Rattle.rpki_der.specs.Sequences.Reading.{row_of}
+use Rattle.rpki_der.specs.Sequences.Reading.{sequence_of}
 use Rattle.rpki_der.proofs.Octets.{some}
 use Rattle.rpki_der.proofs.RoundTrips.{enc_small, moment_made, serial_made, unsigned_small}
-use Rattle.rpki_der.proofs.Sequences.{row_again}
+use Rattle.rpki_der.proofs.Sequences.{sequence_again}
 use Rattle.rpki_der.proofs.SequenceWalks.{passed}
 use Rattle.rpki_der.proofs.WrittenOctets.{ok_append, ok_number, ok_time}
 use Rattle.rpki_parts.proofs.Lengths.{time_short}
@@ -41,22 +41,22 @@ entry_made e fits =
     }
 
 -- a sequence of them
-pub row_made : (es : List Entry) → AllByRecursion FitsEntry es → AreEntries es (entries es)
-row_made [] all = refl
-row_made (e ∷ es) all = (entry e, entries es, entry_made e all.0, row_made es all.1, refl)
+pub elements_made : (es : List Entry) → AllByRecursion FitsEntry es → AreEntries es (entries es)
+elements_made [] all = refl
+elements_made (e ∷ es) all = (entry e, entries es, entry_made e all.0, elements_made es all.1, refl)
 
 -- what is written of entries is read as them
-pub row_is_read : (es : List Entry) → AllByRecursion FitsEntry es → row_of entry_at (entries es) ≡ some es
-row_is_read es all = row_again entry_at IsEntry entry_reads entry_shrinks es (entries es) (row_made es all)
+pub sequence_is_read : (es : List Entry) → AllByRecursion FitsEntry es → sequence_of entry_at (entries es) ≡ some es
+sequence_is_read es all = sequence_again entry_at IsEntry entry_reads entry_shrinks es (entries es) (elements_made es all)
 
 -- what is written of entries passes the walk over them
-pub row_passes : (es : List Entry) → AllByRecursion FitsEntry es → entries_pass (entries es) ≡ Some tt
+pub sequence_passes : (es : List Entry) → AllByRecursion FitsEntry es → entries_pass (entries es) ≡ Some tt
 unfolding entries_pass
-row_passes es all = passed entry_at (entries es) ∙ rw (row_is_read es all) refl
+sequence_passes es all = passed entry_at (entries es) ∙ rw (sequence_is_read es all) refl
 
 -- what is written of entries has them
-pub row_has : (es : List Entry) → AllByRecursion FitsEntry es → entries_in (entries es) ≡ es
-row_has es all = ap or_none (row_is_read es all)
+pub sequence_has : (es : List Entry) → AllByRecursion FitsEntry es → entries_in (entries es) ≡ es
+sequence_has es all = ap or_none (sequence_is_read es all)
 
 -- one entry more
 pub entries_more : (es : List Entry) (e : Entry) → entries (es ++ e ∷ []) ≡ entries es ++ entry e

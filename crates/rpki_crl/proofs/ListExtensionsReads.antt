@@ -41,7 +41,7 @@ give xs identifier number f e (others, (identifier_given, (number_given, _))) =
 
 -- the octets are a sequence of extensions that give these values
 abbrev pub AreExtensions : ListExtensions → List ℕ → Type 0
-AreExtensions f row = (xs : List Extension) × AreEncodings IsExtension xs row × GiveListExtensions xs f
+AreExtensions f elements = (xs : List Extension) × AreEncodings IsExtension xs elements × GiveListExtensions xs f
 
 -- the extensions of a revocation list are read as they are encoded
 pub list_extensions_read : ReadsWhole list_extensions_of AreExtensions

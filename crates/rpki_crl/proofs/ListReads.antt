@@ -3,13 +3,13 @@ use Rattle.std.proofs.Common.{◌≡◌, ℕ, List, [], Option, Some, None, refl
 use Rattle.rpki_der.specs.Tags.{SEQUENCE}
 use Rattle.rpki_der.specs.Choices.{optional_of}
 use Rattle.rpki_der.specs.Reading.{content, optional, Inside, Optional, ReadsOrAbsent, ReadsWhole}
-use Rattle.rpki_der.specs.Sequences.Reading.{row_of}
+use Rattle.rpki_der.specs.Sequences.Reading.{sequence_of}
 use Rattle.rpki_der.specs.Values.{AreOctets, IsEnc}
 use Rattle.rpki_der.proofs.Choices.{inside_begins, optional_of_is}
 use Rattle.rpki_der.proofs.Octets.{bind_some, some, some_is}
-use Rattle.rpki_der.proofs.Optionals.{mapped_or_absent, optional_or_absent}
+use Rattle.rpki_der.proofs.Optionals.{map_value_or_absent, optional_or_absent}
 use Rattle.rpki_der.proofs.Readings.{content_reads}
-use Rattle.rpki_der.proofs.Sequences.{row_again, row_is}
+use Rattle.rpki_der.proofs.Sequences.{sequence_again, elements_are}
 use Rattle.rpki_der.proofs.SequenceWalks.{passed}
 use Rattle.rpki_crl.specs.RevokedEntries.{AreEntries, Entry, IsEntry, IsRevokedCertificates, Revoked}
 use Rattle.rpki_crl.specs.RevokedEntries.Reading.{entry_at, entries_in, entries_pass, no_entries, or_no_entries, revoked_at, revoked_of}
@@ -27,17 +27,17 @@ content_takes : (content : List ℕ) (r : Revoked) → AreOctets content → rev
 unfolding revoked_of
 content_takes content r fits e =
     let made : Revoked = record { entries = entries_in content; octets = content } in
-    let a = bind_some (entries_pass content) (λ row. some made) r e in
+    let a = bind_some (entries_pass content) (λ elements. some made) r e in
     subst (λ (s : Revoked). IsContent s content) (some_is made r a.2) (record {
       octets = refl;
-      entries = row_is entry_at IsEntry entry_reads content (entries_in content) fits (entries_are content a.1);
+      entries = elements_are entry_at IsEntry entry_reads content (entries_in content) fits (entries_are content a.1);
     })
 
 content_again : (r : Revoked) (content : List ℕ) → IsContent r content → revoked_of content ≡ some r
 unfolding revoked_of entries_pass
 content_again r content is =
-    let row : row_of entry_at content ≡ some r.entries = rw (← is.octets) (row_again entry_at IsEntry entry_reads entry_shrinks r.entries r.octets is.entries) in
-    rw (passed entry_at content, row, is.octets) refl
+    let elements : sequence_of entry_at content ≡ some r.entries = rw (← is.octets) (sequence_again entry_at IsEntry entry_reads entry_shrinks r.entries r.octets is.entries) in
+    rw (passed entry_at content, elements, is.octets) refl
 
 content_is_read : ReadsWhole revoked_of IsContent
 content_is_read = record { takes = content_takes; again = content_again }
@@ -52,7 +52,7 @@ same_revoked r s p q =
 
 no_octets : (entries : List Entry) (octets : List ℕ) → AreEntries entries octets → octets ≡ [] → entries ≡ []
 no_octets entries octets are none =
-    let read : row_of entry_at [] ≡ some entries = rw (← none) (row_again entry_at IsEntry entry_reads entry_shrinks entries octets are) in
+    let read : sequence_of entry_at [] ≡ some entries = rw (← none) (sequence_again entry_at IsEntry entry_reads entry_shrinks entries octets are) in
     some_is entries [] (sym read ∙ all_read)
 
 list_is : (o : Option Revoked) (text : List ℕ) → Optional (Inside SEQUENCE IsContent) o text → IsRevokedCertificates (or_no_entries o) text
@@ -75,6 +75,6 @@ unfolding revoked_at
 list_reads =
     let same : optional SEQUENCE (content SEQUENCE revoked_of) ≡ optional_of SEQUENCE revoked_of = λ i octets. sym (optional_of_is SEQUENCE revoked_of octets) i in
     let reads = optional_or_absent SEQUENCE (content SEQUENCE revoked_of) (Inside SEQUENCE IsContent) (content_reads SEQUENCE revoked_of IsContent content_is_read) (inside_begins SEQUENCE IsContent) in
-    mapped_or_absent SEQUENCE or_no_entries (optional_of SEQUENCE revoked_of) (Optional (Inside SEQUENCE IsContent)) IsRevokedCertificates
+    map_value_or_absent SEQUENCE or_no_entries (optional_of SEQUENCE revoked_of) (Optional (Inside SEQUENCE IsContent)) IsRevokedCertificates
     (subst (λ (f : List ℕ → Option (Option Revoked × List ℕ)). ReadsOrAbsent SEQUENCE f (Optional (Inside SEQUENCE IsContent))) same reads)
     list_is is_list

@@ -12,31 +12,31 @@ use Rattle.rpki_parts.specs.Algorithms.{algorithm}
 use Rattle.rpki_ext.specs.CrlNumbers.{crl_number}
 use Rattle.rpki_ext.specs.KeyIdentifiers.{authority_key_identifier, authority_key_identifier_content}
 use Rattle.rpki_crl.specs.ListExtensions.{ListExtensions}
-use Rattle.rpki_crl.specs.Lists.{ListFields, version_2, list_row, tagged_list_extensions, list_content}
+use Rattle.rpki_crl.specs.Lists.{ListFields, version_2, list_sequence, tagged_list_extensions, list_content}
 use Rattle.rpki_crl.specs.RevokedEntries.{Revoked, revoked}
 
 -- each extension, in the sequence
-pub identifier_longer : (x : ListExtensions) → length (concat (extension_pieces authority_key_identifier.identifier false (authority_key_identifier_content x.authority_key_identifier))) ≤ length (list_row x)
+pub identifier_longer : (x : ListExtensions) → length (concat (extension_pieces authority_key_identifier.identifier false (authority_key_identifier_content x.authority_key_identifier))) ≤ length (list_sequence x)
 identifier_longer x =
     let pieces = concat (extension_pieces authority_key_identifier.identifier false (authority_key_identifier_content x.authority_key_identifier)) in
     omega (arith, enc_longer SEQUENCE pieces, length-append (enc SEQUENCE pieces) (extension crl_number.identifier false (number x.crl_number)))
 
 -- the extension of a CRL number isn't longer than the sequence
-pub number_longer : (x : ListExtensions) → length (concat (extension_pieces crl_number.identifier false (number x.crl_number))) ≤ length (list_row x)
+pub number_longer : (x : ListExtensions) → length (concat (extension_pieces crl_number.identifier false (number x.crl_number))) ≤ length (list_sequence x)
 number_longer x =
     let pieces = concat (extension_pieces crl_number.identifier false (number x.crl_number)) in
     let front = extension authority_key_identifier.identifier false (authority_key_identifier_content x.authority_key_identifier) in
     omega (arith, enc_longer SEQUENCE pieces, length-append front (enc SEQUENCE pieces))
 
 -- the sequence, and its SEQUENCE, in the tag
-pub row_longer : (x : ListExtensions) → length (list_row x) ≤ length (tagged_list_extensions x)
+pub elements_longer : (x : ListExtensions) → length (list_sequence x) ≤ length (tagged_list_extensions x)
 unfolding tagged_list_extensions
-row_longer x = omega (arith, enc_longer (CONTEXT_CONSTRUCTED 0) (enc SEQUENCE (list_row x)), enc_longer SEQUENCE (list_row x))
+elements_longer x = omega (arith, enc_longer (CONTEXT_CONSTRUCTED 0) (enc SEQUENCE (list_sequence x)), enc_longer SEQUENCE (list_sequence x))
 
 -- the SEQUENCE of extensions isn't longer than inside its tag
-pub sequence_longer : (x : ListExtensions) → length (enc SEQUENCE (list_row x)) ≤ length (tagged_list_extensions x)
+pub sequence_longer : (x : ListExtensions) → length (enc SEQUENCE (list_sequence x)) ≤ length (tagged_list_extensions x)
 unfolding tagged_list_extensions
-sequence_longer x = enc_longer (CONTEXT_CONSTRUCTED 0) (enc SEQUENCE (list_row x))
+sequence_longer x = enc_longer (CONTEXT_CONSTRUCTED 0) (enc SEQUENCE (list_sequence x))
 
 member_longer : (ps : List (List ℕ)) (k : ℕ) → length (get_or ps k []) ≤ length (concat ps)
 member_longer [] k = omega arith

@@ -50,10 +50,10 @@ pub record IsTbsCertListContentWithin (depth : ℕ) (f : ListFields Revoked) (co
   pub this_update_is : IsTime f.this_update this_update
   pub next_update_is : IsTime f.next_update next_update
   pub revoked_is : IsRevokedCertificates f.revoked revoked
-  pub row : List ℕ
+  pub elements : List ℕ
   pub triples : List Extension
-  pub row_is : AreEncodings IsExtension triples row
-  pub extensions_is : IsNested (CONTEXT_CONSTRUCTED 0 ∷ SEQUENCE ∷ []) row extensions
+  pub elements_are : AreEncodings IsExtension triples elements
+  pub extensions_is : IsNested (CONTEXT_CONSTRUCTED 0 ∷ SEQUENCE ∷ []) elements extensions
   pub gives : GiveListExtensions triples f.extensions
   pub is : content ≡ concat (version_2 ∷ algorithm ∷ issuer ∷ this_update ∷ next_update ∷ revoked ∷ extensions ∷ [])
 
@@ -106,14 +106,14 @@ IsCertificateList = IsCertificateListWithin levels
 -- ---- what is written (the order of the extensions is own)
 
 -- Authority Key Identifier, then CRL Number, both without flag
-abbrev pub list_row : ListExtensions → List ℕ
-list_row x =
+abbrev pub list_sequence : ListExtensions → List ℕ
+list_sequence x =
     extension authority_key_identifier.identifier false (authority_key_identifier_content x.authority_key_identifier)
     ++ extension crl_number.identifier false (number x.crl_number)
 
 -- the encodings of a list's extensions inside their two tags
 unfoldable pub tagged_list_extensions : ListExtensions → List ℕ
-tagged_list_extensions x = nested (CONTEXT_CONSTRUCTED 0 ∷ SEQUENCE ∷ []) (list_row x)
+tagged_list_extensions x = nested (CONTEXT_CONSTRUCTED 0 ∷ SEQUENCE ∷ []) (list_sequence x)
 
 -- what stands inside the SEQUENCE
 abbrev pub list_content : ListFields Revoked → List ℕ

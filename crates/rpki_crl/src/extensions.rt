@@ -60,16 +60,16 @@ fn refuse(alloc: Global, identifier: &[u8]) -> DecodeError
 
 /// What the extensions that were seen so far gave.
 #[derive(Clone, Copy)]
-struct Seen {
+struct ReadListExtensions {
     authority_key_identifier: Option<KeyIdentifier>,
     crl_number: Option<Serial>,
 }
 
-impl Seen {
-    fn nothing() -> Seen
+impl ReadListExtensions {
+    fn nothing() -> ReadListExtensions
         ensures { sights_of result ≡ list_fold.start }
     {
-        Seen {
+        ReadListExtensions {
             authority_key_identifier: None,
             crl_number: None,
         }
@@ -112,12 +112,12 @@ impl Seen {
     }
 
     // A sequence of extensions, one after the other.
-    fn from_row(alloc: Global, row: &Cursor<'_>) -> Result<Seen, DecodeError>
+    fn from_row(alloc: Global, elements: &Cursor<'_>) -> Result<ReadListExtensions, DecodeError>
         ensures { ReturnsOrMemoryBy sights_of result
-            (over extension_at list_fold.step list_fold.start (remaining row.now)) }
+            (over extension_at list_fold.step list_fold.start (remaining elements.now)) }
     {
-        let mut rest = row.fork();
-        let mut seen = Seen::nothing();
+        let mut rest = elements.fork();
+        let mut seen = ReadListExtensions::nothing();
         while !rest.is_empty() {
             let (identifier, critical, mut content) = match take_extension(&mut rest) {
                 Ok(extension) => extension,
@@ -134,7 +134,7 @@ impl Seen {
 
 impl Extensions {
     // What was seen, if both kinds were.
-    fn complete(seen: Seen) -> Result<Extensions, DecodeError>
+    fn complete(seen: ReadListExtensions) -> Result<Extensions, DecodeError>
         ensures { ReturnsBy extensions_view result (both_seen (sights_of seen)) }
     {
         let Some(authority_key_identifier) = seen.authority_key_identifier else {
@@ -151,10 +151,10 @@ impl Extensions {
 
     /// Reads all extensions of a list, and returns what they give (RFC 6487 5).
     #[tactic(auto, unfolding(crate::specs::ListExtensions::Reading::list_extensions_of))]
-    pub(crate) fn from_row(alloc: Global, row: &Cursor<'_>) -> Result<Extensions, DecodeError>
+    pub(crate) fn from_row(alloc: Global, elements: &Cursor<'_>) -> Result<Extensions, DecodeError>
         ensures reads { ReturnsOrMemoryBy extensions_view result
-            (list_extensions_of (remaining row.now)) }
+            (list_extensions_of (remaining elements.now)) }
     {
-        Extensions::complete(Seen::from_row(alloc, row)?)
+        Extensions::complete(ReadListExtensions::from_row(alloc, elements)?)
     }
 }

@@ -41,7 +41,7 @@ pub fn written_is_read()
     ensures data { (f : ListFields Revoked) → ListFits f → IsTbsCertList f (list_encoding f) }
     ensures list { (r : CrlFields) → IsMadeList r
         → IsCertificateList r (signed_data r.signed_data) }
-    ensures row { (es : List Entry) → AllByRecursion FitsEntry es → AreEntries es (entries es) }
+    ensures elements { (es : List Entry) → AllByRecursion FitsEntry es → AreEntries es (entries es) }
     ensures premises { (f : ListFields Revoked) × ListFits f }
 {}
 

@@ -117,14 +117,14 @@ impl RevokedCertificates {
     /// Makes the list of the entries of a slice, in their order. The only error is `Memory`.
     pub(crate) fn from_entries(
         alloc: Global,
-        row: &[CrlEntry],
+        elements: &[CrlEntry],
     ) -> Result<RevokedCertificates, EncodeError>
-        ensures entries { IfOk result (λ r. r.entries ≡ map entry_of row.now) }
-        ensures octets { IfOk result (λ r. r.octets ≡ entries (map entry_of row.now)) }
+        ensures entries { IfOk result (λ r. r.entries ≡ map entry_of elements.now) }
+        ensures octets { IfOk result (λ r. r.octets ≡ entries (map entry_of elements.now)) }
         ensures memory { IfErr result (λ e. e ≡ Memory) }
     {
         let mut octets = Vec::new(alloc);
-        for entry in row {
+        for entry in elements {
             entry.encode(alloc, &mut octets)?;
         }
         let octets = Bytes::from_vec(octets).map_err(AllocError::from)?;

@@ -74,17 +74,17 @@ struct Head {
 }
 
 // The sequence of extensions, as it stands inside its tags.
-fn take_row<'a>(cursor: &mut Cursor<'a>) -> Result<Cursor<'a>, DecodeError>
+fn take_extensions<'a>(cursor: &mut Cursor<'a>) -> Result<Cursor<'a>, DecodeError>
     ensures reads { TookBy remaining (inside (CONTEXT_CONSTRUCTED 0) (value_at SEQUENCE))
         cursor.old result cursor.new }
     ensures keeps { Keeps result cursor.old cursor.new }
 {
     let mut ahead = cursor.fork();
     let mut tagged = ahead.take_value(tag::CONTEXT_CONSTRUCTED)?;
-    let row = tagged.take_sequence()?;
+    let elements = tagged.take_sequence()?;
     tagged.finish()?;
     *cursor = ahead;
-    Ok(row)
+    Ok(elements)
 }
 
 // These fields, and the sequence of extensions as it stands.
@@ -103,7 +103,7 @@ fn take_in_order<'a>(
     let (issuer, this_update) = beside(issuer, Time::take_from(&mut ahead))?;
     let (issuer, next_update) = beside(issuer, Time::take_from(&mut ahead))?;
     let both = beside(issuer, RevokedCertificates::read(alloc, &mut ahead))?;
-    let (both, row) = beside(both, take_row(&mut ahead))?;
+    let (both, elements) = beside(both, take_extensions(&mut ahead))?;
     let (issuer, revoked_certs) = both;
     *cursor = ahead;
     let head = Head {
@@ -113,7 +113,7 @@ fn take_in_order<'a>(
         next_update,
         revoked_certs,
     };
-    Ok((head, row))
+    Ok((head, elements))
 }
 
 // Reads what stands inside the SEQUENCE.
@@ -148,8 +148,8 @@ impl TbsCertList<RevokedCertificates> {
         ensures octets { AreOctets (remaining cursor.old) }
     {
         let mut ahead = cursor.fork();
-        let (head, row) = take_fields(alloc, &mut ahead)?;
-        let (head, extensions) = beside(head, Extensions::from_row(alloc, &row))?;
+        let (head, elements) = take_fields(alloc, &mut ahead)?;
+        let (head, extensions) = beside(head, Extensions::from_row(alloc, &elements))?;
         *cursor = ahead;
         let Head {
             signature,

@@ -7,7 +7,7 @@ ghost use Rattle.rpki_parts.specs.Names.{IsName};
 ghost use Rattle.rpki_ext.specs.KeyIdentifiers.{HasTwentyOctets};
 ghost use Rattle.rpki_crl.specs.RevokedEntries.{AreEntries};
 ghost use Rattle.rpki_crl.specs.ListExtensions.Views.{extensions_view};
-ghost use Rattle.rpki_crl.specs.Lists.{ListFits, list_content, list_row, tagged_list_extensions};
+ghost use Rattle.rpki_crl.specs.Lists.{ListFits, list_content, list_sequence, tagged_list_extensions};
 
 use crate::extensions::Extensions;
 use crate::revoked::RevokedCertificates;
@@ -21,12 +21,12 @@ const VERSION_2: [u8; 3] = [tag::INTEGER, 0x01, 0x01];
 
 impl Extensions {
     // Appends both extensions, one after the other.
-    fn put_row(&self, alloc: Global, out: &mut Vec<u8>) -> Result<(), EncodeError>
+    fn put_sequence(&self, alloc: Global, out: &mut Vec<u8>) -> Result<(), EncodeError>
         ensures ok { OnOk result
-            (out.new.items ≡ out.old.items ++ list_row (extensions_view self.now)) }
+            (out.new.items ≡ out.old.items ++ list_sequence (extensions_view self.now)) }
         ensures number { OnOk result (self.now.crl_number < 2 ^ 160) }
         ensures too_long { IsErrOf result EncodeError.TooLong
-            → 2 ^ 32 ≤ length (list_row (extensions_view self.now)) }
+            → 2 ^ 32 ≤ length (list_sequence (extensions_view self.now)) }
     {
         encode_authority_key_identifier(alloc, out, self.authority_key_identifier)?;
         let mut number = Vec::new(alloc);
@@ -43,10 +43,10 @@ impl Extensions {
         ensures too_long { IsErrOf result EncodeError.TooLong
             → 2 ^ 32 ≤ length (tagged_list_extensions (extensions_view self.now)) }
     {
-        let mut row = Vec::new(alloc);
-        self.put_row(alloc, &mut row)?;
+        let mut elements = Vec::new(alloc);
+        self.put_sequence(alloc, &mut elements)?;
         let mut sequence = Vec::new(alloc);
-        put_value(&mut sequence, tag::SEQUENCE, &row)?;
+        put_value(&mut sequence, tag::SEQUENCE, &elements)?;
         put_value(out, tag::CONTEXT_CONSTRUCTED, &sequence)
     }
 }

@@ -7,13 +7,13 @@ use Rattle.rpki_der.specs.Choices.{exactly, choice, Either, conversion, IsConver
 use Rattle.rpki_der.specs.Reading.{optional, content, Reads, ReadsWhole, Inside, BeginWith}
 use Rattle.rpki_der.specs.Values.Reading.{value_at, ◌>>=◌}
 use Rattle.rpki_der.specs.Sequences.{AreEncodings}
-use Rattle.rpki_der.specs.Sequences.Reading.{row_of, Shrinks}
+use Rattle.rpki_der.specs.Sequences.Reading.{sequence_of, Shrinks}
 use Rattle.rpki_der.specs.Encoding.{Begins, BeginsOther}
 use Rattle.rpki_der.specs.Values.{AreOctets, length_octets, enc, IsEnc}
 use Rattle.rpki_der.proofs.Octets.{nothing, bind_some, some, some_is, both_are}
 use Rattle.rpki_der.proofs.Readings.{begins_same, content_reads}
 use Rattle.rpki_der.proofs.ValueReads.{value_shorter}
-use Rattle.rpki_der.proofs.Sequences.{row_is, row_again}
+use Rattle.rpki_der.proofs.Sequences.{elements_are, sequence_again}
 
 by_first : {X : Type 0} (t : ℕ) (f g : List ℕ → Option X) (bytes tail : List ℕ) → bytes ≡ t ∷ tail → choice t f g bytes ≡ f bytes
 by_first t f g [] tail e = absurd cc
@@ -73,8 +73,8 @@ turned_whole {X} {Y} f read S F = record {
 -- ---- the whole of some octets
 
 -- a sequence is a whole
-pub row_reads : {X : Type 0} (read : List ℕ → Option (X × List ℕ)) (S : X → List ℕ → Type 0) → Reads read S → Shrinks read → ReadsWhole (row_of read) (AreEncodings S)
-row_reads read S F less = record { takes = λ octets xs fits e. row_is read S F octets xs fits e; again = λ xs octets s. row_again read S F less xs octets s }
+pub sequence_reads : {X : Type 0} (read : List ℕ → Option (X × List ℕ)) (S : X → List ℕ → Type 0) → Reads read S → Shrinks read → ReadsWhole (sequence_of read) (AreEncodings S)
+sequence_reads read S F less = record { takes = λ octets xs fits e. elements_are read S F octets xs fits e; again = λ xs octets s. sequence_again read S F less xs octets s }
 
 -- these octets, and no others
 pub exactly_reads : (wanted : List ℕ) → ReadsWhole (exactly wanted) (λ u octets. octets ≡ wanted)

@@ -6,14 +6,14 @@ use Rattle.rpki_der.specs.Extensions.{Extension, IsExtension}
 use Rattle.rpki_der.specs.Extensions.Reading.{extension_made, extension_at}
 use Rattle.rpki_der.specs.Primitives.{IsBoolOrFalse, IsObjectIdentifier}
 use Rattle.rpki_der.specs.Primitives.Reading.{bool_or_false_at, oid_at}
-use Rattle.rpki_der.specs.Reading.{inside, both, mapped, Reads, Both, Inside}
+use Rattle.rpki_der.specs.Reading.{inside, both, map_value, Reads, Both, Inside}
 use Rattle.rpki_der.specs.Values.Reading.{value_at}
 use Rattle.rpki_der.specs.Sequences.Reading.{Shrinks}
 use Rattle.rpki_der.specs.Encoding.{BeginsOther}
 use Rattle.rpki_der.specs.Tags.{BOOLEAN, OCTET_STRING, SEQUENCE}
 use Rattle.rpki_der.proofs.Readings.{before_then}
 use Rattle.rpki_der.proofs.IdentifierReads.{oid_reads}
-use Rattle.rpki_der.proofs.Readings.{both_reads, inside_reads, mapped_reads, same_reads}
+use Rattle.rpki_der.proofs.Readings.{both_reads, inside_reads, map_value_reads, same_reads}
 use Rattle.rpki_der.proofs.PrimitiveReads.{bool_or_false_reads}
 use Rattle.rpki_der.proofs.ValueReads.{value_reads}
 use Rattle.rpki_der.proofs.Sequences.{inside_shrinks}
@@ -61,15 +61,15 @@ extension_is x text s =
 pub extension_reads : Reads extension_at IsExtension
 unfolding extension_at
 extension_reads =
-    same_reads (inside SEQUENCE (mapped extension_made (both oid_at (both bool_or_false_at (value_at OCTET_STRING))))) (Inside SEQUENCE Encoded) IsExtension
-    (inside_reads SEQUENCE (mapped extension_made (both oid_at (both bool_or_false_at (value_at OCTET_STRING)))) Encoded
-    (mapped_reads (both oid_at (both bool_or_false_at (value_at OCTET_STRING))) Parts extension_made parts (λ p. refl) (λ x. refl) parts_read))
+    same_reads (inside SEQUENCE (map_value extension_made (both oid_at (both bool_or_false_at (value_at OCTET_STRING))))) (Inside SEQUENCE Encoded) IsExtension
+    (inside_reads SEQUENCE (map_value extension_made (both oid_at (both bool_or_false_at (value_at OCTET_STRING)))) Encoded
+    (map_value_reads (both oid_at (both bool_or_false_at (value_at OCTET_STRING))) Parts extension_made parts (λ p. refl) (λ x. refl) parts_read))
     is_extension extension_is
 
 -- reading an Extension uses octets up
 pub extension_shrinks : Shrinks extension_at
 unfolding extension_at
-extension_shrinks = inside_shrinks SEQUENCE (mapped extension_made (both oid_at (both bool_or_false_at (value_at OCTET_STRING))))
+extension_shrinks = inside_shrinks SEQUENCE (map_value extension_made (both oid_at (both bool_or_false_at (value_at OCTET_STRING))))
 
 -- the content of an extension is octets
 abbrev pub HasOctets : Extension → Type 0

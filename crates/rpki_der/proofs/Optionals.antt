@@ -4,7 +4,7 @@ use Rattle.std.proofs.lemmas.Bool.{cases_Bool, eq-eqb, ne_eqb, eqb-false}
 use Rattle.rpki_der.specs.declared.error.DecodeError.{DecodeError}
 use Rattle.rpki_der.specs.Place.{Place, remaining, AnswersOrAbsent, AnswersOrAbsentOrMemory}
 use Rattle.rpki_der.specs.Place.Reading.{Took, TookOrMemory}
-use Rattle.rpki_der.specs.Reading.{optional, mapped, ReadsBefore, Reads, ReadsOrAbsent, Optional, BeginWith}
+use Rattle.rpki_der.specs.Reading.{optional, map_value, ReadsBefore, Reads, ReadsOrAbsent, Optional, BeginWith}
 use Rattle.rpki_der.specs.Values.Reading.{◌>>=◌}
 use Rattle.rpki_der.specs.Encoding.{BeginsOrAbsent, BeginsOther}
 use Rattle.rpki_der.specs.Values.{AreOctets}
@@ -67,9 +67,9 @@ pub optional_before : {X : Type 0} (t : ℕ) (f : List ℕ → Option (X × List
 optional_before t f S F begin = absent_before t (optional t f) (Optional S) (optional_or_absent t f S F begin)
 
 -- what a function makes of the value
-pub mapped_or_absent : {X Y : Type 0} (t : ℕ) (to : X → Y) (f : List ℕ → Option (X × List ℕ)) (S : X → List ℕ → Type 0) (T : Y → List ℕ → Type 0) → ReadsOrAbsent t f S
-    → ((x : X) (text : List ℕ) → S x text → T (to x) text) → ((y : Y) (text : List ℕ) → T y text → (x : X) × (to x ≡ y) × S x text) → ReadsOrAbsent t (mapped to f) T
-mapped_or_absent {X} {Y} t to f S T F there back = record {
+pub map_value_or_absent : {X Y : Type 0} (t : ℕ) (to : X → Y) (f : List ℕ → Option (X × List ℕ)) (S : X → List ℕ → Type 0) (T : Y → List ℕ → Type 0) → ReadsOrAbsent t f S
+    → ((x : X) (text : List ℕ) → S x text → T (to x) text) → ((y : Y) (text : List ℕ) → T y text → (x : X) × (to x ≡ y) × S x text) → ReadsOrAbsent t (map_value to f) T
+map_value_or_absent {X} {Y} t to f S T F there back = record {
   takes = λ octets y rest fits e.
       let a = bind_some (f octets) (λ x. Some (to x.0, x.1)) (y, rest) e in
       let b = F.takes octets a.0.0 a.0.1 fits a.1 in

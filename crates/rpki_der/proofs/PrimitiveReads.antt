@@ -16,7 +16,7 @@ use Rattle.rpki_der.specs.Tags.{BIT_STRING, BOOLEAN, INTEGER, NULL, OCTET_STRING
 use Rattle.rpki_der.proofs.Octets.{if_some, some_is, nothing}
 use Rattle.rpki_der.proofs.Readings.{content_reads, same_reads}
 use Rattle.rpki_der.proofs.ValueReads.{value_reads}
-use Rattle.rpki_der.proofs.Optionals.{optional_or_absent, absent_before, mapped_or_absent}
+use Rattle.rpki_der.proofs.Optionals.{optional_or_absent, absent_before, map_value_or_absent}
 
 -- ---- OCTET STRING
 
@@ -107,7 +107,7 @@ to_option false text s = elim s [ inl e ↦ (None, refl, e) | inr e ↦ (Some fa
 -- a BOOLEAN DEFAULT FALSE is read as it is encoded
 pub bool_or_false : ReadsOrAbsent BOOLEAN bool_or_false_at IsBoolOrFalse
 unfolding bool_or_false_at
-bool_or_false = mapped_or_absent BOOLEAN or_false (optional BOOLEAN bool_at) (Optional IsBoolean) IsBoolOrFalse (optional_or_absent BOOLEAN bool_at IsBoolean bool_reads bool_begins) from_option to_option
+bool_or_false = map_value_or_absent BOOLEAN or_false (optional BOOLEAN bool_at) (Optional IsBoolean) IsBoolOrFalse (optional_or_absent BOOLEAN bool_at IsBoolean bool_reads bool_begins) from_option to_option
 
 -- what follows decides whether it is absent: `before_then` and `inside_before` lead on
 pub bool_or_false_reads : ReadsBefore (BeginsOther BOOLEAN) bool_or_false_at IsBoolOrFalse

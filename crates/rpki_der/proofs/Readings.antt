@@ -1,8 +1,8 @@
 -- Readings made of readings, with what follows them where that has to be known.
 use Rattle.std.proofs.Common.{◌≡◌, ℕ, List, [], ◌∷◌, ◌++◌, length, Option, Some, None, refl, sym, ap, subst, ◌∙◌, append_assoc}
 use Rattle.std.proofs.lemmas.List.{append-nil}
-use Rattle.rpki_der.specs.Choices.{followed, Followed, whole}
-use Rattle.rpki_der.specs.Reading.{ended, inside, both, mapped, content, ReadsBefore, Anything, Reads, ReadsWhole, Both, Inside}
+use Rattle.rpki_der.specs.Choices.{and_then, AndThen, whole}
+use Rattle.rpki_der.specs.Reading.{at_end, inside, both, map_value, content, ReadsBefore, Anything, Reads, ReadsWhole, Both, Inside}
 use Rattle.rpki_der.specs.Values.Reading.{value_at, ◌>>=◌}
 use Rattle.rpki_der.specs.Encoding.{Begins}
 use Rattle.rpki_der.specs.Place.{Place, remaining}
@@ -27,7 +27,7 @@ AreOctets-content {rest} bytes t c v fits =
     AreOctets-after v.text (t ∷ length_octets (length c)) c v.encoded.is text
 
 -- a reading that has ended leaves nothing and gives its value
-pub ended_some : {X : Type 0} (rest : List ℕ) (x y : X) → ended rest x ≡ some y → (rest ≡ []) × (x ≡ y)
+pub ended_some : {X : Type 0} (rest : List ℕ) (x y : X) → at_end rest x ≡ some y → (rest ≡ []) × (x ≡ y)
 ended_some [] x y e = (refl, some_is x y e)
 ended_some (b ∷ rest) x y e = nothing y e
 
@@ -62,7 +62,7 @@ not_used_up {X} {c} {rest} {more} {x} {now} {ahead} t f same v e h =
     let here : value_at t (remaining now) ≡ Some (c, rest) = subst (λ (p : Place). value_at t (remaining p) ≡ Some (c, rest)) same v in
     rw (here, e) (unended more (x, rest) h)
   where
-    unended : {X : Type 0} (more : List ℕ) (x : X) → (more ≡ [] → ⊥) → ended more x ≡ None
+    unended : {X : Type 0} (more : List ℕ) (x : X) → (more ≡ [] → ⊥) → at_end more x ≡ None
     unended [] x h = absurd (h refl)
     unended (b ∷ more) x h = refl
 
@@ -81,9 +81,9 @@ module _ (P : List ℕ → Type 0) where
   }
 
   -- what a function makes of the value
-  pub mapped_before : {X Y : Type 0} (to : X → Y) (f : List ℕ → Option (X × List ℕ)) (S : X → List ℕ → Type 0) (T : Y → List ℕ → Type 0) → ReadsBefore P f S
-      → ((x : X) (text : List ℕ) → S x text → T (to x) text) → ((y : Y) (text : List ℕ) → T y text → (x : X) × (to x ≡ y) × S x text) → ReadsBefore P (mapped to f) T
-  mapped_before {X} {Y} to f S T F there back = record {
+  pub map_value_before : {X Y : Type 0} (to : X → Y) (f : List ℕ → Option (X × List ℕ)) (S : X → List ℕ → Type 0) (T : Y → List ℕ → Type 0) → ReadsBefore P f S
+      → ((x : X) (text : List ℕ) → S x text → T (to x) text) → ((y : Y) (text : List ℕ) → T y text → (x : X) × (to x ≡ y) × S x text) → ReadsBefore P (map_value to f) T
+  map_value_before {X} {Y} to f S T F there back = record {
     takes = λ bytes y rest fits e.
         let a = bind_some (f bytes) (λ x. Some (to x.0, x.1)) (y, rest) e in
         let one = F.takes bytes a.0.0 a.0.1 fits a.1 in
@@ -93,9 +93,9 @@ module _ (P : List ℕ → Type 0) where
   }
 
   -- a lawful reading that depends on one before it is lawful before such octets
-  pub followed_before : {X Y : Type 0} (f : List ℕ → Option (X × List ℕ)) (g : X → List ℕ → Option (Y × List ℕ)) (S : X → List ℕ → Type 0) (T : X → Y → List ℕ → Type 0)
-      → Reads f S → ((x : X) → ReadsBefore P (g x) (T x)) → ReadsBefore P (followed f g) (Followed S T)
-  followed_before f g S T F G = record {
+  pub and_then_before : {X Y : Type 0} (f : List ℕ → Option (X × List ℕ)) (g : X → List ℕ → Option (Y × List ℕ)) (S : X → List ℕ → Type 0) (T : X → Y → List ℕ → Type 0)
+      → Reads f S → ((x : X) → ReadsBefore P (g x) (T x)) → ReadsBefore P (and_then f g) (AndThen S T)
+  and_then_before f g S T F G = record {
     takes = λ bytes y rest fits e.
         let a = bind_some (f bytes) (λ x. g x.0 x.1) (y, rest) e in
         let one = F.takes bytes a.0.0 a.0.1 fits a.1 in
@@ -114,7 +114,7 @@ module _ (P : List ℕ → Type 0) where
   pub whole_before : {X : Type 0} (f : List ℕ → Option (X × List ℕ)) (S : X → List ℕ → Type 0) → P [] → ReadsBefore P f S → ReadsWhole (whole f) S
   whole_before {X} f S end F = record {
     takes = λ octets x fits e.
-        let a = bind_some (f octets) (λ r. ended r.1 r.0) x e in
+        let a = bind_some (f octets) (λ r. at_end r.1 r.0) x e in
         let g = ended_some a.0.1 a.0.0 x a.2 in
         encoded_all S octets a.0.0 x a.0.1 g.0 g.1 (F.takes octets a.0.0 a.0.1 fits a.1);
     again = λ x octets s.
@@ -126,8 +126,8 @@ module _ (P : List ℕ → Type 0) where
   pub inside_before : {X : Type 0} (t : ℕ) (f : List ℕ → Option (X × List ℕ)) (S : X → List ℕ → Type 0) → P [] → ReadsBefore P f S → Reads (inside t f) (Inside t S)
   inside_before {X} t f S end F = record {
     takes = λ bytes p rest fits e.
-        let a = bind_some (value_at t bytes) (λ v. f v.0 >>= λ x. ended x.1 (x.0, v.1)) (p, rest) e in
-        let b = bind_some (f a.0.0) (λ x. ended x.1 (x.0, a.0.1)) (p, rest) a.2 in
+        let a = bind_some (value_at t bytes) (λ v. f v.0 >>= λ x. at_end x.1 (x.0, v.1)) (p, rest) e in
+        let b = bind_some (f a.0.0) (λ x. at_end x.1 (x.0, a.0.1)) (p, rest) a.2 in
         let made : X × List ℕ = (b.0.0, a.0.1) in
         let g = ended_some b.0.1 made (p, rest) b.2 in
         let one = value_takes t bytes a.0.0 a.0.1 fits a.1 in
@@ -180,20 +180,20 @@ pub inside_reads : {X : Type 0} (t : ℕ) (f : List ℕ → Option (X × List �
 inside_reads t f S F = inside_before Anything t f S tt (before Anything f S F)
 
 -- a lawful reading that depends on one before it is lawful
-pub followed_reads : {X Y : Type 0} (f : List ℕ → Option (X × List ℕ)) (g : X → List ℕ → Option (Y × List ℕ)) (S : X → List ℕ → Type 0) (T : X → Y → List ℕ → Type 0)
-    → Reads f S → ((x : X) → Reads (g x) (T x)) → Reads (followed f g) (Followed S T)
-followed_reads f g S T F G = before_anything (followed f g) (Followed S T) (followed_before Anything f g S T F (λ x. before Anything (g x) (T x) (G x)))
+pub and_then_reads : {X Y : Type 0} (f : List ℕ → Option (X × List ℕ)) (g : X → List ℕ → Option (Y × List ℕ)) (S : X → List ℕ → Type 0) (T : X → Y → List ℕ → Type 0)
+    → Reads f S → ((x : X) → Reads (g x) (T x)) → Reads (and_then f g) (AndThen S T)
+and_then_reads f g S T F G = before_anything (and_then f g) (AndThen S T) (and_then_before Anything f g S T F (λ x. before Anything (g x) (T x) (G x)))
 
 -- the whole of some octets
 pub whole_reads : {X : Type 0} (f : List ℕ → Option (X × List ℕ)) (S : X → List ℕ → Type 0) → Reads f S → ReadsWhole (whole f) S
 whole_reads f S F = whole_before Anything f S tt (before Anything f S F)
 
 -- a lawful reading stays lawful where its values take another form
-pub mapped_reads : {X Y : Type 0} (f : List ℕ → Option (X × List ℕ)) (S : X → List ℕ → Type 0) (to : X → Y) (back : Y → X)
-    → ((x : X) → back (to x) ≡ x) → ((y : Y) → to (back y) ≡ y) → Reads f S → Reads (mapped to f) (λ y. S (back y))
-mapped_reads {X} {Y} f S to back bt tb F =
+pub map_value_reads : {X Y : Type 0} (f : List ℕ → Option (X × List ℕ)) (S : X → List ℕ → Type 0) (to : X → Y) (back : Y → X)
+    → ((x : X) → back (to x) ≡ x) → ((y : Y) → to (back y) ≡ y) → Reads f S → Reads (map_value to f) (λ y. S (back y))
+map_value_reads {X} {Y} f S to back bt tb F =
     let T : Y → List ℕ → Type 0 = λ y. S (back y) in
-    before_anything (mapped to f) T (mapped_before Anything to f S T (before Anything f S F)
+    before_anything (map_value to f) T (map_value_before Anything to f S T (before Anything f S F)
     (λ x text s. subst (λ (z : X). S z text) (sym (bt x)) s)
     (λ y text t. (back y, tb y, t)))
 

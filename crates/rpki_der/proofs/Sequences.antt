@@ -1,10 +1,10 @@
 -- A sequence is its first value and a sequence.
 use Rattle.std.proofs.Common.{◌≡◌, ℕ, zero, suc, ◌<◌, ◌≤◌, List, [], ◌∷◌, length, Option, Some, None, refl, ap, subst, ◌∙◌, arith}
-use Rattle.rpki_der.specs.Reading.{ended, inside, Reads}
+use Rattle.rpki_der.specs.Reading.{at_end, inside, Reads}
 use Rattle.rpki_der.specs.Values.Reading.{value_at, ◌>>=◌}
 use Rattle.rpki_der.specs.Values.{AreOctets}
 use Rattle.rpki_der.specs.Sequences.{AreEncodings}
-use Rattle.rpki_der.specs.Sequences.Reading.{row_at, row_of, Shrinks}
+use Rattle.rpki_der.specs.Sequences.Reading.{sequence_at, sequence_of, Shrinks}
 use Rattle.rpki_der.proofs.Octets.{AreOctets-after, bind_some, some, some_is, nothing}
 use Rattle.rpki_der.proofs.ValueReads.{value_shorter}
 
@@ -14,56 +14,56 @@ same_after : {X : Type 0} (r : Option (X × List ℕ)) (f g : List ℕ → Optio
 same_after (Some x) f g h = rw (h x refl) refl
 same_after None f g h = refl
 
-enough : {X : Type 0} (read : List ℕ → Option (X × List ℕ)) → Shrinks read → (n m : ℕ) (bytes : List ℕ) → length bytes ≤ n → length bytes ≤ m → row_at read n bytes ≡ row_at read m bytes
+enough : {X : Type 0} (read : List ℕ → Option (X × List ℕ)) → Shrinks read → (n m : ℕ) (bytes : List ℕ) → length bytes ≤ n → length bytes ≤ m → sequence_at read n bytes ≡ sequence_at read m bytes
 enough read less n m [] p q = refl
 enough read less zero m (b ∷ bytes) p q = absurd (omega arith)
 enough read less (suc n) zero (b ∷ bytes) p q = absurd (omega arith)
 enough read less (suc n) (suc m) (b ∷ bytes) p q =
-    same_after (read (b ∷ bytes)) (row_at read n) (row_at read m)
+    same_after (read (b ∷ bytes)) (sequence_at read n) (sequence_at read m)
     (λ x e. let s : length x.1 < length (b ∷ bytes) = less (b ∷ bytes) x.0 x.1 e in enough read less n m x.1 (omega arith) (omega arith))
 
 -- one value, and the sequence after it
-pub row_steps : {X : Type 0} (read : List ℕ → Option (X × List ℕ)) → Shrinks read → (bytes : List ℕ) → 0 < length bytes → row_of read bytes ≡ (read bytes >>= λ x. row_of read x.1 >>= λ xs. Some (x.0 ∷ xs))
-unfolding row_of
-row_steps read less [] p = absurd (omega arith)
-row_steps read less (b ∷ bytes) p =
-    same_after (read (b ∷ bytes)) (row_at read (length bytes)) (λ rest. row_at read (length rest) rest)
+pub sequence_steps : {X : Type 0} (read : List ℕ → Option (X × List ℕ)) → Shrinks read → (bytes : List ℕ) → 0 < length bytes → sequence_of read bytes ≡ (read bytes >>= λ x. sequence_of read x.1 >>= λ xs. Some (x.0 ∷ xs))
+unfolding sequence_of
+sequence_steps read less [] p = absurd (omega arith)
+sequence_steps read less (b ∷ bytes) p =
+    same_after (read (b ∷ bytes)) (sequence_at read (length bytes)) (λ rest. sequence_at read (length rest) rest)
     (λ x e. let s : length x.1 < length (b ∷ bytes) = less (b ∷ bytes) x.0 x.1 e in enough read less (length bytes) (length x.1) x.1 (omega arith) (omega arith))
 
-row_takes : {X : Type 0} (read : List ℕ → Option (X × List ℕ)) (S : X → List ℕ → Type 0) → Reads read S → (n : ℕ) (bytes : List ℕ) (xs : List X) → AreOctets bytes → row_at read n bytes ≡ some xs → AreEncodings S xs bytes
-row_takes {X} read S law n [] xs fits e = subst (λ (ys : List X). AreEncodings S ys []) (some_is [] xs e) refl
-row_takes read S law zero (b ∷ bytes) xs fits e = nothing xs e
-row_takes {X} read S law (suc n) (b ∷ bytes) xs fits e =
-    let a = bind_some (read (b ∷ bytes)) (λ x. row_at read n x.1 >>= λ ys. Some (x.0 ∷ ys)) xs e in
-    let c = bind_some (row_at read n a.0.1) (λ ys. Some (a.0.0 ∷ ys)) xs a.2 in
+sequence_takes : {X : Type 0} (read : List ℕ → Option (X × List ℕ)) (S : X → List ℕ → Type 0) → Reads read S → (n : ℕ) (bytes : List ℕ) (xs : List X) → AreOctets bytes → sequence_at read n bytes ≡ some xs → AreEncodings S xs bytes
+sequence_takes {X} read S law n [] xs fits e = subst (λ (ys : List X). AreEncodings S ys []) (some_is [] xs e) refl
+sequence_takes read S law zero (b ∷ bytes) xs fits e = nothing xs e
+sequence_takes {X} read S law (suc n) (b ∷ bytes) xs fits e =
+    let a = bind_some (read (b ∷ bytes)) (λ x. sequence_at read n x.1 >>= λ ys. Some (x.0 ∷ ys)) xs e in
+    let c = bind_some (sequence_at read n a.0.1) (λ ys. Some (a.0.0 ∷ ys)) xs a.2 in
     let one = law.takes (b ∷ bytes) a.0.0 a.0.1 fits a.1 in
-    let two = row_takes read S law n a.0.1 c.0 (AreOctets-after (b ∷ bytes) one.text a.0.1 one.parts fits) c.1 in
+    let two = sequence_takes read S law n a.0.1 c.0 (AreOctets-after (b ∷ bytes) one.text a.0.1 one.parts fits) c.1 in
     subst (λ (ys : List X). AreEncodings S ys (b ∷ bytes)) (some_is (a.0.0 ∷ c.0) xs c.2) (one.text, a.0.1, one.encoded, two, one.parts)
 
 -- octets that read as a sequence are the sequence of these values
-pub row_is : {X : Type 0} (read : List ℕ → Option (X × List ℕ)) (S : X → List ℕ → Type 0) → Reads read S → (bytes : List ℕ) (xs : List X) → AreOctets bytes → row_of read bytes ≡ some xs → AreEncodings S xs bytes
-unfolding row_of
-row_is read S law bytes xs fits e = row_takes read S law (length bytes) bytes xs fits e
+pub elements_are : {X : Type 0} (read : List ℕ → Option (X × List ℕ)) (S : X → List ℕ → Type 0) → Reads read S → (bytes : List ℕ) (xs : List X) → AreOctets bytes → sequence_of read bytes ≡ some xs → AreEncodings S xs bytes
+unfolding sequence_of
+elements_are read S law bytes xs fits e = sequence_takes read S law (length bytes) bytes xs fits e
 
 -- and a sequence of values is read so
-pub row_again : {X : Type 0} (read : List ℕ → Option (X × List ℕ)) (S : X → List ℕ → Type 0) → Reads read S → Shrinks read → (xs : List X) (bytes : List ℕ) → AreEncodings S xs bytes → row_of read bytes ≡ some xs
-unfolding row_of
-row_again read S law less [] bytes s = rw s refl
-row_again {X} read S law less (x ∷ xs) bytes s =
+pub sequence_again : {X : Type 0} (read : List ℕ → Option (X × List ℕ)) (S : X → List ℕ → Type 0) → Reads read S → Shrinks read → (xs : List X) (bytes : List ℕ) → AreEncodings S xs bytes → sequence_of read bytes ≡ some xs
+unfolding sequence_of
+sequence_again read S law less [] bytes s = rw s refl
+sequence_again {X} read S law less (x ∷ xs) bytes s =
     let first : read bytes ≡ some {A = X × List ℕ} (x, s.1) = rw s.4 (law.again x s.0 s.1 s.2) in
     let shorter : length s.1 < length bytes = less bytes x s.1 first in
-    let later : row_of read s.1 ≡ some xs = row_again read S law less xs s.1 s.3 in
-    row_steps read less bytes (omega arith) ∙ rw (first, later) refl
+    let later : sequence_of read s.1 ≡ some xs = sequence_again read S law less xs s.1 s.3 in
+    sequence_steps read less bytes (omega arith) ∙ rw (first, later) refl
 
-ended_is : {X : Type 0} (rest : List ℕ) (x y : X) → ended rest x ≡ some y → x ≡ y
+ended_is : {X : Type 0} (rest : List ℕ) (x y : X) → at_end rest x ≡ some y → x ≡ y
 ended_is [] x y e = some_is x y e
 ended_is (b ∷ rest) x y e = nothing y e
 
 -- readings of values shrink
 pub inside_shrinks : {X : Type 0} (t : ℕ) (f : List ℕ → Option (X × List ℕ)) → Shrinks (inside t f)
 inside_shrinks {X} t f = λ bytes p rest e.
-    let a = bind_some (value_at t bytes) (λ v. f v.0 >>= λ x. ended x.1 (x.0, v.1)) (p, rest) e in
-    let b = bind_some (f a.0.0) (λ x. ended x.1 (x.0, a.0.1)) (p, rest) a.2 in
+    let a = bind_some (value_at t bytes) (λ v. f v.0 >>= λ x. at_end x.1 (x.0, v.1)) (p, rest) e in
+    let b = bind_some (f a.0.0) (λ x. at_end x.1 (x.0, a.0.1)) (p, rest) a.2 in
     let g = ended_is b.0.1 (b.0.0, a.0.1) (p, rest) b.2 in
     let k = value_shorter t bytes a.0.0 a.0.1 a.1 in
     let same : a.0.1 ≡ rest = ap (λ (q : X × List ℕ). q.1) g in

@@ -8,16 +8,16 @@ use Rattle.rpki_der.specs.Values.{AreOctets, enc, IsEnc, IsValue}
 use Rattle.rpki_der.specs.Reading.{Reads, ReadsWhole}
 use Rattle.rpki_der.specs.Values.Reading.{value_at, ◌>>=◌}
 use Rattle.rpki_der.specs.Sequences.{AreEncodings}
-use Rattle.rpki_der.specs.Sequences.Reading.{row_of}
+use Rattle.rpki_der.specs.Sequences.Reading.{sequence_of}
 use Rattle.rpki_der.specs.Place.Reading.{Returns}
 use Rattle.rpki_der.specs.declared.error.DecodeError.{DecodeError}
 use Rattle.rpki_der.specs.Encoding.{Begins}
 use Rattle.rpki_der.specs.Skipping.{IsSkippableWithin, IsSkippableSequence, IsSkipped, IsCaptured, levels}
-use Rattle.rpki_der.specs.Skipping.Reading.{any_at, captured_at, is_primitive, skip_within, skip_row_within, skip_at, skip_all_of}
+use Rattle.rpki_der.specs.Skipping.Reading.{any_at, captured_at, is_primitive, skip_within, skip_sequence_within, skip_at, skip_all_of}
 use Rattle.rpki_der.proofs.Octets.{bind_some, if_some, some, some_is, nothing}
 use Rattle.rpki_der.proofs.Readings.{begins_same}
 use Rattle.rpki_der.proofs.ValueReads.{value_takes, value_again}
-use Rattle.rpki_der.proofs.Sequences.{row_is, row_again}
+use Rattle.rpki_der.proofs.Sequences.{elements_are, sequence_again}
 use Rattle.rpki_der.proofs.SkippingSteps.{within_shrinks}
 
 -- ---- a value of any identifier octet
@@ -75,25 +75,25 @@ abbrev Within : ℕ → Unit {0} → List ℕ → Type 0
 Within d u b = IsSkippableWithin d b
 
 -- a sequence of them, as its pieces
-row_to : (P : List ℕ → Type 0) (us : List (Unit {0})) (b : List ℕ) → AreEncodings {V = Unit {0}} (λ u x. P x) us b → (row : List (List ℕ)) × (b ≡ concat row) × AllByRecursion P row
-row_to P [] b h = ([], h, tt)
-row_to P (u ∷ us) b h =
-    let r = row_to P us h.1 h.3 in
+sequence_to : (P : List ℕ → Type 0) (us : List (Unit {0})) (b : List ℕ) → AreEncodings {V = Unit {0}} (λ u x. P x) us b → (elements : List (List ℕ)) × (b ≡ concat elements) × AllByRecursion P elements
+sequence_to P [] b h = ([], h, tt)
+sequence_to P (u ∷ us) b h =
+    let r = sequence_to P us h.1 h.3 in
     (h.0 ∷ r.0, h.4 ∙ ap (λ (x : List ℕ). h.0 ++ x) r.1, (h.2, r.2))
 
-row_from : (P : List ℕ → Type 0) (row : List (List ℕ)) → AllByRecursion P row → (us : List (Unit {0})) × AreEncodings {V = Unit {0}} (λ u x. P x) us (concat row)
-row_from P [] h = ([], refl)
-row_from P (b ∷ row) h = let r = row_from P row h.1 in (tt ∷ r.0, (b, concat row, h.0, r.1, refl))
+sequence_from : (P : List ℕ → Type 0) (elements : List (List ℕ)) → AllByRecursion P elements → (us : List (Unit {0})) × AreEncodings {V = Unit {0}} (λ u x. P x) us (concat elements)
+sequence_from P [] h = ([], refl)
+sequence_from P (b ∷ elements) h = let r = sequence_from P elements h.1 in (tt ∷ r.0, (b, concat elements, h.0, r.1, refl))
 
 -- a sequence of skipped values is read lawfully where one of them is
-pub row_reads : (d : ℕ) → Reads (skip_within d) (Within d) → ReadsWhole (skip_row_within d) (λ u b. (row : List (List ℕ)) × (b ≡ concat row) × AllByRecursion (IsSkippableWithin d) row)
-row_reads d R = record {
+pub sequence_reads : (d : ℕ) → Reads (skip_within d) (Within d) → ReadsWhole (skip_sequence_within d) (λ u b. (elements : List (List ℕ)) × (b ≡ concat elements) × AllByRecursion (IsSkippableWithin d) elements)
+sequence_reads d R = record {
   takes = λ octets u fits e.
-      let a = bind_some (row_of (skip_within d) octets) (λ row. some {A = Unit {0}} tt) u e in
-      row_to (IsSkippableWithin d) a.0 octets (row_is (skip_within d) (Within d) R octets a.0 fits a.1);
+      let a = bind_some (sequence_of (skip_within d) octets) (λ elements. some {A = Unit {0}} tt) u e in
+      sequence_to (IsSkippableWithin d) a.0 octets (elements_are (skip_within d) (Within d) R octets a.0 fits a.1);
   again = λ u octets s.
-      let r = row_from (IsSkippableWithin d) s.0 s.2 in
-      rw (s.1, row_again (skip_within d) (Within d) R (within_shrinks d) r.0 (concat s.0) r.1) refl;
+      let r = sequence_from (IsSkippableWithin d) s.0 s.2 in
+      rw (s.1, sequence_again (skip_within d) (Within d) R (within_shrinks d) r.0 (concat s.0) r.1) refl;
 }
 
 primitive_reads : Reads (skip_within 0) (Within 0)
@@ -115,7 +115,7 @@ deeper_reads : (d : ℕ) → Reads (skip_within d) (Within d) → Reads (skip_wi
 unfolding skip_within IsSkippableWithin
 deeper_reads d R = record {
   takes = λ octets u rest fits e.
-      let (((tag, content), after), found, last) = bind_some (any_at octets) (λ v. cond (is_primitive v.0.0) (some {A = Unit {0} × List ℕ} (tt, v.1)) (row_of (skip_within d) v.0.1 >>= λ row. some {A = Unit {0} × List ℕ} (tt, v.1))) (u, rest) e in
+      let (((tag, content), after), found, last) = bind_some (any_at octets) (λ v. cond (is_primitive v.0.0) (some {A = Unit {0} × List ℕ} (tt, v.1)) (sequence_of (skip_within d) v.0.1 >>= λ elements. some {A = Unit {0} × List ℕ} (tt, v.1))) (u, rest) e in
       let one = any_takes octets (tag, content) after fits found in
       let value : IsValue one.text = record { tag = tag; content = content; enc = one.encoded } in
       let made : Unit {0} × List ℕ = (tt, after) in
@@ -124,11 +124,11 @@ deeper_reads d R = record {
             let same : some made ≡ some {A = Unit {0} × List ℕ} (u, rest) = rw y at last in
             begins_same (Within (suc d)) octets made (u, rest) (some_is made (u, rest) same) (record { text = one.text; encoded = (value, inl (eqb-true _ 0 y)); parts = one.parts })
         | inr n ↦
-            let inside : (row_of (skip_within d) content >>= λ row. some made) ≡ some {A = Unit {0} × List ℕ} (u, rest) = rw n at last in
-            let b = bind_some (row_of (skip_within d) content) (λ row. some made) (u, rest) inside in
+            let inside : (sequence_of (skip_within d) content >>= λ elements. some made) ≡ some {A = Unit {0} × List ℕ} (u, rest) = rw n at last in
+            let b = bind_some (sequence_of (skip_within d) content) (λ elements. some made) (u, rest) inside in
             let low : AreOctets content = one.encoded.octets in
-            let row = row_to (IsSkippableWithin d) b.0 content (row_is (skip_within d) (Within d) R content b.0 low b.1) in
-            begins_same (Within (suc d)) octets made (u, rest) (some_is made (u, rest) b.2) (record { text = one.text; encoded = (value, inr row); parts = one.parts })
+            let elements = sequence_to (IsSkippableWithin d) b.0 content (elements_are (skip_within d) (Within d) R content b.0 low b.1) in
+            begins_same (Within (suc d)) octets made (u, rest) (some_is made (u, rest) b.2) (record { text = one.text; encoded = (value, inr elements); parts = one.parts })
       ];
   again = λ u text rest s.
       let tag = s.0.tag in
@@ -137,9 +137,9 @@ deeper_reads d R = record {
       let next = any_again found text rest s.0.enc in
       elim s.1 [
         | inl p ↦ rw (next, eq-eqb _ 0 p) refl
-        | inr row ↦
-            let r = row_from (IsSkippableWithin d) row.0 row.2 in
-            let inside : row_of (skip_within d) content ≡ some r.0 = rw row.1 (row_again (skip_within d) (Within d) R (within_shrinks d) r.0 (concat row.0) r.1) in
+        | inr elements ↦
+            let r = sequence_from (IsSkippableWithin d) elements.0 elements.2 in
+            let inside : sequence_of (skip_within d) content ≡ some r.0 = rw elements.1 (sequence_again (skip_within d) (Within d) R (within_shrinks d) r.0 (concat elements.0) r.1) in
             elim (cases_Bool (is_primitive tag)) [
               | inl y ↦ rw (next, y) refl
               | inr n ↦ rw (next, n, inside) refl
@@ -160,9 +160,9 @@ skip_reads = within_reads levels
 -- a sequence of values is skipped where each of them can be
 pub skip_all_reads : ReadsWhole skip_all_of (λ u b. IsSkippableSequence b)
 unfolding skip_all_of
-skip_all_reads = row_reads levels (within_reads levels)
+skip_all_reads = sequence_reads levels (within_reads levels)
 
 -- what a reader of the whole gave, both ways
 pub skips_all : (r : Result (Unit {0}) DecodeError) (octets : List ℕ) → AreOctets octets → Returns r (skip_all_of octets) → IsOk r ↔ IsSkippableSequence octets
 skips_all (Ok u) octets fits e = (λ _. skip_all_reads.takes octets u fits e, λ _. refl)
-skips_all (Err d) octets fits e = (λ h. absurd cc, λ row. nothing tt (sym e.1 ∙ skip_all_reads.again tt octets row))
+skips_all (Err d) octets fits e = (λ h. absurd cc, λ elements. nothing tt (sym e.1 ∙ skip_all_reads.again tt octets elements))

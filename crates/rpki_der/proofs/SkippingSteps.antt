@@ -2,8 +2,8 @@
 use Rattle.std.proofs.Common.{◌≡◌, ◌≢◌, ℕ, zero, suc, ◌-◌, ◌/◌, ◌%◌, ◌<◌, Bool, true, false, cond, List, [], ◌∷◌, length, Option, Some, None, refl, ap, ◌∙◌, arith}
 use Rattle.std.proofs.lemmas.Bool.{eq-eqb, ne_eqb}
 use Rattle.rpki_der.specs.Values.Reading.{value_at, ◌>>=◌}
-use Rattle.rpki_der.specs.Sequences.Reading.{row_of, Shrinks}
-use Rattle.rpki_der.specs.Skipping.Reading.{any_at, is_primitive, skip_within, skip_row_within}
+use Rattle.rpki_der.specs.Sequences.Reading.{sequence_of, Shrinks}
+use Rattle.rpki_der.specs.Skipping.Reading.{any_at, is_primitive, skip_within, skip_sequence_within}
 use Rattle.rpki_der.proofs.Octets.{bind_some, some, both_are, nothing}
 use Rattle.rpki_der.proofs.ValueReads.{value_shorter}
 
@@ -35,8 +35,8 @@ within_shorter zero octets u rest e =
     let same : after ≡ rest = same_rest (is_primitive tag) none after rest u last in
     omega (arith, ap length same, any_shrinks octets (tag, content) after found)
 within_shorter (suc d) octets u rest e =
-    let (((tag, content), after), found, last) = bind_some (any_at octets) (λ v. cond (is_primitive v.0.0) (some {A = Unit {0} × List ℕ} (tt, v.1)) (row_of (skip_within d) v.0.1 >>= λ row. some {A = Unit {0} × List ℕ} (tt, v.1))) (u, rest) e in
-    let same : after ≡ rest = same_rest (is_primitive tag) (row_of (skip_within d) content) after rest u last in
+    let (((tag, content), after), found, last) = bind_some (any_at octets) (λ v. cond (is_primitive v.0.0) (some {A = Unit {0} × List ℕ} (tt, v.1)) (sequence_of (skip_within d) v.0.1 >>= λ elements. some {A = Unit {0} × List ℕ} (tt, v.1))) (u, rest) e in
+    let same : after ≡ rest = same_rest (is_primitive tag) (sequence_of (skip_within d) content) after rest u last in
     omega (arith, ap length same, any_shrinks octets (tag, content) after found)
 
 -- skipping a value uses octets up
@@ -68,11 +68,11 @@ skips_too_deep octets tag content rest e p = let no = ne_eqb (tag / 32 % 2) 0 (�
 
 -- a constructed value is skipped where its content is, one level less deep
 pub skips_constructed : (d : ℕ) (octets : List ℕ) (tag : ℕ) (content rest : List ℕ) → IsNext octets tag content rest → tag / 32 % 2 ≡ 1
-    → skip_within (suc d) octets ≡ (skip_row_within d content >>= λ u. some {A = Unit {0} × List ℕ} (tt, rest))
+    → skip_within (suc d) octets ≡ (skip_sequence_within d content >>= λ u. some {A = Unit {0} × List ℕ} (tt, rest))
 unfolding skip_within
 skips_constructed d octets tag content rest e p =
     let no = ne_eqb (tag / 32 % 2) 0 (λ z. omega (arith, z)) in
-    rw (e, no) (again (row_of (skip_within d) content))
+    rw (e, no) (again (sequence_of (skip_within d) content))
   where
     again : {A : Type 0} (r : Option A) → (r >>= λ x. some {A = Unit {0} × List ℕ} (tt, rest)) ≡ ((r >>= λ x. some {A = Unit {0}} tt) >>= λ u. some {A = Unit {0} × List ℕ} (tt, rest))
     again (Some x) = refl
@@ -80,17 +80,17 @@ skips_constructed d octets tag content rest e p =
 
 -- a constructed value is skipped as its content is, at a number of levels that isn't 0
 constructed_at : (levels : ℕ) (octets : List ℕ) (tag : ℕ) (content rest : List ℕ) → 0 < levels → IsNext octets tag content rest → tag / 32 % 2 ≡ 1
-    → skip_within levels octets ≡ (skip_row_within (levels - 1) content >>= λ u. some {A = Unit {0} × List ℕ} (tt, rest))
+    → skip_within levels octets ≡ (skip_sequence_within (levels - 1) content >>= λ u. some {A = Unit {0} × List ℕ} (tt, rest))
 constructed_at zero octets tag content rest some_level e p = absurd (omega arith)
 constructed_at (suc d) octets tag content rest some_level e p =
     let less : suc d - 1 ≡ d = omega arith in
     rw less (skips_constructed d octets tag content rest e p)
 
 -- a constructed value is skipped where its content was skipped
-pub skips_inside : (levels : ℕ) (octets : List ℕ) (tag : ℕ) (content rest : List ℕ) → 0 < levels → IsNext octets tag content rest → tag / 32 % 2 ≡ 1 → skip_row_within (levels - 1) content ≡ Some tt
+pub skips_inside : (levels : ℕ) (octets : List ℕ) (tag : ℕ) (content rest : List ℕ) → 0 < levels → IsNext octets tag content rest → tag / 32 % 2 ≡ 1 → skip_sequence_within (levels - 1) content ≡ Some tt
     → skip_within levels octets ≡ some {A = Unit {0} × List ℕ} (tt, rest)
-skips_inside levels octets tag content rest some_level e p row = constructed_at levels octets tag content rest some_level e p ∙ rw row refl
+skips_inside levels octets tag content rest some_level e p elements = constructed_at levels octets tag content rest some_level e p ∙ rw elements refl
 
 -- a constructed value isn't skipped where its content wasn't
-pub skips_rejected : (levels : ℕ) (octets : List ℕ) (tag : ℕ) (content rest : List ℕ) → 0 < levels → IsNext octets tag content rest → tag / 32 % 2 ≡ 1 → skip_row_within (levels - 1) content ≡ None → skip_within levels octets ≡ None
-skips_rejected levels octets tag content rest some_level e p row = constructed_at levels octets tag content rest some_level e p ∙ rw row refl
+pub skips_rejected : (levels : ℕ) (octets : List ℕ) (tag : ℕ) (content rest : List ℕ) → 0 < levels → IsNext octets tag content rest → tag / 32 % 2 ≡ 1 → skip_sequence_within (levels - 1) content ≡ None → skip_within levels octets ≡ None
+skips_rejected levels octets tag content rest some_level e p elements = constructed_at levels octets tag content rest some_level e p ∙ rw elements refl

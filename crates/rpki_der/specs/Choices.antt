@@ -1,7 +1,7 @@
 -- Readings that choose by what stands next or by a test, that depend on what stood before, and that
 -- turn what they read.
 use Rattle.std.specs.Prelude.{◌≡◌, ℕ, bytes_eq, nat_eq, Bool, if◌then◌else◌, List, [], ◌∷◌, ◌++◌, Option, Some, None, ◌⊎◌}
-use Rattle.rpki_der.specs.Reading.{ended, optional}
+use Rattle.rpki_der.specs.Reading.{at_end, optional}
 use Rattle.rpki_der.specs.Values.Reading.{value_at, ◌>>=◌}
 
 -- ---- a value of one of two forms, which its first octet tells
@@ -40,8 +40,8 @@ optional_of tag of bytes = do
 -- ---- a test chooses
 
 -- only where the test was passed
-abbrev pub given : {X : Type 0} → Bool → (List ℕ → Option (X × List ℕ)) → List ℕ → Option (X × List ℕ)
-given test read bytes = if test then read bytes else None
+abbrev pub only_if : {X : Type 0} → Bool → (List ℕ → Option (X × List ℕ)) → List ℕ → Option (X × List ℕ)
+only_if test read bytes = if test then read bytes else None
 
 -- by one where the test was passed, else by the other
 abbrev pub choose : {X : Type 0} → Bool → (List ℕ → Option (X × List ℕ)) → (List ℕ → Option (X × List ℕ)) → List ℕ → Option (X × List ℕ)
@@ -69,17 +69,17 @@ abbrev pub IsConversion : {X Y : Type 0} → (X → Option Y) → (X → List �
 IsConversion {X} f encodes y text = (x : X) × encodes x text × (f x ≡ Some y)
 
 -- one value, and then one that depends on it
-abbrev pub followed : {X Y : Type 0} → (List ℕ → Option (X × List ℕ)) → (X → List ℕ → Option (Y × List ℕ)) → List ℕ → Option (Y × List ℕ)
-followed first second bytes = do
+abbrev pub and_then : {X Y : Type 0} → (List ℕ → Option (X × List ℕ)) → (X → List ℕ → Option (Y × List ℕ)) → List ℕ → Option (Y × List ℕ)
+and_then first second bytes = do
   x ← first bytes
   second x.0 x.1
 
 -- one value, and then one whose format depends on it
-abbrev pub Followed : {X Y : Type 0} → (X → List ℕ → Type 0) → (X → Y → List ℕ → Type 0) → Y → List ℕ → Type 0
-Followed {X} first second y text = (x : X) × (a : List ℕ) × (b : List ℕ) × first x a × second x y b × (text ≡ a ++ b)
+abbrev pub AndThen : {X Y : Type 0} → (X → List ℕ → Type 0) → (X → Y → List ℕ → Type 0) → Y → List ℕ → Type 0
+AndThen {X} first second y text = (x : X) × (a : List ℕ) × (b : List ℕ) × first x a × second x y b × (text ≡ a ++ b)
 
 -- the octets are one value, and nothing follows it
 abbrev pub whole : {X : Type 0} → (List ℕ → Option (X × List ℕ)) → List ℕ → Option X
 whole read bytes = do
   x ← read bytes
-  ended x.1 x.0
+  at_end x.1 x.0

@@ -6,16 +6,16 @@ use Rattle.rpki_der.specs.Values.{IsEnc, AreOctets}
 use Rattle.rpki_der.specs.Values.Reading.{◌>>=◌, value_at}
 
 -- the value, where no octets are remaining
-abbrev pub ended : {X : Type 0} → List ℕ → X → Option X
-ended [] x = Some x
-ended (b ∷ bytes) x = None
+abbrev pub at_end : {X : Type 0} → List ℕ → X → Option X
+at_end [] x = Some x
+at_end (b ∷ bytes) x = None
 
 -- what is read inside a value of this tag, which is used up
 abbrev pub inside : {X : Type 0} → ℕ → (List ℕ → Option (X × List ℕ)) → List ℕ → Option (X × List ℕ)
 inside t read bytes = do
   v ← value_at t bytes
   x ← read v.0
-  ended x.1 (x.0, v.1)
+  at_end x.1 (x.0, v.1)
 
 -- a value that is the content of a value of this tag
 abbrev pub Inside : {V : Type 0} → ℕ → (V → List ℕ → Type 0) → V → List ℕ → Type 0
@@ -33,8 +33,8 @@ abbrev pub Both : {X Y : Type 0} → (X → List ℕ → Type 0) → (Y → List
 Both first second v text = (a : List ℕ) × (b : List ℕ) × first v.0 a × second v.1 b × (text ≡ a ++ b)
 
 -- a value in another form
-abbrev pub mapped : {X Y : Type 0} → (X → Y) → (List ℕ → Option (X × List ℕ)) → List ℕ → Option (Y × List ℕ)
-mapped f read bytes = do
+abbrev pub map_value : {X Y : Type 0} → (X → Y) → (List ℕ → Option (X × List ℕ)) → List ℕ → Option (Y × List ℕ)
+map_value f read bytes = do
   x ← read bytes
   Some (f x.0, x.1)
 

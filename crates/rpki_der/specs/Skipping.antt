@@ -18,7 +18,7 @@ unfoldable pub IsSkippableWithin : ℕ → List ℕ → Type 0
 IsSkippableWithin zero b = (v : IsValue b) × IsPrimitive v.tag
 IsSkippableWithin (suc depth) b =
     (v : IsValue b)
-    × (IsPrimitive v.tag ⊎ ((row : List (List ℕ)) × (v.content ≡ concat row) × AllByRecursion (IsSkippableWithin depth) row))
+    × (IsPrimitive v.tag ⊎ ((elements : List (List ℕ)) × (v.content ≡ concat elements) × AllByRecursion (IsSkippableWithin depth) elements))
 
 -- a value that can be skipped: ANY, well formed, at most `levels` deep
 abbrev pub IsSkippable : List ℕ → Type 0
@@ -26,7 +26,7 @@ IsSkippable b = IsSkippableWithin levels b
 
 -- such values one after the other, and nothing else
 abbrev pub IsSkippableSequence : List ℕ → Type 0
-IsSkippableSequence b = (row : List (List ℕ)) × (b ≡ concat row) × AllByRecursion IsSkippable row
+IsSkippableSequence b = (elements : List (List ℕ)) × (b ≡ concat elements) × AllByRecursion IsSkippable elements
 
 -- a value that can be skipped, as a format of which nothing is kept
 abbrev pub IsSkipped : Unit {0} → List ℕ → Type 0

@@ -3,7 +3,7 @@ ghost use Rattle.std.specs.Prelude.{◌≡◌, ◌↔◌, [], IsOk, IsSome, OnOk
 ghost use Rattle.rpki_der.specs.Place.{Place, remaining, Keeps, Answers, AnswersOrMemory};
 ghost use Rattle.rpki_der.specs.Place.Reading.{Took, TookBy, TookOrMemory, Returns};
 ghost use Rattle.rpki_der.specs.Skipping.{IsSkipped, IsSkippableSequence, IsCaptured};
-ghost use Rattle.rpki_der.specs.Skipping.Reading.{any_at, captured_at, skip_within, skip_row_within, skip_at, skip_all_of};
+ghost use Rattle.rpki_der.specs.Skipping.Reading.{any_at, captured_at, skip_within, skip_sequence_within, skip_at, skip_all_of};
 ghost use Rattle.rpki_der.specs.Values.{AreOctets};
 
 use crate::cursor::Cursor;
@@ -42,7 +42,7 @@ impl<'a> Cursor<'a> {
             if levels == 0 {
                 return Err(DecodeError::TooDeep);
             }
-            content.skip_row_within(levels - 1)?;
+            content.skip_sequence_within(levels - 1)?;
         }
         *self = ahead;
         Ok(())
@@ -50,8 +50,8 @@ impl<'a> Cursor<'a> {
 
     // Passes over all remaining values, each with at most so many levels.
     #[cycle(skipping)]
-    fn skip_row_within(mut self, levels: u8) -> Result<(), DecodeError>
-        ensures { Returns result (skip_row_within levels (remaining self.entry)) }
+    fn skip_sequence_within(mut self, levels: u8) -> Result<(), DecodeError>
+        ensures { Returns result (skip_sequence_within levels (remaining self.entry)) }
     {
         while !self.is_empty() {
             self.skip_within(levels)?;
@@ -90,7 +90,7 @@ impl<'a> Cursor<'a> {
         ensures keeps { Keeps result self.old self.new }
         ensures octets { AreOctets (remaining self.old) }
     {
-        self.fork().skip_row_within(LEVELS)?;
+        self.fork().skip_sequence_within(LEVELS)?;
         self.advance(self.rest().len());
         Ok(())
     }

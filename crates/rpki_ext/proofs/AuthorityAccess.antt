@@ -55,10 +55,10 @@ pub authority_information_access_reads : Reads authority_information_access_at I
 unfolding authority_information_access_at
 authority_information_access_reads =
     same_reads (conversion issuers_of only_description_at) (IsConversion issuers_of IsOnlyDescription) IsAuthorityInformationAccess (turned_reads issuers_of only_description_at IsOnlyDescription only_description_reads)
-    (λ v text (inside, (row, one, sequence), read).
+    (λ v text (inside, (elements, one, sequence), read).
     let (_, names, encoded, given, is) = issuers_takes inside v one.octets read in
-    (names, given, (row, sequence, (inside, one, is ∙ ap (λ (m : List ℕ). m ++ names) encoded.enc.is))))
-    (λ v text (names, given, (row, sequence, (inside, one, is))). (inside, (row, one, sequence), issuers_again v inside (enc OBJECT_IDENTIFIER ca_issuers, names, encoded_oid ca_issuers refl refl (omega arith), given, is)))
+    (names, given, (elements, sequence, (inside, one, is ∙ ap (λ (m : List ℕ). m ++ names) encoded.enc.is))))
+    (λ v text (names, given, (elements, sequence, (inside, one, is))). (inside, (elements, one, sequence), issuers_again v inside (enc OBJECT_IDENTIFIER ca_issuers, names, encoded_oid ca_issuers refl refl (omega arith), given, is)))
 
 -- ---- what is written
 

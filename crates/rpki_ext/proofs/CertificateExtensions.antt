@@ -38,7 +38,7 @@ use Rattle.rpki_ext.specs.SubjectAccess.{Access}
 use Rattle.rpki_ext.specs.declared.key_usage.KeyUsage.{KeyUsage as Usage}
 use Rattle.rpki_ext.specs.declared.reading.Named.{Named}
 use Rattle.rpki_ext.specs.declared.reading.Named.TheVariants.{BasicConstraints, SubjectKeyIdentifier, AuthorityKeyIdentifier, KeyUsage, ExtendedKeyUsage, CrlDistributionPoints, AuthorityInformationAccess, SubjectInformationAccess, CertificatePolicies, IpResources, AsResources}
-use Rattle.rpki_ext.specs.declared.reading.Seen.{Seen}
+use Rattle.rpki_ext.specs.declared.reading.ReadExtensions.{ReadExtensions}
 use Rattle.rpki_ext.proofs.AuthorityAccess.{authority_information_access_is}
 use Rattle.rpki_ext.proofs.BasicConstraints.{basic_constraints_is}
 use Rattle.rpki_ext.proofs.CertificatePolicies.{certificate_policies_is}
@@ -61,10 +61,10 @@ kinds_are = (basic_constraints_is, (subject_key_identifier_is, (authority_key_id
 
 -- ---- a second extension of a kind, and one with another flag than its kind's, is refused
 
-abbrev IsRejected : Seen → List ℕ → Bool → List ℕ → Type 0
+abbrev IsRejected : ReadExtensions → List ℕ → Bool → List ℕ → Type 0
 IsRejected s id critical content = all_kinds.step (state_of s) (record { identifier = id; critical = critical; content = content }) ≡ None
 
-second : (s : Seen) (kind : Named) (id : List ℕ) (critical : Bool) (content : List ℕ) → Names id (Some kind) → is_seen s kind ≡ true → IsRejected s id critical content
+second : (s : ReadExtensions) (kind : Named) (id : List ℕ) (critical : Bool) (content : List ℕ) → Names id (Some kind) → is_seen s kind ≡ true → IsRejected s id critical content
 second s BasicConstraints id critical content n h = rw (n, h) refl
 second s SubjectKeyIdentifier id critical content n h = rw (n, h) refl
 second s AuthorityKeyIdentifier id critical content n h = rw (n, h) refl
@@ -84,7 +84,7 @@ neither : {V : Type 0} (seen : Bool) → cond {A = Option V} seen None None ≡ 
 neither true = refl
 neither false = refl
 
-unflagged : (s : Seen) (kind : Named) (id : List ℕ) (critical : Bool) (content : List ℕ) → Names id (Some kind) → (HasFlag (wanted kind) critical → ⊥) → IsRejected s id critical content
+unflagged : (s : ReadExtensions) (kind : Named) (id : List ℕ) (critical : Bool) (content : List ℕ) → Names id (Some kind) → (HasFlag (wanted kind) critical → ⊥) → IsRejected s id critical content
 unflagged s BasicConstraints id critical content n h = rw (n, false_from_ne_true critical h, neither (is_some s.basic_ca)) refl
 unflagged s SubjectKeyIdentifier id critical content n h = rw (n, true_from_ne_false critical h, neither (is_some s.subject_key_identifier)) refl
 unflagged s AuthorityKeyIdentifier id critical content n h = rw (n, true_from_ne_false critical h, neither (is_some s.authority_key_identifier)) refl
@@ -98,16 +98,16 @@ unflagged s (IpResources mode) id critical content n h = absurd (h tt)
 unflagged s (AsResources mode) id critical content n h = absurd (h tt)
 
 -- an extension of a kind that was seen, or with a wrong flag, ends the walk
-pub rejected : (s : Seen) (kind : Named) (id : List ℕ) (critical : Bool) (content : List ℕ) → Names id (Some kind) → (is_seen s kind ≡ true) ⊎ (HasFlag (wanted kind) critical → ⊥) → IsRejected s id critical content
+pub rejected : (s : ReadExtensions) (kind : Named) (id : List ℕ) (critical : Bool) (content : List ℕ) → Names id (Some kind) → (is_seen s kind ≡ true) ⊎ (HasFlag (wanted kind) critical → ⊥) → IsRejected s id critical content
 rejected s kind id critical content n h = elim h [ inl seen ↦ second s kind id critical content n seen | inr flag ↦ unflagged s kind id critical content n flag ]
 
 -- resources that are not read, whatever the mode of their identifier
-pub unread_ip : (s : Seen) (mode : Overclaim) (x : Extension) → x.identifier ≡ (ip_resources mode).identifier → is_some (ip_of s.ip_resources) ≡ false → families_at x.content ≡ None → all_kinds.step (state_of s) x ≡ None
+pub unread_ip : (s : ReadExtensions) (mode : Overclaim) (x : Extension) → x.identifier ≡ (ip_resources mode).identifier → is_some (ip_of s.ip_resources) ≡ false → families_at x.content ≡ None → all_kinds.step (state_of s) x ≡ None
 unread_ip s Refuse x named first none = rw (named, first, none) refl
 unread_ip s Trim x named first none = rw (named, first, none) refl
 
 -- an extension of AS numbers that isn't read ends the walk
-pub unread_as : (s : Seen) (mode : Overclaim) (x : Extension) → x.identifier ≡ (as_resources mode).identifier → is_some s.as_resources ≡ false → as_identifiers_at x.content ≡ None → all_kinds.step (state_of s) x ≡ None
+pub unread_as : (s : ReadExtensions) (mode : Overclaim) (x : Extension) → x.identifier ≡ (as_resources mode).identifier → is_some s.as_resources ≡ false → as_identifiers_at x.content ≡ None → all_kinds.step (state_of s) x ≡ None
 unread_as s Refuse x named first none = rw (named, first, none) refl
 unread_as s Trim x named first none = rw (named, first, none) refl
 
@@ -201,9 +201,9 @@ extensions_read = record {
     going = over_reads extension_at IsExtension HasOctets all_kinds extension_reads extension_shrinks extension_octets all_kinds_law
 
 -- a function that returns what reading gives answers both ways for whole octets
-pub row_means : (r : Result ExtensionFields DecodeError) (octets : List ℕ) → AreOctets octets → ReturnsOrMemory r (extensions_of octets) → MeansOrMemory AreExtensions r octets
-row_means (Ok f) octets low e = extensions_read.takes octets f low e
-row_means (Err d) octets low e = rejects d (λ none f a. nothing f (sym none ∙ extensions_read.again f octets a)) e
+pub sequence_means : (r : Result ExtensionFields DecodeError) (octets : List ℕ) → AreOctets octets → ReturnsOrMemory r (extensions_of octets) → MeansOrMemory AreExtensions r octets
+sequence_means (Ok f) octets low e = extensions_read.takes octets f low e
+sequence_means (Err d) octets low e = rejects d (λ none f a. nothing f (sym none ∙ extensions_read.again f octets a)) e
 
 -- ---- what is written
 

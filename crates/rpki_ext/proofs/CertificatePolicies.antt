@@ -17,7 +17,7 @@ use Rattle.rpki_der.proofs.Readings.{content_reads, inside_reads, same_reads}
 use Rattle.rpki_der.proofs.ValueWritten.{Short, nested_made}
 use Rattle.rpki_der.proofs.WrittenOctets.{IfShort, literal, ok_enc, ok_nested}
 use Rattle.rpki_blocks.specs.Overclaims.{policy_identifier}
-use Rattle.rpki_blocks.specs.Overclaims.Reading.{named}
+use Rattle.rpki_blocks.specs.Overclaims.Reading.{mode_of}
 use Rattle.rpki_blocks.specs.declared.overclaim.Overclaim.{Overclaim}
 use Rattle.rpki_blocks.specs.declared.overclaim.Overclaim.TheVariants.{Refuse, Trim}
 use Rattle.rpki_blocks.proofs.OverclaimReads.{was_named}
@@ -25,7 +25,7 @@ use Rattle.rpki_ext.specs.CertificatePolicies.{policy_of, IsCertificatePolicies,
 use Rattle.rpki_ext.proofs.GeneralNames.{encoded_oid}
 use Rattle.rpki_ext.proofs.LawfulKinds.{IsKind, always, Answering, answering}
 
-named_again : (overclaim : Overclaim) → named policy_identifier (policy_identifier overclaim) ≡ Some overclaim
+named_again : (overclaim : Overclaim) → mode_of policy_identifier (policy_identifier overclaim) ≡ Some overclaim
 named_again Refuse = refl
 named_again Trim = refl
 
@@ -38,8 +38,8 @@ IsPolicy overclaim c = (rest : List ℕ) × IsSkippableSequence rest × (c ≡ e
 
 policy_takes : (c : List ℕ) (overclaim : Overclaim) → AreOctets c → policy_of c ≡ Some overclaim → IsPolicy overclaim c
 policy_takes c overclaim low e =
-    let a = bind_some (oid_at c) (λ id. named policy_identifier id.0 >>= λ o. skip_all_of id.1 >>= λ u. some o) overclaim e in
-    let b = bind_some (named policy_identifier a.0.0) (λ o. skip_all_of a.0.1 >>= λ u. some o) overclaim a.2 in
+    let a = bind_some (oid_at c) (λ id. mode_of policy_identifier id.0 >>= λ o. skip_all_of id.1 >>= λ u. some o) overclaim e in
+    let b = bind_some (mode_of policy_identifier a.0.0) (λ o. skip_all_of a.0.1 >>= λ u. some o) overclaim a.2 in
     let d = bind_some (skip_all_of a.0.1) (λ u. some b.0) overclaim b.2 in
     let one = oid_reads.takes c a.0.0 a.0.1 low a.1 in
     let same : a.0.0 ≡ policy_identifier b.0 = was_named policy_identifier a.0.0 (Some b.0) (sym b.1) in
@@ -56,12 +56,12 @@ unfolding certificate_policies_at
 certificate_policies_reads =
     same_reads (inside SEQUENCE (content SEQUENCE policy_of)) (Inside SEQUENCE (Inside SEQUENCE IsPolicy)) IsCertificatePolicies
     (inside_reads SEQUENCE (content SEQUENCE policy_of) (Inside SEQUENCE IsPolicy) (content_reads SEQUENCE policy_of IsPolicy (record { takes = policy_takes; again = policy_again })))
-    (λ v text (row, (policy, (_, (qualifiers, behind, skipped), is), one), sequence). record {
+    (λ v text (elements, (policy, (_, (qualifiers, behind, skipped), is), one), sequence). record {
       qualifiers = qualifiers;
       skipped = skipped;
-      nested = (row, sequence, (policy, one, is ∙ ap (λ (t : List ℕ). enc OBJECT_IDENTIFIER (policy_identifier v) ++ t) behind));
+      nested = (elements, sequence, (policy, one, is ∙ ap (λ (t : List ℕ). enc OBJECT_IDENTIFIER (policy_identifier v) ++ t) behind));
     })
-    (λ v text s. let (row, sequence, (policy, one, is)) = s.nested in (row, (policy, (concat s.qualifiers, (s.qualifiers, refl, s.skipped), is), one), sequence))
+    (λ v text s. let (elements, sequence, (policy, one, is)) = s.nested in (elements, (policy, (concat s.qualifiers, (s.qualifiers, refl, s.skipped), is), one), sequence))
 
 -- what is written of a policy encodes it, under any bound of depth, if short
 pub certificate_policies_made : (depth : ℕ) (overclaim : Overclaim) → Short (certificate_policies_content overclaim) → IsCertificatePoliciesWithin depth overclaim (certificate_policies_content overclaim)

@@ -17,7 +17,7 @@ use Rattle.rpki_der.proofs.Octets.{AreOctets-append, bind_some, some, some_is, n
 use Rattle.rpki_der.proofs.Readings.{content_reads, same_reads}
 use Rattle.rpki_der.proofs.WrittenOctets.{ok_enc, value_octets}
 use Rattle.rpki_ext.specs.ExtendedKeyUsages.{ArePurposes, purposes_of, IsExtendedKeyUsage, extended_key_usage_at, extended_key_usage}
-use Rattle.rpki_ext.proofs.Pieces.{row_pieces, pieces_row}
+use Rattle.rpki_ext.proofs.Pieces.{sequence_pieces, pieces_sequence}
 use Rattle.rpki_der.proofs.ValueWritten.{made}
 use Rattle.rpki_ext.proofs.LawfulKinds.{IsKind, always, AnsweringOrMemory, answering_or_memory}
 
@@ -66,17 +66,17 @@ identifiers_read = record { takes = takes; again = again }
 usage_is : (kept text : List ℕ) → Inside SEQUENCE AreSome kept text → IsExtendedKeyUsage kept text
 usage_is kept text s =
     let a = s.1 in
-    let row = row_pieces IsObjectIdentifier (a.0 ∷ a.1) s.0 a.2 in
+    let elements = sequence_pieces IsObjectIdentifier (a.0 ∷ a.1) s.0 a.2 in
     record {
-      purposes = record { id = a.0; more = a.1; pieces = row.0; identifiers = row.1; is = a.3 ∙ row.2 };
+      purposes = record { id = a.0; more = a.1; pieces = elements.0; identifiers = elements.1; is = a.3 ∙ elements.2 };
       sequence = subst (λ (c : List ℕ). IsEnc SEQUENCE c text) (sym a.3) s.2;
     }
 
 is_usage : (kept text : List ℕ) → IsExtendedKeyUsage kept text → Inside SEQUENCE AreSome kept text
 is_usage kept text s =
     let p = s.purposes in
-    let row = pieces_row IsObjectIdentifier (p.id ∷ p.more) p.pieces p.identifiers in
-    (kept, (p.id, p.more, subst (λ (c : List ℕ). AreEncodings IsObjectIdentifier (p.id ∷ p.more) c) (sym p.is) row, refl), s.sequence)
+    let elements = pieces_sequence IsObjectIdentifier (p.id ∷ p.more) p.pieces p.identifiers in
+    (kept, (p.id, p.more, subst (λ (c : List ℕ). AreEncodings IsObjectIdentifier (p.id ∷ p.more) c) (sym p.is) elements, refl), s.sequence)
 
 -- an ExtKeyUsageSyntax is read as it is encoded
 pub extended_key_usage_reads : Reads extended_key_usage_at IsExtendedKeyUsage
@@ -91,19 +91,19 @@ kept_purposes c low e = kept (purposes_of c) refl e
     kept None h e = absurd cc
     kept (Some k) h e =
         let a = identifiers_read.takes c k low h in
-        let row = row_pieces IsObjectIdentifier (a.0 ∷ a.1) c a.2 in
-        record { id = a.0; more = a.1; pieces = row.0; identifiers = row.1; is = row.2 }
+        let elements = sequence_pieces IsObjectIdentifier (a.0 ∷ a.1) c a.2 in
+        record { id = a.0; more = a.1; pieces = elements.0; identifiers = elements.1; is = elements.2 }
 
 -- ---- what is written
 
-row_octets : (ids pieces : List (List ℕ)) → AllZip IsObjectIdentifier ids pieces → AreOctets (concat pieces)
-row_octets [] [] z = tt
-row_octets [] (p ∷ ps) z = elim z [ ]
-row_octets (id ∷ ids) [] z = elim z [ ]
-row_octets (id ∷ ids) (p ∷ ps) z = AreOctets-append p (concat ps) (value_octets z.0.enc) (row_octets ids ps z.1)
+sequence_octets : (ids pieces : List (List ℕ)) → AllZip IsObjectIdentifier ids pieces → AreOctets (concat pieces)
+sequence_octets [] [] z = tt
+sequence_octets [] (p ∷ ps) z = elim z [ ]
+sequence_octets (id ∷ ids) [] z = elim z [ ]
+sequence_octets (id ∷ ids) (p ∷ ps) z = AreOctets-append p (concat ps) (value_octets z.0.enc) (sequence_octets ids ps z.1)
 
 purposes_octets : (ids : List ℕ) → ArePurposes ids → AreOctets ids
-purposes_octets ids p = rw p.is (row_octets (p.id ∷ p.more) p.pieces p.identifiers)
+purposes_octets ids p = rw p.is (sequence_octets (p.id ∷ p.more) p.pieces p.identifiers)
 
 -- Extended Key Usage is a lawful kind
 pub extended_key_usage_is : IsKind extended_key_usage

@@ -9,7 +9,7 @@ use Rattle.rpki_der.specs.Extensions.Reading.{extension_at}
 use Rattle.rpki_der.specs.Sequences.{IsAtMostOne}
 use Rattle.rpki_der.proofs.ExtensionReads.{extension_reads, extension_shrinks}
 use Rattle.rpki_der.proofs.Octets.{some_is}
-use Rattle.rpki_der.proofs.Sequences.{row_again}
+use Rattle.rpki_der.proofs.Sequences.{sequence_again}
 use Rattle.rpki_der.proofs.ValueWritten.{Short, pieces_short}
 use Rattle.rpki_blocks.specs.Addresses.{Ip, ip}
 use Rattle.rpki_blocks.specs.Prefixes.{AreV4}
@@ -22,7 +22,7 @@ use Rattle.rpki_ext.specs.CertificateExtensions.{ExtensionFields, AreExtensions,
 use Rattle.rpki_ext.specs.ExtensionKinds.{certificate_kinds, ip_resources, as_resources}
 use Rattle.rpki_ext.specs.Kinds.{ExtensionKind, TellsUnder, GivesUnder, extension_for, identifiers_by_mode, only}
 use Rattle.rpki_ext.proofs.CertificateExtensions.{known_parts, one_each}
-use Rattle.rpki_ext.proofs.KindsWritten.{written, IsOnly, only_ones, only_written, row_made, contents_short}
+use Rattle.rpki_ext.proofs.KindsWritten.{written, IsOnly, only_ones, only_written, elements_made, contents_short}
 use Rattle.rpki_ext.proofs.TablesWritten.{identifiers_by_kind}
 
 -- the extension that is written of a part with this content
@@ -51,8 +51,8 @@ module _ (x y : ExtensionFields) (short : Short (extensions x)) (read : AreExten
   same : read.0 ≡ written (parts x)
   unfolding extensions
   same =
-      let again = row_again extension_at IsExtension extension_reads extension_shrinks in
-      some_is read.0 (written (parts x)) (sym (again read.0 (extensions x) read.1) ∙ again (written (parts x)) (extensions x) (row_made (parts x) (known_parts x) shorts))
+      let again = sequence_again extension_at IsExtension extension_reads extension_shrinks in
+      some_is read.0 (written (parts x)) (sym (again read.0 (extensions x) read.1) ∙ again (written (parts x)) (extensions x) (elements_made (parts x) (known_parts x) shorts))
 
   ones : AllZip (IsOnly (parts x)) (identifiers_by_kind certificate_kinds) (parts x)
   ones = only_ones (parts x) (identifiers_by_kind certificate_kinds) (parts x) (one_each x.overclaim x) (contents_short (parts x) shorts)

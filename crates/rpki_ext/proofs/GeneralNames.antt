@@ -25,7 +25,7 @@ use Rattle.rpki_parts.specs.Uris.{IsRsync, ArePrintable}
 use Rattle.rpki_parts.proofs.UriTests.{all_decides, rsync_decides}
 use Rattle.rpki_ext.specs.GeneralNames.{ascii_of, IsUniformResourceIdentifier, uri_name_at, keep_rsync, IsGeneralNames, names_of, uri_name}
 use Rattle.rpki_ext.proofs.OnlyElements.{only_from, only_to, one_from, one_to}
-use Rattle.rpki_ext.proofs.Pieces.{row_pieces, pieces_row}
+use Rattle.rpki_ext.proofs.Pieces.{sequence_pieces, pieces_sequence}
 
 -- an identifier that is a constant
 pub encoded_oid : (id : List ℕ) → is_oid id ≡ true → list_all (λ x. ltb x 256) id ≡ true → length id < 2 ^ 32 → IsObjectIdentifier id (enc OBJECT_IDENTIFIER id)
@@ -77,13 +77,13 @@ names_read = record {
   takes = λ c v low e.
       let a = bind_some (over uri_name_at keep_rsync None c) (λ uri. uri) v e in
       let m = kept_reads.takes c a.0 low a.1 in
-      let row = row_pieces IsUniformResourceIdentifier m.0 c m.1 in
+      let elements = sequence_pieces IsUniformResourceIdentifier m.0 c m.1 in
       let one : IsAtMostOne (λ x w. x ≡ w) (filter is_rsync m.0) (Some v) = subst (λ (o : Option (List ℕ)). IsAtMostOne (λ x w. x ≡ w) (filter is_rsync m.0) o) a.2 m.2 in
-      record { texts = m.0; pieces = row.0; encoded = row.1; is = row.2; one = only_from is_rsync IsRsync rsync_decides m.0 v (one_from (filter is_rsync m.0) v one) };
+      record { texts = m.0; pieces = elements.0; encoded = elements.1; is = elements.2; one = only_from is_rsync IsRsync rsync_decides m.0 v (one_from (filter is_rsync m.0) v one) };
   again = λ v c s.
-      let row : AreEncodings IsUniformResourceIdentifier s.texts c = subst (λ (t : List ℕ). AreEncodings IsUniformResourceIdentifier s.texts t) (sym s.is) (pieces_row IsUniformResourceIdentifier s.texts s.pieces s.encoded) in
+      let elements : AreEncodings IsUniformResourceIdentifier s.texts c = subst (λ (t : List ℕ). AreEncodings IsUniformResourceIdentifier s.texts t) (sym s.is) (pieces_sequence IsUniformResourceIdentifier s.texts s.pieces s.encoded) in
       let one = one_to (filter is_rsync s.texts) v (only_to is_rsync IsRsync rsync_decides s.texts v s.one) in
-      rw (kept_reads.again (Some v) c (s.texts, row, one)) refl;
+      rw (kept_reads.again (Some v) c (s.texts, elements, one)) refl;
 }
 
 -- ---- texts that are URIs

@@ -19,8 +19,8 @@ authority_key_identifier_reads =
     same_reads (inside SEQUENCE (content (CONTEXT 0) twenty)) (Inside SEQUENCE (Inside (CONTEXT 0) IsTwenty)) IsAuthorityKeyIdentifier
     (inside_reads SEQUENCE (content (CONTEXT 0) twenty) (Inside (CONTEXT 0) IsTwenty)
     (content_reads (CONTEXT 0) twenty IsTwenty (record { takes = λ c id low e. takes_twenty c id e; again = λ id c s. rw (s.0, eq-eqb (length id) 20 s.1) refl })))
-    (λ id text (row, (key, (is, size), first), sequence). ((row, sequence, (key, first, is)), size))
-    (λ id text ((row, sequence, (key, first, is)), size). (row, (key, (is, size), first), sequence))
+    (λ id text (elements, (key, (is, size), first), sequence). ((elements, sequence, (key, first, is)), size))
+    (λ id text ((elements, sequence, (key, first, is)), size). (elements, (key, (is, size), first), sequence))
 
 -- what is written of 20 octets encodes them as a SubjectKeyIdentifier, if short
 pub subject_key_identifier_made : (id : List ℕ) → length id ≡ 20 → Short (subject_key_identifier_content id) → IsSubjectKeyIdentifier id (subject_key_identifier_content id)

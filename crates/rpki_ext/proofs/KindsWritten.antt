@@ -144,9 +144,9 @@ none_unknown (p ∷ ps) k = here p.content (none_unknown ps k.1)
     here (Some c) more = ((λ u. absurd cc (k.0.kind, u)), more)
 
 -- what is written of known parts is a sequence of their extensions
-pub row_made : (ps : List OptionalExtension) → AllByRecursion IsKnown ps → AllByRecursion Short (map text ps) → AreEncodings IsExtension (written ps) (concat (map text ps))
-row_made [] k h = refl
-row_made (p ∷ ps) k h = here p.content h.0 (row_made ps k.1 h.1)
+pub elements_made : (ps : List OptionalExtension) → AllByRecursion IsKnown ps → AllByRecursion Short (map text ps) → AreEncodings IsExtension (written ps) (concat (map text ps))
+elements_made [] k h = refl
+elements_made (p ∷ ps) k h = here p.content h.0 (elements_made ps k.1 h.1)
   where
     here : (o : Option (List ℕ)) → Short (extension_of_some p.identifier p.critical o) → AreEncodings IsExtension (written ps) (concat (map text ps)) → AreEncodings IsExtension (written (raw p.identifier p.critical o ∷ ps)) (concat (map text (raw p.identifier p.critical o ∷ ps)))
     here None short more = more
@@ -162,9 +162,9 @@ contents_short (p ∷ ps) h = (here p.content h.0, contents_short ps h.1)
     here (Some c) short = extension_content_short p.identifier p.critical c short
 
 -- what is written of known parts, if short, consists of octets where their contents do
-pub ok_row : (ps : List OptionalExtension) → AllByRecursion IsKnown ps → AllByRecursion (λ p. IfSome p.content IfShort) ps → IfShort (concat (map text ps))
-ok_row [] k h = λ l. tt
-ok_row (p ∷ ps) k h = ok_append (text p) (concat (map text ps)) (here p.content h.0) (ok_row ps k.1 h.1)
+pub ok_sequence : (ps : List OptionalExtension) → AllByRecursion IsKnown ps → AllByRecursion (λ p. IfSome p.content IfShort) ps → IfShort (concat (map text ps))
+ok_sequence [] k h = λ l. tt
+ok_sequence (p ∷ ps) k h = ok_append (text p) (concat (map text ps)) (here p.content h.0) (ok_sequence ps k.1 h.1)
   where
     here : (o : Option (List ℕ)) → IfSome o IfShort → IfShort (extension_of_some p.identifier p.critical o)
     here None octets = λ l. tt

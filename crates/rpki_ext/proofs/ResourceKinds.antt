@@ -1,6 +1,6 @@
 -- The extensions of resources, both ways, and what is written of them.
 use Rattle.std.proofs.Common.{◌≡◌, ℕ, List, Option, refl, subst, Some}
-use Rattle.rpki_der.specs.Reading.{mapped, Reads}
+use Rattle.rpki_der.specs.Reading.{map_value, Reads}
 use Rattle.rpki_der.specs.Encoding.{Begins}
 use Rattle.rpki_der.proofs.Octets.{bind_some, some, some_is}
 use Rattle.rpki_blocks.specs.Addresses.{Ip, addresses, Families, IsIPAddrBlocks}
@@ -16,7 +16,7 @@ use Rattle.rpki_ext.proofs.LawfulKinds.{IsKind}
 use Rattle.rpki_ext.proofs.KindsRead.{ShowsMode}
 
 -- what a function makes of each value
-image_reads : {X Y : Type 0} (f : X → Y) (read : List ℕ → Option (X × List ℕ)) (S : X → List ℕ → Type 0) → Reads read S → Reads (mapped f read) (λ y text. (x : X) × S x text × (f x ≡ y))
+image_reads : {X Y : Type 0} (f : X → Y) (read : List ℕ → Option (X × List ℕ)) (S : X → List ℕ → Type 0) → Reads read S → Reads (map_value f read) (λ y text. (x : X) × S x text × (f x ≡ y))
 image_reads {X} {Y} f read S law = record {
   takes = λ octets y rest fits e.
       let a = bind_some (read octets) (λ x. some {A = Y × List ℕ} (f x.0, x.1)) (y, rest) e in

@@ -4,11 +4,11 @@ use Rattle.std.proofs.Common.{◌≡◌, ℕ, Bool, true, false, ◌||◌, List,
 use Rattle.rpki_der.specs.Folding.{steps, over}
 use Rattle.rpki_der.specs.Primitives.{IsObjectIdentifier}
 use Rattle.rpki_der.specs.Primitives.Reading.{oid_at}
-use Rattle.rpki_der.specs.Sequences.Reading.{row_of}
+use Rattle.rpki_der.specs.Sequences.Reading.{sequence_of}
 use Rattle.rpki_der.specs.Values.{AreOctets}
 use Rattle.rpki_der.proofs.IdentifierReads.{oid_reads}
 use Rattle.rpki_der.proofs.Octets.{bind_some, some, some_is}
-use Rattle.rpki_der.proofs.Sequences.{row_is, row_again}
+use Rattle.rpki_der.proofs.Sequences.{elements_are, sequence_again}
 use Rattle.rpki_ext.specs.RouterPurposes.{HasRouterPurpose, is_router_purpose, or_router}
 use Rattle.rpki_ext.proofs.ExtendedKeyUsages.{oid_shrinks}
 
@@ -31,10 +31,10 @@ found_in found (id ∷ ids) = found_in (found || is_router_purpose id) ids ∙ a
 pub found_is : (kept : List ℕ) → AreOctets kept → over oid_at or_router false kept ≡ Some true → HasRouterPurpose kept
 unfolding over
 found_is kept low e =
-    let a = bind_some (row_of oid_at kept) (λ ids. steps or_router false ids) true e in
-    record { ids = a.0; row = row_is oid_at IsObjectIdentifier oid_reads kept a.0 low a.1; among = some_is (any a.0) true (sym (found_in false a.0) ∙ a.2) }
+    let a = bind_some (sequence_of oid_at kept) (λ ids. steps or_router false ids) true e in
+    record { ids = a.0; elements = elements_are oid_at IsObjectIdentifier oid_reads kept a.0 low a.1; among = some_is (any a.0) true (sym (found_in false a.0) ∙ a.2) }
 
 -- the router's purpose is found where it is there
 pub is_found : (kept : List ℕ) → HasRouterPurpose kept → over oid_at or_router false kept ≡ Some true
 unfolding over
-is_found kept h = rw (row_again oid_at IsObjectIdentifier oid_reads oid_shrinks h.ids kept h.row) (found_in false h.ids ∙ ap some h.among)
+is_found kept h = rw (sequence_again oid_at IsObjectIdentifier oid_reads oid_shrinks h.ids kept h.elements) (found_in false h.ids ∙ ap some h.among)

@@ -13,7 +13,7 @@ use Rattle.rpki_der.specs.Values.{enc, AreOctets, IsEnc, IsSequence, sequence, s
 use Rattle.rpki_der.specs.Primitives.{IsObjectIdentifier}
 use Rattle.rpki_der.specs.Skipping.{IsSkippableSequence, levels}
 use Rattle.rpki_der.specs.Skipping.Reading.{skip_all_of}
-use Rattle.rpki_der.specs.Reading.{ended, content, Inside, Reads, ReadsWhole}
+use Rattle.rpki_der.specs.Reading.{at_end, content, Inside, Reads, ReadsWhole}
 use Rattle.rpki_der.specs.Primitives.Reading.{oid_at}
 use Rattle.rpki_der.specs.Folding.{first_fold, IsLawful, over, IsFolded}
 use Rattle.rpki_der.proofs.Choices.{content_shrinks}
@@ -34,7 +34,7 @@ use Rattle.rpki_ext.specs.SubjectAccess.{description_of, description_at, method_
 use Rattle.rpki_ext.specs.declared.subject_access.AccessMethod.TheVariants.{CaRepository, RpkiManifest, SignedObject, RpkiNotify}
 use Rattle.rpki_ext.specs.GeneralNames.{IsUniformResourceIdentifier, uri_name_at, rsync_of, https_of}
 use Rattle.rpki_ext.proofs.GeneralNames.{encoded_oid, name_reads, text_is, text_was, uri_name_made}
-use Rattle.rpki_ext.proofs.Pieces.{row_pieces, pieces_row}
+use Rattle.rpki_ext.proofs.Pieces.{sequence_pieces, pieces_sequence}
 use Rattle.rpki_ext.proofs.AuthorityAccess.{description_pieces_short, ok_description}
 use Rattle.rpki_ext.proofs.LawfulKinds.{IsKind, AnsweringOrMemory, answering_or_memory}
 
@@ -96,7 +96,7 @@ IsDescribed None c = (id : List ℕ) × (method : List ℕ) × (rest : List ℕ)
 
 location_takes : (id text rest : List ℕ) (r : Option AccessMethod) (d : Description) → method_of id ≡ r → AreOctets rest → IsObjectIdentifier id text → location_of r rest ≡ Some d → IsDescribed d (text ++ rest)
 location_takes id text rest (Some m) d is low encoded e =
-    let a = bind_some (uri_name_at rest) (λ uri. ended uri.1 (some {A = AccessMethod × List ℕ} (m, uri.0))) d e in
+    let a = bind_some (uri_name_at rest) (λ uri. at_end uri.1 (some {A = AccessMethod × List ℕ} (m, uri.0))) d e in
     let g = ended_some a.0.1 (some {A = AccessMethod × List ℕ} (m, a.0.0)) d a.2 in
     let one = name_reads.takes rest a.0.0 a.0.1 low a.1 in
     let used : one.text ≡ rest = sym (append-nil one.text) ∙ sym (ap (λ (r : List ℕ). one.text ++ r) g.0) ∙ sym one.parts in
@@ -122,14 +122,14 @@ description_again None c s =
 described : (d : Description) (text : List ℕ) → Inside SEQUENCE IsDescribed d text → IsAccessDescriptionWithin levels d text
 described (Some (m, uri)) text (_, (name, encoded, is), sequence) =
     (name, encoded, subst (λ (c : List ℕ). IsEnc SEQUENCE c text) (is ∙ ap (λ (t : List ℕ). enc OBJECT_IDENTIFIER (method_identifier m) ++ t) (sym (append-nil name))) sequence)
-described None text (_, (id, method, _, encoded, unknown, (row, behind, skipped), is), sequence) =
-    record { id = id; method = method; row = row; method_is = encoded; unknown = unknown; skipped = skipped; sequence = subst (λ (c : List ℕ). IsEnc SEQUENCE c text) (is ∙ ap (λ (t : List ℕ). method ++ t) behind) sequence }
+described None text (_, (id, method, _, encoded, unknown, (elements, behind, skipped), is), sequence) =
+    record { id = id; method = method; elements = elements; method_is = encoded; unknown = unknown; skipped = skipped; sequence = subst (λ (c : List ℕ). IsEnc SEQUENCE c text) (is ∙ ap (λ (t : List ℕ). method ++ t) behind) sequence }
 
 is_described : (d : Description) (text : List ℕ) → IsAccessDescriptionWithin levels d text → Inside SEQUENCE IsDescribed d text
 is_described (Some (m, uri)) text s =
     (enc OBJECT_IDENTIFIER (method_identifier m) ++ s.0, (s.0, s.1, refl), subst (λ (c : List ℕ). IsEnc SEQUENCE c text) (ap (λ (t : List ℕ). enc OBJECT_IDENTIFIER (method_identifier m) ++ t) (append-nil s.0)) s.2)
 is_described None text s =
-    (s.method ++ concat s.row, (s.id, s.method, concat s.row, s.method_is, s.unknown, (s.row, refl, s.skipped), refl), s.sequence)
+    (s.method ++ concat s.elements, (s.id, s.method, concat s.elements, s.method_is, s.unknown, (s.elements, refl, s.skipped), refl), s.sequence)
 
 -- an AccessDescription is read as it is encoded
 pub description_reads : Reads description_at (IsAccessDescriptionWithin levels)
@@ -184,7 +184,7 @@ IsAccess a c = (d : Description) × (ds : List Description) × AreEncodings (IsA
 not_nil : (d : Description) (text rest : List ℕ) → IsAccessDescriptionWithin levels d text → [] ≡ text ++ rest → ⊥
 unfolding enc
 not_nil (Some x) text rest s e = let f : [] ≡ enc SEQUENCE (concat (enc OBJECT_IDENTIFIER (method_identifier x.0) ∷ s.0 ∷ [])) ++ rest = rw s.2.is at e in absurd cc
-not_nil None text rest s e = let f : [] ≡ enc SEQUENCE (concat (s.method ∷ s.row)) ++ rest = rw s.sequence.is at e in absurd cc
+not_nil None text rest s e = let f : [] ≡ enc SEQUENCE (concat (s.method ∷ s.elements)) ++ rest = rw s.sequence.is at e in absurd cc
 
 access_from : (b : ℕ) (c : List ℕ) (uris : Uris) (ds : List Description) → AreEncodings (IsAccessDescriptionWithin levels) ds (b ∷ c) → access_fold.means ds uris → IsAccess (access_made uris) (b ∷ c)
 access_from b c uris [] s m = absurd cc
@@ -202,13 +202,13 @@ access_again a [] s = absurd (not_nil s.0 s.2.0 s.2.1 s.2.2 s.2.4)
 access_again a (b ∷ c) s = rw (uris_read.again (uris_of a) (b ∷ c) (s.0 ∷ s.1, s.2, s.3)) refl
 
 access_is : (a : Access) (text : List ℕ) → Inside SEQUENCE IsAccess a text → IsSubjectInformationAccess a text
-access_is a text (inside, (first, more, row, (repository, (manifest, (object, notify)))), sequence) =
-    let (pieces, encoded, is) = row_pieces (IsAccessDescriptionWithin levels) (first ∷ more) inside row in
+access_is a text (inside, (first, more, elements, (repository, (manifest, (object, notify)))), sequence) =
+    let (pieces, encoded, is) = sequence_pieces (IsAccessDescriptionWithin levels) (first ∷ more) inside elements in
     record { first = first; more = more; pieces = pieces; encoded = encoded; sequence = subst (λ (c : List ℕ). IsEnc SEQUENCE c text) is sequence; repository = repository; manifest = manifest; object = object; notify = notify }
 
 is_access : (a : Access) (text : List ℕ) → IsSubjectInformationAccess a text → Inside SEQUENCE IsAccess a text
 is_access a text s =
-    (concat s.pieces, (s.first, s.more, pieces_row (IsAccessDescriptionWithin levels) (s.first ∷ s.more) s.pieces s.encoded, (s.repository, (s.manifest, (s.object, s.notify)))), s.sequence)
+    (concat s.pieces, (s.first, s.more, pieces_sequence (IsAccessDescriptionWithin levels) (s.first ∷ s.more) s.pieces s.encoded, (s.repository, (s.manifest, (s.object, s.notify)))), s.sequence)
 
 -- a SubjectInfoAccessSyntax is read as it is encoded
 pub subject_information_access_reads : Reads subject_information_access_at IsSubjectInformationAccess
@@ -224,8 +224,8 @@ subject_information_access_reads =
 abbrev Methods : Type 0
 Methods = List (AccessMethod × Option (List ℕ))
 
-abbrev rows : Access → Methods
-rows a = (CaRepository, a.ca_repository) ∷ (RpkiManifest, a.rpki_manifest) ∷ (SignedObject, a.signed_object) ∷ (RpkiNotify, a.rpki_notify) ∷ []
+abbrev methods_of : Access → Methods
+methods_of a = (CaRepository, a.ca_repository) ∷ (RpkiManifest, a.rpki_manifest) ∷ (SignedObject, a.signed_object) ∷ (RpkiNotify, a.rpki_notify) ∷ []
 
 abbrev value_of : AccessMethod → Option (List ℕ) → List Description
 value_of method None = []
@@ -237,7 +237,7 @@ values ms = flat_map (λ (m : AccessMethod × Option (List ℕ)). value_of m.0 m
 abbrev texts : Methods → List (List ℕ)
 texts ms = flat_map (λ (m : AccessMethod × Option (List ℕ)). description_if m.0 m.1) ms
 
-texts_are : (a : Access) → texts (rows a) ≡ descriptions a
+texts_are : (a : Access) → texts (methods_of a) ≡ descriptions a
 texts_are a = rw append-nil refl
 
 -- ---- each description
@@ -297,7 +297,7 @@ record Firsts (a : Access) (ds : List Description) : Type 0 where
   object : IsFirstOf (HasUri SignedObject IsRsync) a.signed_object ds
   notify : IsFirstOf (HasUri RpkiNotify IsHttps) a.rpki_notify ds
 
-firsts : (a : Access) → HasUris a → Firsts a (values (rows a))
+firsts : (a : Access) → HasUris a → Firsts a (values (methods_of a))
 firsts a h =
     let r : AccessMethod × Option (List ℕ) = (CaRepository, a.ca_repository) in
     let m : AccessMethod × Option (List ℕ) = (RpkiManifest, a.rpki_manifest) in
@@ -312,7 +312,7 @@ firsts a h =
 
 -- ---- the whole
 
-printables : (a : Access) → HasUris a → ArePrintables (rows a)
+printables : (a : Access) → HasUris a → ArePrintables (methods_of a)
 printables a h =
     let rsync : (uri : List ℕ) → IsRsync uri → ArePrintable uri = λ uri u. u.printable in
     let https : (uri : List ℕ) → IsHttps uri → ArePrintable uri = λ uri u. u.printable in
@@ -322,15 +322,15 @@ sequence_made : (depth : ℕ) (a : Access) (ds : List Description) (ps : List (L
 sequence_made depth a ds [] zipped f c e h = absurd cc
 sequence_made depth a ds (p ∷ ps) zipped f c e h =
     let is : sequence (p ∷ ps) ≡ c = some_is (sequence (p ∷ ps)) c e in
-    subst (λ (x : List ℕ). Short x → IsSubjectInformationAccessWithin depth a x) is (λ short. row ds (zipped (pieces_short (p ∷ ps) (content_short SEQUENCE _ short))) f (made SEQUENCE _ (omega arith) short)) h
+    subst (λ (x : List ℕ). Short x → IsSubjectInformationAccessWithin depth a x) is (λ short. elements ds (zipped (pieces_short (p ∷ ps) (content_short SEQUENCE _ short))) f (made SEQUENCE _ (omega arith) short)) h
   where
-    row : (es : List Description) → AllZip (IsAccessDescriptionWithin depth) es (p ∷ ps) → Firsts a es → IsSequence (p ∷ ps) (sequence (p ∷ ps)) → IsSubjectInformationAccessWithin depth a (sequence (p ∷ ps))
-    row [] zip g enc = elim zip [ ]
-    row (e ∷ es) zip g enc = record { first = e; more = es; pieces = p ∷ ps; encoded = zip; sequence = enc; repository = g.repository; manifest = g.manifest; object = g.object; notify = g.notify }
+    elements : (es : List Description) → AllZip (IsAccessDescriptionWithin depth) es (p ∷ ps) → Firsts a es → IsSequence (p ∷ ps) (sequence (p ∷ ps)) → IsSubjectInformationAccessWithin depth a (sequence (p ∷ ps))
+    elements [] zip g enc = elim zip [ ]
+    elements (e ∷ es) zip g enc = record { first = e; more = es; pieces = p ∷ ps; encoded = zip; sequence = enc; repository = g.repository; manifest = g.manifest; object = g.object; notify = g.notify }
 
 -- what is written of URIs encodes them, under any bound of depth
 pub subject_information_access_made : (depth : ℕ) (a : Access) → HasUris a → (c : List ℕ) → subject_information_access_content a ≡ Some c → Short c → IsSubjectInformationAccessWithin depth a c
-subject_information_access_made depth a h = rw (← texts_are a) (sequence_made depth a (values (rows a)) (texts (rows a)) (encoded depth (rows a) (printables a h)) (firsts a h))
+subject_information_access_made depth a h = rw (← texts_are a) (sequence_made depth a (values (methods_of a)) (texts (methods_of a)) (encoded depth (methods_of a) (printables a h)) (firsts a h))
 
 -- where there is no URI nothing is written
 all_absent : (ms : Methods) → texts ms ≡ [] → AllByRecursion (λ (m : AccessMethod × Option (List ℕ)). m.1 ≡ None) ms
@@ -341,12 +341,12 @@ all_absent ((m, Some uri) ∷ ms) e = absurd cc
 -- only where there is no URI nothing is written
 pub no_uris : (a : Access) → subject_information_access_content a ≡ None → a ≡ record { ca_repository = None; rpki_manifest = None; signed_object = None; rpki_notify = None }
 no_uris a e =
-    let (repository, (manifest, (object, (notify, _)))) = all_absent (rows a) (texts_are a ∙ no_pieces (descriptions a) e) in
+    let (repository, (manifest, (object, (notify, _)))) = all_absent (methods_of a) (texts_are a ∙ no_pieces (descriptions a) e) in
     λ i. record { ca_repository = repository i; rpki_manifest = manifest i; signed_object = object i; rpki_notify = notify i }
 
 -- what is written of URIs, if short, consists of octets
 pub ok_subject_information_access : (a : Access) → HasUris a → IfSome (subject_information_access_content a) IfShort
-ok_subject_information_access a h = rw (← texts_are a) (ok_pieces (texts (rows a)) (ok_texts (rows a) (printables a h)))
+ok_subject_information_access a h = rw (← texts_are a) (ok_pieces (texts (methods_of a)) (ok_texts (methods_of a) (printables a h)))
 
 -- Subject Information Access is a lawful kind
 pub subject_information_access_is : IsKind subject_information_access

@@ -23,9 +23,9 @@ longer_at (p ∷ ps) zero = omega (arith, some_longer p.identifier p.critical p.
 longer_at (p ∷ ps) (suc k) = omega (arith, longer_at ps k, length-append (text p) (concat (map text ps)))
 
 -- what stands inside a part isn't longer than all that is written
-pub row_longer : (x : ExtensionFields) (k : ℕ) → length (part_of (get_or (parts x) k nothing)).inside ≤ length (extensions x)
+pub elements_longer : (x : ExtensionFields) (k : ℕ) → length (part_of (get_or (parts x) k nothing)).inside ≤ length (extensions x)
 unfolding extensions
-row_longer x k = longer_at (parts x) k
+elements_longer x k = longer_at (parts x) k
 
 -- ---- a sequence that grows
 

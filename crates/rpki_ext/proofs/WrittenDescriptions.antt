@@ -39,6 +39,6 @@ none_written a e =
     rw (repository.0, manifest.0, object.0, notify.0) refl
 
 -- descriptions aren't longer than the extension with them
-pub row_longer : (id : List ℕ) (critical : Bool) (ds : List (List ℕ)) → length (concat ds) ≤ length (content_of_some id critical (sequence_of_some ds))
-row_longer id critical [] = omega arith
-row_longer id critical (d ∷ ds) = omega (arith, enc_longer SEQUENCE (concat (d ∷ ds)), content_longer id critical (sequence (d ∷ ds)))
+pub elements_longer : (id : List ℕ) (critical : Bool) (ds : List (List ℕ)) → length (concat ds) ≤ length (content_of_some id critical (sequence_of_some ds))
+elements_longer id critical [] = omega arith
+elements_longer id critical (d ∷ ds) = omega (arith, enc_longer SEQUENCE (concat (d ∷ ds)), content_longer id critical (sequence (d ∷ ds)))

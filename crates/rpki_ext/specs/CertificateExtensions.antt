@@ -91,7 +91,7 @@ GiveFields = GiveFieldsWithin levels
 
 -- the octets are a sequence of extensions that give these fields
 abbrev pub AreExtensions : ExtensionFields → List ℕ → Type 0
-AreExtensions f row = (xs : List Extension) × AreEncodings IsExtension xs row × GiveFields xs f
+AreExtensions f elements = (xs : List Extension) × AreEncodings IsExtension xs elements × GiveFields xs f
 
 -- ---- what is written
 
@@ -138,8 +138,8 @@ unfoldable pub extensions : ExtensionFields → List ℕ
 extensions x = concat (map text (parts x))
 
 -- the sequence, which stands in one SEQUENCE as its content
-abbrev pub row_part : ExtensionFields → Part
-row_part x = record { written = extensions x; inside = extensions x }
+abbrev pub sequence_part : ExtensionFields → Part
+sequence_part x = record { written = extensions x; inside = extensions x }
 
 -- the values can be written
 pub record ExtensionsFit (x : ExtensionFields) : Type 0 where

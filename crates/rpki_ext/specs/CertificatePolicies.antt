@@ -11,7 +11,7 @@ use Rattle.rpki_der.specs.Values.Reading.{◌>>=◌}
 use Rattle.rpki_der.specs.Identifiers.{id_ce}
 use Rattle.rpki_blocks.specs.declared.overclaim.Overclaim.{Overclaim}
 use Rattle.rpki_blocks.specs.Overclaims.{policy_identifier}
-use Rattle.rpki_blocks.specs.Overclaims.Reading.{named}
+use Rattle.rpki_blocks.specs.Overclaims.Reading.{mode_of}
 use Rattle.rpki_ext.specs.Kinds.{ExtensionKind, Any, required}
 
 -- certificatePolicies ::= SEQUENCE SIZE (1..MAX) OF PolicyInformation   (RFC 5280 4.2.1.4)
@@ -36,7 +36,7 @@ certificate_policies_content overclaim = nested (SEQUENCE ∷ SEQUENCE ∷ []) (
 
 -- the policy, and qualifiers that are skipped
 abbrev pub policy_of : List ℕ → Option Overclaim
-policy_of c = oid_at c >>= λ id. named policy_identifier id.0 >>= λ overclaim. skip_all_of id.1 >>= λ u. Some overclaim
+policy_of c = oid_at c >>= λ id. mode_of policy_identifier id.0 >>= λ overclaim. skip_all_of id.1 >>= λ u. Some overclaim
 
 -- reads certificatePolicies
 unfoldable pub certificate_policies_at : List ℕ → Option (Overclaim × List ℕ)

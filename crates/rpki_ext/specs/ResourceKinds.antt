@@ -1,7 +1,7 @@
 -- The extensions of resources (RFC 3779 2, 3; RFC 8360 4.2): the identifier shows the mode, the
 -- flag isn't tested (own).
 use Rattle.std.specs.Prelude.{◌≡◌, ℕ, List, Some, ◌-◌, ◌^◌, true}
-use Rattle.rpki_der.specs.Reading.{mapped}
+use Rattle.rpki_der.specs.Reading.{map_value}
 use Rattle.rpki_blocks.specs.Addresses.{Families, Ip, IsIPAddrBlocks, addresses, ip}
 use Rattle.rpki_blocks.specs.declared.overclaim.Overclaim.{Overclaim}
 use Rattle.rpki_blocks.specs.Overclaims.{ip_identifier, as_identifier}
@@ -22,7 +22,7 @@ ip_resources mode = record {
   identifier = ip_identifier mode;
   flag = untested true;
   encodes = IsAddresses;
-  reads = mapped (λ f. addresses (Some f)) families_at;
+  reads = map_value (λ f. addresses (Some f)) families_at;
   fits = λ i. IsResources (2 ^ 128 - 1) i.v4 × AreV4 i.v4 × IsResources (2 ^ 128 - 1) i.v6;
   written = ip;
 }

@@ -17,7 +17,7 @@ is_router_purpose id = bytes_eq id router_purpose
 -- the identifiers that are kept have the router's purpose among them
 pub record HasRouterPurpose (kept : List ℕ) : Type 0 where
   pub ids : List (List ℕ)
-  pub row : AreEncodings IsObjectIdentifier ids kept
+  pub elements : AreEncodings IsObjectIdentifier ids kept
   pub among : IsTrue (list_any is_router_purpose ids)
 
 -- ---- how it is searched for

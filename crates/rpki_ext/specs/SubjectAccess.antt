@@ -9,9 +9,9 @@ use Rattle.rpki_der.specs.Values.{IsSequence, enc, sequence_of_some}
 use Rattle.rpki_der.specs.Primitives.{IsObjectIdentifier}
 use Rattle.rpki_der.specs.Skipping.{IsSkippableWithin, levels}
 use Rattle.rpki_der.specs.Skipping.Reading.{skip_all_of}
-use Rattle.rpki_der.specs.Folding.{Fold, beside, first_fold, over}
+use Rattle.rpki_der.specs.Folding.{Fold, side_by_side, first_fold, over}
 use Rattle.rpki_der.specs.Sequences.{IsFirstOf}
-use Rattle.rpki_der.specs.Reading.{ended, content}
+use Rattle.rpki_der.specs.Reading.{at_end, content}
 use Rattle.rpki_der.specs.Primitives.Reading.{oid_at}
 use Rattle.rpki_der.specs.Values.Reading.{◌>>=◌}
 use Rattle.rpki_der.specs.Place.{Place, remaining}
@@ -33,11 +33,11 @@ method_identifier RpkiNotify = pkix 0x30 0x0D
 pub record IsUnknownAccessWithin (depth : ℕ) (b : List ℕ) : Type 0 where
   pub id : List ℕ
   pub method : List ℕ
-  pub row : List (List ℕ)
+  pub elements : List (List ℕ)
   pub method_is : IsObjectIdentifier id method
   pub unknown : (known : AccessMethod) → id ≢ method_identifier known
-  pub skipped : AllByRecursion (IsSkippableWithin depth) row
-  pub sequence : IsSequence (method ∷ row) b
+  pub skipped : AllByRecursion (IsSkippableWithin depth) elements
+  pub sequence : IsSequence (method ∷ elements) b
 
 -- AccessDescription ::= SEQUENCE {   (RFC 5280 4.2.2.1)
 --   accessMethod OBJECT IDENTIFIER, accessLocation GeneralName }
@@ -115,7 +115,7 @@ method_of id =
 
 -- what stands behind a known method, or behind another one
 abbrev pub location_of : Option AccessMethod → List ℕ → Option (Option (AccessMethod × List ℕ))
-location_of (Some method) c = uri_name_at c >>= λ uri. ended uri.1 (Some (method, uri.0))
+location_of (Some method) c = uri_name_at c >>= λ uri. at_end uri.1 (Some (method, uri.0))
 location_of None c = skip_all_of c >>= λ u. Some None
 
 -- the method and the URI inside an AccessDescription; nothing of an unknown method
@@ -138,9 +138,9 @@ Uris = Option (List ℕ) × (Option (List ℕ) × (Option (List ℕ) × Option (
 -- the walk over AccessDescriptions: of each method the first URI
 abbrev pub access_fold : Fold (Option (AccessMethod × List ℕ)) Uris
 access_fold =
-    beside (first_fold (uri_under CaRepository rsync_of) (HasUri CaRepository IsRsync))
-    (beside (first_fold (uri_under RpkiManifest rsync_of) (HasUri RpkiManifest IsRsync))
-    (beside (first_fold (uri_under SignedObject rsync_of) (HasUri SignedObject IsRsync))
+    side_by_side (first_fold (uri_under CaRepository rsync_of) (HasUri CaRepository IsRsync))
+    (side_by_side (first_fold (uri_under RpkiManifest rsync_of) (HasUri RpkiManifest IsRsync))
+    (side_by_side (first_fold (uri_under SignedObject rsync_of) (HasUri SignedObject IsRsync))
     (first_fold (uri_under RpkiNotify https_of) (HasUri RpkiNotify IsHttps))))
 
 -- the four URIs, in the form that the walk gathers them

@@ -76,14 +76,14 @@ pub fn encode_authority_information_access(
     ensures { Writes (part authority_information_access (Some uri.now)) out.old.items
         result out.new.items }
 {
-    let mut row = Vec::new(alloc);
-    put_description(&mut row, oid::AD_CA_ISSUERS, uri.as_bytes())?;
+    let mut elements = Vec::new(alloc);
+    put_description(&mut elements, oid::AD_CA_ISSUERS, uri.as_bytes())?;
     put_nested_extension(
         out,
         oid::PE_AUTHORITY_INFO_ACCESS,
         false,
         &[tag::SEQUENCE],
-        &row,
+        &elements,
     )
 }
 

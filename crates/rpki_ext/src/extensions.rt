@@ -5,7 +5,7 @@ ghost use Rattle.rpki_der.specs.Writers.{SaysLong, Writes};
 ghost use Rattle.rpki_parts.specs.Uris.{IsRsync, IsHttps};
 ghost use Rattle.rpki_ext.specs.KeyIdentifiers.{HasTwentyOctets};
 ghost use Rattle.rpki_ext.specs.ExtendedKeyUsages.{ArePurposes};
-ghost use Rattle.rpki_ext.specs.CertificateExtensions.{bare, ExtensionsFit, extensions, row_part};
+ghost use Rattle.rpki_ext.specs.CertificateExtensions.{bare, ExtensionsFit, extensions, sequence_part};
 
 use crate::authority_access::put_authority_information_access;
 use crate::basic_constraints::put_basic_constraints;
@@ -98,7 +98,7 @@ fn copied<T: Drop, F: FnOnce(&T) -> Result<T, AllocError>>(
     }
 }
 
-// What a URI and purposes keep, where they are there. Called for what they ensure alone.
+// What a URI, purposes and an identifier keep, where they are there: called for what they ensure.
 
 fn known_rsync(uri: &Option<Rsync>)
     ensures { IfSome uri.now IsRsync }
@@ -160,7 +160,7 @@ impl Extensions {
         }
     }
 
-    /// Does nothing: what is kept can be written.
+    /// Shows that what is kept can be written. Does nothing else.
     pub fn known(&self)
         ensures { ExtensionsFit self.now }
     {
@@ -253,7 +253,7 @@ impl Extensions {
     }
 
     // Appends the extensions, or a front of them where it errs.
-    fn append_row(&self, alloc: Global, out: &mut Vec<u8>) -> Result<(), EncodeError>
+    fn append_sequence(&self, alloc: Global, out: &mut Vec<u8>) -> Result<(), EncodeError>
         ensures ok { OnOk result (out.new.items ≡ out.old.items ++ extensions self.now) }
         ensures too_long { SaysLong result (extensions self.now) }
     {
@@ -281,14 +281,14 @@ impl Extensions {
     /// Appends the extensions, one after the other, in one fixed order and each with the flag that
     /// it must have (RFC 6487 4.8). Errs with `TooLong` where they would have 2^32 octets or more.
     pub fn encode_row(&self, alloc: Global, out: &mut Vec<u8>) -> Result<(), EncodeError>
-        ensures { Writes (row_part self.now) out.old.items result out.new.items }
+        ensures { Writes (sequence_part self.now) out.old.items result out.new.items }
     {
-        let mut row = Vec::new(alloc);
-        self.append_row(alloc, &mut row)?;
-        if row.len() > MAX_LEN {
+        let mut elements = Vec::new(alloc);
+        self.append_sequence(alloc, &mut elements)?;
+        if elements.len() > MAX_LEN {
             return Err(EncodeError::TooLong);
         }
-        out.extend_from_slice(&row)?;
+        out.extend_from_slice(&elements)?;
         Ok(())
     }
 }

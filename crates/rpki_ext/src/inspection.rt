@@ -19,7 +19,7 @@ pub enum InspectionError {
     KeyAlgorithm,
     /// The subject key identifier is not that of the key.
     SubjectKeyIdentifier,
-    /// There is an Extended Key Usage, and must not be.
+    /// An Extended Key Usage stands where the profile has none.
     ExtendedKeyUsagePresent,
     /// Basic Constraints say that the subject is not a CA.
     CaFlagFalse,
@@ -33,21 +33,21 @@ pub enum InspectionError {
     MissingManifest,
     /// The manifest doesn't stand right in the repository.
     ManifestNotChild,
-    /// There is a URI of a signed object, and must not be.
+    /// A URI of a signed object stands where the profile has none.
     SignedObjectPresent,
     /// The authority key identifier is there, and is not the subject's.
     AuthorityKeyIdentifier,
-    /// There is a URI of a revocation list, and must not be.
+    /// A URI of a revocation list stands where the profile has none.
     CrlUriPresent,
-    /// There is a URI of the issuer's certificate, and must not be.
+    /// A URI of the issuer's certificate stands where the profile has none.
     CaIssuerPresent,
     /// There is no URI of a revocation list.
     MissingCrlUri,
-    /// There are Basic Constraints, and must not be.
+    /// Basic Constraints stand where the profile has none.
     BasicConstraintsPresent,
-    /// There is a URI of a repository, and must not be.
+    /// A URI of a repository stands where the profile has none.
     CaRepositoryPresent,
-    /// There is a URI of a manifest, and must not be.
+    /// A URI of a manifest stands where the profile has none.
     ManifestPresent,
     /// There is no URI of the signed object.
     MissingSignedObject,
@@ -55,9 +55,9 @@ pub enum InspectionError {
     MissingExtendedKeyUsage,
     /// The router's purpose isn't among those of the key.
     MissingRouterPurpose,
-    /// There is a URI in Subject Information Access, and must not be.
+    /// A URI in Subject Information Access stands where the profile has none.
     SubjectInformationPresent,
-    /// There are IP resources, and must not be.
+    /// IP resources stand where the profile has none.
     IpResourcesPresent,
     /// There are no AS resources.
     MissingAsResources,

@@ -143,7 +143,7 @@ fn keep<T: Drop>(kept: &mut Option<T>, value: T)
 
 /// What the extensions that were seen so far gave.
 #[derive(Drop)]
-pub(crate) struct Seen {
+pub(crate) struct ReadExtensions {
     basic_ca: Option<bool>,
     subject_key_identifier: Option<KeyIdentifier>,
     authority_key_identifier: Option<KeyIdentifier>,
@@ -157,11 +157,11 @@ pub(crate) struct Seen {
     as_resources: Option<(Overclaim, AsResources)>,
 }
 
-impl Seen {
-    fn nothing() -> Seen
+impl ReadExtensions {
+    fn nothing() -> ReadExtensions
         ensures { state_of result ≡ all_kinds.start }
     {
-        Seen {
+        ReadExtensions {
             basic_ca: None,
             subject_key_identifier: None,
             authority_key_identifier: None,
@@ -275,12 +275,12 @@ impl Seen {
     }
 
     // A sequence of extensions, one after the other.
-    fn from_row(alloc: Global, row: &Cursor<'_>) -> Result<Seen, DecodeError>
+    fn from_row(alloc: Global, elements: &Cursor<'_>) -> Result<ReadExtensions, DecodeError>
         ensures { ReturnsOrMemoryBy state_of result
-            (over extension_at all_kinds.step all_kinds.start (remaining row.now)) }
+            (over extension_at all_kinds.step all_kinds.start (remaining elements.now)) }
     {
-        let mut rest = row.fork();
-        let mut seen = Seen::nothing();
+        let mut rest = elements.fork();
+        let mut seen = ReadExtensions::nothing();
         while !rest.is_empty() {
             let extension = match take_extension(&mut rest) {
                 Ok(extension) => extension,
@@ -325,10 +325,10 @@ fn required<T: Drop>(value: Option<T>, field: Field) -> Result<T, DecodeError>
 impl Extensions {
     // What was seen, if all is there that must be, and the identifiers of the resources are those
     // of the policy.
-    fn complete(seen: Seen) -> Result<Extensions, DecodeError>
+    fn complete(seen: ReadExtensions) -> Result<Extensions, DecodeError>
         ensures { Returns result (completed (state_of seen)) }
     {
-        let Seen {
+        let ReadExtensions {
             basic_ca,
             subject_key_identifier,
             authority_key_identifier,
@@ -369,21 +369,21 @@ impl Extensions {
 
     // Reads as `from_row` does, by the reading function.
     #[tactic(auto, unfolding(crate::specs::CertificateExtensions::Reading::extensions_of))]
-    fn read(alloc: Global, row: &Cursor<'_>) -> Result<Extensions, DecodeError>
-        ensures { ReturnsOrMemory result (extensions_of (remaining row.now)) }
+    fn read(alloc: Global, elements: &Cursor<'_>) -> Result<Extensions, DecodeError>
+        ensures { ReturnsOrMemory result (extensions_of (remaining elements.now)) }
     {
-        Extensions::complete(Seen::from_row(alloc, row)?)
+        Extensions::complete(ReadExtensions::from_row(alloc, elements)?)
     }
 
     /// Reads all extensions of a certificate, and returns what they give (RFC 6487 4.8). Errs with
     /// a fault where they give no fields; which of several is unspecified.
-    #[tactic(auto, using(crate::proofs::CertificateExtensions::row_means))]
-    pub fn from_row(alloc: Global, row: &Cursor<'_>) -> Result<Extensions, DecodeError>
-        ensures means { MeansOrMemory AreExtensions result (remaining row.now) }
-        ensures reads { ReturnsOrMemory result (extensions_of (remaining row.now)) }
+    #[tactic(auto, using(crate::proofs::CertificateExtensions::sequence_means))]
+    pub fn from_row(alloc: Global, elements: &Cursor<'_>) -> Result<Extensions, DecodeError>
+        ensures means { MeansOrMemory AreExtensions result (remaining elements.now) }
+        ensures reads { ReturnsOrMemory result (extensions_of (remaining elements.now)) }
     {
         // Called for what it ensures alone.
-        let _octets = row.rest();
-        Extensions::read(alloc, row)
+        let _octets = elements.rest();
+        Extensions::read(alloc, elements)
     }
 }

@@ -5,15 +5,15 @@ use Rattle.std.proofs.Common.{◌≡◌, ℕ, Bool, true, false, List, [], ◌�
 use Rattle.rpki_der.specs.Values.{IsEnc}
 use Rattle.rpki_der.specs.Primitives.{IsNull, IsObjectIdentifier}
 use Rattle.rpki_der.specs.Primitives.Reading.{null_at, oid_at}
-use Rattle.rpki_der.specs.Reading.{optional, inside, mapped, Reads, Inside, Optional, BeginWith, ReadsBefore}
+use Rattle.rpki_der.specs.Reading.{optional, inside, map_value, Reads, Inside, Optional, BeginWith, ReadsBefore}
 use Rattle.rpki_der.specs.Encoding.{BeginsOther}
-use Rattle.rpki_der.specs.Choices.{followed, Followed}
-use Rattle.rpki_der.proofs.Readings.{followed_before, inside_before}
+use Rattle.rpki_der.specs.Choices.{and_then, AndThen}
+use Rattle.rpki_der.proofs.Readings.{and_then_before, inside_before}
 use Rattle.rpki_der.proofs.Optionals.{optional_before}
 use Rattle.rpki_der.proofs.IdentifierReads.{oid_reads}
 use Rattle.rpki_der.proofs.PrimitiveReads.{null_reads}
-use Rattle.rpki_der.proofs.Readings.{mapped_reads, same_reads}
-use Rattle.rpki_der.specs.Choices.{given}
+use Rattle.rpki_der.proofs.Readings.{map_value_reads, same_reads}
+use Rattle.rpki_der.specs.Choices.{only_if}
 use Rattle.rpki_der.specs.Tags.{NULL, SEQUENCE}
 use Rattle.rpki_parts.specs.Algorithms.{Algorithm, IsSignatureAlgorithm, sha256_with_rsa, parameters}
 use Rattle.rpki_parts.specs.Algorithms.Reading.{null_or_none, algorithm_at, algorithm_with}
@@ -35,7 +35,7 @@ abbrev Parameters : List ℕ → Bool → List ℕ → Type 0
 Parameters id has text = (bytes_eq id sha256_with_rsa ≡ true) × NullOrNone has text
 
 abbrev Content : Bool → List ℕ → Type 0
-Content = Followed IsObjectIdentifier Parameters
+Content = AndThen IsObjectIdentifier Parameters
 
 -- an identifier that is another one
 pub identifier_is : (id other text : List ℕ) → bytes_eq id other ≡ true → IsObjectIdentifier id text → IsObjectIdentifier other text
@@ -67,10 +67,10 @@ algorithm_is a text s =
 pub algorithm_reads : Reads algorithm_at IsSignatureAlgorithm
 unfolding algorithm_at
 algorithm_reads =
-    let read = followed oid_at (λ id. given (bytes_eq id sha256_with_rsa) null_or_none) in
-    same_reads (mapped algorithm_with (inside SEQUENCE read)) (λ a. Inside SEQUENCE Content a.has_null) IsSignatureAlgorithm
-    (mapped_reads (inside SEQUENCE read) (Inside SEQUENCE Content) algorithm_with (λ a. a.has_null) (λ p. refl) (λ s. refl)
+    let read = and_then oid_at (λ id. only_if (bytes_eq id sha256_with_rsa) null_or_none) in
+    same_reads (map_value algorithm_with (inside SEQUENCE read)) (λ a. Inside SEQUENCE Content a.has_null) IsSignatureAlgorithm
+    (map_value_reads (inside SEQUENCE read) (Inside SEQUENCE Content) algorithm_with (λ a. a.has_null) (λ p. refl) (λ s. refl)
     (inside_before (BeginsOther NULL) SEQUENCE read Content tt
-    (followed_before (BeginsOther NULL) oid_at (λ id. given (bytes_eq id sha256_with_rsa) null_or_none) IsObjectIdentifier Parameters oid_reads
+    (and_then_before (BeginsOther NULL) oid_at (λ id. only_if (bytes_eq id sha256_with_rsa) null_or_none) IsObjectIdentifier Parameters oid_reads
     (λ id. given_before (BeginsOther NULL) (bytes_eq id sha256_with_rsa) null_or_none NullOrNone null_or_none_before))))
     is_algorithm algorithm_is

@@ -84,8 +84,8 @@ is_name_of_digits digits e octets =
       skippable = primitive digits (enc PRINTABLE_STRING digits) value;
       sequence = made SEQUENCE (concat (enc OBJECT_IDENTIFIER common_name ∷ enc PRINTABLE_STRING digits ∷ [])) (omega arith) three;
     } in
-    let part : IsPart (a ∷ []) set = record { content = attribute; row = (attribute, [], encoded, refl, sym (append-nil attribute)); some = omega arith; set = made SET attribute (omega arith) two } in
-    let parts : AreParts ((a ∷ []) ∷ []) (name_of_digits digits) = record { content = concat (set ∷ []); row = (set, [], part, refl, refl); sequence = made SEQUENCE (concat (set ∷ [])) (omega arith) short } in
+    let part : IsPart (a ∷ []) set = record { content = attribute; elements = (attribute, [], encoded, refl, sym (append-nil attribute)); some = omega arith; set = made SET attribute (omega arith) two } in
+    let parts : AreParts ((a ∷ []) ∷ []) (name_of_digits digits) = record { content = concat (set ∷ []); elements = (set, [], part, refl, refl); sequence = made SEQUENCE (concat (set ∷ [])) (omega arith) short } in
     is_name_again ((a ∷ []) ∷ []) (name_of_digits digits) parts
 
 -- the name of a key, by its identifier

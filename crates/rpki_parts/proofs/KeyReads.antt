@@ -6,15 +6,15 @@ use Rattle.std.proofs.lemmas.List.{append-nil}
 use Rattle.rpki_der.specs.Values.{IsEnc}
 use Rattle.rpki_der.specs.Primitives.{IsBits, IsObjectIdentifier, null}
 use Rattle.rpki_der.specs.Primitives.Reading.{bits_at, oid_at}
-use Rattle.rpki_der.specs.Reading.{content, inside, mapped, Reads, Inside, ReadsBefore, Anything}
+use Rattle.rpki_der.specs.Reading.{content, inside, map_value, Reads, Inside, ReadsBefore, Anything}
 use Rattle.rpki_der.specs.Encoding.{BeginsOther}
-use Rattle.rpki_der.specs.Choices.{followed, Followed}
-use Rattle.rpki_der.proofs.Readings.{before, before_anything, followed_before, inside_before, same_before}
+use Rattle.rpki_der.specs.Choices.{and_then, AndThen}
+use Rattle.rpki_der.proofs.Readings.{before, before_anything, and_then_before, inside_before, same_before}
 use Rattle.rpki_der.proofs.Octets.{if_some}
 use Rattle.rpki_der.proofs.IdentifierReads.{oid_reads}
 use Rattle.rpki_der.proofs.PrimitiveReads.{bits_reads}
 use Rattle.rpki_der.proofs.Readings.{content_reads, same_reads}
-use Rattle.rpki_der.specs.Choices.{given, always}
+use Rattle.rpki_der.specs.Choices.{only_if, always}
 use Rattle.rpki_der.specs.Tags.{BIT_STRING, NULL, OCTET_STRING, SEQUENCE}
 use Rattle.rpki_parts.specs.Algorithms.Reading.{null_or_none}
 use Rattle.rpki_parts.specs.Keys.{IsKeyIdentifier, KeyFields, IsKeyAlgorithm, IsPublicKey, rsa_encryption, id_ec_public_key, prime256v1}
@@ -45,11 +45,11 @@ key_identifier_reads =
 -- ---- public keys
 
 abbrev Curve : PublicKeyFormat → List ℕ → Type 0
-Curve = Followed IsObjectIdentifier (λ id format text. (bytes_eq id prime256v1 ≡ true) × ((EcdsaP256 ≡ format) × (text ≡ [])))
+Curve = AndThen IsObjectIdentifier (λ id format text. (bytes_eq id prime256v1 ≡ true) × ((EcdsaP256 ≡ format) × (text ≡ [])))
 
 curve_before : ReadsBefore (BeginsOther NULL) curve_at Curve
 curve_before =
-    followed_before (BeginsOther NULL) oid_at (λ id. given (bytes_eq id prime256v1) (always EcdsaP256)) IsObjectIdentifier (λ id format text. (bytes_eq id prime256v1 ≡ true) × ((EcdsaP256 ≡ format) × (text ≡ []))) oid_reads
+    and_then_before (BeginsOther NULL) oid_at (λ id. only_if (bytes_eq id prime256v1) (always EcdsaP256)) IsObjectIdentifier (λ id format text. (bytes_eq id prime256v1 ≡ true) × ((EcdsaP256 ≡ format) × (text ≡ []))) oid_reads
     (λ id. given_before (BeginsOther NULL) (bytes_eq id prime256v1) (always EcdsaP256) (λ format text. (EcdsaP256 ≡ format) × (text ≡ [])) (always_before (BeginsOther NULL) EcdsaP256))
 
 abbrev RsaParameters : PublicKeyFormat → List ℕ → Type 0
@@ -63,12 +63,12 @@ Parameters id format text = ((bytes_eq id rsa_encryption ≡ true) × RsaParamet
 
 parameters_before : (id : List ℕ) → ReadsBefore (BeginsOther NULL) (parameters_at id) (Parameters id)
 parameters_before id =
-    choose_before (BeginsOther NULL) (bytes_eq id rsa_encryption) (mapped (λ _. Rsa) null_or_none) (given (bytes_eq id id_ec_public_key) curve_at) RsaParameters (EcParameters id)
+    choose_before (BeginsOther NULL) (bytes_eq id rsa_encryption) (map_value (λ _. Rsa) null_or_none) (only_if (bytes_eq id id_ec_public_key) curve_at) RsaParameters (EcParameters id)
     (image_before (BeginsOther NULL) null_or_none NullOrNone (λ _. Rsa) null_or_none_before)
     (given_before (BeginsOther NULL) (bytes_eq id id_ec_public_key) curve_at Curve curve_before)
 
 abbrev AlgorithmContent : PublicKeyFormat → List ℕ → Type 0
-AlgorithmContent = Followed IsObjectIdentifier Parameters
+AlgorithmContent = AndThen IsObjectIdentifier Parameters
 
 -- another content of the same value
 in_sequence : (c d text : List ℕ) → c ≡ d → IsEnc SEQUENCE c text → IsEnc SEQUENCE d text
@@ -99,8 +99,8 @@ key_algorithm_is EcdsaP256 text (a, d, o, k, s) =
 pub format_reads : Reads format_at IsKeyAlgorithm
 unfolding format_at
 format_reads =
-    same_reads (inside SEQUENCE (followed oid_at parameters_at)) (Inside SEQUENCE AlgorithmContent) IsKeyAlgorithm
-    (inside_before (BeginsOther NULL) SEQUENCE (followed oid_at parameters_at) AlgorithmContent tt (followed_before (BeginsOther NULL) oid_at parameters_at IsObjectIdentifier Parameters oid_reads parameters_before))
+    same_reads (inside SEQUENCE (and_then oid_at parameters_at)) (Inside SEQUENCE AlgorithmContent) IsKeyAlgorithm
+    (inside_before (BeginsOther NULL) SEQUENCE (and_then oid_at parameters_at) AlgorithmContent tt (and_then_before (BeginsOther NULL) oid_at parameters_at IsObjectIdentifier Parameters oid_reads parameters_before))
     is_key_algorithm key_algorithm_is
 
 -- ---- bits of which none are unused
@@ -112,14 +112,14 @@ IsWholeBits bits text = IsEnc BIT_STRING (0 ∷ bits) text
 abbrev NoneUnused : ℕ × List ℕ → List ℕ → List ℕ → Type 0
 NoneUnused v bits text = (eqb v.0 0 ≡ true) × ((v.1 ≡ bits) × (text ≡ []))
 
-is_whole_bits : (bits text : List ℕ) → Followed IsBits NoneUnused bits text → IsWholeBits bits text
+is_whole_bits : (bits text : List ℕ) → AndThen IsBits NoneUnused bits text → IsWholeBits bits text
 is_whole_bits bits text (v, a, b, s, (e, (is, n)), p) =
     let none : v.0 ≡ 0 = eqb-true v.0 0 e in
     let same : v.0 ∷ v.1 ≡ 0 ∷ bits = cc in
     let all : a ≡ text = sym (p ∙ ap (λ (x : List ℕ). a ++ x) n ∙ append-nil a) in
     subst (λ (x : List ℕ). IsEnc BIT_STRING (0 ∷ bits) x) all (subst (λ (x : List ℕ). IsEnc BIT_STRING x a) same s.enc)
 
-whole_bits_is : (bits text : List ℕ) → IsWholeBits bits text → Followed IsBits NoneUnused bits text
+whole_bits_is : (bits text : List ℕ) → IsWholeBits bits text → AndThen IsBits NoneUnused bits text
 whole_bits_is bits text s =
     ((0, bits), text, [], record { enc = s; few = omega arith; none = λ e. refl; zero_bits = omega arith }, (refl, (refl, refl)), sym (append-nil text))
 
@@ -127,9 +127,9 @@ whole_bits_is bits text s =
 pub whole_bits_reads : Reads whole_bits_at IsWholeBits
 unfolding whole_bits_at
 whole_bits_reads =
-    before_anything (followed bits_at (λ v. given (eqb v.0 0) (always v.1))) IsWholeBits
-    (same_before Anything (followed bits_at (λ v. given (eqb v.0 0) (always v.1))) (Followed IsBits NoneUnused) IsWholeBits
-    (followed_before Anything bits_at (λ v. given (eqb v.0 0) (always v.1)) IsBits NoneUnused bits_reads (λ v. given_before Anything (eqb v.0 0) (always v.1) (λ bits text. (v.1 ≡ bits) × (text ≡ [])) (always_before Anything v.1)))
+    before_anything (and_then bits_at (λ v. only_if (eqb v.0 0) (always v.1))) IsWholeBits
+    (same_before Anything (and_then bits_at (λ v. only_if (eqb v.0 0) (always v.1))) (AndThen IsBits NoneUnused) IsWholeBits
+    (and_then_before Anything bits_at (λ v. only_if (eqb v.0 0) (always v.1)) IsBits NoneUnused bits_reads (λ v. given_before Anything (eqb v.0 0) (always v.1) (λ bits text. (v.1 ≡ bits) × (text ≡ [])) (always_before Anything v.1)))
     is_whole_bits whole_bits_is)
 
 abbrev key_of : PublicKeyFormat → List ℕ → KeyFields
@@ -139,7 +139,7 @@ abbrev KeyBits : PublicKeyFormat → KeyFields → List ℕ → Type 0
 KeyBits format = Image (key_of format) IsWholeBits
 
 abbrev KeyContent : KeyFields → List ℕ → Type 0
-KeyContent = Followed IsKeyAlgorithm KeyBits
+KeyContent = AndThen IsKeyAlgorithm KeyBits
 
 is_public_key : (k : KeyFields) (text : List ℕ) → Inside SEQUENCE KeyContent k text → IsPublicKey k text
 is_public_key k text (c, (format, a, b, f, (bits, is, s), p), enc) =
@@ -162,8 +162,8 @@ public_key_is k text s = (
 pub public_key_reads : Reads public_key_at IsPublicKey
 unfolding public_key_at
 public_key_reads =
-    same_reads (inside SEQUENCE (followed format_at (λ format. mapped (key_of format) whole_bits_at))) (Inside SEQUENCE KeyContent) IsPublicKey
-    (inside_before Anything SEQUENCE (followed format_at (λ format. mapped (key_of format) whole_bits_at)) KeyContent tt
-    (followed_before Anything format_at (λ format. mapped (key_of format) whole_bits_at) IsKeyAlgorithm KeyBits format_reads
+    same_reads (inside SEQUENCE (and_then format_at (λ format. map_value (key_of format) whole_bits_at))) (Inside SEQUENCE KeyContent) IsPublicKey
+    (inside_before Anything SEQUENCE (and_then format_at (λ format. map_value (key_of format) whole_bits_at)) KeyContent tt
+    (and_then_before Anything format_at (λ format. map_value (key_of format) whole_bits_at) IsKeyAlgorithm KeyBits format_reads
     (λ format. image_before Anything whole_bits_at IsWholeBits (key_of format) (before Anything whole_bits_at IsWholeBits whole_bits_reads))))
     is_public_key public_key_is

@@ -11,14 +11,14 @@ use Rattle.rpki_der.specs.Tags.{SEQUENCE, SET}
 use Rattle.rpki_der.specs.Values.Reading.{◌>>=◌, value_at}
 use Rattle.std.proofs.lemmas.Slice.Eq.{bytes_eq-Decides}
 use Rattle.rpki_der.proofs.Octets.{bind_some, some, some_is, both_are, nothing, chosen, unless_some}
-use Rattle.rpki_der.proofs.Sequences.{row_again}
+use Rattle.rpki_der.proofs.Sequences.{sequence_again}
 use Rattle.rpki_der.proofs.ValueReads.{value_again, value_shorter}
 use Rattle.rpki_der.proofs.SequenceWalks.{goes_on, rejected, over_end}
 use Rattle.rpki_parts.specs.Names.{common_name, serial_number, Attribute, IsName}
 use Rattle.rpki_parts.specs.Names.Reading.{attribute_at}
 use Rattle.rpki_parts.specs.NameForms.{of_type, IsTextTag, AreNameAttributes, IsRpkiName}
 use Rattle.rpki_parts.specs.NameForms.Reading.{is_text_tag, unseen, seen_with, seen_in}
-use Rattle.rpki_parts.specs.declared.name_forms.Seen.{Seen}
+use Rattle.rpki_parts.specs.declared.name_forms.ReadAttributes.{ReadAttributes}
 use Rattle.rpki_parts.proofs.NameReads.{IsAttribute, IsPart, AreParts, attribute_reads, attribute_shrinks}
 
 -- reading a SET uses octets up
@@ -41,25 +41,25 @@ abbrev pub all_of : List (List Attribute) → List Attribute
 all_of parts = flat_map (λ part. part) parts
 
 module _ (strict : Bool) where
-  next : (s : Seen) (text c rest : List ℕ) (part : List Attribute) (parts : List (List Attribute))
+  next : (s : ReadAttributes) (text c rest : List ℕ) (part : List Attribute) (parts : List (List Attribute))
       → value_at SET text ≡ some {A = List ℕ × List ℕ} (c, rest) → seen_in strict s c ≡ steps (seen_with strict) s part
-      → ((t : Seen) → over (value_at SET) (seen_in strict) t rest ≡ steps (seen_with strict) t (all_of parts))
-      → (r : Option Seen) → steps (seen_with strict) s part ≡ r
+      → ((t : ReadAttributes) → over (value_at SET) (seen_in strict) t rest ≡ steps (seen_with strict) t (all_of parts))
+      → (r : Option ReadAttributes) → steps (seen_with strict) s part ≡ r
       → over (value_at SET) (seen_in strict) s text ≡ (r >>= λ t. steps (seen_with strict) t (all_of parts))
   next s text c rest part parts was is more None e = rejected (value_at SET) (seen_in strict) set_shrinks s text c rest was (is ∙ e)
   next s text c rest part parts was is more (Some t) e = goes_on (value_at SET) (seen_in strict) set_shrinks s text c rest was t (is ∙ e) ∙ more t
 
   -- the walk over a part takes a step for each of its attributes
-  pub in_part : (s : Seen) (part : List Attribute) (c : List ℕ) → AreEncodings IsAttribute part c → seen_in strict s c ≡ steps (seen_with strict) s part
+  pub in_part : (s : ReadAttributes) (part : List Attribute) (c : List ℕ) → AreEncodings IsAttribute part c → seen_in strict s c ≡ steps (seen_with strict) s part
   unfolding over
-  in_part s part c r = rw (row_again attribute_at IsAttribute attribute_reads attribute_shrinks part c r) refl
+  in_part s part c r = rw (sequence_again attribute_at IsAttribute attribute_reads attribute_shrinks part c r) refl
 
   -- the walk over the parts takes a step for each attribute
-  pub seen_in_parts : (parts : List (List Attribute)) (text : List ℕ) (s : Seen) → AreEncodings IsPart parts text → over (value_at SET) (seen_in strict) s text ≡ steps (seen_with strict) s (all_of parts)
+  pub seen_in_parts : (parts : List (List Attribute)) (text : List ℕ) (s : ReadAttributes) → AreEncodings IsPart parts text → over (value_at SET) (seen_in strict) s text ≡ steps (seen_with strict) s (all_of parts)
   seen_in_parts [] text s r = rw r (over_end (value_at SET) (seen_in strict) s)
   seen_in_parts (part ∷ parts) text s (a, b, p, more, e) =
       let was : value_at SET text ≡ some {A = List ℕ × List ℕ} (p.content, b) = ap (value_at SET) e ∙ value_again SET p.content a b p.set in
-      next s text p.content b part parts was (in_part s part p.content p.row) (λ t. seen_in_parts parts b t more) (steps (seen_with strict) s part) refl ∙ sym (steps_append (seen_with strict) s part (all_of parts))
+      next s text p.content b part parts was (in_part s part p.content p.elements) (λ t. seen_in_parts parts b t more) (steps (seen_with strict) s part) refl ∙ sym (steps_append (seen_with strict) s part (all_of parts))
 
 -- ---- one attribute more
 
@@ -77,11 +77,11 @@ is_text false tag (inl e) = rw e refl
 is_text false tag (inr e) = rw e refl
 
 -- what an attribute adds to what was seen
-abbrev Adds : Seen → Attribute → Seen → Type 0
+abbrev Adds : ReadAttributes → Attribute → ReadAttributes → Type 0
 Adds s x u = ((x.type_id ≡ common_name) × (s.name ≡ false) × (record s { name = true } ≡ u)) ⊎ ((x.type_id ≡ serial_number) × (s.number ≡ false) × (record s { number = true } ≡ u))
 
-module _ (strict : Bool) (s : Seen) (x : Attribute) where
-  added : (u : Seen) → seen_with strict s x ≡ Some u → IsTextTag strict x.value_tag × Adds s x u
+module _ (strict : Bool) (s : ReadAttributes) (x : Attribute) where
+  added : (u : ReadAttributes) → seen_with strict s x ≡ Some u → IsTextTag strict x.value_tag × Adds s x u
   added u e =
       let a = chosen (is_text_tag strict x.value_tag) (if bytes_eq x.type_id common_name then unseen s.name (record s { name = true }) else (if bytes_eq x.type_id serial_number then unseen s.number (record s { number = true }) else None)) u e in (
         text_is strict x.value_tag a.0,
@@ -94,21 +94,21 @@ module _ (strict : Bool) (s : Seen) (x : Attribute) where
         ],
       )
 
-  adds : (u : Seen) → IsTextTag strict x.value_tag → Adds s x u → seen_with strict s x ≡ Some u
+  adds : (u : ReadAttributes) → IsTextTag strict x.value_tag → Adds s x u → seen_with strict s x ≡ Some u
   adds u t (inl (c, n, e)) = rw (is_text strict x.value_tag t, c, n) (ap some e)
   adds u t (inr (c, n, e)) = rw (is_text strict x.value_tag t, c, n) (ap some e)
 
 -- ---- all attributes
 
 -- what the attributes add to what was seen
-record Sees (strict : Bool) (xs : List Attribute) (s t : Seen) : Type 0 where
+record Sees (strict : Bool) (xs : List Attribute) (s t : ReadAttributes) : Type 0 where
   names : length (of_type common_name xs) + once s.name ≡ once t.name
   numbers : length (of_type serial_number xs) + once s.number ≡ once t.number
   no_other : AllByRecursion (λ a. (a.type_id ≡ common_name) ⊎ (a.type_id ≡ serial_number)) xs
   texts : AllByRecursion (λ a. IsTextTag strict a.value_tag) xs
 
 module _ (strict : Bool) where
-  more : (x : Attribute) (xs : List Attribute) (s u t : Seen) → IsTextTag strict x.value_tag → Adds s x u → Sees strict xs u t → Sees strict (x ∷ xs) s t
+  more : (x : Attribute) (xs : List Attribute) (s u t : ReadAttributes) → IsTextTag strict x.value_tag → Adds s x u → Sees strict xs u t → Sees strict (x ∷ xs) s t
   more x xs s u t text (inl (c, n, e)) h = record {
     names = rw (c, n) (let g : length (of_type common_name xs) + 1 ≡ once t.name = rw (← e) at h.names in omega arith);
     numbers = rw c (rw (← e) at h.numbers);
@@ -122,11 +122,11 @@ module _ (strict : Bool) where
     texts = (text, h.texts);
   }
 
-  sees : (xs : List Attribute) (s t : Seen) → steps (seen_with strict) s xs ≡ Some t → Sees strict xs s t
+  sees : (xs : List Attribute) (s t : ReadAttributes) → steps (seen_with strict) s xs ≡ Some t → Sees strict xs s t
   sees [] s t e =
       let same = some_is s t e in
-      let name : once s.name ≡ once t.name = ap (λ (v : Seen). once v.name) same in
-      let number : once s.number ≡ once t.number = ap (λ (v : Seen). once v.number) same in
+      let name : once s.name ≡ once t.name = ap (λ (v : ReadAttributes). once v.name) same in
+      let number : once s.number ≡ once t.number = ap (λ (v : ReadAttributes). once v.number) same in
       record { names = omega arith; numbers = omega arith; no_other = tt; texts = tt }
   sees (x ∷ xs) s t e =
       let a = bind_some (seen_with strict s x) (λ u. steps (seen_with strict) u xs) t e in
@@ -137,19 +137,19 @@ module _ (strict : Bool) where
   not_yet true n h = let g : suc n + 1 ≤ 1 = h in absurd (omega arith)
   not_yet false n h = (refl, omega arith)
 
-  seen : (xs : List Attribute) (s : Seen) → length (of_type common_name xs) + once s.name ≤ 1 → length (of_type serial_number xs) + once s.number ≤ 1
+  seen : (xs : List Attribute) (s : ReadAttributes) → length (of_type common_name xs) + once s.name ≤ 1 → length (of_type serial_number xs) + once s.number ≤ 1
       → AllByRecursion (λ a. (a.type_id ≡ common_name) ⊎ (a.type_id ≡ serial_number)) xs → AllByRecursion (λ a. IsTextTag strict a.value_tag) xs
-      → (t : Seen) × (steps (seen_with strict) s xs ≡ Some t)
+      → (t : ReadAttributes) × (steps (seen_with strict) s xs ≡ Some t)
   seen [] s names numbers types texts = (s, refl)
   seen (x ∷ xs) s names numbers (inl c, types) (text, texts) =
       let h = not_yet s.name (length (of_type common_name xs)) (rw c at names) in
-      let u : Seen = record s { name = true } in
+      let u : ReadAttributes = record s { name = true } in
       let few : length (of_type common_name xs) + 1 ≤ 1 = omega (arith, h.1) in
       let m = seen xs u few (rw c at numbers) types texts in
       (m.0, rw (adds strict s x u text (inl (c, h.0, refl))) m.1)
   seen (x ∷ xs) s names numbers (inr c, types) (text, texts) =
       let h = not_yet s.number (length (of_type serial_number xs)) (rw c at numbers) in
-      let u : Seen = record s { number = true } in
+      let u : ReadAttributes = record s { number = true } in
       let few : length (of_type serial_number xs) + 1 ≤ 1 = omega (arith, h.1) in
       let m = seen xs u (rw c at names) few types texts in
       (m.0, rw (adds strict s x u text (inr (c, h.0, refl))) m.1)
@@ -157,7 +157,7 @@ module _ (strict : Bool) where
 -- ---- a whole name
 
 -- no attribute was seen yet
-abbrev pub nothing_seen : Seen
+abbrev pub nothing_seen : ReadAttributes
 nothing_seen = record { name = false; number = false }
 
 once_is : (b : Bool) → once b ≡ 1 → b ≡ true
@@ -169,7 +169,7 @@ at_most_one true = omega arith
 at_most_one false = omega arith
 
 module _ (strict : Bool) where
-  attributes_are : (xs : List Attribute) (t : Seen) → steps (seen_with strict) nothing_seen xs ≡ Some t → t.name ≡ true → AreNameAttributes strict xs
+  attributes_are : (xs : List Attribute) (t : ReadAttributes) → steps (seen_with strict) nothing_seen xs ≡ Some t → t.name ≡ true → AreNameAttributes strict xs
   attributes_are xs t e named =
       let h = sees strict xs nothing_seen t e in
       let few = at_most_one t.number in
@@ -178,7 +178,7 @@ module _ (strict : Bool) where
       let b : length (of_type serial_number xs) + 0 ≡ once t.number = h.numbers in
       record { one_name = omega arith; few_numbers = omega arith; no_other = h.no_other; texts = h.texts }
 
-  are_attributes : (xs : List Attribute) → AreNameAttributes strict xs → (t : Seen) × (steps (seen_with strict) nothing_seen xs ≡ Some t) × (t.name ≡ true)
+  are_attributes : (xs : List Attribute) → AreNameAttributes strict xs → (t : ReadAttributes) × (steps (seen_with strict) nothing_seen xs ≡ Some t) × (t.name ≡ true)
   are_attributes xs h =
       let one : length (of_type common_name xs) ≡ 1 = h.one_name in
       let few : length (of_type serial_number xs) ≤ 1 = h.few_numbers in
@@ -190,19 +190,19 @@ module _ (strict : Bool) where
       (m.0, m.1, once_is m.0.name (omega arith))
 
   module _ (name c rest : List ℕ) (was : value_at SEQUENCE name ≡ some {A = List ℕ × List ℕ} (c, rest)) where
-    row : (parts : List (List Attribute)) → AreParts parts name → over (value_at SET) (seen_in strict) nothing_seen c ≡ steps (seen_with strict) nothing_seen (all_of parts)
-    row parts s =
+    elements : (parts : List (List Attribute)) → AreParts parts name → over (value_at SET) (seen_in strict) nothing_seen c ≡ steps (seen_with strict) nothing_seen (all_of parts)
+    elements parts s =
         let whole : value_at SEQUENCE name ≡ some {A = List ℕ × List ℕ} (s.content, []) = ap (value_at SEQUENCE) (sym (append-nil name)) ∙ value_again SEQUENCE s.content name [] s.sequence in
         let same : s.content ≡ c = (both_are {A = List ℕ} {B = List ℕ} (s.content, []) (c, rest) (sym whole ∙ was)).0 in
-        seen_in_parts strict parts c nothing_seen (subst (λ (b : List ℕ). AreEncodings IsPart parts b) same s.row)
+        seen_in_parts strict parts c nothing_seen (subst (λ (b : List ℕ). AreEncodings IsPart parts b) same s.elements)
 
     -- a name that passes the walk with a CommonName has the form of the RPKI
-    pub form_is : (t : Seen) → IsName name name → over (value_at SET) (seen_in strict) nothing_seen c ≡ Some t → t.name ≡ true → IsRpkiName strict name
-    form_is t n e named = record { parts = n.parts; parts_are = n.parts_are; attributes_are = attributes_are (all_of n.parts) t (sym (row n.parts n.parts_are) ∙ e) named }
+    pub form_is : (t : ReadAttributes) → IsName name name → over (value_at SET) (seen_in strict) nothing_seen c ≡ Some t → t.name ≡ true → IsRpkiName strict name
+    form_is t n e named = record { parts = n.parts; parts_are = n.parts_are; attributes_are = attributes_are (all_of n.parts) t (sym (elements n.parts n.parts_are) ∙ e) named }
 
     -- a name of the form of the RPKI passes the walk
-    pub is_form : IsRpkiName strict name → (t : Seen) × (over (value_at SET) (seen_in strict) nothing_seen c ≡ Some t) × (t.name ≡ true)
-    is_form h = let m = are_attributes (all_of h.parts) h.attributes_are in (m.0, row h.parts h.parts_are ∙ m.1, m.2)
+    pub is_form : IsRpkiName strict name → (t : ReadAttributes) × (over (value_at SET) (seen_in strict) nothing_seen c ≡ Some t) × (t.name ≡ true)
+    is_form h = let m = are_attributes (all_of h.parts) h.attributes_are in (m.0, elements h.parts h.parts_are ∙ m.1, m.2)
 
   -- a Name is a SEQUENCE
   pub is_sequence : (name : List ℕ) → IsName name name → value_at SEQUENCE name ≡ None → ⊥

@@ -5,11 +5,11 @@ use Rattle.std.proofs.lemmas.List.{append-nil, length-append}
 use Rattle.rpki_der.specs.Values.{AreOctets, enc, length_octets, IsEnc, IsValue}
 use Rattle.rpki_der.specs.Primitives.{IsObjectIdentifier}
 use Rattle.rpki_der.specs.Sequences.{AreEncodings}
-use Rattle.rpki_der.specs.Sequences.Reading.{row_of, Shrinks}
+use Rattle.rpki_der.specs.Sequences.Reading.{sequence_of, Shrinks}
 use Rattle.rpki_der.specs.Skipping.{levels, IsSkippableWithin, IsSkippable}
 use Rattle.rpki_der.specs.Skipping.Reading.{skip_at, captured_at}
 use Rattle.rpki_der.specs.Encoding.{Begins}
-use Rattle.rpki_der.specs.Reading.{inside, both, mapped, content, ended, Reads, Both, Inside}
+use Rattle.rpki_der.specs.Reading.{inside, both, map_value, content, at_end, Reads, Both, Inside}
 use Rattle.rpki_der.specs.Primitives.Reading.{oid_at}
 use Rattle.rpki_der.specs.Values.Reading.{◌>>=◌, value_at}
 use Rattle.rpki_der.specs.Tags.{SEQUENCE, SET}
@@ -18,8 +18,8 @@ use Rattle.rpki_der.proofs.IdentifierReads.{oid_reads}
 use Rattle.rpki_der.proofs.ValueReads.{value_reads}
 use Rattle.rpki_der.proofs.Choices.{content_shrinks}
 use Rattle.rpki_der.proofs.SkippingReads.{skip_reads, captured_reads, begins_tag}
-use Rattle.rpki_der.proofs.Sequences.{row_is, row_again, inside_shrinks}
-use Rattle.rpki_der.proofs.Readings.{both_reads, inside_reads, mapped_reads, content_reads, same_reads, ended_some}
+use Rattle.rpki_der.proofs.Sequences.{elements_are, sequence_again, inside_shrinks}
+use Rattle.rpki_der.proofs.Readings.{both_reads, inside_reads, map_value_reads, content_reads, same_reads, ended_some}
 use Rattle.rpki_parts.specs.Names.{Attribute, IsAttributeTypeAndValueWithin, IsRelativeDistinguishedNameWithin, IsRdnSequenceWithin, IsName}
 use Rattle.rpki_parts.specs.Names.Reading.{tagged_at, attribute, attribute_at, attributes_of, part_at, parts_at, name_of, is_name, name_at}
 
@@ -97,15 +97,15 @@ attribute_is a text s = (
 pub attribute_reads : Reads attribute_at IsAttribute
 unfolding attribute_at
 attribute_reads =
-    same_reads (inside SEQUENCE (mapped attribute (both oid_at tagged_at))) (Inside SEQUENCE AttributeContent) IsAttribute
-    (inside_reads SEQUENCE (mapped attribute (both oid_at tagged_at)) AttributeContent
-    (mapped_reads (both oid_at tagged_at) (Both IsObjectIdentifier IsTagged) attribute parts_of (λ p. refl) (λ a. refl) (both_reads oid_at tagged_at IsObjectIdentifier IsTagged oid_reads tagged_reads)))
+    same_reads (inside SEQUENCE (map_value attribute (both oid_at tagged_at))) (Inside SEQUENCE AttributeContent) IsAttribute
+    (inside_reads SEQUENCE (map_value attribute (both oid_at tagged_at)) AttributeContent
+    (map_value_reads (both oid_at tagged_at) (Both IsObjectIdentifier IsTagged) attribute parts_of (λ p. refl) (λ a. refl) (both_reads oid_at tagged_at IsObjectIdentifier IsTagged oid_reads tagged_reads)))
     is_attribute attribute_is
 
 -- reading an AttributeTypeAndValue uses octets up
 pub attribute_shrinks : Shrinks attribute_at
 unfolding attribute_at
-attribute_shrinks = inside_shrinks SEQUENCE (mapped attribute (both oid_at tagged_at))
+attribute_shrinks = inside_shrinks SEQUENCE (map_value attribute (both oid_at tagged_at))
 
 -- ---- parts
 
@@ -122,7 +122,7 @@ some_part b bytes (x ∷ xs) r = omega arith
 
 part_takes : (c : List ℕ) (xs : List Attribute) → AreOctets c → attributes_of c ≡ Some xs → PartContent xs c
 part_takes [] xs fits e = nothing xs e
-part_takes (b ∷ bytes) xs fits e = let r = row_is attribute_at IsAttribute attribute_reads (b ∷ bytes) xs fits e in (r, some_part b bytes xs r)
+part_takes (b ∷ bytes) xs fits e = let r = elements_are attribute_at IsAttribute attribute_reads (b ∷ bytes) xs fits e in (r, some_part b bytes xs r)
 
 some_octets : (xs : List Attribute) → AreEncodings IsAttribute xs [] → 1 ≤ length xs → ⊥
 unfolding enc
@@ -134,7 +134,7 @@ some_octets (x ∷ xs) r h =
 
 part_again : (xs : List Attribute) (c : List ℕ) → PartContent xs c → attributes_of c ≡ Some xs
 part_again xs [] s = absurd (some_octets xs s.0 s.1)
-part_again xs (b ∷ bytes) s = row_again attribute_at IsAttribute attribute_reads attribute_shrinks xs (b ∷ bytes) s.0
+part_again xs (b ∷ bytes) s = sequence_again attribute_at IsAttribute attribute_reads attribute_shrinks xs (b ∷ bytes) s.0
 
 -- a RelativeDistinguishedName is read as it is encoded
 pub part_reads : Reads part_at IsPart
@@ -142,8 +142,8 @@ unfolding part_at
 part_reads =
     same_reads (content SET attributes_of) (Inside SET PartContent) IsPart
     (content_reads SET attributes_of PartContent (record { takes = part_takes; again = part_again }))
-    (λ xs text s. record { content = s.0; row = s.1.0; some = s.1.1; set = s.2 })
-    (λ xs text s. (s.content, (s.row, s.some), s.set))
+    (λ xs text s. record { content = s.0; elements = s.1.0; some = s.1.1; set = s.2 })
+    (λ xs text s. (s.content, (s.elements, s.some), s.set))
 
 -- reading a RelativeDistinguishedName uses octets up
 pub part_shrinks : Shrinks part_at
@@ -160,19 +160,19 @@ AreParts = IsRdnSequenceWithin levels
 pub parts_reads : Reads parts_at AreParts
 unfolding parts_at
 parts_reads =
-    same_reads (content SEQUENCE (row_of part_at)) (Inside SEQUENCE (AreEncodings IsPart)) AreParts
-    (content_reads SEQUENCE (row_of part_at) (AreEncodings IsPart) (record {
-      takes = λ c parts fits e. row_is part_at IsPart part_reads c parts fits e;
-      again = λ parts c s. row_again part_at IsPart part_reads part_shrinks parts c s;
+    same_reads (content SEQUENCE (sequence_of part_at)) (Inside SEQUENCE (AreEncodings IsPart)) AreParts
+    (content_reads SEQUENCE (sequence_of part_at) (AreEncodings IsPart) (record {
+      takes = λ c parts fits e. elements_are part_at IsPart part_reads c parts fits e;
+      again = λ parts c s. sequence_again part_at IsPart part_reads part_shrinks parts c s;
     }))
-    (λ parts text s. record { content = s.0; row = s.1; sequence = s.2 })
-    (λ parts text s. (s.content, s.row, s.sequence))
+    (λ parts text s. record { content = s.0; elements = s.1; sequence = s.2 })
+    (λ parts text s. (s.content, s.elements, s.sequence))
 
 -- octets that are read as a whole Name are one with these parts
 pub name_takes : (octets : List ℕ) (parts : List (List Attribute)) → AreOctets octets → name_of octets ≡ Some parts → AreParts parts octets
 unfolding name_of
 name_takes octets parts fits e =
-    let a = bind_some (parts_at octets) (λ p. ended p.1 p.0) parts e in
+    let a = bind_some (parts_at octets) (λ p. at_end p.1 p.0) parts e in
     let g = ended_some a.0.1 a.0.0 parts a.2 in
     let one = parts_reads.takes octets a.0.0 a.0.1 fits a.1 in
     let all : one.text ≡ octets = sym (append-nil one.text) ∙ sym (ap (λ (r : List ℕ). one.text ++ r) g.0) ∙ sym one.parts in
@@ -248,20 +248,20 @@ unfolding name_of parts_at
 no_sequence octets e = rw e refl
 
 -- a SEQUENCE with nothing behind it is a Name where its content is a sequence of parts
-pub name_more : (octets c rest : List ℕ) → value_at SEQUENCE octets ≡ some {A = List ℕ × List ℕ} (c, rest) → rest ≡ [] → is_name octets ≡ is_some (row_of part_at c)
+pub name_more : (octets c rest : List ℕ) → value_at SEQUENCE octets ≡ some {A = List ℕ × List ℕ} (c, rest) → rest ≡ [] → is_name octets ≡ is_some (sequence_of part_at c)
 unfolding name_of parts_at
-name_more octets c rest e end = rw (e, end) (is_whole (row_of part_at c))
+name_more octets c rest e end = rw (e, end) (is_whole (sequence_of part_at c))
   where
-    is_whole : (o : Option (List (List Attribute))) → is_some ((o >>= λ x. some {A = List (List Attribute) × List ℕ} (x, [])) >>= λ p. ended p.1 p.0) ≡ is_some o
+    is_whole : (o : Option (List (List Attribute))) → is_some ((o >>= λ x. some {A = List (List Attribute) × List ℕ} (x, [])) >>= λ p. at_end p.1 p.0) ≡ is_some o
     is_whole (Some x) = refl
     is_whole None = refl
 
 -- a SEQUENCE with something behind it is no Name
 pub name_ends : (octets c rest : List ℕ) → value_at SEQUENCE octets ≡ some {A = List ℕ × List ℕ} (c, rest) → (rest ≡ [] → ⊥) → is_name octets ≡ false
 unfolding name_of parts_at
-name_ends octets c rest e more = rw e (is_none (row_of part_at c) rest more)
+name_ends octets c rest e more = rw e (is_none (sequence_of part_at c) rest more)
   where
-    is_none : (o : Option (List (List Attribute))) (rest : List ℕ) → (rest ≡ [] → ⊥) → is_some ((o >>= λ x. some {A = List (List Attribute) × List ℕ} (x, rest)) >>= λ p. ended p.1 p.0) ≡ false
+    is_none : (o : Option (List (List Attribute))) (rest : List ℕ) → (rest ≡ [] → ⊥) → is_some ((o >>= λ x. some {A = List (List Attribute) × List ℕ} (x, rest)) >>= λ p. at_end p.1 p.0) ≡ false
     is_none o [] more = absurd (more refl)
     is_none (Some x) (b ∷ rest) more = refl
     is_none None (b ∷ rest) more = refl

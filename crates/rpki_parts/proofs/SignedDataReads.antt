@@ -3,19 +3,19 @@ use Rattle.std.proofs.Common.{◌≡◌, ℕ, List, [], ◌++◌, Option, refl, 
 use Rattle.std.proofs.lemmas.List.{append-nil}
 use Rattle.rpki_der.specs.Skipping.{IsCaptured}
 use Rattle.rpki_der.specs.Skipping.Reading.{captured_at}
-use Rattle.rpki_der.specs.Reading.{both, mapped, Reads, Both}
+use Rattle.rpki_der.specs.Reading.{both, map_value, Reads, Both}
 use Rattle.rpki_der.specs.Encoding.{Begins}
 use Rattle.rpki_der.specs.Values.{IsValue}
 use Rattle.rpki_der.specs.Values.Reading.{◌>>=◌}
 use Rattle.rpki_der.proofs.Octets.{bind_some, some, some_is}
 use Rattle.rpki_der.proofs.Values.{one_value}
 use Rattle.rpki_der.proofs.SkippingReads.{captured_reads}
-use Rattle.rpki_der.proofs.Readings.{both_reads, mapped_reads, same_reads}
+use Rattle.rpki_der.proofs.Readings.{both_reads, map_value_reads, same_reads}
 use Rattle.rpki_parts.specs.Algorithms.{Algorithm, IsSignatureAlgorithm}
 use Rattle.rpki_parts.specs.Algorithms.Reading.{algorithm_at}
 use Rattle.rpki_parts.specs.Keys.Reading.{whole_bits_at}
 use Rattle.rpki_parts.specs.SignedDatas.{SignedFields, IsSignedDataContent}
-use Rattle.rpki_parts.specs.SignedDatas.Reading.{signed, signed_content_at, signed_at}
+use Rattle.rpki_parts.specs.SignedDatas.Reading.{signed_fields, signed_content_at, signed_at}
 use Rattle.rpki_parts.proofs.AlgorithmReads.{algorithm_reads}
 use Rattle.rpki_parts.proofs.KeyReads.{IsWholeBits, whole_bits_reads}
 
@@ -48,8 +48,8 @@ signed_is s text h = (
 pub signed_content_reads : Reads signed_content_at IsSignedDataContent
 unfolding signed_content_at
 signed_content_reads =
-    same_reads (mapped signed (both captured_at (both algorithm_at whole_bits_at))) Content IsSignedDataContent
-    (mapped_reads (both captured_at (both algorithm_at whole_bits_at)) (Both IsCaptured (Both IsSignatureAlgorithm IsWholeBits)) signed parts (λ p. refl) (λ s. refl)
+    same_reads (map_value signed_fields (both captured_at (both algorithm_at whole_bits_at))) Content IsSignedDataContent
+    (map_value_reads (both captured_at (both algorithm_at whole_bits_at)) (Both IsCaptured (Both IsSignatureAlgorithm IsWholeBits)) signed_fields parts (λ p. refl) (λ s. refl)
     (both_reads captured_at (both algorithm_at whole_bits_at) IsCaptured (Both IsSignatureAlgorithm IsWholeBits) captured_reads
     (both_reads algorithm_at whole_bits_at IsSignatureAlgorithm IsWholeBits algorithm_reads whole_bits_reads)))
     is_signed signed_is

@@ -4,9 +4,9 @@ use Rattle.std.proofs.lemmas.List.{append-nil}
 use Rattle.rpki_der.specs.Times.{Moment, IsTime}
 use Rattle.rpki_der.specs.Values.{IsEnc}
 use Rattle.rpki_der.specs.Times.Reading.{time_at}
-use Rattle.rpki_der.specs.Reading.{inside, both, mapped, Reads, Both, Inside}
+use Rattle.rpki_der.specs.Reading.{inside, both, map_value, Reads, Both, Inside}
 use Rattle.rpki_der.specs.Tags.{SEQUENCE}
-use Rattle.rpki_der.proofs.Readings.{both_reads, inside_reads, mapped_reads, same_reads}
+use Rattle.rpki_der.proofs.Readings.{both_reads, inside_reads, map_value_reads, same_reads}
 use Rattle.rpki_der.proofs.TimeReads.{time_reads}
 use Rattle.rpki_parts.specs.Validities.{ValidityFields, IsValidity}
 use Rattle.rpki_parts.specs.Validities.Reading.{period, validity_at}
@@ -32,7 +32,7 @@ validity_is v text s = (
 pub validity_reads : Reads validity_at IsValidity
 unfolding validity_at
 validity_reads =
-    same_reads (inside SEQUENCE (mapped period (both time_at time_at))) (Inside SEQUENCE Content) IsValidity
-    (inside_reads SEQUENCE (mapped period (both time_at time_at)) Content
-    (mapped_reads (both time_at time_at) (Both IsTime IsTime) period parts (λ p. refl) (λ v. refl) (both_reads time_at time_at IsTime IsTime time_reads time_reads)))
+    same_reads (inside SEQUENCE (map_value period (both time_at time_at))) (Inside SEQUENCE Content) IsValidity
+    (inside_reads SEQUENCE (map_value period (both time_at time_at)) Content
+    (map_value_reads (both time_at time_at) (Both IsTime IsTime) period parts (λ p. refl) (λ v. refl) (both_reads time_at time_at IsTime IsTime time_reads time_reads)))
     is_validity validity_is

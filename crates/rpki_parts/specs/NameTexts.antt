@@ -4,7 +4,7 @@ use Rattle.std.specs.Prelude.{ℕ, Bool, true, false, ◌||◌, ◌&&◌, ◌==�
 use Rattle.std.specs.Fmt.{decimal}
 use Rattle.rpki_der.specs.Primitives.Reading.{oid_at}
 use Rattle.rpki_der.specs.Reading.{content}
-use Rattle.rpki_der.specs.Sequences.Reading.{row_of}
+use Rattle.rpki_der.specs.Sequences.Reading.{sequence_of}
 use Rattle.rpki_der.specs.Tags.{SEQUENCE, SET, PRINTABLE_STRING, UTF8_STRING}
 use Rattle.rpki_der.specs.Texts.{hexadecimal}
 use Rattle.rpki_der.specs.Values.Reading.{◌>>=◌, value_at}
@@ -19,11 +19,11 @@ attribute_value_at = content SEQUENCE oid_at
 
 -- RelativeDistinguishedName: its attributes
 unfoldable pub part_values_at : List ℕ → Option (List (List ℕ × List ℕ) × List ℕ)
-part_values_at = content SET (row_of attribute_value_at)
+part_values_at = content SET (sequence_of attribute_value_at)
 
 -- RDNSequence: its parts
 unfoldable pub name_values_at : List ℕ → Option (List (List (List ℕ × List ℕ)) × List ℕ)
-name_values_at = content SEQUENCE (row_of part_values_at)
+name_values_at = content SEQUENCE (sequence_of part_values_at)
 
 -- ---- strings (RFC 4514 2.4)
 

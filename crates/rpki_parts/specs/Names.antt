@@ -38,14 +38,14 @@ pub record IsAttributeTypeAndValueWithin (depth : ℕ) (a : Attribute) (b : List
 -- the order of the attributes isn't tested (own)
 pub record IsRelativeDistinguishedNameWithin (depth : ℕ) (attributes : List Attribute) (b : List ℕ) : Type 0 where
   pub content : List ℕ
-  pub row : AreEncodings (IsAttributeTypeAndValueWithin depth) attributes content
+  pub elements : AreEncodings (IsAttributeTypeAndValueWithin depth) attributes content
   pub some : 1 ≤ length attributes
   pub set : IsEnc SET content b
 
 -- RDNSequence ::= SEQUENCE OF RelativeDistinguishedName   (RFC 5280 4.1.2.4)
 pub record IsRdnSequenceWithin (depth : ℕ) (parts : List (List Attribute)) (b : List ℕ) : Type 0 where
   pub content : List ℕ
-  pub row : AreEncodings (IsRelativeDistinguishedNameWithin depth) parts content
+  pub elements : AreEncodings (IsRelativeDistinguishedNameWithin depth) parts content
   pub sequence : IsEnc SEQUENCE content b
 
 -- Name ::= CHOICE { rdnSequence RDNSequence }   (RFC 5280 4.1.2.4)

@@ -3,8 +3,8 @@ ghost use Rattle.rpki_parts.specs.KeyNames.{digit, hexadecimal, name_of_digits};
 ghost use Rattle.std.specs.Prelude.{◌≡◌, ◌≢◌, ◌<◌, ◌++◌, IfOk, IfErr, OnOk, is_ok, is_some};
 ghost use Rattle.rpki_der.specs.Place.{Place, remaining, Keeps, AnswersOrMemory, MeansOrMemory};
 ghost use Rattle.rpki_der.specs.Place.Reading.{Took, TookBy, TookOrMemory};
-ghost use Rattle.rpki_der.specs.Reading.{mapped};
-ghost use Rattle.rpki_der.specs.Sequences.Reading.{row_of};
+ghost use Rattle.rpki_der.specs.Reading.{map_value};
+ghost use Rattle.rpki_der.specs.Sequences.Reading.{sequence_of};
 ghost use Rattle.rpki_der.specs.Values.{AreOctets};
 ghost use Rattle.rpki_der.specs.Writers.{Writes};
 ghost use Rattle.rpki_der.specs.declared.error.DecodeError.TheVariants as decoding;
@@ -73,12 +73,12 @@ pub(crate) fn take_attribute<'a>(cursor: &mut Cursor<'a>) -> Result<(&'a [u8], u
 }
 
 // Whether these are attributes.
-fn check_attributes(mut row: Cursor<'_>) -> Result<(), DecodeError>
-    ensures row { is_ok result ≡ is_some (row_of attribute_at (remaining row.entry)) }
+fn check_attributes(mut elements: Cursor<'_>) -> Result<(), DecodeError>
+    ensures elements { is_ok result ≡ is_some (sequence_of attribute_at (remaining elements.entry)) }
     ensures rejected { IfErr result (λ e. e ≢ decoding.Memory) }
 {
-    while !row.is_empty() {
-        take_attribute(&mut row)?;
+    while !elements.is_empty() {
+        take_attribute(&mut elements)?;
     }
     Ok(())
 }
@@ -86,7 +86,7 @@ fn check_attributes(mut row: Cursor<'_>) -> Result<(), DecodeError>
 // Past the SET of at least one attribute that stands next.
 #[tactic(auto, unfolding(crate::specs::Names::Reading::part_at))]
 fn skip_part(cursor: &mut Cursor<'_>) -> Result<(), DecodeError>
-    ensures reads { Took (mapped (λ _. tt) part_at) cursor.old result cursor.new }
+    ensures reads { Took (map_value (λ _. tt) part_at) cursor.old result cursor.new }
     ensures keeps { Keeps result cursor.old cursor.new }
 {
     let mut ahead = cursor.fork();
@@ -100,11 +100,11 @@ fn skip_part(cursor: &mut Cursor<'_>) -> Result<(), DecodeError>
 }
 
 // Whether these are parts of a name.
-fn check_parts(mut row: Cursor<'_>) -> Result<(), DecodeError>
-    ensures { is_ok result ≡ is_some (row_of part_at (remaining row.entry)) }
+fn check_parts(mut elements: Cursor<'_>) -> Result<(), DecodeError>
+    ensures { is_ok result ≡ is_some (sequence_of part_at (remaining elements.entry)) }
 {
-    while !row.is_empty() {
-        skip_part(&mut row)?;
+    while !elements.is_empty() {
+        skip_part(&mut elements)?;
     }
     Ok(())
 }

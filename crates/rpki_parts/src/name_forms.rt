@@ -17,7 +17,7 @@ const SERIAL_NUMBER: &[u8] = &[0x55, 0x04, 0x05];
 
 // Which of the attributes that may stand once were seen.
 #[derive(Clone, Copy)]
-struct Seen {
+struct ReadAttributes {
     name: bool,
     number: bool,
 }
@@ -30,9 +30,9 @@ fn is_text_tag(strict: bool, octet: u8) -> bool
     octet == tag::PRINTABLE_STRING || (!strict && octet == tag::UTF8_STRING)
 }
 
-impl Seen {
+impl ReadAttributes {
     // Adds one attribute. Returns `None` where it may not stand.
-    fn with(self, strict: bool, type_id: &[u8], tag: u8) -> Option<Seen>
+    fn with(self, strict: bool, type_id: &[u8], tag: u8) -> Option<ReadAttributes>
         ensures { result ≡ seen_with strict self
             (record { type_id = type_id.now; value_tag = tag }) }
     {
@@ -43,13 +43,13 @@ impl Seen {
             if self.name {
                 None
             } else {
-                Some(Seen { name: true, ..self })
+                Some(ReadAttributes { name: true, ..self })
             }
         } else if type_id == SERIAL_NUMBER {
             if self.number {
                 None
             } else {
-                Some(Seen {
+                Some(ReadAttributes {
                     number: true,
                     ..self
                 })
@@ -60,7 +60,7 @@ impl Seen {
     }
 
     // Adds the attributes of a part.
-    fn with_part(self, strict: bool, part: &Cursor<'_>) -> Option<Seen>
+    fn with_part(self, strict: bool, part: &Cursor<'_>) -> Option<ReadAttributes>
         ensures { result ≡ seen_in strict self (remaining part.now) }
     {
         let mut rest = part.fork();
@@ -76,12 +76,12 @@ impl Seen {
     }
 
     // What is seen in these parts of a name.
-    fn in_parts(strict: bool, parts: &Cursor<'_>) -> Option<Seen>
+    fn in_parts(strict: bool, parts: &Cursor<'_>) -> Option<ReadAttributes>
         ensures { result ≡ over (value_at 0x31) (seen_in strict)
             (record { name = false; number = false }) (remaining parts.now) }
     {
         let mut rest = parts.fork();
-        let mut seen = Seen {
+        let mut seen = ReadAttributes {
             name: false,
             number: false,
         };
@@ -110,7 +110,7 @@ impl Name {
             Ok(parts) => parts,
             Err(_) => return Err(InvalidName),
         };
-        match Seen::in_parts(strict, &parts) {
+        match ReadAttributes::in_parts(strict, &parts) {
             Some(seen) if seen.name => Ok(()),
             _ => Err(InvalidName),
         }

@@ -6,7 +6,7 @@ use Rattle.std.proofs.lemmas.List.{append-nil}
 use Rattle.rpki_blocks.specs.Sets.{Block}
 use Rattle.rpki_path.specs.TextLines.{space}
 use Rattle.rpki_path.specs.PrintedSets.{range, ranges, name_and_words}
-use Rattle.rpki_path.specs.Program.{printed}
+use Rattle.rpki_path.specs.Program.{output_of}
 
 spaced : (end_of : ℕ → List ℕ) (bs : List Block) → concat (map (λ word. space ∷ word) (map (range end_of) bs)) ≡ concat (map (λ block. space ∷ range end_of block) bs)
 spaced end_of [] = refl
@@ -23,7 +23,7 @@ ranges_none end_of name [] none = refl
 ranges_none end_of name (b ∷ bs) none = absurd cc
 
 -- a text and the end of a line are what is printed of it
-pub whole_line : (text line : List ℕ) → text ≡ line → text ++ 10 ∷ [] ≡ printed (line ∷ [])
+pub whole_line : (text line : List ℕ) → text ≡ line → text ++ 10 ∷ [] ≡ output_of (line ∷ [])
 whole_line text line e = ap (λ (l : List ℕ). l ++ 10 ∷ []) (e ∙ sym (append-nil line))
 
 -- what is true after an Ok may be weakened

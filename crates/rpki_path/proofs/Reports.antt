@@ -17,7 +17,7 @@ use Rattle.rpki_path.specs.declared.path_fault.PathFault.TheVariants as fault
 use Rattle.rpki_path.specs.Paths.{IsAccepted, IsFault, IsNoValidPath}
 use Rattle.rpki_path.specs.Paths as paths
 use Rattle.rpki_path.specs.PrintedSets.{v4_end, v6_end, ranges, name_and_words}
-use Rattle.rpki_path.specs.Program.{PathQuestion, question_context, asked_below, decode_faults, printed, IsToldBy, PrintsFault, SaysOfList, SaysOfPath}
+use Rattle.rpki_path.specs.Program.{PathQuestion, question_context, asked_below, decode_faults, output_of, IsToldBy, PrintsFault, SaysOfList, SaysOfPath}
 use Rattle.rpki_path.specs.Reports.{accepted_text, HasSortedSets}
 
 other_fault : {P : Type 0} (e : DecodeError) → (e ≡ Memory → ⊥) → Rejects e P → P
@@ -57,12 +57,12 @@ answered P (Err x) s t e f h = tt
 
 -- a report of what was found in a list says whether the serial is revoked
 pub found_says : (list : List ℕ) (serial : ℕ) (r : Revoked) (found : Bool) → IsRevokedCertificates r list → IsTrue found ↔ IsRevoked serial r.entries
-    → SaysOfList list serial (printed (cond found (codes "yes") (codes "no") ∷ [])) status.Done
+    → SaysOfList list serial (output_of (cond found (codes "yes") (codes "no") ∷ [])) status.Done
 found_says list serial r true is same = (r, is, inl (same.0 refl, refl))
 found_says list serial r false is same = (r, is, inr ((λ found. false≢true (same.1 found)), refl))
 
 abbrev NamesFault : List ℕ → Type 0
-NamesFault text = (name : List ℕ) × Contains decode_faults name × (text ≡ printed (codes "refused decode " ∷ name ∷ []))
+NamesFault text = (name : List ℕ) × Contains decode_faults name × (text ≡ output_of (codes "refused decode " ∷ name ∷ []))
 
 -- a report of a list that wasn't read says that it is none
 pub rejected_says : {E : Type 0} (list : List ℕ) (serial : ℕ) (e : DecodeError) (r : Result Report E) → Rejects e ((r : Revoked) → IsRevokedCertificates r list → ⊥) → OnOk r (e ≡ Memory → ⊥)

@@ -83,23 +83,23 @@ decode_faults =
     ∷ codes "InvalidExtension" ∷ codes "WrongResources" ∷ codes "AlgorithmMismatch" ∷ []
 
 -- the texts, and the end of a line
-abbrev pub printed : List (List ℕ) → List ℕ
-printed texts = concat texts ++ line_end ∷ []
+abbrev pub output_of : List (List ℕ) → List ℕ
+output_of texts = concat texts ++ line_end ∷ []
 
 -- whether the list has an entry with the serial, or that the octets are no list, by a fault's name
 abbrev pub SaysOfList : List ℕ → ℕ → List ℕ → Status → Type 0
 SaysOfList list serial output Done =
     (r : Revoked) × IsRevokedCertificates r list
-    × ((IsRevoked serial r.entries × (output ≡ printed (codes "yes" ∷ [])))
-    ⊎ ((IsRevoked serial r.entries → ⊥) × (output ≡ printed (codes "no" ∷ []))))
+    × ((IsRevoked serial r.entries × (output ≡ output_of (codes "yes" ∷ [])))
+    ⊎ ((IsRevoked serial r.entries → ⊥) × (output ≡ output_of (codes "no" ∷ []))))
 SaysOfList list serial output Refused =
     ((r : Revoked) → IsRevokedCertificates r list → ⊥)
-    × (name : List ℕ) × Contains decode_faults name × (output ≡ printed (codes "refused decode " ∷ name ∷ []))
+    × (name : List ℕ) × Contains decode_faults name × (output ≡ output_of (codes "refused decode " ∷ name ∷ []))
 SaysOfList list serial output BadInput = ⊥
 
 -- what signatures are taken for, which is printed first
 abbrev pub stand_in : List ℕ
-stand_in = printed (codes "stand-in signatures" ∷ [])
+stand_in = output_of (codes "stand-in signatures" ∷ [])
 
 -- the numbers that the last member holds, a line for each kind
 pub record PrintsHeld (p : Path) (output : List ℕ) : Type 0 where
@@ -109,7 +109,7 @@ pub record PrintsHeld (p : Path) (output : List ℕ) : Type 0 where
   pub v4_is : IsSetLine (codes "v4") v4_end (Holds p (paths.last p) v4_addresses) v4_line
   pub v6_is : IsSetLine (codes "v6") v6_end (Holds p (paths.last p) v6_addresses) v6_line
   pub as_is : IsSetLine (codes "as") decimal (Holds p (paths.last p) system_numbers) as_line
-  pub is : output ≡ stand_in ++ concat (printed (codes "accepted" ∷ []) ∷ printed (v4_line ∷ []) ∷ printed (v6_line ∷ []) ∷ printed (as_line ∷ []) ∷ [])
+  pub is : output ≡ stand_in ++ concat (output_of (codes "accepted" ∷ []) ∷ output_of (v4_line ∷ []) ∷ output_of (v6_line ∷ []) ∷ output_of (as_line ∷ []) ∷ [])
 
 -- where a fault was met, and its name; which of its faults a reader names is free, and no lists are
 -- asked
@@ -125,7 +125,7 @@ pub record PrintsFault (e : PathError) (output : List ℕ) : Type 0 where
   pub stage : List ℕ
   pub name : List ℕ
   pub told : IsToldBy e.fault stage name
-  pub is : output ≡ stand_in ++ printed (codes "refused " ∷ decimal e.index ∷ codes " " ∷ stage ∷ codes " " ∷ name ∷ [])
+  pub is : output ≡ stand_in ++ output_of (codes "refused " ∷ decimal e.index ∷ codes " " ∷ stage ∷ codes " " ∷ name ∷ [])
 
 -- the strings of a question that stand below the trust anchor
 abbrev pub asked_below : PathQuestion → List Candidate
@@ -153,7 +153,7 @@ SaysOf (is_valid_path q) output status = SaysOfPath q output status
 -- that the input doesn't fit, and where
 abbrev pub SaysBadInput : List (List ℕ) → List ℕ → Status → Type 0
 SaysBadInput lines output status =
-    (number : ℕ) × IsBadLine number lines × (output ≡ printed (codes "bad input " ∷ decimal number ∷ [])) × (status ≡ BadInput)
+    (number : ℕ) × IsBadLine number lines × (output ≡ output_of (codes "bad input " ∷ decimal number ∷ [])) × (status ≡ BadInput)
 
 -- what is printed for an input, and the status
 abbrev pub Says : List ℕ → List ℕ → Status → Type 0

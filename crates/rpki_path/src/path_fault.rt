@@ -19,7 +19,8 @@ pub enum PathFault {
     /// The certificate isn't valid at the moment, or not issued by the one above it.
     #[error("{0}")]
     Verify(VerificationError),
-    /// The certificate isn't found unrevoked on the list of the one above it.
+    /// A check of the issuer's revocation list fails: there is none, it isn't the issuer's, it is
+    /// stale, or it names the certificate.
     #[error("{0}")]
     Revocation(RevocationError),
     /// Memory ran out.

@@ -3,7 +3,7 @@ ghost use Rattle.std.specs.Prelude.{◌≡◌, ℕ, List, [], ◌∷◌, ◌++�
 ghost use Rattle.std.specs.List.{concat};
 ghost use Rattle.rpki_path.specs.TextLines.{space};
 ghost use Rattle.rpki_path.specs.PrintedSets.{v4_end, v6_end, range, ranges, name_and_words};
-ghost use Rattle.rpki_path.specs.Program.{printed};
+ghost use Rattle.rpki_path.specs.Program.{output_of};
 ghost use Rattle.rpki_blocks.specs.Sets.{between, IsChain};
 
 use rpki_blocks::{Addr, Asn, Bound, Chain};
@@ -129,7 +129,7 @@ pub(crate) fn set_line<E: Ends>(
     chain: &Chain<E::Number>,
 ) -> Result<String, AllocError>
     ensures line { IfOk result (λ text. string_bytes text
-        ≡ printed (name_and_words name.now (ranges E.text chain.now) ∷ [])) }
+        ≡ output_of (name_and_words name.now (ranges E.text chain.now) ∷ [])) }
     ensures sorted { OnOk result (IsChain chain.now) }
 {
     let mut line = String::from_str(alloc, name)?;

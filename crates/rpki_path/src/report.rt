@@ -1,7 +1,7 @@
 //! What the program prints.
 ghost use Rattle.std.specs.Prelude.{◌≡◌, ◌≢◌, ℕ, List, [], ◌∷◌, IfOk, OnOk, Contains, cond, string_bytes, codes, decimal};
 ghost use Rattle.rpki_path.specs.Paths.{IsUnasked};
-ghost use Rattle.rpki_path.specs.Program.{decode_faults, printed, IsToldBy, PrintsFault, Says, SaysOfList, SaysOfPath};
+ghost use Rattle.rpki_path.specs.Program.{decode_faults, output_of, IsToldBy, PrintsFault, Says, SaysOfList, SaysOfPath};
 ghost use Rattle.rpki_path.specs.Reports.{accepted_text, HasSortedSets};
 ghost use Rattle.rpki_path.specs.Questions.{IsInput, path_question};
 ghost use Rattle.rpki_crl.specs.RevokedEntries.{IsRevokedCertificates};
@@ -54,7 +54,7 @@ fn decode_fault(error: &DecodeError) -> Result<&'static str, AllocError>
 fn no_list(alloc: Global, error: &DecodeError) -> Result<Report, AllocError>
     ensures status { IfOk result (λ report. report.status ≡ Status.Refused) }
     ensures text { IfOk result (λ report. (name : List ℕ) × Contains decode_faults name
-        × (string_bytes report.text ≡ printed (codes "refused decode " ∷ name ∷ []))) }
+        × (string_bytes report.text ≡ output_of (codes "refused decode " ∷ name ∷ []))) }
     ensures other { OnOk result (error.now ≢ DecodeError.Memory) }
 {
     let name = decode_fault(error)?;
@@ -69,7 +69,7 @@ fn no_list(alloc: Global, error: &DecodeError) -> Result<Report, AllocError>
 fn found(alloc: Global, is_found: bool) -> Result<Report, AllocError>
     ensures status { IfOk result (λ report. report.status ≡ Status.Done) }
     ensures text { IfOk result (λ report. string_bytes report.text
-        ≡ printed (cond is_found (codes "yes") (codes "no") ∷ [])) }
+        ≡ output_of (cond is_found (codes "yes") (codes "no") ∷ [])) }
 {
     let text = match is_found {
         true => String::from_str(alloc, "yes\n")?,
@@ -167,7 +167,7 @@ fn of_path(alloc: Global, question: PathQuestion) -> Result<Report, AllocError>
 fn bad_input(alloc: Global, number: usize) -> Result<Report, AllocError>
     ensures status { IfOk result (λ report. report.status ≡ Status.BadInput) }
     ensures text { IfOk result (λ report. string_bytes report.text
-        ≡ printed (codes "bad input " ∷ decimal number ∷ [])) }
+        ≡ output_of (codes "bad input " ∷ decimal number ∷ [])) }
 {
     let text = format!(in alloc; "bad input {number}\n")?;
     Ok(Report {

@@ -188,30 +188,30 @@ fn bare() -> Extensions {
     Extensions::bare(id, KeyUsage::Ee, Overclaim::Trim)
 }
 
-// After an error a front of the row may stand there.
-fn row_written(alloc: Global) -> Option<Told> {
+// After an error a beginning of the extensions may stand there.
+fn all_written(alloc: Global) -> Option<Told> {
     let mut out = vector(alloc)?;
     let extensions = bare();
     let answer = ended(alloc, extensions.encode_row(alloc, &mut out));
     drop(extensions);
-    let row = rpki_samples::octets(alloc, ROW)?;
+    let elements = rpki_samples::octets(alloc, WRITTEN)?;
     let (head, tail) = out.split_first()?;
     let stands = *head == 0xaa
-        && row.starts_with(tail)
-        && (answer != "ok" || tail == row.as_slice());
+        && elements.starts_with(tail)
+        && (answer != "ok" || tail == elements.as_slice());
     Some(Told::standing(answer, stands))
 }
 
 // The identifier of the subject's key, Key Usage and Certificate Policies, in the order in which
 // they are written.
-const ROW: &str =
+const WRITTEN: &str =
     "301d0603551d0e04160414a9993e364706816aba3e25717850c26c9cd0d89d300e0603551d0f0101ff04040302078030180603551d200101ff040e300c300a06082b06010505070e03";
 
 // The first two, AS1 to AS10 under the second identifier, and Certificate Policies.
 const READ: &str =
     "301d0603551d0e04160414a9993e364706816aba3e25717850c26c9cd0d89d300e0603551d0f0101ff040403020780301d06082b0601050507011d0101ff040e300ca00a3008300602010102010a30180603551d200101ff040e300c300a06082b06010505070e03";
 
-fn row_read(alloc: Global) -> Option<Told> {
+fn all_read(alloc: Global) -> Option<Told> {
     let octets = rpki_samples::shared(alloc, READ)?;
     let cursor = Cursor::new(&octets);
     begin(alloc);
@@ -219,13 +219,13 @@ fn row_read(alloc: Global) -> Option<Told> {
     plain(alloc, answer)
 }
 
-fn row(alloc: Global) -> Option<Extensions> {
+fn elements(alloc: Global) -> Option<Extensions> {
     let octets = rpki_samples::shared(alloc, READ)?;
     Extensions::from_row(alloc, &Cursor::new(&octets)).ok()
 }
 
-fn row_copied(alloc: Global) -> Option<Told> {
-    let extensions = row(alloc)?;
+fn sequence_copied(alloc: Global) -> Option<Told> {
+    let extensions = elements(alloc)?;
     begin(alloc);
     let answer = ended(alloc, extensions.try_clone(alloc));
     drop(extensions);
@@ -246,7 +246,7 @@ fn reading(alloc: Global, asked: &mut Asked<'_>) -> Option<Told> {
     } else if asked.is("rpki_ext::take_subject_information_access") {
         subject_taken(alloc)
     } else if asked.is("rpki_ext::Extensions::from_row") {
-        row_read(alloc)
+        all_read(alloc)
     } else {
         None
     }
@@ -286,9 +286,9 @@ fn others(alloc: Global, asked: &mut Asked<'_>) -> Option<Told> {
     } else if asked.is("rpki_ext::KeyUsage::encode") {
         usage(alloc)
     } else if asked.is("rpki_ext::Extensions::try_clone") {
-        row_copied(alloc)
+        sequence_copied(alloc)
     } else if asked.is("rpki_ext::Extensions::encode_row") {
-        row_written(alloc)
+        all_written(alloc)
     } else {
         None
     }

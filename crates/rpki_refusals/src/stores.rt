@@ -10,8 +10,8 @@ use rpki_parts::{RpkiSignatureAlgorithm, StandIn};
 use rpki_samples::{day, rsa, uri};
 use std::alloc::Global;
 
-// A row of one entry, as it stands in a list.
-const ROW: &str = "3014301202010c170d3139303530313030303030305a";
+// One entry, as it stands in a list.
+const ONE_ENTRY: &str = "3014301202010c170d3139303530313030303030305a";
 
 fn entry_written(alloc: Global) -> Option<Told> {
     let entry = CrlEntry::new(Serial::from(12u64), day(2019)?);
@@ -33,30 +33,30 @@ fn empty(alloc: Global) -> Option<Told> {
 }
 
 fn revoked(alloc: Global) -> Option<RevokedCertificates> {
-    let octets = octets(alloc, ROW)?;
+    let octets = octets(alloc, ONE_ENTRY)?;
     RevokedCertificates::take_from(alloc, &mut Cursor::new(&octets)).ok()
 }
 
-fn row_read(alloc: Global) -> Option<Told> {
-    let octets = octets(alloc, ROW)?;
+fn sequence_read(alloc: Global) -> Option<Told> {
+    let octets = octets(alloc, ONE_ENTRY)?;
     let mut cursor = Cursor::new(&octets);
     begin(alloc);
     let answer = RevokedCertificates::take_from(alloc, &mut cursor);
     read(alloc, answer, &cursor)
 }
 
-fn row_written(alloc: Global) -> Option<Told> {
-    let row = revoked(alloc)?;
+fn sequence_written(alloc: Global) -> Option<Told> {
+    let entries = revoked(alloc)?;
     let mut out = vector(alloc)?;
-    let answer = row.encode_ref(alloc, &mut out);
-    written_digits(alloc, answer, &out, ROW)
+    let answer = entries.encode_ref(alloc, &mut out);
+    written_digits(alloc, answer, &out, ONE_ENTRY)
 }
 
-fn row_copied(alloc: Global) -> Option<Told> {
-    let row = revoked(alloc)?;
+fn sequence_copied(alloc: Global) -> Option<Told> {
+    let entries = revoked(alloc)?;
     begin(alloc);
-    let answer = ended(alloc, row.try_clone(alloc));
-    drop(row);
+    let answer = ended(alloc, entries.try_clone(alloc));
+    drop(entries);
     Some(Told::of(answer))
 }
 
@@ -225,11 +225,11 @@ fn of_entries(alloc: Global, asked: &mut Asked<'_>) -> Option<Told> {
     } else if asked.is("rpki_crl::RevokedCertificates::empty") {
         empty(alloc)
     } else if asked.is("rpki_crl::RevokedCertificates::take_from") {
-        row_read(alloc)
+        sequence_read(alloc)
     } else if asked.is("rpki_crl::RevokedCertificates::encode_ref") {
-        row_written(alloc)
+        sequence_written(alloc)
     } else if asked.is("rpki_crl::RevokedCertificates::try_clone") {
-        row_copied(alloc)
+        sequence_copied(alloc)
     } else if asked.is("rpki_crl::InvalidExtension::try_clone") {
         extension_copied(alloc)
     } else if asked.is("rpki_crl::TbsCertList::to_revoked") {

@@ -39,7 +39,7 @@ pub fn has_hash(alloc: Global, hashed: &[u8], digits: &str) -> bool {
     has_digits(alloc, Sha1::digest(hashed).as_slice(), digits)
 }
 
-/// Returns whether some octets in a row are these.
+/// Returns whether these octets stand somewhere in it.
 pub fn contains(octets: &[u8], part: &[u8]) -> bool {
     for start in 0..octets.len() {
         if octets[start..].starts_with(part) {

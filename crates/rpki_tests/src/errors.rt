@@ -75,7 +75,7 @@ fn of_extensions_that_are_read(rt: HostRuntime) {
 
 #[test]
 fn of_parts(rt: HostRuntime) {
-    let rows = [
+    let cases = [
         (Field::BasicConstraints, "BasicConstraints"),
         (Field::SubjectKeyIdentifier, "SubjectKeyIdentifier"),
         (Field::AuthorityKeyIdentifier, "AuthorityKeyIdentifier"),
@@ -93,7 +93,7 @@ fn of_parts(rt: HostRuntime) {
         (Field::Resources, "Resources"),
         (Field::CrlNumber, "CrlNumber"),
     ];
-    for (field, text) in rows {
+    for (field, text) in cases {
         assert_shown(&rt, format!(in rt.alloc(); "{field:?}"), text);
     }
 }

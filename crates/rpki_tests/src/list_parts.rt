@@ -1,18 +1,18 @@
-//! Parts of revocation lists by themselves: an entry, rows of entries, and the data of a list.
+//! Parts of revocation lists by themselves: an entry, the entries of a list, and the data of a list.
 
 use rpki_crl::{CrlEntry, RevokedCertificates, TbsCertList};
 use rpki_der::{Cursor, Serial};
 use std::alloc::{AllocError, Global};
 use std::process::Abort;
 
-// A row of one entry, of the serial 12.
-const ROW: &str = "3014301202010c170d3139303530313030303030305a";
+// One entry, of the serial 12, in its SEQUENCE.
+const ONE_ENTRY: &str = "3014301202010c170d3139303530313030303030305a";
 
 // The data of a list whose one entry has the serial 5.
 const DATA: &str =
     "30818a020101300d06092a864886f70d01010b0500300d310b3009060355040313023032170d3139303633303038323332325a180f32303531303931313133313433385a30163014020105180f32303530303431353132333033305aa02f302d301f0603551d230418301680144e49fb961f40a1814f493a3580ba98dee1ba149d300a0603551d140403020100";
 
-// The entries 12 and 42, in a row.
+// The entries 12 and 42, in this order.
 const ENTRIES: &str =
     "3028301202010c170d3139303530313030303030305a301202012a170d3139303530313030303030305a";
 
@@ -26,38 +26,38 @@ fn an_entry_is_written(rt: HostRuntime) {
     assert!(rt; rpki_samples::has_digits(rt.alloc(), &out, digits));
 }
 
-// That these octets are written of the row.
-fn assert_row(rt: &impl Abort, alloc: Global, row: &RevokedCertificates, digits: &str) {
+// That these octets are written of the entries.
+fn assert_entries(rt: &impl Abort, alloc: Global, entries: &RevokedCertificates, digits: &str) {
     let mut out = Vec::new(alloc);
-    row.encode_ref(alloc, &mut out).expect(rt, "memory");
+    entries.encode_ref(alloc, &mut out).expect(rt, "memory");
     assert!(rt; rpki_samples::has_digits(alloc, &out, digits));
 }
 
 #[test]
 fn no_entries_are_written(rt: HostRuntime) {
     let none = RevokedCertificates::empty(rt.alloc());
-    assert_row(&rt, rt.alloc(), &none, "");
+    assert_entries(&rt, rt.alloc(), &none, "");
     drop(none);
 }
 
-fn row(rt: &impl Abort, alloc: Global) -> RevokedCertificates {
-    let octets = rpki_samples::shared(alloc, ROW).expect(rt, "digits");
-    RevokedCertificates::take_from(alloc, &mut Cursor::new(&octets)).expect(rt, "a row")
+fn one_entry(rt: &impl Abort, alloc: Global) -> RevokedCertificates {
+    let octets = rpki_samples::shared(alloc, ONE_ENTRY).expect(rt, "digits");
+    RevokedCertificates::take_from(alloc, &mut Cursor::new(&octets)).expect(rt, "entries")
 }
 
 fn assert_copy(rt: &impl Abort, alloc: Global, copy: Result<RevokedCertificates, AllocError>) {
     let copy = copy.expect(rt, "memory");
-    assert_row(rt, alloc, &copy, ROW);
+    assert_entries(rt, alloc, &copy, ONE_ENTRY);
     drop(copy);
 }
 
 #[test]
-fn a_row_is_read(rt: HostRuntime) {
-    let row = row(&rt, rt.alloc());
-    assert_row(&rt, rt.alloc(), &row, ROW);
-    assert!(rt; row.contains(Serial::from(12u64)));
-    assert_copy(&rt, rt.alloc(), row.try_clone(rt.alloc()));
-    drop(row);
+fn entries_are_read(rt: HostRuntime) {
+    let entries = one_entry(&rt, rt.alloc());
+    assert_entries(&rt, rt.alloc(), &entries, ONE_ENTRY);
+    assert!(rt; entries.contains(Serial::from(12u64)));
+    assert_copy(&rt, rt.alloc(), entries.try_clone(rt.alloc()));
+    drop(entries);
 }
 
 // That these octets are written of the data, and what is revoked in it.
@@ -78,9 +78,9 @@ fn the_data_of_a_list_is_read(rt: HostRuntime) {
 }
 
 #[test]
-fn entries_become_a_row(rt: HostRuntime) {
+fn entries_become_a_sequence(rt: HostRuntime) {
     let data = crate::lists::data(&rt, rt.alloc()).to_revoked(rt.alloc());
     let data = data.expect(&rt, "memory");
-    assert_row(&rt, rt.alloc(), data.revoked_certs(), ENTRIES);
+    assert_entries(&rt, rt.alloc(), data.revoked_certs(), ENTRIES);
     drop(data);
 }

@@ -1,6 +1,6 @@
 -- The reading functions of addresses.
 use Rattle.std.specs.Prelude.{ℕ, ◌*◌, ◌&&◌, nat_lt, nat_eq, if◌then◌else◌, List, [], ◌∷◌, length, Option, Some, None}
-use Rattle.rpki_der.specs.Choices.{conversion, followed, whole, content_or, optional_of}
+use Rattle.rpki_der.specs.Choices.{conversion, and_then, whole, content_or, optional_of}
 use Rattle.rpki_der.specs.Primitives.Reading.{octets_at, bits_at}
 use Rattle.rpki_der.specs.Reading.{both, content}
 use Rattle.rpki_der.specs.Values.Reading.{◌>>=◌}
@@ -46,7 +46,7 @@ of_family family = conversion (λ r. Some (family, r)) (choice_at (ip_element_at
 
 -- reads what stands inside an IPAddressFamily
 unfoldable pub family_in : List ℕ → Option (Family × Resources)
-family_in = whole (followed (conversion family_of octets_at) of_family)
+family_in = whole (and_then (conversion family_of octets_at) of_family)
 
 -- the families of an extension that has one
 abbrev pub alone : Family → Resources → Families

@@ -8,5 +8,5 @@ abbrev pub which : List ℕ → List ℕ → List ℕ → Option Overclaim
 which id refuse trim = if bytes_eq id refuse then Some Refuse else if bytes_eq id trim then Some Trim else None
 
 -- the mode that an identifier names, if it names one
-abbrev pub named : (Overclaim → List ℕ) → List ℕ → Option Overclaim
-named identifier id = which id (identifier Refuse) (identifier Trim)
+abbrev pub mode_of : (Overclaim → List ℕ) → List ℕ → Option Overclaim
+mode_of identifier id = which id (identifier Refuse) (identifier Trim)

@@ -3,7 +3,7 @@ use Rattle.std.specs.Prelude.{ℕ, ◌+◌, min, max, nat_lt, if◌then◌else�
 use Rattle.rpki_der.specs.Choices.{conversion, content_or}
 use Rattle.rpki_der.specs.Primitives.Reading.{null_at}
 use Rattle.rpki_der.specs.Values.Reading.{◌>>=◌}
-use Rattle.rpki_der.specs.Sequences.Reading.{row_of}
+use Rattle.rpki_der.specs.Sequences.Reading.{sequence_of}
 use Rattle.rpki_der.specs.Tags.{SEQUENCE}
 use Rattle.rpki_blocks.specs.Resources.{Resources, inherit, listed}
 use Rattle.rpki_blocks.specs.Sets.{Block}
@@ -27,7 +27,7 @@ merged (b ∷ bs) = if nat_lt b.max b.min then merged bs else added b (merged bs
 
 -- a sequence of elements, merged
 abbrev pub union_of : (List ℕ → Option (Block × List ℕ)) → List ℕ → Option Resources
-union_of element c = row_of element c >>= λ bs. Some (listed (merged bs))
+union_of element c = sequence_of element c >>= λ bs. Some (listed (merged bs))
 
 -- reads inherit NULL
 abbrev pub inherit_at : List ℕ → Option (Resources × List ℕ)

@@ -1,7 +1,7 @@
 -- Reading functions of certificates.
 use Rattle.std.specs.Prelude.{ℕ, List, [], ◌∷◌, Option, Some}
 use Rattle.rpki_der.specs.Tags.{CONTEXT_CONSTRUCTED, INTEGER, SEQUENCE}
-use Rattle.rpki_der.specs.Reading.{inside, content, both, mapped}
+use Rattle.rpki_der.specs.Reading.{inside, content, both, map_value}
 use Rattle.rpki_der.specs.Values.Reading.{◌>>=◌, value_at}
 use Rattle.rpki_der.specs.Serials.Reading.{serial_at}
 use Rattle.rpki_der.specs.Choices.{conversion, exactly}
@@ -29,18 +29,18 @@ Fields = Unit {0} × (ℕ × (Algorithm × (List ℕ × (ValidityFields × (List
 
 -- the fields of a TBSCertificate, where its extensions give some
 abbrev pub with_extensions : Fields → Option TbsFields
-with_extensions (_, (serial, (algorithm, (issuer, (validity, (subject, (key, row))))))) = do
-  x ← extensions_of row
+with_extensions (_, (serial, (algorithm, (issuer, (validity, (subject, (key, elements))))))) = do
+  x ← extensions_of elements
   Some (record { serial = serial; algorithm = algorithm; issuer = issuer; validity = validity; subject = subject; key = key; extensions = x })
 
 -- the sequence of extensions, as it stands inside its two tags
-abbrev pub tagged_row_at : List ℕ → Option (List ℕ × List ℕ)
-tagged_row_at = inside (CONTEXT_CONSTRUCTED 3) (value_at SEQUENCE)
+abbrev pub tagged_sequence_at : List ℕ → Option (List ℕ × List ℕ)
+tagged_sequence_at = inside (CONTEXT_CONSTRUCTED 3) (value_at SEQUENCE)
 
 -- reads the content of a TBSCertificate: its fields in their order, and the extensions as they
 -- stand
 unfoldable pub fields_in_order : List ℕ → Option (Fields × List ℕ)
-fields_in_order = both version_at (both serial_at (both algorithm_at (both name_at (both validity_at (both name_at (both public_key_at tagged_row_at))))))
+fields_in_order = both version_at (both serial_at (both algorithm_at (both name_at (both validity_at (both name_at (both public_key_at tagged_sequence_at))))))
 
 -- reads a TBSCertificate, with the extensions as they stand
 unfoldable pub fields_at : List ℕ → Option (Fields × List ℕ)
@@ -58,7 +58,7 @@ certificate x = record { fields = x.0; signed_data = x.1 }
 
 -- reads the content of a Certificate
 unfoldable pub cert_content_at : List ℕ → Option (CertFields × List ℕ)
-cert_content_at = mapped certificate (signed_at tbs_at)
+cert_content_at = map_value certificate (signed_at tbs_at)
 
 -- reads a Certificate
 unfoldable pub cert_at : List ℕ → Option (CertFields × List ℕ)

@@ -7,7 +7,7 @@ use Rattle.rpki_cert.specs.declared.tbs.Head.{Head}
 
 -- the fields before the extensions, and the octets of the extensions
 abbrev pub fields_view : Head × Place → Fields
-fields_view (h, row) = (tt, (h.serial_number, (h.signature, (h.issuer, (h.validity, (h.subject, (h.subject_public_key_info, remaining row)))))))
+fields_view (h, elements) = (tt, (h.serial_number, (h.signature, (h.issuer, (h.validity, (h.subject, (h.subject_public_key_info, remaining elements)))))))
 
 -- a key, and the octets beside it
 abbrev pub key_view : KeyFields × Place → KeyFields × List ℕ

@@ -2,7 +2,7 @@
 use Rattle.std.specs.Prelude.{ℕ, List, [], ◌∷◌, Option, Some, None}
 use Rattle.rpki_der.specs.Tags.{CONTEXT_CONSTRUCTED, SEQUENCE}
 use Rattle.rpki_der.specs.Values.Reading.{◌>>=◌, value_at}
-use Rattle.rpki_der.specs.Sequences.Reading.{row_of}
+use Rattle.rpki_der.specs.Sequences.Reading.{sequence_of}
 use Rattle.rpki_der.specs.Skipping.Reading.{captured_at}
 
 -- what stands before the last, and the last
@@ -16,18 +16,18 @@ split_last [] = None
 split_last (x ∷ xs) = Some (with_front x (split_last xs))
 
 -- the values that stand inside the two tags of extensions
-unfoldable pub row_in : List ℕ → Option (List (List ℕ))
-row_in value = do
+unfoldable pub sequence_in : List ℕ → Option (List (List ℕ))
+sequence_in value = do
   tagged ← value_at (CONTEXT_CONSTRUCTED 3) value
-  row ← value_at SEQUENCE tagged.0
-  row_of captured_at row.0
+  elements ← value_at SEQUENCE tagged.0
+  sequence_of captured_at elements.0
 
 -- the values before the extensions, the extensions, and what stands behind the TBSCertificate
 unfoldable pub parts_at : List ℕ → Option (List (List ℕ) × (List (List ℕ) × List ℕ))
 parts_at octets = do
   whole ← value_at SEQUENCE octets
   tbs ← value_at SEQUENCE whole.0
-  values ← row_of captured_at tbs.0
+  values ← sequence_of captured_at tbs.0
   split ← split_last values
-  row ← row_in split.1
-  Some (split.0, (row, tbs.1))
+  elements ← sequence_in split.1
+  Some (split.0, (elements, tbs.1))

@@ -2,7 +2,7 @@
 use Rattle.std.specs.Prelude.{ℕ, List, Option, Some}
 use Rattle.rpki_der.specs.Extensions.{Extension}
 use Rattle.rpki_der.specs.Extensions.Reading.{extension_at}
-use Rattle.rpki_der.specs.Folding.{Fold, beside, each_fold, over}
+use Rattle.rpki_der.specs.Folding.{Fold, side_by_side, each_fold, over}
 use Rattle.rpki_der.specs.Values.Reading.{◌>>=◌}
 use Rattle.rpki_ext.specs.Kinds.{is_of}
 use Rattle.rpki_ext.specs.KindTables.{Sights, identifiers_of, table_fold}
@@ -14,7 +14,7 @@ ListSights = Unit {0} × Sights list_kinds_with_any_flag
 
 -- one step a kind, side by side
 abbrev pub list_fold : Fold Extension ListSights
-list_fold = beside (each_fold (is_of (identifiers_of list_kinds_with_any_flag))) (table_fold list_kinds_with_any_flag)
+list_fold = side_by_side (each_fold (is_of (identifiers_of list_kinds_with_any_flag))) (table_fold list_kinds_with_any_flag)
 
 -- the fields of a key identifier and a CRL number
 abbrev pub list_extensions : List ℕ → ℕ → ListExtensions

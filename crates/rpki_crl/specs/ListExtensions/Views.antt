@@ -6,7 +6,7 @@ use Rattle.rpki_ext.specs.KeyIdentifiers.{authority_key_identifier}
 use Rattle.rpki_ext.specs.CrlNumbers.{crl_number}
 use Rattle.rpki_crl.specs.declared.extensions.Kind.{Kind}
 use Rattle.rpki_crl.specs.declared.extensions.Kind.TheVariants.{AuthorityKeyIdentifier, CrlNumber}
-use Rattle.rpki_crl.specs.declared.extensions.Seen.{Seen}
+use Rattle.rpki_crl.specs.declared.extensions.ReadListExtensions.{ReadListExtensions}
 use Rattle.rpki_crl.specs.declared.extensions.Extensions.{Extensions}
 use Rattle.rpki_ext.specs.ListKinds.{list_kinds}
 use Rattle.rpki_crl.specs.ListExtensions.{ListExtensions}
@@ -19,7 +19,7 @@ NamesListKind id (Some CrlNumber) = id ≡ crl_number.identifier
 NamesListKind id None = AllByRecursion (λ a. bytes_eq id a ≡ false) (identifiers_of list_kinds)
 
 -- what was seen of each kind, as the table has it
-abbrev pub sights_of : Seen → ListSights
+abbrev pub sights_of : ReadListExtensions → ListSights
 sights_of s = (tt, (s.authority_key_identifier, (s.crl_number, tt)))
 
 -- the fields that the code keeps of a list's extensions

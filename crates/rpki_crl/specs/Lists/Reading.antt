@@ -2,7 +2,7 @@
 use Rattle.std.specs.Bool.{beq}
 use Rattle.std.specs.Prelude.{ℕ, Bool, if◌then◌else◌, List, [], ◌∷◌, Option, Some, None}
 use Rattle.rpki_der.specs.Choices.{conversion, exactly}
-use Rattle.rpki_der.specs.Reading.{inside, content, both, mapped}
+use Rattle.rpki_der.specs.Reading.{inside, content, both, map_value}
 use Rattle.rpki_der.specs.Tags.{CONTEXT_CONSTRUCTED, INTEGER, SEQUENCE}
 use Rattle.rpki_der.specs.Times.{Moment}
 use Rattle.rpki_der.specs.Times.Reading.{time_at}
@@ -29,8 +29,8 @@ ListParts = Unit {0} × (Algorithm × (List ℕ × (Moment × (Moment × (Revoke
 
 -- the fields of a TBSCertList, where its extensions give some
 abbrev pub fields_from : ListParts → Option (ListFields Revoked)
-fields_from (_, (algorithm, (issuer, (this_update, (next_update, (revoked, row)))))) = do
-  x ← list_extensions_of row
+fields_from (_, (algorithm, (issuer, (this_update, (next_update, (revoked, elements)))))) = do
+  x ← list_extensions_of elements
   Some (record { algorithm = algorithm; issuer = issuer; this_update = this_update; next_update = next_update; revoked = revoked; extensions = x })
 
 -- reads the content of a TBSCertList: its fields in their order, and the extensions as they stand
@@ -53,7 +53,7 @@ crl_from p = record { fields = p.0; signed_data = p.1 }
 
 -- the signed value is kept, and read as a TBSCertList where it stands
 unfoldable pub kept_at : List ℕ → Option (CrlFields × List ℕ)
-kept_at = mapped crl_from (signed_at list_at)
+kept_at = map_value crl_from (signed_at list_at)
 
 -- whether two algorithms are equal
 abbrev pub same_algorithm : Algorithm → Algorithm → Bool

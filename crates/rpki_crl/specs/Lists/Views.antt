@@ -6,4 +6,4 @@ use Rattle.rpki_crl.specs.declared.tbs.Head.{Head}
 
 -- the fields before the extensions, and the octets of the extensions
 abbrev pub parts_view : Head × Place → ListParts
-parts_view (h, row) = (tt, (h.signature, (h.issuer, (h.this_update, (h.next_update, (h.revoked_certs, remaining row))))))
+parts_view (h, elements) = (tt, (h.signature, (h.issuer, (h.this_update, (h.next_update, (h.revoked_certs, remaining elements))))))

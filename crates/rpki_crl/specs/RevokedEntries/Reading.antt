@@ -2,9 +2,9 @@
 use Rattle.std.specs.Prelude.{ℕ, List, [], Option, Some, None}
 use Rattle.rpki_der.specs.Choices.{optional_of}
 use Rattle.rpki_der.specs.Folding.{over, pass}
-use Rattle.rpki_der.specs.Reading.{inside, both, mapped}
+use Rattle.rpki_der.specs.Reading.{inside, both, map_value}
 use Rattle.rpki_der.specs.Values.Reading.{◌>>=◌}
-use Rattle.rpki_der.specs.Sequences.Reading.{row_of}
+use Rattle.rpki_der.specs.Sequences.Reading.{sequence_of}
 use Rattle.rpki_der.specs.Serials.Reading.{serial_at}
 use Rattle.rpki_der.specs.Times.Reading.{time_at}
 use Rattle.rpki_der.specs.Tags.{SEQUENCE}
@@ -17,7 +17,7 @@ entry_from parts = record { serial = parts.0; date = parts.1 }
 
 -- reads the content of an entry
 unfoldable pub entry_content_at : List ℕ → Option (Entry × List ℕ)
-entry_content_at = mapped entry_from (both serial_at time_at)
+entry_content_at = map_value entry_from (both serial_at time_at)
 
 -- reads an entry
 unfoldable pub entry_at : List ℕ → Option (Entry × List ℕ)
@@ -30,7 +30,7 @@ or_none None = []
 
 -- the entries of a sequence; none where the octets are no sequence of entries
 abbrev pub entries_in : List ℕ → List Entry
-entries_in octets = or_none (row_of entry_at octets)
+entries_in octets = or_none (sequence_of entry_at octets)
 
 -- whether they are entries
 unfoldable pub entries_pass : List ℕ → Option (Unit {0})
@@ -42,7 +42,7 @@ no_entries = record { entries = []; octets = [] }
 
 -- a whole content as a sequence of entries
 unfoldable pub revoked_of : List ℕ → Option Revoked
-revoked_of content = entries_pass content >>= λ row. Some (record { entries = entries_in content; octets = content })
+revoked_of content = entries_pass content >>= λ elements. Some (record { entries = entries_in content; octets = content })
 
 -- the entries that are read, or none where revokedCertificates is absent
 abbrev pub or_no_entries : Option Revoked → Revoked
@@ -51,4 +51,4 @@ or_no_entries None = no_entries
 
 -- an optional SEQUENCE of entries
 unfoldable pub revoked_at : List ℕ → Option (Revoked × List ℕ)
-revoked_at = mapped or_no_entries (optional_of SEQUENCE revoked_of)
+revoked_at = map_value or_no_entries (optional_of SEQUENCE revoked_of)

@@ -1,7 +1,7 @@
 -- The reading function of extensions.
 use Rattle.std.specs.Prelude.{ℕ, Bool, List, Option}
 use Rattle.rpki_der.specs.Tags.{OCTET_STRING, SEQUENCE}
-use Rattle.rpki_der.specs.Reading.{inside, both, mapped}
+use Rattle.rpki_der.specs.Reading.{inside, both, map_value}
 use Rattle.rpki_der.specs.Values.Reading.{value_at}
 use Rattle.rpki_der.specs.Primitives.Reading.{bool_or_false_at, oid_at}
 use Rattle.rpki_der.specs.Extensions.{Extension}
@@ -12,4 +12,4 @@ extension_made p = record { identifier = p.0; critical = p.1.0; content = p.1.1 
 
 -- reads an Extension
 unfoldable pub extension_at : List ℕ → Option (Extension × List ℕ)
-extension_at = inside SEQUENCE (mapped extension_made (both oid_at (both bool_or_false_at (value_at OCTET_STRING))))
+extension_at = inside SEQUENCE (map_value extension_made (both oid_at (both bool_or_false_at (value_at OCTET_STRING))))

@@ -1,7 +1,7 @@
 -- The reading functions of values of the primitive types.
 use Rattle.std.specs.Int.Digits.{number_from_digits}
 use Rattle.std.specs.Prelude.{ℕ, Bool, true, false, List, [], ◌∷◌, nat_eq, if◌then◌else◌, Option, Some, None, ◌&&◌, ◌||◌, not, nat_lt, ◌^◌, ◌%◌}
-use Rattle.rpki_der.specs.Reading.{content, mapped, optional, ended}
+use Rattle.rpki_der.specs.Reading.{content, map_value, optional, at_end}
 use Rattle.rpki_der.specs.Tags.{BOOLEAN, INTEGER, OCTET_STRING, NULL, BIT_STRING, OBJECT_IDENTIFIER}
 use Rattle.rpki_der.specs.Values.Reading.{value_at}
 
@@ -22,7 +22,7 @@ or_false (Some b) = b
 
 -- reads a BOOLEAN DEFAULT FALSE
 unfoldable pub bool_or_false_at : List ℕ → Option (Bool × List ℕ)
-bool_or_false_at = mapped or_false (optional BOOLEAN bool_at)
+bool_or_false_at = map_value or_false (optional BOOLEAN bool_at)
 
 -- INTEGER of a number that isn't negative, and below a limit
 abbrev pub is_unsigned : List ℕ → Bool
@@ -67,8 +67,8 @@ bits_at = content BIT_STRING bits_of
 
 -- OBJECT IDENTIFIER: whole subidentifiers, behind one that has ended or has not
 abbrev pub ends_oid : Bool → List ℕ → Bool
-ends_oid ended [] = ended
-ends_oid ended (n ∷ id) = not (ended && nat_eq n 128) && ends_oid (nat_lt n 128) id
+ends_oid has_ended [] = has_ended
+ends_oid has_ended (n ∷ id) = not (has_ended && nat_eq n 128) && ends_oid (nat_lt n 128) id
 
 -- whether the content is one of an OBJECT IDENTIFIER
 abbrev pub is_oid : List ℕ → Bool

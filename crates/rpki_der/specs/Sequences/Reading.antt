@@ -3,17 +3,17 @@ use Rattle.std.specs.Prelude.{ℕ, suc, zero, List, [], ◌∷◌, Option, Some,
 use Rattle.rpki_der.specs.Values.Reading.{◌>>=◌}
 
 -- at most n values, and nothing after them
-abbrev pub row_at : {V : Type 0} → (List ℕ → Option (V × List ℕ)) → ℕ → List ℕ → Option (List V)
-row_at read n [] = Some []
-row_at read zero (b ∷ bytes) = None
-row_at read (suc n) (b ∷ bytes) = do
+abbrev pub sequence_at : {V : Type 0} → (List ℕ → Option (V × List ℕ)) → ℕ → List ℕ → Option (List V)
+sequence_at read n [] = Some []
+sequence_at read zero (b ∷ bytes) = None
+sequence_at read (suc n) (b ∷ bytes) = do
   v ← read (b ∷ bytes)
-  vs ← row_at read n v.1
+  vs ← sequence_at read n v.1
   Some (v.0 ∷ vs)
 
 -- the sequence that the octets are
-unfoldable pub row_of : {V : Type 0} → (List ℕ → Option (V × List ℕ)) → List ℕ → Option (List V)
-row_of read octets = row_at read (length octets) octets
+unfoldable pub sequence_of : {V : Type 0} → (List ℕ → Option (V × List ℕ)) → List ℕ → Option (List V)
+sequence_of read octets = sequence_at read (length octets) octets
 
 -- what remains after a value is less
 abbrev pub Shrinks : {V : Type 0} → (List ℕ → Option (V × List ℕ)) → Type 0

@@ -1,6 +1,6 @@
 -- The reading functions of values that are skipped.
 use Rattle.std.specs.Prelude.{ℕ, List, [], ◌∷◌, Option, Some, None, ◌-◌, length, take, ◌/◌, ◌%◌, Bool, nat_eq, zero, suc, if◌then◌else◌}
-use Rattle.rpki_der.specs.Sequences.Reading.{row_of}
+use Rattle.rpki_der.specs.Sequences.Reading.{sequence_of}
 use Rattle.rpki_der.specs.Skipping.{levels}
 use Rattle.rpki_der.specs.Values.Reading.{◌>>=◌, value_at}
 
@@ -28,16 +28,16 @@ skip_within zero bytes = do
   if is_primitive v.0.0 then Some (tt, v.1) else None
 skip_within (suc depth) bytes = do
   v ← any_at bytes
-  if is_primitive v.0.0 then Some (tt, v.1) else (row_of (skip_within depth) v.0.1 >>= λ row. Some (tt, v.1))
+  if is_primitive v.0.0 then Some (tt, v.1) else (sequence_of (skip_within depth) v.0.1 >>= λ elements. Some (tt, v.1))
 
 -- skips a value
 unfoldable pub skip_at : List ℕ → Option (Unit {0} × List ℕ)
 skip_at = skip_within levels
 
 -- past such values to the end
-abbrev pub skip_row_within : ℕ → List ℕ → Option (Unit {0})
-skip_row_within depth bytes = row_of (skip_within depth) bytes >>= λ row. Some tt
+abbrev pub skip_sequence_within : ℕ → List ℕ → Option (Unit {0})
+skip_sequence_within depth bytes = sequence_of (skip_within depth) bytes >>= λ elements. Some tt
 
 -- skips values to the end of the octets
 unfoldable pub skip_all_of : List ℕ → Option (Unit {0})
-skip_all_of = skip_row_within levels
+skip_all_of = skip_sequence_within levels

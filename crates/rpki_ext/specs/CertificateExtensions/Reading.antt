@@ -3,7 +3,7 @@
 use Rattle.std.specs.Prelude.{unwrap_or, Bool, ◌||◌, not, true, false, if◌then◌else◌, Option, Some, None, is_some, ℕ, List, ◌≡◌, bytes_eq}
 use Rattle.std.specs.List.{AllByRecursion}
 use Rattle.rpki_der.specs.Extensions.{Extension}
-use Rattle.rpki_der.specs.Folding.{Fold, beside, each_fold, over}
+use Rattle.rpki_der.specs.Folding.{Fold, side_by_side, each_fold, over}
 use Rattle.rpki_der.specs.Values.Reading.{◌>>=◌}
 use Rattle.rpki_der.specs.declared.error.DecodeError.{DecodeError}
 use Rattle.rpki_der.specs.declared.error.DecodeError.TheVariants.{Missing, WrongResources}
@@ -19,7 +19,7 @@ use Rattle.rpki_ext.specs.ExtensionKinds.{basic_constraints, subject_key_identif
 use Rattle.rpki_ext.specs.KindTables.{Sights, table_fold}
 use Rattle.rpki_ext.specs.declared.reading.Named.{Named}
 use Rattle.rpki_ext.specs.declared.reading.Named.TheVariants.{BasicConstraints, SubjectKeyIdentifier, AuthorityKeyIdentifier, KeyUsage, ExtendedKeyUsage, CrlDistributionPoints, AuthorityInformationAccess, SubjectInformationAccess, CertificatePolicies, IpResources, AsResources}
-use Rattle.rpki_ext.specs.declared.reading.Seen.{Seen}
+use Rattle.rpki_ext.specs.declared.reading.ReadExtensions.{ReadExtensions}
 use Rattle.rpki_ext.specs.CertificateExtensions.{no_addresses, ExtensionFields, no_access}
 use Rattle.rpki_ext.specs.CertificateExtensions.Views.{ip_of}
 
@@ -87,14 +87,14 @@ State = Unit {0} × Sights certificate_kinds
 
 -- one step a kind, side by side
 abbrev pub all_kinds : Fold Extension State
-all_kinds = beside (each_fold may_stand) (table_fold certificate_kinds)
+all_kinds = side_by_side (each_fold may_stand) (table_fold certificate_kinds)
 
 -- what was seen so far, as the walk has it
-abbrev pub state_of : Seen → State
+abbrev pub state_of : ReadExtensions → State
 state_of s = (tt, (s.basic_ca, (s.subject_key_identifier, (s.authority_key_identifier, (s.key_usage, (s.extended_key_usage, (s.crl_uri, (s.ca_issuer, (s.access, (s.overclaim, (ip_of s.ip_resources, (s.as_resources, tt))))))))))))
 
 -- whether one of this kind was seen
-abbrev pub is_seen : Seen → Named → Bool
+abbrev pub is_seen : ReadExtensions → Named → Bool
 is_seen s BasicConstraints = is_some s.basic_ca
 is_seen s SubjectKeyIdentifier = is_some s.subject_key_identifier
 is_seen s AuthorityKeyIdentifier = is_some s.authority_key_identifier

@@ -1,4 +1,4 @@
-use Rattle.rpki_crl.proofs.EntryWritten.{row_made}
+use Rattle.rpki_crl.proofs.EntryWritten.{elements_made}
 use Rattle.rpki_crl.proofs.ExampleLists.{some_list, some_list_fits}
 use Rattle.rpki_crl.proofs.SignedLists.{signed_list}
 use Rattle.rpki_crl.proofs.EncodedLists.{list_made}
@@ -10,8 +10,8 @@ returns-clause-data c = list_made
 pub returns-clause-list : goal.returns-clause-list
 returns-clause-list c = signed_list
 
-pub returns-clause-row : goal.returns-clause-row
-returns-clause-row c = row_made
+pub returns-clause-elements : goal.returns-clause-elements
+returns-clause-elements c = elements_made
 
 pub returns-clause-premises : goal.returns-clause-premises
 returns-clause-premises c = (some_list, some_list_fits)

@@ -10,10 +10,10 @@ use Rattle.rpki_ext.proofs.authority_access.encode_authority_information_access.
 
 pub returns-in_err-put_description : goal.returns-in_err-put_description
 returns-in_err-put_description c =
-    let row = description ca_issuers c.args.uri.now in
+    let elements = description ca_issuers c.args.uri.now in
     record {
       ok = search rules;
       err = search rules;
       fits = search rules;
-      too_long = passed_long c.from_residual.result _ _ _ c.from_residual.ensures.1 c.in_err-put_description.ensures.too_long (omega (arith, enc_longer SEQUENCE row, content_longer (pkix 0x01 0x01) false (enc SEQUENCE row), ap (λ (uri : List ℕ). length (description ca_issuers uri)) c.as_bytes.ensures.octets));
+      too_long = passed_long c.from_residual.result _ _ _ c.from_residual.ensures.1 c.in_err-put_description.ensures.too_long (omega (arith, enc_longer SEQUENCE elements, content_longer (pkix 0x01 0x01) false (enc SEQUENCE elements), ap (λ (uri : List ℕ). length (description ca_issuers uri)) c.as_bytes.ensures.octets));
     }

@@ -6,7 +6,7 @@ use Rattle.rpki_der.specs.Values.{sequence_of_some}
 use Rattle.rpki_der.specs.Extensions.{extension_of_some, content_of_some}
 use Rattle.rpki_blocks.proofs.Lengths.{passed_long}
 use Rattle.rpki_ext.specs.SubjectAccess.{access_behind, descriptions}
-use Rattle.rpki_ext.proofs.WrittenDescriptions.{none_written, row_longer}
+use Rattle.rpki_ext.proofs.WrittenDescriptions.{none_written, elements_longer}
 use Rattle.rpki_ext.proofs.subject_access.encode_subject_information_access.Goals as goal
 
 pub returns-in_err-put_descriptions : goal.returns-in_err-put_descriptions
@@ -14,7 +14,7 @@ returns-in_err-put_descriptions c = record {
   ok = search rules;
   err = search rules;
   fits = search rules;
-  too_long = passed_long c.from_residual.result _ _ _ c.from_residual.ensures.1 c.in_err-put_descriptions.ensures.too_long (row_longer (pkix 0x01 0x0B) false _);
+  too_long = passed_long c.from_residual.result _ _ _ c.from_residual.ensures.1 c.in_err-put_descriptions.ensures.too_long (elements_longer (pkix 0x01 0x0B) false _);
 }
 
 pub returns-then-is_empty : goal.returns-then-is_empty

@@ -4,8 +4,8 @@ use Rattle.rpki_der.specs.Place.{remaining}
 use Rattle.rpki_parts.specs.Names.Reading.{attribute_at}
 use Rattle.rpki_parts.proofs.name.check_attributes.Given as goal
 
-abbrev pub invariant-loop-row : goal.invariant-loop-row
-invariant-loop-row l = over attribute_at pass tt (remaining l.row) ≡ over attribute_at pass tt (remaining l.initial.row)
+abbrev pub invariant-loop-elements : goal.invariant-loop-elements
+invariant-loop-elements l = over attribute_at pass tt (remaining l.elements) ≡ over attribute_at pass tt (remaining l.initial.elements)
 
-abbrev pub decreases-loop-row : goal.decreases-loop-row
-decreases-loop-row l = length (remaining l.row)
+abbrev pub decreases-loop-elements : goal.decreases-loop-elements
+decreases-loop-elements l = length (remaining l.elements)

@@ -10,11 +10,11 @@ use Rattle.rpki_cert.proofs.frame.Frame.content.Goals as goal
 
 pub returns-in_err-tbs_content-clause-too_long : goal.returns-in_err-tbs_content-clause-too_long
 returns-in_err-tbs_content-clause-too_long c =
-    let tbs = tbs_content_with c.args.row.now c.args.self.now in
+    let tbs = tbs_content_with c.args.elements.now c.args.self.now in
     passed_long c.from_residual.result _ _ _ c.from_residual.ensures.1 c.in_err-tbs_content.ensures.too_long (omega (arith, enc_longer SEQUENCE tbs, length-append (enc SEQUENCE tbs) c.args.self.now.behind))
 
 pub returns-in_err-put_value-clause-too_long : goal.returns-in_err-put_value-clause-too_long
 returns-in_err-put_value-clause-too_long c =
-    let tbs = tbs_content_with c.args.row.now c.args.self.now in
+    let tbs = tbs_content_with c.args.elements.now c.args.self.now in
     let held : c.deref.result.now ≡ tbs = c.deref.ensures.value ∙ c.in_ok-tbs_content.ensures.ok in
     passed_long c.from_residual-in_err-put_value.result _ _ _ c.from_residual-in_err-put_value.ensures.1 c.in_err-put_value.ensures.too_long.0 (omega (arith, ap length held, enc_longer SEQUENCE tbs, length-append (enc SEQUENCE tbs) c.args.self.now.behind))

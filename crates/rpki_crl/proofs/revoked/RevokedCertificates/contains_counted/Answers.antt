@@ -15,7 +15,7 @@ unfolding entries_pass
 unreachable-requires c =
     let rest = remaining c.loop-rest.rest in
     let none = ends entry_at pass entry_shrinks tt rest (some_left rest c.loop-rest-test.ensures.1) c.in_default.ensures.reads.1 in
-    nothing tt (sym none ∙ c.loop-rest.invariant.row)
+    nothing tt (sym none ∙ c.loop-rest.invariant.elements)
 
 pub loop-rest-smaller : goal.loop-rest-smaller
 loop-rest-smaller c = shorter entry_at pass entry_shrinks tt (remaining c.loop-rest.rest) (entry_of c.in-Ok.entry) (remaining c.take_from.new.cursor) c.in-Ok.ensures.reads
@@ -26,10 +26,10 @@ loop-rest-preserved c =
     let e = entry_of c.in-Ok.entry in
     let rest = remaining c.take_from.new.cursor in
     record {
-      row = sym (goes_on entry_at pass entry_shrinks tt (remaining c.loop-rest.rest) e rest c.in-Ok.ensures.reads tt refl) ∙ c.loop-rest.invariant.row;
+      elements = sym (goes_on entry_at pass entry_shrinks tt (remaining c.loop-rest.rest) e rest c.in-Ok.ensures.reads tt refl) ∙ c.loop-rest.invariant.elements;
       same = sym (goes_on entry_at (each (differs c.args.serial)) entry_shrinks tt (remaining c.loop-rest.rest) e rest c.in-Ok.ensures.reads tt (rw (← c.if-eq.ensures) refl)) ∙ c.loop-rest.invariant.same;
       looked =
-          let more = one_look_more c.args.serial (remaining c.loop-rest.rest) c.loop-rest.invariant.row e rest c.in-Ok.ensures.reads (eqb-false e.serial c.args.serial (sym c.if-eq.ensures)) in
+          let more = one_look_more c.args.serial (remaining c.loop-rest.rest) c.loop-rest.invariant.elements e rest c.in-Ok.ensures.reads (eqb-false e.serial c.args.serial (sym c.if-eq.ensures)) in
           omega (arith, more, c.loop-rest.invariant.looked);
       few =
           let less = shorter entry_at pass entry_shrinks tt (remaining c.loop-rest.rest) e rest c.in-Ok.ensures.reads in
@@ -57,10 +57,10 @@ returns-then-eq-clause-entries c = kept_entries c.self.inside.octets c.args.self
 pub returns-then-eq-clause-looks : goal.returns-then-eq-clause-looks
 returns-then-eq-clause-looks c =
     let e = entry_of c.in-Ok.entry in
-    let last = last_look c.args.serial (remaining c.loop-rest.rest) c.loop-rest.invariant.row e (remaining c.take_from.new.cursor) c.in-Ok.ensures.reads (eqb-true e.serial c.args.serial (sym c.if-eq.ensures)) in
+    let last = last_look c.args.serial (remaining c.loop-rest.rest) c.loop-rest.invariant.elements e (remaining c.take_from.new.cursor) c.in-Ok.ensures.reads (eqb-true e.serial c.args.serial (sym c.if-eq.ensures)) in
     omega (arith, last, c.loop-rest.invariant.looked)
 
 pub returns-clause-looks : goal.returns-clause-looks
 returns-clause-looks c =
-    let none = no_more_looks c.args.serial (remaining c.loop-rest.rest) c.loop-rest.invariant.row (c.loop-rest-test.ensures.0 refl) in
+    let none = no_more_looks c.args.serial (remaining c.loop-rest.rest) c.loop-rest.invariant.elements (c.loop-rest-test.ensures.0 refl) in
     omega (arith, none, c.loop-rest.invariant.looked)

@@ -7,7 +7,7 @@ use Rattle.rpki_crl.proofs.revoked.RevokedCertificates.contains_counted.Given as
 
 abbrev pub invariant-loop-rest : goal.invariant-loop-rest
 invariant-loop-rest l = record {
-  row : entries_pass (remaining l.rest) ≡ Some tt;
+  elements : entries_pass (remaining l.rest) ≡ Some tt;
   same : spares l.serial (remaining l.rest) ≡ spares l.serial l.self.octets;
   looked : l.count + looks l.serial (entries_in (remaining l.rest)) ≡ looks l.serial l.self.entries;
   few : l.count + length (remaining l.rest) ≤ length l.self.octets;

@@ -6,6 +6,6 @@ use Rattle.rpki_crl.proofs.revoked.RevokedCertificates.from_entries.Given as goa
 
 abbrev pub invariant-loop-entry : goal.invariant-loop-entry
 invariant-loop-entry l = record {
-  written : l.octets.items ≡ entries (map entry_of (take l.entry-index l.row));
-  fit : AllByRecursion FitsEntry (map entry_of (take l.entry-index l.row));
+  written : l.octets.items ≡ entries (map entry_of (take l.entry-index l.elements));
+  fit : AllByRecursion FitsEntry (map entry_of (take l.entry-index l.elements));
 }

@@ -1,7 +1,7 @@
 use Rattle.std.specs.Prelude.{[], ◌∷◌, codes, decimal}
 use Rattle.std.proofs.Common.{inl, inr, refl}
 use Rattle.rpki_path.specs.declared.running.Status.TheVariants.{BadInput}
-use Rattle.rpki_path.specs.Program.{is_valid_path, printed, Says}
+use Rattle.rpki_path.specs.Program.{is_valid_path, output_of, Says}
 use Rattle.rpki_path.specs.Questions.{path_question, revoked_question}
 use Rattle.rpki_path.proofs.InputLines.{if_ok}
 use Rattle.rpki_path.proofs.Reports.{answered}
@@ -20,5 +20,5 @@ returns-in-Path c = λ text read.
 pub returns-in-Bad : goal.returns-in-Bad
 returns-in-Bad c = λ text read.
     let asked = rw c.in-Bad.is at read in
-    answered (Says text) c.bad_input.result BadInput (printed (codes "bad input " ∷ decimal c.in-Bad.number ∷ [])) c.bad_input.ensures.status c.bad_input.ensures.text
+    answered (Says text) c.bad_input.result BadInput (output_of (codes "bad input " ∷ decimal c.in-Bad.number ∷ [])) c.bad_input.ensures.status c.bad_input.ensures.text
     (asked.0, asked.1, inr (c.in-Bad.number, asked.2, refl, refl))
