@@ -17,19 +17,19 @@ use std::alloc::Global;
 
 /// The kinds of extensions that revocation lists know (RFC 6487 5).
 #[derive(Clone, Copy)]
-enum Kind {
+enum ListKind {
     AuthorityKeyIdentifier,
     CrlNumber,
 }
 
 // The kind that an identifier names; `None` where it isn't known.
-fn kind_of(identifier: &[u8]) -> Option<Kind>
+fn kind_of(identifier: &[u8]) -> Option<ListKind>
     ensures { NamesListKind identifier.now result }
 {
     if identifier == oid::CE_AUTHORITY_KEY_IDENTIFIER {
-        Some(Kind::AuthorityKeyIdentifier)
+        Some(ListKind::AuthorityKeyIdentifier)
     } else if identifier == oid::CE_CRL_NUMBER {
-        Some(Kind::CrlNumber)
+        Some(ListKind::CrlNumber)
     } else {
         None
     }
@@ -37,7 +37,7 @@ fn kind_of(identifier: &[u8]) -> Option<Kind>
 
 /// What the extensions of a revocation list give.
 #[derive(Clone, Copy)]
-pub(crate) struct Extensions {
+pub(crate) struct CrlExtensions {
     pub(crate) authority_key_identifier: KeyIdentifier,
     pub(crate) crl_number: Serial,
 }
@@ -94,14 +94,14 @@ impl ReadListExtensions {
             return Err(refuse(alloc, identifier));
         };
         match kind {
-            Kind::AuthorityKeyIdentifier => {
+            ListKind::AuthorityKeyIdentifier => {
                 if self.authority_key_identifier.is_some() {
                     return Err(DecodeError::Duplicate(Field::AuthorityKeyIdentifier));
                 }
                 self.authority_key_identifier = Some(take_authority_key_identifier(content)?);
                 Ok(())
             }
-            Kind::CrlNumber => {
+            ListKind::CrlNumber => {
                 if self.crl_number.is_some() {
                     return Err(DecodeError::Duplicate(Field::CrlNumber));
                 }
@@ -132,9 +132,9 @@ impl ReadListExtensions {
     }
 }
 
-impl Extensions {
+impl CrlExtensions {
     // What was seen, if both kinds were.
-    fn complete(seen: ReadListExtensions) -> Result<Extensions, DecodeError>
+    fn complete(seen: ReadListExtensions) -> Result<CrlExtensions, DecodeError>
         ensures { ReturnsBy extensions_view result (both_seen (sights_of seen)) }
     {
         let Some(authority_key_identifier) = seen.authority_key_identifier else {
@@ -143,7 +143,7 @@ impl Extensions {
         let Some(crl_number) = seen.crl_number else {
             return Err(DecodeError::Missing(Field::CrlNumber));
         };
-        Ok(Extensions {
+        Ok(CrlExtensions {
             authority_key_identifier,
             crl_number,
         })
@@ -151,10 +151,13 @@ impl Extensions {
 
     /// Reads all extensions of a list, and returns what they give (RFC 6487 5).
     #[tactic(auto, unfolding(crate::specs::ListExtensions::Reading::list_extensions_of))]
-    pub(crate) fn from_row(alloc: Global, elements: &Cursor<'_>) -> Result<Extensions, DecodeError>
+    pub(crate) fn from_row(
+        alloc: Global,
+        elements: &Cursor<'_>,
+    ) -> Result<CrlExtensions, DecodeError>
         ensures reads { ReturnsOrMemoryBy extensions_view result
             (list_extensions_of (remaining elements.now)) }
     {
-        Extensions::complete(ReadListExtensions::from_row(alloc, elements)?)
+        CrlExtensions::complete(ReadListExtensions::from_row(alloc, elements)?)
     }
 }

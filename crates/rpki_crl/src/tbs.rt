@@ -12,7 +12,7 @@ ghost use Rattle.rpki_crl.specs.Lists.Reading.{list_version_at, list_parts_in_or
 ghost use Rattle.rpki_crl.specs.Lists.Views.{parts_view};
 ghost use Rattle.rpki_crl.specs.Lists.Lending.{LendsRevoked};
 
-use crate::extensions::Extensions;
+use crate::extensions::CrlExtensions;
 use crate::revoked::RevokedCertificates;
 use rpki_der::{Cursor, DecodeError, Serial, Time, tag};
 use rpki_ext::beside;
@@ -29,7 +29,7 @@ pub struct TbsCertList<C> {
     pub(crate) this_update: Time,
     pub(crate) next_update: Time,
     pub(crate) revoked_certs: C,
-    pub(crate) extensions: Extensions,
+    pub(crate) extensions: CrlExtensions,
 }
 
 impl<C> Model for TbsCertList<C> {
@@ -149,7 +149,7 @@ impl TbsCertList<RevokedCertificates> {
     {
         let mut ahead = cursor.fork();
         let (head, elements) = take_fields(alloc, &mut ahead)?;
-        let (head, extensions) = beside(head, Extensions::from_row(alloc, &elements))?;
+        let (head, extensions) = beside(head, CrlExtensions::from_row(alloc, &elements))?;
         *cursor = ahead;
         let Head {
             signature,
@@ -227,7 +227,7 @@ impl<C> TbsCertList<C> {
             this_update,
             next_update,
             revoked_certs,
-            extensions: Extensions {
+            extensions: CrlExtensions {
                 authority_key_identifier,
                 crl_number,
             },

@@ -9,7 +9,7 @@ ghost use Rattle.rpki_crl.specs.RevokedEntries.{AreEntries};
 ghost use Rattle.rpki_crl.specs.ListExtensions.Views.{extensions_view};
 ghost use Rattle.rpki_crl.specs.Lists.{ListFits, list_content, list_sequence, tagged_list_extensions};
 
-use crate::extensions::Extensions;
+use crate::extensions::CrlExtensions;
 use crate::revoked::RevokedCertificates;
 use crate::tbs::TbsCertList;
 use rpki_der::{EncodeError, oid, put_extension, put_value, tag};
@@ -19,7 +19,7 @@ use std::alloc::Global;
 // The INTEGER 1, which is version 2.
 const VERSION_2: [u8; 3] = [tag::INTEGER, 0x01, 0x01];
 
-impl Extensions {
+impl CrlExtensions {
     // Appends both extensions, one after the other.
     fn put_sequence(&self, alloc: Global, out: &mut Vec<u8>) -> Result<(), EncodeError>
         ensures ok { OnOk result

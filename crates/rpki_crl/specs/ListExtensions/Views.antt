@@ -4,16 +4,16 @@ use Rattle.std.specs.List.{AllByRecursion}
 use Rattle.rpki_ext.specs.KindTables.{identifiers_of}
 use Rattle.rpki_ext.specs.KeyIdentifiers.{authority_key_identifier}
 use Rattle.rpki_ext.specs.CrlNumbers.{crl_number}
-use Rattle.rpki_crl.specs.declared.extensions.Kind.{Kind}
-use Rattle.rpki_crl.specs.declared.extensions.Kind.TheVariants.{AuthorityKeyIdentifier, CrlNumber}
+use Rattle.rpki_crl.specs.declared.extensions.ListKind.{ListKind}
+use Rattle.rpki_crl.specs.declared.extensions.ListKind.TheVariants.{AuthorityKeyIdentifier, CrlNumber}
 use Rattle.rpki_crl.specs.declared.extensions.ReadListExtensions.{ReadListExtensions}
-use Rattle.rpki_crl.specs.declared.extensions.Extensions.{Extensions}
+use Rattle.rpki_crl.specs.declared.extensions.CrlExtensions.{CrlExtensions}
 use Rattle.rpki_ext.specs.ListKinds.{list_kinds}
 use Rattle.rpki_crl.specs.ListExtensions.{ListExtensions}
 use Rattle.rpki_crl.specs.ListExtensions.Reading.{ListSights, list_extensions}
 
 -- the kind that an identifier names, or none
-abbrev pub NamesListKind : List ℕ → Option Kind → Type 0
+abbrev pub NamesListKind : List ℕ → Option ListKind → Type 0
 NamesListKind id (Some AuthorityKeyIdentifier) = id ≡ authority_key_identifier.identifier
 NamesListKind id (Some CrlNumber) = id ≡ crl_number.identifier
 NamesListKind id None = AllByRecursion (λ a. bytes_eq id a ≡ false) (identifiers_of list_kinds)
@@ -23,5 +23,5 @@ abbrev pub sights_of : ReadListExtensions → ListSights
 sights_of s = (tt, (s.authority_key_identifier, (s.crl_number, tt)))
 
 -- the fields that the code keeps of a list's extensions
-abbrev pub extensions_view : Extensions → ListExtensions
+abbrev pub extensions_view : CrlExtensions → ListExtensions
 extensions_view x = list_extensions x.authority_key_identifier x.crl_number

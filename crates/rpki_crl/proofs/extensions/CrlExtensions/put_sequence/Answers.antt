@@ -4,7 +4,7 @@ use Rattle.rpki_der.proofs.ValueWritten.{plain_oid}
 use Rattle.rpki_der.proofs.TooLong.{passed_long, still_long}
 use Rattle.rpki_crl.specs.ListExtensions.Views.{extensions_view}
 use Rattle.rpki_crl.proofs.ListsWritten.{identifier_longer, number_longer}
-use Rattle.rpki_crl.proofs.extensions.Extensions.put_sequence.Goals as goal
+use Rattle.rpki_crl.proofs.extensions.CrlExtensions.put_sequence.Goals as goal
 
 pub returns-in_err-encode_authority_key_identifier-clause-too_long : goal.returns-in_err-encode_authority_key_identifier-clause-too_long
 returns-in_err-encode_authority_key_identifier-clause-too_long c = passed_long c.from_residual.result _ _ _ c.from_residual.ensures.1 c.in_err-encode_authority_key_identifier.ensures.too_long (identifier_longer (extensions_view c.args.self.now))

@@ -5,7 +5,7 @@ use Rattle.rpki_der.proofs.TooLong.{passed_long, still_long}
 use Rattle.rpki_crl.specs.ListExtensions.Views.{extensions_view}
 use Rattle.rpki_crl.specs.Lists.{list_sequence}
 use Rattle.rpki_crl.proofs.ListsWritten.{elements_longer, sequence_longer}
-use Rattle.rpki_crl.proofs.extensions.Extensions.put_tagged.Goals as goal
+use Rattle.rpki_crl.proofs.extensions.CrlExtensions.put_tagged.Goals as goal
 
 pub returns-in_err-put_sequence-clause-too_long : goal.returns-in_err-put_sequence-clause-too_long
 returns-in_err-put_sequence-clause-too_long c = passed_long c.from_residual.result _ _ _ c.from_residual.ensures.1 c.in_err-put_sequence.ensures.too_long (elements_longer (extensions_view c.args.self.now))
