@@ -67,6 +67,13 @@ fn of_authorities(fault: InspectionError) -> Rule {
             "the URI of a signed object must be absent",
             "RFC 6487 4.8.8.1",
         ),
+        other => of_their_issuers(other),
+    }
+}
+
+// Faults of what trust anchors and CAs say of their issuers.
+fn of_their_issuers(fault: InspectionError) -> Rule {
+    match fault {
         InspectionError::AuthorityKeyIdentifier => meaning(
             "the authority key identifier of a trust anchor is another key's",
             "RFC 6487 4.8.3",
@@ -132,20 +139,24 @@ pub fn of_inspection(fault: InspectionError) -> Rule {
     common(fault)
 }
 
+// A trust anchor that inherits such numbers (RFC 8630 2.3).
+fn inherits(says: &'static str) -> Rule {
+    meaning(says, "RFC 8630 2.3")
+}
+
+// A certificate that lists such numbers, which its issuer doesn't hold (RFC 6487 7.2).
+fn overclaims(says: &'static str) -> Rule {
+    meaning(says, "RFC 6487 7.2")
+}
+
 /// Tells what a fault of verification means.
 pub fn of_verification(fault: &VerificationError) -> Rule {
     match fault {
         VerificationError::NotYetValid => meaning("it isn't valid yet", "RFC 6487 4.6"),
         VerificationError::Expired => meaning("it has expired", "RFC 6487 4.6"),
-        VerificationError::InheritedV4 => {
-            meaning("a trust anchor inherits IPv4 addresses", "RFC 8630 2.3")
-        }
-        VerificationError::InheritedV6 => {
-            meaning("a trust anchor inherits IPv6 addresses", "RFC 8630 2.3")
-        }
-        VerificationError::InheritedAs => {
-            meaning("a trust anchor inherits AS numbers", "RFC 8630 2.3")
-        }
+        VerificationError::InheritedV4 => inherits("a trust anchor inherits IPv4 addresses"),
+        VerificationError::InheritedV6 => inherits("a trust anchor inherits IPv6 addresses"),
+        VerificationError::InheritedAs => inherits("a trust anchor inherits AS numbers"),
         VerificationError::MissingKeyId => {
             meaning("the authority key identifier is missing", "RFC 6487 4.8.3")
         }
@@ -162,22 +173,13 @@ pub fn of_verification(fault: &VerificationError) -> Rule {
             "RFC 6487 7.2",
         ),
         VerificationError::OverclaimV4 => {
-            meaning(
-                "it lists IPv4 addresses that its issuer doesn't hold",
-                "RFC 6487 7.2",
-            )
+            overclaims("it lists IPv4 addresses that its issuer doesn't hold")
         }
         VerificationError::OverclaimV6 => {
-            meaning(
-                "it lists IPv6 addresses that its issuer doesn't hold",
-                "RFC 6487 7.2",
-            )
+            overclaims("it lists IPv6 addresses that its issuer doesn't hold")
         }
         VerificationError::OverclaimAs => {
-            meaning(
-                "it lists AS numbers that its issuer doesn't hold",
-                "RFC 6487 7.2",
-            )
+            overclaims("it lists AS numbers that its issuer doesn't hold")
         }
         VerificationError::Memory => meaning("out of memory", "no section"),
     }
