@@ -34,4 +34,4 @@ returns-clause-rejected g c =
 pub returns-clause-readable : goal.returns-clause-readable
 returns-clause-readable g c made =
     let same : c.deref.result.now ≡ signed_data c.args.made.now.signed_data = grind (arith, c.deref.ensures, c.in-Ok.ensures.ok, c.octets.view_is) in
-    read_or_memory g.elements.E.Denot c.in-Err-decode.error (subst (λ o. Rejects c.in-Err-decode.error ((d : CertFields) → Means IsCertificate d o → ⊥)) same c.in-Err-decode.ensures) (readable c.args.made.now made)
+    read_or_memory g.row.E.Denot c.in-Err-decode.error (subst (λ o. Rejects c.in-Err-decode.error ((d : CertFields) → Means IsCertificate d o → ⊥)) same c.in-Err-decode.ensures) (readable c.args.made.now made)
