@@ -140,11 +140,16 @@ fn has_scheme(scheme: &[u8], uri: &[u8]) -> bool
     written.eq_ignore_ascii_case(scheme) && !authority.is_empty()
 }
 
-// Whether all octets are `21` to `7E`.
+// Whether all octets are `21` to `7E`. Goes on past one that isn't, so that the compiler can test
+// many at once.
 fn is_printable(text: &[u8]) -> bool
     ensures { result ≡ list_all is_ascii_graphic text.now }
 {
-    text.iter().all(|octet| octet.is_ascii_graphic())
+    let mut all = true;
+    for octet in text {
+        all &= octet.is_ascii_graphic();
+    }
+    all
 }
 
 // Whether these octets are a URI of the scheme.
