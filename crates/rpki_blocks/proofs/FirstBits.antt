@@ -1,12 +1,13 @@
 -- Addresses that begin with some bits.
 use Rattle.std.specs.Int.Digits.{number_from_digits}
 use Rattle.std.proofs.Common.{◌≡◌, ℕ, zero, suc, ◌+◌, ◌-◌, ◌*◌, ◌/◌, ◌%◌, ◌^◌, ◌<◌, ◌≤◌, List, [], ◌∷◌, length, refl, sym, ap, subst, ◌∙◌, arith}
-use Rattle.std.proofs.lemmas.Nat.{pow_pos, pow-add}
+use Rattle.std.proofs.lemmas.Nat.{pow_pos, pow-add, one_shl}
 use Rattle.std.proofs.Math.Nat.{pow-suc, mul-lt-mul_of_pos_right, mul-div_cancel, mul_assoc, mul_comm, div-add-mod}
 use Rattle.std.proofs.Math.Pow.{pow_mono}
 use Rattle.rpki_blocks.specs.Sets.{Block}
 use Rattle.rpki_blocks.specs.Prefixes.{IsPrefixBlock}
 use Rattle.rpki_blocks.specs.Addresses.{lower, upper}
+use Rattle.rpki_blocks.proofs.Prefixes.{prefix_fits}
 
 -- n octets are 8n bits
 pub octets_bits : (n : ℕ) → 256 ^ n ≡ 2 ^ (8 * n)
@@ -74,3 +75,21 @@ module _ (unused : ℕ) (octets : List ℕ) (few : unused < 8) (none : octets �
       let min : b.min ≡ lower octets = p.lower ∙ multiple in
       let max : b.max ≡ upper unused octets = omega (arith, p.upper, min, counted) in
       λ i. record { min = min i; max = max i }
+
+  -- the greatest of them is an address
+  upper_fits : lower octets < 2 ^ 128 → lower octets + (2 ^ (128 - 8 * length octets + unused) - 1) < 2 ^ 128
+  upper_fits l =
+      let top : lower octets / count * count + (count - 1) < 2 ^ 128 = prefix_fits (lower octets) (8 * length octets - unused) (omega arith) l in
+      omega (arith, top, multiple, counted)
+
+  -- of IPv4 the ends are numbers of 32 bits, before 96 zero bits and 96 one bits
+  pub v4_ends : (first low high : ℕ) → first < 2 ^ 32 → first * 2 ^ 96 ≡ lower octets → length octets ≤ 4 → low ≡ first * 2 ^ 96 % 2 ^ 128 →
+    high ≡ (first + (1 * 2 ^ (32 - 8 * length octets + unused) % 2 ^ 64 - 1)) * 2 ^ 96 % 2 ^ 128 + (2 ^ 96 - 1) → (low ≡ lower octets) × (high ≡ upper unused octets) × (low ≤ high)
+  v4_ends first low high l is short low_is high_is =
+      let bits = 32 - 8 * length octets + unused in
+      let split : 2 ^ (128 - 8 * length octets + unused) ≡ 2 ^ bits * 2 ^ 96 = ap (λ (j : ℕ). 2 ^ j) (let e : 128 - 8 * length octets + unused ≡ bits + 96 = omega arith in e) ∙ pow-add 2 bits 96 in
+      let some : 0 < 2 ^ bits = pow_pos bits in
+      let size : 1 * 2 ^ bits % 2 ^ 64 ≡ 2 ^ bits = one_shl bits 64 (omega arith) in
+      let lower_is : low ≡ lower octets = omega (arith, low_is, is) in
+      let upper_is : high ≡ upper unused octets = omega (arith, high_is, size, split, some, is, upper_fits (omega (arith, is))) in
+      (lower_is, upper_is, omega (arith, lower_is, upper_is, split, some))

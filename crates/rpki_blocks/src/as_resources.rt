@@ -30,7 +30,7 @@ fn range_in(mut content: Cursor<'_>) -> Result<AsBlock, DecodeError>
         return Err(DecodeError::BadValue);
     }
     content.finish()?;
-    Ok(AsBlock::from((Asn::from(low), Asn::from(high))))
+    Ok(AsBlock::of_ends(Asn::from(low), Asn::from(high)))
 }
 
 #[tactic(auto, unfolding(crate::specs::Systems::Reading::as_element_at))]
@@ -44,7 +44,7 @@ fn take_element(cursor: &mut Cursor<'_>) -> Result<AsBlock, DecodeError>
         Some(content) => range_in(content)?,
         None => {
             let number = Asn::from(ahead.take_u32()?);
-            AsBlock::from((number, number))
+            AsBlock::of_ends(number, number)
         }
     };
     *cursor = ahead;

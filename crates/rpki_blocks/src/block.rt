@@ -77,6 +77,15 @@ impl<B: Bound> Block<B> {
         }
     }
 
+    // The numbers from the first end to the second.
+    #[inline(always)]
+    pub(crate) fn of_ends(min: B, max: B) -> Block<B>
+        requires { B.number min ≤ B.number max }
+        ensures { result ≡ record { min = B.number min; max = B.number max } }
+    {
+        Block { min, max }
+    }
+
     // The numbers that are in both, if there are any.
     pub(crate) fn meet(self, other: Block<B>) -> Option<Block<B>>
         ensures { MatchOption result (AreApart self other) (IsMeet self other) }

@@ -5,7 +5,7 @@ ghost use Rattle.rpki_der.specs.Place.{Place, remaining, Keeps, AnswersOrMemoryB
 ghost use Rattle.rpki_der.specs.Place.Reading.{Took, TookOrMemory, TookOrMemoryBy, Returns, ReturnsBy, ReturnsOrMemory, ReturnsOrMemoryBy};
 ghost use Rattle.rpki_der.specs.Tags.{BIT_STRING, SEQUENCE};
 ghost use Rattle.rpki_der.specs.Values.{AreOctets};
-ghost use Rattle.rpki_blocks.specs.Addresses.{lower, Families, IsIPAddrBlocks};
+ghost use Rattle.rpki_blocks.specs.Addresses.{lower, upper, Families, IsIPAddrBlocks};
 ghost use Rattle.rpki_blocks.specs.Addresses.Views.{families_of};
 ghost use Rattle.rpki_blocks.specs.Addresses.Reading.{family_bits, prefix_of, address_at, address_range, ip_element_at, family_of, family_in, with_second, families_in, families_at};
 ghost use Rattle.rpki_der.specs.Primitives.Reading.{bits_at};
@@ -13,7 +13,7 @@ ghost use Rattle.rpki_der.specs.Choices.{optional_of};
 ghost use Rattle.rpki_der.proofs.Choices.{content_or_shrinks, turned_shrinks, content_shrinks};
 
 use crate::addr::Addr;
-use crate::block::IpBlock;
+use crate::block::{Block, IpBlock};
 use crate::elements::{Elements, take_choice};
 use crate::prefix::Prefix;
 use crate::resources::IpResources;
@@ -66,6 +66,46 @@ fn lower(octets: &[u8]) -> u128
     }
 }
 
+// The least IPv4 address that begins with these octets, as a number of 32 bits.
+#[inline(always)]
+fn v4_lower(octets: &[u8]) -> u32
+    requires { length octets.now ≤ 4 }
+    ensures { result * 2 ^ 96 ≡ lower octets.now }
+{
+    match octets {
+        [] => 0,
+        [a] => u32::from(*a) * 0x100_0000,
+        [a, b] => u32::from(*a) * 0x100_0000 + u32::from(*b) * 0x1_0000,
+        [a, b, c] => {
+            u32::from(*a) * 0x100_0000 + u32::from(*b) * 0x1_0000 + u32::from(*c) * 0x100
+        }
+        [a, b, c, d] => {
+            u32::from(*a) * 0x100_0000
+                + u32::from(*b) * 0x1_0000
+                + u32::from(*c) * 0x100
+                + u32::from(*d)
+        }
+        [_, _, _, _, _, ..] => unreachable!(),
+    }
+}
+
+// The IPv4 addresses that begin with the bits of a BIT STRING.
+#[inline(always)]
+fn v4_block(unused: u8, octets: &[u8]) -> IpBlock
+    requires few { unused < 8 }
+    requires none { octets.now ≡ [] → unused ≡ 0 }
+    requires zero_bits { number_from_digits 256 octets.now % 2 ^ unused ≡ 0 }
+    requires short { length octets.now ≤ 4 }
+    ensures { result ≡ record { min = lower octets.now; max = upper unused octets.now } }
+{
+    let first = u64::from(v4_lower(octets));
+    let size = 1u64 << (32 - 8 * octets.len() as u8 + unused);
+    let last = first + (size - 1);
+    let low = u128::from(first) << 96;
+    let high = (u128::from(last) << 96) + ((1 << 96) - 1);
+    Block::of_ends(Addr::from(low), Addr::from(high))
+}
+
 // The addresses that begin with the bits of a BIT STRING.
 #[inline(always)]
 fn prefix_of(bits: usize, unused: u8, octets: &[u8]) -> Result<IpBlock, DecodeError>
@@ -77,6 +117,9 @@ fn prefix_of(bits: usize, unused: u8, octets: &[u8]) -> Result<IpBlock, DecodeEr
 {
     if bits / 8 < octets.len() {
         return Err(DecodeError::BadValue);
+    }
+    if bits == 32 {
+        return Ok(v4_block(unused, octets));
     }
     let len = 8 * octets.len() as u8 - unused;
     Ok(IpBlock::from(Prefix::new(lower(octets), len)))

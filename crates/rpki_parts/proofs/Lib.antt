@@ -12,6 +12,7 @@ pub mod NameForms
 pub mod NameTexts
 pub mod NameValues
 pub mod Slashes
+pub mod DotSegments
 pub mod UriTests
 pub mod UriParents
 pub mod UriEquivalences

@@ -1,5 +1,5 @@
 //! What both kinds of URIs have in common.
-ghost use Rattle.std.specs.Prelude.{◌≡◌, ◌≤◌, ◌↔◌, IsTrue, IsNone, IfSome, length, take, drop};
+ghost use Rattle.std.specs.Prelude.{◌≡◌, ◌≤◌, ◌↔◌, IsTrue, IsNone, IfSome, true, false, length, take, drop};
 ghost use Rattle.std.specs.Char.{is_ascii_graphic};
 ghost use Rattle.std.specs.List.{list_all, position_or_len, slice_split};
 ghost use Rattle.rpki_parts.specs.Uris.Tests as parts;
@@ -140,11 +140,16 @@ fn has_scheme(scheme: &[u8], uri: &[u8]) -> bool
     written.eq_ignore_ascii_case(scheme) && !authority.is_empty()
 }
 
-// Whether all octets are `21` to `7E`.
+// Whether all octets are `21` to `7E`. Goes on past one that isn't, so that the compiler can test
+// many at once.
 fn is_printable(text: &[u8]) -> bool
     ensures { result ≡ list_all is_ascii_graphic text.now }
 {
-    text.iter().all(|octet| octet.is_ascii_graphic())
+    let mut all = true;
+    for octet in text {
+        all &= octet.is_ascii_graphic();
+    }
+    all
 }
 
 // Whether these octets are a URI of the scheme.
@@ -188,10 +193,28 @@ fn is_segment(text: &[u8]) -> bool
     text != b".".as_slice() && text != b"..".as_slice()
 }
 
+// Whether a segment of a path begins with a dot. Goes on past one that does, so that the compiler
+// can test many octets at once.
+fn may_have_dots(path: &[u8]) -> bool
+    ensures { result ≡ false
+        → list_all parts.is_segment (slice_split parts.is_slash path.now) ≡ true }
+{
+    let mut begins = false;
+    let mut before = b'/';
+    for octet in path {
+        begins |= (before == b'/') & (*octet == b'.');
+        before = *octet;
+    }
+    begins
+}
+
 // Whether none of the segments of a path is `.` or `..`.
 fn has_no_dots(path: &[u8]) -> bool
     ensures { result ≡ list_all parts.is_segment (slice_split parts.is_slash path.now) }
 {
+    if !may_have_dots(path) {
+        return true;
+    }
     path.split(|octet| *octet == b'/').all(is_segment)
 }
 
