@@ -84,7 +84,7 @@ module _ (unused : ℕ) (octets : List ℕ) (few : unused < 8) (none : octets �
 
   -- of IPv4 the ends are numbers of 32 bits, before 96 zero bits and 96 one bits
   pub v4_ends : (first low high : ℕ) → first < 2 ^ 32 → first * 2 ^ 96 ≡ lower octets → length octets ≤ 4 → low ≡ first * 2 ^ 96 % 2 ^ 128 →
-    high ≡ (first + (1 * 2 ^ (32 - 8 * length octets + unused) % 2 ^ 64 - 1)) * 2 ^ 96 % 2 ^ 128 + (2 ^ 96 - 1) → (low ≡ lower octets) × (high ≡ upper unused octets) × (low ≤ high)
+      high ≡ (first + (1 * 2 ^ (32 - 8 * length octets + unused) % 2 ^ 64 - 1)) * 2 ^ 96 % 2 ^ 128 + (2 ^ 96 - 1) → (low ≡ lower octets) × (high ≡ upper unused octets) × (low ≤ high)
   v4_ends first low high l is short low_is high_is =
       let bits = 32 - 8 * length octets + unused in
       let split : 2 ^ (128 - 8 * length octets + unused) ≡ 2 ^ bits * 2 ^ 96 = ap (λ (j : ℕ). 2 ^ j) (let e : 128 - 8 * length octets + unused ≡ bits + 96 = omega arith in e) ∙ pow-add 2 bits 96 in
