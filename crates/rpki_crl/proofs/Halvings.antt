@@ -5,6 +5,7 @@ use Rattle.std.proofs.lemmas.Bool.{cases_lt}
 use Rattle.std.proofs.lemmas.Grind.{get_or_default_zero}
 use Rattle.std.proofs.lemmas.Int.Digits.{length-digits_of_step, length-digits_of-le}
 use Rattle.rpki_crl.specs.SerialTables.{AreAscending, digits}
+use Rattle.rpki_crl.specs.SerialBuckets.{IsBetween}
 
 -- half of a number has one binary digit less
 pub digits_step : (n : ℕ) → 0 < n → digits n ≡ digits (n / 2) + 1
@@ -28,20 +29,13 @@ digits_grow m n h = digits_grow_by n m n (omega arith) h
 
 -- what remains of the search between two places
 module _ (xs : List ℕ) (serial : ℕ) where
-  -- the serial can stand only from low to high: before are smaller ones, after are greater ones
-  pub record IsBetween (low high : ℕ) : Type 0 where
-    pub order : low ≤ high
-    pub inside : high ≤ length xs
-    pub before : (i : ℕ) → i < low → get_or xs i 0 < serial
-    pub after : (i : ℕ) → high ≤ i → i < length xs → serial < get_or xs i 0
-
   -- at first the serial is searched for between the ends of the table
-  pub at_first : IsBetween 0 (length xs)
+  pub at_first : IsBetween xs serial 0 (length xs)
   at_first = record { order = omega arith; inside = omega arith; before = λ i h. absurd (omega arith); after = λ i h l. absurd (omega arith) }
 
-  module _ (ascending : AreAscending xs) (low middle high : ℕ) (between : IsBetween low high) (p : low ≤ middle) (q : middle < high) where
+  module _ (ascending : AreAscending xs) (low middle high : ℕ) (between : IsBetween xs serial low high) (p : low ≤ middle) (q : middle < high) where
     -- a serial above the middle one is searched for above it
-    pub go_up : get_or xs middle 0 < serial → IsBetween (middle + 1) high
+    pub go_up : get_or xs middle 0 < serial → IsBetween xs serial (middle + 1) high
     go_up less = record {
       order = omega arith;
       inside = between.inside;
@@ -50,7 +44,7 @@ module _ (xs : List ℕ) (serial : ℕ) where
     }
 
     -- a serial below the middle one is searched for below it
-    pub go_down : serial < get_or xs middle 0 → IsBetween low middle
+    pub go_down : serial < get_or xs middle 0 → IsBetween xs serial low middle
     go_down greater = record {
       order = p;
       inside = omega (arith, between.inside);
@@ -59,7 +53,7 @@ module _ (xs : List ℕ) (serial : ℕ) where
     }
 
   -- nothing remains
-  pub not_there : (low : ℕ) (high : ℕ) → high ≤ low → IsBetween low high → Contains xs serial → ⊥
+  pub not_there : (low : ℕ) (high : ℕ) → high ≤ low → IsBetween xs serial low high → Contains xs serial → ⊥
   not_there low high e between found =
       let at = sym (get_or_default_zero xs found.0 serial found.1) ∙ found.2 in
       elim (cases_lt found.0 low) [

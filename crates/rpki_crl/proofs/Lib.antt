@@ -3,6 +3,7 @@ pub mod EntrySequences
 pub mod ListReads
 pub mod EntryWritten
 pub mod Halvings
+pub mod Buckets
 pub mod ListExtensionsReads
 pub mod CertificateListsReads
 pub mod SerialCaches

@@ -1,5 +1,6 @@
 pub mod RevokedEntries
 pub mod SerialTables
+pub mod SerialBuckets
 pub mod ListExtensions
 pub mod Lists
 pub mod Stores

@@ -1,8 +1,10 @@
 //! Serial numbers in a sorted table, and how many of them a search looks at.
-ghost use Rattle.std.specs.Prelude.{◌≡◌, ◌↔◌, ◌+◌, ◌^◌, ◌<◌, ◌≤◌, IsTrue, IfOk, Contains, length, get_or};
+ghost use Rattle.std.specs.Prelude.{◌≡◌, ◌↔◌, ◌+◌, ◌^◌, ◌%◌, ◌<◌, ◌≤◌, ◌/◌, IsTrue, IfOk, IfSome, Contains, length, get_or};
+ghost use Rattle.std.specs.Int.Digits.{number_from_digits};
 ghost use Rattle.std.specs.List.Sorted.{IsPermutation};
 ghost use Rattle.std.specs.Ordering.{MatchOrdering};
 ghost use Rattle.rpki_crl.specs.SerialTables.{AreAscending, digits, serials_of};
+ghost use Rattle.rpki_crl.specs.SerialBuckets.{AreStarts, IsBetween, bucket_of};
 
 use crate::revoked::RevokedCertificates;
 use rpki_der::Serial;
@@ -39,21 +41,98 @@ impl Count {
     }
 }
 
-/// Serial numbers, none below an earlier one.
+/// Serial numbers, none below an earlier one, and where their buckets begin. A serial is searched
+/// for in its bucket alone: a few numbers that stand side by side.
 #[derive(Drop)]
 pub(crate) struct SerialTable {
     serials: Vec<Serial>,
+    starts: Vec<usize>,
+    base: u128,
+    shift: u32,
 }
 
 impl Model for SerialTable {
-    ghost use Rattle.std.specs.Prelude.{List, ℕ};
+    ghost use Rattle.std.specs.Prelude.{List, ℕ, ◌<◌};
     ghost use Rattle.rpki_crl.specs.SerialTables.{AreAscending};
+    ghost use Rattle.rpki_crl.specs.SerialBuckets.{AreStarts};
 
     ghost Value = { List ℕ };
 
     ghost view = { λ t. t.serials.items };
 
-    ghost invariant = { λ t. AreAscending t.serials.items };
+    ghost invariant = { λ t. AreAscending t.serials.items
+        × AreStarts t.base t.shift t.starts.items t.serials.items × (t.shift < 160) };
+}
+
+// The number of these octets in two parts: without the last 32 bits, and these.
+fn parts_of(octets: &[u8]) -> (u128, u32)
+    requires { length octets.now ≡ 20 }
+    ensures front { result.0 ≡ number_from_digits 256 octets.now / 2 ^ 32 }
+    ensures back { result.1 ≡ number_from_digits 256 octets.now % 2 ^ 32 }
+{
+    let mut front = [0; 16];
+    let mut back = [0; 4];
+    front.copy_from_slice(&octets[..16]);
+    back.copy_from_slice(&octets[16..]);
+    (u128::from_be_bytes(front), u32::from_be_bytes(back))
+}
+
+// The bucket of a serial, unless that has more than 128 bits or is below the first one.
+fn bucket_of(serial: Serial, base: u128, shift: u32) -> Option<u128>
+    requires { shift < 160 }
+    ensures { IfSome result (λ bucket. bucket ≡ bucket_of base shift serial) }
+{
+    let (front, back) = parts_of(&serial.octets());
+    let front = front.checked_sub(base)?;
+    if shift >= 32 {
+        Some(front >> (shift - 32))
+    } else if front < 1 << 96 {
+        Some((front * 0x1_0000_0000 + u128::from(back)) >> shift)
+    } else {
+        None
+    }
+}
+
+// The base and the shift with which ascending serials have half as many buckets, or fewer.
+fn scale_of(serials: &[Serial]) -> (u128, u32)
+    ensures { result.1 < 160 }
+{
+    let (Some(least), Some(greatest)) = (serials.first(), serials.last()) else {
+        return (0, 0);
+    };
+    let (base, _) = parts_of(&least.octets());
+    let (front, back) = parts_of(&greatest.octets());
+    let front = front.saturating_sub(base);
+    let bits = if front == 0 {
+        32 - back.leading_zeros()
+    } else {
+        160 - front.leading_zeros()
+    };
+    let wanted = usize::BITS - (serials.len() / 4).leading_zeros();
+    (base, bits.saturating_sub(wanted).min(159))
+}
+
+// Where the buckets of ascending serials begin, up to the last serial's.
+fn starts_of(
+    alloc: Global,
+    serials: &[Serial],
+    base: u128,
+    shift: u32,
+) -> Result<Vec<usize>, AllocError>
+    requires shift { shift < 160 }
+    requires ascending { AreAscending serials.now }
+    ensures { IfOk result (λ starts. AreStarts base shift starts.items serials.now) }
+{
+    let mut starts = Vec::new(alloc);
+    for i in 0..serials.len() {
+        let Some(bucket) = bucket_of(serials[i], base, shift) else {
+            return Ok(starts);
+        };
+        while (starts.len() as u128) <= bucket {
+            starts.push(i)?;
+        }
+    }
+    Ok(starts)
 }
 
 impl SerialTable {
@@ -66,7 +145,33 @@ impl SerialTable {
             serials.push(entry.user_certificate)?;
         }
         serials.sort_unstable();
-        Ok(SerialTable { serials })
+        let (base, shift) = scale_of(&serials);
+        let starts = starts_of(alloc, &serials, base, shift)?;
+        Ok(SerialTable {
+            serials,
+            starts,
+            base,
+            shift,
+        })
+    }
+
+    // Between which places the serial can stand: those of its bucket; all, from the last bucket on
+    // and where it has none.
+    fn places_of(&self, serial: Serial) -> (usize, usize)
+        ensures between { IsBetween self.now serial result.0 result.1 }
+        ensures ascending { AreAscending self.now }
+        ensures small { length self.now < 2 ^ 64 }
+    {
+        let all = (0, self.serials.len());
+        let Some(bucket) = bucket_of(serial, self.base, self.shift) else {
+            return all;
+        };
+        let count = self.starts.len();
+        if count < 2 || bucket >= (count - 1) as u128 {
+            return all;
+        }
+        let bucket = bucket as usize;
+        (self.starts[bucket], self.starts[bucket + 1])
     }
 
     // Looks at the stored serial in this place, and counts that: the one call that looks at any.
@@ -89,8 +194,7 @@ impl SerialTable {
         ensures looked { IsTrue result.0 → 1 ≤ result.1 }
     {
         let mut count = Count::new();
-        let mut low = 0;
-        let mut high = self.serials.len();
+        let (mut low, mut high) = self.places_of(serial);
         while low < high {
             let middle = low + (high - low) / 2;
             match self.compare_at(middle, serial, &mut count) {
@@ -108,6 +212,13 @@ impl SerialTable {
     {
         let mut serials = Vec::new(alloc);
         serials.extend_from_slice(&self.serials)?;
-        Ok(SerialTable { serials })
+        let mut starts = Vec::new(alloc);
+        starts.extend_from_slice(&self.starts)?;
+        Ok(SerialTable {
+            serials,
+            starts,
+            base: self.base,
+            shift: self.shift,
+        })
     }
 }

@@ -1,6 +1,6 @@
 use Rattle.std.proofs.Common.{◌+◌, ◌-◌, ◌≤◌, length}
 use Rattle.rpki_crl.specs.SerialTables.{digits}
-use Rattle.rpki_crl.proofs.Halvings.{IsBetween}
+use Rattle.rpki_crl.specs.SerialBuckets.{IsBetween}
 use Rattle.rpki_crl.proofs.table.SerialTable.contains.Given as goal
 
 abbrev pub invariant-loop-low : goal.invariant-loop-low
