@@ -5,3 +5,5 @@ pub mod Periods
 pub mod BlockLines
 pub mod ListTexts
 pub mod CertificateTexts
+pub mod RouterCertificates
+pub mod KnownKinds
