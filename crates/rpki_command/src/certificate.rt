@@ -1,210 +1,405 @@
 //! A certificate for a person.
-use crate::blocks::{Family, as_resources, ip_resources};
-use crate::moments::{days, iso};
-use crate::names::name;
+ghost use Rattle.std.specs.Prelude.{◌≡◌, ◌↔◌, ◌++◌, IsTrue, Some, codes, is_none, option_map};
+ghost use Rattle.std.specs.Fmt.{WritesOnOk};
+ghost use Rattle.rpki.specs.Kind.{Kind as Profile};
+ghost use Rattle.rpki.specs.Kind.TheVariants.{Anchor, Authority, EndEntity, Detached, Router};
+ghost use Rattle.rpki.specs.Texts.{serial_text};
+ghost use Rattle.rpki_command.specs.Pages.{Appends, line, line_if_any, colons_text};
+ghost use Rattle.rpki_command.specs.RouterCertificates.{NamesRouters, HasRouterKey, IsRouter};
+ghost use Rattle.rpki_command.specs.CertificateTexts.{IsAnswer, AreAnswers, kind_text, answer_text, profile_line, algorithm_text, key_text, usage_text, overclaim_text, uri_line, names_text, validity_text, keys_text, places_text, resources_text, parts_text, profiles_text, certificate_text};
+
+use crate::blocks::{Family, write_as_resources, write_ip_resources};
+use crate::lines::{Characters, Colons, write_line};
+use crate::list::write_signature;
+use crate::moments::Period;
 use crate::page::Page;
 use rpki::crypto::{KeyIdentifier, PublicKey, PublicKeyFormat};
 use rpki::repository::cert::{Cert, KeyUsage, Overclaim, TbsCert};
 use rpki::repository::error::InspectionError;
 use rpki::repository::x509::{Serial, Time, Validity};
 use rpki::uri::{Https, Rsync};
+use std::fmt;
 
 /// Prints the serial number in hexadecimal, without zeros before it but in whole octets.
-pub fn serial(page: &mut Page, it: Serial) {
+pub fn serial(page: &mut Page, it: Serial)
+    ensures { Appends page.old (serial_text it) page.new }
+{
     page.value(&it);
 }
 
 /// Prints the identifier of a key.
-pub fn key_identifier(page: &mut Page, it: &KeyIdentifier) {
-    page.colons(it.as_octets().as_slice());
+pub fn key_identifier(page: &mut Page, it: &KeyIdentifier)
+    ensures { Appends page.old (colons_text it.now) page.new }
+{
+    page.value(&Colons(it.as_octets().as_slice()));
 }
 
-/// Prints how many days a moment is away, or that it has passed.
-pub fn until(page: &mut Page, end: Time, now: Time) {
-    let left = days(end).wrapping_sub(days(now));
-    match u64::try_from(left) {
-        Ok(left) => {
-            page.text("valid for ");
-            page.count(left, " day", " days");
-        }
-        Err(_) => page.text("expired"),
+// What inspection answers for each kind: nothing where the profile is met, else the first fault.
+#[derive(Clone, Copy)]
+struct Answers {
+    anchor: Option<InspectionError>,
+    authority: Option<InspectionError>,
+    end_entity: Option<InspectionError>,
+    detached: Option<InspectionError>,
+    router: Option<InspectionError>,
+}
+
+fn anchor_fault(cert: &Cert, strict: bool) -> Option<InspectionError>
+    ensures { IsAnswer Anchor strict cert.now result }
+{
+    match cert.inspect_ta(strict) {
+        Ok(()) => None,
+        Err(fault) => Some(fault),
     }
 }
 
-fn validity(page: &mut Page, it: Validity, now: Time) {
-    page.label("Valid from");
-    iso(page, it.not_before());
-    page.end();
-    page.label("Valid until");
-    iso(page, it.not_after());
-    page.text(" (");
-    if it.not_after() < now {
-        page.text("expired");
-    } else if now < it.not_before() {
-        page.text("not yet valid");
-    } else {
-        until(page, it.not_after(), now);
-    }
-    page.text(")");
-    page.end();
-}
-
-fn head(page: &mut Page, data: &TbsCert, now: Time) {
-    page.label("Serial number");
-    serial(page, data.serial_number());
-    page.end();
-    page.label("Issuer");
-    name(page, data.issuer());
-    page.end();
-    page.label("Subject");
-    name(page, data.subject());
-    page.end();
-    validity(page, data.validity(), now);
-}
-
-fn key(page: &mut Page, it: &PublicKey) {
-    page.label("Key");
-    page.text(match it.algorithm() {
-        PublicKeyFormat::Rsa => "RSA, ",
-        PublicKeyFormat::EcdsaP256 => "ECDSA P-256, ",
-    });
-    page.number(it.bits().len() as u64);
-    page.text(" octets");
-    page.end();
-}
-
-fn keys(page: &mut Page, data: &TbsCert) {
-    key(page, data.subject_public_key_info());
-    page.label("Subject key identifier");
-    key_identifier(page, &data.subject_key_identifier());
-    page.end();
-    if let Some(identifier) = data.authority_key_identifier() {
-        page.label("Authority key identifier");
-        key_identifier(page, &identifier);
-        page.end();
-    }
-    page.line(
-        "Key usage",
-        match data.key_usage() {
-            KeyUsage::Ca => "keyCertSign, cRLSign",
-            KeyUsage::Ee => "digitalSignature",
-        },
-    );
-}
-
-fn rsync(page: &mut Page, label: &str, uri: Option<&Rsync>) {
-    if let Some(uri) = uri {
-        page.label(label);
-        page.characters(uri.as_bytes());
-        page.end();
+fn authority_fault(cert: &Cert, strict: bool) -> Option<InspectionError>
+    ensures { IsAnswer Authority strict cert.now result }
+{
+    match cert.inspect_ca(strict) {
+        Ok(()) => None,
+        Err(fault) => Some(fault),
     }
 }
 
-fn https(page: &mut Page, label: &str, uri: Option<&Https>) {
-    if let Some(uri) = uri {
-        page.label(label);
-        page.characters(uri.as_bytes());
-        page.end();
+fn end_entity_fault(cert: &Cert, strict: bool) -> Option<InspectionError>
+    ensures { IsAnswer EndEntity strict cert.now result }
+{
+    match cert.inspect_ee(strict) {
+        Ok(()) => None,
+        Err(fault) => Some(fault),
     }
 }
 
-fn places(page: &mut Page, data: &TbsCert) {
-    rsync(page, "Authority info access", data.ca_issuer());
-    rsync(page, "Revocation list", data.crl_uri());
-    rsync(page, "Repository", data.ca_repository());
-    rsync(page, "Manifest", data.rpki_manifest());
-    rsync(page, "Signed object", data.signed_object());
-    https(page, "Notify URL", data.rpki_notify());
-}
-
-fn resources(page: &mut Page, data: &TbsCert) {
-    page.line(
-        "Overclaimed resources",
-        match data.overclaim() {
-            Overclaim::Refuse => "refused (RFC 6484 policy)",
-            Overclaim::Trim => "trimmed (RFC 8360 policy)",
-        },
-    );
-    ip_resources(page, "IPv4", Family::V4, data.v4_resources());
-    ip_resources(page, "IPv6", Family::V6, data.v6_resources());
-    as_resources(page, "AS numbers", data.as_resources());
-}
-
-fn judged(page: &mut Page, kind: &str, answer: Result<(), InspectionError>) {
-    page.label("Profile");
-    page.text(kind);
-    match answer {
-        Ok(()) => page.text(": met"),
-        Err(fault) => {
-            page.text(": ");
-            page.text(fault.name());
-        }
-    }
-    page.end();
-}
-
-fn profiles(page: &mut Page, cert: &Cert, strict: bool) {
-    judged(page, "trust anchor", cert.inspect_ta(strict));
-    judged(page, "authority", cert.inspect_ca(strict));
-    judged(page, "end entity", cert.inspect_ee(strict));
-    judged(
-        page,
-        "detached end entity",
-        cert.inspect_detached_ee(strict),
-    );
-    judged(page, "router", cert.inspect_router(strict));
-}
-
-// Whether a further purpose of the key is that of routers (RFC 8209 3.1.3.2).
-fn has_router_purpose(data: &TbsCert) -> bool {
-    match data.extended_key_usage() {
-        Some(purposes) => purposes.inspect_router().is_ok(),
-        None => false,
+fn detached_fault(cert: &Cert, strict: bool) -> Option<InspectionError>
+    ensures { IsAnswer Detached strict cert.now result }
+{
+    match cert.inspect_detached_ee(strict) {
+        Ok(()) => None,
+        Err(fault) => Some(fault),
     }
 }
 
-/// Returns whether the certificate says that it is a BGPsec router's, be it of the profile or not:
-/// it names the purpose of routers, or it has a key on a curve, which only routers have (RFC 8209
-/// 3.1, RFC 8608), and says neither that it is a CA nor that it signs an object.
-pub fn is_router(data: &TbsCert) -> bool {
-    if has_router_purpose(data) {
-        return true;
-    }
-    match data.subject_public_key_info().algorithm() {
-        PublicKeyFormat::Rsa => false,
-        PublicKeyFormat::EcdsaP256 => !data.is_ca() && data.signed_object().is_none(),
+fn router_fault(cert: &Cert, strict: bool) -> Option<InspectionError>
+    ensures { IsAnswer Router strict cert.now result }
+{
+    match cert.inspect_router(strict) {
+        Ok(()) => None,
+        Err(fault) => Some(fault),
     }
 }
 
-/// Returns the kind whose profile the certificate meets; no two are met at once but the two of end
-/// entities.
-pub fn kind_of(cert: &Cert, strict: bool) -> &'static str {
-    if cert.inspect_ta(strict).is_ok() {
+fn answers_of(cert: &Cert, strict: bool) -> Answers
+    ensures { AreAnswers strict cert.now result }
+{
+    Answers {
+        anchor: anchor_fault(cert, strict),
+        authority: authority_fault(cert, strict),
+        end_entity: end_entity_fault(cert, strict),
+        detached: detached_fault(cert, strict),
+        router: router_fault(cert, strict),
+    }
+}
+
+#[tactic(auto, unfolding(crate::specs::CertificateTexts::kind_text))]
+fn kind_name(answers: &Answers) -> &'static str
+    ensures { result.now ≡ kind_text answers.now }
+{
+    if answers.anchor.is_none() {
         "trust anchor"
-    } else if cert.inspect_ca(strict).is_ok() {
+    } else if answers.authority.is_none() {
         "authority (CA)"
-    } else if cert.inspect_ee(strict).is_ok() {
+    } else if answers.end_entity.is_none() {
         "end entity"
-    } else if cert.inspect_detached_ee(strict).is_ok() {
+    } else if answers.detached.is_none() {
         "detached end entity"
-    } else if cert.inspect_router(strict).is_ok() {
+    } else if answers.router.is_none() {
         "BGPsec router"
     } else {
         "none: it meets no profile"
     }
 }
 
-/// Prints all of a certificate.
-pub fn certificate(page: &mut Page, cert: &Cert, now: Time, strict: bool) {
-    page.line("Kind", kind_of(cert, strict));
-    let data = cert.as_tbs();
-    head(page, data, now);
-    keys(page, data);
-    places(page, data);
-    resources(page, data);
-    profiles(page, cert, strict);
-    page.line(
-        "Signature",
-        "not checked here (`rpki validate` checks those of a path)",
-    );
+/// Returns the kind whose profile the certificate meets; no two are met at once but the two of end
+/// entities.
+pub fn kind_of(cert: &Cert, strict: bool) -> &'static str
+    ensures { (answers : _) × AreAnswers strict cert.now answers × (result.now ≡ kind_text answers) }
+{
+    kind_name(&answers_of(cert, strict))
+}
+
+#[tactic(auto, unfolding(crate::specs::CertificateTexts::names_text))]
+fn write_names<W: fmt::Write>(f: &mut fmt::Formatter<W>, fields: &TbsCert) -> fmt::Result
+    ensures { WritesOnOk W.write_str_gives f.old result (names_text fields.now) f.new }
+{
+    write_line(f, "Serial number", &fields.serial_number())?;
+    write_line(f, "Issuer", fields.issuer())?;
+    write_line(f, "Subject", fields.subject())
+}
+
+#[tactic(auto, unfolding(crate::specs::CertificateTexts::validity_text))]
+fn write_validity<W: fmt::Write>(
+    f: &mut fmt::Formatter<W>,
+    validity: Validity,
+    now: Time,
+) -> fmt::Result
+    ensures { WritesOnOk W.write_str_gives f.old result (validity_text validity now) f.new }
+{
+    let period = Period {
+        over: "expired",
+        from: validity.not_before(),
+        until: validity.not_after(),
+        at: now,
+    };
+    write_line(f, "Valid from", &period.from)?;
+    write_line(f, "Valid until", &period)
+}
+
+// A key: its algorithm, and how many octets it has.
+#[derive(Drop)]
+struct Key<'a>(&'a PublicKey);
+
+fn algorithm_name(format: PublicKeyFormat) -> &'static str
+    ensures { result.now ≡ algorithm_text format }
+{
+    match format {
+        PublicKeyFormat::Rsa => "RSA, ",
+        PublicKeyFormat::EcdsaP256 => "ECDSA P-256, ",
+    }
+}
+
+impl fmt::Display for Key<'_> {
+    ghost output = { λ key. Some (key_text key.0.now) };
+
+    fn fmt<W: fmt::Write>(&self, f: &mut fmt::Formatter<W>) -> fmt::Result {
+        f.write_str(algorithm_name(self.0.algorithm()))?;
+        let count = self.0.bits().len();
+        write!(f, "{count} octets")
+    }
+}
+
+fn usage_name(usage: KeyUsage) -> &'static str
+    ensures { result.now ≡ usage_text usage }
+{
+    match usage {
+        KeyUsage::Ca => "keyCertSign, cRLSign",
+        KeyUsage::Ee => "digitalSignature",
+    }
+}
+
+/// Writes the line of a key's identifier.
+pub fn write_key_identifier<W: fmt::Write>(
+    f: &mut fmt::Formatter<W>,
+    label: &str,
+    it: &KeyIdentifier,
+) -> fmt::Result
+    ensures { WritesOnOk W.write_str_gives f.old result
+        (line label.now (colons_text it.now)) f.new }
+{
+    write_line(f, label, &Colons(it.as_octets().as_slice()))
+}
+
+// The line of the issuer's key, where its identifier is there.
+fn write_authority_key<W: fmt::Write>(
+    f: &mut fmt::Formatter<W>,
+    identifier: Option<KeyIdentifier>,
+) -> fmt::Result
+    ensures { WritesOnOk W.write_str_gives f.old result
+        (line_if_any (codes "Authority key identifier") (option_map colons_text identifier)) f.new }
+{
+    match identifier {
+        Some(identifier) => write_key_identifier(f, "Authority key identifier", &identifier),
+        None => Ok(()),
+    }
+}
+
+#[tactic(auto, unfolding(crate::specs::CertificateTexts::keys_text))]
+fn write_keys<W: fmt::Write>(f: &mut fmt::Formatter<W>, fields: &TbsCert) -> fmt::Result
+    ensures { WritesOnOk W.write_str_gives f.old result (keys_text fields.now) f.new }
+{
+    let key = Key(fields.subject_public_key_info());
+    let identifier = fields.subject_key_identifier();
+    write_line(f, "Key", &key)?;
+    write_key_identifier(f, "Subject key identifier", &identifier)?;
+    write_authority_key(f, fields.authority_key_identifier())?;
+    write_line(f, "Key usage", &usage_name(fields.key_usage()))
+}
+
+fn write_rsync<W: fmt::Write>(
+    f: &mut fmt::Formatter<W>,
+    label: &str,
+    uri: Option<&Rsync>,
+) -> fmt::Result
+    ensures { let octets = option_map (λ it. it.now) uri.entry in
+        WritesOnOk W.write_str_gives f.old result (uri_line label.now octets) f.new }
+{
+    match uri {
+        Some(uri) => write_line(f, label, &Characters(uri.as_bytes())),
+        None => Ok(()),
+    }
+}
+
+fn write_https<W: fmt::Write>(
+    f: &mut fmt::Formatter<W>,
+    label: &str,
+    uri: Option<&Https>,
+) -> fmt::Result
+    ensures { let octets = option_map (λ it. it.now) uri.entry in
+        WritesOnOk W.write_str_gives f.old result (uri_line label.now octets) f.new }
+{
+    match uri {
+        Some(uri) => write_line(f, label, &Characters(uri.as_bytes())),
+        None => Ok(()),
+    }
+}
+
+#[tactic(auto, unfolding(crate::specs::CertificateTexts::places_text))]
+fn write_places<W: fmt::Write>(f: &mut fmt::Formatter<W>, fields: &TbsCert) -> fmt::Result
+    ensures { WritesOnOk W.write_str_gives f.old result (places_text fields.now.extensions) f.new }
+{
+    write_rsync(f, "Authority info access", fields.ca_issuer())?;
+    write_rsync(f, "Revocation list", fields.crl_uri())?;
+    write_rsync(f, "Repository", fields.ca_repository())?;
+    write_rsync(f, "Manifest", fields.rpki_manifest())?;
+    write_rsync(f, "Signed object", fields.signed_object())?;
+    write_https(f, "Notify URL", fields.rpki_notify())
+}
+
+fn overclaim_name(overclaim: Overclaim) -> &'static str
+    ensures { result.now ≡ overclaim_text overclaim }
+{
+    match overclaim {
+        Overclaim::Refuse => "refused (RFC 6484 policy)",
+        Overclaim::Trim => "trimmed (RFC 8360 policy)",
+    }
+}
+
+#[tactic(auto, unfolding(crate::specs::CertificateTexts::resources_text))]
+fn write_resources<W: fmt::Write>(f: &mut fmt::Formatter<W>, fields: &TbsCert) -> fmt::Result
+    ensures { WritesOnOk W.write_str_gives f.old result
+        (resources_text fields.now.extensions) f.new }
+{
+    write_line(
+        f,
+        "Overclaimed resources",
+        &overclaim_name(fields.overclaim()),
+    )?;
+    write_ip_resources(f, "IPv4", Family::V4, fields.v4_resources())?;
+    write_ip_resources(f, "IPv6", Family::V6, fields.v6_resources())?;
+    write_as_resources(f, "AS numbers", fields.as_resources())
+}
+
+// What the profile of a kind says.
+#[derive(Drop)]
+struct Answer {
+    kind: &'static str,
+    fault: Option<InspectionError>,
+}
+
+impl fmt::Display for Answer {
+    ghost output = { λ a. Some (a.kind.now ++ (codes ": " ++ answer_text a.fault)) };
+
+    fn fmt<W: fmt::Write>(&self, f: &mut fmt::Formatter<W>) -> fmt::Result {
+        f.write_str(self.kind)?;
+        f.write_str(": ")?;
+        match self.fault {
+            None => f.write_str("met"),
+            Some(fault) => f.write_str(fault.name()),
+        }
+    }
+}
+
+#[tactic(auto, unfolding(crate::specs::CertificateTexts::profile_line))]
+fn write_profile<W: fmt::Write>(
+    f: &mut fmt::Formatter<W>,
+    kind: &'static str,
+    fault: Option<InspectionError>,
+) -> fmt::Result
+    ensures { WritesOnOk W.write_str_gives f.old result (profile_line kind.now fault) f.new }
+{
+    write_line(f, "Profile", &Answer { kind, fault })
+}
+
+#[tactic(auto, unfolding(crate::specs::CertificateTexts::profiles_text))]
+fn write_profiles<W: fmt::Write>(f: &mut fmt::Formatter<W>, answers: &Answers) -> fmt::Result
+    ensures { WritesOnOk W.write_str_gives f.old result (profiles_text answers.now) f.new }
+{
+    write_profile(f, "trust anchor", answers.anchor)?;
+    write_profile(f, "authority", answers.authority)?;
+    write_profile(f, "end entity", answers.end_entity)?;
+    write_profile(f, "detached end entity", answers.detached)?;
+    write_profile(f, "router", answers.router)
+}
+
+// Whether a further purpose of the key is that of routers (RFC 8209 3.1.3.2).
+fn names_routers(fields: &TbsCert) -> bool
+    ensures { IsTrue result ↔ NamesRouters fields.now.extensions.extended_key_usage }
+{
+    match fields.extended_key_usage() {
+        Some(purposes) => purposes.inspect_router().is_ok(),
+        None => false,
+    }
+}
+
+// Whether the key is a router's, and the certificate says nothing else.
+fn has_router_key(fields: &TbsCert) -> bool
+    ensures { IsTrue result ↔ HasRouterKey fields.now }
+{
+    match fields.subject_public_key_info().algorithm() {
+        PublicKeyFormat::Rsa => false,
+        PublicKeyFormat::EcdsaP256 => !fields.is_ca() && fields.signed_object().is_none(),
+    }
+}
+
+/// Returns whether the certificate says that it is a BGPsec router's, be it of the profile or not:
+/// it names the purpose of routers, or it has a key on a curve, which only routers have (RFC 8209
+/// 3.1, RFC 8608), and says neither that it is a CA nor that it signs an object.
+pub fn is_router(fields: &TbsCert) -> bool
+    ensures { IsTrue result ↔ IsRouter fields.now }
+{
+    names_routers(fields) || has_router_key(fields)
+}
+
+// The parts of a certificate.
+#[tactic(auto, unfolding(crate::specs::CertificateTexts::parts_text))]
+fn write_parts<W: fmt::Write>(f: &mut fmt::Formatter<W>, fields: &TbsCert) -> fmt::Result
+    ensures { WritesOnOk W.write_str_gives f.old result (parts_text fields.now) f.new }
+{
+    write_keys(f, fields)?;
+    write_places(f, fields)?;
+    write_resources(f, fields)
+}
+
+// A certificate at a moment, with what inspection answers.
+#[derive(Drop)]
+struct ShownCertificate<'a> {
+    fields: &'a TbsCert,
+    at: Time,
+    answers: Answers,
+}
+
+impl fmt::Display for ShownCertificate<'_> {
+    ghost output = { λ shown. Some (certificate_text shown.fields.now shown.at shown.answers) };
+
+    #[tactic(auto, unfolding(crate::specs::CertificateTexts::certificate_text))]
+    fn fmt<W: fmt::Write>(&self, f: &mut fmt::Formatter<W>) -> fmt::Result {
+        write_line(f, "Kind", &kind_name(&self.answers))?;
+        write_names(f, self.fields)?;
+        write_validity(f, self.fields.validity(), self.at)?;
+        write_parts(f, self.fields)?;
+        write_profiles(f, &self.answers)?;
+        write_signature(f)
+    }
+}
+
+/// Prints a certificate at a moment, and what inspection answers for each kind.
+pub fn certificate(page: &mut Page, cert: &Cert, now: Time, strict: bool)
+    ensures { (answers : _) × AreAnswers strict cert.now answers
+        × Appends page.old (certificate_text cert.now.fields now answers) page.new }
+{
+    page.value(&ShownCertificate {
+        fields: cert.as_tbs(),
+        at: now,
+        answers: answers_of(cert, strict),
+    });
 }

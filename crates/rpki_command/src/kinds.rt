@@ -1,4 +1,8 @@
 //! The kinds of extensions: their names, and whether one may stand as it stands.
+ghost use Rattle.std.specs.Prelude.{◌≡◌, ◌++◌};
+ghost use Rattle.rpki_command.specs.KnownKinds.{kind_among, place_kinds, resource_kinds, certificate_kinds, list_kinds, kind_of, kind_name};
+ghost use Rattle.rpki_command.specs.declared.kinds.Kind.TheVariants.{Unknown, NoList};
+
 use rpki::der::{Cursor, DecodeError};
 use rpki::oid;
 use rpki::repository::extension::{
@@ -31,7 +35,9 @@ pub enum Kind {
     NoList,
 }
 
-fn of_key(identifier: &[u8]) -> Kind {
+fn of_key(identifier: &[u8]) -> Kind
+    ensures { result ≡ kind_among certificate_kinds Unknown identifier.now }
+{
     if identifier == oid::CE_BASIC_CONSTRAINTS {
         Kind::BasicConstraints
     } else if identifier == oid::CE_SUBJECT_KEY_IDENTIFIER {
@@ -47,7 +53,9 @@ fn of_key(identifier: &[u8]) -> Kind {
     }
 }
 
-fn of_place(identifier: &[u8]) -> Kind {
+fn of_place(identifier: &[u8]) -> Kind
+    ensures { result ≡ kind_among (place_kinds ++ resource_kinds) Unknown identifier.now }
+{
     if identifier == oid::CE_CRL_DISTRIBUTION_POINTS {
         Kind::CrlDistributionPoints
     } else if identifier == oid::PE_AUTHORITY_INFO_ACCESS {
@@ -61,7 +69,9 @@ fn of_place(identifier: &[u8]) -> Kind {
     }
 }
 
-fn of_resources(identifier: &[u8]) -> Kind {
+fn of_resources(identifier: &[u8]) -> Kind
+    ensures { result ≡ kind_among resource_kinds Unknown identifier.now }
+{
     if identifier == oid::PE_IP_ADDR_BLOCK || identifier == oid::PE_IP_ADDR_BLOCK_V2 {
         Kind::IpResources
     } else if identifier == oid::PE_AUTONOMOUS_SYS_IDS
@@ -73,7 +83,9 @@ fn of_resources(identifier: &[u8]) -> Kind {
     }
 }
 
-fn of_list(identifier: &[u8]) -> Kind {
+fn of_list(identifier: &[u8]) -> Kind
+    ensures { result ≡ kind_among list_kinds NoList identifier.now }
+{
     if identifier == oid::CE_AUTHORITY_KEY_IDENTIFIER {
         Kind::AuthorityKeyIdentifier
     } else if identifier == oid::CE_CRL_NUMBER {
@@ -85,7 +97,9 @@ fn of_list(identifier: &[u8]) -> Kind {
 
 impl Kind {
     /// Returns the kind that an identifier names in a list, or in a certificate.
-    pub fn of(identifier: &[u8], is_list: bool) -> Kind {
+    pub fn of(identifier: &[u8], is_list: bool) -> Kind
+        ensures { result ≡ kind_of is_list identifier.now }
+    {
         if is_list {
             of_list(identifier)
         } else {
@@ -94,7 +108,9 @@ impl Kind {
     }
 
     /// Returns its name, as RFC 6487 4.8 and 5 have it.
-    pub fn name(self) -> &'static str {
+    pub fn name(self) -> &'static str
+        ensures { result.now ≡ kind_name self }
+    {
         match self {
             Kind::BasicConstraints => "Basic Constraints",
             Kind::SubjectKeyIdentifier => "Subject Key Identifier",

@@ -7,6 +7,7 @@ mod certificate;
 mod files;
 mod json;
 mod kinds;
+mod lines;
 mod list;
 mod moments;
 mod names;

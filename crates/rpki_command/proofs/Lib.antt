@@ -1,0 +1,3 @@
+-- Lemmas of the command's proofs.
+pub mod WrittenLines
+pub mod DigitPlaces

@@ -1,0 +1,10 @@
+use Rattle.std.specs.Fmt.{IsPlainFormatter}
+use Rattle.std.specs.Slice.Iter.{iter_rest}
+use Rattle.rpki_command.specs.BlockLines.{numbers_text, blocks_lines}
+use Rattle.rpki_command.specs.Pages.{further_line}
+use Rattle.rpki_command.proofs.WrittenLines.{IsUnderWay}
+use Rattle.rpki_command.proofs.blocks.write_as_blocks.Given as goal
+
+abbrev pub invariant-loop-block : goal.invariant-loop-block
+invariant-loop-block g l =
+    IsPlainFormatter l.fn.f → IsUnderWay g.W.Write.write_str_gives l.fn.f (λ b. further_line (numbers_text b)) (iter_rest l.block-iterator) (blocks_lines numbers_text l.fn.label l.fn.blocks) l.f

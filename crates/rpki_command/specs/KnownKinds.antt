@@ -1,0 +1,71 @@
+-- The kinds of extensions that certificates and lists know, by their identifiers.
+use Rattle.std.specs.Prelude.{ℕ, Bool, if◌then◌else◌, List, [], ◌∷◌, ◌++◌, bytes_eq, codes}
+use Rattle.rpki.specs.ExtensionKinds.{basic_constraints, subject_key_identifier, authority_key_identifier, key_usage, extended_key_usage, crl_distribution_points, authority_information_access, subject_information_access, certificate_policies, ip_resources, as_resources, crl_number}
+use Rattle.rpki.specs.Overclaim.TheVariants.{Refuse, Trim}
+use Rattle.rpki_command.specs.declared.kinds.Kind.{Kind}
+use Rattle.rpki_command.specs.declared.kinds.Kind.TheVariants as known
+
+-- the kind that stands beside an identifier, or another one where it stands nowhere
+abbrev pub kind_among : List (List ℕ × Kind) → Kind → List ℕ → Kind
+kind_among [] other id = other
+kind_among (named ∷ more) other id = if bytes_eq id named.0 then named.1 else kind_among more other id
+
+-- kinds that speak of the key and its use
+abbrev pub key_kinds : List (List ℕ × Kind)
+key_kinds =
+    (basic_constraints.identifier, known.BasicConstraints)
+    ∷ (subject_key_identifier.identifier, known.SubjectKeyIdentifier)
+    ∷ (authority_key_identifier.identifier, known.AuthorityKeyIdentifier)
+    ∷ (key_usage.identifier, known.KeyUsage)
+    ∷ (extended_key_usage.identifier, known.ExtendedKeyUsage)
+    ∷ []
+
+-- kinds that say where something is, and under which policy
+abbrev pub place_kinds : List (List ℕ × Kind)
+place_kinds =
+    (crl_distribution_points.identifier, known.CrlDistributionPoints)
+    ∷ (authority_information_access.identifier, known.AuthorityInformationAccess)
+    ∷ (subject_information_access.identifier, known.SubjectInformationAccess)
+    ∷ (certificate_policies.identifier, known.CertificatePolicies)
+    ∷ []
+
+-- kinds of resources, which have two identifiers each (RFC 8360 4.2)
+abbrev pub resource_kinds : List (List ℕ × Kind)
+resource_kinds =
+    ((ip_resources Refuse).identifier, known.IpResources)
+    ∷ ((ip_resources Trim).identifier, known.IpResources)
+    ∷ ((as_resources Refuse).identifier, known.AsResources)
+    ∷ ((as_resources Trim).identifier, known.AsResources)
+    ∷ []
+
+-- the kinds of a certificate
+abbrev pub certificate_kinds : List (List ℕ × Kind)
+certificate_kinds = key_kinds ++ (place_kinds ++ resource_kinds)
+
+-- the kinds of a list
+abbrev pub list_kinds : List (List ℕ × Kind)
+list_kinds =
+    (authority_key_identifier.identifier, known.AuthorityKeyIdentifier)
+    ∷ (crl_number.identifier, known.CrlNumber)
+    ∷ []
+
+-- the kind that an identifier names, in a list or in a certificate
+abbrev pub kind_of : Bool → List ℕ → Kind
+kind_of is_list id = if is_list then kind_among list_kinds known.NoList id else kind_among certificate_kinds known.Unknown id
+
+-- the name of a kind (RFC 6487 4.8, 5)
+abbrev pub kind_name : Kind → List ℕ
+kind_name known.BasicConstraints = codes "Basic Constraints"
+kind_name known.SubjectKeyIdentifier = codes "Subject Key Identifier"
+kind_name known.AuthorityKeyIdentifier = codes "Authority Key Identifier"
+kind_name known.KeyUsage = codes "Key Usage"
+kind_name known.ExtendedKeyUsage = codes "Extended Key Usage"
+kind_name known.CrlDistributionPoints = codes "CRL Distribution Points"
+kind_name known.AuthorityInformationAccess = codes "Authority Information Access"
+kind_name known.SubjectInformationAccess = codes "Subject Information Access"
+kind_name known.CertificatePolicies = codes "Certificate Policies"
+kind_name known.IpResources = codes "IP Resources"
+kind_name known.AsResources = codes "AS Resources"
+kind_name known.CrlNumber = codes "CRL Number"
+kind_name known.Unknown = codes "an unknown extension"
+kind_name known.NoList = codes "an unknown extension"

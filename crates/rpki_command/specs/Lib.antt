@@ -1,0 +1,9 @@
+-- The definitions that the contracts of the command cite.
+pub mod Pages
+pub mod MomentTexts
+pub mod Periods
+pub mod BlockLines
+pub mod ListTexts
+pub mod CertificateTexts
+pub mod RouterCertificates
+pub mod KnownKinds
