@@ -155,27 +155,6 @@ fn profiles(page: &mut Page, cert: &Cert, strict: bool) {
     judged(page, "router", cert.inspect_router(strict));
 }
 
-// Whether a further purpose of the key is that of routers (RFC 8209 3.1.3.2).
-fn has_router_purpose(data: &TbsCert) -> bool {
-    match data.extended_key_usage() {
-        Some(purposes) => purposes.inspect_router().is_ok(),
-        None => false,
-    }
-}
-
-/// Returns whether the certificate says that it is a BGPsec router's, be it of the profile or not:
-/// it names the purpose of routers, or it has a key on a curve, which only routers have (RFC 8209
-/// 3.1, RFC 8608), and says neither that it is a CA nor that it signs an object.
-pub fn is_router(data: &TbsCert) -> bool {
-    if has_router_purpose(data) {
-        return true;
-    }
-    match data.subject_public_key_info().algorithm() {
-        PublicKeyFormat::Rsa => false,
-        PublicKeyFormat::EcdsaP256 => !data.is_ca() && data.signed_object().is_none(),
-    }
-}
-
 /// Returns the kind whose profile the certificate meets; no two are met at once but the two of end
 /// entities.
 pub fn kind_of(cert: &Cert, strict: bool) -> &'static str {

@@ -1,0 +1,4 @@
+mod FaultPlaces
+mod FirstInside
+mod NothingRead
+mod RouterFaults

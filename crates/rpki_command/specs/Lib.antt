@@ -1,0 +1,4 @@
+pub mod Contents
+pub mod GivenPaths
+pub mod PathVerdicts
+pub mod PathAnswers
