@@ -1,3 +1,7 @@
 -- Lemmas of the command's proofs.
 pub mod WrittenLines
 pub mod DigitPlaces
+mod FaultPlaces
+mod FirstInside
+mod NothingRead
+mod RouterFaults

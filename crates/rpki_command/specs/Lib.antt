@@ -1,9 +1,12 @@
 -- The definitions that the contracts of the command cite.
+pub mod Contents
+pub mod GivenPaths
+pub mod PathVerdicts
+pub mod PathAnswers
 pub mod Pages
 pub mod MomentTexts
 pub mod Periods
 pub mod BlockLines
 pub mod ListTexts
 pub mod CertificateTexts
-pub mod RouterCertificates
 pub mod KnownKinds

@@ -1,11 +1,10 @@
 //! A certificate for a person.
-ghost use Rattle.std.specs.Prelude.{◌≡◌, ◌↔◌, ◌++◌, IsTrue, Some, codes, is_none, option_map};
+ghost use Rattle.std.specs.Prelude.{◌≡◌, ◌++◌, Some, codes, is_none, option_map};
 ghost use Rattle.std.specs.Fmt.{WritesOnOk};
 ghost use Rattle.rpki.specs.Kind.{Kind as Profile};
 ghost use Rattle.rpki.specs.Kind.TheVariants.{Anchor, Authority, EndEntity, Detached, Router};
 ghost use Rattle.rpki.specs.Texts.{serial_text};
 ghost use Rattle.rpki_command.specs.Pages.{Appends, line, line_if_any, colons_text};
-ghost use Rattle.rpki_command.specs.RouterCertificates.{NamesRouters, HasRouterKey, IsRouter};
 ghost use Rattle.rpki_command.specs.CertificateTexts.{IsAnswer, AreAnswers, kind_text, answer_text, profile_line, algorithm_text, key_text, usage_text, overclaim_text, uri_line, names_text, validity_text, keys_text, places_text, resources_text, parts_text, profiles_text, certificate_text};
 
 use crate::blocks::{Family, write_as_resources, write_ip_resources};
@@ -329,35 +328,6 @@ fn write_profiles<W: fmt::Write>(f: &mut fmt::Formatter<W>, answers: &Answers) -
     write_profile(f, "end entity", answers.end_entity)?;
     write_profile(f, "detached end entity", answers.detached)?;
     write_profile(f, "router", answers.router)
-}
-
-// Whether a further purpose of the key is that of routers (RFC 8209 3.1.3.2).
-fn names_routers(fields: &TbsCert) -> bool
-    ensures { IsTrue result ↔ NamesRouters fields.now.extensions.extended_key_usage }
-{
-    match fields.extended_key_usage() {
-        Some(purposes) => purposes.inspect_router().is_ok(),
-        None => false,
-    }
-}
-
-// Whether the key is a router's, and the certificate says nothing else.
-fn has_router_key(fields: &TbsCert) -> bool
-    ensures { IsTrue result ↔ HasRouterKey fields.now }
-{
-    match fields.subject_public_key_info().algorithm() {
-        PublicKeyFormat::Rsa => false,
-        PublicKeyFormat::EcdsaP256 => !fields.is_ca() && fields.signed_object().is_none(),
-    }
-}
-
-/// Returns whether the certificate says that it is a BGPsec router's, be it of the profile or not:
-/// it names the purpose of routers, or it has a key on a curve, which only routers have (RFC 8209
-/// 3.1, RFC 8608), and says neither that it is a CA nor that it signs an object.
-pub fn is_router(fields: &TbsCert) -> bool
-    ensures { IsTrue result ↔ IsRouter fields.now }
-{
-    names_routers(fields) || has_router_key(fields)
 }
 
 // The parts of a certificate.

@@ -4,6 +4,7 @@ use crate::page::Page;
 use crate::path::{Fault, Question, Verdict, is_list};
 use crate::places::Place;
 use crate::rules::Rule;
+use crate::saying::is_router;
 use crate::{certificate, names};
 use base64::engine::general_purpose::STANDARD;
 use rpki::crypto::KeyIdentifier;
@@ -261,7 +262,7 @@ fn keys(out: &mut Members, alloc: Global, data: &TbsCert) -> Result<(), AllocErr
 }
 
 fn word(cert: &Cert) -> &'static str {
-    if certificate::is_router(cert.as_tbs()) {
+    if is_router(cert.as_tbs()) {
         "router_key"
     } else if cert.as_tbs().is_ca() {
         "ca_cert"

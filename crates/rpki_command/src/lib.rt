@@ -6,6 +6,7 @@ mod blocks;
 mod certificate;
 mod files;
 mod json;
+mod judging;
 mod kinds;
 mod lines;
 mod list;
@@ -16,6 +17,7 @@ mod path;
 mod places;
 mod revocation;
 mod rules;
+mod saying;
 mod showing;
 mod verdicts;
 
@@ -92,7 +94,7 @@ fn answer(rt: &HostRuntime, request: &Request<'_>) -> Result<(String, bool)> {
         members: files.as_slice(),
         lists: lists.as_slice(),
         strict: request.strict,
-        now,
+        at: now,
     };
     Ok(verdicts::validated(rt.alloc(), &question, request.json)?)
 }

@@ -1,0 +1,55 @@
+-- What the command answers of the files of a path.
+use Rattle.std.specs.Prelude.{◌≡◌, ◌≢◌, ◌⊎◌, ℕ, List, [], ◌∷◌, All, Option, Some, None, IsSome, Bool, true, false, option_map}
+use Rattle.rpki.specs.Verification.{Context, ResourceFields}
+use Rattle.rpki.specs.Stores.{Stored}
+use Rattle.rpki.specs.PathError.{PathError}
+use Rattle.rpki.specs.PathFault.TheVariants.{Memory}
+use Rattle.rpki_command.specs.declared.path.Verdict.{Verdict}
+use Rattle.rpki_command.specs.declared.path.Verdict.TheVariants.{Accepted, Rejected}
+use Rattle.rpki_command.specs.declared.path.Fault.{Fault}
+use Rattle.rpki_command.specs.declared.path.Members.{Members}
+use Rattle.rpki_command.specs.Contents.{BeginsWithList}
+use Rattle.rpki_command.specs.GivenPaths.{GivenPath, given_path, IsGivenBy}
+use Rattle.rpki_command.specs.PathVerdicts.{IsAcceptedWith, IsNotAccepted, IsFaultOf}
+
+-- the path that the members are
+abbrev pub path_of : Members → GivenPath
+path_of m = given_path m.anchor.now m.cas.items m.leaf (option_map (λ octets. octets.now) m.router)
+
+-- the member at this place is wrong, and those above it are a valid path
+pub record IsWrongAt (x : Context) (lists : Option (List Stored)) (g : GivenPath) (place : ℕ) : Type 0 where
+  pub error : PathError
+  pub place_is : error.index ≡ place
+  pub no_memory : error.fault ≢ Memory
+  pub fault_is : IsFaultOf x lists g error
+
+-- the verdict on the path: what its last member holds, or where it is wrong
+abbrev pub IsVerdictOn : Context → Option (List Stored) → GivenPath → Verdict → Type 0
+IsVerdictOn x lists g (Accepted r) = IsAcceptedWith x lists g r
+IsVerdictOn x lists g (Rejected fault) = IsNotAccepted x lists g × IsWrongAt x lists g fault.index
+
+-- the verdict on the path that the files are
+abbrev pub IsVerdict : Context → Option (List Stored) → List (List ℕ) → Verdict → Type 0
+IsVerdict x lists files verdict = (g : GivenPath) × IsGivenBy files g × IsVerdictOn x lists g verdict
+
+-- whether lists are asked: where a file was given as one; which list is asked of which member isn't
+-- said
+abbrev pub AreAsked : List (List ℕ) → List (List ℕ) → Option (List Stored) → Type 0
+AreAsked files [] asked = asked ≡ None
+AreAsked files (list ∷ lists) asked = IsSome asked
+
+-- the verdict on the path that the files are, by the files that were given as lists
+abbrev pub IsVerdictBy : Context → List (List ℕ) → List (List ℕ) → Verdict → Type 0
+IsVerdictBy x files lists verdict = (asked : Option (List Stored)) × AreAsked files lists asked × IsVerdict x asked files verdict
+
+-- the path is accepted
+abbrev pub IsAcceptance : Option Verdict → Type 0
+IsAcceptance (Some (Accepted r)) = Unit {0}
+IsAcceptance _ = ⊥
+
+-- the answer is yes exactly where the path is accepted and each file that was given as a list
+-- begins with one; a path has a file at least
+abbrev pub AnswersPath : Context → List (List ℕ) → List (List ℕ) → Bool → Type 0
+AnswersPath x files lists true = ((r : ResourceFields) × IsVerdictBy x files lists (Accepted r)) × All BeginsWithList lists
+AnswersPath x files lists false =
+    (files ≡ []) ⊎ (((fault : Fault) × IsVerdictBy x files lists (Rejected fault)) ⊎ (All BeginsWithList lists → ⊥))

@@ -1,0 +1,203 @@
+//! Paths of octets: from a trust anchor down to the last member, and to a router below it.
+ghost use Rattle.std.specs.Prelude.{◌≡◌, ◌+◌, List, ℕ, [], length, IfOk, OnOk, IfErr, IfNone, IfSome, option_map};
+ghost use Rattle.std.proofs.Common.{rc_value};
+ghost use Rattle.rpki.specs.Encoding.{Means};
+ghost use Rattle.rpki.specs.Conditions.{Tests};
+ghost use Rattle.rpki.specs.Certificates.{IsCertificate};
+ghost use Rattle.rpki.specs.Verification.{context};
+ghost use Rattle.rpki.specs.Revocation.{revocation_checks};
+ghost use Rattle.rpki.specs.Paths.{candidates, AskedCheck, Finds, Validates, IsFault};
+ghost use Rattle.rpki.specs.PathFault.TheVariants.{Memory};
+ghost use Rattle.rpki_command.specs.GivenPaths.{given_path};
+ghost use Rattle.rpki_command.specs.PathVerdicts.{router_demand, IsRouterUnder, BeginsWithRouterUnder, Judges};
+
+use bytes::Bytes;
+use rpki::crypto::Verifier;
+use rpki::laws;
+use rpki::repository::cert::{Cert, ResourceCert};
+use rpki::repository::crl::{CrlStore, RevocationError};
+use rpki::repository::path::{Leaf, PathError, PathFault, validate_path, validate_path_with};
+use rpki::repository::tal::TalInfo;
+use rpki::repository::x509::Time;
+use std::alloc::{AllocError, Global};
+use std::rc::Rc;
+
+// A locator without a name.
+fn nameless(alloc: Global) -> Result<Rc<TalInfo>, AllocError>
+    ensures { IfOk result (λ tal. rc_value tal ≡ []) }
+{
+    TalInfo::from_name(String::new(alloc)).into_rc(alloc)
+}
+
+fn out_of_memory() -> PathError
+    ensures { result ≡ record { index = 0; fault = Memory } }
+{
+    PathError {
+        index: 0,
+        fault: PathFault::Memory,
+    }
+}
+
+// Validates a path: by the lists of the store, where there is one.
+fn validate<V: Verifier>(
+    alloc: Global,
+    anchor: &Bytes,
+    cas: &[Bytes],
+    leaf: Option<Leaf>,
+    lists: Option<&CrlStore>,
+    strict: bool,
+    now: Time,
+    verifier: &V,
+) -> Result<ResourceCert, PathError>
+    ensures validates { let x = context (V.verifies verifier.now) now strict in
+        let pairs = option_map (λ store. store.now.pairs) lists.entry in
+        Validates x pairs anchor.now (candidates cas.now leaf) [] result }
+    ensures named { let x = context (V.verifies verifier.now) now strict in
+        let pairs = option_map (λ store. store.now.pairs) lists.entry in
+        IfErr result (IsFault x pairs anchor.now (candidates cas.now leaf)) }
+{
+    let tal = match nameless(alloc) {
+        Ok(tal) => tal,
+        Err(_) => {
+            drop(leaf);
+            return Err(out_of_memory());
+        }
+    };
+    match lists {
+        Some(store) => validate_path_with(
+            alloc, store, anchor, cas, leaf, tal, strict, now, verifier,
+        ),
+        None => validate_path(alloc, anchor, cas, leaf, tal, strict, now, verifier),
+    }
+}
+
+// Asks the lists, where they are given, whether the router's certificate below the issuer is
+// revoked.
+fn ask_lists<V: Verifier>(
+    lists: Option<&CrlStore>,
+    cert: &Cert,
+    issuer: &ResourceCert,
+    strict: bool,
+    now: Time,
+    verifier: &V,
+) -> Result<(), RevocationError>
+    ensures { let x = context (V.verifies verifier.now) now strict in
+        let pairs = option_map (λ store. store.now.pairs) lists.entry in
+        Tests (AskedCheck x pairs issuer.now.cert.fields cert.now) revocation_checks result }
+{
+    let Some(store) = lists else {
+        return Ok(());
+    };
+    let tbs = cert.as_tbs();
+    match tbs.crl_uri() {
+        Some(uri) => store.check(uri, tbs.serial_number(), issuer, strict, now, verifier),
+        None => Err(RevocationError::NoCrl),
+    }
+}
+
+// Whether the router's certificate is valid below the issuer, and not revoked where lists are
+// given. A fault is one of all octets that begin with it.
+fn check_router_cert<V: Verifier>(
+    cert: &Cert,
+    issuer: &ResourceCert,
+    lists: Option<&CrlStore>,
+    strict: bool,
+    now: Time,
+    verifier: &V,
+) -> Result<(), PathFault>
+    ensures ok { let x = context (V.verifies verifier.now) now strict in
+        let pairs = option_map (λ store. store.now.pairs) lists.entry in
+        OnOk result (IsRouterUnder x pairs issuer.now cert.now) }
+    ensures fault { let x = context (V.verifies verifier.now) now strict in
+        let pairs = option_map (λ store. store.now.pairs) lists.entry in
+        (octets : List ℕ) → Means IsCertificate cert.now octets
+        → IfErr result (Finds x (router_demand x pairs issuer.now) octets) }
+{
+    cert.validate_router_at(issuer, strict, now, verifier)?;
+    ask_lists(lists, cert, issuer, strict, now, verifier)?;
+    Ok(())
+}
+
+// Whether the router's certificate that the octets begin with is valid below the issuer, and not
+// revoked where lists are given.
+fn check_router<V: Verifier>(
+    alloc: Global,
+    octets: &Bytes,
+    issuer: &ResourceCert,
+    lists: Option<&CrlStore>,
+    strict: bool,
+    now: Time,
+    verifier: &V,
+) -> Result<(), PathFault>
+    ensures ok { let x = context (V.verifies verifier.now) now strict in
+        let pairs = option_map (λ store. store.now.pairs) lists.entry in
+        OnOk result (BeginsWithRouterUnder x pairs issuer.now octets.now) }
+    ensures fault { let x = context (V.verifies verifier.now) now strict in
+        let pairs = option_map (λ store. store.now.pairs) lists.entry in
+        IfErr result (Finds x (router_demand x pairs issuer.now) octets.now) }
+{
+    let cert = Cert::decode_shared(alloc, octets.clone()?)?;
+    let answer = check_router_cert(&cert, issuer, lists, strict, now, verifier);
+    drop(cert);
+    answer
+}
+
+// The member above a router at this place, where the router's test went well; else its fault.
+fn answer_of(
+    issuer: ResourceCert,
+    index: usize,
+    test: Result<(), PathFault>,
+) -> Result<ResourceCert, PathError>
+    ensures ok { IfOk result (λ r. r ≡ issuer) }
+    ensures passed { OnOk result (test ≡ Ok tt) }
+    ensures index { IfErr result (λ e. e.index ≡ index) }
+    ensures fault { IfErr result (λ e. test ≡ Err e.fault) }
+{
+    match test {
+        Ok(()) => Ok(issuer),
+        Err(fault) => {
+            drop(issuer);
+            Err(PathError { index, fault })
+        }
+    }
+}
+
+// The place below the last member; the trust anchor's is 0.
+fn place_below(cas: &[Bytes], leaf: &Option<Leaf>) -> usize
+    ensures { result ≡ length (candidates cas.now leaf.now) + 1 }
+{
+    match leaf {
+        Some(_) => cas.len() + 2,
+        None => cas.len() + 1,
+    }
+}
+
+/// Validates the path of the trust anchor, the CAs below it and a leaf, if there is one; and below
+/// CAs a router, if there is one. Returns the last member, and above a router that above it.
+pub(crate) fn judge_members<V: Verifier>(
+    alloc: Global,
+    anchor: &Bytes,
+    cas: &[Bytes],
+    leaf: Option<Leaf>,
+    router: Option<&Bytes>,
+    lists: Option<&CrlStore>,
+    strict: bool,
+    now: Time,
+    verifier: &V,
+) -> Result<ResourceCert, PathError>
+    ensures { let x = context (V.verifies verifier.now) now strict in
+        let pairs = option_map (λ store. store.now.pairs) lists.entry in
+        let given = given_path anchor.now cas.now leaf (option_map (λ octets. octets.now) router.entry) in
+        Judges x pairs given result }
+{
+    laws::certificates::unambiguous();
+    let place = place_below(cas, &leaf);
+    let issuer = validate(alloc, anchor, cas, leaf, lists, strict, now, verifier)?;
+    match router {
+        Some(octets) => {
+            let test = check_router(alloc, octets, &issuer, lists, strict, now, verifier);
+            answer_of(issuer, place, test)
+        }
+        None => Ok(issuer),
+    }
+}
