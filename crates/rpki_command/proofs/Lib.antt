@@ -3,5 +3,6 @@ pub mod WrittenLines
 pub mod DigitPlaces
 mod FaultPlaces
 mod FirstInside
+mod FlaggedItems
 mod NothingRead
 mod RouterFaults

@@ -3,6 +3,7 @@ pub mod Contents
 pub mod GivenPaths
 pub mod PathVerdicts
 pub mod PathAnswers
+pub mod Outcomes
 pub mod Pages
 pub mod MomentTexts
 pub mod Periods

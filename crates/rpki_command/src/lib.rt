@@ -1,6 +1,10 @@
 //! The command for people: shows certificates and revocation lists of files, and validates paths of files.
 #![tactic(auto)]
 
+ghost use Rattle.std.specs.Prelude.{IfNone};
+ghost use Rattle.rpki_command.specs.Outcomes.{AsksOfFiles};
+
+mod answering;
 mod arguments;
 mod blocks;
 mod certificate;
@@ -12,6 +16,7 @@ mod lines;
 mod list;
 mod moments;
 mod names;
+mod outcomes;
 mod page;
 mod path;
 mod places;
@@ -21,12 +26,12 @@ mod saying;
 mod showing;
 mod verdicts;
 
+use answering::answer_request;
 use anyhow::{Context, Result, anyhow};
-use arguments::{Misuse, Request, Task, read_words};
+use arguments::{Misuse, Task, read_words};
 use files::{Object, read_object};
-use path::Question;
+use outcomes::Outcome;
 use rpki::repository::x509::Time;
-use showing::{Options, shown};
 use std::fs;
 use std::io::Read;
 use std::process::ExitCode;
@@ -40,6 +45,8 @@ FILE: a certificate or a revocation list, in DER or PEM; - for standard input
 LAST: a CA, an end entity or a router
 MOMENT: YYYY-MM-DD, YYYY-MM-DDThh:mm:ssZ or YYYYMMDDhhmmss; the clock's, if it is left out
 ";
+
+const VERSION: &str = "rpki 0.1\n";
 
 fn clock(rt: &impl Clock) -> Result<Time> {
     let now = SystemTime::now(rt)?;
@@ -77,29 +84,18 @@ fn objects<'a>(rt: &HostRuntime, names: &[&'a str]) -> Result<Vec<Object<'a>>> {
     Ok(all)
 }
 
-fn answer(rt: &HostRuntime, request: &Request<'_>) -> Result<(String, bool)> {
-    let now = moment(rt, request.at)?;
-    let files = objects(rt, &request.files)?;
-    if request.task == Task::Show {
-        let options = Options {
-            now,
-            strict: request.strict,
-            json: request.json,
-            all: request.all,
-        };
-        return Ok(shown(rt.alloc(), &files, &options)?);
+// The text that a task asks for which asks nothing of files.
+fn about(task: Task) -> Option<&'static str>
+    ensures { IfNone result (AsksOfFiles task) }
+{
+    match task {
+        Task::Help => Some(USAGE),
+        Task::Version => Some(VERSION),
+        Task::Show | Task::Validate => None,
     }
-    let lists = objects(rt, &request.lists)?;
-    let question = Question {
-        members: files.as_slice(),
-        lists: lists.as_slice(),
-        strict: request.strict,
-        at: now,
-    };
-    Ok(verdicts::validated(rt.alloc(), &question, request.json)?)
 }
 
-fn misused(rt: &impl Eprint, misuse: &Misuse<'_>) -> Result<u8> {
+fn say(rt: &impl Eprint, misuse: &Misuse<'_>) -> Result<()> {
     match misuse {
         Misuse::NoTask => eprintln!(rt; "rpki: no command")?,
         Misuse::Unknown(word) => eprintln!(rt; "rpki: unknown: {word}")?,
@@ -108,29 +104,31 @@ fn misused(rt: &impl Eprint, misuse: &Misuse<'_>) -> Result<u8> {
         Misuse::NoFile => eprintln!(rt; "rpki: no file")?,
         Misuse::Memory => {
             eprintln!(rt; "rpki: out of memory")?;
-            return Ok(3);
+            return Ok(());
         }
     }
     eprint!(rt; "{USAGE}")?;
-    Ok(2)
+    Ok(())
 }
 
-fn run(rt: &HostRuntime, words: &[String]) -> Result<u8> {
+fn run(rt: &HostRuntime, words: &[String]) -> Result<Outcome> {
     let request = match read_words(rt.alloc(), words) {
         Ok(request) => request,
-        Err(misuse) => return misused(rt, &misuse),
+        Err(misuse) => {
+            say(rt, &misuse)?;
+            return Ok(Outcome::of_misuse(&misuse));
+        }
     };
-    if request.task == Task::Help {
-        print!(rt; "{USAGE}")?;
-        return Ok(0);
+    if let Some(text) = about(request.task) {
+        rt.print(text)?;
+        return Ok(Outcome::Well);
     }
-    if request.task == Task::Version {
-        println!(rt; "rpki 0.1")?;
-        return Ok(0);
-    }
-    let (text, well) = answer(rt, &request)?;
-    rt.print(text.as_str())?;
-    Ok(if well { 0 } else { 1 })
+    let now = moment(rt, request.at)?;
+    let files = objects(rt, &request.files)?;
+    let lists = objects(rt, &request.lists)?;
+    let answer = answer_request(rt.alloc(), &request, now, &files, &lists)?;
+    rt.print(answer.text.as_str())?;
+    Ok(answer.outcome)
 }
 
 /// Runs the command on the words of the command line: reads the files, and prints what they hold,
@@ -138,11 +136,12 @@ fn run(rt: &HostRuntime, words: &[String]) -> Result<u8> {
 /// accepted, 1 where a file is neither a certificate nor a list or the path is rejected, 2 where
 /// the command line has another form, and 3 where a file, the clock, memory or an output failed.
 pub fn command(rt: &HostRuntime, words: &[String]) -> Result<ExitCode> {
-    match run(rt, words) {
-        Ok(status) => Ok(ExitCode::from(status)),
+    let outcome = match run(rt, words) {
+        Ok(outcome) => outcome,
         Err(error) => {
             eprintln!(rt; "rpki: {error:#}")?;
-            Ok(ExitCode::from(3))
+            Outcome::Failed
         }
-    }
+    };
+    Ok(ExitCode::from(outcome.status()))
 }
