@@ -1,4 +1,10 @@
 //! Which revocation list is asked of a member of a path.
+ghost use Rattle.std.specs.Prelude.{◌≡◌, ◌↔◌, false, [], ◌++◌, ℕ, List, IsTrue, OnOk, IfOk, IfNone, IfSome, option_copied};
+ghost use Rattle.std.specs.List.{AllByRecursion};
+ghost use Rattle.rpki.specs.Sequences.{IsFirstWith};
+ghost use Rattle.rpki.specs.Lists.{CrlState};
+ghost use Rattle.rpki_command.specs.AskedLists.{IsFor, IsSignedUnder, IsIssuersFor, RevokesOne, Supersedes, GoesBefore, IsNextKept, IsCurrent, IsAskedOf, stored_for, AreStoredBelow, AreStored, AreLeadingCertificates, AreListsOf, AreStoredOf};
+
 use crate::files::{Object, as_certificate, as_list};
 use rpki::crypto::RsaVerifier;
 use rpki::repository::cert::Cert;
@@ -6,19 +12,23 @@ use rpki::repository::crl::{Crl, CrlStore};
 use std::alloc::{AllocError, Global};
 
 // The members, as far as they are certificates: at the first that is none the path is rejected.
-fn certificates(alloc: Global, members: &[Object<'_>]) -> Result<Vec<Cert>, AllocError> {
+fn certificates(alloc: Global, members: &[Object<'_>]) -> Result<Vec<Cert>, AllocError>
+    ensures { IfOk result (λ all. AreLeadingCertificates members.now all.items) }
+{
     let mut all = Vec::new(alloc);
     for object in members {
         match as_certificate(alloc, object)? {
             Some(cert) => all.push(cert)?,
-            None => break,
+            None => return Ok(all),
         }
     }
     Ok(all)
 }
 
 // The lists of the files that are lists.
-fn read_lists(alloc: Global, objects: &[Object<'_>]) -> Result<Vec<Crl>, AllocError> {
+fn read_lists(alloc: Global, objects: &[Object<'_>]) -> Result<Vec<Crl>, AllocError>
+    ensures { IfOk result (λ all. AreListsOf objects.now all.items) }
+{
     let mut all = Vec::new(alloc);
     for object in objects {
         if let Some(list) = as_list(alloc, object)? {
@@ -29,18 +39,24 @@ fn read_lists(alloc: Global, objects: &[Object<'_>]) -> Result<Vec<Crl>, AllocEr
 }
 
 // Whether the list names the key that the certificate names as the one that signs it.
-fn is_for(list: &Crl, cert: &Cert) -> bool {
+fn is_for(list: &Crl, cert: &Cert) -> bool
+    ensures { IsTrue result ↔ IsFor cert.now list.now }
+{
     let named = *list.as_cert_list().authority_key_identifier();
     cert.as_tbs().authority_key_identifier() == Some(named)
 }
 
-fn is_signed_by(list: &Crl, issuer: &Cert) -> bool {
+fn is_signed_by(list: &Crl, issuer: &Cert) -> bool
+    ensures { IsTrue result ↔ IsSignedUnder issuer.now list.now }
+{
     let key = issuer.as_tbs().subject_public_key_info();
     list.verify_signature(key, &RsaVerifier).is_ok()
 }
 
 // Whether the list revokes one of its issuer's certificates among these.
-fn revokes_some(list: &Crl, below: &[Cert]) -> bool {
+fn revokes_some(list: &Crl, below: &[Cert]) -> bool
+    ensures { IsTrue result ↔ RevokesOne below.now list.now }
+{
     for cert in below {
         if is_for(list, cert) && list.contains(cert.as_tbs().serial_number()) {
             return true;
@@ -53,7 +69,9 @@ fn revokes_some(list: &Crl, below: &[Cert]) -> bool {
 // supersedes (RFC 6487 5). Two different lists never have one number (RFC 5280 5.2.3); where they
 // do, neither may hide what the other revokes: one that revokes a member goes first, whichever
 // member that is, so that it is asked of all that name its URI.
-fn supersedes(list: &Crl, kept: &Crl, below: &[Cert]) -> bool {
+fn supersedes(list: &Crl, kept: &Crl, below: &[Cert]) -> bool
+    ensures { IsTrue result ↔ Supersedes below.now list.now kept.now }
+{
     let number = list.as_cert_list().crl_number();
     let other = kept.as_cert_list().crl_number();
     if number != other {
@@ -66,27 +84,62 @@ fn supersedes(list: &Crl, kept: &Crl, below: &[Cert]) -> bool {
     list.as_cert_list().this_update() > kept.as_cert_list().this_update()
 }
 
-fn goes_first(list: &Crl, kept: Option<&Crl>, below: &[Cert]) -> bool {
+// Whether the list goes before the one that is kept, if one is.
+fn goes_first(list: &Crl, kept: Option<&Crl>, below: &[Cert]) -> bool
+    ensures { IsTrue result ↔ GoesBefore (Supersedes below.now) list.now (option_copied kept.entry) }
+{
     match kept {
         Some(kept) => supersedes(list, kept, below),
         None => true,
     }
 }
 
+// Whether the list is for the certificate, and its issuer's key signed it.
+fn is_issuers(list: &Crl, cert: &Cert, issuer: &Cert) -> bool
+    ensures { IsTrue result ↔ IsIssuersFor issuer.now cert.now list.now }
+{
+    is_for(list, cert) && is_signed_by(list, issuer)
+}
+
+// The list, where it is the issuer's and goes before the one that is kept; else that one.
+fn kept_of<'l>(
+    kept: Option<&'l Crl>,
+    list: &'l Crl,
+    below: &[Cert],
+    cert: &Cert,
+    issuer: &Cert,
+) -> Option<&'l Crl>
+    ensures { let is_issuers = IsIssuersFor issuer.now cert.now in
+        IsNextKept is_issuers (Supersedes below.now) list.now
+        (option_copied kept.entry) (option_copied result) }
+{
+    if is_issuers(list, cert, issuer) && goes_first(list, kept, below) {
+        Some(list)
+    } else {
+        kept
+    }
+}
+
 // Of the lists that the issuer's key signed, the one that supersedes the others. A list that it
 // didn't sign hides none of them, whatever its number.
-fn current<'l>(lists: &'l [Crl], below: &[Cert], cert: &Cert, issuer: &Cert) -> Option<&'l Crl> {
+fn current<'l>(lists: &'l [Crl], below: &[Cert], cert: &Cert, issuer: &Cert) -> Option<&'l Crl>
+    ensures none { IfNone result
+        (AllByRecursion (λ other. IsIssuersFor issuer.now cert.now other → ⊥) lists.now) }
+    ensures current { IfSome result
+        (λ list. IsCurrent lists.now below.now issuer.now cert.now list.now) }
+{
     let mut kept: Option<&'l Crl> = None;
     for list in lists {
-        if is_for(list, cert) && is_signed_by(list, issuer) && goes_first(list, kept, below) {
-            kept = Some(list);
-        }
+        kept = kept_of(kept, list, below, cert, issuer);
     }
     kept
 }
 
 // The first list for the certificate, whoever signed it.
-fn first<'l>(lists: &'l [Crl], cert: &Cert) -> Option<&'l Crl> {
+fn first<'l>(lists: &'l [Crl], cert: &Cert) -> Option<&'l Crl>
+    ensures none { IfNone result (AllByRecursion (λ list. IsFor cert.now list → ⊥) lists.now) }
+    ensures first { IfSome result (λ list. IsFirstWith (IsFor cert.now) list.now lists.now) }
+{
     for list in lists {
         if is_for(list, cert) {
             return Some(list);
@@ -97,14 +150,21 @@ fn first<'l>(lists: &'l [Crl], cert: &Cert) -> Option<&'l Crl> {
 
 // The list that is asked of the certificate. One that the issuer didn't sign is asked, and then
 // rejects the path, only where there is no other.
-fn asked<'l>(lists: &'l [Crl], below: &[Cert], cert: &Cert, issuer: &Cert) -> Option<&'l Crl> {
+fn asked<'l>(lists: &'l [Crl], below: &[Cert], cert: &Cert, issuer: &Cert) -> Option<&'l Crl>
+    ensures { IsAskedOf lists.now below.now issuer.now cert.now (option_copied result) }
+{
     match current(lists, below, cert, issuer) {
         Some(list) => Some(list),
         None => first(lists, cert),
     }
 }
 
-fn push(alloc: Global, store: &mut CrlStore, cert: &Cert, list: &Crl) -> Result<(), AllocError> {
+// Stores the list under the URI where the certificate says that its issuer's list is.
+fn push(alloc: Global, store: &mut CrlStore, cert: &Cert, list: &Crl) -> Result<(), AllocError>
+    requires { store.old.caches ≡ false }
+    ensures stored { let pairs = store.old.pairs ++ stored_for cert.now (Some list.now) in
+        OnOk result (store.new ≡ record store.old { pairs = pairs }) }
+{
     let Some(uri) = cert.as_tbs().crl_uri() else {
         return Ok(());
     };
@@ -125,28 +185,52 @@ fn push(alloc: Global, store: &mut CrlStore, cert: &Cert, list: &Crl) -> Result<
     }
 }
 
-fn fill(
+// Stores the list that is asked of the certificate, if one is.
+fn push_asked(
     alloc: Global,
     store: &mut CrlStore,
-    certs: &[Cert],
+    cert: &Cert,
+    asked: Option<&Crl>,
+) -> Result<(), AllocError>
+    requires { store.old.caches ≡ false }
+    ensures { let pairs = store.old.pairs ++ stored_for cert.now (option_copied asked.entry) in
+        OnOk result (store.new ≡ record store.old { pairs = pairs }) }
+{
+    match asked {
+        Some(list) => push(alloc, store, cert, list),
+        None => Ok(()),
+    }
+}
+
+// Stores, for each certificate below this one, the list that is asked of it.
+fn push_all(
+    alloc: Global,
+    store: &mut CrlStore,
+    anchor: &Cert,
+    below: &[Cert],
     lists: &[Crl],
-) -> Result<(), AllocError> {
-    let Some((anchor, below)) = certs.split_first() else {
-        return Ok(());
-    };
+) -> Result<(), AllocError>
+    requires { store.old ≡ record { pairs = []; caches = false } }
+    ensures { OnOk result
+        (AreStoredBelow lists.now below.now anchor.now below.now store.new.pairs) }
+{
     let mut issuer = anchor;
     for cert in below {
-        if let Some(list) = asked(lists, below, cert, issuer) {
-            push(alloc, store, cert, list)?;
-        }
+        let asked = asked(lists, below, cert, issuer);
+        push_asked(alloc, store, cert, asked)?;
         issuer = cert;
     }
     Ok(())
 }
 
-fn filled(alloc: Global, certs: &[Cert], lists: &[Crl]) -> Result<CrlStore, AllocError> {
+fn filled(alloc: Global, certs: &[Cert], lists: &[Crl]) -> Result<CrlStore, AllocError>
+    ensures { IfOk result (λ store. AreStored lists.now certs.now store.pairs) }
+{
     let mut store = CrlStore::new(alloc);
-    match fill(alloc, &mut store, certs, lists) {
+    let Some((anchor, below)) = certs.split_first() else {
+        return Ok(store);
+    };
+    match push_all(alloc, &mut store, anchor, below, lists) {
         Ok(()) => Ok(store),
         Err(error) => {
             drop(store);
@@ -155,11 +239,10 @@ fn filled(alloc: Global, certs: &[Cert], lists: &[Crl]) -> Result<CrlStore, Allo
     }
 }
 
-fn store_for(
-    alloc: Global,
-    certs: &[Cert],
-    objects: &[Object<'_>],
-) -> Result<CrlStore, AllocError> {
+fn store_for(alloc: Global, certs: &[Cert], objects: &[Object<'_>]) -> Result<CrlStore, AllocError>
+    ensures { IfOk result (λ store. (read : List CrlState) × AreListsOf objects.now read
+        × AreStored read certs.now store.pairs) }
+{
     let lists = read_lists(alloc, objects)?;
     let store = filled(alloc, certs, &lists);
     drop(lists);
@@ -172,10 +255,9 @@ pub fn store_of(
     alloc: Global,
     members: &[Object<'_>],
     lists: &[Object<'_>],
-) -> Result<CrlStore, AllocError> {
-    if lists.is_empty() {
-        return Ok(CrlStore::new(alloc));
-    }
+) -> Result<CrlStore, AllocError>
+    ensures { IfOk result (λ store. AreStoredOf members.now lists.now store.pairs) }
+{
     let certs = certificates(alloc, members)?;
     let store = store_for(alloc, &certs, lists);
     drop(certs);
