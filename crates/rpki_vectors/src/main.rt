@@ -1,9 +1,10 @@
-//! Runs files of vectors, whose names are the arguments that end in `.vectors` (others may name files
-//! that vectors use, so that `rt try -- data/*` finds them): a vector is a name, a question and the
-//! answer that is wanted, on three adjacent lines. Prints how many vectors of each file pass, the
-//! name and both answers of each vector that doesn't, and ends with status 1 where one doesn't.
+//! Runs files of test vectors, whose names are the arguments that end in `.vectors` (others may
+//! name files that vectors use, so that `rt try -- data/*` finds them): a vector is a name, a
+//! question and the answer that is wanted, on three adjacent lines. Prints how many vectors of each
+//! file pass, the name and both answers of each that doesn't, and ends with status 1 where one
+//! doesn't.
 //!
-//! An empty line, or one that begins with `#`, stands between vectors. A question is a vector of words
+//! An empty line, or one that begins with `#`, stands between vectors. A question is some words
 //! with one space between. HEX is octets in hexadecimal digits, `-` for none, or `@NAME` for those
 //! of the file `NAME.der`; TEXT stands as it is, or is `octets:HEX`.
 //!

@@ -102,8 +102,8 @@ fn text_passes<R: Files + AllocGlobal + Print>(
     Ok(tally)
 }
 
-/// Runs the vectors of a file, prints those that differ and how many pass. A file that can't be read
-/// counts as a vector that differs.
+/// Runs the vectors of a file, prints those that differ and how many pass. A file that can't be
+/// read counts as a vector that differs.
 pub fn run_file<R: Files + AllocGlobal + Print>(rt: &R, file: &str) -> io::Result<Tally> {
     let tally = match fs::read_to_string(rt, file) {
         Ok(text) => text_passes(rt, file, text.as_str())?,
