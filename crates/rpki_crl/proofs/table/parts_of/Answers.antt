@@ -1,6 +1,6 @@
 use Rattle.std.specs.Int.{w32, w128, from_be_bytes}
 use Rattle.std.specs.Int.Digits.{number_from_digits, number_from_digits_after, AllBelowBase}
-use Rattle.std.proofs.Common.{◌≡◌, ℕ, zero, suc, List, [], ◌∷◌, get_or, subst, ◌+◌, ◌*◌, ◌/◌, ◌%◌, ◌^◌, ◌<◌, length, take, drop, rules, sym, ap, ◌∙◌, arith}
+use Rattle.std.proofs.Common.{◌≡◌, ℕ, zero, suc, List, [], ◌∷◌, get_or, subst, ◌+◌, ◌*◌, ◌^◌, ◌<◌, length, take, drop, sym, ap, ◌∙◌, arith}
 use Rattle.std.proofs.lemmas.Int.Digits.{number_after_append, number_lt}
 use Rattle.std.proofs.lemmas.List.{length-take, length-drop, take-append-drop, take_all}
 use Rattle.rpki_der.proofs.HighFirst.{bytes_number, number_behind}
