@@ -1,4 +1,5 @@
-//! What copies, equality, order and hashes promise, each as the contract of a function that makes the call.
+//! What copies, equality, order and hashes promise, each as the contract of a function that makes
+//! the call.
 pub use rpki_blocks::comparing as resources;
 pub use rpki_cert::comparing as certificates;
 pub use rpki_crl::comparing as lists;

@@ -100,8 +100,9 @@ fn judged(
     Some(went)
 }
 
-/// Reads the certificate so many times, and where `validates` isn't 0 validates it each time under the anchor, at the beginning of 2030,
-/// with a verifier that says yes. Answers how often that went well.
+/// Reads the certificate so many times, and where `validates` isn't 0 validates it each time under
+/// the anchor, at the beginning of 2030, with a verifier that says yes. Answers how often that went
+/// well.
 #[unsafe(no_mangle)]
 pub extern "C" fn rpki_validate(
     alloc: Global,

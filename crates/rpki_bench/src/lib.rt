@@ -1,5 +1,6 @@
-//! What the measurements call: functions on octets, for C. An export's clauses can't name types that code declares,
-//! as those of a certificate's fields do, so they say little here: `Cert` and `TbsCert` have the contracts.
+//! What the measurements call: functions on octets, for C. An export's clauses can't name types
+//! that code declares, as those of a certificate's fields do, so they say little here: `Cert` and
+//! `TbsCert` have the contracts.
 #![tactic(auto)]
 
 ghost use Rattle.std.specs.Prelude.{◌≤◌};
@@ -14,7 +15,8 @@ use rpki_cert::Cert;
 use rpki_der::DecodeError;
 use std::alloc::Global;
 
-/// Decodes the certificate at the start of the octets: 1 if there is one, 0 if not, 2 if out of memory.
+/// Decodes the certificate at the start of the octets: 1 if there is one, 0 if not, 2 if out of
+/// memory.
 #[unsafe(no_mangle)]
 pub extern "C" fn rpki_decode(alloc: Global, octets: &[u8]) -> u32
     ensures { result ≤ 2 }
@@ -42,8 +44,8 @@ fn written(alloc: Global, cert: &Cert, rounds: u32) -> u32
     rounds
 }
 
-/// Reads the certificate that the octets begin with, and writes the data of one with its fields so many times. Answers how often that
-/// went well.
+/// Reads the certificate that the octets begin with, and writes the data of one with its fields so
+/// many times. Answers how often that went well.
 #[unsafe(no_mangle)]
 pub extern "C" fn rpki_write(alloc: Global, octets: &[u8], rounds: u32) -> u32
     ensures { result ≤ rounds }
@@ -69,7 +71,8 @@ fn agreements(cert: &Cert, rounds: u32) -> u32 {
     equal
 }
 
-/// Reads the certificate, and compares so many times the hash of its key with its subject key identifier. Answers how often they agree.
+/// Reads the certificate, and compares so many times the hash of its key with its subject key
+/// identifier. Answers how often they agree.
 #[unsafe(no_mangle)]
 pub extern "C" fn rpki_hash(alloc: Global, octets: &[u8], rounds: u32) -> u32 {
     match Cert::decode(alloc, octets) {

@@ -26,7 +26,8 @@ fn found(list: &Crl, serials: &[u64]) -> u32 {
     found
 }
 
-/// Reads the list, caches its serials where `caches` isn't 0, and asks for these serial numbers. Answers how many are on it.
+/// Reads the list, caches its serials where `caches` isn't 0, and asks for these serial numbers.
+/// Answers how many are on it.
 #[unsafe(no_mangle)]
 pub extern "C" fn rpki_look_up(alloc: Global, octets: &[u8], caches: u32, serials: &[u64]) -> u32 {
     match Crl::decode(alloc, octets) {

@@ -139,8 +139,9 @@ fn validated_with(
     validated(alloc, members, Some(&store), signed, rounds)
 }
 
-/// Validates so many times the path of an anchor, authorities and an end entity, which stand one behind the other and have these lengths, at
-/// the beginning of 2030: with real signatures where `signed` isn't 0, else with a verifier that says yes. Answers how often that went well.
+/// Validates so many times the path of an anchor, authorities and an end entity, which stand one
+/// behind the other and have these lengths, at the beginning of 2030: with real signatures where
+/// `signed` isn't 0, else with a verifier that says yes. Answers how often that went well.
 #[unsafe(no_mangle)]
 pub extern "C" fn rpki_path(
     alloc: Global,
@@ -152,8 +153,9 @@ pub extern "C" fn rpki_path(
     validated_alone(alloc, octets, lengths, signed != 0, rounds).unwrap_or(0)
 }
 
-/// Validates the path in the way of [`rpki_path`] and asks revocation lists: behind the members stands a list of each of them but the end
-/// entity, in their order. The store of lists is made once, and sorts their serial numbers where `caches` isn't 0.
+/// Validates the path in the way of [`rpki_path`] and asks revocation lists: behind the members
+/// stands a list of each of them but the end entity, in their order. The store of lists is made
+/// once, and sorts their serial numbers where `caches` isn't 0.
 #[unsafe(no_mangle)]
 pub extern "C" fn rpki_path_with(
     alloc: Global,

@@ -13,8 +13,8 @@ fn rearranged(alloc: Global, octets: &[u8], order: &[usize], rounds: u32) -> u32
     rounds
 }
 
-/// Sets the extensions of the certificate that the octets begin with in reverse order, so many times; `count` is how many it has. Answers how
-/// often that went well.
+/// Sets the extensions of the certificate that the octets begin with in reverse order, so many
+/// times; `count` is how many it has. Answers how often that went well.
 #[unsafe(no_mangle)]
 pub extern "C" fn rpki_rearrange(alloc: Global, octets: &[u8], count: u32, rounds: u32) -> u32 {
     let mut order: Vec<usize> = Vec::new(alloc);

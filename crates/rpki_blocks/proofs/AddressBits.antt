@@ -141,8 +141,8 @@ trailing_zeros_are n small =
     ]
 
 -- the zero bits of the address at the other end are the one bits of this one
-ones_turned : (n k : ℕ) → n < 2 ^ 128 → k ≤ 128 → ((2 ^ 128 - 1 - n) % 2 ^ k ≡ 0 → (n + 1) % 2 ^ k ≡ 0) × ((n + 1) % 2 ^ k ≡ 0 → (2 ^ 128 - 1 - n) % 2 ^ k ≡ 0)
-ones_turned n k small le =
+complement_ends : (n k : ℕ) → n < 2 ^ 128 → k ≤ 128 → ((2 ^ 128 - 1 - n) % 2 ^ k ≡ 0 → (n + 1) % 2 ^ k ≡ 0) × ((n + 1) % 2 ^ k ≡ 0 → (2 ^ 128 - 1 - n) % 2 ^ k ≡ 0)
+complement_ends n k small le =
     let whole = power_divides k 128 le in
     let up : n + 1 ≡ 2 ^ 128 - (2 ^ 128 - 1 - n) = omega arith in
     let down : 2 ^ 128 - 1 - n ≡ 2 ^ 128 - (n + 1) = omega arith in
@@ -154,8 +154,8 @@ trailing_ones_are n small =
     let m : ℕ = 2 ^ 128 - 1 - n in
     let zeros : trailing_ones w128 n ≡ zero_bits (2 ^ 128 - 1 - n) = trailing_zeros_are (2 ^ 128 - 1 - n) (omega arith) in
     let most = greatest_le (λ last. (2 ^ 128 - 1 - n) % 2 ^ last == 0) 128 in
-    zeros ∙ sym (greatest_is (λ last. (n + 1) % 2 ^ last == 0) 128 (zero_bits (2 ^ 128 - 1 - n)) (zero_test (n + 1) 0 (omega arith)) (zero_test (n + 1) (zero_bits (2 ^ 128 - 1 - n)) ((ones_turned n (zero_bits (2 ^ 128 - 1 - n)) small most).0 (zeros_divide (2 ^ 128 - 1 - n)))) most (λ j less le passes.
-    let above = greatest_above (λ last. (2 ^ 128 - 1 - n) % 2 ^ last == 0) 128 j (zero_test (2 ^ 128 - 1 - n) j ((ones_turned n j small le).1 (eqb-true _ _ passes))) le in
+    zeros ∙ sym (greatest_is (λ last. (n + 1) % 2 ^ last == 0) 128 (zero_bits (2 ^ 128 - 1 - n)) (zero_test (n + 1) 0 (omega arith)) (zero_test (n + 1) (zero_bits (2 ^ 128 - 1 - n)) ((complement_ends n (zero_bits (2 ^ 128 - 1 - n)) small most).0 (zeros_divide (2 ^ 128 - 1 - n)))) most (λ j less le passes.
+    let above = greatest_above (λ last. (2 ^ 128 - 1 - n) % 2 ^ last == 0) 128 j (zero_test (2 ^ 128 - 1 - n) j ((complement_ends n j small le).1 (eqb-true _ _ passes))) le in
     omega arith))
 
 -- an address has at most 128 zero bits

@@ -18,7 +18,7 @@ use Rattle.rpki_der.proofs.Readings.{before, whole_before, both_before, and_then
 use Rattle.rpki_der.proofs.Optionals.{optional_before}
 use Rattle.rpki_der.proofs.Readings.{both_reads, content_reads, same_reads, and_then_reads, whole_reads}
 use Rattle.rpki_der.proofs.PrimitiveReads.{bits_reads, octets_reads}
-use Rattle.rpki_der.proofs.Choices.{turned_reads, turned_whole, same_whole, content_or_reads, enc_begins, other_tag, optional_of_is, content_shrinks, turned_shrinks, content_or_shrinks}
+use Rattle.rpki_der.proofs.Choices.{conversion_reads, conversion_reads_whole, same_whole, content_or_reads, enc_begins, other_tag, optional_of_is, content_shrinks, conversion_shrinks, content_or_shrinks}
 use Rattle.rpki_blocks.specs.declared.ip_resources.Family.{Family}
 use Rattle.rpki_blocks.specs.declared.ip_resources.Family.TheVariants.{V4, V6}
 use Rattle.rpki_blocks.specs.Sets.{Block}
@@ -44,7 +44,7 @@ pub address_reads : (family : Family) → Reads (address_at family) (IsIPAddress
 unfolding address_at
 address_reads family =
     same_reads (conversion (prefix_of (family_bits family)) bits_at) (IsConversion (prefix_of (family_bits family)) IsBits) (IsIPAddress (family_bits family))
-    (turned_reads (prefix_of (family_bits family)) bits_at IsBits bits_reads)
+    (conversion_reads (prefix_of (family_bits family)) bits_at IsBits bits_reads)
     (λ r text s. address_is (family_bits family) r text s)
     (λ r text s. is_address (family_bits family) r text s)
 
@@ -77,7 +77,7 @@ ip_element_reads family =
     same_reads (content_or SEQUENCE (address_range family) (address_at family)) (Either (Inside SEQUENCE R) A) (IsIPAddressOrRange (family_bits family))
     (content_or_reads SEQUENCE (address_range family) (address_at family) R A
     (whole_reads (conversion spanned (both (address_at family) (address_at family))) R
-    (turned_reads spanned (both (address_at family) (address_at family)) (Both A A) (both_reads (address_at family) (address_at family) A A (address_reads family) (address_reads family))))
+    (conversion_reads spanned (both (address_at family) (address_at family)) (Both A A) (both_reads (address_at family) (address_at family) A A (address_reads family) (address_reads family))))
     (address_reads family)
     (λ r text rest s. let b = enc_begins BIT_STRING _ text s.encoded.enc in other_tag SEQUENCE BIT_STRING text rest b.0 b.1 (λ e. absurd (omega arith))))
     (λ r text h. elim h [ inl s ↦ range_is (family_bits family) r text s | inr s ↦ inr s ])
@@ -86,7 +86,7 @@ ip_element_reads family =
 -- reading an IPAddressOrRange uses octets up
 pub ip_element_shrinks : (family : Family) → Shrinks (ip_element_at family)
 unfolding ip_element_at address_at bits_at
-ip_element_shrinks family = content_or_shrinks SEQUENCE (address_range family) (address_at family) (turned_shrinks (prefix_of (family_bits family)) bits_at (content_shrinks BIT_STRING _))
+ip_element_shrinks family = content_or_shrinks SEQUENCE (address_range family) (address_at family) (conversion_shrinks (prefix_of (family_bits family)) bits_at (content_shrinks BIT_STRING _))
 
 -- ---- a family
 
@@ -161,8 +161,8 @@ unfolding family_in
 family_in_reads =
     whole_reads (and_then (conversion family_of octets_at) of_family) FamilyContent
     (and_then_reads (conversion family_of octets_at) of_family Named (λ family. IsConversion (kept family) (Choice family))
-    (turned_reads family_of octets_at (IsEnc OCTET_STRING) octets_reads)
-    (λ family. turned_reads (kept family) (choice_at (ip_element_at family)) (Choice family)
+    (conversion_reads family_of octets_at (IsEnc OCTET_STRING) octets_reads)
+    (λ family. conversion_reads (kept family) (choice_at (ip_element_at family)) (Choice family)
     (choice_reads (ip_element_at family) (IsIPAddressOrRange (family_bits family)) (ip_element_reads family) (ip_element_shrinks family))))
 
 family_reads : Reads (content SEQUENCE family_in) IsFamily
@@ -216,7 +216,7 @@ families_in_reads =
     subst (λ (g : List ℕ → Option (Option (Family × Resources) × List ℕ)). ReadsBefore (BeginsOther SEQUENCE) g (Optional IsFamily)) same
     (optional_before SEQUENCE (content SEQUENCE family_in) IsFamily family_reads (λ x text s. enc_begins SEQUENCE _ text s.sequence)) in
     same_whole (λ c. whole (both (content SEQUENCE family_in) (optional_of SEQUENCE family_in)) c >>= paired) (IsConversion paired OneOrTwo) Pieces
-    (turned_whole paired (whole (both (content SEQUENCE family_in) (optional_of SEQUENCE family_in))) OneOrTwo (whole_before (BeginsOther SEQUENCE) (both (content SEQUENCE family_in) (optional_of SEQUENCE family_in)) OneOrTwo tt
+    (conversion_reads_whole paired (whole (both (content SEQUENCE family_in) (optional_of SEQUENCE family_in))) OneOrTwo (whole_before (BeginsOther SEQUENCE) (both (content SEQUENCE family_in) (optional_of SEQUENCE family_in)) OneOrTwo tt
     (both_before (BeginsOther SEQUENCE) Anything (content SEQUENCE family_in) (optional_of SEQUENCE family_in) IsFamily (Optional IsFamily) (before Anything (content SEQUENCE family_in) IsFamily family_reads) second (λ y text rest s follows. tt))))
     (λ f c s. let p = second_is s.0.0 s.0.1 f s.1.0 s.1.1 s.1.2 s.1.3 s.2 in (p.0, p.1, s.1.4 ∙ p.2))
     (λ f c s. rw s.2 (families_are f s.0 s.1))

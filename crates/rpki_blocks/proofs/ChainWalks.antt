@@ -63,8 +63,8 @@ pub record IsWalk (ps qs both xs ys : List Block) : Type 0 where
   pub apart : (n : ℕ) → is_in n xs ≡ true → is_in n ys ≡ true → IsChain (both ++ one n ∷ [])
 
 -- a walk over two chains is one over them in the other order
-pub walk_turned : (ps qs both xs ys : List Block) → IsWalk ps qs both xs ys → IsWalk qs ps both ys xs
-walk_turned ps qs both xs ys w = record {
+pub walk_swapped : (ps qs both xs ys : List Block) → IsWalk ps qs both xs ys → IsWalk qs ps both ys xs
+walk_swapped ps qs both xs ys w = record {
   left = w.right;
   right = w.left;
   chain = w.chain;
@@ -154,7 +154,7 @@ walk_left ps qs both more x xs y ys w g l =
 -- a walk goes on past a block of the second chain that ends no later
 pub walk_right : (ps qs both more : List Block) (x : Block) (xs : List Block) (y : Block) (ys : List Block) → IsWalk ps qs both (x ∷ xs) (y ∷ ys) → IsGrown x y both more → y.max ≤ x.max → IsWalk ps qs more (x ∷ xs) ys
 walk_right ps qs both more x xs y ys w g l =
-    walk_turned qs ps more ys (x ∷ xs) (walk_left qs ps both more y ys x xs (walk_turned ps qs both (x ∷ xs) (y ∷ ys) w) (grown_turned x y both more g) l)
+    walk_swapped qs ps more ys (x ∷ xs) (walk_left qs ps both more y ys x xs (walk_swapped ps qs both (x ∷ xs) (y ∷ ys) w) (grown_turned x y both more g) l)
 
 -- what remains from place i is the block there and what remains after it
 pub drop_read : (xs : List Block) (i : ℕ) (x : Block) → i < length xs → x ≡ get_or xs i x → drop i xs ≡ x ∷ drop (i + 1) xs

@@ -11,7 +11,7 @@ use Rattle.rpki_der.specs.Tags.{INTEGER, SEQUENCE, CONTEXT_CONSTRUCTED}
 use Rattle.rpki_der.proofs.Octets.{some, some_is}
 use Rattle.rpki_der.proofs.Readings.{both_reads, inside_reads, same_reads, whole_reads}
 use Rattle.rpki_der.proofs.PrimitiveReads.{u32_reads}
-use Rattle.rpki_der.proofs.Choices.{turned_reads, content_or_reads, enc_begins, other_tag, content_shrinks, turned_shrinks, content_or_shrinks}
+use Rattle.rpki_der.proofs.Choices.{conversion_reads, content_or_reads, enc_begins, other_tag, content_shrinks, conversion_shrinks, content_or_shrinks}
 use Rattle.rpki_blocks.specs.Sets.{Block}
 use Rattle.rpki_blocks.specs.Unions.{IsResourceChoice}
 use Rattle.rpki_blocks.specs.Unions.Reading.{choice_at, ordered}
@@ -59,8 +59,8 @@ as_element_reads =
     same_reads (content_or SEQUENCE as_range_of as_id) (Either (Inside SEQUENCE AsRange) (IsConversion single IsU32)) IsASIdOrRange
     (content_or_reads SEQUENCE as_range_of as_id AsRange (IsConversion single IsU32)
     (whole_reads (conversion between (both u32_at u32_at)) AsRange
-    (turned_reads between (both u32_at u32_at) (Both IsU32 IsU32) (both_reads u32_at u32_at IsU32 IsU32 u32_reads u32_reads)))
-    (turned_reads single u32_at IsU32 u32_reads)
+    (conversion_reads between (both u32_at u32_at) (Both IsU32 IsU32) (both_reads u32_at u32_at IsU32 IsU32 u32_reads u32_reads)))
+    (conversion_reads single u32_at IsU32 u32_reads)
     (λ r text rest s. let b = enc_begins INTEGER _ text s.1.number.enc in other_tag SEQUENCE INTEGER text rest b.0 b.1 (λ e. absurd (omega arith))))
     (λ r text h. elim h [ inl s ↦ range_is r text s | inr s ↦ id_is r text s ])
     is_element
@@ -68,7 +68,7 @@ as_element_reads =
 -- reading an ASIdOrRange uses octets up
 pub as_element_shrinks : Shrinks as_element_at
 unfolding as_element_at u32_at
-as_element_shrinks = content_or_shrinks SEQUENCE as_range_of as_id (turned_shrinks single u32_at (content_shrinks INTEGER _))
+as_element_shrinks = content_or_shrinks SEQUENCE as_range_of as_id (conversion_shrinks single u32_at (content_shrinks INTEGER _))
 
 -- ASIdentifiers are read as they are encoded
 pub as_reads : Reads as_identifiers_at IsASIdentifiers

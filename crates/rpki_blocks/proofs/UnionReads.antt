@@ -14,7 +14,7 @@ use Rattle.rpki_der.specs.Tags.{SEQUENCE, NULL}
 use Rattle.rpki_der.proofs.Octets.{some, some_is, unless_some}
 use Rattle.rpki_der.proofs.Readings.{same_reads}
 use Rattle.rpki_der.proofs.PrimitiveReads.{null_reads}
-use Rattle.rpki_der.proofs.Choices.{turned_reads, turned_whole, sequence_reads, content_or_reads, other_tag}
+use Rattle.rpki_der.proofs.Choices.{conversion_reads, conversion_reads_whole, sequence_reads, content_or_reads, other_tag}
 use Rattle.rpki_blocks.specs.Sets.{Block}
 use Rattle.rpki_blocks.specs.Resources.{Resources, inherit, listed}
 use Rattle.rpki_blocks.specs.Unions.{IsUnion, IsResourceChoice}
@@ -54,8 +54,8 @@ module _ (element : List ℕ → Option (Block × List ℕ)) (S : Block → List
   choice_reads law less =
       same_reads (content_or SEQUENCE (union_of element) inherit_at) (Either (Inside SEQUENCE (IsConversion listed_of (AreEncodings S))) (IsConversion inherited IsNull)) (IsResourceChoice S)
       (content_or_reads SEQUENCE (union_of element) inherit_at (IsConversion listed_of (AreEncodings S)) (IsConversion inherited IsNull)
-      (turned_whole listed_of (sequence_of element) (AreEncodings S) (sequence_reads element S law less))
-      (turned_reads inherited null_at IsNull null_reads)
+      (conversion_reads_whole listed_of (sequence_of element) (AreEncodings S) (sequence_reads element S law less))
+      (conversion_reads inherited null_at IsNull null_reads)
       (λ r text rest s. other_tag SEQUENCE NULL text rest (0 ∷ []) s.1 (λ e. absurd (omega arith))))
       choice_is is_choice
 

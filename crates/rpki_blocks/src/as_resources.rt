@@ -7,7 +7,7 @@ ghost use Rattle.rpki_der.specs.Values.{AreOctets};
 ghost use Rattle.rpki_blocks.specs.Systems.{IsASIdentifiers};
 ghost use Rattle.rpki_blocks.specs.Systems.Reading.{as_range_of, single, as_id, as_element_at, as_identifiers_at};
 ghost use Rattle.rpki_der.specs.Primitives.Reading.{number_below, u32_at};
-ghost use Rattle.rpki_der.proofs.Choices.{content_or_shrinks, turned_shrinks, content_shrinks};
+ghost use Rattle.rpki_der.proofs.Choices.{content_or_shrinks, conversion_shrinks, content_shrinks};
 
 use crate::asn::Asn;
 use crate::block::AsBlock;
@@ -68,7 +68,7 @@ impl Elements for AsNumbers {
 
     ghost shrinks = { λ _. unfold as_element_at u32_at in
         content_or_shrinks SEQUENCE as_range_of as_id
-        (turned_shrinks single u32_at (content_shrinks INTEGER (number_below (2 ^ 32)))) };
+        (conversion_shrinks single u32_at (content_shrinks INTEGER (number_below (2 ^ 32)))) };
 }
 
 impl AsResources {

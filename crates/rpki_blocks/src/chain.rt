@@ -118,8 +118,8 @@ impl<B: Bound> Chain<B> {
         Ok(Chain::from_blocks(all))
     }
 
-    // Makes the set of blocks in a vector, which is merged in place. Where few are kept, the rest of
-    // the room is given back.
+    // Makes the set of blocks in a vector, which is merged in place. Where few are kept, the rest
+    // of the room is given back.
     pub(crate) fn from_blocks(mut blocks: Vec<Block<B>>) -> Chain<B>
         ensures union { HaveSameNumbers result blocks.items }
         ensures set { IsSet B.greatest result }

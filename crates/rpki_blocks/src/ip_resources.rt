@@ -10,7 +10,7 @@ ghost use Rattle.rpki_blocks.specs.Addresses.Views.{families_of};
 ghost use Rattle.rpki_blocks.specs.Addresses.Reading.{family_bits, prefix_of, address_at, address_range, ip_element_at, family_of, family_in, with_second, families_in, families_at};
 ghost use Rattle.rpki_der.specs.Primitives.Reading.{bits_at};
 ghost use Rattle.rpki_der.specs.Choices.{optional_of};
-ghost use Rattle.rpki_der.proofs.Choices.{content_or_shrinks, turned_shrinks, content_shrinks};
+ghost use Rattle.rpki_der.proofs.Choices.{content_or_shrinks, conversion_shrinks, content_shrinks};
 
 use crate::addr::Addr;
 use crate::block::{Block, IpBlock};
@@ -177,7 +177,7 @@ impl Elements for Family {
 
     ghost shrinks = { λ family. unfold ip_element_at address_at bits_at in
         content_or_shrinks SEQUENCE (address_range family) (address_at family)
-        (turned_shrinks (prefix_of (family_bits family)) bits_at (content_shrinks BIT_STRING _)) };
+        (conversion_shrinks (prefix_of (family_bits family)) bits_at (content_shrinks BIT_STRING _)) };
 }
 
 // A family and its resources: the content of an IPAddressFamily.

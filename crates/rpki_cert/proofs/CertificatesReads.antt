@@ -11,7 +11,7 @@ use Rattle.rpki_der.proofs.Octets.{bind_some, some, some_is}
 use Rattle.rpki_der.proofs.Readings.{inside_reads, content_reads, map_value_reads, same_reads, both_reads}
 use Rattle.rpki_der.proofs.ValueReads.{value_reads}
 use Rattle.rpki_der.proofs.SerialReads.{serial_reads}
-use Rattle.rpki_der.proofs.Choices.{exactly_reads, turned_reads}
+use Rattle.rpki_der.proofs.Choices.{exactly_reads, conversion_reads}
 use Rattle.rpki_der.proofs.Formats.{of_enc}
 use Rattle.rpki_parts.specs.Validities.{IsValidity}
 use Rattle.rpki_parts.specs.Keys.{IsPublicKey}
@@ -203,7 +203,7 @@ pub tbs_reads : Reads tbs_at IsTbsCertificate
 unfolding tbs_at
 tbs_reads =
     same_reads (conversion with_extensions fields_at) (IsConversion with_extensions (Inside SEQUENCE AreInOrder)) IsTbsCertificate
-    (turned_reads with_extensions fields_at (Inside SEQUENCE AreInOrder) fields_reads)
+    (conversion_reads with_extensions fields_at (Inside SEQUENCE AreInOrder) fields_reads)
     is_tbs tbs_is
 
 -- ---- certificates

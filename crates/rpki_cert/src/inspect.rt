@@ -1,4 +1,5 @@
-//! Certificates are inspected: whether one meets the profile of its kind (RFC 6487 4, RFC 8209 3.1).
+//! Certificates are inspected: whether one meets the profile of its kind (RFC 6487 4, RFC 8209
+//! 3.1).
 ghost use Rattle.std.specs.Prelude.{◌≡◌, ◌↔◌, IsTrue, IfSome, OnOk, IfErr, Some};
 ghost use Rattle.rpki_parts.specs.Conditions.{Tests};
 ghost use Rattle.rpki_blocks.specs.Resources.{missing};

@@ -1,4 +1,5 @@
-//! Laws about the profiles of certificates. Each is the contract of a function with no parameters and an empty body.
+//! Laws about the profiles of certificates. Each is the contract of a function with no parameters
+//! and an empty body.
 ghost use Rattle.std.specs.Prelude.{◌≡◌, Bool, Some, true};
 ghost use Rattle.rpki_ext.specs.CertificateExtensions.{NamesNoOtherKey};
 ghost use Rattle.rpki_cert.specs.Certificates.{CertFields};

@@ -1,4 +1,5 @@
-//! What the public clauses give together: a certificate that was made is read again from its own octets.
+//! What the public clauses give together: a certificate that was made is read again from its own
+//! octets.
 ghost use Rattle.std.specs.Prelude.{◌≡◌, ◌^◌, ◌<◌, length, IfOk, IfErr};
 ghost use Rattle.std.specs.List.{concat};
 ghost use Rattle.rpki_der.specs.declared.error.EncodeError.TheVariants.{Memory};

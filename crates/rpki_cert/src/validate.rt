@@ -50,8 +50,8 @@ impl Cert {
     }
 
     /// Uses the certificate up, also where it is rejected, and validates it as a trust anchor:
-    /// inspects it as one, then verifies it as [`Cert::verify_ta_at`] does. [`Cert::inspect_ta`] and
-    /// its siblings borrow, so that several kinds can be asked for first.
+    /// inspects it as one, then verifies it as [`Cert::verify_ta_at`] does. [`Cert::inspect_ta`]
+    /// and its siblings borrow, so that several kinds can be asked for first.
     pub fn validate_ta_at<V: Verifier>(
         self,
         alloc: Global,

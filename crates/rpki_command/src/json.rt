@@ -333,8 +333,8 @@ pub fn list(alloc: Global, file: &Shown<'_>, it: &Crl) -> Result<Value, AllocErr
     Ok(Value::Object(out))
 }
 
-/// Makes the value of a file that is neither: the fault and its rule, the field at which reading stops, and the octet
-/// at which that begins.
+/// Makes the value of a file that is neither: the fault and its rule, the field at which reading
+/// stops, and the octet at which that begins.
 pub fn refused(
     alloc: Global,
     file: &Shown<'_>,

@@ -1,4 +1,5 @@
-//! The command for people: shows certificates and revocation lists of files, and validates paths of files.
+//! The command for people: shows certificates and revocation lists of files, and validates paths of
+//! files.
 #![tactic(auto)]
 
 mod arguments;

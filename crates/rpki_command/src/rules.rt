@@ -283,7 +283,8 @@ pub fn of_file(fault: &DecodeError, octets: &Bytes, is_list: bool) -> Rule {
     }
 }
 
-/// Tells of a fault of a path's member, which has these octets, at which step it came, its name, and what it means.
+/// Tells of a fault of a path's member, which has these octets, at which step it came, its name,
+/// and what it means.
 pub fn of_path(fault: &PathFault, octets: &Bytes) -> (&'static str, &'static str, Rule) {
     match fault {
         PathFault::Decode(fault) => ("reading", fault.name(), of_reading(fault, octets)),

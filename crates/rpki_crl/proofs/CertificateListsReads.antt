@@ -17,7 +17,7 @@ use Rattle.rpki_der.proofs.Readings.{inside_reads, content_reads, map_value_read
 use Rattle.rpki_der.proofs.Optionals.{absent_before}
 use Rattle.rpki_der.proofs.ValueReads.{value_reads}
 use Rattle.rpki_der.proofs.TimeReads.{time_reads}
-use Rattle.rpki_der.proofs.Choices.{exactly_reads, turned_reads}
+use Rattle.rpki_der.proofs.Choices.{exactly_reads, conversion_reads}
 use Rattle.rpki_parts.specs.Algorithms.{Algorithm, IsSignatureAlgorithm}
 use Rattle.rpki_parts.specs.SignedDatas.{SignedFields}
 use Rattle.rpki_parts.specs.SignedDatas.Reading.{signed_at, signed_content_at}
@@ -196,7 +196,7 @@ pub tbs_reads : Reads list_at IsTbsCertList
 unfolding list_at
 tbs_reads =
     same_reads (conversion fields_from list_parts_at) (IsConversion fields_from (Inside SEQUENCE AreInOrder)) IsTbsCertList
-    (turned_reads fields_from list_parts_at (Inside SEQUENCE AreInOrder) fields_reads)
+    (conversion_reads fields_from list_parts_at (Inside SEQUENCE AreInOrder) fields_reads)
     is_list list_is
 
 -- ---- lists
@@ -232,7 +232,7 @@ pub crl_content_reads : Reads crl_content_at IsCertificateListContent
 unfolding crl_content_at
 crl_content_reads =
     same_reads (conversion with_same_algorithm kept_at) (IsConversion with_same_algorithm IsKept) IsCertificateListContent
-    (turned_reads with_same_algorithm kept_at IsKept kept_reads)
+    (conversion_reads with_same_algorithm kept_at IsKept kept_reads)
     is_crl_content crl_content_is
 
 -- a CertificateList is read as it is encoded

@@ -46,8 +46,8 @@ choice_reads t f g S T F G begin other = record {
 -- ---- what a function makes of a value
 
 -- a lawful reading stays lawful where a function turns what it reads
-pub turned_reads : {X Y : Type 0} (f : X → Option Y) (read : List ℕ → Option (X × List ℕ)) (S : X → List ℕ → Type 0) → Reads read S → Reads (conversion f read) (IsConversion f S)
-turned_reads {X} {Y} f read S F = record {
+pub conversion_reads : {X Y : Type 0} (f : X → Option Y) (read : List ℕ → Option (X × List ℕ)) (S : X → List ℕ → Type 0) → Reads read S → Reads (conversion f read) (IsConversion f S)
+conversion_reads {X} {Y} f read S F = record {
   takes = λ bytes y rest fits e.
       let a = bind_some (read bytes) (λ x. f x.0 >>= λ z. Some (z, x.1)) (y, rest) e in
       let b = bind_some (f a.0.0) (λ z. Some (z, a.0.1)) (y, rest) a.2 in
@@ -62,8 +62,8 @@ turned_reads {X} {Y} f read S F = record {
 }
 
 -- what a function makes of a whole
-pub turned_whole : {X Y : Type 0} (f : X → Option Y) (read : List ℕ → Option X) (S : X → List ℕ → Type 0) → ReadsWhole read S → ReadsWhole (λ c. read c >>= f) (IsConversion f S)
-turned_whole {X} {Y} f read S F = record {
+pub conversion_reads_whole : {X Y : Type 0} (f : X → Option Y) (read : List ℕ → Option X) (S : X → List ℕ → Type 0) → ReadsWhole read S → ReadsWhole (λ c. read c >>= f) (IsConversion f S)
+conversion_reads_whole {X} {Y} f read S F = record {
   takes = λ octets y fits e.
       let a = bind_some (read octets) f y e in
       (a.0, F.takes octets a.0 fits a.1, a.2);
@@ -158,8 +158,8 @@ content_shrinks {X} t f = λ bytes x rest e.
     omega (arith, value_shorter t bytes a.0.0 a.0.1 a.1, ap length same)
 
 -- a reading that is turned uses octets up where the reading does
-pub turned_shrinks : {X Y : Type 0} (f : X → Option Y) (read : List ℕ → Option (X × List ℕ)) → Shrinks read → Shrinks (conversion f read)
-turned_shrinks {X} {Y} f read less = λ bytes y rest e.
+pub conversion_shrinks : {X Y : Type 0} (f : X → Option Y) (read : List ℕ → Option (X × List ℕ)) → Shrinks read → Shrinks (conversion f read)
+conversion_shrinks {X} {Y} f read less = λ bytes y rest e.
     let a = bind_some (read bytes) (λ x. f x.0 >>= λ z. some {A = Y × List ℕ} (z, x.1)) (y, rest) e in
     let b = bind_some (f a.0.0) (λ z. some {A = Y × List ℕ} (z, a.0.1)) (y, rest) a.2 in
     let same : a.0.1 ≡ rest = (both_are (b.0, a.0.1) (y, rest) b.2).1 in

@@ -16,7 +16,7 @@ use Rattle.rpki_der.proofs.Octets.{AreOctets-after, bind_some, nothing}
 use Rattle.rpki_der.proofs.IdentifierReads.{oid_reads}
 use Rattle.rpki_der.proofs.ValueReads.{value_reads}
 use Rattle.rpki_der.proofs.Readings.{inside_reads, same_reads}
-use Rattle.rpki_der.proofs.Choices.{turned_reads}
+use Rattle.rpki_der.proofs.Choices.{conversion_reads}
 use Rattle.rpki_der.proofs.ValueWritten.{Short, content_short, pieces_short, nested_made}
 use Rattle.rpki_der.proofs.WrittenOctets.{IfShort, ok_concat, ok_enc, literal}
 use Rattle.rpki_parts.specs.Uris.{IsRsync, ArePrintable}
@@ -54,7 +54,7 @@ only_description_reads = inside_reads SEQUENCE (value_at SEQUENCE) (IsEnc SEQUEN
 pub authority_information_access_reads : Reads authority_information_access_at IsAuthorityInformationAccess
 unfolding authority_information_access_at
 authority_information_access_reads =
-    same_reads (conversion issuers_of only_description_at) (IsConversion issuers_of IsOnlyDescription) IsAuthorityInformationAccess (turned_reads issuers_of only_description_at IsOnlyDescription only_description_reads)
+    same_reads (conversion issuers_of only_description_at) (IsConversion issuers_of IsOnlyDescription) IsAuthorityInformationAccess (conversion_reads issuers_of only_description_at IsOnlyDescription only_description_reads)
     (λ v text (inside, (elements, one, sequence), read).
     let (_, names, encoded, given, is) = issuers_takes inside v one.octets read in
     (names, given, (elements, sequence, (inside, one, is ∙ ap (λ (m : List ℕ). m ++ names) encoded.enc.is))))

@@ -7,7 +7,7 @@ use Rattle.rpki_der.specs.Values.Reading.{value_at}
 use Rattle.rpki_der.specs.Choices.{conversion, IsConversion}
 use Rattle.rpki_der.proofs.ValueReads.{value_reads}
 use Rattle.rpki_der.proofs.Readings.{inside_reads, same_reads}
-use Rattle.rpki_der.proofs.Choices.{turned_reads}
+use Rattle.rpki_der.proofs.Choices.{conversion_reads}
 use Rattle.rpki_der.proofs.ValueWritten.{Short, nested_made, nested_short}
 use Rattle.rpki_der.proofs.WrittenOctets.{IfShort, literal, ok_nested}
 use Rattle.rpki_parts.specs.Uris.{IsRsync}
@@ -30,7 +30,7 @@ full_name_reads =
 pub crl_distribution_points_reads : Reads crl_distribution_points_at IsCrlDistributionPoints
 unfolding crl_distribution_points_at
 crl_distribution_points_reads =
-    same_reads (conversion names_of full_name_at) (IsConversion names_of IsFullName) IsCrlDistributionPoints (turned_reads names_of full_name_at IsFullName full_name_reads)
+    same_reads (conversion names_of full_name_at) (IsConversion names_of IsFullName) IsCrlDistributionPoints (conversion_reads names_of full_name_at IsFullName full_name_reads)
     (λ v text (names, (points, (point, (name, full, location), one), sequence), read). (names, names_read.takes names v full.octets read, (points, sequence, (point, one, (name, location, (names, full, refl))))))
     (λ v text (names, given, (points, sequence, (point, one, (name, location, (c, full, is))))). (names, (points, (point, (name, subst (λ (t : List ℕ). IsEnc (CONTEXT_CONSTRUCTED 0) t name) is full, location), one), sequence), names_read.again v names given))
 

@@ -10,8 +10,8 @@ ghost use Rattle.rpki_ext.specs.AuthorityAccess.{description};
 use crate::names::URI;
 use rpki_der::{EncodeError, put_extension, put_oid, put_value, tag};
 
-// Appends the octets as the content of a value with the last identifier octet, and that value as the content of one with the octet
-// before it, and so on.
+// Appends the octets as the content of a value with the last identifier octet, and that value as
+// the content of one with the octet before it, and so on.
 fn put_nested(out: &mut Vec<u8>, tags: &[u8], octets: &[u8]) -> Result<(), EncodeError>
     requires { list_all (λ tag. nat_lt (tag % 32) 31) tags.now ≡ true }
     ensures ok { OnOk result (out.new.items ≡ out.old.items ++ nested tags.now octets.now) }

@@ -72,7 +72,8 @@ fn both_families(
     }
 }
 
-// Some resources must be there, and their identifiers be those of the policy; of several that are not, the addresses are named.
+// Some resources must be there, and their identifiers be those of the policy; of several that are
+// not, the addresses are named.
 pub(crate) fn agreed(
     overclaim: Option<Overclaim>,
     ip: Option<(Overclaim, (Option<IpResources>, Option<IpResources>))>,

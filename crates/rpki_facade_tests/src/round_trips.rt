@@ -1,4 +1,5 @@
-//! Round trips: what the facade's two calls read again is the certificate, or the list, that was made.
+//! Round trips: what the facade's two calls read again is the certificate, or the list, that was
+//! made.
 ghost use Rattle.std.specs.Prelude.{◌≡◌, ◌^◌, ◌<◌, true, length, Ok, Err, IfOk, IfErr};
 ghost use Rattle.std.specs.List.{concat};
 ghost use Rattle.rpki_blocks.specs.Prefixes.{AreV4};

@@ -93,7 +93,8 @@ pub fn of_certificates() {
     same::<cert::TbsCert, rpki_cert::TbsCert>();
 }
 
-/// Tells that revocation lists, paths and what the program reads and writes are those of the layers.
+/// Tells that revocation lists, paths and what the program reads and writes are those of the
+/// layers.
 pub fn of_lists_and_paths() {
     same::<crl::Crl, rpki_crl::Crl>();
     same::<repository::Crl, rpki_crl::Crl>();

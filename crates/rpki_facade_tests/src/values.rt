@@ -1,4 +1,5 @@
-//! Values of DER: what the facade's calls write and read is what the layer says, and its constants are the layer's.
+//! Values of DER: what the facade's calls write and read is what the layer says, and its constants
+//! are the layer's.
 ghost use Rattle.std.specs.Prelude.{◌≡◌, ◌-◌, ◌%◌, ◌^◌, ◌<◌, [], ◌∷◌, ◌++◌, OnOk};
 ghost use Rattle.std.specs.Int.Digits.{number_from_digits};
 ghost use Rattle.rpki_der.specs.Extensions.{IsExtension, extension_part};

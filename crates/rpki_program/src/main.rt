@@ -1,4 +1,5 @@
-//! Answers the question on standard input by lines on standard output: one of a list, several of a path.
+//! Answers the question on standard input by lines on standard output: one of a list, several of a
+//! path.
 #![tactic(auto)]
 
 use rpki_path::{Watched, program};

@@ -244,7 +244,8 @@ fn nothing_is_written_of_nothing(rt: HostRuntime) -> Result<(), Fail> {
     Ok(())
 }
 
-// Fails at its first call, and then works. It counts its calls, and keeps the length of the last slice.
+// Fails at its first call, and then works. It counts its calls, and keeps the length of the last
+// slice.
 #[derive(Drop)]
 struct FailsOnce {
     kind: ErrorKind,

@@ -1,4 +1,5 @@
-//! Parts of revocation lists by themselves: an entry, the entries of a list, and the data of a list.
+//! Parts of revocation lists by themselves: an entry, the entries of a list, and the data of a
+//! list.
 
 use rpki_crl::{CrlEntry, RevokedCertificates, TbsCertList};
 use rpki_der::{Cursor, Serial};
