@@ -1,5 +1,6 @@
 #!/bin/sh
-# Runs every measurement, one after the other, each under its name. Takes some ten minutes once the libraries are proved. Says which it left out.
+# Runs every measurement, one after the other, each under its name. Takes some ten minutes once the
+# libraries are proved. Says which it left out.
 cd "$(dirname "$0")" || exit 1
 for name in table certificates lists paths signatures callers hostile chains revoked; do
     echo "== $name"

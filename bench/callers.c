@@ -1,6 +1,6 @@
-// Nanoseconds of calls through include/rpki.h beside the library's own calls: a certificate read beside its decoding, and
-// a path with questions answered beside `validate_path` with a verifier that says yes.
-// usage: callers ANCHOR AUTHORITY.. LEAF
+// Nanoseconds of calls through include/rpki.h beside the library's own calls: a certificate read
+// beside its decoding, and a path with questions answered beside `validate_path` with a verifier
+// that says yes. usage: callers ANCHOR AUTHORITY.. LEAF
 #include "measure.h"
 #include "rpki.h"
 

@@ -1,5 +1,5 @@
-// Nanoseconds a call of reading, of validating and of writing a certificate, by this project and by OpenSSL.
-// usage: certificates ANCHOR FILE
+// Nanoseconds a call of reading, of validating and of writing a certificate, by this project and by
+// OpenSSL. usage: certificates ANCHOR FILE
 #include "measure.h"
 #include <openssl/x509.h>
 #include <openssl/x509v3.h>

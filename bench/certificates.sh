@@ -1,7 +1,9 @@
 #!/bin/sh
-# Nanoseconds a call of `Cert::decode`, `TbsCert::encode_ref` and `rearrange`, beside OpenSSL's d2i_X509 with all extensions, and of `validate_ca_at` with a
-# verifier that says yes, over two certificates of CAs that OpenSSL makes, each under an anchor that lists the same: one of usual size, and one with
-# 10,000 blocks of addresses and 5,000 of AS numbers. Wants cc, and OpenSSL 3 with its headers.
+# Nanoseconds a call of `Cert::decode`, `TbsCert::encode_ref` and `rearrange`, beside OpenSSL's
+# d2i_X509 with all extensions, and of `validate_ca_at` with a verifier that says yes, over two
+# certificates of CAs that OpenSSL makes, each under an anchor that lists the same: one of usual
+# size, and one with 10,000 blocks of addresses and 5,000 of AS numbers. Wants cc, and OpenSSL 3
+# with its headers.
 set -eu
 . "$(dirname "$0")/making.sh"
 

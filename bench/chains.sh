@@ -1,8 +1,9 @@
 #!/bin/sh
-# How the time of a call on sets of addresses grows with the number of blocks: nanoseconds a call at 1,000, 10,000 and
-# 100,000 blocks, the least of 40 calls, and the ratio of each to the one before. `from_iter` is to grow like n log n (11 to
-# 14 times), `build` (a builder that is filled block by block and finalized) too, with some more for its growing vector, `contains`
-# like log n (up to 2 times, as far as the caches reach), the others like n (10 times).
+# How the time of a call on sets of addresses grows with the number of blocks: nanoseconds a call at
+# 1,000, 10,000 and 100,000 blocks, the least of 40 calls, and the ratio of each to the one before.
+# `from_iter` is to grow like n log n (11 to 14 times), `build` (a builder that is filled block by
+# block and finalized) too, with some more for its growing vector, `contains` like log n (up to 2
+# times, as far as the caches reach), the others like n (10 times).
 set -eu
 root=$(cd "$(dirname "$0")/.." && pwd)
 here=$(mktemp -d)

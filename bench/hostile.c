@@ -1,5 +1,5 @@
-// Nanoseconds an octet and octets of memory of `Cert::decode` over one file, beside OpenSSL's d2i_X509 of it.
-// usage: hostile FILE
+// Nanoseconds an octet and octets of memory of `Cert::decode` over one file, beside OpenSSL's
+// d2i_X509 of it. usage: hostile FILE
 #include "measure.h"
 #include <openssl/x509.h>
 

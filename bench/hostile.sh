@@ -1,6 +1,7 @@
 #!/bin/sh
-# Time and memory of `Cert::decode` over hostile certificates, 40 sorts that hostile.py makes in growing sizes, beside OpenSSL's d2i_X509, which looks into
-# no extension. Ends with the most memory that was held, as a multiple of the input. Wants cc, OpenSSL 3 with its headers, and python3.
+# Time and memory of `Cert::decode` over hostile certificates, 40 sorts that hostile.py makes in
+# growing sizes, beside OpenSSL's d2i_X509, which looks into no extension. Ends with the most memory
+# that was held, as a multiple of the input. Wants cc, OpenSSL 3 with its headers, and python3.
 set -eu
 . "$(dirname "$0")/making.sh"
 

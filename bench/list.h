@@ -1,4 +1,5 @@
-// What the measurements share: revocation lists that OpenSSL makes, of serial numbers of eight octets in a shuffled order.
+// What the measurements share: revocation lists that OpenSSL makes, of serial numbers of eight
+// octets in a shuffled order.
 #include <openssl/evp.h>
 #include <openssl/x509.h>
 #include <openssl/x509v3.h>
@@ -26,7 +27,8 @@ static uint32_t *shuffled(uint32_t count) {
     return order;
 }
 
-// A list of so many entries that this key signs, of the issuer of this name and key identifier (20 octets), from 2019 to 2034.
+// A list of so many entries that this key signs, of the issuer of this name and key identifier (20
+// octets), from 2019 to 2034.
 static int make_list(uint32_t entries, X509_NAME *name, const unsigned char *key_id, EVP_PKEY *key, unsigned char **octets) {
     X509_CRL *crl = X509_CRL_new();
     X509_CRL_set_version(crl, 1);

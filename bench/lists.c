@@ -1,6 +1,6 @@
-// Nanoseconds of reading revocation lists and of looking serial numbers up in them, by this project and by OpenSSL, which makes the lists:
-// serial numbers of eight octets in a shuffled order.
-// usage: lists ENTRIES
+// Nanoseconds of reading revocation lists and of looking serial numbers up in them, by this project
+// and by OpenSSL, which makes the lists: serial numbers of eight octets in a shuffled order. usage:
+// lists ENTRIES
 #include "list.h"
 #include "measure.h"
 #include <openssl/rsa.h>
@@ -9,7 +9,8 @@
 uint32_t rpki_list(const unsigned char *octets, size_t len, uint32_t rounds);
 uint32_t rpki_look_up(const unsigned char *octets, size_t len, uint32_t caches, const uint64_t *serials, size_t count);
 
-// The numbers that are asked, of which half are on the list: in a shuffled order, which isn't that of the list, and in ascending order.
+// The numbers that are asked, of which half are on the list: in a shuffled order, which isn't that
+// of the list, and in ascending order.
 enum { MANY = 100000, FEW = 10 };
 static struct asked {
     uint64_t ours[MANY];

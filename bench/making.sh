@@ -1,10 +1,11 @@
-# For the other scripts: certificates by OpenSSL, and a program of C over the static library. All is made in the folder $here, which goes at the end.
-# Wants cc, and OpenSSL 3 with its headers.
+# For the other scripts: certificates by OpenSSL, and a program of C over the static library. All is
+# made in the folder $here, which goes at the end. Wants cc, and OpenSSL 3 with its headers.
 root=$(cd "$(dirname "$0")/.." && pwd)
 here=$(mktemp -d)
 trap 'rm -rf "$here"' EXIT
 
-# the configuration of a certificate of this kind (anchor, ca or ee), this name and this issuer, but for its resources
+# the configuration of a certificate of this kind (anchor, ca or ee), this name and this issuer, but
+# for its resources
 configuration() {
     manifest='1.3.6.1.5.5.7.48.10;URI = rsync://rpki.example.net/repository/member/B1b2C3d4E5f6G7h8I9j0/0/manifest.mft'
     cat <<END
@@ -57,7 +58,8 @@ resources() {
     awk -v count="$2" 'BEGIN { for (i = 0; i < count; i++) printf "AS.%d = %d-%d\n", i, 64496 + 10 * i, 64496 + 10 * i + i % 3 }'
 }
 
-# makes the certificate NAME.cer of the configuration NAME.cnf, with the options that say who signs it
+# makes the certificate NAME.cer of the configuration NAME.cnf, with the options that say who signs
+# it
 certificate() {
     file=$1
     shift

@@ -1,4 +1,5 @@
-// What the measurements share: the processor's time, the least of many runs, and the memory that is held.
+// What the measurements share: the processor's time, the least of many runs, and the memory that is
+// held.
 #define _POSIX_C_SOURCE 200809L
 #include <malloc.h>
 #include <openssl/crypto.h>
@@ -19,7 +20,8 @@ static inline uint32_t rounds_for(double once) {
     return once > 2e6 ? 1 : (uint32_t)(2e6 / once) + 1;
 }
 
-// Does the call, and keeps in `least` its time for each round, where that is less. What is compared is called in turn, run after run.
+// Does the call, and keeps in `least` its time for each round, where that is less. What is compared
+// is called in turn, run after run.
 #define LEAST(least, rounds, call)                      \
     do {                                                \
         double start = now();                           \
@@ -35,7 +37,8 @@ static inline size_t contents(const char *name, unsigned char *octets, size_t ro
     return len;
 }
 
-// The octets that are held of the heap, and the most that there were. The linker hands on the library's calls (--wrap).
+// The octets that are held of the heap, and the most that there were. The linker hands on the
+// library's calls (--wrap).
 static size_t held, most;
 void *__real_malloc(size_t len);
 void *__real_realloc(void *at, size_t len);

@@ -36,7 +36,8 @@ static int are_signed(STACK_OF(X509) *chain) {
     return 1;
 }
 
-// Whether no certificate lists addresses or AS numbers beyond those of the one above it. The chain goes with the call.
+// Whether no certificate lists addresses or AS numbers beyond those of the one above it. The chain
+// goes with the call.
 static int lists_no_more(STACK_OF(X509) *chain) {
     X509_STORE_CTX *context = X509_STORE_CTX_new();
     X509_STORE_CTX_init(context, NULL, sk_X509_value(chain, 0), NULL);

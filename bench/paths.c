@@ -1,5 +1,5 @@
-// Nanoseconds and memory of validating a path by this project and by OpenSSL, without the signatures and with them.
-// usage: paths ANCHOR AUTHORITY.. LEAF
+// Nanoseconds and memory of validating a path by this project and by OpenSSL, without the
+// signatures and with them. usage: paths ANCHOR AUTHORITY.. LEAF
 #include "measure.h"
 #include "path.h"
 

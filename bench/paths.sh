@@ -1,9 +1,12 @@
 #!/bin/sh
-# Microseconds of `validate_path` with a verifier that says yes and with real signatures, and octets of memory at most, beside OpenSSL's d2i_X509
-# with all extensions and then X509v3_addr_validate_path and X509v3_asid_validate_path, without X509_verify and with it. A path is an anchor,
-# authorities and an end entity that OpenSSL makes, each of which lists the same: usual ones a few blocks, large ones 10,000 of addresses and 5,000
-# of AS numbers. Paths of 2, 4, 8 and 16 members show how both grow. Then `validate_path_with` for the usual path of 4 and lists of 0, 1,000 and
-# 100,000 entries, cached and not, beside the path alone. Wants cc, and OpenSSL 3 with its headers.
+# Microseconds of `validate_path` with a verifier that says yes and with real signatures, and octets
+# of memory at most, beside OpenSSL's d2i_X509 with all extensions and then
+# X509v3_addr_validate_path and X509v3_asid_validate_path, without X509_verify and with it. A path
+# is an anchor, authorities and an end entity that OpenSSL makes, each of which lists the same:
+# usual ones a few blocks, large ones 10,000 of addresses and 5,000 of AS numbers. Paths of 2, 4, 8
+# and 16 members show how both grow. Then `validate_path_with` for the usual path of 4 and lists of
+# 0, 1,000 and 100,000 entries, cached and not, beside the path alone. Wants cc, and OpenSSL 3 with
+# its headers.
 set -eu
 . "$(dirname "$0")/making.sh"
 

@@ -1,6 +1,7 @@
-// Nanoseconds of validating a path whose members are looked for on revocation lists, beside the path alone and beside OpenSSL.
-// usage: revocations ENTRIES ANCHOR AUTHORITY.. LEAF
-// Each of the names has the certificate NAME.cer and its key NAME.key; each member's list but the leaf's is made here, of so many entries.
+// Nanoseconds of validating a path whose members are looked for on revocation lists, beside the
+// path alone and beside OpenSSL. usage: revocations ENTRIES ANCHOR AUTHORITY.. LEAF Each of the
+// names has the certificate NAME.cer and its key NAME.key; each member's list but the leaf's is
+// made here, of so many entries.
 #include "list.h"
 #include "measure.h"
 #include "path.h"
@@ -45,7 +46,8 @@ static void add_list(const char *name, const unsigned char *certificate, size_t 
     fclose(pem);
 }
 
-// One round of the path, with the lists asked or not: the time of so many rounds, less that of making the store, which is done once.
+// One round of the path, with the lists asked or not: the time of so many rounds, less that of
+// making the store, which is done once.
 struct measured {
     double all, store;
 };
@@ -55,7 +57,8 @@ static void measure(struct measured *it, uint32_t caches, uint32_t rounds) {
     LEAST(it->all, 1, if (rpki_path_with(octets, len, lengths, count, caches, 0, rounds) != rounds) exit(3));
 }
 
-// Whether OpenSSL reads the path and the lists, all are signed, no member lists more than the one above it, and none is on its issuer's list.
+// Whether OpenSSL reads the path and the lists, all are signed, no member lists more than the one
+// above it, and none is on its issuer's list.
 static int openssl(void) {
     STACK_OF(X509) *chain = chain_of(octets, lengths, members);
     int ok = are_signed(chain);

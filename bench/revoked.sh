@@ -1,7 +1,7 @@
 #!/bin/sh
-# A line `revoked LIST SERIAL` with 400,000 entries and a serial that none of them has: the program's time and
-# memory, and the time of `xxd -r -p` over the same digits. Each is processor time, the least of five runs.
-# Wants xxd, awk and GNU time.
+# A line `revoked LIST SERIAL` with 400,000 entries and a serial that none of them has: the
+# program's time and memory, and the time of `xxd -r -p` over the same digits. Each is processor
+# time, the least of five runs. Wants xxd, awk and GNU time.
 set -eu
 root=$(cd "$(dirname "$0")/.." && pwd)
 here=$(mktemp -d)

@@ -1,4 +1,5 @@
-// Verifies signatures of messages of the lengths that are its arguments, here and by OpenSSL in turn.
+// Verifies signatures of messages of the lengths that are its arguments, here and by OpenSSL in
+// turn.
 #define OPENSSL_SUPPRESS_DEPRECATED
 #include "measure.h"
 #include <openssl/rand.h>

@@ -1,5 +1,6 @@
-// Nanoseconds and memory of each operation of the table in README.md, by this project and by OpenSSL in turns: a line of fields with tabs between them.
-// usage: table FOLDER, which has the certificates that table.sh makes
+// Nanoseconds and memory of each operation of the table in README.md, by this project and by
+// OpenSSL in turns: a line of fields with tabs between them. usage: table FOLDER, which has the
+// certificates that table.sh makes
 #include "list.h"
 #include "measure.h"
 #include "path.h"

@@ -1,6 +1,8 @@
 #!/bin/sh
-# Prints the table of README.md as this machine gives it, and draws ratios.svg: each operation beside OpenSSL in the same run, by turns, without signatures.
-# A usual certificate lists 33 blocks, a large one 10,000 of addresses and 5,000 of AS numbers. Wants cc, OpenSSL 3 with its headers, and python3.
+# Prints the table of README.md as this machine gives it, and draws ratios.svg: each operation
+# beside OpenSSL in the same run, by turns, without signatures. A usual certificate lists 33 blocks,
+# a large one 10,000 of addresses and 5,000 of AS numbers. Wants cc, OpenSSL 3 with its headers, and
+# python3.
 #
 #     bench/table.sh [LINES]
 #

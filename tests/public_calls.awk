@@ -1,7 +1,7 @@
-# Prints the path of each public call of the files that may answer out of memory, as CRATE::TYPE::CALL or
-# CRATE::MODULE::CALL, one a line: its signature names an allocator, a vector that it appends to, or the error of a
-# request that was refused, or it hands back what could not be stored.
-# First come the lib.rt of the crates, whose public modules are parts of the paths.
+# Prints the path of each public call of the files that may answer out of memory, as
+# CRATE::TYPE::CALL or CRATE::MODULE::CALL, one a line: its signature names an allocator, a vector
+# that it appends to, or the error of a request that was refused, or it hands back what could not be
+# stored. First come the lib.rt of the crates, whose public modules are parts of the paths.
 
 # The crate of a file, and its module.
 function crate_of(file,    parts, n) {
