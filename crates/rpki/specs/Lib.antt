@@ -126,6 +126,7 @@ pub use Rattle.rpki_path.specs.Questions
 pub use Rattle.rpki_path.specs.Reports
 pub use Rattle.rpki_path.specs.FaultNames
 pub use Rattle.rpki_path.specs.Paths
+pub use Rattle.rpki_path.specs.Routers
 pub use Rattle.rpki_path.specs.declared.path_fault.PathError
 pub use Rattle.rpki_path.specs.declared.path_fault.PathFault
 pub use Rattle.rpki_path.specs.declared.running.RunFault

@@ -12,6 +12,7 @@ pub mod FoundSteps
 pub mod LongerPaths
 pub mod ValidPaths
 pub mod Rejections
+pub mod Routers
 pub mod PathSteps
 pub mod MoreNumbers
 pub mod Headlines

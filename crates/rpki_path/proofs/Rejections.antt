@@ -66,7 +66,7 @@ finds_map x kind check other checks asked next octets Memory same free h = h
 
 module _ (x : Context) where
   -- where no lists are given, no fault is one of revocation
-  unasked_demand : (d : Demand) → ((c : CertFields) → IsVerified (d.asked_check c) revocation_checks) → (octets : List ℕ) (e : PathFault) → Finds x d octets e → IsUnasked e
+  pub unasked_demand : (d : Demand) → ((c : CertFields) → IsVerified (d.asked_check c) revocation_checks) → (octets : List ℕ) (e : PathFault) → Finds x d octets e → IsUnasked e
   unasked_demand d all octets (Decode e) h = tt
   unasked_demand d all octets (Inspect e) h = tt
   unasked_demand d all octets (Verify e) h = tt
@@ -77,6 +77,40 @@ module _ (x : Context) where
   pub unasked : (anchor : List ℕ) (below : List Candidate) (e : PathError) → IsFault x None anchor below e → IsUnasked e.fault
   unasked anchor below e (inl h) = unasked_demand (trust_anchor_demand x) (λ c. unasked_checks revocation_checks) anchor e.fault h.fault_is
   unasked anchor below e (inr h) = unasked_demand (demand_below x None h.path (last h.path) h.there.kind) (λ c. unasked_checks revocation_checks) h.there.octets e.fault h.fault_is
+
+-- ---- what is found doesn't fit a valid certificate
+
+module _ (x : Context) (law : IsUnambiguous IsCertificate) (d : Demand) (octets : List ℕ) where
+  -- a certificate that the string begins with has none of the faults, if it meets what is asked
+  pub found_against : (e : PathFault) → Finds x d octets e → (c : CertFields) → Means IsCertificate c octets → MeetsProfile d.kind x.strict c
+      → IsVerified (d.check c) d.checks → IsVerified (d.asked_check c) revocation_checks → UnlessMemory e ⊥
+  found_against (Decode e) h c m meets all free = h.1 c m
+  found_against (Inspect e) h c m meets all free =
+      let same = one_certificate law h.0 c octets h.1 m in
+      first_not_all (Lacks d.kind x.strict c) (faults d.kind) e (subst (λ (b : CertFields). IsFirstFalse (Lacks d.kind x.strict b) (faults d.kind) e) same h.2) meets
+  found_against (Verify e) h c m meets all free =
+      let same = one_certificate law h.0 c octets h.1 m in
+      first_not_all (d.check c) d.checks e (subst (λ (b : CertFields). IsFirstFalse (d.check b) d.checks e) same h.2.1) all
+  found_against (Revocation e) h c m meets all free =
+      let same = one_certificate law h.cert c octets h.begins m in
+      first_not_all (d.asked_check c) revocation_checks e (subst (λ (b : CertFields). IsFirstFalse (d.asked_check b) revocation_checks e) same h.first) free
+  found_against Memory h c m meets all free = tt
+
+-- what stands in place of one fact may stand in place of what follows from it
+pub unless_weaker : {P Q : Type 0} (e : PathFault) → (P → Q) → UnlessMemory e P → UnlessMemory e Q
+unless_weaker (Decode e) f h = f h
+unless_weaker (Inspect e) f h = f h
+unless_weaker (Verify e) f h = f h
+unless_weaker (Revocation e) f h = f h
+unless_weaker Memory f h = tt
+
+-- what each case of a fact refutes, unless it is one of memory, refutes the fact
+pub unless_refuted : (P : Type 0) (e : PathFault) → (P → UnlessMemory e ⊥) → UnlessMemory e (P → ⊥)
+unless_refuted P (Decode e) h = h
+unless_refuted P (Inspect e) h = h
+unless_refuted P (Verify e) h = h
+unless_refuted P (Revocation e) h = h
+unless_refuted P Memory h = tt
 
 module _ (x : Context) (lists : Option (List Stored)) where
   -- ---- errors
@@ -117,30 +151,13 @@ module _ (x : Context) (lists : Option (List Stored)) where
   -- ---- an error says that no valid path has these members
 
   module _ (law : IsUnambiguous IsCertificate) where
-    -- what is found of a string doesn't fit a certificate that it begins with
-    found_against : (d : Demand) (octets : List ℕ) (e : PathFault) → Finds x d octets e → (c : CertFields) → Means IsCertificate c octets → MeetsProfile d.kind x.strict c → IsVerified (d.check c) d.checks → IsVerified (d.asked_check c) revocation_checks → UnlessMemory e ⊥
-    found_against d octets (Decode e) h c m meets all free = h.1 c m
-    found_against d octets (Inspect e) h c m meets all free =
-        let same = one_certificate law h.0 c octets h.1 m in
-        first_not_all (Lacks d.kind x.strict c) (faults d.kind) e (subst (λ (b : CertFields). IsFirstFalse (Lacks d.kind x.strict b) (faults d.kind) e) same h.2) meets
-    found_against d octets (Verify e) h c m meets all free =
-        let same = one_certificate law h.0 c octets h.1 m in
-        first_not_all (d.check c) d.checks e (subst (λ (b : CertFields). IsFirstFalse (d.check b) d.checks e) same h.2.1) all
-    found_against d octets (Revocation e) h c m meets all free =
-        let same = one_certificate law h.cert c octets h.begins m in
-        first_not_all (d.asked_check c) revocation_checks e (subst (λ (b : CertFields). IsFirstFalse (d.asked_check b) revocation_checks e) same h.first) free
-    found_against d octets Memory h c m meets all free = tt
-
     -- a refusal that holds of each path
     for_each : (e : PathFault) (anchor : List ℕ) (below : List Candidate) → ((p : Path) → IsPathOf anchor below p → IsValidPath x lists p → UnlessMemory e ⊥) → UnlessMemory e (IsNoValidPath x lists anchor below)
-    for_each (Decode e) anchor below h = h
-    for_each (Inspect e) anchor below h = h
-    for_each (Verify e) anchor below h = h
-    for_each (Revocation e) anchor below h = h
-    for_each Memory anchor below h = tt
+    for_each e anchor below h =
+        unless_weaker e (λ none p of is_valid. none (p, of, is_valid)) (unless_refuted ((p : Path) × IsPathOf anchor below p × IsValidPath x lists p) e (λ t. h t.0 t.1 t.2))
 
     no_anchor : (anchor : List ℕ) (below : List Candidate) (e : PathError) → IsFaultOfTrustAnchor x anchor e → (p : Path) → IsPathOf anchor below p → IsValidPath x lists p → UnlessMemory e.fault ⊥
-    no_anchor anchor below e h p of is_valid = found_against (trust_anchor_demand x) anchor e.fault h.fault_is p.anchor of.anchor_begins is_valid.anchor_meets is_valid.anchor_verified (unasked_checks revocation_checks)
+    no_anchor anchor below e h p of is_valid = found_against x law (trust_anchor_demand x) anchor e.fault h.fault_is p.anchor of.anchor_begins is_valid.anchor_meets is_valid.anchor_verified (unasked_checks revocation_checks)
 
     module _ (anchor : List ℕ) (below : List Candidate) (e : PathError) (h : IsFaultBelow x lists anchor below e) (p : Path) (of : IsPathOf anchor below p) where
       split : Parted IsMember p.below h.before h.there
@@ -170,7 +187,7 @@ module _ (x : Context) (lists : Option (List Stored)) where
           let under : IsUnrevokedIfAsked x lists (certificate_at q (last q)).fields m.cert = subst (λ (c : CertFields). IsUnrevokedIfAsked x lists c.fields m.cert) (above q m split.more (last q) same) unrevoked in
           let free : IsVerified (AskedBelow x lists q (last q) m.cert) revocation_checks = (unrevoked_asked x lists (certificate_at q (last q)).fields m.cert).1 under in
           let kind_is : m.kind ≡ h.there.kind = split.items.kind_is in
-          found_against (demand_below x lists q (last q) h.there.kind) h.there.octets e.fault h.fault_is m.cert split.items.begins (subst (λ (k : Kind). MeetsProfile k x.strict m.cert) kind_is meets) checks free
+          found_against x law (demand_below x lists q (last q) h.there.kind) h.there.octets e.fault h.fault_is m.cert split.items.begins (subst (λ (k : Kind). MeetsProfile k x.strict m.cert) kind_is meets) checks free
 
     -- a fault says that the strings are no valid path, unless it ran out of memory
     pub no_valid_path : (anchor : List ℕ) (below : List Candidate) (e : PathError) → IsFault x lists anchor below e → UnlessMemory e.fault (IsNoValidPath x lists anchor below)

@@ -8,3 +8,4 @@ pub mod Questions
 pub mod Reports
 pub mod FaultNames
 pub mod Paths
+pub mod Routers

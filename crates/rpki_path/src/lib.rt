@@ -11,12 +11,14 @@ mod path_fault;
 mod path_lines;
 mod printing;
 mod report;
+mod router;
 mod running;
 mod validating;
 mod watched;
 
 pub use exiting::program;
 pub use path_fault::{PathError, PathFault};
+pub use router::validate_router;
 pub use running::{MAX_INPUT, RunFault, Status, run};
 pub use validating::{Leaf, validate_path, validate_path_with};
 pub use watched::Watched;

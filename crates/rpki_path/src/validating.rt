@@ -63,7 +63,7 @@ fn placed<T: Drop>(index: usize, answer: Result<T, PathFault>) -> Result<T, Path
 }
 
 // The certificate that the string begins with.
-fn decoded(alloc: Global, octets: &Bytes) -> Result<Cert, PathFault>
+pub(crate) fn decoded(alloc: Global, octets: &Bytes) -> Result<Cert, PathFault>
     ensures ok { IfOk result (λ c. Means IsCertificate c octets.now) }
     ensures fault { IfErr result (IsUnread octets.now) }
 {
@@ -111,7 +111,7 @@ fn validate_below<V: Verifier>(
 }
 
 // Whether the lists, where they are given, leave the certificate below the issuer unrevoked.
-fn ask_lists<V: Verifier>(
+pub(crate) fn ask_lists<V: Verifier>(
     lists: Option<&CrlStore>,
     cert: &Cert,
     issuer: &ResourceCert,
