@@ -9,11 +9,11 @@ use Rattle.rpki_command.specs.MomentTexts.{date_digits, all_digits, IsDateText, 
 -- ---- the texts and their digits
 
 -- a date at midnight
-date_from : (t : Moment) (text : List ℕ) → IsDateText t text → date_digits text ≡ fourteen_digits t
+pub date_from : (t : Moment) (text : List ℕ) → IsDateText t text → date_digits text ≡ fourteen_digits t
 date_from t text d = rw (d.date, d.hour, d.minute, d.second) refl
 
 -- a date and a time of day
-all_from : (t : Moment) (text : List ℕ) → text ≡ time_text t → all_digits text ≡ fourteen_digits t
+pub all_from : (t : Moment) (text : List ℕ) → text ≡ time_text t → all_digits text ≡ fourteen_digits t
 all_from t text e = rw e refl
 
 -- the elements from one place on

@@ -5,6 +5,7 @@ pub mod PathVerdicts
 pub mod PathAnswers
 pub mod Pages
 pub mod MomentTexts
+pub mod CommandLines
 pub mod Periods
 pub mod BlockLines
 pub mod ListTexts
