@@ -3,9 +3,16 @@ pub mod WrittenLines
 pub mod DigitPlaces
 mod AddedParts
 mod CommandParts
+mod AllItems
+mod AskedVerdicts
 mod FaultPlaces
 mod FirstInside
+mod KeptLists
+mod LeadingItems
+mod ListOrder
 mod NothingRead
 mod OneMoment
 mod OneRequest
 mod RouterFaults
+mod StoredPairs
+mod UnrevokedFiles

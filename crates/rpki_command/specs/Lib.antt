@@ -2,7 +2,9 @@
 pub mod Contents
 pub mod GivenPaths
 pub mod PathVerdicts
+pub mod AskedLists
 pub mod PathAnswers
+pub mod UnrevokedMembers
 pub mod Pages
 pub mod MomentTexts
 pub mod CommandLines

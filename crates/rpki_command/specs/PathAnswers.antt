@@ -1,5 +1,5 @@
 -- What the command answers of the files of a path.
-use Rattle.std.specs.Prelude.{◌≡◌, ◌≢◌, ◌⊎◌, ℕ, List, [], ◌∷◌, All, Option, Some, None, IsSome, Bool, true, false, option_map}
+use Rattle.std.specs.Prelude.{◌≡◌, ◌≢◌, ◌⊎◌, ℕ, List, [], ◌∷◌, All, Option, Some, None, Bool, true, false, option_map}
 use Rattle.rpki.specs.Verification.{Context, ResourceFields}
 use Rattle.rpki.specs.Stores.{Stored}
 use Rattle.rpki.specs.PathError.{PathError}
@@ -8,6 +8,7 @@ use Rattle.rpki_command.specs.declared.path.Verdict.{Verdict}
 use Rattle.rpki_command.specs.declared.path.Verdict.TheVariants.{Accepted, Rejected}
 use Rattle.rpki_command.specs.declared.path.Fault.{Fault}
 use Rattle.rpki_command.specs.declared.path.Members.{Members}
+use Rattle.rpki_command.specs.AskedLists.{AreStoredOf}
 use Rattle.rpki_command.specs.Contents.{BeginsWithList}
 use Rattle.rpki_command.specs.GivenPaths.{GivenPath, given_path, IsGivenBy}
 use Rattle.rpki_command.specs.PathVerdicts.{IsAcceptedWith, IsNotAccepted, IsFaultOf}
@@ -32,11 +33,11 @@ IsVerdictOn x lists g (Rejected fault) = IsNotAccepted x lists g × IsWrongAt x 
 abbrev pub IsVerdict : Context → Option (List Stored) → List (List ℕ) → Verdict → Type 0
 IsVerdict x lists files verdict = (g : GivenPath) × IsGivenBy files g × IsVerdictOn x lists g verdict
 
--- whether lists are asked: where a file was given as one; which list is asked of which member isn't
--- said
+-- the lists that are asked: none where no file was given as one, else those that are stored for the
+-- members of the path
 abbrev pub AreAsked : List (List ℕ) → List (List ℕ) → Option (List Stored) → Type 0
 AreAsked files [] asked = asked ≡ None
-AreAsked files (list ∷ lists) asked = IsSome asked
+AreAsked files (list ∷ lists) asked = (pairs : List Stored) × (asked ≡ Some pairs) × AreStoredOf files (list ∷ lists) pairs
 
 -- the verdict on the path that the files are, by the files that were given as lists
 abbrev pub IsVerdictBy : Context → List (List ℕ) → List (List ℕ) → Verdict → Type 0

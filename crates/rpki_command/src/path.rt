@@ -1,12 +1,15 @@
 //! A path of files, from a trust anchor down.
-ghost use Rattle.std.specs.Prelude.{◌≡◌, ◌≢◌, ◌<◌, OnOk, ◌↔◌, [], ◌∷◌, ◌++◌, length, map, IfOk, IfSome, IsNone, IsTrue, MatchOption, option_map};
+ghost use Rattle.std.specs.Prelude.{◌≡◌, ◌≢◌, ◌<◌, OnOk, ◌↔◌, ℕ, Bool, List, [], ◌∷◌, ◌++◌, length, map, IfOk, IfSome, IsNone, IsTrue, MatchOption, option_map};
+ghost use Rattle.rpki.specs.Times.{Moment};
 ghost use Rattle.rpki.specs.RsaSignatures.{IsSignedByRsa};
-ghost use Rattle.rpki.specs.Verification.{context};
+ghost use Rattle.rpki.specs.Verification.{ResourceFields, context};
 ghost use Rattle.rpki.specs.Paths.{UnlessMemory};
 ghost use Rattle.rpki.specs.PathFault.TheVariants.{Memory};
 ghost use Rattle.rpki_command.specs.Contents.{BeginsWithList};
 ghost use Rattle.rpki_command.specs.GivenPaths.{IsGivenBy, IsJudgedAs, path_to};
 ghost use Rattle.rpki_command.specs.PathAnswers.{path_of, IsVerdict, IsVerdictBy};
+ghost use Rattle.rpki_command.specs.UnrevokedMembers.{AreUnrevoked};
+ghost use Rattle.rpki_command.specs.declared.path.Verdict.TheVariants.{Accepted};
 
 use crate::certificate::{kind_of, serial};
 use crate::files::{Object, as_certificate, as_list};
@@ -280,3 +283,12 @@ pub fn judge(alloc: Global, question: &Question<'_, '_>) -> Result<Option<Verdic
     drop(store);
     verdict
 }
+
+/// Says that where lists were given, each member of an accepted path but the trust anchor is left
+/// unrevoked by one of them: the key of the member above signed it, it isn't stale, and it doesn't
+/// have the member's serial number.
+pub fn accepted_are_unrevoked()
+    ensures { (now : Moment) (strict : Bool) (files lists : List (List ℕ)) (list : List ℕ)
+        (r : ResourceFields) → let x = context IsSignedByRsa now strict in
+        IsVerdictBy x files (list ∷ lists) (Accepted r) → AreUnrevoked x (list ∷ lists) files }
+{}

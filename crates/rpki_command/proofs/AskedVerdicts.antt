@@ -1,0 +1,20 @@
+-- A verdict by the lists that are stored is one by the files that were given.
+use Rattle.std.specs.Prelude.{Option, Some, None, Result, Ok, Err, IfOk, MatchOption}
+use Rattle.std.proofs.Common.{◌≡◌, ℕ, List, [], ◌∷◌, length, refl}
+use Rattle.rpki.specs.Stores.{Stored}
+use Rattle.rpki.specs.Verification.{Context}
+use Rattle.rpki_command.specs.declared.path.Verdict.{Verdict}
+use Rattle.rpki_command.specs.AskedLists.{AreStoredOf}
+use Rattle.rpki_command.specs.PathAnswers.{AreAsked, IsVerdict, IsVerdictBy}
+
+-- where some were given, those that are stored are asked
+pub asked_of : (files lists : List (List ℕ)) (pairs : List Stored) → (length lists ≡ 0 → ⊥) → AreStoredOf files lists pairs → AreAsked files lists (Some pairs)
+asked_of files [] pairs some h = absurd (some refl)
+asked_of files (l ∷ ls) pairs some h = (pairs, refl, h)
+
+-- the verdict by them
+pub verdict_by : {E : Type 0} (x : Context) (files lists : List (List ℕ)) (pairs : List Stored) → AreAsked files lists (Some pairs) → (r : Result (Option Verdict) E)
+    → IfOk r (λ o. MatchOption o (files ≡ []) (IsVerdict x (Some pairs) files)) → IfOk r (λ o. MatchOption o (files ≡ []) (IsVerdictBy x files lists))
+verdict_by x files lists pairs are (Ok None) h = h
+verdict_by x files lists pairs are (Ok (Some v)) h = (Some pairs, are, h)
+verdict_by x files lists pairs are (Err e) h = tt

@@ -1,0 +1,33 @@
+-- What the lists that were given say of the members of an accepted path (RFC 6487 7.2).
+use Rattle.std.specs.Prelude.{List, [], ◌∷◌, ℕ, Any}
+use Rattle.rpki.specs.Encoding.{Means}
+use Rattle.rpki.specs.Certificates.{CertFields, IsCertificate}
+use Rattle.rpki.specs.Lists.{CrlFields, IsCertificateList}
+use Rattle.rpki.specs.RevocationError.{RevocationError}
+use Rattle.rpki.specs.Revocation.{ListCheck}
+use Rattle.rpki.specs.Verification.{Context}
+
+-- one of the files begins with the list
+abbrev pub IsGivenAmong : List (List ℕ) → CrlFields → Type 0
+IsGivenAmong files l = Any (λ octets. Means IsCertificateList l octets) files
+
+-- Of the octets of a member, below those of its issuer: a list that was given names the issuer's
+-- key and is signed by it, isn't stale, and doesn't have the member's serial number.
+pub record IsUnrevokedBelow (x : Context) (lists : List (List ℕ)) (above octets : List ℕ) : Type 0 where
+  pub issuer : CertFields
+  pub issuer_begins : Means IsCertificate issuer above
+  pub member : CertFields
+  pub member_begins : Means IsCertificate member octets
+  pub list : CrlFields
+  pub given : IsGivenAmong lists list
+  pub checks : (e : RevocationError) → ListCheck x issuer.fields member.fields.serial list e
+
+-- of each of these, below the one before it, and of the first below these octets
+abbrev pub AreUnrevokedBelow : Context → List (List ℕ) → List ℕ → List (List ℕ) → Type 0
+AreUnrevokedBelow x lists above [] = Unit {0}
+AreUnrevokedBelow x lists above (octets ∷ more) = IsUnrevokedBelow x lists above octets × AreUnrevokedBelow x lists octets more
+
+-- of each file of a path but that of the trust anchor
+abbrev pub AreUnrevoked : Context → List (List ℕ) → List (List ℕ) → Type 0
+AreUnrevoked x lists [] = Unit {0}
+AreUnrevoked x lists (anchor ∷ below) = AreUnrevokedBelow x lists anchor below
