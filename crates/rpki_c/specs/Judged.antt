@@ -1,13 +1,10 @@
 -- Paths that a caller of C's asks about (own): strings, of which the first begins with the trust
 -- anchor, and the kind of the last.
 use Rattle.std.specs.Prelude.{◌≡◌, ◌⊎◌, ◌<◌, ℕ, List, [], ◌∷◌, ◌++◌, length, Option, Some, None, Result, Ok, Err, IfErr}
-use Rattle.rpki_der.specs.Encoding.{Means}
-use Rattle.rpki_cert.specs.Certificates.{CertFields, IsCertificate}
-use Rattle.rpki_cert.specs.Profiles.{MeetsProfile}
-use Rattle.rpki_cert.specs.Verification.{Context, ResourceFields, CheckUnder, IsVerified, router_checks}
-use Rattle.rpki_cert.specs.declared.inspect.Kind.TheVariants.{Router}
+use Rattle.rpki_cert.specs.Verification.{Context, ResourceFields}
 use Rattle.rpki_crl.specs.Stores.{Stored}
-use Rattle.rpki_path.specs.Paths.{Candidate, candidates, Validates, IsFault, IsUnrevokedIfAsked, Demand, AskedCheck, Finds}
+use Rattle.rpki_path.specs.Paths.{Candidate, candidates, Validates, IsFault, Finds}
+use Rattle.rpki_path.specs.Routers.{BeginsWithRouter, router_demand}
 use Rattle.rpki_path.specs.declared.path_fault.PathError.{PathError}
 use Rattle.rpki_path.specs.declared.validating.Leaf.{Leaf}
 use Rattle.rpki_path.specs.declared.validating.Leaf.TheVariants.{Ee, DetachedEe}
@@ -53,27 +50,6 @@ pub record IsJudged (x : Context) (lists : Option (List Stored)) (last : Last) (
 
 -- ---- a router's certificate as the last one
 
--- what is asked of a router below the issuer
-abbrev pub router_demand : Context → Option (List Stored) → ResourceFields → Demand
-router_demand x lists issuer = record {
-  kind = Router;
-  check = CheckUnder x issuer;
-  checks = router_checks;
-  asked_check = AskedCheck x lists issuer.cert.fields;
-}
-
--- a router's certificate that is valid below the issuer and, where lists are given, unrevoked there
-pub record IsRouterUnder (x : Context) (lists : Option (List Stored)) (issuer : ResourceFields) (c : CertFields) : Type 0 where
-  pub meets : MeetsProfile Router x.strict c
-  pub checks : IsVerified (CheckUnder x issuer c) router_checks
-  pub unrevoked : IsUnrevokedIfAsked x lists issuer.cert.fields c
-
--- the octets begin with one
-pub record IsRouter (x : Context) (lists : Option (List Stored)) (issuer : ResourceFields) (octets : List ℕ) : Type 0 where
-  pub cert : CertFields
-  pub begins : Means IsCertificate cert octets
-  pub under : IsRouterUnder x lists issuer cert
-
 -- the error is one of the strings above the router
 pub record IsFaultAbove (x : Context) (lists : Option (List Stored)) (above : List (List ℕ)) (e : PathError) : Type 0 where
   pub index_is : e.index < length above
@@ -90,7 +66,7 @@ pub record IsFaultOfRouter (x : Context) (lists : Option (List Stored)) (above :
 -- an Ok says that the strings above the router are a valid path to the member that is answered, and
 -- the router's is valid below it; an error says which string is wrong, and why
 abbrev pub AnswersRouter : Context → Option (List Stored) → List (List ℕ) → List ℕ → Result ResourceFields PathError → Type 0
-AnswersRouter x lists above octets (Ok issuer) = IsJudged x lists Authority above (Ok issuer) × IsRouter x lists issuer octets
+AnswersRouter x lists above octets (Ok issuer) = IsJudged x lists Authority above (Ok issuer) × BeginsWithRouter x lists issuer octets
 AnswersRouter x lists above octets (Err e) = IsFaultAbove x lists above e ⊎ IsFaultOfRouter x lists above octets e
 
 -- the verdict on strings of which the last is a router's

@@ -1,21 +1,17 @@
 //! Paths that are validated, with and without revocation lists.
-ghost use Rattle.std.specs.Prelude.{◌≡◌, ◌<◌, ◌↔◌, List, ℕ, [], length, Ok, Err, IfOk, OnOk, IfErr, IfSome, IsNone, option_map};
+ghost use Rattle.std.specs.Prelude.{◌≡◌, ◌<◌, ◌↔◌, [], length, Ok, Err, IfOk, OnOk, IfErr, IfSome, IsNone, option_map};
 ghost use Rattle.std.proofs.Common.{rc_value};
-ghost use Rattle.rpki_der.specs.Encoding.{Means};
-ghost use Rattle.rpki_parts.specs.Conditions.{Tests};
-ghost use Rattle.rpki_cert.specs.Certificates.{IsCertificate};
 ghost use Rattle.rpki_cert.specs.Verification.{context};
-ghost use Rattle.rpki_crl.specs.Revocation.{revocation_checks};
-ghost use Rattle.rpki_path.specs.Paths.{candidates, AskedCheck, Finds, Validates, IsFault};
+ghost use Rattle.rpki_path.specs.Paths.{candidates, Validates, IsFault};
 ghost use Rattle.rpki_path.specs.declared.path_fault.PathFault.TheVariants.{Memory};
-ghost use Rattle.rpki_c.specs.Judged.{fewest, leaf_for, EndsInLeaf, IsJudged, router_demand, IsRouterUnder, IsRouter, EndsInRouter};
+ghost use Rattle.rpki_c.specs.Judged.{fewest, leaf_for, EndsInLeaf, IsJudged, EndsInRouter};
 
 use bytes::Bytes;
-use rpki_cert::{Cert, ResourceCert};
-use rpki_crl::{CrlStore, RevocationError};
+use rpki_cert::ResourceCert;
+use rpki_crl::CrlStore;
 use rpki_der::Time;
 use rpki_parts::{TalInfo, Verifier};
-use rpki_path::{Leaf, PathError, PathFault, validate_path, validate_path_with};
+use rpki_path::{Leaf, PathError, PathFault, validate_path, validate_path_with, validate_router};
 use std::alloc::{AllocError, Global};
 use std::rc::Rc;
 
@@ -141,53 +137,6 @@ pub(crate) fn judge<V: Verifier>(
     }
 }
 
-// Asks the lists, where they are given, whether the router's certificate below the issuer is
-// revoked.
-fn ask_lists<V: Verifier>(
-    lists: Option<&CrlStore>,
-    cert: &Cert,
-    issuer: &ResourceCert,
-    strict: bool,
-    now: Time,
-    verifier: &V,
-) -> Result<(), RevocationError>
-    ensures { let x = context (V.verifies verifier.now) now strict in
-        let pairs = option_map (λ store. store.now.pairs) lists.entry in
-        Tests (AskedCheck x pairs issuer.now.cert.fields cert.now) revocation_checks result }
-{
-    let Some(store) = lists else {
-        return Ok(());
-    };
-    let tbs = cert.as_tbs();
-    match tbs.crl_uri() {
-        Some(uri) => store.check(uri, tbs.serial_number(), issuer, strict, now, verifier),
-        None => Err(RevocationError::NoCrl),
-    }
-}
-
-// Whether the router's certificate is valid below the issuer, and not revoked where lists are
-// given. A fault is one of all octets that begin with it.
-fn check_router_cert<V: Verifier>(
-    cert: &Cert,
-    issuer: &ResourceCert,
-    lists: Option<&CrlStore>,
-    strict: bool,
-    now: Time,
-    verifier: &V,
-) -> Result<(), PathFault>
-    ensures ok { let x = context (V.verifies verifier.now) now strict in
-        let pairs = option_map (λ store. store.now.pairs) lists.entry in
-        OnOk result (IsRouterUnder x pairs issuer.now cert.now) }
-    ensures fault { let x = context (V.verifies verifier.now) now strict in
-        let pairs = option_map (λ store. store.now.pairs) lists.entry in
-        (octets : List ℕ) → Means IsCertificate cert.now octets
-        → IfErr result (Finds x (router_demand x pairs issuer.now) octets) }
-{
-    cert.validate_router_at(issuer, strict, now, verifier)?;
-    ask_lists(lists, cert, issuer, strict, now, verifier)?;
-    Ok(())
-}
-
 // The member above a router at this place, where the router's test went well; else its fault.
 fn answer_of(
     issuer: ResourceCert,
@@ -206,30 +155,6 @@ fn answer_of(
             Err(PathError { index, fault })
         }
     }
-}
-
-// Whether the router's certificate that the string begins with is valid below the issuer, and not
-// revoked where lists are given.
-fn check_router<V: Verifier>(
-    alloc: Global,
-    octets: &Bytes,
-    issuer: &ResourceCert,
-    lists: Option<&CrlStore>,
-    strict: bool,
-    now: Time,
-    verifier: &V,
-) -> Result<(), PathFault>
-    ensures ok { let x = context (V.verifies verifier.now) now strict in
-        let pairs = option_map (λ store. store.now.pairs) lists.entry in
-        OnOk result (IsRouter x pairs issuer.now octets.now) }
-    ensures fault { let x = context (V.verifies verifier.now) now strict in
-        let pairs = option_map (λ store. store.now.pairs) lists.entry in
-        IfErr result (Finds x (router_demand x pairs issuer.now) octets.now) }
-{
-    let cert = Cert::decode_shared(alloc, octets.clone()?)?;
-    let answer = check_router_cert(&cert, issuer, lists, strict, now, verifier);
-    drop(cert);
-    answer
 }
 
 /// Validates the path of these strings, the trust anchor first, of which the last is a router's.
@@ -253,7 +178,7 @@ pub(crate) fn judge_router<V: Verifier>(
     let issuer = judge(alloc, above, Last::Authority, lists, strict, now, verifier)?;
     match issuer {
         Ok(issuer) => {
-            let test = check_router(alloc, router, &issuer, lists, strict, now, verifier);
+            let test = validate_router(alloc, router, &issuer, lists, strict, now, verifier);
             Some(answer_of(issuer, above.len(), test))
         }
         Err(error) => Some(Err(error)),

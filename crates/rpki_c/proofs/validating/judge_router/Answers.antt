@@ -16,7 +16,7 @@ returns-in-Ok-clause-judged g c =
     let split : c.args.strings.now ≡ above ++ octets ∷ [] = c.in_ok-router.ensures.cases.0 in
     let judged : IsJudged x lists Authority above (Ok c.in-Ok.issuer) = subst (λ (r : Result ResourceFields PathError). IsJudged x lists Authority above r) c.in-Ok.is c.in_ok-issuer.ensures.judged in
     let answered = c.answer_of.ensures in
-    ends_below x lists c.args.strings.now above octets split c.in-Ok.issuer c.check_router-test.result c.answer_of.result judged c.check_router-test.ensures.ok c.check_router-test.ensures.fault answered.ok answered.passed answered.index answered.fault
+    ends_below x lists c.args.strings.now above octets split c.in-Ok.issuer c.validate_router-test.result c.answer_of.result judged c.validate_router-test.ensures.ok c.validate_router-test.ensures.fault answered.ok answered.passed answered.index answered.fault
 
 pub returns-in-Err-clause-judged : goal.returns-in-Err-clause-judged
 returns-in-Err-clause-judged g c =
