@@ -2,9 +2,9 @@
 pub mod WrittenLines
 pub mod DigitPlaces
 mod AddedParts
-mod CommandParts
 mod AllItems
 mod AskedVerdicts
+mod CommandParts
 mod FaultPlaces
 mod FirstInside
 mod KeptLists
