@@ -7,6 +7,7 @@ mod AskedVerdicts
 mod CommandParts
 mod FaultPlaces
 mod FirstInside
+mod FlaggedItems
 mod KeptLists
 mod LeadingItems
 mod ListOrder

@@ -5,6 +5,7 @@ pub mod PathVerdicts
 pub mod AskedLists
 pub mod PathAnswers
 pub mod UnrevokedMembers
+pub mod Outcomes
 pub mod Pages
 pub mod MomentTexts
 pub mod CommandLines

@@ -1,15 +1,13 @@
 -- What the command answers of the files of a path.
-use Rattle.std.specs.Prelude.{◌≡◌, ◌≢◌, ◌⊎◌, ℕ, List, [], ◌∷◌, All, Option, Some, None, Bool, true, false, option_map}
-use Rattle.rpki.specs.Verification.{Context, ResourceFields}
+use Rattle.std.specs.Prelude.{◌≡◌, ◌≢◌, ℕ, List, [], ◌∷◌, Option, Some, None, option_map}
+use Rattle.rpki.specs.Verification.{Context}
 use Rattle.rpki.specs.Stores.{Stored}
 use Rattle.rpki.specs.PathError.{PathError}
 use Rattle.rpki.specs.PathFault.TheVariants.{Memory}
 use Rattle.rpki_command.specs.declared.path.Verdict.{Verdict}
 use Rattle.rpki_command.specs.declared.path.Verdict.TheVariants.{Accepted, Rejected}
-use Rattle.rpki_command.specs.declared.path.Fault.{Fault}
 use Rattle.rpki_command.specs.declared.path.Members.{Members}
 use Rattle.rpki_command.specs.AskedLists.{AreStoredOf}
-use Rattle.rpki_command.specs.Contents.{BeginsWithList}
 use Rattle.rpki_command.specs.GivenPaths.{GivenPath, given_path, IsGivenBy}
 use Rattle.rpki_command.specs.PathVerdicts.{IsAcceptedWith, IsNotAccepted, IsFaultOf}
 
@@ -47,10 +45,3 @@ IsVerdictBy x files lists verdict = (asked : Option (List Stored)) × AreAsked f
 abbrev pub IsAcceptance : Option Verdict → Type 0
 IsAcceptance (Some (Accepted r)) = Unit {0}
 IsAcceptance _ = ⊥
-
--- the answer is yes exactly where the path is accepted and each file that was given as a list
--- begins with one; a path has a file at least
-abbrev pub AnswersPath : Context → List (List ℕ) → List (List ℕ) → Bool → Type 0
-AnswersPath x files lists true = ((r : ResourceFields) × IsVerdictBy x files lists (Accepted r)) × All BeginsWithList lists
-AnswersPath x files lists false =
-    (files ≡ []) ⊎ (((fault : Fault) × IsVerdictBy x files lists (Rejected fault)) ⊎ (All BeginsWithList lists → ⊥))

@@ -2,6 +2,11 @@
 //! files.
 #![tactic(auto)]
 
+ghost use Rattle.std.specs.Prelude.{◌≡◌, ◌≢◌, ◌≤◌, length, IfOk, IfSome, MatchOption, OnOk};
+ghost use Rattle.std.specs.Process.{exit_status};
+ghost use Rattle.rpki_command.specs.Outcomes.{AsksOfFiles, MayEndWith};
+
+mod answering;
 mod arguments;
 mod blocks;
 mod certificate;
@@ -13,6 +18,7 @@ mod lines;
 mod list;
 mod moments;
 mod names;
+mod outcomes;
 mod page;
 mod path;
 mod places;
@@ -22,17 +28,17 @@ mod saying;
 mod showing;
 mod verdicts;
 
+use answering::answer_request;
 use anyhow::{Context, Result, anyhow};
 use arguments::{Misuse, Request, Task, read_words};
 use files::{Object, read_object};
-use path::Question;
+use outcomes::{Outcome, status_of};
 use rpki::repository::x509::Time;
-use showing::{Options, shown};
-use std::fs;
 use std::io::Read;
 use std::process::ExitCode;
 use std::rt::Clock;
 use std::time::{SystemTime, UNIX_EPOCH};
+use std::{env, fs};
 
 const USAGE: &str = "usage: rpki show [-j|--json] [--all] [--at MOMENT] [--lenient] FILE..
        rpki validate [-j|--json] [--crl FILE].. [--at MOMENT] [--lenient] ANCHOR [CA].. [LAST]
@@ -42,13 +48,18 @@ LAST: a CA, an end entity or a router
 MOMENT: YYYY-MM-DD, YYYY-MM-DDThh:mm:ssZ or YYYYMMDDhhmmss; the clock's, if it is left out
 ";
 
+const VERSION: &str = "rpki 0.1\n";
+
 fn clock(rt: &impl Clock) -> Result<Time> {
     let now = SystemTime::now(rt)?;
     let since = now.duration_since(UNIX_EPOCH).context("the clock")?;
     moments::from_seconds(since.as_secs()).ok_or(anyhow!("the clock"))
 }
 
-fn moment(rt: &impl Clock, at: Option<Time>) -> Result<Time> {
+// The moment that is named, or the clock's.
+fn moment(rt: &impl Clock, at: Option<Time>) -> Result<Time>
+    ensures { IfOk result (λ now. IfSome at (λ named. now ≡ named)) }
+{
     match at {
         Some(moment) => Ok(moment),
         None => clock(rt),
@@ -68,7 +79,10 @@ fn octets_of(rt: &HostRuntime, name: &str) -> Result<Vec<u8>> {
     Ok(fs::read(rt, name).context(format_args!("{name}"))?)
 }
 
-fn objects<'a>(rt: &HostRuntime, names: &[&'a str]) -> Result<Vec<Object<'a>>> {
+// What the files of these names hold.
+fn objects<'a>(rt: &HostRuntime, names: &[&'a str]) -> Result<Vec<Object<'a>>>
+    ensures { IfOk result (λ all. length all.items ≡ length names.now) }
+{
     let mut all = Vec::new(rt.alloc());
     for name in names {
         let octets = octets_of(rt, name)?;
@@ -78,72 +92,80 @@ fn objects<'a>(rt: &HostRuntime, names: &[&'a str]) -> Result<Vec<Object<'a>>> {
     Ok(all)
 }
 
-fn answer(rt: &HostRuntime, request: &Request<'_>) -> Result<(String, bool)> {
-    let now = moment(rt, request.at)?;
-    let files = objects(rt, &request.files)?;
-    if request.task == Task::Show {
-        let options = Options {
-            now,
-            strict: request.strict,
-            json: request.json,
-            all: request.all,
-        };
-        return Ok(shown(rt.alloc(), &files, &options)?);
+// The text about the command, where that is asked for and nothing of files.
+fn about(task: Task) -> Option<&'static str>
+    ensures { MatchOption result (AsksOfFiles task) (λ text. AsksOfFiles task → ⊥) }
+{
+    match task {
+        Task::Help => Some(USAGE),
+        Task::Version => Some(VERSION),
+        Task::Show | Task::Validate => None,
     }
-    let lists = objects(rt, &request.lists)?;
-    let question = Question {
-        members: files.as_slice(),
-        lists: lists.as_slice(),
-        strict: request.strict,
-        at: now,
-    };
-    Ok(verdicts::validated(rt.alloc(), &question, request.json)?)
 }
 
-fn misused(rt: &impl Eprint, misuse: &Misuse<'_>) -> Result<u8> {
+// Says what is wrong of the command line, unless memory ran out.
+fn say(rt: &impl Eprint, misuse: &Misuse<'_>) -> Result<()>
+    ensures { OnOk result (misuse.now ≢ Misuse.Memory) }
+{
     match misuse {
         Misuse::NoTask => eprintln!(rt; "rpki: no command")?,
         Misuse::Unknown(word) => eprintln!(rt; "rpki: unknown: {word}")?,
         Misuse::NoValue(word) => eprintln!(rt; "rpki: {word} wants a value")?,
         Misuse::NoMoment(text) => eprintln!(rt; "rpki: --at {text}: no moment")?,
         Misuse::NoFile => eprintln!(rt; "rpki: no file")?,
-        Misuse::Memory => {
-            eprintln!(rt; "rpki: out of memory")?;
-            return Ok(3);
-        }
+        Misuse::Memory => return Err(anyhow!("out of memory")),
     }
     eprint!(rt; "{USAGE}")?;
-    Ok(2)
+    Ok(())
 }
 
-fn run(rt: &HostRuntime, words: &[String]) -> Result<u8> {
+// Answers what is asked of files, and prints the answer.
+fn answer(rt: &HostRuntime, request: &Request<'_>) -> Result<Outcome>
+    requires { AsksOfFiles request.now.task }
+    ensures { IfOk result (λ outcome. MayEndWith request.now outcome) }
+{
+    let now = moment(rt, request.at)?;
+    let files = objects(rt, &request.files)?;
+    let lists = objects(rt, &request.lists)?;
+    let answer = answer_request(rt.alloc(), request, now, &files, &lists)?;
+    rt.print(answer.text.as_str())?;
+    Ok(answer.outcome)
+}
+
+fn run(rt: &HostRuntime, words: &[String]) -> Result<Outcome> {
     let request = match read_words(rt.alloc(), words) {
         Ok(request) => request,
-        Err(misuse) => return misused(rt, &misuse),
+        Err(misuse) => {
+            say(rt, &misuse)?;
+            return Ok(Outcome::WrongUse);
+        }
     };
-    if request.task == Task::Help {
-        print!(rt; "{USAGE}")?;
-        return Ok(0);
+    if let Some(text) = about(request.task) {
+        rt.print(text)?;
+        return Ok(Outcome::Success);
     }
-    if request.task == Task::Version {
-        println!(rt; "rpki 0.1")?;
-        return Ok(0);
-    }
-    let (text, well) = answer(rt, &request)?;
-    rt.print(text.as_str())?;
-    Ok(if well { 0 } else { 1 })
+    answer(rt, &request)
+}
+
+fn run_with_arguments(rt: &HostRuntime) -> Result<Outcome> {
+    let words: Vec<String> = env::args(rt)?.skip(1).collect(rt.alloc())?;
+    run(rt, &words)
 }
 
 /// Runs the command on the words of the command line: reads the files, and prints what they hold,
 /// or the verdict on their path. The exit status is 0 where all files were shown or the path is
-/// accepted, 1 where a file is neither a certificate nor a list or the path is rejected, 2 where
-/// the command line has another form, and 3 where a file, the clock, memory or an output failed.
-pub fn command(rt: &HostRuntime, words: &[String]) -> Result<ExitCode> {
-    match run(rt, words) {
-        Ok(status) => Ok(ExitCode::from(status)),
-        Err(error) => {
-            eprintln!(rt; "rpki: {error:#}")?;
-            Ok(ExitCode::from(3))
-        }
+/// accepted; 1 where a file is neither a certificate nor a list, the path is rejected, or a file
+/// given as a list is none; 2 where the command line has another form; and 3 where a file, the
+/// clock, memory or an output failed.
+pub fn command(rt: &HostRuntime) -> ExitCode
+    ensures { exit_status result ≤ 3 }
+{
+    let ended = run_with_arguments(rt);
+    if let Err(error) = &ended {
+        // Where this can't be told, the status still tells it.
+        let _told = eprintln!(rt; "rpki: {error:#}");
     }
+    let status = status_of(&ended);
+    drop(ended);
+    ExitCode::from(status)
 }

@@ -1,5 +1,14 @@
 //! A file for a person or as JSON.
-use crate::files::{Form, Object, looks_like};
+ghost use Rattle.std.specs.Prelude.{◌↔◌, All, IfOk, IsTrue};
+ghost use Rattle.rpki.specs.Place.{MeansOrMemoryBy};
+ghost use Rattle.rpki.specs.Encoding.{Means};
+ghost use Rattle.rpki.specs.Certificates.{IsCertificate};
+ghost use Rattle.rpki.specs.Lists.{IsCertificateList};
+ghost use Rattle.rpki_command.specs.Contents.{BeginsWithCertificate, BeginsWithList, CanBeShown};
+ghost use Rattle.rpki_command.specs.Outcomes.{IsOutcomeOfShow};
+
+use crate::files::{Form, Object, looks_like, unless_memory};
+use crate::outcomes::{Answer, Outcome};
 use crate::page::Page;
 use crate::places::{Place, place_of};
 use crate::rules::{Rule, of_file};
@@ -112,7 +121,9 @@ fn as_shown<'a>(object: &'a Object<'_>, left: usize) -> json::Shown<'a> {
 }
 
 // The certificate that the octets begin with, and how many octets stand behind it.
-fn certificate_in(alloc: Global, octets: &Bytes) -> Result<(Cert, usize), DecodeError> {
+fn certificate_in(alloc: Global, octets: &Bytes) -> Result<(Cert, usize), DecodeError>
+    ensures { MeansOrMemoryBy (λ found. found.0) (Means IsCertificate) result octets.now }
+{
     let mut cursor = Cursor::new(octets);
     let cert = Cert::take_from(alloc, &mut cursor)?;
     Ok((cert, cursor.rest().len()))
@@ -136,25 +147,33 @@ fn whole_certificate(
     }
 }
 
-fn certificate_of(page: &mut Page, object: &Object<'_>, options: &Options) -> bool {
-    let octets = &object.octets;
-    match certificate_in(page.alloc(), octets) {
+// Shows the certificate that the file begins with, and says whether it begins with one.
+fn certificate_of(
+    page: &mut Page,
+    object: &Object<'_>,
+    options: &Options,
+) -> Result<bool, AllocError>
+    ensures { IfOk result (λ yes. IsTrue yes ↔ BeginsWithCertificate object.now) }
+{
+    match certificate_in(page.alloc(), &object.octets) {
         Ok(found) => {
             let (cert, left) = found;
             whole_certificate(page, object, &cert, left, options);
             drop(cert);
-            true
+            Ok(true)
         }
         Err(fault) => {
             refused(page, object, &fault, options);
-            drop(fault);
-            false
+            unless_memory(fault)?;
+            Ok(false)
         }
     }
 }
 
 // The list that the octets begin with, and how many octets stand behind it.
-fn list_in(alloc: Global, octets: &Bytes) -> Result<(Crl, usize), DecodeError> {
+fn list_in(alloc: Global, octets: &Bytes) -> Result<(Crl, usize), DecodeError>
+    ensures { MeansOrMemoryBy (λ found. found.0.list) (Means IsCertificateList) result octets.now }
+{
     let mut cursor = Cursor::new(octets);
     let list = Crl::take_from(alloc, &mut cursor)?;
     Ok((list, cursor.rest().len()))
@@ -172,46 +191,60 @@ fn whole_list(page: &mut Page, object: &Object<'_>, it: &Crl, left: usize, optio
     }
 }
 
-fn list_of(page: &mut Page, object: &Object<'_>, options: &Options) -> bool {
-    let octets = &object.octets;
-    match list_in(page.alloc(), octets) {
+// Shows the list that the file begins with, and says whether it begins with one.
+fn list_of(page: &mut Page, object: &Object<'_>, options: &Options) -> Result<bool, AllocError>
+    ensures { IfOk result (λ yes. IsTrue yes ↔ BeginsWithList object.now) }
+{
+    match list_in(page.alloc(), &object.octets) {
         Ok(found) => {
             let (it, left) = found;
             whole_list(page, object, &it, left, options);
             drop(it);
-            true
+            Ok(true)
         }
         Err(fault) => {
             refused(page, object, &fault, options);
-            drop(fault);
-            false
+            unless_memory(fault)?;
+            Ok(false)
         }
     }
 }
 
-/// Shows a file, and says whether it is a certificate or a list.
-pub fn show(page: &mut Page, object: &Object<'_>, options: &Options) -> bool {
+/// Shows a file, and says whether it begins with a certificate or a list.
+pub fn show(page: &mut Page, object: &Object<'_>, options: &Options) -> Result<bool, AllocError>
+    ensures { IfOk result (λ yes. IsTrue yes ↔ CanBeShown object.now) }
+{
     match looks_like(&object.octets) {
         Form::List => list_of(page, object, options),
         Form::Certificate | Form::Other => certificate_of(page, object, options),
     }
 }
 
-/// Writes the text of the objects, and tells whether each of them is a certificate or a list.
-pub fn shown(
-    alloc: Global,
-    objects: &[Object<'_>],
-    options: &Options,
-) -> Result<(String, bool), AllocError> {
-    let mut page = Page::new(alloc);
-    let mut well = true;
+// Appends the text of the objects, and tells whether each begins with a certificate or a list.
+fn show_all(page: &mut Page, objects: &[Object<'_>], options: &Options) -> Result<bool, AllocError>
+    ensures { IfOk result (λ yes. IsTrue yes ↔ All CanBeShown objects.now) }
+{
+    let mut can_be_shown = true;
     let mut is_first = true;
     for object in objects {
         if !is_first && !options.json {
             page.end();
         }
-        well = show(&mut page, object, options) && well;
+        can_be_shown &= show(page, object, options)?;
         is_first = false;
     }
-    Ok((page.into_text()?, well))
+    Ok(can_be_shown)
+}
+
+/// Writes the text of the objects. The outcome is success where each begins with a certificate or a
+/// list.
+pub fn shown(alloc: Global, objects: &[Object<'_>], options: &Options) -> Result<Answer, AllocError>
+    ensures { IfOk result (λ answer. IsOutcomeOfShow objects.now answer.outcome) }
+{
+    let mut page = Page::new(alloc);
+    let can_be_shown = show_all(&mut page, objects, options)?;
+    Ok(Answer {
+        text: page.into_text()?,
+        outcome: Outcome::of_answer(can_be_shown),
+    })
 }

@@ -1,7 +1,15 @@
 //! The verdict on a path, for a person or as JSON.
+ghost use Rattle.std.specs.Prelude.{◌↔◌, All, IfOk, IsTrue};
+ghost use Rattle.rpki.specs.RsaSignatures.{IsSignedByRsa};
+ghost use Rattle.rpki.specs.Verification.{context};
+ghost use Rattle.rpki_command.specs.Contents.{BeginsWithList};
+ghost use Rattle.rpki_command.specs.Outcomes.{IsOutcomeOfValidate};
+ghost use Rattle.rpki_command.specs.PathAnswers.{IsAcceptance};
+
 use crate::blocks::{Family, as_blocks, ip_blocks};
 use crate::files::Object;
 use crate::json;
+use crate::outcomes::{Answer, Outcome};
 use crate::page::Page;
 use crate::path::{Fault, Question, Verdict, is_list, judge, member};
 use rpki::repository::cert::ResourceCert;
@@ -51,57 +59,32 @@ fn accepted(page: &mut Page, holder: &ResourceCert, lists: usize) {
     as_blocks(page, "Holds AS numbers", holder.as_resources());
 }
 
-// Whether a file is a list; where memory runs out, the page fails.
-fn is_known_list(page: &mut Page, object: &Object<'_>) -> bool {
-    match is_list(page.alloc(), object) {
-        Ok(answer) => answer,
-        Err(_) => {
-            page.fail();
-            true
-        }
-    }
-}
-
-// Files given as lists that are none.
-fn no_lists(page: &mut Page, lists: &[Object<'_>]) -> bool {
-    let mut well = true;
+// Names the files given as lists that are none.
+fn no_lists(page: &mut Page, lists: &[Object<'_>]) {
     for object in lists {
-        if !is_known_list(page, object) {
-            page.line("Not a list", object.name);
-            well = false;
+        match is_list(page.alloc(), object) {
+            Ok(true) => {}
+            Ok(false) => page.line("Not a list", object.name),
+            Err(_) => page.fail(),
         }
     }
-    well
 }
 
-fn are_lists(page: &mut Page, lists: &[Object<'_>]) -> bool {
-    for object in lists {
-        if !is_known_list(page, object) {
-            return false;
-        }
-    }
-    true
-}
-
-fn shown(page: &mut Page, question: &Question<'_, '_>, verdict: Option<&Verdict>) -> bool {
+fn shown(page: &mut Page, question: &Question<'_, '_>, are_lists: bool, verdict: Option<&Verdict>) {
     for object in question.members {
         member(page, object, question.strict);
     }
-    let are_lists = no_lists(page, question.lists);
+    if !are_lists {
+        no_lists(page, question.lists);
+    }
     match verdict {
-        Some(Verdict::Accepted(holder)) => {
-            accepted(page, holder, question.lists.len());
-            are_lists
-        }
-        Some(Verdict::Rejected(fault)) => {
-            rejected(page, question.members, fault);
-            false
-        }
-        None => false,
+        Some(Verdict::Accepted(holder)) => accepted(page, holder, question.lists.len()),
+        Some(Verdict::Rejected(fault)) => rejected(page, question.members, fault),
+        None => {}
     }
 }
 
-fn as_json(page: &mut Page, question: &Question<'_, '_>, verdict: Option<&Verdict>) -> bool {
+fn as_json(page: &mut Page, question: &Question<'_, '_>, verdict: Option<&Verdict>) {
     match json::path(page.alloc(), question, verdict) {
         Ok(value) => {
             let text = value.to_string_pretty(page.alloc());
@@ -110,22 +93,53 @@ fn as_json(page: &mut Page, question: &Question<'_, '_>, verdict: Option<&Verdic
         }
         Err(_) => page.fail(),
     }
-    are_lists(page, question.lists) && matches!(verdict, Some(Verdict::Accepted(_)))
 }
 
-/// Validates the path and prints the verdict; tells whether the path is accepted.
+// Whether each file given as a list begins with one.
+fn are_lists(alloc: Global, lists: &[Object<'_>]) -> Result<bool, AllocError>
+    ensures { IfOk result (λ yes. IsTrue yes ↔ All BeginsWithList lists.now) }
+{
+    let mut are_lists = true;
+    for object in lists {
+        are_lists &= is_list(alloc, object)?;
+    }
+    Ok(are_lists)
+}
+
+// Whether the path is accepted; it isn't where it has no file.
+fn is_accepted(verdict: &Option<Verdict>) -> bool
+    ensures { IsTrue result ↔ IsAcceptance verdict.now }
+{
+    match verdict {
+        Some(Verdict::Accepted(_)) => true,
+        Some(Verdict::Rejected(_)) | None => false,
+    }
+}
+
+/// Validates the path and writes the verdict. The outcome is success where the path is accepted,
+/// and each file given as a list begins with one.
 pub fn validated(
     alloc: Global,
     question: &Question<'_, '_>,
     is_json: bool,
-) -> Result<(String, bool), AllocError> {
+) -> Result<Answer, AllocError>
+    ensures { let x = context IsSignedByRsa question.now.at question.now.strict in
+        let members = question.now.members in
+        let lists = question.now.lists in
+        IfOk result (λ answer. IsOutcomeOfValidate x members lists answer.outcome) }
+{
+    let are_lists = are_lists(alloc, question.lists)?;
     let verdict = judge(alloc, question)?;
+    let is_accepted = is_accepted(&verdict);
     let mut page = Page::new(alloc);
-    let well = if is_json {
-        as_json(&mut page, question, verdict.as_ref())
+    if is_json {
+        as_json(&mut page, question, verdict.as_ref());
     } else {
-        shown(&mut page, question, verdict.as_ref())
-    };
+        shown(&mut page, question, are_lists, verdict.as_ref());
+    }
     drop(verdict);
-    Ok((page.into_text()?, well))
+    Ok(Answer {
+        text: page.into_text()?,
+        outcome: Outcome::of_answer(are_lists & is_accepted),
+    })
 }

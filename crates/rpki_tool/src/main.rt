@@ -1,13 +1,9 @@
 //! The command for people, `rpki show` and `rpki validate`, over the words of its command line.
 #![tactic(auto)]
 
-use anyhow::Result;
 use rpki_command::command;
-use std::env;
 use std::process::ExitCode;
 
-fn main(rt: HostRuntime) -> Result<ExitCode> {
-    let alloc = rt.alloc();
-    let words: Vec<String> = env::args(&rt)?.skip(1).collect(alloc)?;
-    command(&rt, words.as_slice())
+fn main(rt: HostRuntime) -> ExitCode {
+    command(&rt)
 }

@@ -1,0 +1,63 @@
+-- How a run of the command ends, and its exit status (own). What a file holds are octets, in DER.
+use Rattle.std.specs.Prelude.{◌≡◌, ◌⊎◌, ℕ, List, [], length, All, Result, Ok, Err, IfSome}
+use Rattle.rpki.specs.RsaSignatures.{IsSignedByRsa}
+use Rattle.rpki.specs.Times.{Moment}
+use Rattle.rpki.specs.Verification.{Context, ResourceFields, context}
+use Rattle.rpki_command.specs.declared.arguments.Request.{Request}
+use Rattle.rpki_command.specs.declared.arguments.Task.{Task}
+use Rattle.rpki_command.specs.declared.arguments.Task.TheVariants.{Show, Validate}
+use Rattle.rpki_command.specs.declared.outcomes.Outcome.{Outcome}
+use Rattle.rpki_command.specs.declared.outcomes.Outcome.TheVariants.{Success, Rejection, WrongUse}
+use Rattle.rpki_command.specs.declared.path.Verdict.TheVariants.{Accepted, Rejected}
+use Rattle.rpki_command.specs.declared.path.Fault.{Fault}
+use Rattle.rpki_command.specs.Contents.{BeginsWithList, CanBeShown}
+use Rattle.rpki_command.specs.PathAnswers.{IsVerdictBy}
+
+-- ---- the exit status
+
+-- of a run that ends with this outcome, or fails, since a file, the clock, memory or an output did
+abbrev pub run_status : {E : Type 0} → Result Outcome E → ℕ
+run_status (Ok Success) = 0
+run_status (Ok Rejection) = 1
+run_status (Ok WrongUse) = 2
+run_status (Err failure) = 3
+
+-- ---- the outcome
+
+-- of files that are to be shown: success where each begins with a certificate or a list, else
+-- rejection
+abbrev pub IsOutcomeOfShow : List (List ℕ) → Outcome → Type 0
+IsOutcomeOfShow files Success = All CanBeShown files
+IsOutcomeOfShow files Rejection = All CanBeShown files → ⊥
+IsOutcomeOfShow files WrongUse = ⊥
+
+-- of a path that is to be validated: success where it is accepted, so that by the files given as
+-- lists no member is revoked, and each of these begins with a list; rejection where it is rejected
+-- or has no file, or one of these begins with no list
+abbrev pub IsOutcomeOfValidate : Context → List (List ℕ) → List (List ℕ) → Outcome → Type 0
+IsOutcomeOfValidate x files lists Success =
+    ((r : ResourceFields) × IsVerdictBy x files lists (Accepted r)) × All BeginsWithList lists
+IsOutcomeOfValidate x files lists Rejection =
+    (files ≡ []) ⊎ (((fault : Fault) × IsVerdictBy x files lists (Rejected fault)) ⊎ (All BeginsWithList lists → ⊥))
+IsOutcomeOfValidate x files lists WrongUse = ⊥
+
+-- something is asked of files
+abbrev pub AsksOfFiles : Task → Type 0
+AsksOfFiles task = (task ≡ Show) ⊎ (task ≡ Validate)
+
+-- of what is asked; always success where that is a text about the command, and nothing of files
+abbrev pub IsOutcomeOf : Task → Context → List (List ℕ) → List (List ℕ) → Outcome → Type 0
+IsOutcomeOf Show x files lists outcome = IsOutcomeOfShow files outcome
+IsOutcomeOf Validate x files lists outcome = IsOutcomeOfValidate x files lists outcome
+IsOutcomeOf _ x files lists outcome = outcome ≡ Success
+
+-- a run that is asked this may end so: at the moment that is named, if one is, and by as many files
+-- and lists as are named; what these hold, no contract can say
+pub record MayEndWith (request : Request) (outcome : Outcome) : Type 0 where
+  pub now : Moment
+  pub files : List (List ℕ)
+  pub lists : List (List ℕ)
+  pub now_is : IfSome request.at (λ at. now ≡ at)
+  pub as_many_files : length files ≡ length request.files.items
+  pub as_many_lists : length lists ≡ length request.lists.items
+  pub outcome_is : IsOutcomeOf request.task (context IsSignedByRsa now request.strict) files lists outcome

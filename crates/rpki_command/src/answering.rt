@@ -1,0 +1,50 @@
+//! What is answered of files.
+ghost use Rattle.std.specs.Prelude.{IfOk};
+ghost use Rattle.rpki.specs.RsaSignatures.{IsSignedByRsa};
+ghost use Rattle.rpki.specs.Verification.{context};
+ghost use Rattle.rpki_command.specs.Outcomes.{AsksOfFiles, IsOutcomeOf};
+
+use crate::arguments::{Request, Task};
+use crate::files::Object;
+use crate::outcomes::Answer;
+use crate::path::Question;
+use crate::showing::{Options, shown};
+use crate::verdicts::validated;
+use rpki::repository::x509::Time;
+use std::alloc::{AllocError, Global};
+
+/// Answers what the request asks of these files and lists at this moment.
+pub fn answer_request(
+    alloc: Global,
+    request: &Request<'_>,
+    now: Time,
+    files: &[Object<'_>],
+    lists: &[Object<'_>],
+) -> Result<Answer, AllocError>
+    requires { AsksOfFiles request.now.task }
+    ensures { let x = context IsSignedByRsa now request.now.strict in
+        let task = request.now.task in
+        IfOk result (λ answer. IsOutcomeOf task x files.now lists.now answer.outcome) }
+{
+    match request.task {
+        Task::Show => {
+            let options = Options {
+                now,
+                strict: request.strict,
+                json: request.json,
+                all: request.all,
+            };
+            shown(alloc, files, &options)
+        }
+        Task::Validate => {
+            let question = Question {
+                members: files,
+                lists,
+                strict: request.strict,
+                at: now,
+            };
+            validated(alloc, &question, request.json)
+        }
+        Task::Help | Task::Version => unreachable!(),
+    }
+}

@@ -1,0 +1,49 @@
+//! How a run ends, and its exit status.
+ghost use Rattle.std.specs.Prelude.{◌≡◌, IsFalse, IsTrue};
+ghost use Rattle.rpki_command.specs.Outcomes.{run_status};
+
+/// How a run ends that doesn't fail.
+#[derive(Clone, Copy, Debug, PartialEq, Eq)]
+pub enum Outcome {
+    /// All files are shown, or the path is accepted; or a text about the command was asked for.
+    Success,
+    /// A file is neither a certificate nor a list; the path is rejected; a file given as a list is
+    /// none.
+    Rejection,
+    /// The command line has another form.
+    WrongUse,
+}
+
+/// What is printed, and how the run ends.
+#[derive(Drop)]
+pub struct Answer {
+    pub text: String,
+    pub outcome: Outcome,
+}
+
+impl Outcome {
+    /// Returns success for yes, and rejection for no.
+    pub fn of_answer(yes: bool) -> Outcome
+        ensures success { IsTrue yes → result ≡ Outcome.Success }
+        ensures rejection { IsFalse yes → result ≡ Outcome.Rejection }
+    {
+        if yes {
+            Outcome::Success
+        } else {
+            Outcome::Rejection
+        }
+    }
+}
+
+/// Returns the exit status of a run. An error says that a file, the clock, memory or an output
+/// failed.
+pub fn status_of<E: Drop>(ended: &Result<Outcome, E>) -> u8
+    ensures { result ≡ run_status ended.now }
+{
+    match ended {
+        Ok(Outcome::Success) => 0,
+        Ok(Outcome::Rejection) => 1,
+        Ok(Outcome::WrongUse) => 2,
+        Err(_) => 3,
+    }
+}
