@@ -3,6 +3,7 @@ pub mod WrittenLines
 pub mod DigitPlaces
 mod AddedParts
 mod AllItems
+mod AppendedTexts
 mod AskedVerdicts
 mod CommandParts
 mod FaultPlaces

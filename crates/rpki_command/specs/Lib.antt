@@ -13,4 +13,5 @@ pub mod Periods
 pub mod BlockLines
 pub mod ListTexts
 pub mod CertificateTexts
+pub mod VerdictTexts
 pub mod KnownKinds

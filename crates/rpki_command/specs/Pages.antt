@@ -12,6 +12,11 @@ use Rattle.rpki.specs.Texts.{hexadecimal}
 abbrev pub Appends : Option (List ℕ) → List ℕ → Option (List ℕ) → Type 0
 Appends old text new = (new ≡ option_map (λ so_far. so_far ++ text) old) ⊎ (new ≡ None)
 
+-- new is old with some text appended of which this holds, or memory has run out
+abbrev pub AppendsSome : (List ℕ → Type 0) → Option (List ℕ) → Option (List ℕ) → Type 0
+AppendsSome Holds old new =
+    ((text : List ℕ) × Holds text × (new ≡ option_map (λ so_far. so_far ++ text) old)) ⊎ (new ≡ None)
+
 -- ---- lines
 
 -- a line feed

@@ -26,6 +26,7 @@ mod revocation;
 mod rules;
 mod saying;
 mod showing;
+mod verdict_lines;
 mod verdicts;
 
 use answering::answer_request;

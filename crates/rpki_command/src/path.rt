@@ -11,16 +11,14 @@ ghost use Rattle.rpki_command.specs.PathAnswers.{path_of, IsVerdict, IsVerdictBy
 ghost use Rattle.rpki_command.specs.UnrevokedMembers.{AreUnrevoked};
 ghost use Rattle.rpki_command.specs.declared.path.Verdict.TheVariants.{Accepted};
 
-use crate::certificate::{kind_of, serial};
 use crate::files::{Object, as_certificate, as_list};
 use crate::judging::judge_members;
-use crate::page::Page;
 use crate::revocation::store_of;
 use crate::rules::{Rule, of_path};
 use crate::saying::said_kind;
 use bytes::Bytes;
 use rpki::crypto::RsaVerifier;
-use rpki::repository::cert::{Cert, Kind, ResourceCert};
+use rpki::repository::cert::{Kind, ResourceCert};
 use rpki::repository::crl::CrlStore;
 use rpki::repository::path::{Leaf, PathError};
 use rpki::repository::x509::Time;
@@ -64,28 +62,6 @@ pub struct Fault {
 pub enum Verdict {
     Accepted(ResourceCert),
     Rejected(Fault),
-}
-
-fn read_member(page: &mut Page, cert: &Cert, strict: bool) {
-    page.text(kind_of(cert, strict));
-    page.text(", ");
-    serial(page, cert.as_tbs().serial_number());
-    page.text(", ");
-}
-
-/// Prints a member's line: what it is by its octets, its serial number and its file.
-pub fn member(page: &mut Page, object: &Object<'_>, strict: bool) {
-    page.label("Member");
-    match as_certificate(page.alloc(), object) {
-        Ok(Some(cert)) => {
-            read_member(page, &cert, strict);
-            drop(cert);
-        }
-        Ok(None) => page.text("no certificate, "),
-        Err(_) => page.fail(),
-    }
-    page.text(object.name);
-    page.end();
 }
 
 /// Returns whether a file is a revocation list.

@@ -1,0 +1,14 @@
+use Rattle.rpki_command.specs.VerdictTexts.{accepted_text}
+use Rattle.rpki_command.proofs.AppendedTexts.{then_appended, last_appended}
+use Rattle.rpki_command.proofs.verdict_lines.print_accepted.Goals as goal
+
+pub returns : goal.returns
+unfolding accepted_text
+returns c =
+    then_appended _ _ _ _ _ c.line.ensures
+    (then_appended _ _ _ _ _ c.line-2.ensures
+    (then_appended _ _ _ _ _ (rw c.revocation.ensures at c.line-3.ensures)
+    (then_appended _ _ _ _ _ c.line-4.ensures
+    (then_appended _ _ _ _ _ (rw c.v4_resources.ensures at c.ip_blocks.ensures)
+    (then_appended _ _ _ _ _ (rw c.v6_resources.ensures at c.ip_blocks-2.ensures)
+    (last_appended _ _ _ (rw c.as_resources.ensures at c.as_blocks.ensures)))))))
