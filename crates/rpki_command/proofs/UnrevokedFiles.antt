@@ -15,7 +15,7 @@ use Rattle.rpki.specs.Verification.{Context, ResourceFields}
 use Rattle.rpki.specs.Kind.{Kind}
 use Rattle.rpki.specs.Kind.TheVariants.{Anchor, Authority, EndEntity, Detached, Router}
 use Rattle.rpki.specs.Leaf.TheVariants.{Ee, DetachedEe}
-use Rattle.rpki.specs.Paths.{Member, Path, last, Candidate, candidate, candidates, IsMember, IsValidPath, IsAccepted}
+use Rattle.rpki.specs.Paths.{Member, Path, Candidate, candidate, candidates, IsMember, IsValidPath, IsAccepted}
 use Rattle.rpki_command.specs.GivenPaths.{GivenPath, path_to, IsGivenBy}
 use Rattle.rpki_command.specs.PathVerdicts.{BeginsWithRouterUnder, IsAcceptedWith}
 use Rattle.rpki_command.specs.AskedLists.{IsAskedOf, pairs_for, AreStoredBelow, AreStored, AreListsOf, AreStoredOf}
