@@ -1,6 +1,6 @@
 //! Signatures, certificates, paths, the program: what the facade's calls answer is what the layer
 //! says.
-ghost use Rattle.std.specs.Prelude.{◌≡◌, ◌↔◌, ◌^◌, ◌+◌, IsTrue, IfOk, IfErr, None, Some};
+ghost use Rattle.std.specs.Prelude.{◌≡◌, ◌↔◌, ◌^◌, ◌+◌, IsTrue, IfOk, OnOk, IfErr, None, Some, option_map};
 ghost use Rattle.std.proofs.Common.{rc_value};
 ghost use Rattle.rpki_rsa.specs.RsaKeys.{IsRpkiKey};
 ghost use Rattle.rpki_rsa.specs.RsaSignatures.{IsRsaSignature};
@@ -8,6 +8,7 @@ ghost use Rattle.rpki_cert.specs.Certificates.{encoding};
 ghost use Rattle.rpki_cert.specs.Rearranging.{IsRejected};
 ghost use Rattle.rpki_cert.specs.Verification.{context};
 ghost use Rattle.rpki_path.specs.Paths.{candidates, Validates};
+ghost use Rattle.rpki_path.specs.Routers.{BeginsWithRouter};
 ghost use Rattle.rpki_path.specs.Watching.{device, HasFailed, TakesAtMost};
 
 use bytes::Bytes;
@@ -17,7 +18,9 @@ use rpki::repository::cert::{
     Extra, IssueCaError, RearrangeError, ResourceCert, TbsCert, issue_ca, rearrange,
 };
 use rpki::repository::crl::CrlStore;
-use rpki::repository::path::{Leaf, PathError, validate_path, validate_path_with};
+use rpki::repository::path::{
+    Leaf, PathError, PathFault, validate_path, validate_path_with, validate_router,
+};
 use rpki::repository::tal::TalInfo;
 use rpki::repository::x509::Time;
 use std::alloc::Global;
@@ -101,6 +104,23 @@ pub fn validated_with<V: Verifier>(
         Validates x pairs anchor.now (candidates cas.now leaf) (rc_value tal) result }
 {
     validate_path_with(alloc, store, anchor, cas, leaf, tal, strict, now, verifier)
+}
+
+/// Validates a router's certificate below a member of a path.
+pub fn validated_router<V: Verifier>(
+    alloc: Global,
+    octets: &Bytes,
+    issuer: &ResourceCert,
+    lists: Option<&CrlStore>,
+    strict: bool,
+    now: Time,
+    verifier: &V,
+) -> Result<(), PathFault>
+    ensures { let x = context (V.verifies verifier.now) now strict in
+        let pairs = option_map (λ store. store.now.pairs) lists.entry in
+        OnOk result (BeginsWithRouter x pairs issuer.now octets.now) }
+{
+    validate_router(alloc, octets, issuer, lists, strict, now, verifier)
 }
 
 /// Tells how many octets an input may have.

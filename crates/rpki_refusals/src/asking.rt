@@ -162,12 +162,15 @@ impl Fault for ValidationError {
     }
 }
 
+impl Fault for PathFault {
+    fn told(&self) -> &'static str {
+        self.name()
+    }
+}
+
 impl Fault for PathError {
     fn told(&self) -> &'static str {
-        match &self.fault {
-            PathFault::Memory => "Memory",
-            other => other.name(),
-        }
+        self.fault.name()
     }
 }
 

@@ -2,12 +2,15 @@
 
 use crate::asking::{Asked, Told, begin, end, ended, plain};
 use crate::inputs::{
-    FIRST, NUMBERS, OTHER, SECOND, SIGNING, december, list, locator, new_year, octets,
+    ANCHOR, FIRST, NUMBERS, OTHER, SECOND, SIGNING, anchor, december, list, locator, new_year,
+    octets,
 };
+use rpki_cert::ResourceCert;
 use rpki_crl::CrlStore;
+use rpki_der::Time;
 use rpki_parts::StandIn;
-use rpki_path::{Leaf, Watched, program, run, validate_path, validate_path_with};
-use rpki_samples::uri;
+use rpki_path::{Leaf, Watched, program, run, validate_path, validate_path_with, validate_router};
+use rpki_samples::{router, signed, uri};
 use std::alloc::Global;
 use std::process::ExitCode;
 
@@ -135,6 +138,21 @@ fn asked_validated(alloc: Global) -> Option<Told> {
     told
 }
 
+fn router_validated_under(alloc: Global, issuer: &ResourceCert, now: Time) -> Option<Told> {
+    let octets = signed(alloc, router(alloc)?)?;
+    begin(alloc);
+    let answer = validate_router(alloc, &octets, issuer, None, true, now, &StandIn);
+    plain(alloc, answer)
+}
+
+fn router_validated(alloc: Global) -> Option<Told> {
+    let now = new_year()?;
+    let issuer = anchor(alloc, ANCHOR, now)?;
+    let told = router_validated_under(alloc, &issuer, now);
+    drop(issuer);
+    told
+}
+
 fn of_paths(alloc: Global, asked: &mut Asked<'_>) -> Option<Told> {
     if asked.is("rpki_path::validate_path") {
         validated(alloc)
@@ -142,6 +160,8 @@ fn of_paths(alloc: Global, asked: &mut Asked<'_>) -> Option<Told> {
         leaf_validated(alloc)
     } else if asked.is("rpki_path::validate_path_with") {
         asked_validated(alloc)
+    } else if asked.is("rpki_path::validate_router") {
+        router_validated(alloc)
     } else {
         None
     }

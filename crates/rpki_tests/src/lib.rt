@@ -23,6 +23,8 @@ mod name_texts;
 #[cfg(test)]
 mod paths;
 #[cfg(test)]
+mod routers;
+#[cfg(test)]
 mod shared;
 #[cfg(test)]
 mod texts;

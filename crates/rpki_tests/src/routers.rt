@@ -1,0 +1,121 @@
+//! Routers' certificates below the last member of a path, with and without revocation lists.
+
+use crate::lists;
+use bytes::Bytes;
+use rpki_cert::{Cert, InspectionError, ResourceCert, VerificationError};
+use rpki_crl::{CrlStore, RevocationError};
+use rpki_der::Serial;
+use rpki_parts::{StandIn, TalInfo};
+use rpki_path::{PathFault, validate_router};
+use rpki_samples::{day, rsa};
+use std::alloc::Global;
+use std::process::Abort;
+
+fn anchor(rt: &impl Abort, alloc: Global) -> ResourceCert {
+    let octets = rpki_samples::anchor_octets(alloc).expect(rt, "memory");
+    let cert = Cert::decode_shared(alloc, octets).expect(rt, "a certificate");
+    let tal = TalInfo::from_name(String::new(alloc)).into_rc(alloc);
+    let now = day(2024).expect(rt, "a day");
+    cert.validate_ta_at(alloc, tal.expect(rt, "memory"), true, now, &StandIn)
+        .expect(rt, "an anchor")
+}
+
+// The octets of a router's certificate with this serial number.
+fn router(rt: &impl Abort, alloc: Global, serial: u64) -> Bytes {
+    let mut tbs = rpki_samples::router(alloc).expect(rt, "memory");
+    tbs.set_serial_number(Serial::from(serial));
+    rpki_samples::signed(alloc, tbs).expect(rt, "memory")
+}
+
+// The octets of an end entity's certificate.
+fn end_entity(rt: &impl Abort, alloc: Global) -> Bytes {
+    let tbs = rpki_samples::end_entity(alloc).expect(rt, "memory");
+    rpki_samples::signed(alloc, tbs).expect(rt, "memory")
+}
+
+// The list of the key `abc`, which has the numbers 12 and 42, under the URI that routers name.
+fn store(rt: &impl Abort, alloc: Global) -> CrlStore {
+    let list = lists::data(rt, alloc)
+        .into_crl(alloc, &StandIn, &rsa(b"abc"))
+        .expect(rt, "a list");
+    let under = rpki_samples::uri(alloc, "rsync://example.com/m/p/x.crl").expect(rt, "a URI");
+    let mut store = CrlStore::new(alloc);
+    let pushed = store.push(under, list);
+    assert!(rt; pushed.is_ok());
+    drop(pushed);
+    store
+}
+
+// What is wrong with these octets below the anchor, in this year.
+fn fault(
+    rt: &impl Abort,
+    alloc: Global,
+    octets: &Bytes,
+    lists: Option<&CrlStore>,
+    year: i32,
+) -> Option<PathFault> {
+    let anchor = anchor(rt, alloc);
+    let now = day(year).expect(rt, "a day");
+    let answer = validate_router(alloc, octets, &anchor, lists, true, now, &StandIn);
+    drop(anchor);
+    answer.err()
+}
+
+#[test]
+fn a_router_is_valid_below_the_anchor(rt: HostRuntime) {
+    let octets = router(&rt, rt.alloc(), 10);
+    assert!(rt; fault(&rt, rt.alloc(), &octets, None, 2024).is_none());
+}
+
+#[test]
+fn a_router_is_looked_for_on_the_lists(rt: HostRuntime) {
+    let store = store(&rt, rt.alloc());
+    let octets = router(&rt, rt.alloc(), 10);
+    assert!(rt; fault(&rt, rt.alloc(), &octets, Some(&store), 2024).is_none());
+    drop(store);
+}
+
+fn assert_revoked(rt: &impl Abort, fault: Option<PathFault>, wanted: RevocationError) {
+    let fault = fault.expect(rt, "a fault");
+    assert!(rt; matches!(&fault, PathFault::Revocation(error) if *error == wanted));
+}
+
+#[test]
+fn a_revoked_router_is_valid_where_no_lists_are_asked(rt: HostRuntime) {
+    let store = store(&rt, rt.alloc());
+    let octets = router(&rt, rt.alloc(), 42);
+    assert!(rt; fault(&rt, rt.alloc(), &octets, None, 2024).is_none());
+    let found = fault(&rt, rt.alloc(), &octets, Some(&store), 2024);
+    assert_revoked(&rt, found, RevocationError::Revoked);
+    drop(store);
+}
+
+#[test]
+fn a_router_without_a_list_is_not_found_unrevoked(rt: HostRuntime) {
+    let store = CrlStore::new(rt.alloc());
+    let octets = router(&rt, rt.alloc(), 10);
+    let found = fault(&rt, rt.alloc(), &octets, Some(&store), 2024);
+    assert_revoked(&rt, found, RevocationError::NoCrl);
+    drop(store);
+}
+
+#[test]
+fn an_end_entity_is_no_router(rt: HostRuntime) {
+    let octets = end_entity(&rt, rt.alloc());
+    let fault = fault(&rt, rt.alloc(), &octets, None, 2024).expect(&rt, "a fault");
+    assert!(rt; matches!(&fault, PathFault::Inspect(InspectionError::KeyAlgorithm)));
+}
+
+#[test]
+fn a_router_expires(rt: HostRuntime) {
+    let octets = router(&rt, rt.alloc(), 10);
+    let fault = fault(&rt, rt.alloc(), &octets, None, 2030).expect(&rt, "a fault");
+    assert!(rt; matches!(&fault, PathFault::Verify(VerificationError::Expired)));
+}
+
+#[test]
+fn no_octets_are_no_router(rt: HostRuntime) {
+    let octets = Bytes::from_static(b"");
+    let fault = fault(&rt, rt.alloc(), &octets, None, 2024).expect(&rt, "a fault");
+    assert!(rt; matches!(&fault, PathFault::Decode(_)));
+}
