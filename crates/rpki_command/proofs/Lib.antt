@@ -16,5 +16,6 @@ mod NothingRead
 mod OneMoment
 mod OneRequest
 mod RouterFaults
+mod SingleOutcomes
 mod StoredPairs
 mod UnrevokedFiles

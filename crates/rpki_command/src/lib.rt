@@ -18,6 +18,7 @@ mod lines;
 mod list;
 mod moments;
 mod names;
+pub mod outcome_laws;
 mod outcomes;
 mod page;
 mod path;

@@ -1,4 +1,4 @@
-use Rattle.std.proofs.Common.{rules, ◌≡◌, ◌≢◌, ℕ, List, subst}
+use Rattle.std.proofs.Common.{rules, ◌≢◌, ℕ, List, subst}
 use Rattle.std.proofs.lemmas.Bool.{false≢true}
 use Rattle.rpki.specs.Lists.{CrlFields, IsCertificateList}
 use Rattle.rpki.specs.DecodeError.TheVariants as decoding
