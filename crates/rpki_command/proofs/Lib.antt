@@ -6,6 +6,7 @@ mod AllItems
 mod AppendedTexts
 mod AskedVerdicts
 mod CommandParts
+mod DerTexts
 mod FaultPlaces
 mod FirstInside
 mod FlaggedItems
@@ -15,6 +16,7 @@ mod ListOrder
 mod NothingRead
 mod OneMoment
 mod OneRequest
+mod PemLines
 mod RouterFaults
 mod SingleOutcomes
 mod StoredPairs

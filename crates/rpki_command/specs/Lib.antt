@@ -1,4 +1,5 @@
 -- The definitions that the contracts of the command cite.
+pub mod PemFiles
 pub mod Contents
 pub mod GivenPaths
 pub mod PathVerdicts
