@@ -17,6 +17,7 @@ mod NothingRead
 mod OneMoment
 mod OneRequest
 mod PemLines
+mod PrefixSizes
 mod RouterFaults
 mod SingleOutcomes
 mod StoredPairs
