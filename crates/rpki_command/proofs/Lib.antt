@@ -6,6 +6,7 @@ mod AllItems
 mod AppendedTexts
 mod AskedVerdicts
 mod CommandParts
+mod ContentReads
 mod DerTexts
 mod FaultPlaces
 mod FirstInside

@@ -1,6 +1,7 @@
 //! The kinds of extensions: their names, and whether one may stand as it stands.
-ghost use Rattle.std.specs.Prelude.{◌≡◌, ◌++◌};
-ghost use Rattle.rpki_command.specs.KnownKinds.{kind_among, place_kinds, resource_kinds, certificate_kinds, list_kinds, kind_of, kind_name};
+ghost use Rattle.std.specs.Prelude.{◌≡◌, ◌++◌, ◌↔◌, IsTrue, IsOk, MatchResult};
+ghost use Rattle.rpki.specs.Place.{remaining};
+ghost use Rattle.rpki_command.specs.KnownKinds.{kind_among, place_kinds, resource_kinds, certificate_kinds, list_kinds, kind_of, kind_name, HasContent, MayHaveFlag, SaysWhether};
 ghost use Rattle.rpki_command.specs.declared.kinds.Kind.TheVariants.{Unknown, NoList};
 
 use rpki::der::{Cursor, DecodeError};
@@ -128,73 +129,74 @@ impl Kind {
         }
     }
 
-    // Whether the flag may be this one in a certificate (RFC 6487 4.8). Of resources, and in lists,
-    // it isn't tested.
-    fn may_be(self, critical: bool) -> bool {
+    // Whether an extension of this kind may have this flag. In lists, and of resources, it isn't
+    // tested.
+    fn may_be(self, is_list: bool, critical: bool) -> bool
+        ensures { IsTrue result ↔ MayHaveFlag is_list self critical }
+    {
+        if is_list {
+            return true;
+        }
         match self {
             Kind::BasicConstraints | Kind::KeyUsage | Kind::CertificatePolicies => critical,
-            Kind::IpResources | Kind::AsResources | Kind::CrlNumber => true,
-            Kind::NoList => false,
+            Kind::IpResources | Kind::AsResources => true,
             _ => !critical,
         }
     }
 
-    /// Reads an extension with this flag and this content. Fails where it has another form, and
-    /// where it may not stand; which error it is doesn't matter but for `Memory`.
+    /// Reads an extension with this flag and this content in a list, or in a certificate. Fails
+    /// where the flag is another one or the content has another form; which error it is doesn't
+    /// matter but for `Memory`.
     pub fn read(
         self,
         alloc: Global,
+        is_list: bool,
         critical: bool,
         content: &mut Cursor<'_>,
-    ) -> Result<(), DecodeError> {
-        if self.may_be(critical) {
+    ) -> Result<(), DecodeError>
+        ensures { SaysWhether result (MayHaveFlag is_list self critical
+            × HasContent self (remaining content.old)) }
+    {
+        if self.may_be(is_list, critical) {
             self.take(alloc, content)
         } else {
             Err(DecodeError::BadValue)
         }
     }
 
-    fn take(self, alloc: Global, content: &mut Cursor<'_>) -> Result<(), DecodeError> {
+    fn take(self, alloc: Global, content: &mut Cursor<'_>) -> Result<(), DecodeError>
+        ensures { SaysWhether result (HasContent self (remaining content.old)) }
+    {
         match self {
-            Kind::BasicConstraints => {
-                let _flag = take_basic_constraints(content)?;
+            Kind::BasicConstraints => without_value(take_basic_constraints(content)),
+            Kind::SubjectKeyIdentifier => without_value(take_subject_key_identifier(content)),
+            Kind::AuthorityKeyIdentifier => without_value(take_authority_key_identifier(content)),
+            Kind::KeyUsage => without_value(take_key_usage(content)),
+            Kind::ExtendedKeyUsage => without_value(take_extended_key_usage(alloc, content)),
+            Kind::CrlDistributionPoints => {
+                without_value(take_crl_distribution_points(alloc, content))
             }
-            Kind::SubjectKeyIdentifier => {
-                let _identifier = take_subject_key_identifier(content)?;
-            }
-            Kind::AuthorityKeyIdentifier => {
-                let _identifier = take_authority_key_identifier(content)?;
-            }
-            Kind::KeyUsage => {
-                let _usage = take_key_usage(content)?;
-            }
-            Kind::CertificatePolicies => {
-                let _mode = take_certificate_policies(content)?;
-            }
-            Kind::CrlNumber => {
-                let _number = Serial::take_from(content)?;
-            }
-            Kind::Unknown | Kind::NoList => {}
-            _ => return self.take_owned(alloc, content),
-        }
-        Ok(())
-    }
-
-    // Those whose values own memory.
-    fn take_owned(self, alloc: Global, content: &mut Cursor<'_>) -> Result<(), DecodeError> {
-        match self {
-            Kind::ExtendedKeyUsage => drop(take_extended_key_usage(alloc, content)?),
-            Kind::CrlDistributionPoints => drop(take_crl_distribution_points(alloc, content)?),
             Kind::AuthorityInformationAccess => {
-                drop(take_authority_information_access(alloc, content)?);
+                without_value(take_authority_information_access(alloc, content))
             }
             Kind::SubjectInformationAccess => {
-                drop(take_subject_information_access(alloc, content)?);
+                without_value(take_subject_information_access(alloc, content))
             }
-            Kind::IpResources => drop(IpResources::take_families_from(alloc, content)?),
-            Kind::AsResources => drop(AsResources::take_from(alloc, content)?),
-            _ => {}
+            Kind::CertificatePolicies => without_value(take_certificate_policies(content)),
+            Kind::IpResources => without_value(IpResources::take_families_from(alloc, content)),
+            Kind::AsResources => without_value(AsResources::take_from(alloc, content)),
+            Kind::CrlNumber => without_value(Serial::take_from(content)),
+            Kind::Unknown => Ok(()),
+            Kind::NoList => Err(DecodeError::BadValue),
         }
-        Ok(())
     }
+}
+
+// Whether a value was read.
+fn without_value<T: Drop>(read: Result<T, DecodeError>) -> Result<(), DecodeError>
+    ensures { MatchResult read (λ _. IsOk result) (λ e. result ≡ Err e) }
+{
+    let value = read?;
+    drop(value);
+    Ok(())
 }

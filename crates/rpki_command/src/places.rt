@@ -138,7 +138,11 @@ fn extensions(alloc: Global, elements: &Cursor<'_>, is_list: bool) -> Result<(),
         if stands_before(elements, kind, is_list, octet) {
             return Err(stopped_at(kind.name(), octet));
         }
-        past(kind.read(alloc, critical, &mut content), kind.name(), octet)?;
+        past(
+            kind.read(alloc, is_list, critical, &mut content),
+            kind.name(),
+            octet,
+        )?;
     }
     Ok(())
 }
