@@ -16,8 +16,9 @@ use Rattle.rpki.specs.Kind.{Kind}
 use Rattle.rpki.specs.Kind.TheVariants.{Anchor, Authority, EndEntity, Detached, Router}
 use Rattle.rpki.specs.Leaf.TheVariants.{Ee, DetachedEe}
 use Rattle.rpki.specs.Paths.{Member, Path, Candidate, candidate, candidates, IsMember, IsValidPath, IsAccepted}
+use Rattle.rpki.specs.Routers.{BeginsWithRouter}
 use Rattle.rpki_command.specs.GivenPaths.{GivenPath, path_to, IsGivenBy}
-use Rattle.rpki_command.specs.PathVerdicts.{BeginsWithRouterUnder, IsAcceptedWith}
+use Rattle.rpki_command.specs.PathVerdicts.{IsAcceptedWith}
 use Rattle.rpki_command.specs.AskedLists.{IsAskedOf, pairs_for, AreStoredBelow, AreStored, AreListsOf, AreStoredOf}
 use Rattle.rpki_command.specs.UnrevokedMembers.{IsGivenAmong, IsUnrevokedBelow, AreUnrevokedBelow, AreUnrevoked}
 use Rattle.rpki_command.proofs.AllItems.{all_weaker, all_joined, all_within}
@@ -150,7 +151,7 @@ module _ (x : Context) (lists : List (List ℕ)) (pairs : List Stored) (all : Al
 
   -- with a router below the last member
   router_unrevoked : (anchor : List ℕ) (below : List Candidate) (files : List (List ℕ)) (router : List ℕ) (r : ResourceFields) → IsAccepted x (Some pairs) anchor below [] r → map (λ (s : Candidate). s.octets) below ≡ files
-      → BeginsWithRouterUnder x (Some pairs) r router → AreUnrevokedBelow x lists anchor (files ++ router ∷ [])
+      → BeginsWithRouter x (Some pairs) r router → AreUnrevokedBelow x lists anchor (files ++ router ∷ [])
   router_unrevoked anchor below files router r h is b =
       let p = h.path in
       let certs = map (λ (m : Member). m.cert) p.below in

@@ -1,46 +1,18 @@
 -- The verdict on a path, below whose members a router's certificate may stand (RFC 6487 7.2, RFC
 -- 8209 3.3).
-use Rattle.std.specs.Prelude.{◌≡◌, ◌⊎◌, ◌+◌, ℕ, List, [], ◌∷◌, length, Option, Some, None, IfSome, Result, Ok, Err}
-use Rattle.rpki.specs.Encoding.{Means}
-use Rattle.rpki.specs.Certificates.{CertFields, IsCertificate}
-use Rattle.rpki.specs.Profiles.{MeetsProfile}
-use Rattle.rpki.specs.Verification.{Context, ResourceFields, CheckUnder, IsVerified, router_checks}
-use Rattle.rpki.specs.Kind.TheVariants.{Router}
+use Rattle.std.specs.Prelude.{◌≡◌, ◌⊎◌, ◌+◌, ℕ, List, [], length, Option, Some, IfSome, Result, Ok, Err}
+use Rattle.rpki.specs.Verification.{Context, ResourceFields}
 use Rattle.rpki.specs.Stores.{Stored}
 use Rattle.rpki.specs.PathError.{PathError}
-use Rattle.rpki.specs.Paths.{IsAccepted, IsUnrevokedIfAsked, UnlessMemory, IsFault, Demand, AskedCheck, Finds}
+use Rattle.rpki.specs.Paths.{IsAccepted, UnlessMemory, IsFault, Finds}
+use Rattle.rpki.specs.Routers.{BeginsWithRouter, router_demand}
 use Rattle.rpki_command.specs.GivenPaths.{GivenPath}
-
--- ---- routers
-
--- a router's certificate that is valid below the issuer and, where lists are given, unrevoked there
-pub record IsRouterUnder (x : Context) (lists : Option (List Stored)) (issuer : ResourceFields) (c : CertFields) : Type 0 where
-  pub meets : MeetsProfile Router x.strict c
-  pub checks : IsVerified (CheckUnder x issuer c) router_checks
-  pub unrevoked : IsUnrevokedIfAsked x lists issuer.cert.fields c
-
--- the octets begin with one
-pub record BeginsWithRouterUnder (x : Context) (lists : Option (List Stored)) (issuer : ResourceFields) (octets : List ℕ) : Type 0 where
-  pub cert : CertFields
-  pub begins : Means IsCertificate cert octets
-  pub under : IsRouterUnder x lists issuer cert
-
--- what is asked of a router below the issuer
-abbrev pub router_demand : Context → Option (List Stored) → ResourceFields → Demand
-router_demand x lists issuer = record {
-  kind = Router;
-  check = CheckUnder x issuer;
-  checks = router_checks;
-  asked_check = AskedCheck x lists issuer.cert.fields;
-}
-
--- ---- verdicts
 
 -- the members are a valid path of which the last holds these numbers, and the router, where there
 -- is one, is valid below it
 pub record IsAcceptedWith (x : Context) (lists : Option (List Stored)) (g : GivenPath) (r : ResourceFields) : Type 0 where
   pub accepted : IsAccepted x lists g.anchor g.below [] r
-  pub router : IfSome g.router (BeginsWithRouterUnder x lists r)
+  pub router : IfSome g.router (BeginsWithRouter x lists r)
 
 -- they aren't, whatever numbers one thinks of
 abbrev pub IsNotAccepted : Context → Option (List Stored) → GivenPath → Type 0

@@ -1,22 +1,20 @@
 //! Paths of octets: from a trust anchor down to the last member, and to a router below it.
-ghost use Rattle.std.specs.Prelude.{◌≡◌, ◌+◌, List, ℕ, [], length, IfOk, OnOk, IfErr, IfNone, IfSome, option_map};
+ghost use Rattle.std.specs.Prelude.{◌≡◌, ◌+◌, [], length, IfOk, OnOk, IfErr, option_map};
 ghost use Rattle.std.proofs.Common.{rc_value};
-ghost use Rattle.rpki.specs.Encoding.{Means};
-ghost use Rattle.rpki.specs.Conditions.{Tests};
-ghost use Rattle.rpki.specs.Certificates.{IsCertificate};
 ghost use Rattle.rpki.specs.Verification.{context};
-ghost use Rattle.rpki.specs.Revocation.{revocation_checks};
-ghost use Rattle.rpki.specs.Paths.{candidates, AskedCheck, Finds, Validates, IsFault};
+ghost use Rattle.rpki.specs.Paths.{candidates, Validates, IsFault};
 ghost use Rattle.rpki.specs.PathFault.TheVariants.{Memory};
 ghost use Rattle.rpki_command.specs.GivenPaths.{given_path};
-ghost use Rattle.rpki_command.specs.PathVerdicts.{router_demand, IsRouterUnder, BeginsWithRouterUnder, Judges};
+ghost use Rattle.rpki_command.specs.PathVerdicts.{Judges};
 
 use bytes::Bytes;
 use rpki::crypto::Verifier;
 use rpki::laws;
-use rpki::repository::cert::{Cert, ResourceCert};
-use rpki::repository::crl::{CrlStore, RevocationError};
-use rpki::repository::path::{Leaf, PathError, PathFault, validate_path, validate_path_with};
+use rpki::repository::cert::ResourceCert;
+use rpki::repository::crl::CrlStore;
+use rpki::repository::path::{
+    Leaf, PathError, PathFault, validate_path, validate_path_with, validate_router,
+};
 use rpki::repository::tal::TalInfo;
 use rpki::repository::x509::Time;
 use std::alloc::{AllocError, Global};
@@ -69,77 +67,6 @@ fn validate<V: Verifier>(
         ),
         None => validate_path(alloc, anchor, cas, leaf, tal, strict, now, verifier),
     }
-}
-
-// Asks the lists, where they are given, whether the router's certificate below the issuer is
-// revoked.
-fn ask_lists<V: Verifier>(
-    lists: Option<&CrlStore>,
-    cert: &Cert,
-    issuer: &ResourceCert,
-    strict: bool,
-    now: Time,
-    verifier: &V,
-) -> Result<(), RevocationError>
-    ensures { let x = context (V.verifies verifier.now) now strict in
-        let pairs = option_map (λ store. store.now.pairs) lists.entry in
-        Tests (AskedCheck x pairs issuer.now.cert.fields cert.now) revocation_checks result }
-{
-    let Some(store) = lists else {
-        return Ok(());
-    };
-    let tbs = cert.as_tbs();
-    match tbs.crl_uri() {
-        Some(uri) => store.check(uri, tbs.serial_number(), issuer, strict, now, verifier),
-        None => Err(RevocationError::NoCrl),
-    }
-}
-
-// Whether the router's certificate is valid below the issuer, and not revoked where lists are
-// given. A fault is one of all octets that begin with it.
-fn check_router_cert<V: Verifier>(
-    cert: &Cert,
-    issuer: &ResourceCert,
-    lists: Option<&CrlStore>,
-    strict: bool,
-    now: Time,
-    verifier: &V,
-) -> Result<(), PathFault>
-    ensures ok { let x = context (V.verifies verifier.now) now strict in
-        let pairs = option_map (λ store. store.now.pairs) lists.entry in
-        OnOk result (IsRouterUnder x pairs issuer.now cert.now) }
-    ensures fault { let x = context (V.verifies verifier.now) now strict in
-        let pairs = option_map (λ store. store.now.pairs) lists.entry in
-        (octets : List ℕ) → Means IsCertificate cert.now octets
-        → IfErr result (Finds x (router_demand x pairs issuer.now) octets) }
-{
-    cert.validate_router_at(issuer, strict, now, verifier)?;
-    ask_lists(lists, cert, issuer, strict, now, verifier)?;
-    Ok(())
-}
-
-// Whether the router's certificate that the octets begin with is valid below the issuer, and not
-// revoked where lists are given.
-fn check_router<V: Verifier>(
-    alloc: Global,
-    octets: &Bytes,
-    issuer: &ResourceCert,
-    lists: Option<&CrlStore>,
-    strict: bool,
-    now: Time,
-    verifier: &V,
-) -> Result<(), PathFault>
-    ensures ok { let x = context (V.verifies verifier.now) now strict in
-        let pairs = option_map (λ store. store.now.pairs) lists.entry in
-        OnOk result (BeginsWithRouterUnder x pairs issuer.now octets.now) }
-    ensures fault { let x = context (V.verifies verifier.now) now strict in
-        let pairs = option_map (λ store. store.now.pairs) lists.entry in
-        IfErr result (Finds x (router_demand x pairs issuer.now) octets.now) }
-{
-    let cert = Cert::decode_shared(alloc, octets.clone()?)?;
-    let answer = check_router_cert(&cert, issuer, lists, strict, now, verifier);
-    drop(cert);
-    answer
 }
 
 // The member above a router at this place, where the router's test went well; else its fault.
@@ -195,7 +122,7 @@ pub(crate) fn judge_members<V: Verifier>(
     let issuer = validate(alloc, anchor, cas, leaf, lists, strict, now, verifier)?;
     match router {
         Some(octets) => {
-            let test = check_router(alloc, octets, &issuer, lists, strict, now, verifier);
+            let test = validate_router(alloc, octets, &issuer, lists, strict, now, verifier);
             answer_of(issuer, place, test)
         }
         None => Ok(issuer),

@@ -1,5 +1,5 @@
-use Rattle.std.specs.Prelude.{option_map, Some, None, Ok}
-use Rattle.std.proofs.Common.{rules, ◌≡◌, ◌+◌, ℕ, List, length, Err, ap, sym, subst, ◌∙◌, IfErr, refl}
+use Rattle.std.specs.Prelude.{option_map, Some}
+use Rattle.std.proofs.Common.{rules, ◌≡◌, ◌+◌, length, Err, IfErr, refl}
 use Rattle.rpki.specs.Verification.{context}
 use Rattle.rpki_command.specs.GivenPaths.{given_path}
 use Rattle.rpki_command.proofs.RouterFaults.{wrong_above, ends_below}
@@ -22,4 +22,4 @@ returns-in-Some g c =
     let router = c.in-Some.octets.now in
     let is : option_map (λ octets. octets.now) c.args.router ≡ Some router = rw c.in-Some.is refl in
     let index : IfErr c.answer_of.result (λ e. e.index ≡ length given.below + 1) = rw (← c.place_below-place.ensures) c.answer_of.ensures.index in
-    ends_below x lists given c.unambiguous.ensures.certificate router is c.in_ok-issuer.issuer c.in_ok-issuer.ensures.validates c.check_router-test.result c.answer_of.result c.check_router-test.ensures.ok c.check_router-test.ensures.fault c.answer_of.ensures.ok c.answer_of.ensures.passed index c.answer_of.ensures.fault
+    ends_below x lists given c.unambiguous.ensures.certificate router is c.in_ok-issuer.issuer c.in_ok-issuer.ensures.validates c.validate_router-test.result c.answer_of.result c.validate_router-test.ensures.ok c.validate_router-test.ensures.rejected c.validate_router-test.ensures.fault c.answer_of.ensures.ok c.answer_of.ensures.passed index c.answer_of.ensures.fault

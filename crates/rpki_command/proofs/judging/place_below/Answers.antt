@@ -1,4 +1,4 @@
-use Rattle.std.proofs.Common.{◌≡◌, ◌+◌, ℕ, ap, arith}
+use Rattle.std.proofs.Common.{◌+◌, ℕ, ap, arith}
 use Rattle.rpki_command.proofs.RouterFaults.{count_some, count_none}
 use Rattle.rpki_command.proofs.judging.place_below.Goals as goal
 
