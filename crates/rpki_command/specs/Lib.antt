@@ -6,10 +6,10 @@ pub mod PathVerdicts
 pub mod AskedLists
 pub mod PathAnswers
 pub mod UnrevokedMembers
-pub mod Outcomes
-pub mod Pages
 pub mod MomentTexts
 pub mod CommandLines
+pub mod Outcomes
+pub mod Pages
 pub mod Periods
 pub mod BlockLines
 pub mod ListTexts

@@ -3,13 +3,13 @@ use Rattle.std.specs.Prelude.{◌≡◌, ◌⊎◌, ℕ, List, [], length, All, 
 use Rattle.rpki.specs.RsaSignatures.{IsSignedByRsa}
 use Rattle.rpki.specs.Times.{Moment}
 use Rattle.rpki.specs.Verification.{Context, ResourceFields, context}
-use Rattle.rpki_command.specs.declared.arguments.Request.{Request}
 use Rattle.rpki_command.specs.declared.arguments.Task.{Task}
 use Rattle.rpki_command.specs.declared.arguments.Task.TheVariants.{Show, Validate}
 use Rattle.rpki_command.specs.declared.outcomes.Outcome.{Outcome}
 use Rattle.rpki_command.specs.declared.outcomes.Outcome.TheVariants.{Success, Rejection, WrongUse}
 use Rattle.rpki_command.specs.declared.path.Verdict.TheVariants.{Accepted, Rejected}
 use Rattle.rpki_command.specs.declared.path.Fault.{Fault}
+use Rattle.rpki_command.specs.CommandLines.{RequestFields, IsCommandLine}
 use Rattle.rpki_command.specs.Contents.{BeginsWithList, CanBeShown}
 use Rattle.rpki_command.specs.PathAnswers.{IsVerdictBy}
 
@@ -53,11 +53,17 @@ IsOutcomeOf _ x files lists outcome = outcome ≡ Success
 
 -- a run that is asked this may end so: at the moment that is named, if one is, and by as many files
 -- and lists as are named; what these hold, no contract can say
-pub record MayEndWith (request : Request) (outcome : Outcome) : Type 0 where
+pub record MayEndWith (r : RequestFields) (outcome : Outcome) : Type 0 where
   pub now : Moment
   pub files : List (List ℕ)
   pub lists : List (List ℕ)
-  pub now_is : IfSome request.at (λ at. now ≡ at)
-  pub as_many_files : length files ≡ length request.files.items
-  pub as_many_lists : length lists ≡ length request.lists.items
-  pub outcome_is : IsOutcomeOf request.task (context IsSignedByRsa now request.strict) files lists outcome
+  pub now_is : IfSome r.at (λ at. now ≡ at)
+  pub as_many_files : length files ≡ length r.files
+  pub as_many_lists : length lists ≡ length r.lists
+  pub outcome_is : IsOutcomeOf r.task (context IsSignedByRsa now r.strict) files lists outcome
+
+-- a run on these words may end so: with wrong use exactly where they are no command line, else as
+-- one that is asked what they ask
+abbrev pub RunMayEndWith : List (List ℕ) → Outcome → Type 0
+RunMayEndWith words WrongUse = (r : RequestFields) → IsCommandLine r words → ⊥
+RunMayEndWith words outcome = (r : RequestFields) × IsCommandLine r words × MayEndWith r outcome

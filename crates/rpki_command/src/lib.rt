@@ -4,7 +4,8 @@
 
 ghost use Rattle.std.specs.Prelude.{◌≡◌, ◌≢◌, ◌≤◌, length, IfOk, IfSome, MatchOption, OnOk};
 ghost use Rattle.std.specs.Process.{exit_status};
-ghost use Rattle.rpki_command.specs.Outcomes.{AsksOfFiles, MayEndWith};
+ghost use Rattle.rpki_command.specs.CommandLines.Views.{fields_of, octets_of};
+ghost use Rattle.rpki_command.specs.Outcomes.{AsksOfFiles, MayEndWith, RunMayEndWith};
 
 mod answering;
 mod arguments;
@@ -124,7 +125,7 @@ fn say(rt: &impl Eprint, misuse: &Misuse<'_>) -> Result<()>
 // Answers what is asked of files, and prints the answer.
 fn answer(rt: &HostRuntime, request: &Request<'_>) -> Result<Outcome>
     requires { AsksOfFiles request.now.task }
-    ensures { IfOk result (λ outcome. MayEndWith request.now outcome) }
+    ensures { IfOk result (MayEndWith (fields_of request.now)) }
 {
     let now = moment(rt, request.at)?;
     let files = objects(rt, &request.files)?;
@@ -134,7 +135,10 @@ fn answer(rt: &HostRuntime, request: &Request<'_>) -> Result<Outcome>
     Ok(answer.outcome)
 }
 
-fn run(rt: &HostRuntime, words: &[String]) -> Result<Outcome> {
+// Answers the words of the command line.
+fn run(rt: &HostRuntime, words: &[String]) -> Result<Outcome>
+    ensures { IfOk result (RunMayEndWith (octets_of words.now)) }
+{
     let request = match read_words(rt.alloc(), words) {
         Ok(request) => request,
         Err(misuse) => {

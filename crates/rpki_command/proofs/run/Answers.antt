@@ -1,0 +1,43 @@
+use Rattle.std.specs.Prelude.{Option, Some, None, IfSome}
+use Rattle.std.proofs.Common.{◌≡◌, ℕ, List, inl, inr, refl}
+use Rattle.rpki.specs.Times.{Moment, moment}
+use Rattle.rpki.specs.RsaSignatures.{IsSignedByRsa}
+use Rattle.rpki.specs.Verification.{Context, context}
+use Rattle.rpki_command.specs.CommandLines.{RequestFields}
+use Rattle.rpki_command.specs.CommandLines.Views.{fields_of}
+use Rattle.rpki_command.specs.Outcomes.{AsksOfFiles, IsOutcomeOf, MayEndWith}
+use Rattle.rpki_command.specs.declared.arguments.Task.{Task}
+use Rattle.rpki_command.specs.declared.arguments.Task.TheVariants.{Show, Validate, Help, Version}
+use Rattle.rpki_command.specs.declared.outcomes.Outcome.TheVariants.{Success}
+use Rattle.rpki_command.proofs.run.Goals as goal
+
+-- the moment that is named, or any
+some_moment : (at : Option Moment) → (now : Moment) × IfSome at (λ named. now ≡ named)
+some_moment None = (moment 0 1 1 0 0 0, tt)
+some_moment (Some named) = (named, refl)
+
+success : (task : Task) (x : Context) (files lists : List (List ℕ)) → (AsksOfFiles task → ⊥) → IsOutcomeOf task x files lists Success
+success Show x files lists none = absurd (none (inl refl))
+success Validate x files lists none = absurd (none (inr refl))
+success Help x files lists none = refl
+success Version x files lists none = refl
+
+-- a text about the command is success
+told : (r : RequestFields) → (AsksOfFiles r.task → ⊥) → MayEndWith r Success
+told r none = record {
+  now = (some_moment r.at).0;
+  files = r.files;
+  lists = r.lists;
+  now_is = (some_moment r.at).1;
+  as_many_files = refl;
+  as_many_lists = refl;
+  outcome_is = success r.task (context IsSignedByRsa (some_moment r.at).0 r.strict) r.files r.lists none;
+}
+
+pub returns-in-Err : goal.returns-in-Err
+returns-in-Err c = c.in-Err.ensures.rejected c.in_ok-say-in-Err.ensures
+
+pub returns-in-Some : goal.returns-in-Some
+returns-in-Some c =
+    let r = fields_of c.in-Ok.request in
+    (r, c.in-Ok.ensures.asked, told r c.in-Some.ensures)
