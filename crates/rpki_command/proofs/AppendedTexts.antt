@@ -1,6 +1,6 @@
 -- Texts that are appended to a page one after the other.
 use Rattle.std.specs.Option.{option_map}
-use Rattle.std.specs.Prelude.{Option, Some, None}
+use Rattle.std.specs.Prelude.{Option, Some, None, Result, Ok, Err, IfOk, MatchResult}
 use Rattle.std.proofs.Common.{◌≡◌, ◌+◌, ◌<◌, ◌≤◌, ℕ, List, [], ◌∷◌, ◌++◌, length, take, get_or, refl, sym, ap, subst, ◌∙◌, inl, inr, ⊎_elim, append_assoc}
 use Rattle.std.proofs.lemmas.List.{append-nil, take_more, take_all}
 use Rattle.rpki_command.specs.Pages.{Appends, AppendsSome}
@@ -48,6 +48,15 @@ both_appended P Q R old mid new both p q =
     ⊎_elim (λ (first : (a : List ℕ) × P a × (mid ≡ option_map (λ so_far. so_far ++ a) old)). inl (first.0 ++ second.0, both first.0 second.0 first.1 second.1, second.2 ∙ ap more first.2 ∙ two_more first.0 second.0 old))
     (λ (failed : mid ≡ None). inr (second.2 ∙ ap more failed)) p)
     (λ (failed : new ≡ None). inr failed) q
+
+such_text : (Holds : List ℕ → Type 0) (text : List ℕ) → AppendsSome Holds (Some []) (Some text) → Holds text
+such_text Holds text p =
+    ⊎_elim (λ (some : (t : List ℕ) × Holds t × (Some text ≡ Some t)). let same : some.0 ≡ text = cc in subst Holds same some.1) (λ (none : Some text ≡ None). cc) p
+
+-- the text of a page that was empty
+pub text_of_page : {S E : Type 0} (bytes : S → List ℕ) (Holds : List ℕ → Type 0) (page : Option (List ℕ)) (r : Result S E) → AppendsSome Holds (Some []) page → MatchResult r (λ text. page ≡ Some (bytes text)) (λ _. page ≡ None) → IfOk r (λ text. Holds (bytes text))
+text_of_page bytes Holds page (Ok text) p is = such_text Holds (bytes text) (subst (λ (q : Option (List ℕ)). AppendsSome Holds (Some []) q) is p)
+text_of_page bytes Holds page (Err e) p is = tt
 
 -- ---- a text for each file
 

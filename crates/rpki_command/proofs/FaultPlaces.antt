@@ -11,8 +11,8 @@ use Rattle.rpki.specs.PathError.{PathError}
 use Rattle.rpki.specs.PathFault.{PathFault}
 use Rattle.rpki.specs.PathFault.TheVariants.{Decode, Inspect, Verify, Revocation, Memory}
 use Rattle.rpki.specs.Paths.{Candidate, IsFault, UnlessMemory}
-use Rattle.rpki_command.specs.GivenPaths.{GivenPath, path_to, given_path, HasLast, IsGivenBy}
-use Rattle.rpki_command.specs.PathVerdicts.{IsFaultOf, IsNotAccepted}
+use Rattle.rpki_command.specs.GivenPaths.{GivenPath, path_to, given_path, IsGivenBy}
+use Rattle.rpki_command.specs.PathVerdicts.{IsFaultOf}
 use Rattle.rpki_command.proofs.RouterFaults.{count_some, count_none}
 
 -- what memory may stand in place of, where it isn't memory

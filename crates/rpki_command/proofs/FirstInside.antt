@@ -1,13 +1,13 @@
 -- The first octet inside the SEQUENCE that a certificate or a list begins with.
-use Rattle.std.specs.Prelude.{Option, Some, Result, Ok, Err, IsSomeAnd}
+use Rattle.std.specs.Prelude.{Result, Ok, Err, IsSomeAnd}
 use Rattle.std.specs.Result.{result_ok}
-use Rattle.std.proofs.Common.{◌≡◌, ℕ, List, [], ◌∷◌, refl}
+use Rattle.std.proofs.Common.{◌≡◌, ℕ, List, [], ◌∷◌}
 use Rattle.std.specs.List.{concat}
-use Rattle.rpki.specs.Encoding.{Begins, Means}
+use Rattle.rpki.specs.Encoding.{Means}
 use Rattle.rpki.specs.DecodeError.{DecodeError}
 use Rattle.rpki.specs.Place.{Place, remaining, AnswersBy}
 use Rattle.rpki.specs.Tags.{SEQUENCE}
-use Rattle.rpki.specs.Values.{IsEnc, IsUnambiguous}
+use Rattle.rpki.specs.Values.{IsEnc}
 use Rattle.rpki_der.proofs.Formats.{unambiguous, one_meant, of_enc, same_enc}
 use Rattle.rpki_command.specs.Contents.{BeginsWithCertificate, BeginsWithList, HasFirstInside}
 

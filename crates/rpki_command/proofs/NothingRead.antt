@@ -1,5 +1,5 @@
 -- What a refusal of a reader means, where it isn't that memory ran out.
-use Rattle.std.proofs.Common.{◌≡◌, ◌≢◌, refl}
+use Rattle.std.proofs.Common.{◌≢◌, refl}
 use Rattle.rpki.specs.Place.{Rejects}
 use Rattle.rpki.specs.DecodeError.{DecodeError}
 use Rattle.rpki.specs.DecodeError.TheVariants as decoding

@@ -1,5 +1,5 @@
 -- A block is a prefix where it is as large as the bits that its ends leave open.
-use Rattle.std.proofs.Common.{◌≡◌, ℕ, ◌-◌, ◌^◌, ◌≤◌, true, nat_eq, inl, inr, sym, ◌∙◌}
+use Rattle.std.proofs.Common.{◌≡◌, ◌-◌, ◌^◌, ◌≤◌, true, nat_eq, inl, inr, sym, ◌∙◌}
 use Rattle.std.proofs.lemmas.Bool.{cases_Bool, eqb-true, eq-eqb}
 use Rattle.rpki.specs.AddressBits.{is_prefix, prefix_bits}
 use Rattle.rpki.specs.Sets.{Block}

@@ -2,16 +2,17 @@
 -- a name is said where it stands, and not which it is.
 use Rattle.std.specs.Fmt.{decimal}
 use Rattle.std.specs.List.{concat}
-use Rattle.std.specs.Prelude.{◌≡◌, ◌↔◌, ◌⊎◌, ℕ, Bool, List, [], ◌∷◌, ◌++◌, codes, slice_get, Option, Some, None, IsSome}
+use Rattle.std.specs.Prelude.{◌≡◌, ◌↔◌, ◌⊎◌, ℕ, Bool, List, [], ◌∷◌, ◌++◌, codes, slice_get, Option, Some, None, IsSome, MatchOption}
 use Rattle.rpki.specs.BlockTexts.{v4_block_text, v6_block_text}
 use Rattle.rpki.specs.Certificates.{CertFields, IsCertificate}
 use Rattle.rpki.specs.Texts.{serial_text}
-use Rattle.rpki.specs.Verification.{ResourceFields}
+use Rattle.rpki.specs.Verification.{Context, ResourceFields}
 use Rattle.rpki_command.specs.BlockLines.{numbers_text, blocks_lines}
 use Rattle.rpki_command.specs.CertificateTexts.{AreAnswers, kind_text}
 use Rattle.rpki_command.specs.Contents.{BeginsWithList, FindsBy}
 use Rattle.rpki_command.specs.GivenPaths.{QuestionFields}
 use Rattle.rpki_command.specs.Pages.{line}
+use Rattle.rpki_command.specs.PathAnswers.{IsVerdictBy}
 use Rattle.rpki_command.specs.declared.certificate.Answers.{Answers}
 use Rattle.rpki_command.specs.declared.path.Fault.{Fault}
 use Rattle.rpki_command.specs.declared.path.Verdict.{Verdict}
@@ -116,3 +117,9 @@ pub record IsVerdictText (question : QuestionFields) (verdict : Option Verdict) 
   pub outcome : List ℕ
   pub outcome_is : IsOutcomeText question verdict outcome
   pub text_is : text ≡ members ++ (lists ++ outcome)
+
+-- the text of the verdict on the path that the files are; there is none where there is no file
+pub record IsTextOfPath (x : Context) (question : QuestionFields) (text : List ℕ) : Type 0 where
+  pub verdict : Option Verdict
+  pub verdict_is : MatchOption verdict (question.members ≡ []) (IsVerdictBy x question.members question.lists)
+  pub text_is : IsVerdictText question verdict text

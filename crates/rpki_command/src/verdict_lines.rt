@@ -1,5 +1,5 @@
 //! The verdict on a path for a person.
-ghost use Rattle.std.specs.Prelude.{◌≡◌, Some, option_copied, option_map, codes};
+ghost use Rattle.std.specs.Prelude.{◌≡◌, Some, IfOk, option_copied, option_map, codes, string_bytes};
 ghost use Rattle.rpki_command.specs.CertificateTexts.{AreAnswers, kind_text};
 ghost use Rattle.rpki_command.specs.Pages.{Appends, AppendsSome, line};
 ghost use Rattle.rpki_command.specs.VerdictTexts.{SaysOfEach, IsMemberLine, IsListPart, IsRejectedText, IsOutcomeText, IsVerdictText, member_text, other_text, revocation_text, accepted_text, place_text, reason_text, rejected_text};
@@ -11,6 +11,7 @@ use crate::page::Page;
 use crate::path::{Fault, Question, Verdict, is_list};
 use rpki::repository::cert::{Cert, ResourceCert};
 use rpki::repository::x509::Serial;
+use std::alloc::{AllocError, Global};
 use std::fmt;
 
 const ALGORITHM: &str = "checked (RSASSA-PKCS1-v1_5 with SHA-256, RFC 7935)";
@@ -207,12 +208,26 @@ fn print_outcome(page: &mut Page, question: &Question<'_, '_>, verdict: Option<&
     }
 }
 
-/// Prints the members of a path, the files given as lists that are none, and the verdict.
-pub fn print_verdict(page: &mut Page, question: &Question<'_, '_>, verdict: Option<&Verdict>)
+// The members of a path, the files given as lists that are none, and the verdict.
+fn print_verdict(page: &mut Page, question: &Question<'_, '_>, verdict: Option<&Verdict>)
     ensures { AppendsSome (IsVerdictText question.now (option_copied verdict.entry))
         page.old page.new }
 {
     print_members(page, question.members, question.strict);
     print_lists(page, question.lists);
     print_outcome(page, question, verdict);
+}
+
+/// Writes the members of a path, the files given as lists that are none, and the verdict.
+pub fn verdict_text(
+    alloc: Global,
+    question: &Question<'_, '_>,
+    verdict: Option<&Verdict>,
+) -> Result<String, AllocError>
+    ensures { let verdict = option_copied verdict.entry in
+        IfOk result (λ text. IsVerdictText question.now verdict (string_bytes text)) }
+{
+    let mut page = Page::new(alloc);
+    print_verdict(&mut page, question, verdict);
+    page.into_text()
 }

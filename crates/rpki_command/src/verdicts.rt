@@ -1,28 +1,31 @@
 //! The verdict on a path, for a person or as JSON.
-ghost use Rattle.std.specs.Prelude.{◌↔◌, All, IfOk, IsTrue};
+ghost use Rattle.std.specs.Prelude.{◌↔◌, All, IfOk, IsTrue, IsFalse, string_bytes};
 ghost use Rattle.rpki.specs.RsaSignatures.{IsSignedByRsa};
 ghost use Rattle.rpki.specs.Verification.{context};
 ghost use Rattle.rpki_command.specs.Contents.{BeginsWithList};
 ghost use Rattle.rpki_command.specs.Outcomes.{IsOutcomeOfValidate};
 ghost use Rattle.rpki_command.specs.PathAnswers.{IsAcceptance};
+ghost use Rattle.rpki_command.specs.VerdictTexts.{IsTextOfPath};
 
 use crate::files::Object;
 use crate::json;
 use crate::outcomes::{Answer, Outcome};
 use crate::page::Page;
 use crate::path::{Question, Verdict, is_list, judge};
-use crate::verdict_lines::print_verdict;
+use crate::verdict_lines::verdict_text;
 use std::alloc::{AllocError, Global};
 
-fn as_json(page: &mut Page, question: &Question<'_, '_>, verdict: Option<&Verdict>) {
-    match json::path(page.alloc(), question, verdict) {
-        Ok(value) => {
-            let text = value.to_string_pretty(page.alloc());
-            page.formed(text);
-            page.end();
-        }
-        Err(_) => page.fail(),
-    }
+fn json_text(
+    alloc: Global,
+    question: &Question<'_, '_>,
+    verdict: Option<&Verdict>,
+) -> Result<String, AllocError> {
+    let value = json::path(alloc, question, verdict)?;
+    let mut page = Page::new(alloc);
+    let text = value.to_string_pretty(alloc);
+    page.formed(text);
+    page.end();
+    page.into_text()
 }
 
 // Whether each file given as a list begins with one.
@@ -46,30 +49,32 @@ fn is_accepted(verdict: &Option<Verdict>) -> bool
     }
 }
 
-/// Validates the path and writes the verdict. The outcome is success where the path is accepted,
-/// and each file given as a list begins with one.
+/// Validates the path and writes the verdict, as lines for a person or as JSON. The outcome is
+/// success where the path is accepted, and each file given as a list begins with one.
 pub fn validated(
     alloc: Global,
     question: &Question<'_, '_>,
     is_json: bool,
 ) -> Result<Answer, AllocError>
-    ensures { let x = context IsSignedByRsa question.now.at question.now.strict in
+    ensures outcome { let x = context IsSignedByRsa question.now.at question.now.strict in
         let members = question.now.members in
         let lists = question.now.lists in
         IfOk result (λ answer. IsOutcomeOfValidate x members lists answer.outcome) }
+    ensures text { let x = context IsSignedByRsa question.now.at question.now.strict in
+        IsFalse is_json
+        → IfOk result (λ answer. IsTextOfPath x question.now (string_bytes answer.text)) }
 {
     let are_lists = are_lists(alloc, question.lists)?;
     let verdict = judge(alloc, question)?;
     let is_accepted = is_accepted(&verdict);
-    let mut page = Page::new(alloc);
-    if is_json {
-        as_json(&mut page, question, verdict.as_ref());
+    let text = if is_json {
+        json_text(alloc, question, verdict.as_ref())
     } else {
-        print_verdict(&mut page, question, verdict.as_ref());
-    }
+        verdict_text(alloc, question, verdict.as_ref())
+    };
     drop(verdict);
     Ok(Answer {
-        text: page.into_text()?,
+        text: text?,
         outcome: Outcome::of_answer(are_lists & is_accepted),
     })
 }

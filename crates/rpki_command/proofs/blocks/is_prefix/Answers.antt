@@ -1,4 +1,4 @@
-use Rattle.std.proofs.Common.{◌≡◌, ℕ, ◌-◌, ◌^◌, ◌<◌, ◌≤◌, nat_eq, min, sym, ap, ◌∙◌, arith}
+use Rattle.std.proofs.Common.{◌≡◌, ℕ, ◌-◌, ◌^◌, ◌<◌, ◌≤◌, nat_eq, min, ap, ◌∙◌, arith}
 use Rattle.std.specs.Int.{w128, trailing_zeros, trailing_ones}
 use Rattle.rpki.specs.AddressBits.{zero_bits, one_bits}
 use Rattle.rpki.specs.Sets.{Block}

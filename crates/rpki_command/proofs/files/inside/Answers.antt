@@ -1,4 +1,3 @@
-use Rattle.std.proofs.Common.{◌≡◌}
 use Rattle.rpki_command.proofs.FirstInside.{entered}
 use Rattle.rpki_command.proofs.files.inside.Goals as goal
 

@@ -1,4 +1,4 @@
-use Rattle.std.proofs.Common.{rules, ◌≡◌, ◌≢◌, Some, sym, ◌∙◌}
+use Rattle.std.proofs.Common.{rules, ◌≡◌, Some, sym, ◌∙◌}
 use Rattle.std.proofs.lemmas.Bool.{false≢true}
 use Rattle.rpki_command.proofs.FirstInside.{list_first, certificate_first}
 use Rattle.rpki_command.proofs.files.looks_like.Goals as goal

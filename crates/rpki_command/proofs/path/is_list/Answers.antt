@@ -1,4 +1,3 @@
-use Rattle.std.proofs.Common.{◌≡◌, Bool, false, true, IsTrue}
 use Rattle.std.proofs.lemmas.Bool.{false≢true}
 use Rattle.rpki.specs.Lists.{CrlFields, IsCertificateList}
 use Rattle.rpki.specs.Encoding.{Means}

@@ -1,5 +1,5 @@
 use Rattle.std.specs.Prelude.{option_map, Ok}
-use Rattle.std.proofs.Common.{rules, ◌≡◌, ℕ, List, Err, sym, subst}
+use Rattle.std.proofs.Common.{ℕ, List, Err, sym, subst}
 use Rattle.rpki.specs.RsaSignatures.{IsSignedByRsa}
 use Rattle.rpki.specs.Verification.{context}
 use Rattle.rpki_command.specs.GivenPaths.{GivenPath, QuestionFields, given_path, IsGivenBy}

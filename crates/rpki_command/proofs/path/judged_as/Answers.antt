@@ -1,7 +1,6 @@
-use Rattle.std.proofs.Common.{rules, ◌≡◌, ap, sym, subst, inl}
-use Rattle.rpki.specs.Certificates.{TbsFields, CertFields, IsCertificate}
+use Rattle.std.proofs.Common.{subst, inl}
+use Rattle.rpki.specs.Certificates.{TbsFields, IsCertificate}
 use Rattle.rpki.specs.Encoding.{Means}
-use Rattle.rpki_command.specs.Contents.{FindsBy}
 use Rattle.rpki_command.specs.GivenPaths.{SaysKind}
 use Rattle.rpki_command.proofs.path.judged_as.Goals as goal
 

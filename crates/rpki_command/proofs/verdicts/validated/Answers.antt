@@ -27,8 +27,8 @@ module _ (x : Context) (files lists : List (List ℕ)) where
   outcome_is outcome true success rejection is = rw (success refl) (is.0 refl)
   outcome_is outcome false success rejection is = rw (rejection refl) (is.1 refl)
 
-pub returns : goal.returns
-returns c =
+pub returns-clause-outcome : goal.returns-clause-outcome
+returns-clause-outcome c =
     let q = c.args.question.now in
     let x = context IsSignedByRsa q.at q.strict in
     let lists_are = c.in_ok-are_lists.are_lists in
