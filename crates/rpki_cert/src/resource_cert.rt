@@ -4,19 +4,40 @@ ghost use Rattle.std.proofs.Common.{rc_value};
 
 use crate::cert::Cert;
 use crate::verify_owned::{Kept, joined};
-use rpki_blocks::{AsBlocks, IpBlocks};
+use rpki_blocks::{AsBlocks, Bound, Chain, IpBlocks, Resources};
 use rpki_ext::beside;
 use rpki_parts::TalInfo;
 use std::alloc::{AllocError, Global};
 use std::marker::Model;
 use std::rc::Rc;
 
-// The sets of a certificate that was verified.
+// The sets of a certificate that was verified, where they aren't those that it lists.
 #[derive(Drop)]
 pub(crate) struct Sets {
-    pub(crate) v4: IpBlocks,
-    pub(crate) v6: IpBlocks,
-    pub(crate) as_numbers: AsBlocks,
+    pub(crate) v4: Option<IpBlocks>,
+    pub(crate) v6: Option<IpBlocks>,
+    pub(crate) as_numbers: Option<AsBlocks>,
+}
+
+// The set of its own, else the one that is listed.
+fn resolved<'a, B: Bound>(own: &'a Option<Chain<B>>, listed: &'a Resources<B>) -> &'a Chain<B> {
+    match own {
+        Some(set) => set,
+        None => match listed.as_blocks() {
+            Some(set) => set,
+            None => unreachable!(),
+        },
+    }
+}
+
+fn try_clone_own<B: Bound>(
+    alloc: Global,
+    own: &Option<Chain<B>>,
+) -> Result<Option<Chain<B>>, AllocError> {
+    match own {
+        Some(set) => Ok(Some(set.try_clone(alloc)?)),
+        None => Ok(None),
+    }
 }
 
 impl Sets {
@@ -24,9 +45,9 @@ impl Sets {
     fn try_clone(&self, alloc: Global) -> Result<Sets, AllocError>
         ensures { IfOk result (λ s. s ≡ self.now) }
     {
-        let v4 = self.v4.try_clone(alloc)?;
-        let addresses = beside(v4, self.v6.try_clone(alloc))?;
-        let ((v4, v6), as_numbers) = beside(addresses, self.as_numbers.try_clone(alloc))?;
+        let v4 = try_clone_own(alloc, &self.v4)?;
+        let addresses = beside(v4, try_clone_own(alloc, &self.v6))?;
+        let ((v4, v6), as_numbers) = beside(addresses, try_clone_own(alloc, &self.as_numbers))?;
         Ok(Sets { v4, v6, as_numbers })
     }
 }
@@ -67,21 +88,21 @@ impl ResourceCert {
     pub fn v4_resources(&self) -> &IpBlocks
         ensures { result.now ≡ self.now.v4 }
     {
-        &self.sets.v4
+        resolved(&self.sets.v4, self.cert.as_tbs().v4_resources())
     }
 
     /// Returns the IPv6 addresses.
     pub fn v6_resources(&self) -> &IpBlocks
         ensures { result.now ≡ self.now.v6 }
     {
-        &self.sets.v6
+        resolved(&self.sets.v6, self.cert.as_tbs().v6_resources())
     }
 
     /// Returns the AS numbers.
     pub fn as_resources(&self) -> &AsBlocks
         ensures { result.now ≡ self.now.as_numbers }
     {
-        &self.sets.as_numbers
+        resolved(&self.sets.as_numbers, self.cert.as_tbs().as_resources())
     }
 
     /// Returns the trust anchor locator by which the path begins.

@@ -39,26 +39,29 @@ fn issued<B: Bound>(
     listed: &Resources<B>,
     mode: Overclaim,
     fault: VerificationError,
-) -> Result<Chain<B>, VerificationError>
+) -> Result<Option<Chain<B>>, VerificationError>
     ensures issued { IfOk result (IsIssued held.now listed.now) }
     ensures held { OnOk result (ListsOnlyHeld mode B.greatest (Has held.now) listed.now) }
     ensures fault { IfErr result (λ e. (e ≡ Memory)
         ⊎ ((e ≡ fault) × (ListsOnlyHeld mode B.greatest (Has held.now) listed.now → ⊥))) }
 {
+    if let Some(blocks) = listed.as_blocks() {
+        if blocks.is_encompassed(held) {
+            return Ok(None);
+        }
+    }
     match held.verify_issued(alloc, listed, mode) {
-        Ok(set) => Ok(set),
+        Ok(set) => Ok(Some(set)),
         Err(IssueError::Overclaimed) => Err(fault),
         Err(IssueError::Memory) => Err(VerificationError::Memory),
     }
 }
 
-// The numbers that are listed.
-fn listed<B: Bound>(alloc: Global, resources: &Resources<B>) -> Result<Chain<B>, AllocError>
-    ensures { IfOk result (ListsNumbers resources.now) }
-{
+// The numbers that are listed, where they aren't listed as a set.
+fn listed<B: Bound>(alloc: Global, resources: &Resources<B>) -> Option<Chain<B>> {
     match resources.as_blocks() {
-        Some(blocks) => blocks.try_clone(alloc),
-        None => Ok(Chain::empty(alloc)),
+        Some(_) => None,
+        None => Some(Chain::empty(alloc)),
     }
 }
 
@@ -71,10 +74,11 @@ impl Cert {
             (λ s. ListsNumbers self.now.fields.extensions.as_resources s.as_numbers) }
     {
         let tbs = self.as_tbs();
-        let v4 = listed(alloc, tbs.v4_resources())?;
-        let addresses = beside(v4, listed(alloc, tbs.v6_resources()))?;
-        let ((v4, v6), as_numbers) = beside(addresses, listed(alloc, tbs.as_resources()))?;
-        Ok(Sets { v4, v6, as_numbers })
+        Ok(Sets {
+            v4: listed(alloc, tbs.v4_resources()),
+            v6: listed(alloc, tbs.v6_resources()),
+            as_numbers: listed(alloc, tbs.as_resources()),
+        })
     }
 
     // What the certificate gets of the issuer's numbers.
