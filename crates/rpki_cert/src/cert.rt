@@ -24,8 +24,14 @@ use std::marker::Model;
 /// fields that it has (RFC 5280 4.1, RFC 6487 4).
 #[derive(Drop)]
 pub struct Cert {
-    pub(crate) tbs: TbsCert,
-    pub(crate) signed_data: SignedData,
+    parts: Box<Parts>,
+}
+
+// The two parts of a certificate.
+#[derive(Drop)]
+struct Parts {
+    tbs: TbsCert,
+    signed_data: SignedData,
 }
 
 impl Model for Cert {
@@ -33,10 +39,22 @@ impl Model for Cert {
 
     ghost Value = { CertFields };
 
-    ghost view = { λ c. record { fields = c.tbs; signed_data = c.signed_data } };
+    ghost view = { λ c. record { fields = c.parts.value.tbs; signed_data = c.parts.value.signed_data } };
 }
 
 impl Cert {
+    // The certificate of these parts.
+    pub(crate) fn of_parts(
+        alloc: Global,
+        tbs: TbsCert,
+        signed_data: SignedData,
+    ) -> Result<Cert, AllocError>
+        ensures { IfOk result (λ c. c ≡ record { fields = tbs; signed_data = signed_data }) }
+    {
+        let parts = Box::new(alloc, Parts { tbs, signed_data }).map_err(AllocError::from)?;
+        Ok(Cert { parts })
+    }
+
     // What stands in the SEQUENCE, by the reading function.
     #[tactic(auto, unfolding(crate::specs::Certificates::Reading::cert_content_at))]
     fn read_content(alloc: Global, content: &mut Cursor<'_>) -> Result<Cert, DecodeError>
@@ -49,7 +67,7 @@ impl Cert {
         let tbs = TbsCert::read(alloc, &mut content.fork());
         let (signed_data, tbs) = beside(signed_data, tbs)?;
         *content = ahead;
-        Ok(Cert { tbs, signed_data })
+        Ok(Cert::of_parts(alloc, tbs, signed_data)?)
     }
 
     // The SEQUENCE, by the reading function.
@@ -125,14 +143,14 @@ impl Cert {
     pub fn as_tbs(&self) -> &TbsCert
         ensures { result.now ≡ self.now.fields }
     {
-        &self.tbs
+        &self.parts.tbs
     }
 
     /// Returns what is signed, as it was read or made, and its signature.
     pub fn signed_data(&self) -> &SignedData
         ensures { result.now ≡ self.now.signed_data }
     {
-        &self.signed_data
+        &self.parts.signed_data
     }
 
     /// Appends the certificate: the SEQUENCE of what is signed, as it was read or made, the
@@ -141,7 +159,7 @@ impl Cert {
     pub fn encode_ref(&self, alloc: Global, out: &mut Vec<u8>) -> Result<(), EncodeError>
         ensures { Writes (signed_part self.now.signed_data) out.old.items result out.new.items }
     {
-        self.signed_data.encode_ref(alloc, out)
+        self.parts.signed_data.encode_ref(alloc, out)
     }
 
     /// Writes the certificate's octets, as [`Cert::encode_ref`] does, into a buffer of their own.
@@ -159,8 +177,8 @@ impl Cert {
     pub fn try_clone(&self, alloc: Global) -> Result<Cert, AllocError>
         ensures { IfOk result (λ c. c ≡ self.now) }
     {
-        let signed_data = self.signed_data.try_clone(alloc)?;
-        let (signed_data, tbs) = beside(signed_data, self.tbs.try_clone(alloc))?;
-        Ok(Cert { tbs, signed_data })
+        let signed_data = self.parts.signed_data.try_clone(alloc)?;
+        let (signed_data, tbs) = beside(signed_data, self.parts.tbs.try_clone(alloc))?;
+        Ok(Cert::of_parts(alloc, tbs, signed_data)?)
     }
 }

@@ -110,6 +110,6 @@ impl TbsCert {
     {
         let signed = self.sign(alloc, signer, key);
         let (tbs, signed_data) = beside(self, signed)?;
-        Ok(Cert { tbs, signed_data })
+        Ok(Cert::of_parts(alloc, tbs, signed_data)?)
     }
 }
