@@ -66,8 +66,9 @@ impl Cert {
         let signed_data = SignedData::from_constructed(alloc, &mut ahead)?;
         let tbs = TbsCert::read(alloc, &mut content.fork());
         let (signed_data, tbs) = beside(signed_data, tbs)?;
+        let cert = Cert::of_parts(alloc, tbs, signed_data)?;
         *content = ahead;
-        Ok(Cert::of_parts(alloc, tbs, signed_data)?)
+        Ok(cert)
     }
 
     // The SEQUENCE, by the reading function.
