@@ -1,11 +1,13 @@
 //! Prefixes of addresses.
 ghost use Rattle.std.specs.Prelude.{◌≡◌, ℕ, ◌+◌, ◌-◌, ◌*◌, ◌/◌, ◌^◌, ◌<◌, ◌≤◌, ◌↔◌, IsTrue};
 ghost use Rattle.std.specs.List.{list_all};
+ghost use Rattle.rpki_blocks.specs.AddressBits.{is_prefix, prefix_bits};
 ghost use Rattle.rpki_blocks.specs.Prefixes.{is_v4_block};
 
 use crate::addr::Addr;
 use crate::block::{Block, IpBlock};
 use crate::chain::IpBlocks;
+use crate::encode_ip::prefix_bits;
 use std::marker::Model;
 
 /// The addresses that begin with the first `len` bits of an address.
@@ -64,6 +66,19 @@ fn ends(addr: u128, len: u8) -> (u128, u128)
     let size = 1u128 << (128 - len);
     let low = addr / size * size;
     (low, low + (size - 1))
+}
+
+impl IpBlock {
+    /// Returns whether the block is all the addresses with some prefix.
+    pub fn is_prefix(self) -> bool
+        ensures { result ≡ is_prefix self (prefix_bits self) }
+    {
+        // Called for what it ensures alone.
+        self.known();
+        let min = self.min().to_bits();
+        let max = self.max().to_bits();
+        prefix_bits(min, max).is_some()
+    }
 }
 
 impl IpBlocks {

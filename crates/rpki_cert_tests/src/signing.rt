@@ -58,11 +58,11 @@ fn a_refusal_is_passed_on(rt: HostRuntime) {
     assert_refused(&rt, rt.alloc(), Refusal::Memory, (0, "Memory"));
 }
 
-// Signs anything with two octets, and keeps what it was asked for.
+// Signs anything with two octets, and keeps what it was signed for.
 #[derive(Drop)]
 struct Keeping {
     calls: Cell<usize>,
-    asked: RefCell<Vec<u8>>,
+    signed: RefCell<Vec<u8>>,
 }
 
 impl Signer for Keeping {
@@ -82,8 +82,8 @@ impl Signer for Keeping {
         message: &[u8],
     ) -> Result<Signature, SigningError<()>> {
         self.calls.set(self.calls.get().wrapping_add(1));
-        if let Ok(mut asked) = self.asked.try_borrow_mut() {
-            asked.extend_from_slice(message)?;
+        if let Ok(mut signed) = self.signed.try_borrow_mut() {
+            signed.extend_from_slice(message)?;
         }
         Ok(Signature::new(algorithm, Bytes::from_static(b"\x01\x02")))
     }
@@ -91,10 +91,10 @@ impl Signer for Keeping {
 
 fn assert_kept(rt: &impl Abort, alloc: Global, signer: &Keeping, cert: &Cert) {
     assert_eq!(rt; signer.calls.get(), 1);
-    let asked = signer.asked.try_borrow().expect(rt, "no other borrow");
-    assert!(rt; asked.as_slice() == cert.signed_data().data());
+    let signed = signer.signed.try_borrow().expect(rt, "no other borrow");
+    assert!(rt; signed.as_slice() == cert.signed_data().data());
     let written = rpki_samples::written(alloc, cert.as_tbs()).expect(rt, "memory");
-    assert!(rt; asked.as_slice() == written.as_slice());
+    assert!(rt; signed.as_slice() == written.as_slice());
     assert_eq!(rt;
         cert.signed_data().signature().value(),
         b"\x01\x02".as_slice()
@@ -112,7 +112,7 @@ fn assert_signed(rt: &impl Abort, alloc: Global, signer: &Keeping, tbs: TbsCert)
 fn what_is_kept_is_signed_once(rt: HostRuntime) {
     let signer = Keeping {
         calls: Cell::new(0),
-        asked: RefCell::new(Vec::new(rt.alloc())),
+        signed: RefCell::new(Vec::new(rt.alloc())),
     };
     assert_signed(
         &rt,

@@ -18,7 +18,6 @@ mod NothingRead
 mod OneMoment
 mod OneRequest
 mod PemLines
-mod PrefixSizes
 mod RouterFaults
 mod SingleOutcomes
 mod StoredPairs

@@ -1,5 +1,5 @@
 //! Certificates and lists as JSON, with the names that rpki-client gives to what it shows too.
-use crate::blocks::{Family, ip_block, ip_end, is_prefix};
+use crate::blocks::{Family, ip_block, ip_end};
 use crate::page::Page;
 use crate::path::{Fault, Question, Verdict, is_list};
 use crate::places::Place;
@@ -101,7 +101,7 @@ fn one(alloc: Global, key: &str, value: Value) -> Result<Value, AllocError> {
 }
 
 fn block(alloc: Global, family: Family, it: IpBlock) -> Result<Value, AllocError> {
-    if is_prefix(it) {
+    if it.is_prefix() {
         let mut line = Page::new(alloc);
         ip_block(&mut line, family, it);
         let prefix = Value::String(line.into_text()?);

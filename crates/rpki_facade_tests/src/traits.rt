@@ -6,7 +6,7 @@ fn lower_signer<S: rpki_parts::Signer>() {}
 
 fn lower_verifier<V: rpki_parts::Verifier>() {}
 
-/// Takes a kind of numbers for one of the layer.
+/// Takes a type of blocks for one of the layer.
 pub fn bound<B: rpki::repository::resources::Bound>() {
     lower_bound::<B>();
 }

@@ -308,7 +308,8 @@ fn next_attribute<'a>(cursor: &mut Cursor<'a>) -> Option<(&'a [u8], Cursor<'a>)>
 
 // The content of the part that stands next.
 fn next_part<'a>(cursor: &mut Cursor<'a>) -> Option<Cursor<'a>>
-    ensures { option_map (λ x. (remaining x, remaining cursor.new)) result ≡ value_at SET (remaining cursor.old) }
+    ensures { option_map (λ x. (remaining x, remaining cursor.new)) result
+        ≡ value_at SET (remaining cursor.old) }
 {
     let part = match cursor.take_value(tag::SET) {
         Ok(part) => part,
