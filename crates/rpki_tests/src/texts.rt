@@ -88,6 +88,16 @@ fn blocks_of_long_addresses_print(rt: HostRuntime) {
 }
 
 #[test]
+fn blocks_are_prefixes_or_not(rt: HostRuntime) {
+    assert!(rt; v4_prefix(0xc000_0200, 24).is_prefix());
+    assert!(rt; v4_range(0xc000_0200, 0xc000_02ff).is_prefix());
+    assert!(rt; IpBlock::from(Prefix::new(0, 0)).is_prefix());
+    assert!(rt; IpBlock::from(Prefix::new(1, 128)).is_prefix());
+    assert!(rt; !v4_range(0xc000_0201, 0xc000_0209).is_prefix());
+    assert!(rt; !v4_range(0xc000_0204, 0xc000_020b).is_prefix());
+}
+
+#[test]
 fn sets_of_addresses_print(rt: HostRuntime) {
     let alloc = rt.alloc();
     let none = IpBlocks::empty(alloc);
