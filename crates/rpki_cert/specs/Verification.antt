@@ -19,6 +19,7 @@ use Rattle.rpki_cert.specs.declared.verification_error.VerificationError.{Verifi
 use Rattle.rpki_cert.specs.declared.verification_error.VerificationError.TheVariants.{NotYetValid, Expired, InheritedV4, InheritedV6, InheritedAs}
 use Rattle.rpki_cert.specs.declared.verification_error.VerificationError.TheVariants.{MissingKeyId, WrongKeyId, MissingIssuerUri, BadSignature}
 use Rattle.rpki_cert.specs.declared.verification_error.VerificationError.TheVariants.{OverclaimV4, OverclaimV6, OverclaimAs, Memory}
+pub mod Views
 
 -- sets of numbers: which IPv4 addresses, IPv6 addresses and AS numbers are held
 pub record Held : Type 1 where

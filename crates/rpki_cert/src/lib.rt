@@ -15,6 +15,7 @@ mod order;
 pub mod profile_laws;
 mod rearrange_error;
 mod rearranging;
+mod resolved;
 mod resource_cert;
 mod resources;
 pub mod round_trip;

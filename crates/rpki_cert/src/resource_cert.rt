@@ -1,25 +1,42 @@
 //! Certificates that were verified, and their resources.
 ghost use Rattle.std.specs.Prelude.{◌≡◌, IfOk};
 ghost use Rattle.std.proofs.Common.{rc_value};
+ghost use Rattle.rpki_blocks.specs.Resources.{Resources};
+ghost use Rattle.rpki_cert.specs.Verification.{ListsNumbers};
+ghost use Rattle.rpki_cert.specs.Verification.Views.{set_of, resource_fields};
 
 use crate::cert::Cert;
+use crate::resolved::Resolved;
 use crate::verify_owned::{Kept, joined};
-use rpki_blocks::{AsBlocks, IpBlocks};
+use rpki_blocks::{Addr, AsBlocks, Asn, IpBlocks};
 use rpki_ext::beside;
 use rpki_parts::TalInfo;
 use std::alloc::{AllocError, Global};
 use std::marker::Model;
 use std::rc::Rc;
 
-// The sets of a certificate that was verified.
+// The numbers that a verified certificate has, kind by kind.
 #[derive(Drop)]
 pub(crate) struct Sets {
-    pub(crate) v4: IpBlocks,
-    pub(crate) v6: IpBlocks,
-    pub(crate) as_numbers: AsBlocks,
+    pub(crate) v4: Resolved<Addr>,
+    pub(crate) v6: Resolved<Addr>,
+    pub(crate) as_numbers: Resolved<Asn>,
 }
 
 impl Sets {
+    // The numbers that are listed.
+    pub(crate) fn listed(alloc: Global) -> Sets
+        ensures v4 { (r : Resources) → ListsNumbers r (set_of result.v4 r) }
+        ensures v6 { (r : Resources) → ListsNumbers r (set_of result.v6 r) }
+        ensures as_numbers { (r : Resources) → ListsNumbers r (set_of result.as_numbers r) }
+    {
+        Sets {
+            v4: Resolved::listed(alloc),
+            v6: Resolved::listed(alloc),
+            as_numbers: Resolved::listed(alloc),
+        }
+    }
+
     // Clones the sets.
     fn try_clone(&self, alloc: Global) -> Result<Sets, AllocError>
         ensures { IfOk result (λ s. s ≡ self.now) }
@@ -43,16 +60,11 @@ pub struct ResourceCert {
 impl Model for ResourceCert {
     ghost use Rattle.std.proofs.Common.{rc_value};
     ghost use Rattle.rpki_cert.specs.Verification.{ResourceFields};
+    ghost use Rattle.rpki_cert.specs.Verification.Views.{resource_fields};
 
     ghost Value = { ResourceFields };
 
-    ghost view = { λ r. record {
-      cert = r.cert;
-      v4 = r.sets.v4;
-      v6 = r.sets.v6;
-      as_numbers = r.sets.as_numbers;
-      tal = rc_value r.tal;
-    } };
+    ghost view = { λ r. resource_fields r.cert r.sets (rc_value r.tal) };
 }
 
 impl ResourceCert {
@@ -67,21 +79,21 @@ impl ResourceCert {
     pub fn v4_resources(&self) -> &IpBlocks
         ensures { result.now ≡ self.now.v4 }
     {
-        &self.sets.v4
+        self.sets.v4.set(self.cert.as_tbs().v4_resources())
     }
 
     /// Returns the IPv6 addresses.
     pub fn v6_resources(&self) -> &IpBlocks
         ensures { result.now ≡ self.now.v6 }
     {
-        &self.sets.v6
+        self.sets.v6.set(self.cert.as_tbs().v6_resources())
     }
 
     /// Returns the AS numbers.
     pub fn as_resources(&self) -> &AsBlocks
         ensures { result.now ≡ self.now.as_numbers }
     {
-        &self.sets.as_numbers
+        self.sets.as_numbers.set(self.cert.as_tbs().as_resources())
     }
 
     /// Returns the trust anchor locator by which the path begins.
@@ -103,10 +115,8 @@ impl ResourceCert {
 
     // Clones what is kept with the certificate.
     fn try_clone_kept(&self, alloc: Global) -> Result<Kept, AllocError>
-        ensures v4 { IfOk result (λ k. k.sets.v4 ≡ self.now.v4) }
-        ensures v6 { IfOk result (λ k. k.sets.v6 ≡ self.now.v6) }
-        ensures as_numbers { IfOk result (λ k. k.sets.as_numbers ≡ self.now.as_numbers) }
-        ensures tal { IfOk result (λ k. rc_value k.tal ≡ self.now.tal) }
+        ensures { IfOk result
+            (λ k. resource_fields self.now.cert k.sets (rc_value k.tal) ≡ self.now) }
     {
         let sets = self.sets.try_clone(alloc)?;
         let (sets, tal) = beside(sets, self.tal.clone())?;

@@ -1,22 +1,25 @@
 //! Certificates are verified, at a moment and under an issuer (RFC 6487 7.2; own: revocation and
 //! the chaining of names are the caller's to ask).
-ghost use Rattle.std.specs.Prelude.{◌≡◌, ◌↔◌, ◌⊎◌, IsTrue, IsOk, OnOk, IfOk, IfErr};
+ghost use Rattle.std.specs.Prelude.{◌≡◌, ◌≢◌, ℕ, ◌↔◌, ◌⊎◌, IsTrue, IsOk, OnOk, IfOk, IfErr};
 ghost use Rattle.rpki_blocks.specs.Sets.{Has};
 ghost use Rattle.rpki_parts.specs.Conditions.{Tests};
-ghost use Rattle.rpki_blocks.specs.IssuedSets.{IsIssued};
-ghost use Rattle.rpki_cert.specs.Verification.{IsSignedBy, ListsOnlyHeld, ListsNumbers, held_by, IsVerified, IsFirstFalseOrMemory};
+ghost use Rattle.rpki_blocks.specs.Resources.{inherit};
+ghost use Rattle.rpki_blocks.specs.IssuedSets.{IsIssued, IsListed};
+ghost use Rattle.rpki_cert.specs.Verification.{IsSignedBy, ListsOnlyHeld, held_by, IsVerified, IsFirstFalseOrMemory};
 ghost use Rattle.rpki_cert.specs.Verification.{context, TimeCheck, ClaimCheck, OwnCheck, HeldCheck, CheckUnder, TrustAnchorCheck};
 ghost use Rattle.rpki_cert.specs.Verification.{validity_checks, claim_checks, own_checks, held_checks, basis_checks, trust_anchor_checks, router_checks};
+ghost use Rattle.rpki_cert.specs.Verification.Views.{set_of};
 ghost use Rattle.rpki_cert.specs.declared.verification_error.VerificationError.TheVariants.{Memory};
 
 use crate::cert::Cert;
+use crate::resolved::Resolved;
 use crate::resource_cert::{ResourceCert, Sets};
 use crate::verification_error::VerificationError;
-use rpki_blocks::{AsBlocks, Bound, Chain, IpBlocks, IssueError, Overclaim, Resources};
+use rpki_blocks::{Bound, Chain, IssueError, Overclaim, Resources};
 use rpki_der::Time;
 use rpki_ext::beside;
 use rpki_parts::{SignatureVerificationError, Verifier};
-use std::alloc::{AllocError, Global};
+use std::alloc::Global;
 
 // Whether resources list only what is in the issuer's set, where they must.
 fn lists_only_held<B: Bound>(listed: &Resources<B>, held: &Chain<B>, mode: Overclaim) -> bool
@@ -31,52 +34,42 @@ fn lists_only_held<B: Bound>(listed: &Resources<B>, held: &Chain<B>, mode: Overc
     }
 }
 
+// Whether a set is listed, and each number of it is held.
+fn lists_held_set<B: Bound>(listed: &Resources<B>, held: &Chain<B>) -> bool
+    ensures held { IsTrue result → (n : ℕ) → IsListed n listed.now → Has held.now n }
+    ensures listed { IsTrue result → listed.now ≢ inherit }
+{
+    match listed.as_blocks() {
+        Some(blocks) => blocks.is_encompassed(held),
+        None => false,
+    }
+}
+
 // The numbers that are issued of those that are held; errs with this fault where some are
-// overclaimed.
+// overclaimed. A set that is listed and held isn't copied.
 fn issued<B: Bound>(
     alloc: Global,
     held: &Chain<B>,
     listed: &Resources<B>,
     mode: Overclaim,
     fault: VerificationError,
-) -> Result<Chain<B>, VerificationError>
-    ensures issued { IfOk result (IsIssued held.now listed.now) }
+) -> Result<Resolved<B>, VerificationError>
+    ensures issued { IfOk result (λ r. IsIssued held.now listed.now (set_of r listed.now)) }
     ensures held { OnOk result (ListsOnlyHeld mode B.greatest (Has held.now) listed.now) }
     ensures fault { IfErr result (λ e. (e ≡ Memory)
         ⊎ ((e ≡ fault) × (ListsOnlyHeld mode B.greatest (Has held.now) listed.now → ⊥))) }
 {
+    if lists_held_set(listed, held) {
+        return Ok(Resolved::listed(alloc));
+    }
     match held.verify_issued(alloc, listed, mode) {
-        Ok(set) => Ok(set),
+        Ok(set) => Ok(Resolved::owned(set)),
         Err(IssueError::Overclaimed) => Err(fault),
         Err(IssueError::Memory) => Err(VerificationError::Memory),
     }
 }
 
-// The numbers that are listed.
-fn listed<B: Bound>(alloc: Global, resources: &Resources<B>) -> Result<Chain<B>, AllocError>
-    ensures { IfOk result (ListsNumbers resources.now) }
-{
-    match resources.as_blocks() {
-        Some(blocks) => blocks.try_clone(alloc),
-        None => Ok(Chain::empty(alloc)),
-    }
-}
-
 impl Cert {
-    // What the certificate lists.
-    pub(crate) fn listed_sets(&self, alloc: Global) -> Result<Sets, AllocError>
-        ensures v4 { IfOk result (λ s. ListsNumbers self.now.fields.extensions.v4_resources s.v4) }
-        ensures v6 { IfOk result (λ s. ListsNumbers self.now.fields.extensions.v6_resources s.v6) }
-        ensures as_numbers { IfOk result
-            (λ s. ListsNumbers self.now.fields.extensions.as_resources s.as_numbers) }
-    {
-        let tbs = self.as_tbs();
-        let v4 = listed(alloc, tbs.v4_resources())?;
-        let addresses = beside(v4, listed(alloc, tbs.v6_resources()))?;
-        let ((v4, v6), as_numbers) = beside(addresses, listed(alloc, tbs.as_resources()))?;
-        Ok(Sets { v4, v6, as_numbers })
-    }
-
     // What the certificate gets of the issuer's numbers.
     pub(crate) fn issued_sets(
         &self,
@@ -84,11 +77,14 @@ impl Cert {
         issuer: &ResourceCert,
     ) -> Result<Sets, VerificationError>
         ensures v4 { IfOk result
-            (λ s. IsIssued issuer.now.v4 self.now.fields.extensions.v4_resources s.v4) }
+            (λ s. IsIssued issuer.now.v4 self.now.fields.extensions.v4_resources
+            (set_of s.v4 self.now.fields.extensions.v4_resources)) }
         ensures v6 { IfOk result
-            (λ s. IsIssued issuer.now.v6 self.now.fields.extensions.v6_resources s.v6) }
+            (λ s. IsIssued issuer.now.v6 self.now.fields.extensions.v6_resources
+            (set_of s.v6 self.now.fields.extensions.v6_resources)) }
         ensures as_numbers { IfOk result (λ s. IsIssued
-            issuer.now.as_numbers self.now.fields.extensions.as_resources s.as_numbers) }
+            issuer.now.as_numbers self.now.fields.extensions.as_resources
+            (set_of s.as_numbers self.now.fields.extensions.as_resources)) }
         ensures held { OnOk result
             (IsVerified (HeldCheck (held_by issuer.now) self.now) held_checks) }
         ensures fault { IfErr result

@@ -1,8 +1,8 @@
 //! Certificates that are verified become resource certificates (RFC 6487 7.2).
 ghost use Rattle.std.specs.Prelude.{◌≡◌, IfOk};
 ghost use Rattle.std.proofs.Common.{rc_value};
-ghost use Rattle.rpki_blocks.specs.IssuedSets.{IsIssued};
-ghost use Rattle.rpki_cert.specs.Verification.{context, CheckUnder, TrustAnchorCheck, TestsOrMemory, ListsNumbers, HasListed, HasIssued, issued_checks, trust_anchor_checks};
+ghost use Rattle.rpki_cert.specs.Verification.{context, CheckUnder, TrustAnchorCheck, TestsOrMemory, HasListed, HasIssued, issued_checks, trust_anchor_checks};
+ghost use Rattle.rpki_cert.specs.Verification.Views.{resource_fields};
 
 use crate::cert::Cert;
 use crate::resource_cert::{ResourceCert, Sets};
@@ -22,11 +22,7 @@ pub(crate) struct Kept {
 
 // The two in one.
 pub(crate) fn joined(cert: Cert, kept: Kept) -> ResourceCert
-    ensures cert { result.cert ≡ cert }
-    ensures v4 { result.v4 ≡ kept.sets.v4 }
-    ensures v6 { result.v6 ≡ kept.sets.v6 }
-    ensures as_numbers { result.as_numbers ≡ kept.sets.as_numbers }
-    ensures tal { result.tal ≡ rc_value kept.tal }
+    ensures { result ≡ resource_fields cert kept.sets (rc_value kept.tal) }
 {
     let Kept { sets, tal } = kept;
     ResourceCert { cert, sets, tal }
@@ -44,13 +40,8 @@ impl Cert {
     ) -> Result<Kept, VerificationError>
         ensures checks { let x = context (V.verifies verifier.now) now strict in
             TestsOrMemory (CheckUnder x issuer.now self.now) issued_checks result }
-        ensures v4 { IfOk result
-            (λ k. IsIssued issuer.now.v4 self.now.fields.extensions.v4_resources k.sets.v4) }
-        ensures v6 { IfOk result
-            (λ k. IsIssued issuer.now.v6 self.now.fields.extensions.v6_resources k.sets.v6) }
-        ensures as_numbers { IfOk result (λ k. IsIssued
-            issuer.now.as_numbers self.now.fields.extensions.as_resources k.sets.as_numbers) }
-        ensures tal { IfOk result (λ k. rc_value k.tal ≡ issuer.now.tal) }
+        ensures gives { IfOk result (λ k. HasIssued self.now issuer.now
+            (resource_fields self.now k.sets (rc_value k.tal))) }
     {
         self.verify_basis(issuer, strict, now, verifier)?;
         let sets = self.issued_sets(alloc, issuer)?;
@@ -99,27 +90,6 @@ impl Cert {
         self.verify_ca_at(alloc, issuer, strict, now, verifier)
     }
 
-    // What a trust anchor lists.
-    fn kept_of_anchor<V: Verifier>(
-        &self,
-        alloc: Global,
-        strict: bool,
-        now: Time,
-        verifier: &V,
-    ) -> Result<Sets, VerificationError>
-        ensures checks { let x = context (V.verifies verifier.now) now strict in
-            TestsOrMemory (TrustAnchorCheck x self.now) trust_anchor_checks result }
-        ensures v4 { IfOk result
-            (λ s. ListsNumbers self.now.fields.extensions.v4_resources s.v4) }
-        ensures v6 { IfOk result
-            (λ s. ListsNumbers self.now.fields.extensions.v6_resources s.v6) }
-        ensures as_numbers { IfOk result
-            (λ s. ListsNumbers self.now.fields.extensions.as_resources s.as_numbers) }
-    {
-        self.verify_ta_ref_at(strict, now, verifier)?;
-        Ok(self.listed_sets(alloc)?)
-    }
-
     /// Uses the certificate up, also where it is rejected, and verifies it as one of a trust anchor
     /// that a locator names: it is valid at this moment, inherits nothing, and its own key signed
     /// it (RFC 6487 7.2). The result has what the certificate lists. Errs with the first of these
@@ -137,8 +107,9 @@ impl Cert {
             TestsOrMemory (TrustAnchorCheck x self) trust_anchor_checks result }
         ensures gives { IfOk result (HasListed self (rc_value tal)) }
     {
-        let tested = self.kept_of_anchor(alloc, strict, now, verifier);
-        let (cert, sets) = beside(self, tested)?;
+        let tested = self.verify_ta_ref_at(strict, now, verifier);
+        let (cert, _done) = beside(self, tested)?;
+        let sets = Sets::listed(alloc);
         Ok(joined(cert, Kept { sets, tal }))
     }
 }
