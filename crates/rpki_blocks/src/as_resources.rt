@@ -1,6 +1,6 @@
 //! The AS numbers that a certificate lists (RFC 3779 3.2.3).
-ghost use Rattle.std.specs.Prelude.{◌≡◌, ◌^◌, Some};
-ghost use Rattle.rpki_der.specs.Place.{Place, remaining, Keeps, AnswersOrMemory};
+ghost use Rattle.std.specs.Prelude.{◌^◌, Some};
+ghost use Rattle.rpki_der.specs.Place.{remaining, Keeps, AnswersOrMemory};
 ghost use Rattle.rpki_der.specs.Place.Reading.{Took, TookOrMemory, Returns};
 ghost use Rattle.rpki_der.specs.Tags.{INTEGER, SEQUENCE};
 ghost use Rattle.rpki_der.specs.Values.{AreOctets};

@@ -1,8 +1,8 @@
 //! Lists of blocks in resources of certificates (RFC 3779 2.2.3.4, 3.2.3.2).
-ghost use Rattle.std.specs.Prelude.{◌≡◌, ◌++◌, ℕ, List, [], ◌∷◌, Option, Some, OnOk};
-ghost use Rattle.rpki_der.specs.Place.{Place, remaining, Keeps};
+ghost use Rattle.std.specs.Prelude.{◌++◌, ℕ, List, [], ◌∷◌, Option, Some, OnOk};
+ghost use Rattle.rpki_der.specs.Place.{remaining, Keeps};
 ghost use Rattle.rpki_der.specs.Place.Reading.{Took, TookOrMemory, ReturnsOrMemory, ReturnsOrMemoryBy};
-ghost use Rattle.rpki_der.specs.Sequences.Reading.{sequence_of, Shrinks};
+ghost use Rattle.rpki_der.specs.Sequences.Reading.{Shrinks};
 ghost use Rattle.rpki_blocks.specs.Resources.{listed};
 ghost use Rattle.rpki_blocks.specs.Sets.{Block as Span, HaveSameNumbers};
 ghost use Rattle.rpki_blocks.specs.Unions.Reading.{merged, union_of, choice_at};

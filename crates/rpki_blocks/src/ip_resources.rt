@@ -1,11 +1,11 @@
 //! The addresses that a certificate lists (RFC 3779 2.2.3).
-ghost use Rattle.std.specs.Prelude.{◌≡◌, ◌<◌, ◌≤◌, ◌+◌, ◌-◌, ◌*◌, ◌^◌, ◌%◌, ℕ, List, [], length, Some};
+ghost use Rattle.std.specs.Prelude.{◌≡◌, ◌<◌, ◌≤◌, ◌+◌, ◌-◌, ◌*◌, ◌^◌, ◌%◌, [], length, Some};
 ghost use Rattle.std.specs.Int.Digits.{number_from_digits};
-ghost use Rattle.rpki_der.specs.Place.{Place, remaining, Keeps, AnswersOrMemoryBy};
+ghost use Rattle.rpki_der.specs.Place.{remaining, Keeps, AnswersOrMemoryBy};
 ghost use Rattle.rpki_der.specs.Place.Reading.{Took, TookOrMemory, TookOrMemoryBy, Returns, ReturnsBy, ReturnsOrMemory, ReturnsOrMemoryBy};
 ghost use Rattle.rpki_der.specs.Tags.{BIT_STRING, SEQUENCE};
 ghost use Rattle.rpki_der.specs.Values.{AreOctets};
-ghost use Rattle.rpki_blocks.specs.Addresses.{lower, upper, Families, IsIPAddrBlocks};
+ghost use Rattle.rpki_blocks.specs.Addresses.{lower, upper, IsIPAddrBlocks};
 ghost use Rattle.rpki_blocks.specs.Addresses.Views.{families_of};
 ghost use Rattle.rpki_blocks.specs.Addresses.Reading.{family_bits, prefix_of, address_at, address_range, ip_element_at, family_of, family_in, with_second, families_in, families_at};
 ghost use Rattle.rpki_der.specs.Primitives.Reading.{bits_at};

@@ -1,5 +1,5 @@
 //! Prefixes of addresses.
-ghost use Rattle.std.specs.Prelude.{◌≡◌, ℕ, ◌+◌, ◌-◌, ◌*◌, ◌/◌, ◌^◌, ◌<◌, ◌≤◌, ◌↔◌, IsTrue};
+ghost use Rattle.std.specs.Prelude.{◌≡◌, ◌+◌, ◌-◌, ◌*◌, ◌/◌, ◌^◌, ◌<◌, ◌≤◌};
 ghost use Rattle.std.specs.List.{list_all};
 ghost use Rattle.rpki_blocks.specs.AddressBits.{is_prefix, prefix_bits};
 ghost use Rattle.rpki_blocks.specs.Prefixes.{is_v4_block};

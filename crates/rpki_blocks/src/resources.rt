@@ -1,5 +1,5 @@
 //! What a certificate lists of one kind of numbers, and what it gets.
-ghost use Rattle.std.specs.Prelude.{◌≡◌, ◌≢◌, ℕ, ◌↔◌, IsTrue, IfOk, OnOk, MatchResult, MatchOption, List, []};
+ghost use Rattle.std.specs.Prelude.{◌≡◌, ◌≢◌, ℕ, ◌↔◌, IsTrue, IfOk, OnOk, MatchResult, MatchOption};
 ghost use Rattle.rpki_blocks.specs.Sets.{IsSet, Has};
 
 use crate::addr::Addr;

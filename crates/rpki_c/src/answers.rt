@@ -1,5 +1,5 @@
 //! Signatures that the caller has checked.
-ghost use Rattle.std.specs.Prelude.{◌≡◌, ◌↔◌, IsTrue};
+ghost use Rattle.std.specs.Prelude.{◌↔◌, IsTrue};
 
 use bytes::Bytes;
 use rpki_parts::{PublicKey, RpkiSignatureAlgorithm, Verifier};

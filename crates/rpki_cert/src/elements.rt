@@ -1,7 +1,7 @@
 //! The sequence of extensions that is made of a certificate's, in another order and with others
 //! among them.
-ghost use Rattle.std.specs.Prelude.{◌≡◌, ◌+◌, ◌≤◌, ◌<◌, ◌++◌, ℕ, List, [], ◌∷◌, length, replicate, IfOk, OnOk, IsErrOf};
-ghost use Rattle.std.specs.List.{AllByRecursion, concat};
+ghost use Rattle.std.specs.Prelude.{◌≡◌, ◌+◌, ◌<◌, ◌++◌, ℕ, List, [], ◌∷◌, length, replicate, IfOk, OnOk, IsErrOf};
+ghost use Rattle.std.specs.List.{AllByRecursion};
 ghost use Rattle.rpki_der.specs.Primitives.{IsOid};
 ghost use Rattle.rpki_der.specs.Writers.{SaysLong};
 ghost use Rattle.rpki_der.specs.declared.error.EncodeError.TheVariants.{TooLong};

@@ -1,5 +1,5 @@
 //! Extensions that are added to a certificate's.
-ghost use Rattle.std.specs.Prelude.{◌≡◌, ◌↔◌, ◌≤◌, IsTrue, bytes_eq};
+ghost use Rattle.std.specs.Prelude.{◌≡◌, ◌↔◌, IsTrue, bytes_eq};
 ghost use Rattle.std.specs.List.{list_any};
 ghost use Rattle.rpki_ext.specs.ExtensionKinds.{known};
 ghost use Rattle.rpki_cert.specs.Rearranging.{ArePlaced, AreUnknown};

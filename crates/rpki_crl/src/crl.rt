@@ -1,14 +1,14 @@
 //! Revocation lists, read and asked.
 ghost use Rattle.std.specs.Prelude.{◌≡◌, ◌↔◌, ◌^◌, ◌<◌, ◌≤◌, true, false, length, IsTrue, IfOk, IsOk, OnOk, OnErr, IsErrOf, IfSome};
 ghost use Rattle.std.specs.List.{concat};
-ghost use Rattle.rpki_der.specs.Place.{Place, remaining, Keeps, AnswersOrMemoryBy, AnswersOptionalOrMemoryBy, MeansOrMemoryBy};
+ghost use Rattle.rpki_der.specs.Place.{remaining, Keeps, AnswersOrMemoryBy, AnswersOptionalOrMemoryBy, MeansOrMemoryBy};
 ghost use Rattle.rpki_der.specs.Place.Reading.{TookOrMemoryBy};
 ghost use Rattle.rpki_der.specs.Tags.{SEQUENCE};
 ghost use Rattle.rpki_der.specs.Values.{AreOctets};
 ghost use Rattle.rpki_der.specs.Writers.{value, Writes};
 ghost use Rattle.rpki_parts.specs.SignedDatas.{signed_data, signed_pieces};
 ghost use Rattle.rpki_ext.specs.Kinds.{Means};
-ghost use Rattle.rpki_crl.specs.Lists.{CrlFields, IsCertificateListContent, IsCertificateList};
+ghost use Rattle.rpki_crl.specs.Lists.{IsCertificateListContent, IsCertificateList};
 ghost use Rattle.rpki_crl.specs.Lists.Reading.{crl_content_at, crl_at};
 ghost use Rattle.rpki_crl.specs.RevokedEntries.{IsRevoked};
 ghost use Rattle.rpki_crl.specs.SerialTables.{digits, looks};

@@ -1,6 +1,6 @@
 //! An entry of a certificate revocation list.
-ghost use Rattle.std.specs.Prelude.{◌≡◌, ◌<◌, ◌^◌, ◌++◌, ℕ, OnOk, OnErr, IfErr, option_map};
-ghost use Rattle.rpki_der.specs.Place.{Place, remaining, Keeps, AnswersBy, AnswersOptionalBy};
+ghost use Rattle.std.specs.Prelude.{◌≡◌, ◌<◌, ◌++◌, OnOk, OnErr, IfErr};
+ghost use Rattle.rpki_der.specs.Place.{remaining, Keeps, AnswersBy, AnswersOptionalBy};
 ghost use Rattle.rpki_der.specs.Place.Reading.{TookBy};
 ghost use Rattle.rpki_der.specs.Values.{AreOctets};
 ghost use Rattle.rpki_der.specs.Tags.{SEQUENCE};

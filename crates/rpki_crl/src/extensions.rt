@@ -1,8 +1,8 @@
 //! The extensions of a revocation list, in one pass, whatever order they stand in.
-ghost use Rattle.std.specs.Prelude.{◌≡◌, ◌⊎◌, codes, string_bytes, IfOk, IfErr};
+ghost use Rattle.std.specs.Prelude.{◌≡◌, ◌⊎◌};
 ghost use Rattle.rpki_der.specs.Primitives.{IsOid};
-ghost use Rattle.rpki_der.specs.Place.{Place, remaining, Rejects};
-ghost use Rattle.rpki_der.specs.Place.Reading.{Returns, ReturnsBy, ReturnsOrMemoryBy};
+ghost use Rattle.rpki_der.specs.Place.{remaining};
+ghost use Rattle.rpki_der.specs.Place.Reading.{ReturnsBy, ReturnsOrMemoryBy};
 ghost use Rattle.rpki_der.specs.Extensions.Reading.{extension_at};
 ghost use Rattle.rpki_der.specs.Folding.{over};
 ghost use Rattle.rpki_crl.specs.ListExtensions.Reading.{list_fold, both_seen, list_extensions_of};

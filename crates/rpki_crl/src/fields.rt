@@ -1,7 +1,6 @@
 //! The fields of a revocation list that is being made: setters, and a small question.
 ghost use Rattle.std.specs.Prelude.{◌≡◌, ◌↔◌, ◌<◌, IsTrue};
 ghost use Rattle.rpki_der.specs.Times.{second_number};
-ghost use Rattle.rpki_crl.specs.ListExtensions.{ListExtensions};
 
 use crate::tbs::TbsCertList;
 use rpki_der::{Serial, Time};

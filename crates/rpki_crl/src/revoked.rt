@@ -1,7 +1,7 @@
 //! The list of entries of a certificate revocation list.
 ghost use Rattle.std.specs.Prelude.{◌≡◌, ◌↔◌, IsTrue, IfOk, IfErr, map};
 ghost use Rattle.rpki_der.specs.declared.error.EncodeError.TheVariants.{Memory};
-ghost use Rattle.rpki_der.specs.Place.{Place, remaining, Keeps, AnswersOrAbsentOrMemory};
+ghost use Rattle.rpki_der.specs.Place.{remaining, Keeps, AnswersOrAbsentOrMemory};
 ghost use Rattle.rpki_der.specs.Place.Reading.{Returns, ReturnsOrMemory, TookOrMemory};
 ghost use Rattle.rpki_der.specs.Tags.{SEQUENCE};
 ghost use Rattle.rpki_der.specs.Values.{AreOctets};

@@ -1,7 +1,7 @@
 //! The data of a revocation list: its fields, and how it is read.
 ghost use Rattle.std.specs.Prelude.{◌≡◌, IfOk};
 ghost use Rattle.std.specs.Borrow.{sem};
-ghost use Rattle.rpki_der.specs.Place.{Place, remaining, Keeps, AnswersOrMemory};
+ghost use Rattle.rpki_der.specs.Place.{remaining, Keeps, AnswersOrMemory};
 ghost use Rattle.rpki_der.specs.Place.Reading.{Took, TookBy, TookOrMemory, TookOrMemoryBy};
 ghost use Rattle.rpki_der.specs.Reading.{inside, both};
 ghost use Rattle.rpki_der.specs.Values.Reading.{value_at};

@@ -1,6 +1,6 @@
 //! BIT STRING.
 ghost use Rattle.std.specs.Prelude.{◌≡◌, IfOk};
-ghost use Rattle.rpki_der.specs.Place.{Place, remaining, IsWithin, EndsAt, Keeps, AnswersBy};
+ghost use Rattle.rpki_der.specs.Place.{remaining, IsWithin, EndsAt, Keeps, AnswersBy};
 ghost use Rattle.rpki_der.specs.Place.Reading.{TookBy};
 ghost use Rattle.rpki_der.specs.Primitives.{IsBits};
 ghost use Rattle.rpki_der.specs.Primitives.Reading.{has_zero_bits, bits_at};

@@ -1,8 +1,7 @@
 //! BOOLEAN.
-ghost use Rattle.std.specs.Prelude.{◌≡◌, Ok, option_map};
-ghost use Rattle.rpki_der.specs.Place.{Place, remaining, Keeps, AnswersOrAbsent};
+ghost use Rattle.std.specs.Prelude.{Ok};
+ghost use Rattle.rpki_der.specs.Place.{remaining, Keeps, AnswersOrAbsent};
 ghost use Rattle.rpki_der.specs.Place.Reading.{Took, Returns};
-ghost use Rattle.rpki_der.specs.Reading.{optional};
 ghost use Rattle.rpki_der.specs.Primitives.{IsBoolOrFalse};
 ghost use Rattle.rpki_der.specs.Primitives.Reading.{bool_or_false_at, bool_of, bool_at};
 ghost use Rattle.rpki_der.specs.Tags.{BOOLEAN};

@@ -1,5 +1,5 @@
 //! A cursor over shared octets.
-ghost use Rattle.std.specs.Prelude.{◌≡◌, ℕ, ◌≤◌, ◌-◌, List, [], length, take, drop, slice_range, IfOk, IfSome, IfErr, IsOk, OnOk, IsTrue, ◌↔◌, option_map};
+ghost use Rattle.std.specs.Prelude.{◌≡◌, ◌≤◌, ◌-◌, [], length, take, drop, IfOk, IfSome, IfErr, IsOk, OnOk, IsTrue, ◌↔◌, option_map};
 ghost use Rattle.rpki_der.specs.Place.{Place, remaining, IsWithin, EndsAt, MovesOn, Keeps, AnswersBy, AnswersOptionalBy};
 ghost use Rattle.rpki_der.specs.Place.Reading.{TookBy};
 ghost use Rattle.rpki_der.specs.Reading.{optional};

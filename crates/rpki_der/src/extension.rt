@@ -4,7 +4,7 @@ ghost use Rattle.std.specs.List.{concat};
 ghost use Rattle.rpki_der.specs.Primitives.{IsOid, bool_or_false};
 ghost use Rattle.rpki_der.specs.Extensions.Reading.{extension_at};
 ghost use Rattle.rpki_der.specs.Extensions.Views.{extension_view};
-ghost use Rattle.rpki_der.specs.Place.{Place, remaining, IsWithin, EndsAt, Keeps, AnswersBy};
+ghost use Rattle.rpki_der.specs.Place.{remaining, IsWithin, EndsAt, Keeps, AnswersBy};
 ghost use Rattle.rpki_der.specs.Place.Reading.{TookBy};
 ghost use Rattle.rpki_der.specs.Values.{AreOctets, length_octets, sequence};
 ghost use Rattle.rpki_der.specs.Extensions.{IsExtension, extension_part, pieces_with};

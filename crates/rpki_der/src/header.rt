@@ -1,5 +1,5 @@
 //! Identifier and length octets.
-ghost use Rattle.std.specs.Prelude.{◌≡◌, ◌+◌, ◌<◌, List, length, Ok, IfOk};
+ghost use Rattle.std.specs.Prelude.{◌+◌, ◌<◌, length, Ok, IfOk};
 ghost use Rattle.rpki_der.specs.Place.Reading.{ReturnsBy};
 ghost use Rattle.rpki_der.specs.Values.Reading.{length_at, value_at};
 

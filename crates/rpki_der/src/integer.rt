@@ -1,7 +1,7 @@
 //! INTEGER of a number that is not negative.
 ghost use Rattle.std.specs.Prelude.{◌≡◌, ◌^◌, ◌≤◌, ◌++◌, length};
 ghost use Rattle.std.specs.Int.Digits.{digits_of, number_from_digits};
-ghost use Rattle.rpki_der.specs.Place.{Place, remaining, Keeps, Answers};
+ghost use Rattle.rpki_der.specs.Place.{remaining, Keeps, Answers};
 ghost use Rattle.rpki_der.specs.Place.Reading.{Took, Returns};
 ghost use Rattle.rpki_der.specs.Primitives.{IsU32, unsigned};
 ghost use Rattle.rpki_der.specs.Primitives.Reading.{is_unsigned, number_below, u32_at};

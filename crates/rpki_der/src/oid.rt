@@ -4,7 +4,7 @@ ghost use Rattle.std.proofs.Common.{rules};
 ghost use Rattle.std.specs.Cmp.Rules.{comparing};
 ghost use Rattle.rpki_der.specs.Identifiers.{id_ce, pkix};
 ghost use Rattle.rpki_der.specs.Primitives.{IsOid, IsObjectIdentifier};
-ghost use Rattle.rpki_der.specs.Place.{Place, remaining, Keeps, AnswersBy};
+ghost use Rattle.rpki_der.specs.Place.{remaining, Keeps, AnswersBy};
 ghost use Rattle.rpki_der.specs.Place.Reading.{TookBy};
 ghost use Rattle.rpki_der.specs.Primitives.Reading.{is_oid, oid_at};
 ghost use Rattle.rpki_der.specs.Values.{AreOctets};

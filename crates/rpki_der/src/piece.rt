@@ -2,7 +2,7 @@
 ghost use Rattle.std.specs.Prelude.{◌≡◌, ◌≤◌, List, ℕ, length, slice_range, IfOk, bytes_eq};
 ghost use Rattle.std.proofs.Common.{rules};
 ghost use Rattle.std.specs.Cmp.Rules.{comparing};
-ghost use Rattle.rpki_der.specs.Place.{Place, remaining};
+ghost use Rattle.rpki_der.specs.Place.{remaining};
 ghost use Rattle.rpki_der.specs.Values.{AreOctets};
 
 use crate::cursor::Cursor;

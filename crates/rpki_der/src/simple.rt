@@ -1,6 +1,6 @@
 //! OCTET STRING and NULL.
-ghost use Rattle.std.specs.Prelude.{◌≡◌, IfOk};
-ghost use Rattle.rpki_der.specs.Place.{Place, remaining, IsWithin, EndsAt, Keeps, Answers, AnswersBy};
+ghost use Rattle.std.specs.Prelude.{IfOk};
+ghost use Rattle.rpki_der.specs.Place.{remaining, IsWithin, EndsAt, Keeps, Answers, AnswersBy};
 ghost use Rattle.rpki_der.specs.Place.Reading.{Took, TookBy};
 ghost use Rattle.rpki_der.specs.Primitives.{IsNull};
 ghost use Rattle.rpki_der.specs.Primitives.Reading.{octets_at, null_at};

@@ -1,6 +1,6 @@
 //! Values of any kind: passed over, or kept whole.
-ghost use Rattle.std.specs.Prelude.{◌≡◌, ◌↔◌, [], IsOk, IsSome, OnOk};
-ghost use Rattle.rpki_der.specs.Place.{Place, remaining, Keeps, Answers, AnswersOrMemory};
+ghost use Rattle.std.specs.Prelude.{◌≡◌, ◌↔◌, [], IsOk, OnOk};
+ghost use Rattle.rpki_der.specs.Place.{remaining, Keeps, Answers, AnswersOrMemory};
 ghost use Rattle.rpki_der.specs.Place.Reading.{Took, TookBy, TookOrMemory, Returns};
 ghost use Rattle.rpki_der.specs.Skipping.{IsSkipped, IsSkippableSequence, IsCaptured};
 ghost use Rattle.rpki_der.specs.Skipping.Reading.{any_at, captured_at, skip_within, skip_sequence_within, skip_at, skip_all_of};

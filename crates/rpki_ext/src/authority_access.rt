@@ -1,6 +1,6 @@
 //! Authority Information Access (RFC 6487 4.8.7).
 ghost use Rattle.std.specs.Prelude.{Some, option_map};
-ghost use Rattle.rpki_der.specs.Place.{Place, remaining, Keeps, AnswersOrMemory};
+ghost use Rattle.rpki_der.specs.Place.{remaining, Keeps, AnswersOrMemory};
 ghost use Rattle.rpki_der.specs.Place.Reading.{TookBy, ReturnsOrMemory, TookOrMemory};
 ghost use Rattle.rpki_der.specs.Values.{AreOctets};
 ghost use Rattle.rpki_der.specs.Writers.{Writes};

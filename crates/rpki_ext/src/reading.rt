@@ -1,6 +1,6 @@
 //! The extensions of a certificate, in one pass, whatever order they stand in.
 ghost use Rattle.std.specs.Prelude.{◌≡◌, ◌⊎◌, true, false, OnOk, OnErr, IfOk, IfErr, Some, None, unwrap_or};
-ghost use Rattle.rpki_der.specs.Place.{Place, remaining, MeansOrMemory, Rejects};
+ghost use Rattle.rpki_der.specs.Place.{remaining, MeansOrMemory, Rejects};
 ghost use Rattle.rpki_der.specs.Place.Reading.{Returns, ReturnsOrMemory, ReturnsOrMemoryBy};
 ghost use Rattle.rpki_der.specs.Extensions.{Extension};
 ghost use Rattle.rpki_der.specs.Extensions.Reading.{extension_at};

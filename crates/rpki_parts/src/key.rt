@@ -1,9 +1,9 @@
 //! Public keys and their identifiers.
-ghost use Rattle.std.specs.Prelude.{◌≡◌, ◌↔◌, ◌%◌, ◌^◌, ◌<◌, ◌≤◌, length, IfOk, IfErr, IfSome, IsSome, IsTrue, Some};
+ghost use Rattle.std.specs.Prelude.{◌≡◌, ◌↔◌, ◌%◌, ◌^◌, ◌<◌, length, IfOk, IfErr, IfSome, IsSome, IsTrue, Some};
 ghost use Rattle.rpki_der.specs.Values.{AreOctets};
 ghost use Rattle.rpki_der.specs.Tags.{OCTET_STRING};
 ghost use Rattle.rpki_der.specs.Writers.{Writes, value};
-ghost use Rattle.rpki_der.specs.Place.{Place, remaining, IsWithin, Keeps, Answers, AnswersOrMemory, MeansOrMemory};
+ghost use Rattle.rpki_der.specs.Place.{remaining, IsWithin, Keeps, Answers, AnswersOrMemory, MeansOrMemory};
 ghost use Rattle.rpki_der.specs.Place.Reading.{Took, TookBy, TookOrMemory};
 ghost use Rattle.rpki_parts.specs.Keys.{KeyFields, IsPublicKey, key_identifier, IsKeyIdentifier, key_algorithm, key_part};
 ghost use Rattle.rpki_parts.specs.Keys.Reading.{key_identifier_at, format_at, whole_bits_at, public_key_at};

@@ -1,7 +1,7 @@
 //! Names, kept as they stand.
 ghost use Rattle.rpki_parts.specs.KeyNames.{digit, hexadecimal, name_of_digits};
 ghost use Rattle.std.specs.Prelude.{◌≡◌, ◌≢◌, ◌<◌, ◌++◌, IfOk, IfErr, OnOk, is_ok, is_some};
-ghost use Rattle.rpki_der.specs.Place.{Place, remaining, Keeps, AnswersOrMemory, MeansOrMemory};
+ghost use Rattle.rpki_der.specs.Place.{remaining, Keeps, AnswersOrMemory, MeansOrMemory};
 ghost use Rattle.rpki_der.specs.Place.Reading.{Took, TookBy, TookOrMemory};
 ghost use Rattle.rpki_der.specs.Reading.{map_value};
 ghost use Rattle.rpki_der.specs.Sequences.Reading.{sequence_of};
@@ -9,7 +9,7 @@ ghost use Rattle.rpki_der.specs.Values.{AreOctets};
 ghost use Rattle.rpki_der.specs.Writers.{Writes};
 ghost use Rattle.rpki_der.specs.declared.error.DecodeError.TheVariants as decoding;
 ghost use Rattle.rpki_der.specs.declared.error.EncodeError.TheVariants.{Memory};
-ghost use Rattle.rpki_parts.specs.Names.{Attribute, IsName, name_part};
+ghost use Rattle.rpki_parts.specs.Names.{IsName, name_part};
 ghost use Rattle.rpki_parts.specs.Names.Reading.{is_name, tagged_at, attribute_at, part_at, name_at};
 
 use crate::key::KeyIdentifier;

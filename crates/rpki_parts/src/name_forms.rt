@@ -1,9 +1,8 @@
 //! Names of certificates are inspected.
-ghost use Rattle.std.specs.Prelude.{◌≡◌, ◌↔◌, false, IsOk, IsTrue};
+ghost use Rattle.std.specs.Prelude.{◌≡◌, ◌↔◌, false, IsOk};
 ghost use Rattle.rpki_der.specs.Folding.{over};
-ghost use Rattle.rpki_der.specs.Place.{Place, remaining};
+ghost use Rattle.rpki_der.specs.Place.{remaining};
 ghost use Rattle.rpki_der.specs.Values.Reading.{value_at};
-ghost use Rattle.rpki_parts.specs.Names.Reading.{attribute_at};
 ghost use Rattle.rpki_parts.specs.NameForms.{IsRpkiName, IsRouterName};
 ghost use Rattle.rpki_parts.specs.NameForms.Reading.{is_text_tag, seen_with, seen_in};
 

@@ -1,11 +1,11 @@
 //! Names print themselves.
 ghost use Rattle.std.specs.Prelude.{◌≡◌, ◌<◌, ◌^◌, ◌||◌, ◌&&◌, not, nat_lt, true, option_map, Some};
 ghost use Rattle.std.specs.Fmt.{WritesOnOk};
-ghost use Rattle.rpki_der.specs.Place.{Place, remaining, Keeps};
+ghost use Rattle.rpki_der.specs.Place.{remaining, Keeps};
 ghost use Rattle.rpki_der.specs.Place.Reading.{TookBy};
 ghost use Rattle.rpki_der.specs.Tags.{SET};
 ghost use Rattle.rpki_der.specs.Values.Reading.{value_at};
-ghost use Rattle.rpki_parts.specs.NameTexts.{with_octet, number_after, are_small, number_text, numbers_text, ended_with, dotted_text, type_text, attribute_value_at, is_special, is_visible, is_at_edge, octet_text, octets_text, string_text, short_name, string_of, value_text, octets_of_value, attribute_text, name_text};
+ghost use Rattle.rpki_parts.specs.NameTexts.{with_octet, number_after, are_small, number_text, numbers_text, ended_with, dotted_text, type_text, attribute_value_at, is_special, is_visible, is_at_edge, octet_text, string_text, short_name, string_of, value_text, octets_of_value, attribute_text, name_text};
 ghost use Rattle.rpki_parts.specs.NameTexts.Reading.{written_part, written_parts, written_name};
 
 use crate::name::Name;

@@ -1,7 +1,7 @@
 //! Periods of validity.
 ghost use Rattle.std.specs.Prelude.{◌≡◌, IfErr};
 ghost use Rattle.rpki_der.specs.Values.{AreOctets};
-ghost use Rattle.rpki_der.specs.Place.{Place, remaining, Keeps, Answers};
+ghost use Rattle.rpki_der.specs.Place.{remaining, Keeps, Answers};
 ghost use Rattle.rpki_der.specs.Place.Reading.{Took};
 ghost use Rattle.rpki_der.specs.declared.error.EncodeError.TheVariants.{Memory};
 ghost use Rattle.rpki_parts.specs.Validities.{IsValidity, validity_part};

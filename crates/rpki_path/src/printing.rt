@@ -1,5 +1,5 @@
 //! How sets of numbers are printed.
-ghost use Rattle.std.specs.Prelude.{◌≡◌, ℕ, List, [], ◌∷◌, ◌++◌, OnOk, IfOk, map, codes, decimal, string_bytes};
+ghost use Rattle.std.specs.Prelude.{◌≡◌, ℕ, List, [], ◌∷◌, ◌++◌, OnOk, IfOk, map, decimal, string_bytes};
 ghost use Rattle.std.specs.List.{concat};
 ghost use Rattle.rpki_path.specs.TextLines.{space};
 ghost use Rattle.rpki_path.specs.PrintedSets.{v4_end, v6_end, range, ranges, name_and_words};

@@ -1,5 +1,5 @@
 //! From the octets of a reader to those of a writer.
-ghost use Rattle.std.specs.Prelude.{◌≡◌, ◌≢◌, ◌↔◌, ◌⊎◌, ◌+◌, ◌^◌, ◌≤◌, ℕ, List, length, IfOk, OnOk, IsErr, IfErr, IsErrOf};
+ghost use Rattle.std.specs.Prelude.{◌≡◌, ◌≢◌, ◌↔◌, ◌⊎◌, ◌+◌, ◌^◌, ◌≤◌, length, IfOk, OnOk, IsErr, IfErr, IsErrOf};
 ghost use Rattle.std.specs.Io.KnownBytes.{Appends, Consumes, IsAtEnd};
 ghost use Rattle.rpki_path.specs.Watching.{device, HasFailed, Takes, TakesAtMost};
 ghost use Rattle.rpki_path.specs.Program.{HasAnswered};

@@ -1,5 +1,4 @@
 //! The verifier of the RPKI's signatures.
-ghost use Rattle.std.specs.Prelude.{◌≡◌};
 
 use crate::verifying::verify;
 use rpki_parts::{PublicKey, PublicKeyFormat, RpkiSignatureAlgorithm, Verifier};
