@@ -49,7 +49,8 @@ fn length_of(bytes: &[u8]) -> Result<(usize, &[u8]), DecodeError>
     }
 }
 
-/// Reads the value at the front, if it has this tag. Returns its content and what follows it.
+/// Reads the value at the front, if it has this tag. Returns its content and what follows it. Most
+/// lengths take one octet, so that form comes first, and behind it the compiler knows the form.
 #[tactic(auto, unfolding(crate::specs::Values::Reading::value_at))]
 #[inline(always)]
 pub fn value_of(tag: u8, bytes: &[u8]) -> Result<(&[u8], &[u8]), DecodeError>
@@ -61,6 +62,13 @@ pub fn value_of(tag: u8, bytes: &[u8]) -> Result<(&[u8], &[u8]), DecodeError>
     };
     if *found != tag || tag % 32 == 31 {
         return Err(DecodeError::BadTag);
+    }
+    if let [short @ 0..=0x7F, rest @ ..] = rest {
+        let len = *short as usize;
+        if rest.len() < len {
+            return Err(DecodeError::Truncated);
+        }
+        return Ok(rest.split_at(len));
     }
     let (len, rest) = length_of(rest)?;
     if rest.len() < len {
