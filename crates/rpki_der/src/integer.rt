@@ -22,9 +22,8 @@ pub(crate) fn is_unsigned(content: &[u8]) -> bool
     }
 }
 
-// The number of a whole content.
-#[inline(always)]
-fn u32_in(content: &[u8]) -> Result<u32, DecodeError>
+// The number of a whole content, of whatever length.
+fn long_u32_in(content: &[u8]) -> Result<u32, DecodeError>
     ensures { Returns result (number_below (2 ^ 32) content.now) }
 {
     if !is_unsigned(content) {
@@ -38,6 +37,26 @@ fn u32_in(content: &[u8]) -> Result<u32, DecodeError>
         number = number * 0x100 + *octet as u32;
     }
     Ok(number)
+}
+
+// The number of a whole content. The usual lengths are told apart before any loop.
+#[inline(always)]
+fn u32_in(content: &[u8]) -> Result<u32, DecodeError>
+    ensures { Returns result (number_below (2 ^ 32) content.now) }
+{
+    if !is_unsigned(content) {
+        return Err(DecodeError::BadValue);
+    }
+    match content {
+        [a] => Ok(*a as u32),
+        [a, b] => Ok(*a as u32 * 0x100 + *b as u32),
+        [a, b, c] => Ok(*a as u32 * 0x1_0000 + *b as u32 * 0x100 + *c as u32),
+        [a, b, c, d] => {
+            let high = *a as u32 * 0x100_0000 + *b as u32 * 0x1_0000;
+            Ok(high + *c as u32 * 0x100 + *d as u32)
+        }
+        _ => long_u32_in(content),
+    }
 }
 
 // The octets without the zeros at their front.

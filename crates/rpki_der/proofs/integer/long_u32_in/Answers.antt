@@ -2,7 +2,7 @@ use Rattle.std.proofs.Common.{◌≡◌, ◌^◌, take, arith}
 use Rattle.std.specs.Int.Digits.{number_from_digits}
 use Rattle.std.proofs.lemmas.Int.Digits.{number_more}
 use Rattle.rpki_der.proofs.PrimitiveReads.{number_grows, too_large}
-use Rattle.rpki_der.proofs.integer.u32_in.Goals as goal
+use Rattle.rpki_der.proofs.integer.long_u32_in.Goals as goal
 
 pub returns-then-number-ge16777216 : goal.returns-then-number-ge16777216
 returns-then-number-ge16777216 c =
