@@ -1,12 +1,12 @@
 //! Object identifiers, and the constants that resource certificates have.
-ghost use Rattle.std.specs.Prelude.{◌≡◌, List, ℕ, IfOk, IfErr, IsOk, ◌↔◌, bytes_eq};
+ghost use Rattle.std.specs.Prelude.{◌≡◌, List, ℕ, IfOk, IfErr, IsOk, ◌↔◌, true, bytes_eq};
 ghost use Rattle.std.proofs.Common.{rules};
 ghost use Rattle.std.specs.Cmp.Rules.{comparing};
 ghost use Rattle.rpki_der.specs.Identifiers.{id_ce, pkix};
 ghost use Rattle.rpki_der.specs.Primitives.{IsOid, IsObjectIdentifier};
 ghost use Rattle.rpki_der.specs.Place.{remaining, Keeps, AnswersBy};
 ghost use Rattle.rpki_der.specs.Place.Reading.{TookBy};
-ghost use Rattle.rpki_der.specs.Primitives.Reading.{is_oid, oid_at};
+ghost use Rattle.rpki_der.specs.Primitives.Reading.{is_oid, ends_oid, oid_at};
 ghost use Rattle.rpki_der.specs.Values.{AreOctets};
 ghost use Rattle.rpki_der.specs.declared.error.DecodeError.TheVariants.{BadValue};
 
@@ -123,10 +123,9 @@ impl Model for Oid {
     ghost inverse = { λ b. record { content = b } };
 }
 
-/// Returns whether these are whole subidentifiers, each without a leading `80`.
-#[inline(always)]
-pub(crate) fn is_oid(content: &[u8]) -> bool
-    ensures { result ≡ is_oid content.now }
+// Whether these are whole subidentifiers, or nothing.
+fn has_ended(content: &[u8]) -> bool
+    ensures { result ≡ ends_oid true content.now }
 {
     let mut ended = true;
     for octet in content {
@@ -135,7 +134,32 @@ pub(crate) fn is_oid(content: &[u8]) -> bool
         }
         ended = *octet < 0x80;
     }
-    ended && !content.is_empty()
+    ended
+}
+
+// Tests as `has_ended` does, four octets at once where these are all.
+#[inline(always)]
+fn has_four_or_ended(content: &[u8]) -> bool
+    ensures { result ≡ ends_oid true content.now }
+{
+    match content {
+        [0..=0x7F, 0..=0x7F, 0..=0x7F, 0..=0x7F] => true,
+        _ => has_ended(content),
+    }
+}
+
+/// Returns whether these are whole subidentifiers, each without a leading `80`. Identifiers of three
+/// and of eight octets, as extensions have them, are tested without a loop.
+#[inline(always)]
+pub(crate) fn is_oid(content: &[u8]) -> bool
+    ensures { result ≡ is_oid content.now }
+{
+    match content {
+        [] => false,
+        [0..=0x7F, 0..=0x7F, 0..=0x7F] => true,
+        [0..=0x7F, 0..=0x7F, 0..=0x7F, 0..=0x7F, rest @ ..] => has_four_or_ended(rest),
+        _ => has_ended(content),
+    }
 }
 
 impl Oid {
