@@ -1,12 +1,12 @@
 //! The extensions of a certificate, in one pass, whatever order they stand in.
-ghost use Rattle.std.specs.Prelude.{◌≡◌, ◌⊎◌, true, false, OnOk, OnErr, IfOk, IfErr, Some, None, unwrap_or};
+ghost use Rattle.std.specs.Prelude.{◌≡◌, ◌≢◌, ◌⊎◌, true, false, OnOk, OnErr, IfOk, IfErr, Some, None, unwrap_or};
 ghost use Rattle.rpki_der.specs.Place.{remaining, MeansOrMemory, Rejects};
 ghost use Rattle.rpki_der.specs.Place.Reading.{Returns, ReturnsOrMemory, ReturnsOrMemoryBy};
 ghost use Rattle.rpki_der.specs.Extensions.{Extension};
 ghost use Rattle.rpki_der.specs.Extensions.Reading.{extension_at};
 ghost use Rattle.rpki_der.specs.Extensions.Views.{extension_view};
 ghost use Rattle.rpki_der.specs.Folding.{over};
-ghost use Rattle.rpki_der.specs.declared.error.DecodeError.TheVariants.{Missing};
+ghost use Rattle.rpki_der.specs.declared.error.DecodeError.TheVariants.{Memory};
 ghost use Rattle.rpki_ext.specs.CertificateExtensions.{AreExtensions, no_access};
 ghost use Rattle.rpki_ext.specs.CertificateExtensions.Reading.{Names, wanted, HasFlag, field_of, all_kinds, state_of, is_seen, completed, extensions_of};
 ghost use Rattle.rpki_ext.specs.CertificateExtensions.Views.{access_with};
@@ -14,7 +14,6 @@ ghost use Rattle.rpki_ext.specs.CertificateExtensions.Views.{access_with};
 use crate::authority_access::take_authority_information_access;
 use crate::basic_constraints::take_basic_constraints;
 use crate::distribution_points::take_crl_distribution_points;
-use crate::early_exits::beside;
 use crate::extended_key_usage::{ExtendedKeyUsage, take_extended_key_usage};
 use crate::extensions::Extensions;
 use crate::key_identifiers::{take_authority_key_identifier, take_subject_key_identifier};
@@ -311,14 +310,28 @@ fn uris(access: Option<Sia>) -> (Option<Rsync>, Option<Rsync>, Option<Rsync>, Op
     }
 }
 
-// The value that must be there.
-fn required<T: Drop>(value: Option<T>, field: Field) -> Result<T, DecodeError>
-    ensures ok { IfOk result (λ v. value ≡ Some v) }
-    ensures missing { IfErr result (λ e. (value ≡ None) × (e ≡ Missing field)) }
+// What is wrong where a field of every certificate wasn't seen: its resources, if they are, else the
+// field that is missing.
+fn fault_without(seen: ReadExtensions, field: Field) -> DecodeError
+    ensures { result ≢ Memory }
 {
-    match value {
-        Some(value) => Ok(value),
-        None => Err(DecodeError::Missing(field)),
+    let ReadExtensions {
+        extended_key_usage,
+        crl_uri,
+        ca_issuer,
+        access,
+        overclaim,
+        ip_resources,
+        as_resources,
+        ..
+    } = seen;
+    drop((extended_key_usage, crl_uri, ca_issuer, access));
+    match agreed(overclaim, ip_resources, as_resources) {
+        Ok(resources) => {
+            drop(resources);
+            DecodeError::Missing(field)
+        }
+        Err(error) => error,
     }
 }
 
@@ -328,11 +341,15 @@ impl Extensions {
     fn complete(seen: ReadExtensions) -> Result<Extensions, DecodeError>
         ensures { Returns result (completed (state_of seen)) }
     {
+        let Some(subject_key_identifier) = seen.subject_key_identifier else {
+            return Err(fault_without(seen, Field::SubjectKeyIdentifier));
+        };
+        let Some(key_usage) = seen.key_usage else {
+            return Err(fault_without(seen, Field::KeyUsage));
+        };
         let ReadExtensions {
             basic_ca,
-            subject_key_identifier,
             authority_key_identifier,
-            key_usage,
             extended_key_usage,
             crl_uri,
             ca_issuer,
@@ -340,13 +357,15 @@ impl Extensions {
             overclaim,
             ip_resources,
             as_resources,
+            ..
         } = seen;
-        let kept = (extended_key_usage, crl_uri, ca_issuer, access);
-        let kept = beside(kept, agreed(overclaim, ip_resources, as_resources))?;
-        let identifier = required(subject_key_identifier, Field::SubjectKeyIdentifier);
-        let (kept, subject_key_identifier) = beside(kept, identifier)?;
-        let (kept, key_usage) = beside(kept, required(key_usage, Field::KeyUsage))?;
-        let ((extended_key_usage, crl_uri, ca_issuer, access), resources) = kept;
+        let resources = match agreed(overclaim, ip_resources, as_resources) {
+            Ok(resources) => resources,
+            Err(error) => {
+                drop((extended_key_usage, crl_uri, ca_issuer, access));
+                return Err(error);
+            }
+        };
         let (ca_repository, rpki_manifest, signed_object, rpki_notify) = uris(access);
         Ok(Extensions {
             basic_ca,
@@ -372,7 +391,10 @@ impl Extensions {
     fn read(alloc: Global, elements: &Cursor<'_>) -> Result<Extensions, DecodeError>
         ensures { ReturnsOrMemory result (extensions_of (remaining elements.now)) }
     {
-        Extensions::complete(ReadExtensions::from_row(alloc, elements)?)
+        match ReadExtensions::from_row(alloc, elements) {
+            Ok(seen) => Extensions::complete(seen),
+            Err(error) => Err(error),
+        }
     }
 
     /// Reads all extensions of a certificate, and returns what they give (RFC 6487 4.8). Errs with
