@@ -62,9 +62,17 @@ impl Cert {
         ensures octets { AreOctets (remaining content.old) }
     {
         let mut ahead = content.fork();
-        let signed_data = SignedData::from_constructed(alloc, &mut ahead)?;
-        let tbs = TbsCert::read(alloc, &mut content.fork());
-        let (signed_data, tbs) = beside(signed_data, tbs)?;
+        let signed_data = match SignedData::from_constructed(alloc, &mut ahead) {
+            Ok(signed_data) => signed_data,
+            Err(error) => return Err(error),
+        };
+        let tbs = match TbsCert::read(alloc, &mut content.fork()) {
+            Ok(tbs) => tbs,
+            Err(error) => {
+                drop(signed_data);
+                return Err(error);
+            }
+        };
         let cert = Cert::of_parts(alloc, tbs, signed_data)?;
         *content = ahead;
         Ok(cert)
