@@ -1,5 +1,5 @@
 //! The extensions of a certificate, in one pass, whatever order they stand in.
-ghost use Rattle.std.specs.Prelude.{◌≡◌, ◌≢◌, ◌⊎◌, true, false, OnOk, OnErr, IfOk, IfErr, Some, None, unwrap_or};
+ghost use Rattle.std.specs.Prelude.{◌≡◌, ◌≢◌, ◌⊎◌, true, false, OnOk, OnErr, IfErr, Some, None, unwrap_or};
 ghost use Rattle.rpki_der.specs.Place.{remaining, MeansOrMemory, Rejects};
 ghost use Rattle.rpki_der.specs.Place.Reading.{Returns, ReturnsOrMemory, ReturnsOrMemoryBy};
 ghost use Rattle.rpki_der.specs.Extensions.{Extension};
