@@ -18,8 +18,8 @@ last_more issuer (d ∷ ds) c = last_more d ds c
 
 -- one more certificate, with the list that is asked of it
 pub stored_more : (lists : List CrlState) (members : List CertFields) (issuer : CertFields) (cs : List CertFields) (pairs : List Stored) → AreStoredBelow lists members issuer cs pairs
-    → (c : CertFields) (asked : Option CrlState) → IsAskedOf lists members (last_of issuer cs) c asked → AreStoredBelow lists members issuer (cs ++ c ∷ []) (pairs ++ pairs_for c asked)
-stored_more lists members issuer [] pairs h c asked is =
-    (asked, [], is, refl, ap (λ (l : List Stored). l ++ pairs_for c asked) h ∙ sym (append-nil (pairs_for c asked)))
-stored_more lists members issuer (d ∷ ds) pairs h c asked is =
-    (h.0, h.1 ++ pairs_for c asked, h.2, stored_more lists members d ds h.1 h.3 c asked is, ap (λ (l : List Stored). l ++ pairs_for c asked) h.4 ∙ append_assoc (pairs_for d h.0) h.1 (pairs_for c asked))
+    → (c : CertFields) (list : Option CrlState) → IsAskedOf lists members (last_of issuer cs) c list → AreStoredBelow lists members issuer (cs ++ c ∷ []) (pairs ++ pairs_for c list)
+stored_more lists members issuer [] pairs h c list is =
+    (list, [], is, refl, ap (λ (l : List Stored). l ++ pairs_for c list) h ∙ sym (append-nil (pairs_for c list)))
+stored_more lists members issuer (d ∷ ds) pairs h c list is =
+    (h.0, h.1 ++ pairs_for c list, h.2, stored_more lists members d ds h.1 h.3 c list is, ap (λ (l : List Stored). l ++ pairs_for c list) h.4 ∙ append_assoc (pairs_for d h.0) h.1 (pairs_for c list))

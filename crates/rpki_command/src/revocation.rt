@@ -183,7 +183,12 @@ fn first<'l>(lists: &'l [Crl], cert: &Cert) -> Option<&'l Crl>
 
 // The list that is asked of the certificate. One that the issuer didn't sign is asked, and then
 // rejects the path, only where there is no other.
-fn asked<'l>(lists: &'l [Crl], below: &[Cert], cert: &Cert, issuer: &Cert) -> Option<&'l Crl>
+fn list_of_member<'l>(
+    lists: &'l [Crl],
+    below: &[Cert],
+    cert: &Cert,
+    issuer: &Cert,
+) -> Option<&'l Crl>
     ensures { IsAskedOf lists.now below.now issuer.now cert.now (option_copied result) }
 {
     match current(lists, below, cert, issuer) {
@@ -223,13 +228,13 @@ fn push_asked(
     alloc: Global,
     store: &mut CrlStore,
     cert: &Cert,
-    asked: Option<&Crl>,
+    list: Option<&Crl>,
 ) -> Result<(), AllocError>
     requires { store.old.caches ≡ false }
-    ensures { let pairs = store.old.pairs ++ pairs_for cert.now (option_copied asked.entry) in
+    ensures { let pairs = store.old.pairs ++ pairs_for cert.now (option_copied list.entry) in
         OnOk result (store.new ≡ record store.old { pairs = pairs }) }
 {
-    match asked {
+    match list {
         Some(list) => push(alloc, store, cert, list),
         None => Ok(()),
     }
@@ -249,7 +254,7 @@ fn push_all(
 {
     let mut issuer = anchor;
     for cert in below {
-        let list = asked(lists, below, cert, issuer);
+        let list = list_of_member(lists, below, cert, issuer);
         push_asked(alloc, store, cert, list)?;
         issuer = cert;
     }
