@@ -17,8 +17,10 @@ mod ListOrder
 mod NothingRead
 mod OneMoment
 mod OneRequest
+mod OneStore
 mod PemLines
 mod RouterFaults
 mod SingleOutcomes
 mod StoredPairs
+mod TwoSplits
 mod UnrevokedFiles

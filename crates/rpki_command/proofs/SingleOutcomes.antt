@@ -1,9 +1,10 @@
--- Files that no lists are given with have at most one outcome.
+-- Files have at most one outcome.
 use Rattle.std.specs.Prelude.{Option, Some, None, IsSome, IsNone}
 use Rattle.std.proofs.Common.{◌≡◌, ◌++◌, ◌∷◌, [], ℕ, List, length, inl, inr, refl, sym, ap, subst, ◌∙◌, arith}
 use Rattle.std.proofs.lemmas.Bool.{true≢false, false≢true}
 use Rattle.std.proofs.lemmas.List.{same_from_push, length-append}
 use Rattle.rpki.specs.Certificates.{TbsFields, CertFields, IsCertificate}
+use Rattle.rpki.specs.Lists.{IsCertificateList}
 use Rattle.rpki.specs.Kind.{Kind}
 use Rattle.rpki.specs.Kind.TheVariants.{Anchor, Authority, EndEntity, Detached, Router}
 use Rattle.rpki.specs.Stores.{Stored}
@@ -18,8 +19,9 @@ use Rattle.rpki_command.specs.declared.path.Verdict.TheVariants.{Accepted, Rejec
 use Rattle.rpki_command.specs.declared.path.Fault.{Fault}
 use Rattle.rpki_command.specs.GivenPaths.{SaysKind, BeginsWithKind, IsJudgedAs, GivenPath, given_path, path_to, HasLast, IsGivenBy}
 use Rattle.rpki_command.specs.PathVerdicts.{IsAcceptedWith}
-use Rattle.rpki_command.specs.PathAnswers.{IsVerdictBy}
+use Rattle.rpki_command.specs.PathAnswers.{AreAsked, IsVerdictBy}
 use Rattle.rpki_command.specs.Outcomes.{IsOutcomeOf, IsOutcomeOfShow, IsOutcomeOfValidate}
+use Rattle.rpki_command.proofs.OneStore.{one_stored}
 
 -- ---- one kind
 
@@ -47,10 +49,10 @@ one_kind f Detached Authority p q = absurd (p.0.1 q.1)
 one_kind f Detached EndEntity p q = absurd (some_or_none f.extensions.access.signed_object q.1 p.1)
 one_kind f Detached Detached p q = refl
 
-module _ (one : IsUnambiguous IsCertificate) where
+module _ (one_certificate : IsUnambiguous IsCertificate) where
   one_said : (octets : List ℕ) (a b : Kind) → BeginsWithKind a octets → BeginsWithKind b octets → a ≡ b
   one_said octets a b p q =
-      let same = one_meant IsCertificate one p.0 q.0 octets p.1 q.1 in
+      let same = one_meant IsCertificate one_certificate p.0 q.0 octets p.1 q.1 in
       one_kind q.0.fields a b (subst (λ (cert : CertFields). SaysKind a cert.fields) same p.2) q.2
 
   one_judged : (octets : List ℕ) (a b : Kind) → IsJudgedAs a octets → IsJudgedAs b octets → a ≡ b
@@ -92,39 +94,46 @@ module _ (one : IsUnambiguous IsCertificate) where
   given_some g (inl p) = let e : [] ≡ p.0 ∷ [] = p.1 in cc
   given_some g (inr p) = let e : [] ≡ p.anchor ∷ (p.authorities ++ p.last ∷ []) = p.files_are in cc
 
-  -- ---- one outcome
+  module _ (one_list : IsUnambiguous IsCertificateList) where
+    -- ---- the lists that are asked
 
-  module _ (x : Context) (files : List (List ℕ)) where
-    never_both : (r : ResourceFields) (fault : Fault) → IsVerdictBy x files [] (Accepted r) → IsVerdictBy x files [] (Rejected fault) → ⊥
-    never_both r fault a b =
-        let asked : a.0 ≡ b.0 = a.1 ∙ sym b.1 in
-        let paths = one_path files a.2.0 b.2.0 a.2.1 b.2.1 in
-        let accepted = subst (λ (g : GivenPath). IsAcceptedWith x a.0 g r) paths a.2.2 in
-        b.2.2.0 r (subst (λ (lists : Option (List Stored)). IsAcceptedWith x lists b.2.0 r) asked accepted)
+    same_lists : (files lists : List (List ℕ)) (a b : Option (List Stored)) → AreAsked files lists a → AreAsked files lists b → a ≡ b
+    same_lists files [] a b p q = p ∙ sym q
+    same_lists files (l ∷ ls) a b p q = p.1 ∙ ap Some (one_stored one_certificate one_list files (l ∷ ls) p.0 q.0 p.2 q.2) ∙ sym q.1
 
-    never_both_validated : IsOutcomeOfValidate x files [] Success → IsOutcomeOfValidate x files [] Rejection → ⊥
-    never_both_validated a (inl empty) = given_some a.0.1.2.0 (subst (λ (l : List (List ℕ)). IsGivenBy l a.0.1.2.0) empty a.0.1.2.1)
-    never_both_validated a (inr (inl b)) = never_both a.0.0 b.0 a.0.1 b.1
-    never_both_validated a (inr (inr none)) = none a.1
+    -- ---- one outcome
 
-    one_validated : (o p : Outcome) → IsOutcomeOfValidate x files [] o → IsOutcomeOfValidate x files [] p → o ≡ p
-    one_validated Success Success a b = refl
-    one_validated Success Rejection a b = absurd (never_both_validated a b)
-    one_validated Rejection Success a b = absurd (never_both_validated b a)
-    one_validated Rejection Rejection a b = refl
-    one_validated WrongUse p a b = absurd a
-    one_validated o WrongUse a b = absurd b
+    module _ (x : Context) (files lists : List (List ℕ)) where
+      never_both : (r : ResourceFields) (fault : Fault) → IsVerdictBy x files lists (Accepted r) → IsVerdictBy x files lists (Rejected fault) → ⊥
+      never_both r fault a b =
+          let stored = same_lists files lists a.0 b.0 a.1 b.1 in
+          let paths = one_path files a.2.0 b.2.0 a.2.1 b.2.1 in
+          let accepted = subst (λ (g : GivenPath). IsAcceptedWith x a.0 g r) paths a.2.2 in
+          b.2.2.0 r (subst (λ (pairs : Option (List Stored)). IsAcceptedWith x pairs b.2.0 r) stored accepted)
 
-    one_shown : (o p : Outcome) → IsOutcomeOfShow files o → IsOutcomeOfShow files p → o ≡ p
-    one_shown Success Success a b = refl
-    one_shown Success Rejection a b = absurd (b a)
-    one_shown Rejection Success a b = absurd (a b)
-    one_shown Rejection Rejection a b = refl
-    one_shown WrongUse p a b = absurd a
-    one_shown o WrongUse a b = absurd b
+      never_both_validated : IsOutcomeOfValidate x files lists Success → IsOutcomeOfValidate x files lists Rejection → ⊥
+      never_both_validated a (inl empty) = given_some a.0.1.2.0 (subst (λ (l : List (List ℕ)). IsGivenBy l a.0.1.2.0) empty a.0.1.2.1)
+      never_both_validated a (inr (inl b)) = never_both a.0.0 b.0 a.0.1 b.1
+      never_both_validated a (inr (inr none)) = none a.1
 
-    pub one_outcome : (task : Task) (o p : Outcome) → IsOutcomeOf task x files [] o → IsOutcomeOf task x files [] p → o ≡ p
-    one_outcome Show o p a b = one_shown o p a b
-    one_outcome Validate o p a b = one_validated o p a b
-    one_outcome Help o p a b = a ∙ sym b
-    one_outcome Version o p a b = a ∙ sym b
+      one_validated : (o p : Outcome) → IsOutcomeOfValidate x files lists o → IsOutcomeOfValidate x files lists p → o ≡ p
+      one_validated Success Success a b = refl
+      one_validated Success Rejection a b = absurd (never_both_validated a b)
+      one_validated Rejection Success a b = absurd (never_both_validated b a)
+      one_validated Rejection Rejection a b = refl
+      one_validated WrongUse p a b = absurd a
+      one_validated o WrongUse a b = absurd b
+
+      one_shown : (o p : Outcome) → IsOutcomeOfShow files o → IsOutcomeOfShow files p → o ≡ p
+      one_shown Success Success a b = refl
+      one_shown Success Rejection a b = absurd (b a)
+      one_shown Rejection Success a b = absurd (a b)
+      one_shown Rejection Rejection a b = refl
+      one_shown WrongUse p a b = absurd a
+      one_shown o WrongUse a b = absurd b
+
+      pub one_outcome : (task : Task) (o p : Outcome) → IsOutcomeOf task x files lists o → IsOutcomeOf task x files lists p → o ≡ p
+      one_outcome Show o p a b = one_shown o p a b
+      one_outcome Validate o p a b = one_validated o p a b
+      one_outcome Help o p a b = a ∙ sym b
+      one_outcome Version o p a b = a ∙ sym b

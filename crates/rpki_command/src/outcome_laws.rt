@@ -1,5 +1,5 @@
 //! Laws about the definitions. Each is the contract of a function with no parameters.
-ghost use Rattle.std.specs.Prelude.{◌≡◌, ℕ, Bool, List, []};
+ghost use Rattle.std.specs.Prelude.{◌≡◌, ℕ, Bool, List};
 ghost use Rattle.rpki.specs.RsaSignatures.{IsSignedByRsa};
 ghost use Rattle.rpki.specs.Times.{Moment};
 ghost use Rattle.rpki.specs.Verification.{context};
@@ -9,11 +9,12 @@ ghost use Rattle.rpki_command.specs.declared.outcomes.Outcome.{Outcome};
 
 use rpki::laws;
 
-/// Says that what files hold has at most one outcome at a moment, where none are given as lists.
+/// Says that what files hold has at most one outcome at a moment.
 pub fn one_outcome()
-    ensures { (task : Task) (now : Moment) (strict : Bool) (files : List (List ℕ))
-        (one other : Outcome) → IsOutcomeOf task (context IsSignedByRsa now strict) files [] one
-        → IsOutcomeOf task (context IsSignedByRsa now strict) files [] other → one ≡ other }
+    ensures { (task : Task) (now : Moment) (strict : Bool) (files lists : List (List ℕ))
+        (one other : Outcome) → IsOutcomeOf task (context IsSignedByRsa now strict) files lists one
+        → IsOutcomeOf task (context IsSignedByRsa now strict) files lists other → one ≡ other }
 {
     laws::certificates::unambiguous();
+    laws::lists::unambiguous();
 }
