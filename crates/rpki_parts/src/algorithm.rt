@@ -26,6 +26,7 @@ fn identifier() -> &'static [u8]
 }
 
 // Whether NULL stands next, which is then read.
+#[inline(always)]
 pub(crate) fn take_opt_null(cursor: &mut Cursor<'_>) -> Result<bool, DecodeError>
     ensures reads { Took null_or_none cursor.old result cursor.new }
     ensures keeps { Keeps result cursor.old cursor.new }

@@ -188,6 +188,7 @@ impl PublicKeyFormat {
 
 // The algorithm of the key that stands next.
 #[tactic(auto, unfolding(crate::specs::Keys::Reading::format_at))]
+#[inline(always)]
 fn take_format(cursor: &mut Cursor<'_>) -> Result<PublicKeyFormat, DecodeError>
     ensures reads { Took format_at cursor.old result cursor.new }
     ensures keeps { Keeps result cursor.old cursor.new }
@@ -210,6 +211,7 @@ fn take_format(cursor: &mut Cursor<'_>) -> Result<PublicKeyFormat, DecodeError>
 
 // A cursor over the octets of the BIT STRING that stands next, of which no bits are unused.
 #[tactic(auto, unfolding(crate::specs::Keys::Reading::whole_bits_at))]
+#[inline(always)]
 pub(crate) fn take_whole_bits<'a>(cursor: &mut Cursor<'a>) -> Result<Cursor<'a>, DecodeError>
     ensures reads { TookBy remaining whole_bits_at cursor.old result cursor.new }
     ensures keeps { Keeps result cursor.old cursor.new }
