@@ -3,6 +3,7 @@ use Rattle.std.specs.Option.{option_map}
 use Rattle.std.specs.Prelude.{Option, Some, None, Result, Ok, Err, IfOk, MatchResult}
 use Rattle.std.proofs.Common.{◌≡◌, ◌+◌, ◌<◌, ◌≤◌, ℕ, List, [], ◌∷◌, ◌++◌, length, take, get_or, refl, sym, ap, subst, ◌∙◌, inl, inr, ⊎_elim, append_assoc}
 use Rattle.std.proofs.lemmas.List.{append-nil, take_more, take_all}
+use Rattle.rpki_command.specs.Files.{FileFields}
 use Rattle.rpki_command.specs.Pages.{Appends, AppendsSome}
 use Rattle.rpki_command.specs.VerdictTexts.{SaysOfEach}
 
@@ -60,20 +61,20 @@ text_of_page bytes Holds page (Err e) p is = tt
 
 -- ---- a text for each file
 
-says_more : (Says : List ℕ → List ℕ → Type 0) (files : List (List ℕ)) (so_far file text : List ℕ) → SaysOfEach Says files so_far → Says file text → SaysOfEach Says (files ++ file ∷ []) (so_far ++ text)
+says_more : (Says : FileFields → List ℕ → Type 0) (files : List FileFields) (so_far : List ℕ) (file : FileFields) (text : List ℕ) → SaysOfEach Says files so_far → Says file text → SaysOfEach Says (files ++ file ∷ []) (so_far ++ text)
 says_more Says [] so_far file text is says =
     (text, [], says, refl, ap (λ (l : List ℕ). l ++ text) is ∙ sym (append-nil text))
 says_more Says (f ∷ fs) so_far file text is says =
     (is.0, is.1 ++ text, is.2, says_more Says fs is.1 file text is.3 says, ap (λ (l : List ℕ). l ++ text) is.4 ∙ append_assoc is.0 is.1 text)
 
-module _ (Says : List ℕ → List ℕ → Type 0) (files : List (List ℕ)) where
+module _ (Says : FileFields → List ℕ → Type 0) (files : List FileFields) where
   -- one file more
-  pub each_more : (i : ℕ) (file : List ℕ) (old mid new : Option (List ℕ)) → i < length files → file ≡ get_or files i file → AppendsSome (SaysOfEach Says (take i files)) old mid → AppendsSome (Says file) mid new → AppendsSome (SaysOfEach Says (take (i + 1) files)) old new
+  pub each_more : (i : ℕ) (file : FileFields) (old mid new : Option (List ℕ)) → i < length files → file ≡ get_or files i file → AppendsSome (SaysOfEach Says (take i files)) old mid → AppendsSome (Says file) mid new → AppendsSome (SaysOfEach Says (take (i + 1) files)) old new
   each_more i file old mid new low there so_far one =
-      let more : take (i + 1) files ≡ take i files ++ file ∷ [] = take_more files i file low ∙ ap (λ (y : List ℕ). take i files ++ y ∷ []) (sym there) in
-      subst (λ (l : List (List ℕ)). AppendsSome (SaysOfEach Says l) old new) (sym more)
+      let more : take (i + 1) files ≡ take i files ++ file ∷ [] = take_more files i file low ∙ ap (λ (y : FileFields). take i files ++ y ∷ []) (sym there) in
+      subst (λ (l : List FileFields). AppendsSome (SaysOfEach Says l) old new) (sym more)
       (both_appended (SaysOfEach Says (take i files)) (Says file) (SaysOfEach Says (take i files ++ file ∷ [])) old mid new (λ a b is says. says_more Says (take i files) a file b is says) so_far one)
 
   -- behind the last
   pub each_said : (i : ℕ) (old new : Option (List ℕ)) → length files ≤ i → AppendsSome (SaysOfEach Says (take i files)) old new → AppendsSome (SaysOfEach Says files) old new
-  each_said i old new high all = subst (λ (l : List (List ℕ)). AppendsSome (SaysOfEach Says l) old new) (take_all i files high) all
+  each_said i old new high all = subst (λ (l : List FileFields). AppendsSome (SaysOfEach Says l) old new) (take_all i files high) all

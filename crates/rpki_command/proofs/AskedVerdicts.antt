@@ -13,8 +13,8 @@ asked_of files [] pairs some h = absurd (some refl)
 asked_of files (l ∷ ls) pairs some h = (pairs, refl, h)
 
 -- the verdict by them
-pub verdict_by : {E : Type 0} (x : Context) (files lists : List (List ℕ)) (pairs : List Stored) → AreAsked files lists (Some pairs) → (r : Result (Option Verdict) E)
-    → IfOk r (λ o. MatchOption o (files ≡ []) (IsVerdict x (Some pairs) files)) → IfOk r (λ o. MatchOption o (files ≡ []) (IsVerdictBy x files lists))
-verdict_by x files lists pairs are (Ok None) h = h
-verdict_by x files lists pairs are (Ok (Some v)) h = (Some pairs, are, h)
-verdict_by x files lists pairs are (Err e) h = tt
+pub verdict_by : {E : Type 0} (x : Context) (None_given : Type 0) (files lists : List (List ℕ)) (asked : Option (List Stored)) → AreAsked files lists asked → (r : Result (Option Verdict) E)
+    → IfOk r (λ o. MatchOption o None_given (IsVerdict x asked files)) → IfOk r (λ o. MatchOption o None_given (IsVerdictBy x files lists))
+verdict_by x None_given files lists asked are (Ok None) h = h
+verdict_by x None_given files lists asked are (Ok (Some v)) h = (asked, are, h)
+verdict_by x None_given files lists asked are (Err e) h = tt

@@ -1,8 +1,8 @@
 -- Files that begin with certificates or lists, one after the other.
 use Rattle.std.specs.List.{AllZip}
-use Rattle.std.proofs.Common.{◌≡◌, ◌+◌, ◌<◌, ℕ, List, [], ◌∷◌, ◌++◌, length, take, drop, get_or, false, refl, sym, ap, subst, ◌∙◌, inl, inr}
+use Rattle.std.proofs.Common.{◌≡◌, ◌+◌, ◌<◌, ◌≤◌, ℕ, List, [], ◌∷◌, ◌++◌, length, take, drop, get_or, false, refl, sym, ap, subst, ◌∙◌, inl, inr}
 use Rattle.std.proofs.Math.Seq.{drop-cons}
-use Rattle.std.proofs.lemmas.List.{take_more, take-append-drop}
+use Rattle.std.proofs.lemmas.List.{append-nil, take_more, take_all, take-append-drop}
 use Rattle.std.proofs.lemmas.Slice.Zip.{all_zipped_more}
 use Rattle.rpki.specs.Encoding.{Means}
 use Rattle.rpki.specs.Certificates.{CertFields, IsCertificate}
@@ -41,6 +41,16 @@ module _ (files : List (List ℕ)) (certs : List CertFields) (i : ℕ) where
           none b.0 b.1;
     }
 
+  -- each file begins with one
+  pub all_leading : length files ≤ i → AllZip BeginsIt certs (take i files) → AreLeadingCertificates files certs
+  all_leading high zipped = record {
+    front = files;
+    rest = [];
+    files_are = sym (append-nil files);
+    begins = subst (λ (l : List (List ℕ)). AllZip BeginsIt certs l) (take_all i files high) zipped;
+    ends = λ o more is begins. let e : [] ≡ o ∷ more = is in cc;
+  }
+
 -- ---- lists
 
 -- a further file that begins with none
@@ -65,3 +75,7 @@ module _ (files : List (List ℕ)) (lists : List CrlState) (i : ℕ) (octets : L
   -- the next file begins with one
   pub next_more : (l : CrlState) → Means IsCertificateList l.list octets → l.is_cached ≡ false → AreListsOf (take (i + 1) files) (lists ++ l ∷ [])
   next_more l means uncached = subst (λ (fs : List (List ℕ)). AreListsOf fs (lists ++ l ∷ [])) (sym (gone_over files i octets low there)) (lists_more (take i files) lists read octets l means uncached)
+
+-- behind the last file
+pub all_lists : (files : List (List ℕ)) (lists : List CrlState) (i : ℕ) → length files ≤ i → AreListsOf (take i files) lists → AreListsOf files lists
+all_lists files lists i high read = subst (λ (fs : List (List ℕ)). AreListsOf fs lists) (take_all i files high) read

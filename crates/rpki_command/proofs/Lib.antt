@@ -14,6 +14,7 @@ mod FlaggedItems
 mod KeptLists
 mod LeadingItems
 mod ListOrder
+mod MappedItems
 mod NothingRead
 mod OneMoment
 mod OneRequest

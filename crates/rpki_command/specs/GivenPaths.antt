@@ -11,6 +11,7 @@ use Rattle.rpki.specs.Kind.TheVariants.{Anchor, Authority, EndEntity, Detached, 
 use Rattle.rpki.specs.Leaf.{Leaf}
 use Rattle.rpki.specs.Leaf.TheVariants.{Ee, DetachedEe}
 use Rattle.rpki.specs.Paths.{Candidate, candidates}
+use Rattle.rpki_command.specs.Files.{FileFields}
 
 -- ---- what a certificate says that it is
 
@@ -49,11 +50,11 @@ IsJudgedAs kind octets =
 
 -- ---- the path that files are
 
--- what is asked: the octets of the files of the path, and of those given as lists, whether names are
--- read strictly, and the moment
+-- what is asked: the files of the path, those given as lists, whether names are read strictly, and the
+-- moment
 pub record QuestionFields : Type 0 where
-  pub members : List (List ℕ)
-  pub lists : List (List ℕ)
+  pub members : List FileFields
+  pub lists : List FileFields
   pub strict : Bool
   pub at : Moment
 

@@ -1,5 +1,6 @@
 -- The definitions that the contracts of the command cite.
 pub mod PemFiles
+pub mod Files
 pub mod Contents
 pub mod GivenPaths
 pub mod PathVerdicts

@@ -1,5 +1,5 @@
 -- How a run of the command ends, and its exit status (own). What a file holds are octets, in DER.
-use Rattle.std.specs.Prelude.{◌≡◌, ◌⊎◌, ℕ, List, [], length, All, Result, Ok, Err, IfSome}
+use Rattle.std.specs.Prelude.{◌≡◌, ◌⊎◌, ℕ, List, [], All, Result, Ok, Err, IfSome}
 use Rattle.rpki.specs.RsaSignatures.{IsSignedByRsa}
 use Rattle.rpki.specs.Times.{Moment}
 use Rattle.rpki.specs.Verification.{Context, ResourceFields, context}
@@ -11,6 +11,7 @@ use Rattle.rpki_command.specs.declared.path.Verdict.TheVariants.{Accepted, Rejec
 use Rattle.rpki_command.specs.declared.path.Fault.{Fault}
 use Rattle.rpki_command.specs.CommandLines.{RequestFields, IsCommandLine}
 use Rattle.rpki_command.specs.Contents.{BeginsWithList, CanBeShown}
+use Rattle.rpki_command.specs.Files.{FileFields, file_names, contents}
 use Rattle.rpki_command.specs.PathAnswers.{IsVerdictBy}
 
 -- ---- the exit status
@@ -51,16 +52,16 @@ IsOutcomeOf Show x files lists outcome = IsOutcomeOfShow files outcome
 IsOutcomeOf Validate x files lists outcome = IsOutcomeOfValidate x files lists outcome
 IsOutcomeOf _ x files lists outcome = outcome ≡ Success
 
--- a run that is asked this may end so: at the moment that is named, if one is, and by as many files
--- and lists as are named; what these hold, no contract can say
+-- a run that is asked this may end so: at the moment that is named, if one is, and by files and lists
+-- of the names that are given; what these hold, no contract can say
 pub record MayEndWith (r : RequestFields) (outcome : Outcome) : Type 0 where
   pub now : Moment
-  pub files : List (List ℕ)
-  pub lists : List (List ℕ)
+  pub files : List FileFields
+  pub lists : List FileFields
   pub now_is : IfSome r.at (λ at. now ≡ at)
-  pub as_many_files : length files ≡ length r.files
-  pub as_many_lists : length lists ≡ length r.lists
-  pub outcome_is : IsOutcomeOf r.task (context IsSignedByRsa now r.strict) files lists outcome
+  pub files_named : file_names files ≡ r.files
+  pub lists_named : file_names lists ≡ r.lists
+  pub outcome_is : IsOutcomeOf r.task (context IsSignedByRsa now r.strict) (contents files) (contents lists) outcome
 
 -- a run on these words may end so: with wrong use exactly where they are no command line, else as
 -- one that is asked what they ask

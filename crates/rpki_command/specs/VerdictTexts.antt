@@ -1,8 +1,8 @@
--- What is printed of the verdict on a path. Contracts see the octets of a file and not its name: of
--- a name is said where it stands, and not which it is.
+-- What is printed of the verdict on a path.
 use Rattle.std.specs.Fmt.{decimal}
 use Rattle.std.specs.List.{concat}
-use Rattle.std.specs.Prelude.{◌≡◌, ◌↔◌, ◌⊎◌, ℕ, Bool, List, [], ◌∷◌, ◌++◌, codes, slice_get, Option, Some, None, IsSome, MatchOption}
+use Rattle.std.specs.Option.{option_map}
+use Rattle.std.specs.Prelude.{◌≡◌, ◌⊎◌, ℕ, Bool, List, [], ◌∷◌, ◌++◌, codes, slice_get, Option, Some, None, MatchOption}
 use Rattle.rpki.specs.BlockTexts.{v4_block_text, v6_block_text}
 use Rattle.rpki.specs.Certificates.{CertFields, IsCertificate}
 use Rattle.rpki.specs.Texts.{serial_text}
@@ -10,6 +10,7 @@ use Rattle.rpki.specs.Verification.{Context, ResourceFields}
 use Rattle.rpki_command.specs.BlockLines.{numbers_text, blocks_lines}
 use Rattle.rpki_command.specs.CertificateTexts.{AreAnswers, kind_text}
 use Rattle.rpki_command.specs.Contents.{BeginsWithList, FindsBy}
+use Rattle.rpki_command.specs.Files.{FileFields, contents}
 use Rattle.rpki_command.specs.GivenPaths.{QuestionFields}
 use Rattle.rpki_command.specs.Pages.{line}
 use Rattle.rpki_command.specs.PathAnswers.{IsVerdictBy}
@@ -34,23 +35,22 @@ IsMemberText strict None name text = text ≡ other_text name
 IsMemberText strict (Some c) name text =
     (answers : Answers) × AreAnswers strict c answers × (text ≡ member_text (kind_text answers) c.fields.serial name)
 
--- the line of a member with these octets
-pub record IsMemberLine (strict : Bool) (octets text : List ℕ) : Type 0 where
+-- the line of a member
+pub record IsMemberLine (strict : Bool) (file : FileFields) (text : List ℕ) : Type 0 where
   pub found : Option CertFields
-  pub found_is : FindsBy (λ c. c) IsCertificate octets found
-  pub name : List ℕ
+  pub found_is : FindsBy (λ c. c) IsCertificate file.octets found
   pub said : List ℕ
-  pub said_is : IsMemberText strict found name said
+  pub said_is : IsMemberText strict found file.name said
   pub text_is : text ≡ line (codes "Member") said
 
 -- what is said of a file that was given as a list: its name where it is none, else nothing
-abbrev pub IsListPart : List ℕ → List ℕ → Type 0
-IsListPart octets text =
-    (BeginsWithList octets × (text ≡ []))
-    ⊎ ((BeginsWithList octets → ⊥) × ((name : List ℕ) × (text ≡ line (codes "Not a list") name)))
+abbrev pub IsListPart : FileFields → List ℕ → Type 0
+IsListPart file text =
+    (BeginsWithList file.octets × (text ≡ []))
+    ⊎ ((BeginsWithList file.octets → ⊥) × (text ≡ line (codes "Not a list") file.name))
 
 -- what is said of each file, one after the other
-abbrev pub SaysOfEach : (List ℕ → List ℕ → Type 0) → List (List ℕ) → List ℕ → Type 0
+abbrev pub SaysOfEach : (FileFields → List ℕ → Type 0) → List FileFields → List ℕ → Type 0
 SaysOfEach Says [] text = text ≡ []
 SaysOfEach Says (file ∷ files) text =
     (first : List ℕ) × (more : List ℕ) × Says file first × SaysOfEach Says files more × (text ≡ first ++ more)
@@ -58,12 +58,12 @@ SaysOfEach Says (file ∷ files) text =
 -- ---- an accepted path
 
 -- whether the lists were asked
-abbrev pub revocation_text : List (List ℕ) → List ℕ
+abbrev pub revocation_text : List FileFields → List ℕ
 revocation_text [] = codes "not asked, since no list was given"
 revocation_text (list ∷ lists) = codes "no member is revoked, by the lists given"
 
 -- that it is accepted, what was asked of it, and what its last member holds
-unfoldable pub accepted_text : List (List ℕ) → ResourceFields → List ℕ
+unfoldable pub accepted_text : List FileFields → ResourceFields → List ℕ
 accepted_text lists holder = concat (
     line (codes "Path") (codes "accepted")
     ∷ line (codes "Signatures") (codes "checked (RSASSA-PKCS1-v1_5 with SHA-256, RFC 7935)")
@@ -95,10 +95,9 @@ rejected_text fault name = concat (
     ∷ line (codes "Standard") fault.rule.section.now
     ∷ [])
 
--- the text of a fault among these members, with a name exactly where there is a member at its place
-abbrev pub IsRejectedText : List (List ℕ) → Fault → List ℕ → Type 0
-IsRejectedText members fault text =
-    (name : Option (List ℕ)) × (IsSome name ↔ IsSome (slice_get members fault.index)) × (text ≡ rejected_text fault name)
+-- the name of the member at this place, where there is a member
+abbrev pub name_at : List FileFields → ℕ → Option (List ℕ)
+name_at members place = option_map (λ file. file.name) (slice_get members place)
 
 -- ---- the whole
 
@@ -106,7 +105,7 @@ IsRejectedText members fault text =
 abbrev pub IsOutcomeText : QuestionFields → Option Verdict → List ℕ → Type 0
 IsOutcomeText question None text = text ≡ []
 IsOutcomeText question (Some (Accepted holder)) text = text ≡ accepted_text question.lists holder
-IsOutcomeText question (Some (Rejected fault)) text = IsRejectedText question.members fault text
+IsOutcomeText question (Some (Rejected fault)) text = text ≡ rejected_text fault (name_at question.members fault.index)
 
 -- the members, files given as lists that are none, and the verdict
 pub record IsVerdictText (question : QuestionFields) (verdict : Option Verdict) (text : List ℕ) : Type 0 where
@@ -121,5 +120,5 @@ pub record IsVerdictText (question : QuestionFields) (verdict : Option Verdict) 
 -- the text of the verdict on the path that the files are; there is none where there is no file
 pub record IsTextOfPath (x : Context) (question : QuestionFields) (text : List ℕ) : Type 0 where
   pub verdict : Option Verdict
-  pub verdict_is : MatchOption verdict (question.members ≡ []) (IsVerdictBy x question.members question.lists)
+  pub verdict_is : MatchOption verdict (question.members ≡ []) (IsVerdictBy x (contents question.members) (contents question.lists))
   pub text_is : IsVerdictText question verdict text

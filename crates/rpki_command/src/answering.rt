@@ -2,6 +2,7 @@
 ghost use Rattle.std.specs.Prelude.{IfOk};
 ghost use Rattle.rpki.specs.RsaSignatures.{IsSignedByRsa};
 ghost use Rattle.rpki.specs.Verification.{context};
+ghost use Rattle.rpki_command.specs.Files.{contents};
 ghost use Rattle.rpki_command.specs.Outcomes.{AsksOfFiles, IsOutcomeOf};
 
 use crate::arguments::{Request, Task};
@@ -24,7 +25,8 @@ pub fn answer_request(
     requires { AsksOfFiles request.now.task }
     ensures { let x = context IsSignedByRsa now request.now.strict in
         let task = request.now.task in
-        IfOk result (λ answer. IsOutcomeOf task x files.now lists.now answer.outcome) }
+        IfOk result (λ answer.
+        IsOutcomeOf task x (contents files.now) (contents lists.now) answer.outcome) }
 {
     match request.task {
         Task::Show => {

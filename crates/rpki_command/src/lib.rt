@@ -2,9 +2,10 @@
 //! files.
 #![tactic(auto)]
 
-ghost use Rattle.std.specs.Prelude.{◌≡◌, ◌≢◌, ◌≤◌, length, IfOk, IfSome, MatchOption, OnOk};
+ghost use Rattle.std.specs.Prelude.{◌≡◌, ◌≢◌, ◌≤◌, map, IfOk, IfSome, MatchOption, OnOk};
 ghost use Rattle.std.specs.Process.{exit_status};
 ghost use Rattle.rpki_command.specs.CommandLines.Views.{fields_of, octets_of};
+ghost use Rattle.rpki_command.specs.Files.{file_names};
 ghost use Rattle.rpki_command.specs.Outcomes.{AsksOfFiles, MayEndWith, RunMayEndWith};
 
 mod answering;
@@ -84,7 +85,7 @@ fn octets_of(rt: &HostRuntime, name: &str) -> Result<Vec<u8>> {
 
 // What the files of these names hold.
 fn objects<'a>(rt: &HostRuntime, names: &[&'a str]) -> Result<Vec<Object<'a>>>
-    ensures { IfOk result (λ all. length all.items ≡ length names.now) }
+    ensures { IfOk result (λ all. file_names all.items ≡ map (λ name. name.now) names.now) }
 {
     let mut all = Vec::new(rt.alloc());
     for name in names {

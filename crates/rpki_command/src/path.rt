@@ -6,6 +6,7 @@ ghost use Rattle.rpki.specs.Verification.{ResourceFields, context};
 ghost use Rattle.rpki.specs.Paths.{UnlessMemory};
 ghost use Rattle.rpki.specs.PathFault.TheVariants.{Memory};
 ghost use Rattle.rpki_command.specs.Contents.{BeginsWithList};
+ghost use Rattle.rpki_command.specs.Files.{contents};
 ghost use Rattle.rpki_command.specs.GivenPaths.{IsGivenBy, IsJudgedAs, path_to};
 ghost use Rattle.rpki_command.specs.PathAnswers.{path_of, IsVerdict, IsVerdictBy};
 ghost use Rattle.rpki_command.specs.UnrevokedMembers.{AreUnrevoked};
@@ -66,7 +67,7 @@ pub enum Verdict {
 
 /// Returns whether a file is a revocation list.
 pub fn is_list(alloc: Global, object: &Object<'_>) -> Result<bool, AllocError>
-    ensures { IfOk result (λ yes. IsTrue yes ↔ BeginsWithList object.now) }
+    ensures { IfOk result (λ yes. IsTrue yes ↔ BeginsWithList object.now.octets) }
 {
     match as_list(alloc, object)? {
         Some(list) => {
@@ -88,7 +89,7 @@ struct Members<'o> {
 
 // As what the last file is judged.
 fn judged_as(alloc: Global, last: &Object<'_>) -> Result<Kind, AllocError>
-    ensures { IfOk result (λ kind. IsJudgedAs kind last.now) }
+    ensures { IfOk result (λ kind. IsJudgedAs kind last.now.octets) }
 {
     let Some(cert) = as_certificate(alloc, last)? else {
         return Ok(Kind::Authority);
@@ -100,7 +101,7 @@ fn judged_as(alloc: Global, last: &Object<'_>) -> Result<Kind, AllocError>
 
 // The octets of the files, shared.
 fn shared(alloc: Global, files: &[Object<'_>]) -> Result<Vec<Bytes>, AllocError>
-    ensures { IfOk result (λ all. all.items ≡ files.now) }
+    ensures { IfOk result (λ all. all.items ≡ contents files.now) }
 {
     let mut all = Vec::new(alloc);
     for file in files {
@@ -118,7 +119,7 @@ fn path_to_last<'o>(
     last: &'o Bytes,
     kind: Kind,
 ) -> Result<Members<'o>, AllocError>
-    ensures { IfOk result (λ m. path_of m ≡ path_to anchor.now above.now kind last.now) }
+    ensures { IfOk result (λ m. path_of m ≡ path_to anchor.now (contents above.now) kind last.now) }
 {
     let mut cas = shared(alloc, above)?;
     match kind {
@@ -162,7 +163,7 @@ fn path_to_last<'o>(
 // The path that the files are. `None` where there is no file.
 fn members_of<'o>(alloc: Global, files: &'o [Object<'_>]) -> Result<Option<Members<'o>>, AllocError>
     ensures { IfOk result (λ o. MatchOption o (files.now ≡ [])
-        (λ m. IsGivenBy files.now (path_of m))) }
+        (λ m. IsGivenBy (contents files.now) (path_of m))) }
 {
     let Some((anchor, below)) = files.split_first() else {
         return Ok(None);
@@ -209,8 +210,9 @@ fn judged(
 ) -> Result<Option<Verdict>, AllocError>
     ensures { let x = context IsSignedByRsa question.now.at question.now.strict in
         let pairs = option_map (λ store. store.now.pairs) lists.entry in
-        let files = question.now.members in
-        IfOk result (λ o. MatchOption o (files ≡ []) (IsVerdict x pairs files)) }
+        let members = question.now.members in
+        IfOk result (λ o. MatchOption o (members ≡ [])
+        (IsVerdict x pairs (contents members))) }
 {
     let Some(members) = members_of(alloc, question.members)? else {
         return Ok(None);
@@ -247,9 +249,10 @@ fn judged(
 /// given. Gives `None` where there is no file.
 pub fn judge(alloc: Global, question: &Question<'_, '_>) -> Result<Option<Verdict>, AllocError>
     ensures { let x = context IsSignedByRsa question.now.at question.now.strict in
-        let files = question.now.members in
-        let lists = question.now.lists in
-        IfOk result (λ o. MatchOption o (files ≡ []) (IsVerdictBy x files lists)) }
+        let members = question.now.members in
+        let lists = contents question.now.lists in
+        IfOk result (λ o. MatchOption o (members ≡ [])
+        (IsVerdictBy x (contents members) lists)) }
 {
     if question.lists.is_empty() {
         return judged(alloc, question, None);

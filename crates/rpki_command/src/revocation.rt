@@ -4,6 +4,7 @@ ghost use Rattle.std.specs.Ordering.{MatchOrdering};
 ghost use Rattle.rpki.specs.Times.{second_number};
 ghost use Rattle.rpki.specs.Lists.{CrlState};
 ghost use Rattle.rpki_command.specs.AskedLists.{IsFor, IsSignedUnder, IsIssuersFor, IsOn, RevokesOne, SupersedesEqual, Supersedes, IsCurrentIfAny, IsFirstIfAny, IsAskedOf, pairs_for, AreStoredBelow, AreStored, AreLeadingCertificates, AreListsOf, AreStoredOf};
+ghost use Rattle.rpki_command.specs.Files.{contents};
 
 use crate::files::{Object, as_certificate, as_list};
 use rpki::crypto::RsaVerifier;
@@ -14,7 +15,7 @@ use std::cmp::Ordering;
 
 // The members, as far as they are certificates: at the first that is none the path is rejected.
 fn certificates(alloc: Global, members: &[Object<'_>]) -> Result<Vec<Cert>, AllocError>
-    ensures { IfOk result (λ all. AreLeadingCertificates members.now all.items) }
+    ensures { IfOk result (λ all. AreLeadingCertificates (contents members.now) all.items) }
 {
     let mut all = Vec::new(alloc);
     for object in members {
@@ -28,7 +29,7 @@ fn certificates(alloc: Global, members: &[Object<'_>]) -> Result<Vec<Cert>, Allo
 
 // The lists of the files that are lists.
 fn read_lists(alloc: Global, objects: &[Object<'_>]) -> Result<Vec<Crl>, AllocError>
-    ensures { IfOk result (λ all. AreListsOf objects.now all.items) }
+    ensures { IfOk result (λ all. AreListsOf (contents objects.now) all.items) }
 {
     let mut all = Vec::new(alloc);
     for object in objects {
@@ -278,7 +279,7 @@ fn filled(alloc: Global, certs: &[Cert], lists: &[Crl]) -> Result<CrlStore, Allo
 }
 
 fn store_for(alloc: Global, certs: &[Cert], objects: &[Object<'_>]) -> Result<CrlStore, AllocError>
-    ensures { IfOk result (λ store. (read : List CrlState) × AreListsOf objects.now read
+    ensures { IfOk result (λ store. (read : List CrlState) × AreListsOf (contents objects.now) read
         × AreStored read certs.now store.pairs) }
 {
     let lists = read_lists(alloc, objects)?;
@@ -294,7 +295,8 @@ pub fn store_of(
     members: &[Object<'_>],
     lists: &[Object<'_>],
 ) -> Result<CrlStore, AllocError>
-    ensures { IfOk result (λ store. AreStoredOf members.now lists.now store.pairs) }
+    ensures { IfOk result (λ store.
+        AreStoredOf (contents members.now) (contents lists.now) store.pairs) }
 {
     let certs = certificates(alloc, members)?;
     let store = store_for(alloc, &certs, lists);

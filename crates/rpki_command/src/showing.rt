@@ -5,6 +5,7 @@ ghost use Rattle.rpki.specs.Encoding.{Means};
 ghost use Rattle.rpki.specs.Certificates.{IsCertificate};
 ghost use Rattle.rpki.specs.Lists.{IsCertificateList};
 ghost use Rattle.rpki_command.specs.Contents.{BeginsWithCertificate, BeginsWithList, CanBeShown};
+ghost use Rattle.rpki_command.specs.Files.{contents};
 ghost use Rattle.rpki_command.specs.Outcomes.{IsOutcomeOfShow};
 
 use crate::files::{Form, Object, looks_like, unless_memory};
@@ -153,7 +154,7 @@ fn certificate_of(
     object: &Object<'_>,
     options: &Options,
 ) -> Result<bool, AllocError>
-    ensures { IfOk result (λ yes. IsTrue yes ↔ BeginsWithCertificate object.now) }
+    ensures { IfOk result (λ yes. IsTrue yes ↔ BeginsWithCertificate object.now.octets) }
 {
     match certificate_in(page.alloc(), &object.octets) {
         Ok(found) => {
@@ -193,7 +194,7 @@ fn whole_list(page: &mut Page, object: &Object<'_>, it: &Crl, left: usize, optio
 
 // Shows the list that the file begins with, and says whether it begins with one.
 fn list_of(page: &mut Page, object: &Object<'_>, options: &Options) -> Result<bool, AllocError>
-    ensures { IfOk result (λ yes. IsTrue yes ↔ BeginsWithList object.now) }
+    ensures { IfOk result (λ yes. IsTrue yes ↔ BeginsWithList object.now.octets) }
 {
     match list_in(page.alloc(), &object.octets) {
         Ok(found) => {
@@ -212,7 +213,7 @@ fn list_of(page: &mut Page, object: &Object<'_>, options: &Options) -> Result<bo
 
 /// Shows a file, and says whether it begins with a certificate or a list.
 pub fn show(page: &mut Page, object: &Object<'_>, options: &Options) -> Result<bool, AllocError>
-    ensures { IfOk result (λ yes. IsTrue yes ↔ CanBeShown object.now) }
+    ensures { IfOk result (λ yes. IsTrue yes ↔ CanBeShown object.now.octets) }
 {
     match looks_like(&object.octets) {
         Form::List => list_of(page, object, options),
@@ -222,7 +223,7 @@ pub fn show(page: &mut Page, object: &Object<'_>, options: &Options) -> Result<b
 
 // Appends the text of the objects, and tells whether each begins with a certificate or a list.
 fn show_all(page: &mut Page, objects: &[Object<'_>], options: &Options) -> Result<bool, AllocError>
-    ensures { IfOk result (λ yes. IsTrue yes ↔ All CanBeShown objects.now) }
+    ensures { IfOk result (λ yes. IsTrue yes ↔ All CanBeShown (contents objects.now)) }
 {
     let mut can_be_shown = true;
     let mut is_first = true;
@@ -239,7 +240,7 @@ fn show_all(page: &mut Page, objects: &[Object<'_>], options: &Options) -> Resul
 /// Writes the text of the objects. The outcome is success where each begins with a certificate or a
 /// list.
 pub fn shown(alloc: Global, objects: &[Object<'_>], options: &Options) -> Result<Answer, AllocError>
-    ensures { IfOk result (λ answer. IsOutcomeOfShow objects.now answer.outcome) }
+    ensures { IfOk result (λ answer. IsOutcomeOfShow (contents objects.now) answer.outcome) }
 {
     let mut page = Page::new(alloc);
     let can_be_shown = show_all(&mut page, objects, options)?;

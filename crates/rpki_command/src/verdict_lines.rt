@@ -2,7 +2,7 @@
 ghost use Rattle.std.specs.Prelude.{◌≡◌, Some, IfOk, option_copied, option_map, codes, string_bytes};
 ghost use Rattle.rpki_command.specs.CertificateTexts.{AreAnswers, kind_text};
 ghost use Rattle.rpki_command.specs.Pages.{Appends, AppendsSome, line};
-ghost use Rattle.rpki_command.specs.VerdictTexts.{SaysOfEach, IsMemberLine, IsListPart, IsRejectedText, IsOutcomeText, IsVerdictText, member_text, other_text, revocation_text, accepted_text, place_text, reason_text, rejected_text};
+ghost use Rattle.rpki_command.specs.VerdictTexts.{SaysOfEach, IsMemberLine, IsListPart, IsOutcomeText, IsVerdictText, member_text, other_text, revocation_text, accepted_text, place_text, reason_text, rejected_text, name_at};
 
 use crate::blocks::{Family, as_blocks, ip_blocks};
 use crate::certificate::kind_of;
@@ -189,7 +189,8 @@ fn print_fault(page: &mut Page, fault: &Fault, name: Option<&str>)
 }
 
 fn print_rejected(page: &mut Page, members: &[Object<'_>], fault: &Fault)
-    ensures { AppendsSome (IsRejectedText members.now fault.now) page.old page.new }
+    ensures { let name = name_at members.now fault.now.index in
+        Appends page.old (rejected_text fault.now name) page.new }
 {
     match members.get(fault.index) {
         Some(object) => print_fault(page, fault, Some(object.name)),

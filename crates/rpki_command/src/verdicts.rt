@@ -3,6 +3,7 @@ ghost use Rattle.std.specs.Prelude.{◌↔◌, All, IfOk, IsTrue, IsFalse, strin
 ghost use Rattle.rpki.specs.RsaSignatures.{IsSignedByRsa};
 ghost use Rattle.rpki.specs.Verification.{context};
 ghost use Rattle.rpki_command.specs.Contents.{BeginsWithList};
+ghost use Rattle.rpki_command.specs.Files.{contents};
 ghost use Rattle.rpki_command.specs.Outcomes.{IsOutcomeOfValidate};
 ghost use Rattle.rpki_command.specs.PathAnswers.{IsAcceptance};
 ghost use Rattle.rpki_command.specs.VerdictTexts.{IsTextOfPath};
@@ -30,7 +31,7 @@ fn json_text(
 
 // Whether each file given as a list begins with one.
 fn are_lists(alloc: Global, lists: &[Object<'_>]) -> Result<bool, AllocError>
-    ensures { IfOk result (λ yes. IsTrue yes ↔ All BeginsWithList lists.now) }
+    ensures { IfOk result (λ yes. IsTrue yes ↔ All BeginsWithList (contents lists.now)) }
 {
     let mut are_lists = true;
     for object in lists {
@@ -57,8 +58,8 @@ pub fn validated(
     is_json: bool,
 ) -> Result<Answer, AllocError>
     ensures outcome { let x = context IsSignedByRsa question.now.at question.now.strict in
-        let members = question.now.members in
-        let lists = question.now.lists in
+        let members = contents question.now.members in
+        let lists = contents question.now.lists in
         IfOk result (λ answer. IsOutcomeOfValidate x members lists answer.outcome) }
     ensures text { let x = context IsSignedByRsa question.now.at question.now.strict in
         IsFalse is_json

@@ -1,10 +1,11 @@
 use Rattle.std.specs.Prelude.{Option, Some, None, IfSome}
-use Rattle.std.proofs.Common.{◌≡◌, ℕ, List, inl, inr, refl}
+use Rattle.std.proofs.Common.{◌≡◌, ◌∷◌, [], ℕ, List, map, ap, inl, inr, refl}
 use Rattle.rpki.specs.Times.{Moment, moment}
 use Rattle.rpki.specs.RsaSignatures.{IsSignedByRsa}
 use Rattle.rpki.specs.Verification.{Context, context}
 use Rattle.rpki_command.specs.CommandLines.{RequestFields}
 use Rattle.rpki_command.specs.CommandLines.Views.{fields_of}
+use Rattle.rpki_command.specs.Files.{FileFields, file_names, contents}
 use Rattle.rpki_command.specs.Outcomes.{AsksOfFiles, IsOutcomeOf, MayEndWith}
 use Rattle.rpki_command.specs.declared.arguments.Task.{Task}
 use Rattle.rpki_command.specs.declared.arguments.Task.TheVariants.{Show, Validate, Help, Version}
@@ -22,16 +23,25 @@ success Validate x files lists none = absurd (none (inr refl))
 success Help x files lists none = refl
 success Version x files lists none = refl
 
+-- files of these names, that hold nothing
+empty_files : List (List ℕ) → List FileFields
+empty_files names = map (λ name. record { name = name; octets = [] }) names
+
+empty_named : (names : List (List ℕ)) → file_names (empty_files names) ≡ names
+unfolding empty_files
+empty_named [] = refl
+empty_named (name ∷ names) = ap (λ (l : List (List ℕ)). name ∷ l) (empty_named names)
+
 -- a text about the command is success
 told : (r : RequestFields) → (AsksOfFiles r.task → ⊥) → MayEndWith r Success
 told r none = record {
   now = (some_moment r.at).0;
-  files = r.files;
-  lists = r.lists;
+  files = empty_files r.files;
+  lists = empty_files r.lists;
   now_is = (some_moment r.at).1;
-  as_many_files = refl;
-  as_many_lists = refl;
-  outcome_is = success r.task (context IsSignedByRsa (some_moment r.at).0 r.strict) r.files r.lists none;
+  files_named = empty_named r.files;
+  lists_named = empty_named r.lists;
+  outcome_is = success r.task (context IsSignedByRsa (some_moment r.at).0 r.strict) (contents (empty_files r.files)) (contents (empty_files r.lists)) none;
 }
 
 pub returns-in-Err : goal.returns-in-Err

@@ -1,7 +1,9 @@
 use Rattle.std.specs.Prelude.{option_map, Ok}
-use Rattle.std.proofs.Common.{ℕ, List, Err, sym, subst}
+use Rattle.std.proofs.Common.{◌<◌, ℕ, List, Err, sym, subst}
+use Rattle.std.proofs.lemmas.List.{length-map}
 use Rattle.rpki.specs.RsaSignatures.{IsSignedByRsa}
 use Rattle.rpki.specs.Verification.{context}
+use Rattle.rpki_command.specs.Files.{contents}
 use Rattle.rpki_command.specs.GivenPaths.{GivenPath, QuestionFields, given_path, IsGivenBy}
 use Rattle.rpki_command.specs.PathAnswers.{path_of, IsWrongAt}
 use Rattle.rpki_command.specs.PathVerdicts.{IsAcceptedWith, IsNotAccepted, Judges}
@@ -15,7 +17,8 @@ rejected-requires c =
     let m = c.in-Some.members in
     let given = rw c.in-Some.is at c.in_ok-members.ensures in
     let judged = subst (λ (cas : List (List ℕ)). Judges x lists (given_path m.anchor.now cas m.leaf (option_map (λ octets. octets.now) m.router)) (Err c.in-Err.error)) c.deref.ensures.value c.in-Err.ensures in
-    unless_then c.in-Err.error.fault (λ h. place_within x lists c.question.inside.members.now (path_of m) c.in-Err.error given h.1) judged
+    let members = c.question.inside.members.now in
+    unless_then c.in-Err.error.fault (λ h. subst (λ (n : ℕ). c.in-Err.error.index < n) (length-map members (λ file. file.octets)) (place_within x lists (contents members) (path_of m) c.in-Err.error given h.1)) judged
 
 pub returns-in-Ok : goal.returns-in-Ok
 returns-in-Ok c =
@@ -24,7 +27,7 @@ returns-in-Ok c =
     let m = c.in-Some.members in
     let given = rw c.in-Some.is at c.in_ok-members.ensures in
     let judged = subst (λ (cas : List (List ℕ)). Judges x lists (given_path m.anchor.now cas m.leaf (option_map (λ octets. octets.now) m.router)) (Ok c.in-Ok.holder)) c.deref.ensures.value c.in-Ok.ensures in
-    subst (λ (f : QuestionFields). (g : GivenPath) × IsGivenBy f.members g × IsAcceptedWith (context IsSignedByRsa f.at f.strict) lists g c.in-Ok.holder) c.question.view_is (path_of m, given, judged)
+    subst (λ (f : QuestionFields). (g : GivenPath) × IsGivenBy (contents f.members) g × IsAcceptedWith (context IsSignedByRsa f.at f.strict) lists g c.in-Ok.holder) c.question.view_is (path_of m, given, judged)
 
 pub returns-in_ok-fault-in-Err : goal.returns-in_ok-fault-in-Err
 returns-in_ok-fault-in-Err c =
@@ -37,5 +40,5 @@ returns-in_ok-fault-in-Err c =
     let no_memory = c.in_ok-fault-in-Err.ensures.no_memory in
     let is_wrong = unless_not e.fault judged no_memory in
     let place = c.in_ok-fault-in-Err.fault.index in
-    subst (λ (f : QuestionFields). (g : GivenPath) × IsGivenBy f.members g × (IsNotAccepted (context IsSignedByRsa f.at f.strict) lists g × IsWrongAt (context IsSignedByRsa f.at f.strict) lists g place)) c.question.view_is
+    subst (λ (f : QuestionFields). (g : GivenPath) × IsGivenBy (contents f.members) g × (IsNotAccepted (context IsSignedByRsa f.at f.strict) lists g × IsWrongAt (context IsSignedByRsa f.at f.strict) lists g place)) c.question.view_is
     (path_of m, given, (is_wrong.0, record { error = e; place_is = sym c.in_ok-fault-in-Err.ensures.index; no_memory = no_memory; fault_is = is_wrong.1 }))

@@ -2,6 +2,7 @@ use Rattle.std.specs.Prelude.{All, IsFalse, IsTrue}
 use Rattle.std.proofs.Common.{◌≡◌, ◌↔◌, ℕ, Bool, true, false, List, refl}
 use Rattle.std.proofs.lemmas.Bool.{false≢true}
 use Rattle.rpki_command.specs.Contents.{CanBeShown}
+use Rattle.rpki_command.specs.Files.{contents}
 use Rattle.rpki_command.specs.Outcomes.{IsOutcomeOfShow}
 use Rattle.rpki_command.specs.declared.outcomes.Outcome.{Outcome}
 use Rattle.rpki_command.specs.declared.outcomes.Outcome.TheVariants.{Success, Rejection}
@@ -12,4 +13,4 @@ outcome_is files outcome true success rejection says = rw (success refl) (says.0
 outcome_is files outcome false success rejection says = rw (rejection refl) (λ all. false≢true (says.1 all))
 
 pub returns : goal.returns
-returns c = outcome_is c.args.objects.now c.of_answer.result c.in_ok-can_be_shown.can_be_shown c.of_answer.ensures.success c.of_answer.ensures.rejection c.in_ok-can_be_shown.ensures
+returns c = outcome_is (contents c.args.objects.now) c.of_answer.result c.in_ok-can_be_shown.can_be_shown c.of_answer.ensures.success c.of_answer.ensures.rejection c.in_ok-can_be_shown.ensures

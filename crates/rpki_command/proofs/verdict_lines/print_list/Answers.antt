@@ -1,7 +1,8 @@
 use Rattle.std.specs.Prelude.{codes}
-use Rattle.std.proofs.Common.{refl, sym, ◌∙◌, inl, inr}
+use Rattle.std.proofs.Common.{refl, sym, subst, ◌∙◌, inl, inr}
 use Rattle.std.proofs.lemmas.Bool.{false≢true}
-use Rattle.rpki_command.specs.Pages.{line}
+use Rattle.rpki_command.specs.Files.{FileFields}
+use Rattle.rpki_command.specs.Pages.{Appends, line}
 use Rattle.rpki_command.specs.VerdictTexts.{IsListPart}
 use Rattle.rpki_command.proofs.AppendedTexts.{none_appended, such_appended}
 use Rattle.rpki_command.proofs.verdict_lines.print_list.Goals as goal
@@ -12,5 +13,8 @@ returns-in-Ok-true c =
 
 pub returns-in-Ok-false : goal.returns-in-Ok-false
 returns-in-Ok-false c =
-    let name = c.object.inside.name.now in
-    such_appended (IsListPart c.args.object.now) c.args.page.now c.line.new.self (line (codes "Not a list") name) (inr ((λ begins. false≢true (sym c.in-Ok-false.field-0-test ∙ c.in-Ok-false.ensures.1 begins)), (name, refl))) c.line.ensures
+    let file = c.args.object.now in
+    let old = c.args.page.now in
+    let new = c.line.new.self in
+    let appended = subst (λ (f : FileFields). Appends old (line (codes "Not a list") f.name) new) c.object.view_is c.line.ensures in
+    such_appended (IsListPart file) old new (line (codes "Not a list") file.name) (inr ((λ begins. false≢true (sym c.in-Ok-false.field-0-test ∙ c.in-Ok-false.ensures.1 begins)), refl)) appended
