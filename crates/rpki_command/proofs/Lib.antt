@@ -20,8 +20,12 @@ mod OneMoment
 mod OneRequest
 mod OneStore
 mod PemLines
+mod PutMembers
 mod RouterFaults
 mod SingleOutcomes
 mod StoredPairs
 mod TwoSplits
 mod UnrevokedFiles
+mod WholeValues
+mod WholeFiles
+mod PushedValues

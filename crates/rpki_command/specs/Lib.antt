@@ -16,4 +16,8 @@ pub mod BlockLines
 pub mod ListTexts
 pub mod CertificateTexts
 pub mod VerdictTexts
+pub mod JsonValues
+pub mod JsonBlocks
+pub mod JsonFiles
+pub mod JsonTexts
 pub mod KnownKinds

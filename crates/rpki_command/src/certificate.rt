@@ -33,14 +33,14 @@ pub fn key_identifier(page: &mut Page, it: &KeyIdentifier)
     page.value(&Colons(it.as_octets().as_slice()));
 }
 
-// What inspection answers for each kind: nothing where the profile is met, else the first fault.
+/// What inspection answers for each kind: nothing where the profile is met, else the first fault.
 #[derive(Clone, Copy)]
-struct Answers {
-    anchor: Option<InspectionError>,
-    authority: Option<InspectionError>,
-    end_entity: Option<InspectionError>,
-    detached: Option<InspectionError>,
-    router: Option<InspectionError>,
+pub struct Answers {
+    pub anchor: Option<InspectionError>,
+    pub authority: Option<InspectionError>,
+    pub end_entity: Option<InspectionError>,
+    pub detached: Option<InspectionError>,
+    pub router: Option<InspectionError>,
 }
 
 fn anchor_fault(cert: &Cert, strict: bool) -> Option<InspectionError>
@@ -88,7 +88,8 @@ fn router_fault(cert: &Cert, strict: bool) -> Option<InspectionError>
     }
 }
 
-fn answers_of(cert: &Cert, strict: bool) -> Answers
+/// Returns what inspection answers for each kind.
+pub fn answers_of(cert: &Cert, strict: bool) -> Answers
     ensures { AreAnswers strict cert.now result }
 {
     Answers {

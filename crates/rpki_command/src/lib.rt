@@ -10,10 +10,10 @@ ghost use Rattle.rpki_command.specs.Outcomes.{AsksOfFiles, MayEndWith, RunMayEnd
 
 mod answering;
 mod arguments;
+mod as_json;
 mod blocks;
 mod certificate;
 mod files;
-mod json;
 mod judging;
 mod kinds;
 mod lines;

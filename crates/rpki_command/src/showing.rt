@@ -13,7 +13,7 @@ use crate::outcomes::{Answer, Outcome};
 use crate::page::Page;
 use crate::places::{Place, place_of};
 use crate::rules::{Rule, of_file};
-use crate::{certificate, json, list};
+use crate::{as_json, certificate, list};
 use base64::engine::general_purpose::STANDARD;
 use bytes::Bytes;
 use rpki::der::{Cursor, DecodeError};
@@ -105,7 +105,7 @@ fn refused(page: &mut Page, object: &Object<'_>, fault: &DecodeError, options: &
     };
     if options.json {
         let file = as_shown(object, 0);
-        let made = json::refused(page.alloc(), &file, it.why.as_str(), it.rule, it.place);
+        let made = as_json::refused(page.alloc(), &file, it.why.as_str(), it.rule, it.place);
         printed(page, made);
     } else {
         print_rejection(page, object, &it);
@@ -113,8 +113,8 @@ fn refused(page: &mut Page, object: &Object<'_>, fault: &DecodeError, options: &
     drop(it);
 }
 
-fn as_shown<'a>(object: &'a Object<'_>, left: usize) -> json::Shown<'a> {
-    json::Shown {
+fn as_shown<'a>(object: &'a Object<'_>, left: usize) -> as_json::Shown<'a> {
+    as_json::Shown {
         name: object.name,
         whole: object.octets.as_slice(),
         left,
@@ -139,7 +139,7 @@ fn whole_certificate(
 ) {
     if options.json {
         let file = as_shown(object, left);
-        let made = json::certificate(page.alloc(), &file, cert, options.strict);
+        let made = as_json::certificate(page.alloc(), &file, cert, options.strict);
         printed(page, made);
     } else {
         begun(page, object);
@@ -182,7 +182,7 @@ fn list_in(alloc: Global, octets: &Bytes) -> Result<(Crl, usize), DecodeError>
 
 fn whole_list(page: &mut Page, object: &Object<'_>, it: &Crl, left: usize, options: &Options) {
     if options.json {
-        let made = json::list(page.alloc(), &as_shown(object, left), it);
+        let made = as_json::list(page.alloc(), &as_shown(object, left), it);
         printed(page, made);
     } else {
         begun(page, object);

@@ -8,8 +8,8 @@ ghost use Rattle.rpki_command.specs.Outcomes.{IsOutcomeOfValidate};
 ghost use Rattle.rpki_command.specs.PathAnswers.{IsAcceptance};
 ghost use Rattle.rpki_command.specs.VerdictTexts.{IsTextOfPath};
 
+use crate::as_json;
 use crate::files::Object;
-use crate::json;
 use crate::outcomes::{Answer, Outcome};
 use crate::page::Page;
 use crate::path::{Question, Verdict, is_list, judge};
@@ -21,7 +21,7 @@ fn json_text(
     question: &Question<'_, '_>,
     verdict: Option<&Verdict>,
 ) -> Result<String, AllocError> {
-    let value = json::path(alloc, question, verdict)?;
+    let value = as_json::path(alloc, question, verdict)?;
     let mut page = Page::new(alloc);
     let text = value.to_string_pretty(alloc);
     page.formed(text);

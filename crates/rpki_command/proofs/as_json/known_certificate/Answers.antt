@@ -1,0 +1,17 @@
+use Rattle.rpki_command.specs.JsonFiles.{certificate_json}
+use Rattle.rpki_command.proofs.PutMembers.{then_put, last_put, object_made}
+use Rattle.rpki_command.proofs.as_json.known_certificate.Goals as goal
+
+pub returns : goal.returns
+unfolding certificate_json
+returns c =
+    object_made _ _ _ _ c.new-out.ensures
+    (then_put _ _ _ _ _ c.in_ok-head.ensures
+    (then_put _ _ _ _ _ (rw c.type_word.ensures at c.in_ok-text.ensures)
+    (then_put _ _ _ _ _ c.in_ok-names.ensures
+    (then_put _ _ _ _ _ c.in_ok-keys.ensures
+    (then_put _ _ _ _ _ c.in_ok-uris.ensures
+    (then_put _ _ _ _ _ (rw (c.from.ensures, c.in_ok-items.ensures) at c.in_ok-value.ensures)
+    (then_put _ _ _ _ _ (rw c.in_ok-kinds.ensures at c.in_ok-value-2.ensures)
+    (last_put _ _ _ c.in_ok-text-2.ensures))))))))
+    c.into_value.ensures

@@ -1,0 +1,168 @@
+-- Certificates, lists and other files as JSON.
+use Rattle.std.specs.Option.{option_map}
+use Rattle.std.specs.Prelude.{◌≡◌, ℕ, Bool, List, [], ◌∷◌, map, codes, Option, Some, None}
+use Rattle.sha2.specs.Sha256.{sha256}
+use Rattle.serde_json.specs.Data.{Data}
+use Rattle.rpki.specs.CertificateExtensions.{ExtensionFields}
+use Rattle.rpki.specs.Certificates.{CertFields, TbsFields}
+use Rattle.rpki.specs.Inspection.{inspection_error_name}
+use Rattle.rpki.specs.InspectionError.{InspectionError}
+use Rattle.rpki.specs.KeyUsage.{KeyUsage}
+use Rattle.rpki.specs.KeyUsage.TheVariants.{Ca, Ee}
+use Rattle.rpki.specs.Kind.{Kind}
+use Rattle.rpki.specs.Kind.TheVariants.{Anchor, Authority, EndEntity, Detached, Router}
+use Rattle.rpki.specs.Lists.{ListFields}
+use Rattle.rpki.specs.NameTexts.{name_text}
+use Rattle.rpki.specs.Overclaim.{Overclaim}
+use Rattle.rpki.specs.Overclaim.TheVariants.{Refuse, Trim}
+use Rattle.rpki.specs.RevokedEntries.{Entry, Revoked}
+use Rattle.rpki.specs.Texts.{serial_text}
+use Rattle.rpki_command.specs.CertificateTexts.{AreAnswers}
+use Rattle.rpki_command.specs.GivenPaths.{SaysKind}
+use Rattle.rpki_command.specs.JsonBlocks.{listed_items}
+use Rattle.rpki_command.specs.JsonValues.{Pair, moment_json, array_of, member_of, text_member, text_member_if_any, count_member_if_any, object_of, rule_members, place_members, joined}
+use Rattle.rpki_command.specs.Pages.{characters_text, colons_text}
+use Rattle.rpki_command.specs.PemFiles.{base64_of}
+use Rattle.rpki_command.specs.declared.certificate.Answers.{Answers}
+use Rattle.rpki_command.specs.declared.as_json.Shown.{Shown}
+use Rattle.rpki_command.specs.declared.places.Place.{Place}
+use Rattle.rpki_command.specs.declared.rules.Rule.{Rule}
+
+-- ---- files
+
+-- a file: its name, the SHA-256 of its octets in base64, and how many octets stand behind its
+-- object, where some do
+unfoldable pub head_members : Shown → List Pair
+head_members file = joined (
+    text_member (codes "file") file.name.now
+    ∷ text_member (codes "hash_id") (base64_of (sha256 file.whole.now))
+    ∷ count_member_if_any (codes "octets_after_end") file.left
+    ∷ [])
+
+-- that the signature isn't checked where a file is shown
+abbrev pub signature_member : List Pair
+signature_member = text_member (codes "signature") (codes "not checked")
+
+-- ---- values of a certificate
+
+-- the kind that a certificate says that it is of
+abbrev pub type_word : Kind → List ℕ
+type_word Router = codes "router_key"
+type_word Authority = codes "ca_cert"
+type_word _ = codes "ee_cert"
+
+-- what a key may be used for
+abbrev pub usage_word : KeyUsage → List ℕ
+usage_word Ca = codes "ca"
+usage_word Ee = codes "ee"
+
+-- what becomes of resources beyond the issuer's
+abbrev pub overclaim_word : Overclaim → List ℕ
+overclaim_word Refuse = codes "refuse"
+overclaim_word Trim = codes "trim"
+
+-- what inspection answers
+abbrev pub answer_word : Option InspectionError → List ℕ
+answer_word None = codes "OK"
+answer_word (Some fault) = inspection_error_name fault
+
+-- the answers for the five kinds
+unfoldable pub profiles_json : Answers → Data
+profiles_json a = object_of (joined (
+    text_member (codes "ta") (answer_word a.anchor)
+    ∷ text_member (codes "ca") (answer_word a.authority)
+    ∷ text_member (codes "ee") (answer_word a.end_entity)
+    ∷ text_member (codes "detached_ee") (answer_word a.detached)
+    ∷ text_member (codes "router") (answer_word a.router)
+    ∷ []))
+
+-- ---- a certificate
+
+-- its number, its names and its validity
+unfoldable pub name_members : TbsFields → List Pair
+name_members f = joined (
+    text_member (codes "cert_serial") (serial_text f.serial)
+    ∷ text_member (codes "cert_issuer") (name_text f.issuer)
+    ∷ text_member (codes "cert_subject") (name_text f.subject)
+    ∷ member_of (codes "valid_since") (moment_json f.validity.not_before)
+    ∷ member_of (codes "valid_until") (moment_json f.validity.not_after)
+    ∷ [])
+
+-- its key, its issuer's, and what its key and its resources may be
+unfoldable pub key_members : ExtensionFields → List Pair
+key_members x = joined (
+    text_member (codes "ski") (colons_text x.subject_key_identifier)
+    ∷ text_member_if_any (codes "aki") (option_map colons_text x.authority_key_identifier)
+    ∷ text_member (codes "key_usage") (usage_word x.key_usage)
+    ∷ text_member (codes "overclaim") (overclaim_word x.overclaim)
+    ∷ [])
+
+-- a URI, where there is one
+abbrev pub uri_member : List ℕ → Option (List ℕ) → List Pair
+uri_member name uri = text_member_if_any name (option_map characters_text uri)
+
+-- where things are
+unfoldable pub uri_members : ExtensionFields → List Pair
+uri_members x = joined (
+    uri_member (codes "aia") x.ca_issuer
+    ∷ uri_member (codes "crl") x.crl_uri
+    ∷ uri_member (codes "carepository") x.access.ca_repository
+    ∷ uri_member (codes "manifest") x.access.rpki_manifest
+    ∷ uri_member (codes "signed_object") x.access.signed_object
+    ∷ uri_member (codes "notify_url") x.access.rpki_notify
+    ∷ [])
+
+-- a certificate of this kind, with what inspection answers
+unfoldable pub certificate_json : Shown → Kind → Answers → TbsFields → Data
+certificate_json file kind answers f = object_of (joined (
+    head_members file
+    ∷ text_member (codes "type") (type_word kind)
+    ∷ name_members f
+    ∷ key_members f.extensions
+    ∷ uri_members f.extensions
+    ∷ member_of (codes "subordinate_resources") (array_of (listed_items f.extensions))
+    ∷ member_of (codes "profiles") (profiles_json answers)
+    ∷ signature_member
+    ∷ []))
+
+-- the value of the certificate that a file begins with
+pub record IsCertificateJson (strict : Bool) (file : Shown) (c : CertFields) (value : Data) : Type 0 where
+  pub kind : Kind
+  pub kind_is : SaysKind kind c.fields
+  pub answers : Answers
+  pub answers_are : AreAnswers strict c answers
+  pub value_is : value ≡ certificate_json file kind answers c.fields
+
+-- ---- a list
+
+-- a revoked certificate: its serial number, and since when it is revoked
+abbrev pub entry_json : Entry → Data
+entry_json e = object_of (joined (
+    text_member (codes "serial") (serial_text e.serial)
+    ∷ member_of (codes "date") (moment_json e.date)
+    ∷ []))
+
+-- a list with all its entries
+unfoldable pub list_json : Shown → ListFields Revoked → Data
+list_json file l = object_of (joined (
+    head_members file
+    ∷ text_member (codes "type") (codes "crl")
+    ∷ text_member (codes "crl_issuer") (name_text l.issuer)
+    ∷ text_member (codes "aki") (colons_text l.extensions.authority_key_identifier)
+    ∷ text_member (codes "crl_serial") (serial_text l.extensions.crl_number)
+    ∷ member_of (codes "valid_since") (moment_json l.this_update)
+    ∷ member_of (codes "valid_until") (moment_json l.next_update)
+    ∷ member_of (codes "revoked_certs") (array_of (map entry_json l.revoked.entries))
+    ∷ signature_member
+    ∷ []))
+
+-- ---- a file that is neither
+
+-- the fault, what it means and the section of the standard, and where reading stops
+unfoldable pub rejection_json : Shown → List ℕ → Rule → Place → Data
+rejection_json file fault rule place = object_of (joined (
+    head_members file
+    ∷ text_member (codes "fault") fault
+    ∷ rule_members rule
+    ∷ place_members place
+    ∷ []))

@@ -1,0 +1,286 @@
+//! Certificates and lists as JSON, with the names that rpki-client gives to what it shows too.
+ghost use Rattle.std.specs.Prelude.{◌≡◌, codes, map, option_map, IfOk, OnOk};
+ghost use Rattle.serde_json.specs.View.{view};
+ghost use Rattle.rpki_command.specs.Pages.{colons_text};
+ghost use Rattle.rpki_command.specs.JsonFiles.{IsCertificateJson, answer_word, certificate_json, entry_json, head_members, key_members, list_json, name_members, overclaim_word, profiles_json, rejection_json, type_word, uri_member, uri_members, usage_word};
+ghost use Rattle.rpki_command.specs.JsonValues.{Puts, array_of, count_member_if_any, place_members, rule_members, text_member_if_any};
+
+mod blocks;
+mod objects;
+mod verdicts;
+
+use crate::certificate::{Answers, answers_of};
+use crate::places::Place;
+use crate::rules::Rule;
+use crate::saying::said_kind;
+use objects::Members;
+use rpki::crypto::KeyIdentifier;
+use rpki::repository::cert::{Cert, KeyUsage, Kind, Overclaim, TbsCert};
+use rpki::repository::crl::{Crl, RevokedCertificates};
+use rpki::repository::error::InspectionError;
+use rpki::repository::x509::{Serial, Time};
+use rpki::uri::{Https, Rsync};
+use serde_json::Value;
+use std::alloc::{AllocError, Global};
+pub use verdicts::path;
+
+/// A file that is shown: its name, its octets in DER, and how many of them stand behind its object.
+#[derive(Clone, Copy)]
+pub struct Shown<'a> {
+    pub name: &'a str,
+    pub whole: &'a [u8],
+    pub left: usize,
+}
+
+// How many octets stand behind the object, where some do.
+#[tactic(auto, unfolding(crate::specs::JsonValues::put_all))]
+fn left(out: &mut Members, left: usize) -> Result<(), AllocError>
+    ensures { OnOk result
+        (Puts (count_member_if_any (codes "octets_after_end") left) out.old out.new) }
+{
+    if left == 0 {
+        return Ok(());
+    }
+    out.value("octets_after_end", Value::from(left as u64))
+}
+
+// The file's name and hash, and how many octets stand behind its object, where some do.
+fn head(out: &mut Members, file: &Shown<'_>) -> Result<(), AllocError>
+    ensures { OnOk result (Puts (head_members file.now) out.old out.new) }
+{
+    out.text("file", file.name)?;
+    out.hash("hash_id", file.whole)?;
+    left(out, file.left)
+}
+
+// The number of a certificate, its names and its validity.
+fn names(out: &mut Members, fields: &TbsCert) -> Result<(), AllocError>
+    ensures { OnOk result (Puts (name_members fields.now) out.old out.new) }
+{
+    out.serial("cert_serial", fields.serial_number())?;
+    out.name("cert_issuer", fields.issuer())?;
+    out.name("cert_subject", fields.subject())?;
+    out.moment("valid_since", fields.validity().not_before())?;
+    out.moment("valid_until", fields.validity().not_after())
+}
+
+// The identifier of the issuer's key, where it is there.
+#[tactic(auto, unfolding(crate::specs::JsonValues::put_all))]
+fn authority_key(out: &mut Members, it: Option<KeyIdentifier>) -> Result<(), AllocError>
+    ensures { OnOk result
+        (Puts (text_member_if_any (codes "aki") (option_map colons_text it)) out.old out.new) }
+{
+    match it {
+        Some(it) => out.identifier("aki", &it),
+        None => Ok(()),
+    }
+}
+
+fn usage_word(usage: KeyUsage) -> &'static str
+    ensures { result.now ≡ usage_word usage }
+{
+    match usage {
+        KeyUsage::Ca => "ca",
+        KeyUsage::Ee => "ee",
+    }
+}
+
+fn overclaim_word(mode: Overclaim) -> &'static str
+    ensures { result.now ≡ overclaim_word mode }
+{
+    match mode {
+        Overclaim::Refuse => "refuse",
+        Overclaim::Trim => "trim",
+    }
+}
+
+// The key of a certificate, its issuer's, and what its key and its resources may be.
+fn keys(out: &mut Members, fields: &TbsCert) -> Result<(), AllocError>
+    ensures { OnOk result (Puts (key_members fields.now.extensions) out.old out.new) }
+{
+    out.identifier("ski", &fields.subject_key_identifier())?;
+    authority_key(out, fields.authority_key_identifier())?;
+    out.text("key_usage", usage_word(fields.key_usage()))?;
+    out.text("overclaim", overclaim_word(fields.overclaim()))
+}
+
+#[tactic(auto, unfolding(crate::specs::JsonValues::put_all))]
+fn rsync(out: &mut Members, key: &str, uri: Option<&Rsync>) -> Result<(), AllocError>
+    ensures { let octets = option_map (λ it. it.now) uri.entry in
+        OnOk result (Puts (uri_member key.now octets) out.old out.new) }
+{
+    match uri {
+        Some(uri) => out.octets(key, uri.as_bytes()),
+        None => Ok(()),
+    }
+}
+
+#[tactic(auto, unfolding(crate::specs::JsonValues::put_all))]
+fn https(out: &mut Members, key: &str, uri: Option<&Https>) -> Result<(), AllocError>
+    ensures { let octets = option_map (λ it. it.now) uri.entry in
+        OnOk result (Puts (uri_member key.now octets) out.old out.new) }
+{
+    match uri {
+        Some(uri) => out.octets(key, uri.as_bytes()),
+        None => Ok(()),
+    }
+}
+
+// Where things are.
+fn uris(out: &mut Members, fields: &TbsCert) -> Result<(), AllocError>
+    ensures { OnOk result (Puts (uri_members fields.now.extensions) out.old out.new) }
+{
+    rsync(out, "aia", fields.ca_issuer())?;
+    rsync(out, "crl", fields.crl_uri())?;
+    rsync(out, "carepository", fields.ca_repository())?;
+    rsync(out, "manifest", fields.rpki_manifest())?;
+    rsync(out, "signed_object", fields.signed_object())?;
+    https(out, "notify_url", fields.rpki_notify())
+}
+
+fn answer_word(answer: Option<InspectionError>) -> &'static str
+    ensures { result.now ≡ answer_word answer }
+{
+    match answer {
+        None => "OK",
+        Some(fault) => fault.name(),
+    }
+}
+
+// What inspection answers for each kind.
+#[tactic(auto, unfolding(crate::specs::JsonFiles::profiles_json))]
+fn profiles(alloc: Global, answers: &Answers) -> Result<Value, AllocError>
+    ensures { IfOk result (λ made. view made ≡ profiles_json answers.now) }
+{
+    let mut out = Members::new(alloc);
+    out.text("ta", answer_word(answers.anchor))?;
+    out.text("ca", answer_word(answers.authority))?;
+    out.text("ee", answer_word(answers.end_entity))?;
+    out.text("detached_ee", answer_word(answers.detached))?;
+    out.text("router", answer_word(answers.router))?;
+    Ok(out.into_value())
+}
+
+fn type_word(kind: Kind) -> &'static str
+    ensures { result.now ≡ type_word kind }
+{
+    match kind {
+        Kind::Router => "router_key",
+        Kind::Authority => "ca_cert",
+        Kind::EndEntity | Kind::Detached | Kind::Anchor => "ee_cert",
+    }
+}
+
+// The value of a certificate of this kind, with what inspection answers.
+fn known_certificate(
+    alloc: Global,
+    file: &Shown<'_>,
+    kind: Kind,
+    answers: &Answers,
+    fields: &TbsCert,
+) -> Result<Value, AllocError>
+    ensures { IfOk result (λ made. view made ≡ certificate_json file.now kind answers.now fields.now) }
+{
+    let mut out = Members::new(alloc);
+    head(&mut out, file)?;
+    out.text("type", type_word(kind))?;
+    names(&mut out, fields)?;
+    keys(&mut out, fields)?;
+    uris(&mut out, fields)?;
+    let items = blocks::listed(alloc, fields)?;
+    out.value("subordinate_resources", Value::from(items))?;
+    let kinds = profiles(alloc, answers)?;
+    out.value("profiles", kinds)?;
+    out.text("signature", "not checked")?;
+    Ok(out.into_value())
+}
+
+/// Makes the value of a certificate.
+pub fn certificate(
+    alloc: Global,
+    file: &Shown<'_>,
+    cert: &Cert,
+    strict: bool,
+) -> Result<Value, AllocError>
+    ensures { IfOk result (λ made. IsCertificateJson strict file.now cert.now (view made)) }
+{
+    let kind = said_kind(cert.as_tbs());
+    let answers = answers_of(cert, strict);
+    known_certificate(alloc, file, kind, &answers, cert.as_tbs())
+}
+
+// A revoked certificate.
+fn entry(alloc: Global, serial: Serial, date: Time) -> Result<Value, AllocError>
+    ensures { IfOk result (λ made. view made ≡ entry_json (record { serial = serial; date = date })) }
+{
+    let mut out = Members::new(alloc);
+    out.serial("serial", serial)?;
+    out.moment("date", date)?;
+    Ok(out.into_value())
+}
+
+// All entries of a list.
+fn entries(alloc: Global, revoked: &RevokedCertificates) -> Result<Value, AllocError>
+    ensures { IfOk result (λ made. view made ≡ array_of (map entry_json revoked.now.entries)) }
+{
+    let mut items = Vec::new(alloc);
+    for it in revoked.iter() {
+        let item = entry(alloc, it.user_certificate, it.revocation_date)?;
+        items.push(item)?;
+    }
+    Ok(Value::from(items))
+}
+
+/// Makes the value of a list.
+pub fn list(alloc: Global, file: &Shown<'_>, it: &Crl) -> Result<Value, AllocError>
+    ensures { IfOk result (λ made. view made ≡ list_json file.now it.now.list.fields) }
+{
+    let mut out = Members::new(alloc);
+    head(&mut out, file)?;
+    out.text("type", "crl")?;
+    let fields = it.as_cert_list();
+    out.name("crl_issuer", fields.issuer())?;
+    out.identifier("aki", fields.authority_key_identifier())?;
+    out.serial("crl_serial", fields.crl_number())?;
+    out.moment("valid_since", fields.this_update())?;
+    out.moment("valid_until", fields.next_update())?;
+    let items = entries(alloc, fields.revoked_certs())?;
+    out.value("revoked_certs", items)?;
+    out.text("signature", "not checked")?;
+    Ok(out.into_value())
+}
+
+/// Puts in what a fault means, and the section of the standard.
+pub fn put_rule(out: &mut Members, rule: Rule) -> Result<(), AllocError>
+    ensures { OnOk result (Puts (rule_members rule) out.old out.new) }
+{
+    out.text("why", rule.says)?;
+    out.text("standard", rule.section)
+}
+
+// Puts in the field at which reading stops, and the octet at which that begins.
+fn put_place(out: &mut Members, place: Place) -> Result<(), AllocError>
+    ensures { OnOk result (Puts (place_members place) out.old out.new) }
+{
+    out.text("field", place.field)?;
+    out.value("octet", Value::from(place.octet as u64))
+}
+
+/// Makes the value of a file that is neither: the fault and its rule, the field at which reading
+/// stops, and the octet at which that begins.
+pub fn refused(
+    alloc: Global,
+    file: &Shown<'_>,
+    fault: &str,
+    rule: Rule,
+    place: Place,
+) -> Result<Value, AllocError>
+    ensures { IfOk result (λ made. view made ≡ rejection_json file.now fault.now rule place) }
+{
+    let mut out = Members::new(alloc);
+    head(&mut out, file)?;
+    out.text("fault", fault)?;
+    put_rule(&mut out, rule)?;
+    put_place(&mut out, place)?;
+    Ok(out.into_value())
+}
