@@ -29,3 +29,5 @@ mod UnrevokedFiles
 mod WholeValues
 mod WholeFiles
 mod PushedValues
+mod NoLists
+mod WholeVerdicts

@@ -1,6 +1,7 @@
 -- The values of files have no floats.
 use Rattle.std.specs.List.{AllByRecursion}
 use Rattle.std.specs.Option.{option_map}
+use Rattle.std.specs.Prelude.{Option, codes}
 use Rattle.std.proofs.Common.{◌≡◌, ◌==◌, ℕ, List, [], ◌∷◌, ◌++◌, refl}
 use Rattle.serde_json.specs.Data.{Data, string}
 use Rattle.rpki.specs.AddressBits.{is_prefix, prefix_bits}
@@ -15,18 +16,16 @@ use Rattle.rpki.specs.Timestamps.{timestamp}
 use Rattle.rpki.specs.Verification.{ResourceFields}
 use Rattle.rpki_cert.proofs.Reordering.{all_append}
 use Rattle.rpki_command.specs.JsonBlocks.{ends_json, block_json, numbers_json, resource_items, listed_items, held_items}
-use Rattle.rpki_command.specs.JsonFiles.{head_members, profiles_json, name_members, key_members, uri_members, certificate_json, entry_json, list_json, rejection_json}
+use Rattle.rpki_command.specs.JsonFiles.{head_members, profiles_json, name_members, key_members, uri_member, uri_members, certificate_json, entry_json, list_json, rejection_json}
 use Rattle.rpki_command.specs.JsonValues.{Pair}
+use Rattle.rpki_command.specs.Pages.{characters_text}
 use Rattle.rpki_command.specs.declared.as_json.Shown.{Shown}
 use Rattle.rpki_command.specs.declared.blocks.Family.{Family}
 use Rattle.rpki_command.specs.declared.blocks.Family.TheVariants.{V4, V6}
 use Rattle.rpki_command.specs.declared.certificate.Answers.{Answers}
 use Rattle.rpki_command.specs.declared.places.Place.{Place}
 use Rattle.rpki_command.specs.declared.rules.Rule.{Rule}
-use Rattle.rpki_command.proofs.WholeValues.{IsWhole, AreWhole, object_whole, array_whole, mapped_whole, if_whole, integer_whole, text_if_any_whole, count_if_any_whole}
-
-pub both_whole : (a b : List Pair) → AreWhole a → AreWhole b → AreWhole (a ++ b)
-both_whole a b p q = all_append (λ (pair : Pair). IsWhole pair.1) a b p q
+use Rattle.rpki_command.proofs.WholeValues.{IsWhole, AreWhole, none_whole, then_whole, both_whole, object_whole, array_whole, mapped_whole, if_whole, integer_whole, text_if_any_whole, count_if_any_whole}
 
 all_whole : (a b : List Data) → AllByRecursion IsWhole a → AllByRecursion IsWhole b → AllByRecursion IsWhole (a ++ b)
 all_whole a b p q = all_append IsWhole a b p q
@@ -34,17 +33,17 @@ all_whole a b p q = all_append IsWhole a b p q
 -- ---- blocks
 
 ends_whole : (min max : Data) → IsWhole min → IsWhole max → IsWhole (ends_json min max)
-ends_whole min max p q = object_whole _ (p, (q, tt))
+ends_whole min max p q = object_whole _ (then_whole _ min _ p (then_whole _ max _ q none_whole))
 
 block_whole : (family : Family) (b : Block) → IsWhole (block_json family b)
-block_whole family b = if_whole (is_prefix b (prefix_bits b)) _ _ (object_whole _ (refl, tt)) (object_whole _ (ends_whole _ _ refl refl, tt))
+block_whole family b = if_whole (is_prefix b (prefix_bits b)) _ _ (object_whole _ (then_whole _ _ _ refl none_whole)) (object_whole _ (then_whole _ _ _ (ends_whole _ _ refl refl) none_whole))
 
 numbers_whole : (b : Block) → IsWhole (numbers_json b)
-numbers_whole b = if_whole (b.min == b.max) _ _ (object_whole _ (refl, tt)) (object_whole _ (ends_whole _ _ refl refl, tt))
+numbers_whole b = if_whole (b.min == b.max) _ _ (object_whole _ (then_whole _ _ _ refl none_whole)) (object_whole _ (then_whole _ _ _ (ends_whole _ _ refl refl) none_whole))
 
 resource_whole : (json : Block → Data) → ((b : Block) → IsWhole (json b)) → (name : List ℕ) (r : Resources) → AllByRecursion IsWhole (resource_items json name r)
 resource_whole json whole name missing = tt
-resource_whole json whole name inherit = (object_whole _ (refl, tt), tt)
+resource_whole json whole name inherit = (object_whole _ (then_whole _ _ _ refl none_whole), tt)
 resource_whole json whole name (blocks bs) = mapped_whole json whole bs
 
 listed_whole : (x : ExtensionFields) → AllByRecursion IsWhole (listed_items x)
@@ -63,74 +62,56 @@ held_whole holder =
 
 head_whole : (file : Shown) → AreWhole (head_members file)
 unfolding head_members
-head_whole file = (refl, (refl, both_whole _ _ (count_if_any_whole _ file.left) tt))
+head_whole file =
+    then_whole _ _ _ refl (then_whole _ _ _ refl (both_whole _ _ (count_if_any_whole _ file.left) none_whole))
 
 profiles_whole : (a : Answers) → IsWhole (profiles_json a)
 unfolding profiles_json
-profiles_whole a = object_whole _ (refl, (refl, (refl, (refl, (refl, tt)))))
+profiles_whole a =
+    object_whole _ (then_whole _ _ _ refl (then_whole _ _ _ refl (then_whole _ _ _ refl (then_whole _ _ _ refl (then_whole _ _ _ refl none_whole)))))
 
 names_whole : (f : TbsFields) → AreWhole (name_members f)
 unfolding name_members
 names_whole f =
-    (refl, (refl, (refl, (integer_whole (timestamp f.validity.not_before), (integer_whole (timestamp f.validity.not_after), tt)))))
+    then_whole _ _ _ refl (then_whole _ _ _ refl (then_whole _ _ _ refl (then_whole _ _ _ (integer_whole (timestamp f.validity.not_before)) (then_whole _ _ _ (integer_whole (timestamp f.validity.not_after)) none_whole))))
 
 keys_whole : (x : ExtensionFields) → AreWhole (key_members x)
 unfolding key_members
-keys_whole x = (refl, both_whole _ _ (text_if_any_whole _ _) (refl, (refl, tt)))
+keys_whole x =
+    then_whole _ _ _ refl (both_whole _ _ (text_if_any_whole _ _) (then_whole _ _ _ refl (then_whole _ _ _ refl none_whole)))
+
+uri_whole : (name : List ℕ) (uri : Option (List ℕ)) (more : List Pair) → AreWhole more → AreWhole (uri_member name uri ++ more)
+uri_whole name uri more are = both_whole _ _ (text_if_any_whole name (option_map characters_text uri)) are
 
 uris_whole : (x : ExtensionFields) → AreWhole (uri_members x)
 unfolding uri_members
 uris_whole x =
-    both_whole _ _ (text_if_any_whole _ _)
-    (both_whole _ _ (text_if_any_whole _ _)
-    (both_whole _ _ (text_if_any_whole _ _)
-    (both_whole _ _ (text_if_any_whole _ _)
-    (both_whole _ _ (text_if_any_whole _ _)
-    (both_whole _ _ (text_if_any_whole _ _) tt)))))
+    uri_whole (codes "aia") x.ca_issuer _
+    (uri_whole (codes "crl") x.crl_uri _
+    (uri_whole (codes "carepository") x.access.ca_repository _
+    (uri_whole (codes "manifest") x.access.rpki_manifest _
+    (uri_whole (codes "signed_object") x.access.signed_object _
+    (uri_whole (codes "notify_url") x.access.rpki_notify _ none_whole)))))
 
 pub certificate_whole : (file : Shown) (kind : Kind) (answers : Answers) (f : TbsFields) → IsWhole (certificate_json file kind answers f)
 unfolding certificate_json
 certificate_whole file kind answers f =
-    object_whole _
-    (both_whole _ _ (head_whole file) (
-      refl,
-      both_whole _ _ (names_whole f)
-          (both_whole _ _ (keys_whole f.extensions)
-          (both_whole _ _ (uris_whole f.extensions)
-          (array_whole _ (listed_whole f.extensions), (profiles_whole answers, (refl, tt))))),
-    ))
+    object_whole _ (both_whole _ _ (head_whole file) (then_whole _ _ _ refl (both_whole _ _ (names_whole f) (both_whole _ _ (keys_whole f.extensions) (both_whole _ _ (uris_whole f.extensions) (then_whole _ _ _ (array_whole _ (listed_whole f.extensions)) (then_whole _ _ _ (profiles_whole answers) (then_whole _ _ _ refl none_whole))))))))
 
 -- ---- a list
 
 entry_whole : (e : Entry) → IsWhole (entry_json e)
-entry_whole e = object_whole _ (refl, (integer_whole (timestamp e.date), tt))
+entry_whole e =
+    object_whole _ (then_whole _ _ _ refl (then_whole _ _ _ (integer_whole (timestamp e.date)) none_whole))
 
 pub list_whole : (file : Shown) (l : ListFields Revoked) → IsWhole (list_json file l)
 unfolding list_json
 list_whole file l =
-    object_whole _
-    (both_whole _ _ (head_whole file) (
-      refl,
-      (
-        refl,
-        (
-          refl,
-          (
-            refl,
-            (
-              integer_whole (timestamp l.this_update),
-              (
-                integer_whole (timestamp l.next_update),
-                (array_whole _ (mapped_whole entry_json entry_whole l.revoked.entries), (refl, tt)),
-              ),
-            ),
-          ),
-        ),
-      ),
-    ))
+    object_whole _ (both_whole _ _ (head_whole file) (then_whole _ _ _ refl (then_whole _ _ _ refl (then_whole _ _ _ refl (then_whole _ _ _ refl (then_whole _ _ _ (integer_whole (timestamp l.this_update)) (then_whole _ _ _ (integer_whole (timestamp l.next_update)) (then_whole _ _ _ (array_whole _ (mapped_whole entry_json entry_whole l.revoked.entries)) (then_whole _ _ _ refl none_whole)))))))))
 
 -- ---- a file that is neither
 
 pub rejection_whole : (file : Shown) (fault : List ℕ) (rule : Rule) (place : Place) → IsWhole (rejection_json file fault rule place)
 unfolding rejection_json
-rejection_whole file fault rule place = object_whole _ (both_whole _ _ (head_whole file) (refl, (refl, (refl, (refl, (refl, tt))))))
+rejection_whole file fault rule place =
+    object_whole _ (both_whole _ _ (head_whole file) (then_whole _ _ _ refl (then_whole _ _ _ refl (then_whole _ _ _ refl (then_whole _ _ _ refl (then_whole _ _ _ refl none_whole))))))

@@ -3,12 +3,13 @@ use Rattle.std.specs.Ordering.{nat_cmp, match_ordering}
 use Rattle.std.specs.Cmp.Lexicographic.{slice_cmp}
 use Rattle.std.specs.List.{AllByRecursion}
 use Rattle.std.specs.Prelude.{Option, Some, None, map}
-use Rattle.std.proofs.Common.{◌≡◌, ◌||◌, ◌==◌, if◌then◌else◌, ℕ, ℤ, pos, negsuc, List, [], ◌∷◌, Bool, true, false, refl, Ordering, Less, Equal, Greater}
+use Rattle.std.proofs.Common.{◌≡◌, ◌||◌, ◌==◌, if◌then◌else◌, ℕ, ℤ, pos, negsuc, List, [], ◌∷◌, ◌++◌, Bool, true, false, refl, Ordering, Less, Equal, Greater}
 use Rattle.std.proofs.lemmas.Bool.{or_parts}
 use Rattle.serde_json.specs.Data.{Data, Members, no_members, member, put, number}
 use Rattle.serde_json.specs.Find.{of_integer}
 use Rattle.serde_json.specs.View.{items_of}
 use Rattle.serde_json.specs.Written.{has_float, items_have_float, members_have_float}
+use Rattle.rpki_cert.proofs.Reordering.{all_append}
 use Rattle.rpki_command.specs.JsonValues.{Pair, put_all, count_json, member_of, text_member_if_any, count_member_if_any, object_of, array_of}
 
 -- a value has no float
@@ -16,7 +17,7 @@ abbrev pub IsWhole : Data → Type 0
 IsWhole d = has_float d ≡ false
 
 -- none of these members has one
-abbrev pub AreWhole : List Pair → Type 0
+unfoldable pub AreWhole : List Pair → Type 0
 AreWhole pairs = AllByRecursion (λ pair. IsWhole pair.1) pairs
 
 either_whole : (b c : Bool) → b ≡ false → c ≡ false → (b || c) ≡ false
@@ -36,8 +37,23 @@ put_whole k d (member l e ms) whole none =
     (either_whole (has_float d) _ whole parts.1)
     (either_whole (has_float e) _ parts.0 (put_whole k d ms whole parts.1))
 
+-- no members
+pub none_whole : AreWhole []
+unfolding AreWhole
+none_whole = tt
+
+-- a member and more
+pub then_whole : (name : List ℕ) (d : Data) (more : List Pair) → IsWhole d → AreWhole more → AreWhole ((name, d) ∷ more)
+unfolding AreWhole
+then_whole name d more p q = (p, q)
+
+-- members and more
+pub both_whole : (a b : List Pair) → AreWhole a → AreWhole b → AreWhole (a ++ b)
+unfolding AreWhole
+both_whole a b p q = all_append (λ (pair : Pair). IsWhole pair.1) a b p q
+
 all_whole : (pairs : List Pair) (ms : Members) → AreWhole pairs → members_have_float ms ≡ false → members_have_float (put_all pairs ms) ≡ false
-unfolding put_all
+unfolding put_all AreWhole
 all_whole [] ms are none = none
 all_whole (pair ∷ more) ms are none = all_whole more _ are.1 (put_whole pair.0 pair.1 ms are.0 none)
 
@@ -60,6 +76,7 @@ mapped_whole json whole (x ∷ xs) = (whole x, mapped_whole json whole xs)
 
 -- a text that may be there
 pub text_if_any_whole : (name : List ℕ) (text : Option (List ℕ)) → AreWhole (text_member_if_any name text)
+unfolding AreWhole
 text_if_any_whole name None = tt
 text_if_any_whole name (Some text) = (refl, tt)
 
@@ -69,6 +86,7 @@ if_whole true a c p q = p
 if_whole false a c p q = q
 
 counted_whole : (b : Bool) (name : List ℕ) (n : ℕ) → AreWhole (if b then [] else member_of name (count_json n))
+unfolding AreWhole
 counted_whole true name n = tt
 counted_whole false name n = (refl, tt)
 

@@ -20,4 +20,5 @@ pub mod JsonValues
 pub mod JsonBlocks
 pub mod JsonFiles
 pub mod JsonTexts
+pub mod JsonVerdicts
 pub mod KnownKinds

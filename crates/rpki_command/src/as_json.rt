@@ -22,6 +22,7 @@ use rpki::repository::x509::{Serial, Time};
 use rpki::uri::{Https, Rsync};
 use serde_json::Value;
 use std::alloc::{AllocError, Global};
+pub use objects::lines_of;
 pub use verdicts::path;
 
 /// A file that is shown: its name, its octets in DER, and how many of them stand behind its object.

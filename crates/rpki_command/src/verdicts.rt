@@ -1,9 +1,10 @@
 //! The verdict on a path, for a person or as JSON.
-ghost use Rattle.std.specs.Prelude.{◌↔◌, All, IfOk, IsTrue, IsFalse, string_bytes};
+ghost use Rattle.std.specs.Prelude.{◌↔◌, All, IfOk, IsTrue, IsFalse, option_copied, string_bytes};
 ghost use Rattle.rpki.specs.RsaSignatures.{IsSignedByRsa};
 ghost use Rattle.rpki.specs.Verification.{context};
 ghost use Rattle.rpki_command.specs.Contents.{BeginsWithList};
 ghost use Rattle.rpki_command.specs.Files.{contents};
+ghost use Rattle.rpki_command.specs.JsonVerdicts.{IsJsonOfPath, IsVerdictLines};
 ghost use Rattle.rpki_command.specs.Outcomes.{IsOutcomeOfValidate};
 ghost use Rattle.rpki_command.specs.PathAnswers.{IsAcceptance};
 ghost use Rattle.rpki_command.specs.VerdictTexts.{IsTextOfPath};
@@ -11,22 +12,23 @@ ghost use Rattle.rpki_command.specs.VerdictTexts.{IsTextOfPath};
 use crate::as_json;
 use crate::files::Object;
 use crate::outcomes::{Answer, Outcome};
-use crate::page::Page;
 use crate::path::{Question, Verdict, is_list, judge};
 use crate::verdict_lines::verdict_text;
 use std::alloc::{AllocError, Global};
 
+// The verdict as JSON.
 fn json_text(
     alloc: Global,
     question: &Question<'_, '_>,
     verdict: Option<&Verdict>,
-) -> Result<String, AllocError> {
+) -> Result<String, AllocError>
+    ensures { let verdict = option_copied verdict.entry in
+        IfOk result (λ text. IsVerdictLines question.now verdict (string_bytes text)) }
+{
     let value = as_json::path(alloc, question, verdict)?;
-    let mut page = Page::new(alloc);
-    let text = value.to_string_pretty(alloc);
-    page.formed(text);
-    page.end();
-    page.into_text()
+    let text = as_json::lines_of(alloc, &value);
+    drop(value);
+    text
 }
 
 // Whether each file given as a list begins with one.
@@ -64,6 +66,9 @@ pub fn validated(
     ensures text { let x = context IsSignedByRsa question.now.at question.now.strict in
         IsFalse is_json
         → IfOk result (λ answer. IsTextOfPath x question.now (string_bytes answer.text)) }
+    ensures json { let x = context IsSignedByRsa question.now.at question.now.strict in
+        IsTrue is_json
+        → IfOk result (λ answer. IsJsonOfPath x question.now (string_bytes answer.text)) }
 {
     let are_lists = are_lists(alloc, question.lists)?;
     let verdict = judge(alloc, question)?;

@@ -1,46 +1,134 @@
 //! The verdict on a path as JSON.
+ghost use Rattle.std.specs.Prelude.{◌≡◌, [], ◌∷◌, List, codes, map, IfOk, OnOk, option_copied};
+ghost use Rattle.serde_json.specs.Data.{string};
+ghost use Rattle.serde_json.specs.View.{view};
+ghost use Rattle.rpki_command.specs.Files.{FileFields};
+ghost use Rattle.rpki_command.specs.JsonValues.{Puts, Pushes, text_member_if_any};
+ghost use Rattle.rpki_command.specs.JsonVerdicts.{AreNoLists, IsVerdictJson, accepted_members, answer_members, fault_json, is_asked, names_json, rejected_members};
+ghost use Rattle.rpki_command.specs.VerdictTexts.{name_at};
+
 use crate::as_json::blocks::held;
 use crate::as_json::objects::Members;
 use crate::as_json::put_rule;
+use crate::files::Object;
 use crate::path::{Fault, Question, Verdict, is_list};
+use rpki::repository::cert::ResourceCert;
 use serde_json::Value;
 use std::alloc::{AllocError, Global};
 
-// The files given as lists that are none.
-fn not_lists(alloc: Global, question: &Question<'_, '_>) -> Result<Value, AllocError> {
-    let mut files = Vec::new(alloc);
-    for object in question.lists {
-        if !is_list(alloc, object)? {
-            let name = Value::try_from_str(alloc, object.name)?;
-            files.push(name)?;
-        }
+// The names of files.
+fn names(alloc: Global, files: &[Object<'_>]) -> Result<Value, AllocError>
+    ensures { IfOk result (λ made. view made ≡ names_json files.now) }
+{
+    let mut names = Vec::new(alloc);
+    for file in files {
+        let name = Value::try_from_str(alloc, file.name)?;
+        names.push(name)?;
     }
-    Ok(Value::from(files))
+    Ok(Value::from(names))
 }
 
-fn member_names(alloc: Global, question: &Question<'_, '_>) -> Result<Value, AllocError> {
-    let mut files = Vec::new(alloc);
-    for object in question.members {
-        let name = Value::try_from_str(alloc, object.name)?;
-        files.push(name)?;
-    }
-    Ok(Value::from(files))
+// Whether lists were given.
+fn is_asked(lists: &[Object<'_>]) -> bool
+    ensures { result ≡ is_asked lists.now }
+{
+    !lists.is_empty()
 }
 
+// Pushes the name of a file given as a list, if it is none.
+fn push_other(
+    alloc: Global,
+    names: &mut Vec<Value>,
+    list: &Object<'_>,
+) -> Result<(), AllocError>
+    ensures { OnOk result ((others : List FileFields) × AreNoLists (list.now ∷ []) others
+        × Pushes (map (λ file. string file.name) others) names.old.items names.new.items) }
+{
+    if is_list(alloc, list)? {
+        return Ok(());
+    }
+    let name = Value::try_from_str(alloc, list.name)?;
+    names.push(name)?;
+    Ok(())
+}
+
+// The names of the files given as lists that are none.
+fn not_lists(alloc: Global, lists: &[Object<'_>]) -> Result<Value, AllocError>
+    ensures { IfOk result (λ made. (others : List FileFields) × AreNoLists lists.now others
+        × (view made ≡ names_json others)) }
+{
+    let mut names = Vec::new(alloc);
+    for list in lists {
+        push_other(alloc, &mut names, list)?;
+    }
+    Ok(Value::from(names))
+}
+
+// The name of the member at a place, where there is one.
+#[tactic(auto, unfolding(crate::specs::JsonValues::put_all))]
+fn file_at(out: &mut Members, members: &[Object<'_>], index: usize) -> Result<(), AllocError>
+    ensures { OnOk result
+        (Puts (text_member_if_any (codes "file") (name_at members.now index)) out.old out.new) }
+{
+    match members.get(index) {
+        Some(object) => out.text("file", object.name),
+        None => Ok(()),
+    }
+}
+
+// A fault of a member.
 fn fault_of(
     alloc: Global,
-    question: &Question<'_, '_>,
+    members: &[Object<'_>],
     fault: &Fault,
-) -> Result<Value, AllocError> {
+) -> Result<Value, AllocError>
+    ensures { IfOk result (λ made. view made ≡ fault_json members.now fault.now) }
+{
     let mut out = Members::new(alloc);
     out.value("member", Value::from(fault.index as u64))?;
-    if let Some(object) = question.members.get(fault.index) {
-        out.text("file", object.name)?;
-    }
+    file_at(&mut out, members, fault.index)?;
     out.text("step", fault.step)?;
     out.text("fault", fault.name)?;
     put_rule(&mut out, fault.rule)?;
     Ok(out.into_value())
+}
+
+fn put_accepted(out: &mut Members, alloc: Global, holder: &ResourceCert) -> Result<(), AllocError>
+    ensures { OnOk result (Puts (accepted_members holder.now) out.old out.new) }
+{
+    out.value("accepted", Value::from(true))?;
+    let items = held(alloc, holder)?;
+    out.value("holds", Value::from(items))
+}
+
+fn put_rejected(
+    out: &mut Members,
+    alloc: Global,
+    members: &[Object<'_>],
+    fault: &Fault,
+) -> Result<(), AllocError>
+    ensures { OnOk result (Puts (rejected_members members.now fault.now) out.old out.new) }
+{
+    out.value("accepted", Value::from(false))?;
+    let found = fault_of(alloc, members, fault)?;
+    out.value("rejected", found)
+}
+
+// Whether the path is accepted, and what its last member holds or why it is rejected.
+fn put_answer(
+    out: &mut Members,
+    alloc: Global,
+    members: &[Object<'_>],
+    verdict: Option<&Verdict>,
+) -> Result<(), AllocError>
+    ensures { let verdict = option_copied verdict.entry in
+        OnOk result (Puts (answer_members members.now verdict) out.old out.new) }
+{
+    match verdict {
+        Some(Verdict::Accepted(holder)) => put_accepted(out, alloc, holder),
+        Some(Verdict::Rejected(fault)) => put_rejected(out, alloc, members, fault),
+        None => out.value("accepted", Value::from(false)),
+    }
 }
 
 /// Makes the value of a verdict on a path.
@@ -48,26 +136,16 @@ pub fn path(
     alloc: Global,
     question: &Question<'_, '_>,
     verdict: Option<&Verdict>,
-) -> Result<Value, AllocError> {
+) -> Result<Value, AllocError>
+    ensures { let verdict = option_copied verdict.entry in
+        IfOk result (λ made. IsVerdictJson question.now verdict (view made)) }
+{
     let mut out = Members::new(alloc);
-    let files = member_names(alloc, question)?;
+    let files = names(alloc, question.members)?;
     out.value("path", files)?;
-    let asks = !question.lists.is_empty();
-    out.value("revocation_asked", Value::from(asks))?;
-    let others = not_lists(alloc, question)?;
+    out.value("revocation_asked", Value::from(is_asked(question.lists)))?;
+    let others = not_lists(alloc, question.lists)?;
     out.value("not_lists", others)?;
-    match verdict {
-        Some(Verdict::Accepted(holder)) => {
-            out.value("accepted", Value::from(true))?;
-            let items = held(alloc, holder)?;
-            out.value("holds", Value::from(items))?;
-        }
-        Some(Verdict::Rejected(fault)) => {
-            out.value("accepted", Value::from(false))?;
-            let found = fault_of(alloc, question, fault)?;
-            out.value("rejected", found)?;
-        }
-        None => out.value("accepted", Value::from(false))?,
-    }
+    put_answer(&mut out, alloc, question.members, verdict)?;
     Ok(out.into_value())
 }

@@ -1,0 +1,8 @@
+use Rattle.std.proofs.lemmas.Result.{IfOk-weaker}
+use Rattle.rpki_command.proofs.WholeVerdicts.{verdict_whole}
+use Rattle.rpki_command.proofs.verdicts.json_text.Goals as goal
+
+pub returns : goal.returns
+returns c =
+    let is = c.in_ok-value.ensures in
+    IfOk-weaker c.lines_of-text.result _ _ (λ _ written. (_, is, written)) (c.lines_of-text.ensures (verdict_whole _ _ _ is))
