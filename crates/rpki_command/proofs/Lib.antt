@@ -11,6 +11,7 @@ mod DerTexts
 mod FaultPlaces
 mod FirstInside
 mod FlaggedItems
+mod FoundPolicies
 mod KeptLists
 mod LeadingItems
 mod ListOrder

@@ -5,6 +5,8 @@ pub mod Contents
 pub mod GivenPaths
 pub mod PathVerdicts
 pub mod AskedLists
+pub mod PolicyPresence
+pub mod FaultRules
 pub mod PathAnswers
 pub mod UnrevokedMembers
 pub mod MomentTexts

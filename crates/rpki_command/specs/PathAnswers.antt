@@ -1,13 +1,16 @@
 -- What the command answers of the files of a path.
-use Rattle.std.specs.Prelude.{◌≡◌, ◌≢◌, ℕ, List, [], ◌∷◌, Option, Some, None, option_map}
+use Rattle.std.specs.Prelude.{◌≡◌, ◌≢◌, ℕ, List, [], ◌∷◌, Option, Some, None, option_map, slice_get}
 use Rattle.rpki.specs.Verification.{Context}
 use Rattle.rpki.specs.Stores.{Stored}
 use Rattle.rpki.specs.PathError.{PathError}
+use Rattle.rpki.specs.PathFault.{PathFault}
 use Rattle.rpki.specs.PathFault.TheVariants.{Memory}
+use Rattle.rpki_command.specs.declared.path.Fault.{Fault}
 use Rattle.rpki_command.specs.declared.path.Verdict.{Verdict}
 use Rattle.rpki_command.specs.declared.path.Verdict.TheVariants.{Accepted, Rejected}
 use Rattle.rpki_command.specs.declared.path.Members.{Members}
 use Rattle.rpki_command.specs.AskedLists.{AreStoredOf}
+use Rattle.rpki_command.specs.FaultRules.{ReasonFields, reason, rule_of, IsReason}
 use Rattle.rpki_command.specs.GivenPaths.{GivenPath, given_path, IsGivenBy}
 use Rattle.rpki_command.specs.PathVerdicts.{IsAcceptedWith, IsNotAccepted, IsFaultOf}
 
@@ -15,21 +18,32 @@ use Rattle.rpki_command.specs.PathVerdicts.{IsAcceptedWith, IsNotAccepted, IsFau
 abbrev pub path_of : Members → GivenPath
 path_of m = given_path m.anchor.now m.cas.items m.leaf (option_map (λ octets. octets.now) m.router)
 
--- the member at this place is wrong, and those above it are a valid path
-pub record IsWrongAt (x : Context) (lists : Option (List Stored)) (g : GivenPath) (place : ℕ) : Type 0 where
+-- the step, the name and the rule of a fault
+abbrev pub reason_of : Fault → ReasonFields
+reason_of fault = reason fault.step.now fault.name.now (rule_of fault.rule)
+
+-- those of the error, of the octets of the file at the fault's place
+pub record IsReasonAt (files : List (List ℕ)) (error : PathFault) (fault : Fault) : Type 0 where
+  pub octets : List ℕ
+  pub octets_are : slice_get files fault.index ≡ Some octets
+  pub reason_is : IsReason error octets (reason_of fault)
+
+-- the member at the fault's place is wrong, for its reason, and those above it are a valid path
+pub record IsWrong (x : Context) (lists : Option (List Stored)) (files : List (List ℕ)) (g : GivenPath) (fault : Fault) : Type 0 where
   pub error : PathError
-  pub place_is : error.index ≡ place
+  pub place_is : error.index ≡ fault.index
   pub no_memory : error.fault ≢ Memory
   pub fault_is : IsFaultOf x lists g error
+  pub reason_is : IsReasonAt files error.fault fault
 
--- the verdict on the path: what its last member holds, or where it is wrong
-abbrev pub IsVerdictOn : Context → Option (List Stored) → GivenPath → Verdict → Type 0
-IsVerdictOn x lists g (Accepted r) = IsAcceptedWith x lists g r
-IsVerdictOn x lists g (Rejected fault) = IsNotAccepted x lists g × IsWrongAt x lists g fault.index
+-- the verdict on the path of these files: what its last member holds, or where and why it is wrong
+abbrev pub IsVerdictOn : Context → Option (List Stored) → List (List ℕ) → GivenPath → Verdict → Type 0
+IsVerdictOn x lists files g (Accepted r) = IsAcceptedWith x lists g r
+IsVerdictOn x lists files g (Rejected fault) = IsNotAccepted x lists g × IsWrong x lists files g fault
 
 -- the verdict on the path that the files are
 abbrev pub IsVerdict : Context → Option (List Stored) → List (List ℕ) → Verdict → Type 0
-IsVerdict x lists files verdict = (g : GivenPath) × IsGivenBy files g × IsVerdictOn x lists g verdict
+IsVerdict x lists files verdict = (g : GivenPath) × IsGivenBy files g × IsVerdictOn x lists files g verdict
 
 -- the lists that are asked: none where no file was given as one, else those that are stored for the
 -- members of the path

@@ -25,6 +25,7 @@ mod outcomes;
 mod page;
 mod path;
 mod places;
+mod policies;
 mod revocation;
 mod rules;
 mod saying;

@@ -8,7 +8,7 @@ ghost use Rattle.rpki.specs.PathFault.TheVariants.{Memory};
 ghost use Rattle.rpki_command.specs.Contents.{BeginsWithList};
 ghost use Rattle.rpki_command.specs.Files.{contents};
 ghost use Rattle.rpki_command.specs.GivenPaths.{IsGivenBy, IsJudgedAs, path_to};
-ghost use Rattle.rpki_command.specs.PathAnswers.{path_of, IsVerdict, IsVerdictBy};
+ghost use Rattle.rpki_command.specs.PathAnswers.{path_of, IsReasonAt, IsVerdict, IsVerdictBy};
 ghost use Rattle.rpki_command.specs.UnrevokedMembers.{AreUnrevoked};
 ghost use Rattle.rpki_command.specs.declared.path.Verdict.TheVariants.{Accepted};
 
@@ -184,6 +184,7 @@ fn members_of<'o>(alloc: Global, files: &'o [Object<'_>]) -> Result<Option<Membe
 fn rejected(error: PathError, files: &[Object<'_>]) -> Result<Fault, AllocError>
     requires { UnlessMemory error.fault (error.index < length files.now) }
     ensures index { IfOk result (λ fault. fault.index ≡ error.index) }
+    ensures reason { IfOk result (IsReasonAt (contents files.now) error.fault) }
     ensures no_memory { OnOk result (error.fault ≢ Memory) }
 {
     if error.is_memory() {

@@ -1,5 +1,8 @@
 //! What a fault means for a person, and the section of the standard that it breaks.
-use crate::places::has_policy;
+ghost use Rattle.std.specs.Prelude.{◌≡◌};
+ghost use Rattle.rpki_command.specs.FaultRules.{IsFileRule, IsReadingRule, IsReason, field_section, inspection_rule, list_rule, no_memory, reading_rule, reason, resources_rule, revocation_rule, rule_of, verification_rule};
+
+use crate::policies::has_policies;
 use bytes::Bytes;
 use rpki::der::{DecodeError, Field};
 use rpki::repository::crl::RevocationError;
@@ -13,12 +16,22 @@ pub struct Rule {
     pub section: &'static str,
 }
 
-fn meaning(says: &'static str, section: &'static str) -> Rule {
+fn meaning(says: &'static str, section: &'static str) -> Rule
+    ensures { rule_of result ≡ record { says = says.now; section = section.now } }
+{
     Rule { says, section }
 }
 
-// Faults of what every kind of certificate has.
-fn common(fault: InspectionError) -> Rule {
+fn out_of_memory() -> Rule
+    ensures { rule_of result ≡ no_memory }
+{
+    meaning("out of memory", "no section")
+}
+
+/// Tells what a fault of inspection means.
+pub fn of_inspection(fault: InspectionError) -> Rule
+    ensures { rule_of result ≡ inspection_rule fault }
+{
     match fault {
         InspectionError::AlgorithmMismatch => meaning(
             "the signature algorithm inside what is signed isn't that of the signature",
@@ -31,49 +44,35 @@ fn common(fault: InspectionError) -> Rule {
             "the subject key identifier isn't the SHA-1 hash of the key",
             "RFC 6487 4.8.2",
         ),
+        InspectionError::ExtendedKeyUsagePresent => meaning(
+            "Extended Key Usage must be absent",
+            "RFC 6487 4.8.5",
+        ),
+        InspectionError::CaFlagFalse => meaning(
+            "Basic Constraints don't say that it is a CA",
+            "RFC 6487 4.8.1",
+        ),
+        InspectionError::MissingBasicConstraints => meaning(
+            "Basic Constraints are missing",
+            "RFC 6487 4.8.1",
+        ),
         InspectionError::KeyUsage => meaning("the key usage is another", "RFC 6487 4.8.4"),
-        InspectionError::ExtendedKeyUsagePresent => {
-            meaning("Extended Key Usage must be absent", "RFC 6487 4.8.5")
-        }
-        other => of_authorities(other),
-    }
-}
-
-// Faults of trust anchors and CAs.
-fn of_authorities(fault: InspectionError) -> Rule {
-    match fault {
-        InspectionError::CaFlagFalse => {
-            meaning(
-                "Basic Constraints don't say that it is a CA",
-                "RFC 6487 4.8.1",
-            )
-        }
-        InspectionError::MissingBasicConstraints => {
-            meaning("Basic Constraints are missing", "RFC 6487 4.8.1")
-        }
-        InspectionError::MissingCaRepository => {
-            meaning("the URI of the repository is missing", "RFC 6487 4.8.8.1")
-        }
-        InspectionError::MissingManifest => {
-            meaning("the URI of the manifest is missing", "RFC 6487 4.8.8.1")
-        }
-        InspectionError::ManifestNotChild => {
-            meaning(
-                "the manifest stands outside the repository",
-                "RFC 6487 4.8.8.1",
-            )
-        }
+        InspectionError::MissingCaRepository => meaning(
+            "the URI of the repository is missing",
+            "RFC 6487 4.8.8.1",
+        ),
+        InspectionError::MissingManifest => meaning(
+            "the URI of the manifest is missing",
+            "RFC 6487 4.8.8.1",
+        ),
+        InspectionError::ManifestNotChild => meaning(
+            "the manifest stands outside the repository",
+            "RFC 6487 4.8.8.1",
+        ),
         InspectionError::SignedObjectPresent => meaning(
             "the URI of a signed object must be absent",
             "RFC 6487 4.8.8.1",
         ),
-        other => of_their_issuers(other),
-    }
-}
-
-// Faults of what trust anchors and CAs say of their issuers.
-fn of_their_issuers(fault: InspectionError) -> Rule {
-    match fault {
         InspectionError::AuthorityKeyIdentifier => meaning(
             "the authority key identifier of a trust anchor is another key's",
             "RFC 6487 4.8.3",
@@ -90,29 +89,26 @@ fn of_their_issuers(fault: InspectionError) -> Rule {
             "the URI of the issuer's revocation list is missing",
             "RFC 6487 4.8.6",
         ),
-        other => of_leaves(other),
-    }
-}
-
-// Faults of end entities and routers.
-fn of_leaves(fault: InspectionError) -> Rule {
-    match fault {
-        InspectionError::BasicConstraintsPresent => {
-            meaning("Basic Constraints must be absent", "RFC 6487 4.8.1")
-        }
-        InspectionError::CaRepositoryPresent => {
-            meaning("the URI of a repository must be absent", "RFC 6487 4.8.8.2")
-        }
-        InspectionError::ManifestPresent => {
-            meaning("the URI of a manifest must be absent", "RFC 6487 4.8.8.2")
-        }
+        InspectionError::BasicConstraintsPresent => meaning(
+            "Basic Constraints must be absent",
+            "RFC 6487 4.8.1",
+        ),
+        InspectionError::CaRepositoryPresent => meaning(
+            "the URI of a repository must be absent",
+            "RFC 6487 4.8.8.2",
+        ),
+        InspectionError::ManifestPresent => meaning(
+            "the URI of a manifest must be absent",
+            "RFC 6487 4.8.8.2",
+        ),
         InspectionError::MissingSignedObject => meaning(
             "the URI of the signed object is missing",
             "RFC 6487 4.8.8.2",
         ),
-        InspectionError::MissingExtendedKeyUsage => {
-            meaning("Extended Key Usage is missing", "RFC 8209 3.1.3.2")
-        }
+        InspectionError::MissingExtendedKeyUsage => meaning(
+            "Extended Key Usage is missing",
+            "RFC 8209 3.1.3.2",
+        ),
         InspectionError::MissingRouterPurpose => meaning(
             "Extended Key Usage doesn't name the purpose of routers",
             "RFC 8209 3.1.3.2",
@@ -121,45 +117,44 @@ fn of_leaves(fault: InspectionError) -> Rule {
             "Subject Information Access must be absent",
             "RFC 8209 3.1.3.3",
         ),
-        InspectionError::IpResourcesPresent => {
-            meaning("IP resources must be absent", "RFC 8209 3.1.3.4")
-        }
-        InspectionError::MissingAsResources => {
-            meaning("AS resources are missing", "RFC 8209 3.1.3.5")
-        }
-        InspectionError::InheritedAsResources => {
-            meaning("AS resources must not be inherited", "RFC 8209 3.1.3.5")
-        }
-        _ => meaning("the profile isn't met", "RFC 6487 4"),
+        InspectionError::IpResourcesPresent => meaning(
+            "IP resources must be absent",
+            "RFC 8209 3.1.3.4",
+        ),
+        InspectionError::MissingAsResources => meaning(
+            "AS resources are missing",
+            "RFC 8209 3.1.3.5",
+        ),
+        InspectionError::InheritedAsResources => meaning(
+            "AS resources must not be inherited",
+            "RFC 8209 3.1.3.5",
+        ),
     }
 }
 
-/// Tells what a fault of inspection means.
-pub fn of_inspection(fault: InspectionError) -> Rule {
-    common(fault)
-}
-
-// A trust anchor that inherits such numbers (RFC 8630 2.3).
-fn inherits(says: &'static str) -> Rule {
-    meaning(says, "RFC 8630 2.3")
-}
-
-// A certificate that lists such numbers, which its issuer doesn't hold (RFC 6487 7.2).
-fn overclaims(says: &'static str) -> Rule {
-    meaning(says, "RFC 6487 7.2")
-}
-
 /// Tells what a fault of verification means.
-pub fn of_verification(fault: &VerificationError) -> Rule {
+pub fn of_verification(fault: &VerificationError) -> Rule
+    ensures { rule_of result ≡ verification_rule fault.now }
+{
     match fault {
         VerificationError::NotYetValid => meaning("it isn't valid yet", "RFC 6487 4.6"),
         VerificationError::Expired => meaning("it has expired", "RFC 6487 4.6"),
-        VerificationError::InheritedV4 => inherits("a trust anchor inherits IPv4 addresses"),
-        VerificationError::InheritedV6 => inherits("a trust anchor inherits IPv6 addresses"),
-        VerificationError::InheritedAs => inherits("a trust anchor inherits AS numbers"),
-        VerificationError::MissingKeyId => {
-            meaning("the authority key identifier is missing", "RFC 6487 4.8.3")
-        }
+        VerificationError::InheritedV4 => meaning(
+            "a trust anchor inherits IPv4 addresses",
+            "RFC 8630 2.3",
+        ),
+        VerificationError::InheritedV6 => meaning(
+            "a trust anchor inherits IPv6 addresses",
+            "RFC 8630 2.3",
+        ),
+        VerificationError::InheritedAs => meaning(
+            "a trust anchor inherits AS numbers",
+            "RFC 8630 2.3",
+        ),
+        VerificationError::MissingKeyId => meaning(
+            "the authority key identifier is missing",
+            "RFC 6487 4.8.3",
+        ),
         VerificationError::WrongKeyId => meaning(
             "the authority key identifier isn't that of the certificate above",
             "RFC 6487 4.8.3",
@@ -172,21 +167,26 @@ pub fn of_verification(fault: &VerificationError) -> Rule {
             "the signature isn't that of the key above",
             "RFC 6487 7.2",
         ),
-        VerificationError::OverclaimV4 => {
-            overclaims("it lists IPv4 addresses that its issuer doesn't hold")
-        }
-        VerificationError::OverclaimV6 => {
-            overclaims("it lists IPv6 addresses that its issuer doesn't hold")
-        }
-        VerificationError::OverclaimAs => {
-            overclaims("it lists AS numbers that its issuer doesn't hold")
-        }
-        VerificationError::Memory => meaning("out of memory", "no section"),
+        VerificationError::OverclaimV4 => meaning(
+            "it lists IPv4 addresses that its issuer doesn't hold",
+            "RFC 6487 7.2",
+        ),
+        VerificationError::OverclaimV6 => meaning(
+            "it lists IPv6 addresses that its issuer doesn't hold",
+            "RFC 6487 7.2",
+        ),
+        VerificationError::OverclaimAs => meaning(
+            "it lists AS numbers that its issuer doesn't hold",
+            "RFC 6487 7.2",
+        ),
+        VerificationError::Memory => out_of_memory(),
     }
 }
 
 /// Tells what a fault of revocation means.
-pub fn of_revocation(fault: &RevocationError) -> Rule {
+pub fn of_revocation(fault: &RevocationError) -> Rule
+    ensures { rule_of result ≡ revocation_rule fault.now }
+{
     match fault {
         RevocationError::NoCrl => meaning(
             "its issuer's list isn't among those given",
@@ -206,7 +206,9 @@ pub fn of_revocation(fault: &RevocationError) -> Rule {
 }
 
 // The section that asks for an extension.
-fn section_of(field: Field) -> &'static str {
+fn section_of(field: Field) -> &'static str
+    ensures { result.now ≡ field_section field }
+{
     match field {
         Field::BasicConstraints => "RFC 6487 4.8.1",
         Field::SubjectKeyIdentifier => "RFC 6487 4.8.2",
@@ -226,8 +228,10 @@ fn section_of(field: Field) -> &'static str {
 
 // The rule of resources whose identifiers aren't those of the policy: the fault is the same where
 // there is no policy.
-fn of_policy(octets: &Bytes) -> Rule {
-    if has_policy(octets) {
+fn of_resources(policies: bool) -> Rule
+    ensures { rule_of result ≡ resources_rule policies }
+{
+    if policies {
         meaning(
             "the resources stand under identifiers that its policy doesn't have",
             "RFC 8360 4.2",
@@ -237,8 +241,10 @@ fn of_policy(octets: &Bytes) -> Rule {
     }
 }
 
-/// Tells what a fault of reading a certificate in these octets means.
-pub fn of_reading(fault: &DecodeError, octets: &Bytes) -> Rule {
+// What a fault of reading a certificate means, which has Certificate Policies, or hasn't.
+fn of_certificate(fault: &DecodeError, policies: bool) -> Rule
+    ensures { rule_of result ≡ reading_rule fault.now policies }
+{
     match fault {
         DecodeError::Missing(field) => {
             meaning(
@@ -246,19 +252,20 @@ pub fn of_reading(fault: &DecodeError, octets: &Bytes) -> Rule {
                 section_of(*field),
             )
         }
-        DecodeError::NotCritical(field) => meaning(
-            "an extension that must be critical isn't",
-            section_of(*field),
-        ),
+        DecodeError::Duplicate(_) => meaning("an extension stands twice", "RFC 5280 4.2"),
         DecodeError::Critical(field) => meaning(
             "an extension that must not be critical is",
             section_of(*field),
         ),
-        DecodeError::Duplicate(_) => meaning("an extension stands twice", "RFC 5280 4.2"),
+        DecodeError::NotCritical(field) => meaning(
+            "an extension that must be critical isn't",
+            section_of(*field),
+        ),
         DecodeError::UnexpectedCritical(_) => {
             meaning("an unknown extension is critical", "RFC 6487 4.8")
         }
-        DecodeError::WrongResources(_) => of_policy(octets),
+        DecodeError::WrongResources(_) => of_resources(policies),
+        DecodeError::Memory => out_of_memory(),
         _ => meaning(
             "it doesn't begin with a certificate of the profile",
             "RFC 6487 4",
@@ -266,11 +273,17 @@ pub fn of_reading(fault: &DecodeError, octets: &Bytes) -> Rule {
     }
 }
 
-/// Tells what a fault of reading a file means, which looks like a list, or doesn't.
-pub fn of_file(fault: &DecodeError, octets: &Bytes, is_list: bool) -> Rule {
-    if !is_list {
-        return of_reading(fault, octets);
-    }
+/// Tells what a fault of reading a certificate in these octets means.
+pub fn of_reading(fault: &DecodeError, octets: &Bytes) -> Rule
+    ensures { IsReadingRule fault.now octets.now (rule_of result) }
+{
+    of_certificate(fault, has_policies(octets))
+}
+
+// What a fault of reading a list means.
+fn of_list(fault: &DecodeError) -> Rule
+    ensures { rule_of result ≡ list_rule fault.now }
+{
     match fault {
         DecodeError::Missing(_) => {
             meaning("an extension that must be there is missing", "RFC 6487 5")
@@ -279,22 +292,33 @@ pub fn of_file(fault: &DecodeError, octets: &Bytes, is_list: bool) -> Rule {
         DecodeError::InvalidExtension(_) => {
             meaning("a list has no other extensions than two", "RFC 6487 5")
         }
+        DecodeError::Memory => out_of_memory(),
         _ => meaning("it doesn't begin with a list of the profile", "RFC 6487 5"),
+    }
+}
+
+/// Tells what a fault of reading a file means, which looks like a list, or doesn't.
+pub fn of_file(fault: &DecodeError, octets: &Bytes, is_list: bool) -> Rule
+    ensures { IsFileRule is_list fault.now octets.now (rule_of result) }
+{
+    if is_list {
+        of_list(fault)
+    } else {
+        of_reading(fault, octets)
     }
 }
 
 /// Tells of a fault of a path's member, which has these octets, at which step it came, its name,
 /// and what it means.
-pub fn of_path(fault: &PathFault, octets: &Bytes) -> (&'static str, &'static str, Rule) {
+pub fn of_path(fault: &PathFault, octets: &Bytes) -> (&'static str, &'static str, Rule)
+    ensures { let answer = reason result.0.now result.1.now (rule_of result.2) in
+        IsReason fault.now octets.now answer }
+{
     match fault {
         PathFault::Decode(fault) => ("reading", fault.name(), of_reading(fault, octets)),
         PathFault::Inspect(fault) => ("profile", fault.name(), of_inspection(*fault)),
         PathFault::Verify(fault) => ("verification", fault.name(), of_verification(fault)),
         PathFault::Revocation(fault) => ("revocation", fault.name(), of_revocation(fault)),
-        PathFault::Memory => (
-            "memory",
-            fault.name(),
-            meaning("out of memory", "no section"),
-        ),
+        PathFault::Memory => ("memory", fault.name(), out_of_memory()),
     }
 }

@@ -5,7 +5,7 @@ use Rattle.rpki.specs.RsaSignatures.{IsSignedByRsa}
 use Rattle.rpki.specs.Verification.{context}
 use Rattle.rpki_command.specs.Files.{contents}
 use Rattle.rpki_command.specs.GivenPaths.{GivenPath, QuestionFields, given_path, IsGivenBy}
-use Rattle.rpki_command.specs.PathAnswers.{path_of, IsWrongAt}
+use Rattle.rpki_command.specs.PathAnswers.{path_of, IsWrong}
 use Rattle.rpki_command.specs.PathVerdicts.{IsAcceptedWith, IsNotAccepted, Judges}
 use Rattle.rpki_command.proofs.FaultPlaces.{unless_not, unless_then, place_within}
 use Rattle.rpki_command.proofs.path.judged.Goals as goal
@@ -39,6 +39,6 @@ returns-in_ok-fault-in-Err c =
     let judged = subst (λ (cas : List (List ℕ)). Judges x lists (given_path m.anchor.now cas m.leaf (option_map (λ octets. octets.now) m.router)) (Err e)) c.deref.ensures.value c.in-Err.ensures in
     let no_memory = c.in_ok-fault-in-Err.ensures.no_memory in
     let is_wrong = unless_not e.fault judged no_memory in
-    let place = c.in_ok-fault-in-Err.fault.index in
-    subst (λ (f : QuestionFields). (g : GivenPath) × IsGivenBy (contents f.members) g × (IsNotAccepted (context IsSignedByRsa f.at f.strict) lists g × IsWrongAt (context IsSignedByRsa f.at f.strict) lists g place)) c.question.view_is
-    (path_of m, given, (is_wrong.0, record { error = e; place_is = sym c.in_ok-fault-in-Err.ensures.index; no_memory = no_memory; fault_is = is_wrong.1 }))
+    let fault = c.in_ok-fault-in-Err.fault in
+    subst (λ (f : QuestionFields). (g : GivenPath) × IsGivenBy (contents f.members) g × (IsNotAccepted (context IsSignedByRsa f.at f.strict) lists g × IsWrong (context IsSignedByRsa f.at f.strict) lists (contents f.members) g fault)) c.question.view_is
+    (path_of m, given, (is_wrong.0, record { error = e; place_is = sym c.in_ok-fault-in-Err.ensures.index; no_memory = no_memory; fault_is = is_wrong.1; reason_is = c.in_ok-fault-in-Err.ensures.reason }))
