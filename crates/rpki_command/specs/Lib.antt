@@ -5,6 +5,7 @@ pub mod Contents
 pub mod GivenPaths
 pub mod PathVerdicts
 pub mod AskedLists
+pub mod StopPlaces
 pub mod PolicyPresence
 pub mod FaultRules
 pub mod PathAnswers

@@ -1,4 +1,7 @@
 //! Where the reading of a file stops.
+ghost use Rattle.std.specs.Prelude.{◌≡◌, ◌≤◌, length, IfErr, IfOk};
+ghost use Rattle.rpki_command.specs.StopPlaces.{IsStopAt, IsStopWithin};
+
 use crate::files::unless_memory;
 use crate::kinds::Kind;
 use bytes::Bytes;
@@ -22,12 +25,16 @@ enum Stop {
     Memory,
 }
 
-fn stopped_at(field: &'static str, octet: usize) -> Stop {
+fn stopped_at(field: &'static str, octet: usize) -> Stop
+    ensures { IsStopAt octet result }
+{
     Stop::At(Place { field, octet })
 }
 
 // Passes over one field, or says where it stands.
-fn past(read: Result<(), DecodeError>, field: &'static str, octet: usize) -> Result<(), Stop> {
+fn past(read: Result<(), DecodeError>, field: &'static str, octet: usize) -> Result<(), Stop>
+    ensures { IfErr result (IsStopAt octet) }
+{
     match read {
         Ok(()) => Ok(()),
         Err(fault) => match unless_memory(fault) {
@@ -37,74 +44,95 @@ fn past(read: Result<(), DecodeError>, field: &'static str, octet: usize) -> Res
     }
 }
 
-fn at(cursor: &Cursor<'_>) -> usize {
+fn at(cursor: &Cursor<'_>) -> usize
+    ensures { result ≤ length cursor.now.source }
+{
     let (from, _) = cursor.span();
     from
 }
 
 // An INTEGER that is this one.
-fn number(data: &mut Cursor<'_>, wanted: u8) -> Result<(), DecodeError> {
-    match data.take_value(tag::INTEGER)?.rest() {
+fn number(cursor: &mut Cursor<'_>, wanted: u8) -> Result<(), DecodeError>
+    ensures { length cursor.new.source ≡ length cursor.old.source }
+{
+    match cursor.take_value(tag::INTEGER)?.rest() {
         [octet] if *octet == wanted => Ok(()),
         _ => Err(DecodeError::BadValue),
     }
 }
 
-fn version(data: &mut Cursor<'_>) -> Result<(), DecodeError> {
-    let mut outer = data.take_value(0xa0)?;
+fn version(cursor: &mut Cursor<'_>) -> Result<(), DecodeError>
+    ensures { length cursor.new.source ≡ length cursor.old.source }
+{
+    let mut outer = cursor.take_value(0xa0)?;
     number(&mut outer, 2)
 }
 
-fn list_version(data: &mut Cursor<'_>) -> Result<(), DecodeError> {
-    number(data, 1)
+fn list_version(cursor: &mut Cursor<'_>) -> Result<(), DecodeError>
+    ensures { length cursor.new.source ≡ length cursor.old.source }
+{
+    number(cursor, 1)
 }
 
-fn serial(data: &mut Cursor<'_>) -> Result<(), DecodeError> {
-    let _serial = Serial::take_from(data)?;
+fn serial(cursor: &mut Cursor<'_>) -> Result<(), DecodeError>
+    ensures { length cursor.new.source ≡ length cursor.old.source }
+{
+    let _serial = Serial::take_from(cursor)?;
     Ok(())
 }
 
-fn algorithm(data: &mut Cursor<'_>) -> Result<(), DecodeError> {
-    let _algorithm = RpkiSignatureAlgorithm::x509_take_from(data)?;
+fn algorithm(cursor: &mut Cursor<'_>) -> Result<(), DecodeError>
+    ensures { length cursor.new.source ≡ length cursor.old.source }
+{
+    let _algorithm = RpkiSignatureAlgorithm::x509_take_from(cursor)?;
     Ok(())
 }
 
-fn name(alloc: Global, data: &mut Cursor<'_>) -> Result<(), DecodeError> {
-    let name = Name::take_from(alloc, data)?;
+fn name(alloc: Global, cursor: &mut Cursor<'_>) -> Result<(), DecodeError>
+    ensures { length cursor.new.source ≡ length cursor.old.source }
+{
+    let name = Name::take_from(alloc, cursor)?;
     drop(name);
     Ok(())
 }
 
-fn validity(data: &mut Cursor<'_>) -> Result<(), DecodeError> {
-    let _validity = Validity::take_from(data)?;
+fn validity(cursor: &mut Cursor<'_>) -> Result<(), DecodeError>
+    ensures { length cursor.new.source ≡ length cursor.old.source }
+{
+    let _validity = Validity::take_from(cursor)?;
     Ok(())
 }
 
-fn key(alloc: Global, data: &mut Cursor<'_>) -> Result<(), DecodeError> {
-    let key = PublicKey::take_from(alloc, data)?;
+fn key(alloc: Global, cursor: &mut Cursor<'_>) -> Result<(), DecodeError>
+    ensures { length cursor.new.source ≡ length cursor.old.source }
+{
+    let key = PublicKey::take_from(alloc, cursor)?;
     drop(key);
     Ok(())
 }
 
-fn moment(data: &mut Cursor<'_>) -> Result<(), DecodeError> {
-    let _time = Time::take_from(data)?;
+fn moment(cursor: &mut Cursor<'_>) -> Result<(), DecodeError>
+    ensures { length cursor.new.source ≡ length cursor.old.source }
+{
+    let _time = Time::take_from(cursor)?;
     Ok(())
 }
 
-fn entries(data: &mut Cursor<'_>) -> Result<(), DecodeError> {
-    let _entries = data.take_opt_sequence()?;
-    Ok(())
-}
-
-fn extension(elements: &mut Cursor<'_>) -> Result<(), DecodeError> {
-    let _extension = take_extension(elements)?;
+fn entries(cursor: &mut Cursor<'_>) -> Result<(), DecodeError>
+    ensures { length cursor.new.source ≡ length cursor.old.source }
+{
+    let _entries = cursor.take_opt_sequence()?;
     Ok(())
 }
 
 // The extensions inside their tags.
-fn sequence_of<'a>(data: &mut Cursor<'a>, identifier: u8) -> Result<Cursor<'a>, Stop> {
-    let start = at(data);
-    let mut outer = match data.take_value(identifier) {
+fn sequence_of<'a>(cursor: &mut Cursor<'a>, identifier: u8) -> Result<Cursor<'a>, Stop>
+    ensures stop { IfErr result (IsStopWithin (length cursor.old.source)) }
+    ensures source { length cursor.new.source ≡ length cursor.old.source }
+    ensures inside { IfOk result (λ c. length c.source ≡ length cursor.old.source) }
+{
+    let start = at(cursor);
+    let mut outer = match cursor.take_value(identifier) {
         Ok(outer) => outer,
         Err(fault) => {
             drop(fault);
@@ -120,7 +148,9 @@ fn sequence_of<'a>(data: &mut Cursor<'a>, identifier: u8) -> Result<Cursor<'a>, 
 }
 
 // The extensions, each of which is well formed, may stand there, and means something.
-fn extensions(alloc: Global, elements: &Cursor<'_>, is_list: bool) -> Result<(), Stop> {
+fn extensions(alloc: Global, elements: &Cursor<'_>, is_list: bool) -> Result<(), Stop>
+    ensures { IfErr result (IsStopWithin (length elements.now.source)) }
+{
     let mut rest = elements.fork();
     for _ in 0..u64::MAX {
         if rest.is_empty() {
@@ -182,59 +212,69 @@ fn has(elements: &Cursor<'_>, kind: Kind) -> bool {
     stands_before(elements, kind, true, end)
 }
 
-fn ended(data: &Cursor<'_>) -> Result<(), Stop> {
-    if data.is_empty() {
+fn ended(cursor: &Cursor<'_>) -> Result<(), Stop>
+    ensures { IfErr result (IsStopWithin (length cursor.now.source)) }
+{
+    if cursor.is_empty() {
         Ok(())
     } else {
-        Err(stopped_at("what follows the extensions", at(data)))
+        Err(stopped_at("what follows the extensions", at(cursor)))
     }
 }
 
-fn of_certificate(alloc: Global, data: &mut Cursor<'_>) -> Result<(), Stop> {
-    let octet = at(data);
-    past(version(data), "the version", octet)?;
-    let octet = at(data);
-    past(serial(data), "the serial number", octet)?;
-    let octet = at(data);
-    past(algorithm(data), "the signature algorithm", octet)?;
-    let octet = at(data);
-    past(name(alloc, data), "the issuer", octet)?;
-    let octet = at(data);
-    past(validity(data), "the validity", octet)?;
-    let octet = at(data);
-    past(name(alloc, data), "the subject", octet)?;
-    let octet = at(data);
-    past(key(alloc, data), "the public key", octet)?;
-    let octet = at(data);
-    let elements = sequence_of(data, 0xa3)?;
+fn of_certificate(alloc: Global, cursor: &mut Cursor<'_>) -> Result<(), Stop>
+    ensures { IfErr result (IsStopWithin (length cursor.old.source)) }
+{
+    let octet = at(cursor);
+    past(version(cursor), "the version", octet)?;
+    let octet = at(cursor);
+    past(serial(cursor), "the serial number", octet)?;
+    let octet = at(cursor);
+    past(algorithm(cursor), "the signature algorithm", octet)?;
+    let octet = at(cursor);
+    past(name(alloc, cursor), "the issuer", octet)?;
+    let octet = at(cursor);
+    past(validity(cursor), "the validity", octet)?;
+    let octet = at(cursor);
+    past(name(alloc, cursor), "the subject", octet)?;
+    let octet = at(cursor);
+    past(key(alloc, cursor), "the public key", octet)?;
+    let octet = at(cursor);
+    let elements = sequence_of(cursor, 0xa3)?;
     extensions(alloc, &elements, false)?;
     past(all_extensions(alloc, &elements), "the extensions", octet)?;
-    ended(data)
+    ended(cursor)
 }
 
-fn of_list(alloc: Global, data: &mut Cursor<'_>) -> Result<(), Stop> {
-    let octet = at(data);
-    past(list_version(data), "the version", octet)?;
-    let octet = at(data);
-    past(algorithm(data), "the signature algorithm", octet)?;
-    let octet = at(data);
-    past(name(alloc, data), "the issuer", octet)?;
-    let octet = at(data);
-    past(moment(data), "this update", octet)?;
-    let octet = at(data);
-    past(moment(data), "next update", octet)?;
-    let octet = at(data);
-    past(entries(data), "the revoked certificates", octet)?;
-    let octet = at(data);
-    let elements = sequence_of(data, 0xa0)?;
+fn of_list(alloc: Global, cursor: &mut Cursor<'_>) -> Result<(), Stop>
+    ensures { IfErr result (IsStopWithin (length cursor.old.source)) }
+{
+    let octet = at(cursor);
+    past(list_version(cursor), "the version", octet)?;
+    let octet = at(cursor);
+    past(algorithm(cursor), "the signature algorithm", octet)?;
+    let octet = at(cursor);
+    past(name(alloc, cursor), "the issuer", octet)?;
+    let octet = at(cursor);
+    past(moment(cursor), "this update", octet)?;
+    let octet = at(cursor);
+    past(moment(cursor), "next update", octet)?;
+    let octet = at(cursor);
+    past(entries(cursor), "the revoked certificates", octet)?;
+    let octet = at(cursor);
+    let elements = sequence_of(cursor, 0xa0)?;
     extensions(alloc, &elements, true)?;
     if !(has(&elements, Kind::AuthorityKeyIdentifier) && has(&elements, Kind::CrlNumber)) {
         return Err(stopped_at("the extensions", octet));
     }
-    ended(data)
+    ended(cursor)
 }
 
-fn inside<'a>(cursor: &mut Cursor<'a>, field: &'static str) -> Result<Cursor<'a>, Stop> {
+fn inside<'a>(cursor: &mut Cursor<'a>, field: &'static str) -> Result<Cursor<'a>, Stop>
+    ensures stop { IfErr result (IsStopWithin (length cursor.old.source)) }
+    ensures source { length cursor.new.source ≡ length cursor.old.source }
+    ensures inside { IfOk result (λ c. length c.source ≡ length cursor.old.source) }
+{
     let octet = at(cursor);
     match cursor.take_sequence() {
         Ok(inner) => Ok(inner),
@@ -246,13 +286,17 @@ fn inside<'a>(cursor: &mut Cursor<'a>, field: &'static str) -> Result<Cursor<'a>
 }
 
 // The algorithm and the signature, which follow what is signed.
-fn signature(whole: &mut Cursor<'_>) -> Result<(), Stop> {
+fn signature(whole: &mut Cursor<'_>) -> Result<(), Stop>
+    ensures { IfErr result (IsStopWithin (length whole.old.source)) }
+{
     let octet = at(whole);
     past(algorithm(whole), "the algorithm of the signature", octet)?;
     Err(stopped_at("the signature", at(whole)))
 }
 
-fn fields(alloc: Global, octets: &Bytes, is_list: bool) -> Result<(), Stop> {
+fn fields(alloc: Global, octets: &Bytes, is_list: bool) -> Result<(), Stop>
+    ensures { IfErr result (IsStopWithin (length octets.now)) }
+{
     let mut cursor = Cursor::new(octets);
     let mut whole = inside(&mut cursor, "the outer SEQUENCE")?;
     let mut data = inside(&mut whole, "what is signed")?;
@@ -266,7 +310,9 @@ fn fields(alloc: Global, octets: &Bytes, is_list: bool) -> Result<(), Stop> {
 
 /// Tells where the reading of a file stops that is neither a certificate nor a list: the first
 /// field that has not the form that it must have.
-pub fn place_of(alloc: Global, octets: &Bytes, is_list: bool) -> Result<Place, AllocError> {
+pub fn place_of(alloc: Global, octets: &Bytes, is_list: bool) -> Result<Place, AllocError>
+    ensures { IfOk result (λ place. place.octet ≤ length octets.now) }
+{
     match fields(alloc, octets, is_list) {
         Err(Stop::At(place)) => Ok(place),
         Err(Stop::Memory) => Err(AllocError),
@@ -275,26 +321,4 @@ pub fn place_of(alloc: Global, octets: &Bytes, is_list: bool) -> Result<Place, A
             octet: 0,
         }),
     }
-}
-
-/// Returns whether a certificate of which the extensions can be read has Certificate Policies.
-pub fn has_policy(octets: &Bytes) -> bool {
-    match policy_in(octets) {
-        Some(answer) => answer,
-        None => false,
-    }
-}
-
-// The seven fields before the extensions are passed over by their identifiers.
-fn policy_in(octets: &Bytes) -> Option<bool> {
-    let mut whole = Cursor::new(octets).take_sequence().ok()?;
-    let mut data = whole.take_sequence().ok()?;
-    let _version = data.take_value(0xa0).ok()?;
-    let _serial = data.take_value(tag::INTEGER).ok()?;
-    for _ in 0..5 {
-        let _field = data.take_sequence().ok()?;
-    }
-    let elements = sequence_of(&mut data, 0xa3).ok()?;
-    let (_, end) = elements.span();
-    Some(stands_before(&elements, Kind::CertificatePolicies, false, end))
 }
