@@ -1,5 +1,5 @@
 //! A certificate for a person.
-ghost use Rattle.std.specs.Prelude.{◌≡◌, ◌++◌, Some, codes, is_none, option_map};
+ghost use Rattle.std.specs.Prelude.{◌≡◌, ◌++◌, Some, codes, option_map};
 ghost use Rattle.std.specs.Fmt.{WritesOnOk};
 ghost use Rattle.rpki.specs.Kind.{Kind as Profile};
 ghost use Rattle.rpki.specs.Kind.TheVariants.{Anchor, Authority, EndEntity, Detached, Router};

@@ -1,5 +1,5 @@
 //! Lines: labels, and values from column 26 on.
-ghost use Rattle.std.specs.Prelude.{◌≡◌, List, [], ◌∷◌, Some, None, IfSome, codes, replicate};
+ghost use Rattle.std.specs.Prelude.{[], ◌∷◌, Some, IfSome, replicate};
 ghost use Rattle.std.specs.Fmt.{WritesOnOk};
 ghost use Rattle.rpki.specs.Texts.{hexadecimal};
 ghost use Rattle.rpki_command.specs.Pages.{label_text, line, further_line, count_text, colons_text, character_text, characters_text};

@@ -1,5 +1,5 @@
 //! A path of files, from a trust anchor down.
-ghost use Rattle.std.specs.Prelude.{◌≡◌, ◌≢◌, ◌<◌, OnOk, ◌↔◌, ℕ, Bool, List, [], ◌∷◌, ◌++◌, length, map, IfOk, IfSome, IsNone, IsTrue, MatchOption, option_map};
+ghost use Rattle.std.specs.Prelude.{◌≡◌, ◌≢◌, ◌<◌, OnOk, ◌↔◌, ℕ, Bool, List, [], ◌∷◌, length, IfOk, IsTrue, MatchOption, option_map};
 ghost use Rattle.rpki.specs.Times.{Moment};
 ghost use Rattle.rpki.specs.RsaSignatures.{IsSignedByRsa};
 ghost use Rattle.rpki.specs.Verification.{ResourceFields, context};
