@@ -15,7 +15,6 @@ both_no_lists (file ∷ a) b xs ys (inl (begins, rest)) q = inl (begins, both_no
 both_no_lists (file ∷ a) b xs ys (inr (none, (more, rest, is))) q =
     inr (none, (more ++ ys, both_no_lists a b more ys rest q, ap (λ (l : List FileFields). l ++ ys) is))
 
-
 -- these values are the names of those files that are no lists
 abbrev pub AreNamesOfOthers : List FileFields → List Value → Type 0
 AreNamesOfOthers files values = (others : List FileFields) × AreNoLists files others × (map view values ≡ map (λ file. string file.name) others)
@@ -25,9 +24,11 @@ pub more_named : (lists : List FileFields) (i : ℕ) (list : FileFields) (old ne
     → (others : List FileFields) × AreNoLists (list ∷ []) others × Pushes (map (λ file. string file.name) others) old new → AreNamesOfOthers (take (i + 1) lists) new
 more_named lists i list old new low there before here =
     let one_more = take_more lists i list low ∙ ap (λ (y : FileFields). take i lists ++ y ∷ []) (sym there) in
-    let are = both_no_lists (take i lists) (list ∷ []) before.0 here.0 before.1 here.1 in
-    (before.0 ++ here.0, subst (λ (l : List FileFields). AreNoLists l (before.0 ++ here.0)) (sym one_more) are,
-    here.2 ∙ ap (λ (l : List Data). l ++ map (λ file. string file.name) here.0) before.2 ∙ sym (map-append _ before.0 here.0))
+    let are = both_no_lists (take i lists) (list ∷ []) before.0 here.0 before.1 here.1 in (
+      before.0 ++ here.0,
+      subst (λ (l : List FileFields). AreNoLists l (before.0 ++ here.0)) (sym one_more) are,
+      here.2 ∙ ap (λ (l : List Data). l ++ map (λ file. string file.name) here.0) before.2 ∙ sym (map-append _ before.0 here.0),
+    )
 
 -- a list, and a file that is none
 pub list_named : (list : FileFields) (old : List Value) → BeginsWithList list.octets → (others : List FileFields) × AreNoLists (list ∷ []) others × Pushes (map (λ file. string file.name) others) old old

@@ -2,8 +2,8 @@
 use Rattle.std.specs.List.{AllByRecursion}
 use Rattle.std.specs.Option.{option_map}
 use Rattle.std.specs.Prelude.{Option, codes}
-use Rattle.std.proofs.Common.{◌≡◌, ◌==◌, ℕ, List, [], ◌∷◌, ◌++◌, refl}
-use Rattle.serde_json.specs.Data.{Data, string}
+use Rattle.std.proofs.Common.{◌==◌, ℕ, List, ◌++◌, refl}
+use Rattle.serde_json.specs.Data.{Data}
 use Rattle.rpki.specs.AddressBits.{is_prefix, prefix_bits}
 use Rattle.rpki.specs.CertificateExtensions.{ExtensionFields}
 use Rattle.rpki.specs.Certificates.{TbsFields}

@@ -1,6 +1,6 @@
 -- The value of a verdict has no floats.
 use Rattle.std.specs.Prelude.{Option, Some, None}
-use Rattle.std.proofs.Common.{◌≡◌, List, [], ◌∷◌, refl, subst, sym}
+use Rattle.std.proofs.Common.{List, refl, subst, sym}
 use Rattle.serde_json.specs.Data.{Data, string}
 use Rattle.rpki_command.specs.Files.{FileFields}
 use Rattle.rpki_command.specs.GivenPaths.{QuestionFields}

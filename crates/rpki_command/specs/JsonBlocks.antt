@@ -1,5 +1,5 @@
 -- Blocks of addresses and AS numbers as JSON.
-use Rattle.std.specs.Prelude.{ℕ, ◌==◌, if◌then◌else◌, List, [], ◌∷◌, ◌++◌, map, codes}
+use Rattle.std.specs.Prelude.{ℕ, ◌==◌, if◌then◌else◌, List, [], ◌∷◌, map, codes}
 use Rattle.serde_json.specs.Data.{Data, string}
 use Rattle.rpki.specs.AddressBits.{is_prefix, prefix_bits}
 use Rattle.rpki.specs.CertificateExtensions.{ExtensionFields}

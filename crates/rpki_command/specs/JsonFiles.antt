@@ -10,7 +10,7 @@ use Rattle.rpki.specs.InspectionError.{InspectionError}
 use Rattle.rpki.specs.KeyUsage.{KeyUsage}
 use Rattle.rpki.specs.KeyUsage.TheVariants.{Ca, Ee}
 use Rattle.rpki.specs.Kind.{Kind}
-use Rattle.rpki.specs.Kind.TheVariants.{Anchor, Authority, EndEntity, Detached, Router}
+use Rattle.rpki.specs.Kind.TheVariants.{Authority, Router}
 use Rattle.rpki.specs.Lists.{ListFields}
 use Rattle.rpki.specs.NameTexts.{name_text}
 use Rattle.rpki.specs.Overclaim.{Overclaim}

@@ -14,6 +14,7 @@ use crate::places::Place;
 use crate::rules::Rule;
 use crate::saying::said_kind;
 use objects::Members;
+pub use objects::lines_of;
 use rpki::crypto::KeyIdentifier;
 use rpki::repository::cert::{Cert, KeyUsage, Kind, Overclaim, TbsCert};
 use rpki::repository::crl::{Crl, RevokedCertificates};
@@ -22,7 +23,6 @@ use rpki::repository::x509::{Serial, Time};
 use rpki::uri::{Https, Rsync};
 use serde_json::Value;
 use std::alloc::{AllocError, Global};
-pub use objects::lines_of;
 pub use verdicts::path;
 
 /// A file that is shown: its name, its octets in DER, and how many of them stand behind its object.

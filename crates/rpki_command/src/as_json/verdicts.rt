@@ -36,11 +36,7 @@ fn is_asked(lists: &[Object<'_>]) -> bool
 }
 
 // Pushes the name of a file given as a list, if it is none.
-fn push_other(
-    alloc: Global,
-    names: &mut Vec<Value>,
-    list: &Object<'_>,
-) -> Result<(), AllocError>
+fn push_other(alloc: Global, names: &mut Vec<Value>, list: &Object<'_>) -> Result<(), AllocError>
     ensures { OnOk result ((others : List FileFields) × AreNoLists (list.now ∷ []) others
         × Pushes (map (λ file. string file.name) others) names.old.items names.new.items) }
 {
@@ -77,11 +73,7 @@ fn file_at(out: &mut Members, members: &[Object<'_>], index: usize) -> Result<()
 }
 
 // A fault of a member.
-fn fault_of(
-    alloc: Global,
-    members: &[Object<'_>],
-    fault: &Fault,
-) -> Result<Value, AllocError>
+fn fault_of(alloc: Global, members: &[Object<'_>], fault: &Fault) -> Result<Value, AllocError>
     ensures { IfOk result (λ made. view made ≡ fault_json members.now fault.now) }
 {
     let mut out = Members::new(alloc);

@@ -1,6 +1,5 @@
 use Rattle.std.specs.Prelude.{option_copied}
-use Rattle.std.proofs.Common.{◌≡◌, subst}
-use Rattle.serde_json.specs.Data.{Data}
+use Rattle.std.proofs.Common.{subst}
 use Rattle.serde_json.specs.View.{view}
 use Rattle.rpki_command.specs.GivenPaths.{QuestionFields}
 use Rattle.rpki_command.specs.JsonVerdicts.{IsVerdictJson, verdict_json}
