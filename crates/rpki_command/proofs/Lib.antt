@@ -23,6 +23,7 @@ mod OneStore
 mod PemLines
 mod PutMembers
 mod RouterFaults
+mod ShownFiles
 mod SingleOutcomes
 mod StoredPairs
 mod TwoSplits

@@ -82,8 +82,10 @@ pub record IsVerdictJson (question : QuestionFields) (verdict : Option Verdict) 
   pub value_is : value ≡ verdict_json question others verdict
 
 -- its text
-abbrev pub IsVerdictLines : QuestionFields → Option Verdict → List ℕ → Type 0
-IsVerdictLines question verdict text = (value : Data) × IsVerdictJson question verdict value × (text ≡ json_lines value)
+pub record IsVerdictLines (question : QuestionFields) (verdict : Option Verdict) (text : List ℕ) : Type 0 where
+  pub value : Data
+  pub value_is : IsVerdictJson question verdict value
+  pub text_is : text ≡ json_lines value
 
 -- the text of the verdict on the path that the files are; there is none where there is no file
 pub record IsJsonOfPath (x : Context) (question : QuestionFields) (text : List ℕ) : Type 0 where

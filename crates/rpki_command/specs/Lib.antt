@@ -19,9 +19,11 @@ pub mod BlockLines
 pub mod ListTexts
 pub mod CertificateTexts
 pub mod VerdictTexts
+pub mod ShownTexts
 pub mod JsonValues
 pub mod JsonBlocks
 pub mod JsonFiles
 pub mod JsonTexts
 pub mod JsonVerdicts
+pub mod AnswerTexts
 pub mod KnownKinds

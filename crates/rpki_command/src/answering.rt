@@ -1,7 +1,9 @@
 //! What is answered of files.
-ghost use Rattle.std.specs.Prelude.{IfOk};
+ghost use Rattle.std.specs.Prelude.{IfOk, IsFalse, string_bytes};
 ghost use Rattle.rpki.specs.RsaSignatures.{IsSignedByRsa};
 ghost use Rattle.rpki.specs.Verification.{context};
+ghost use Rattle.rpki_command.specs.AnswerTexts.{IsTextFor};
+ghost use Rattle.rpki_command.specs.CommandLines.Views.{fields_of};
 ghost use Rattle.rpki_command.specs.Files.{contents};
 ghost use Rattle.rpki_command.specs.Outcomes.{AsksOfFiles, IsOutcomeOf};
 
@@ -23,15 +25,18 @@ pub fn answer_request(
     lists: &[Object<'_>],
 ) -> Result<Answer, AllocError>
     requires { AsksOfFiles request.now.task }
-    ensures { let x = context IsSignedByRsa now request.now.strict in
+    ensures outcome { let x = context IsSignedByRsa now request.now.strict in
         let task = request.now.task in
         IfOk result (λ answer.
         IsOutcomeOf task x (contents files.now) (contents lists.now) answer.outcome) }
+    ensures text { let request = fields_of request.now in
+        IsFalse request.json → IfOk result (λ answer.
+        IsTextFor request now files.now lists.now (string_bytes answer.text)) }
 {
     match request.task {
         Task::Show => {
             let options = Options {
-                now,
+                at: now,
                 strict: request.strict,
                 json: request.json,
                 all: request.all,

@@ -2,8 +2,9 @@
 //! files.
 #![tactic(auto)]
 
-ghost use Rattle.std.specs.Prelude.{◌≡◌, ◌≢◌, ◌≤◌, map, IfOk, IfSome, MatchOption, OnOk};
+ghost use Rattle.std.specs.Prelude.{◌≡◌, ◌≢◌, ◌≤◌, map, IfOk, IfSome, MatchOption, OnOk, string_bytes};
 ghost use Rattle.std.specs.Process.{exit_status};
+ghost use Rattle.rpki_command.specs.AnswerTexts.{MayAnswer};
 ghost use Rattle.rpki_command.specs.CommandLines.Views.{fields_of, octets_of};
 ghost use Rattle.rpki_command.specs.Files.{file_names};
 ghost use Rattle.rpki_command.specs.Outcomes.{AsksOfFiles, MayEndWith, RunMayEndWith};
@@ -37,7 +38,7 @@ use answering::answer_request;
 use anyhow::{Context, Result, anyhow};
 use arguments::{Misuse, Request, Task, read_words};
 use files::{Object, read_object};
-use outcomes::{Outcome, status_of};
+use outcomes::{Answer, Outcome, status_of};
 use rpki::repository::x509::Time;
 use std::io::Read;
 use std::process::ExitCode;
@@ -124,15 +125,24 @@ fn say(rt: &impl Eprint, misuse: &Misuse<'_>) -> Result<()>
     Ok(())
 }
 
+// What is answered of the files that the request names.
+fn answered(rt: &HostRuntime, request: &Request<'_>) -> Result<Answer>
+    requires { AsksOfFiles request.now.task }
+    ensures { let request = fields_of request.now in
+        IfOk result (λ answer. MayAnswer request answer.outcome (string_bytes answer.text)) }
+{
+    let now = moment(rt, request.at)?;
+    let files = objects(rt, &request.files)?;
+    let lists = objects(rt, &request.lists)?;
+    Ok(answer_request(rt.alloc(), request, now, &files, &lists)?)
+}
+
 // Answers what is asked of files, and prints the answer.
 fn answer(rt: &HostRuntime, request: &Request<'_>) -> Result<Outcome>
     requires { AsksOfFiles request.now.task }
     ensures { IfOk result (MayEndWith (fields_of request.now)) }
 {
-    let now = moment(rt, request.at)?;
-    let files = objects(rt, &request.files)?;
-    let lists = objects(rt, &request.lists)?;
-    let answer = answer_request(rt.alloc(), request, now, &files, &lists)?;
+    let answer = answered(rt, request)?;
     rt.print(answer.text.as_str())?;
     Ok(answer.outcome)
 }

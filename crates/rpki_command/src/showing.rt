@@ -1,12 +1,18 @@
 //! A file for a person or as JSON.
-ghost use Rattle.std.specs.Prelude.{◌↔◌, All, IfOk, IsTrue};
+ghost use Rattle.std.specs.Prelude.{◌↔◌, All, IfOk, OnOk, IsTrue, IsFalse, Some, codes, string_bytes};
+ghost use Rattle.sha2.specs.Sha256.{sha256};
 ghost use Rattle.rpki.specs.Place.{MeansOrMemoryBy};
 ghost use Rattle.rpki.specs.Encoding.{Means};
 ghost use Rattle.rpki.specs.Certificates.{IsCertificate};
 ghost use Rattle.rpki.specs.Lists.{IsCertificateList};
+ghost use Rattle.rpki_command.specs.CertificateTexts.{AreAnswers};
 ghost use Rattle.rpki_command.specs.Contents.{BeginsWithCertificate, BeginsWithList, CanBeShown};
 ghost use Rattle.rpki_command.specs.Files.{contents};
 ghost use Rattle.rpki_command.specs.Outcomes.{IsOutcomeOfShow};
+ghost use Rattle.rpki_command.specs.Pages.{Appends, AppendsSome, line, line_end};
+ghost use Rattle.rpki_command.specs.PemFiles.{base64_of};
+ghost use Rattle.rpki_command.specs.ShownTexts.{BeginsBefore, IsCertificateFileText, IsFileText, IsFurtherText, IsListFileText, IsOtherFileText, IsTextIf, IsTextOfFiles, certificate_file_text, file_lines, left_line, left_text, list_file_text, stop_text};
+ghost use Rattle.rpki_command.specs.VerdictTexts.{SaysOfEach};
 
 use crate::files::{Form, Object, looks_like, unless_memory};
 use crate::outcomes::{Answer, Outcome};
@@ -22,30 +28,66 @@ use rpki::repository::{Cert, Crl};
 use serde_json::Value;
 use sha2::{Digest, Sha256};
 use std::alloc::{AllocError, Global};
+use std::fmt;
 
 /// How files are shown.
 #[derive(Clone, Copy)]
 pub struct Options {
-    pub now: Time,
+    pub at: Time,
     pub strict: bool,
     pub json: bool,
     pub all: bool,
 }
 
-fn begun(page: &mut Page, object: &Object<'_>) {
-    page.line("File", object.name);
-    page.label("SHA-256");
-    let digest = Sha256::digest(object.octets.as_slice());
+// The SHA-256 hash of octets, in base64.
+#[tactic(auto, unfolding(crate::specs::PemFiles::base64_of))]
+fn hash(page: &mut Page, octets: &[u8])
+    ensures { Appends page.old (base64_of (sha256 octets.now)) page.new }
+{
+    let digest = Sha256::digest(octets);
     let made = STANDARD.encode(page.alloc(), digest.as_slice());
     page.formed(made);
+}
+
+#[tactic(auto, unfolding(crate::specs::Pages::line))]
+fn hash_line(page: &mut Page, octets: &[u8])
+    ensures { Appends page.old (line (codes "SHA-256") (base64_of (sha256 octets.now))) page.new }
+{
+    page.label("SHA-256");
+    hash(page, octets);
     page.end();
 }
 
-fn ended(page: &mut Page, left: usize) {
+#[tactic(auto, unfolding(crate::specs::ShownTexts::file_lines))]
+fn begun(page: &mut Page, object: &Object<'_>)
+    ensures { Appends page.old (file_lines object.now) page.new }
+{
+    page.line("File", object.name);
+    hash_line(page, object.octets.as_slice());
+}
+
+// That so many octets aren't read.
+fn left_over(page: &mut Page, left: usize)
+    ensures { Appends page.old (left_text left) page.new }
+{
+    page.count(left as u64, " octet", " octets");
+    page.text(" not read");
+}
+
+#[tactic(auto, unfolding(crate::specs::Pages::line))]
+fn left_over_line(page: &mut Page, left: usize)
+    ensures { Appends page.old (line (codes "After its end") (left_text left)) page.new }
+{
+    page.label("After its end");
+    left_over(page, left);
+    page.end();
+}
+
+fn ended(page: &mut Page, left: usize)
+    ensures { Appends page.old (left_line left) page.new }
+{
     if left > 0 {
-        page.label("After its end");
-        page.count(left as u64, " octet", " octets");
-        page.text(" not read\n");
+        left_over_line(page, left);
     }
 }
 
@@ -83,19 +125,34 @@ fn rejection_of(
     Ok(Rejection { why, rule, place })
 }
 
-fn print_rejection(page: &mut Page, object: &Object<'_>, it: &Rejection) {
+// Where reading stops.
+#[derive(Clone, Copy)]
+struct Stop(Place);
+
+impl fmt::Display for Stop {
+    ghost output = { λ stop. Some (stop_text stop.0.field.now stop.0.octet) };
+
+    fn fmt<W: fmt::Write>(&self, f: &mut fmt::Formatter<W>) -> fmt::Result {
+        let field = self.0.field;
+        let octet = self.0.octet;
+        write!(f, "{field}, from octet {octet}")
+    }
+}
+
+fn print_rejection(page: &mut Page, object: &Object<'_>, it: &Rejection)
+    ensures { AppendsSome (IsOtherFileText object.now) page.old page.new }
+{
     begun(page, object);
     page.line("Fault", it.why.as_str());
-    page.label("Where");
-    page.text(it.place.field);
-    page.text(", from octet ");
-    page.number(it.place.octet as u64);
-    page.end();
+    page.line_of("Where", &Stop(it.place));
     page.line("Why", it.rule.says);
     page.line("Standard", it.rule.section);
 }
 
-fn refused(page: &mut Page, object: &Object<'_>, fault: &DecodeError, options: &Options) {
+fn refused(page: &mut Page, object: &Object<'_>, fault: &DecodeError, options: &Options)
+    ensures { IsFalse options.now.json
+        → AppendsSome (IsOtherFileText object.now) page.old page.new }
+{
     let it = match rejection_of(page.alloc(), object, fault) {
         Ok(it) => it,
         Err(_) => {
@@ -123,11 +180,28 @@ fn as_shown<'a>(object: &'a Object<'_>, left: usize) -> as_json::Shown<'a> {
 
 // The certificate that the octets begin with, and how many octets stand behind it.
 fn certificate_in(alloc: Global, octets: &Bytes) -> Result<(Cert, usize), DecodeError>
-    ensures { MeansOrMemoryBy (λ found. found.0) (Means IsCertificate) result octets.now }
+    ensures means { MeansOrMemoryBy (λ found. found.0) (Means IsCertificate) result octets.now }
+    ensures left { IfOk result (λ found. BeginsBefore IsCertificate octets.now found.0 found.1) }
 {
     let mut cursor = Cursor::new(octets);
     let cert = Cert::take_from(alloc, &mut cursor)?;
     Ok((cert, cursor.rest().len()))
+}
+
+#[tactic(auto, unfolding(crate::specs::ShownTexts::certificate_file_text))]
+fn print_certificate(
+    page: &mut Page,
+    object: &Object<'_>,
+    cert: &Cert,
+    left: usize,
+    options: &Options,
+)
+    ensures { (answers : _) × AreAnswers options.now.strict cert.now answers × Appends page.old
+        (certificate_file_text object.now cert.now.fields options.now.at answers left) page.new }
+{
+    begun(page, object);
+    certificate::certificate(page, cert, options.at, options.strict);
+    ended(page, left);
 }
 
 fn whole_certificate(
@@ -136,15 +210,17 @@ fn whole_certificate(
     cert: &Cert,
     left: usize,
     options: &Options,
-) {
+)
+    ensures { IsFalse options.now.json
+        → BeginsBefore IsCertificate object.now.octets cert.now left
+        → AppendsSome (IsCertificateFileText options.now object.now) page.old page.new }
+{
     if options.json {
         let file = as_shown(object, left);
         let made = as_json::certificate(page.alloc(), &file, cert, options.strict);
         printed(page, made);
     } else {
-        begun(page, object);
-        certificate::certificate(page, cert, options.now, options.strict);
-        ended(page, left);
+        print_certificate(page, object, cert, left, options);
     }
 }
 
@@ -154,7 +230,9 @@ fn certificate_of(
     object: &Object<'_>,
     options: &Options,
 ) -> Result<bool, AllocError>
-    ensures { IfOk result (λ yes. IsTrue yes ↔ BeginsWithCertificate object.now.octets) }
+    ensures begins { IfOk result (λ yes. IsTrue yes ↔ BeginsWithCertificate object.now.octets) }
+    ensures text { let IsText = IsTextIf BeginsWithCertificate (IsCertificateFileText options.now) in
+        IsFalse options.now.json → OnOk result (AppendsSome (IsText object.now) page.old page.new) }
 {
     match certificate_in(page.alloc(), &object.octets) {
         Ok(found) => {
@@ -173,28 +251,44 @@ fn certificate_of(
 
 // The list that the octets begin with, and how many octets stand behind it.
 fn list_in(alloc: Global, octets: &Bytes) -> Result<(Crl, usize), DecodeError>
-    ensures { MeansOrMemoryBy (λ found. found.0.list) (Means IsCertificateList) result octets.now }
+    ensures means { let encodes = Means IsCertificateList in
+        MeansOrMemoryBy (λ found. found.0.list) encodes result octets.now }
+    ensures left { IfOk result (λ found.
+        BeginsBefore IsCertificateList octets.now found.0.list found.1) }
 {
     let mut cursor = Cursor::new(octets);
     let list = Crl::take_from(alloc, &mut cursor)?;
     Ok((list, cursor.rest().len()))
 }
 
-fn whole_list(page: &mut Page, object: &Object<'_>, it: &Crl, left: usize, options: &Options) {
+fn print_list(page: &mut Page, object: &Object<'_>, it: &Crl, left: usize, options: &Options)
+    ensures { let list = it.now.list.fields in Appends page.old
+        (list_file_text object.now list options.now.at options.now.all left) page.new }
+{
+    begun(page, object);
+    page.line("Kind", "revocation list");
+    list::list(page, it, options.at, options.all);
+    ended(page, left);
+}
+
+fn whole_list(page: &mut Page, object: &Object<'_>, it: &Crl, left: usize, options: &Options)
+    ensures { IsFalse options.now.json
+        → BeginsBefore IsCertificateList object.now.octets it.now.list left
+        → AppendsSome (IsListFileText options.now object.now) page.old page.new }
+{
     if options.json {
         let made = as_json::list(page.alloc(), &as_shown(object, left), it);
         printed(page, made);
     } else {
-        begun(page, object);
-        page.line("Kind", "revocation list");
-        list::list(page, it, options.now, options.all);
-        ended(page, left);
+        print_list(page, object, it, left, options);
     }
 }
 
 // Shows the list that the file begins with, and says whether it begins with one.
 fn list_of(page: &mut Page, object: &Object<'_>, options: &Options) -> Result<bool, AllocError>
-    ensures { IfOk result (λ yes. IsTrue yes ↔ BeginsWithList object.now.octets) }
+    ensures begins { IfOk result (λ yes. IsTrue yes ↔ BeginsWithList object.now.octets) }
+    ensures text { let IsText = IsTextIf BeginsWithList (IsListFileText options.now) in
+        IsFalse options.now.json → OnOk result (AppendsSome (IsText object.now) page.old page.new) }
 {
     match list_in(page.alloc(), &object.octets) {
         Ok(found) => {
@@ -213,7 +307,9 @@ fn list_of(page: &mut Page, object: &Object<'_>, options: &Options) -> Result<bo
 
 /// Shows a file, and says whether it begins with a certificate or a list.
 pub fn show(page: &mut Page, object: &Object<'_>, options: &Options) -> Result<bool, AllocError>
-    ensures { IfOk result (λ yes. IsTrue yes ↔ CanBeShown object.now.octets) }
+    ensures shows { IfOk result (λ yes. IsTrue yes ↔ CanBeShown object.now.octets) }
+    ensures text { IsFalse options.now.json
+        → OnOk result (AppendsSome (IsFileText options.now object.now) page.old page.new) }
 {
     match looks_like(&object.octets) {
         Form::List => list_of(page, object, options),
@@ -221,26 +317,58 @@ pub fn show(page: &mut Page, object: &Object<'_>, options: &Options) -> Result<b
     }
 }
 
-// Appends the text of the objects, and tells whether each begins with a certificate or a list.
-fn show_all(page: &mut Page, objects: &[Object<'_>], options: &Options) -> Result<bool, AllocError>
-    ensures { IfOk result (λ yes. IsTrue yes ↔ All CanBeShown (contents objects.now)) }
+// Ends the text of a file that another one follows.
+fn gap(page: &mut Page, options: &Options)
+    ensures { IsFalse options.now.json → Appends page.old line_end page.new }
+{
+    if !options.json {
+        page.end();
+    }
+}
+
+// Shows a file behind another one.
+fn show_further(page: &mut Page, object: &Object<'_>, options: &Options) -> Result<bool, AllocError>
+    ensures shows { IfOk result (λ yes. IsTrue yes ↔ CanBeShown object.now.octets) }
+    ensures text { IsFalse options.now.json
+        → OnOk result (AppendsSome (IsFurtherText options.now object.now) page.old page.new) }
+{
+    gap(page, options);
+    show(page, object, options)
+}
+
+// Shows the files behind the first one.
+fn show_more(page: &mut Page, objects: &[Object<'_>], options: &Options) -> Result<bool, AllocError>
+    ensures shows { IfOk result (λ yes. IsTrue yes ↔ All CanBeShown (contents objects.now)) }
+    ensures text { let IsText = SaysOfEach (IsFurtherText options.now) in
+        IsFalse options.now.json → OnOk result (AppendsSome (IsText objects.now) page.old page.new) }
 {
     let mut can_be_shown = true;
-    let mut is_first = true;
     for object in objects {
-        if !is_first && !options.json {
-            page.end();
-        }
-        can_be_shown &= show(page, object, options)?;
-        is_first = false;
+        can_be_shown &= show_further(page, object, options)?;
     }
     Ok(can_be_shown)
 }
 
-/// Writes the text of the objects. The outcome is success where each begins with a certificate or a
-/// list.
+// Appends the text of the objects, and tells whether each begins with a certificate or a list.
+fn show_all(page: &mut Page, objects: &[Object<'_>], options: &Options) -> Result<bool, AllocError>
+    ensures shows { IfOk result (λ yes. IsTrue yes ↔ All CanBeShown (contents objects.now)) }
+    ensures text { IsFalse options.now.json
+        → OnOk result (AppendsSome (IsTextOfFiles options.now objects.now) page.old page.new) }
+{
+    let Some((first, more)) = objects.split_first() else {
+        return Ok(true);
+    };
+    let can_be_shown = show(page, first, options)?;
+    Ok(show_more(page, more, options)? & can_be_shown)
+}
+
+/// Writes the text of the objects, as lines for a person or as JSON. The outcome is success where
+/// each begins with a certificate or a list.
 pub fn shown(alloc: Global, objects: &[Object<'_>], options: &Options) -> Result<Answer, AllocError>
-    ensures { IfOk result (λ answer. IsOutcomeOfShow (contents objects.now) answer.outcome) }
+    ensures outcome { IfOk result (λ answer.
+        IsOutcomeOfShow (contents objects.now) answer.outcome) }
+    ensures text { IsFalse options.now.json → IfOk result (λ answer.
+        IsTextOfFiles options.now objects.now (string_bytes answer.text)) }
 {
     let mut page = Page::new(alloc);
     let can_be_shown = show_all(&mut page, objects, options)?;

@@ -5,8 +5,8 @@ use Rattle.rpki.specs.Place.{Rejects}
 use Rattle.rpki_der.proofs.Answering.{rejects}
 use Rattle.rpki_command.proofs.showing.certificate_in.Goals as goal
 
-pub returns-in_err-cert : goal.returns-in_err-cert
-returns-in_err-cert c =
+pub returns-in_err-cert-clause-means : goal.returns-in_err-cert-clause-means
+returns-in_err-cert-clause-means c =
     let e = c.in_err-cert.field-0.0 in
     let same : c.from_residual.result ≡ Err e = search rules in
     let none = subst (λ (o : List ℕ). Rejects e ((y : CertFields) (rest : List ℕ) → Begins IsCertificate o y rest → ⊥)) c.new-cursor.ensures.all c.in_err-cert.ensures.answers in

@@ -1,14 +1,32 @@
-use Rattle.std.proofs.Common.{rules, ◌≢◌, ℕ, List, ap, subst}
+use Rattle.std.proofs.Common.{rules, ◌≢◌, inl, inr, subst}
 use Rattle.std.proofs.lemmas.Bool.{false≢true}
+use Rattle.rpki.specs.Encoding.{Means}
+use Rattle.rpki_command.specs.Contents.{BeginsWithCertificate}
 use Rattle.rpki.specs.Certificates.{CertFields, IsCertificate}
 use Rattle.rpki.specs.DecodeError.TheVariants as decoding
-use Rattle.rpki.specs.Encoding.{Means}
 use Rattle.rpki_command.specs.Files.{FileFields}
+use Rattle.rpki_command.specs.ShownTexts.{BeginsBefore, IsCertificateFileText, IsOtherFileText, IsTextIf}
+use Rattle.rpki_command.proofs.ShownFiles.{some_weaker}
 use Rattle.rpki_command.proofs.NothingRead.{refused}
 use Rattle.rpki_command.proofs.showing.certificate_of.Goals as goal
 
-pub returns-in_ok-unless_memory-in-Err : goal.returns-in_ok-unless_memory-in-Err
-returns-in_ok-unless_memory-in-Err c =
+pub returns-in_ok-unless_memory-in-Err-clause-begins : goal.returns-in_ok-unless_memory-in-Err-clause-begins
+returns-in_ok-unless_memory-in-Err-clause-begins c =
     let not_memory : c.in-Err.fault ≢ decoding.Memory = search rules in
-    let none = subst (λ (o : List ℕ). (y : CertFields) → Means IsCertificate y o → ⊥) (ap (λ (file : FileFields). file.octets) c.object.view_is) (refused c.in-Err.fault c.in-Err.ensures not_memory) in
+    let none = subst (λ (file : FileFields). (y : CertFields) → Means IsCertificate y file.octets → ⊥) c.object.view_is (refused c.in-Err.fault c.in-Err.ensures.means not_memory) in
     ((λ no. absurd (false≢true no)), (λ begins. absurd (none begins.0 begins.1)))
+
+pub returns-in_ok-unless_memory-in-Err-clause-text : goal.returns-in_ok-unless_memory-in-Err-clause-text
+returns-in_ok-unless_memory-in-Err-clause-text c = λ lines.
+    let not_memory : c.in-Err.fault ≢ decoding.Memory = search rules in
+    let none = subst (λ (file : FileFields). (y : CertFields) → Means IsCertificate y file.octets → ⊥) c.object.view_is (refused c.in-Err.fault c.in-Err.ensures.means not_memory) in
+    let file = c.args.object.now in
+    some_weaker (IsOtherFileText file) (IsTextIf BeginsWithCertificate (IsCertificateFileText c.args.options.now) file) c.args.page.now c.refused.new.page (λ text other. inr ((λ begins. none begins.0 begins.1), other)) (c.refused.ensures lines)
+
+pub returns-in-Ok-clause-text : goal.returns-in-Ok-clause-text
+returns-in-Ok-clause-text c = λ lines.
+    let file = c.args.object.now in
+    let o = c.args.options.now in
+    let found = c.in-Ok.found in
+    let begins = subst (λ (f : FileFields). BeginsBefore IsCertificate f.octets found.0 found.1) c.object.view_is c.in-Ok.ensures.left in
+    some_weaker (IsCertificateFileText o file) (IsTextIf BeginsWithCertificate (IsCertificateFileText o) file) c.args.page.now c.whole_certificate.new.page (λ text its. inl its) (c.whole_certificate.ensures lines begins)

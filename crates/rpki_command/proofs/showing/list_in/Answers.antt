@@ -5,8 +5,8 @@ use Rattle.rpki.specs.Place.{Rejects}
 use Rattle.rpki_der.proofs.Answering.{rejects}
 use Rattle.rpki_command.proofs.showing.list_in.Goals as goal
 
-pub returns-in_err-list : goal.returns-in_err-list
-returns-in_err-list c =
+pub returns-in_err-list-clause-means : goal.returns-in_err-list-clause-means
+returns-in_err-list-clause-means c =
     let e = c.in_err-list.field-0.0 in
     let same : c.from_residual.result ≡ Err e = search rules in
     let none = subst (λ (o : List ℕ). Rejects e ((y : CrlFields) (rest : List ℕ) → Begins IsCertificateList o y rest → ⊥)) c.new-cursor.ensures.all c.in_err-list.ensures.answers in

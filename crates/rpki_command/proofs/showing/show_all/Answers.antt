@@ -1,19 +1,31 @@
+use Rattle.std.specs.Prelude.{All, IsTrue}
+use Rattle.std.proofs.Common.{rules, ◌≡◌, ◌↔◌, ◌&&◌, ◌∷◌, List, refl, sym, subst}
 use Rattle.rpki_command.specs.Contents.{CanBeShown}
-use Rattle.rpki_command.specs.Files.{contents}
-use Rattle.rpki_command.proofs.FlaggedItems.{flag_of_more, flag_of_all}
-use Rattle.rpki_command.proofs.MappedItems.{mapped_low, mapped_high, mapped_there}
+use Rattle.rpki_command.specs.Files.{FileFields, contents}
+use Rattle.rpki_command.specs.Pages.{AppendsSome}
+use Rattle.rpki_command.specs.ShownTexts.{IsFileText, IsFurtherText, IsTextOfFiles}
+use Rattle.rpki_command.specs.VerdictTexts.{SaysOfEach}
+use Rattle.rpki_command.proofs.AppendedTexts.{both_appended}
+use Rattle.rpki_command.proofs.ShownFiles.{flag_of_first}
 use Rattle.rpki_command.proofs.showing.show_all.Goals as goal
 
-pub loop-object-preserved : goal.loop-object-preserved
-loop-object-preserved c =
-    let l = c.loop-object in
-    let objects = c.args.objects.now in
-    let low = c.loop-object-test.true in
-    let file = c.object-item.result in
-    flag_of_more CanBeShown (contents objects) l.object-index file.octets (mapped_low (λ file. file.octets) objects l.object-index low) (mapped_there (λ file. file.octets) objects l.object-index file low c.object-item.is) l.can_be_shown c.in_ok-can_be_shown.field-0 l.invariant c.in_ok-can_be_shown.ensures
+pub returns-clause-shows : goal.returns-clause-shows
+returns-clause-shows c =
+    let first = c.in-Some.first.now in
+    let more = c.in-Some.more.now in
+    let parts : c.args.objects.now ≡ first ∷ more = search rules in
+    let is_first = c.in_ok-can_be_shown.can_be_shown in
+    let are_more = c.in_ok-show_more.field-0 in
+    subst (λ (files : List FileFields). IsTrue (are_more && is_first) ↔ All CanBeShown (contents files)) (sym parts) (flag_of_first CanBeShown first.octets (contents more) is_first are_more c.in_ok-can_be_shown.ensures.shows c.in_ok-show_more.ensures.shows)
 
-pub returns : goal.returns
-returns c =
-    let l = c.loop-object in
-    let objects = c.args.objects.now in
-    flag_of_all CanBeShown (contents objects) l.object-index (mapped_high (λ file. file.octets) objects l.object-index c.loop-object-test.false) l.can_be_shown l.invariant
+pub returns-clause-text : goal.returns-clause-text
+returns-clause-text c = λ lines.
+    let o = c.args.options.now in
+    let first = c.in-Some.first.now in
+    let more = c.in-Some.more.now in
+    let parts : c.args.objects.now ≡ first ∷ more = search rules in
+    let old = c.args.page.now in
+    let mid = c.show.new.page in
+    let new = c.show_more.new.page in
+    subst (λ (files : List FileFields). AppendsSome (IsTextOfFiles o files) old new) (sym parts)
+    (both_appended (IsFileText o first) (SaysOfEach (IsFurtherText o) more) (IsTextOfFiles o (first ∷ more)) old mid new (λ a b its others. (a, b, its, others, refl)) (c.in_ok-can_be_shown.ensures.text lines) (c.in_ok-show_more.ensures.text lines))

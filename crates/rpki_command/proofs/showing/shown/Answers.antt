@@ -12,5 +12,5 @@ outcome_is : (files : List (List ℕ)) (outcome : Outcome) (yes : Bool) → (IsT
 outcome_is files outcome true success rejection says = rw (success refl) (says.0 refl)
 outcome_is files outcome false success rejection says = rw (rejection refl) (λ all. false≢true (says.1 all))
 
-pub returns : goal.returns
-returns c = outcome_is (contents c.args.objects.now) c.of_answer.result c.in_ok-can_be_shown.can_be_shown c.of_answer.ensures.success c.of_answer.ensures.rejection c.in_ok-can_be_shown.ensures
+pub returns-clause-outcome : goal.returns-clause-outcome
+returns-clause-outcome c = outcome_is (contents c.args.objects.now) c.of_answer.result c.in_ok-can_be_shown.can_be_shown c.of_answer.ensures.success c.of_answer.ensures.rejection c.in_ok-can_be_shown.ensures.shows

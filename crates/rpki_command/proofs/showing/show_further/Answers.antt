@@ -1,0 +1,17 @@
+use Rattle.std.proofs.Common.{◌≡◌, ◌++◌, ℕ, List, refl, ap}
+use Rattle.std.proofs.lemmas.Result.{on_ok_weaker}
+use Rattle.rpki_command.specs.Pages.{AppendsSome, line_end}
+use Rattle.rpki_command.specs.ShownTexts.{IsFileText, IsFurtherText}
+use Rattle.rpki_command.proofs.AppendedTexts.{such_appended, both_appended}
+use Rattle.rpki_command.proofs.showing.show_further.Goals as goal
+
+pub returns-clause-text : goal.returns-clause-text
+returns-clause-text c = λ lines.
+    let o = c.args.options.now in
+    let file = c.args.object.now in
+    let old = c.args.page.now in
+    let mid = c.gap.new.page in
+    let new = c.show.new.page in
+    let IsGap : List ℕ → Type 0 = λ text. text ≡ line_end in
+    let gap = such_appended IsGap old mid line_end refl (c.gap.ensures lines) in
+    on_ok_weaker c.show.result (λ p. both_appended IsGap (IsFileText o file) (IsFurtherText o file) old mid new (λ a b is its. (b, its, ap (λ (l : List ℕ). l ++ b) is)) gap p) (c.show.ensures.text lines)

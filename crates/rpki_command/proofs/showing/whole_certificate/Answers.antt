@@ -1,0 +1,20 @@
+use Rattle.std.proofs.Common.{refl}
+use Rattle.rpki_command.specs.ShownTexts.{IsCertificateFileText, certificate_file_text}
+use Rattle.rpki_command.proofs.AppendedTexts.{such_appended}
+use Rattle.rpki_command.proofs.showing.whole_certificate.Goals as goal
+
+pub returns-else-options : goal.returns-else-options
+returns-else-options c = λ lines begins.
+    let file = c.args.object.now in
+    let o = c.args.options.now in
+    let printed = c.print_certificate.ensures in
+    such_appended (IsCertificateFileText o file) c.args.page.now c.print_certificate.new.page (certificate_file_text file c.args.cert.now.fields o.at printed.0 c.args.left)
+    (record {
+      cert = c.args.cert.now;
+      left = c.args.left;
+      begins = begins;
+      answers = printed.0;
+      answers_are = printed.1;
+      text_is = refl;
+    })
+    printed.2

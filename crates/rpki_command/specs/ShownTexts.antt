@@ -1,0 +1,113 @@
+-- What is shown of files.
+use Rattle.std.specs.Fmt.{decimal}
+use Rattle.std.specs.List.{concat}
+use Rattle.std.specs.Prelude.{◌≡◌, ◌⊎◌, ℕ, Bool, ◌==◌, if◌then◌else◌, List, [], ◌∷◌, ◌++◌, length, codes}
+use Rattle.sha2.specs.Sha256.{sha256}
+use Rattle.rpki.specs.Encoding.{Begins}
+use Rattle.rpki.specs.Certificates.{CertFields, TbsFields, IsCertificate}
+use Rattle.rpki.specs.Lists.{CrlFields, ListFields, IsCertificateList}
+use Rattle.rpki.specs.RevokedEntries.{Revoked}
+use Rattle.rpki.specs.Times.{Moment}
+use Rattle.rpki_command.specs.CertificateTexts.{AreAnswers, certificate_text}
+use Rattle.rpki_command.specs.Contents.{CanBeShown}
+use Rattle.rpki_command.specs.Files.{FileFields}
+use Rattle.rpki_command.specs.ListTexts.{list_text}
+use Rattle.rpki_command.specs.Pages.{line, line_end, count_text}
+use Rattle.rpki_command.specs.PemFiles.{base64_of}
+use Rattle.rpki_command.specs.VerdictTexts.{SaysOfEach}
+use Rattle.rpki_command.specs.declared.certificate.Answers.{Answers}
+use Rattle.rpki_command.specs.declared.showing.Options.{Options}
+
+-- ---- around an object
+
+-- the name of a file, and the SHA-256 hash of its object (FIPS 180-4) in base64
+unfoldable pub file_lines : FileFields → List ℕ
+file_lines file = line (codes "File") file.name ++ line (codes "SHA-256") (base64_of (sha256 file.octets))
+
+-- that so many octets aren't read
+abbrev pub left_text : ℕ → List ℕ
+left_text left = count_text left (codes " octet") (codes " octets") ++ codes " not read"
+
+-- how many octets stand behind an object, where some do
+abbrev pub left_line : ℕ → List ℕ
+left_line left = if left == 0 then [] else line (codes "After its end") (left_text left)
+
+-- ---- files that begin with an object
+
+-- the octets begin with an encoding of the value, behind which so many octets stand
+abbrev pub BeginsBefore : {V : Type 0} → (V → List ℕ → Type 0) → List ℕ → V → ℕ → Type 0
+BeginsBefore encodes octets v left = (rest : List ℕ) × Begins encodes octets v rest × (left ≡ length rest)
+
+-- a file that begins with a certificate, to which inspection gave these answers
+unfoldable pub certificate_file_text : FileFields → TbsFields → Moment → Answers → ℕ → List ℕ
+certificate_file_text file f now answers left = concat (file_lines file ∷ certificate_text f now answers ∷ left_line left ∷ [])
+
+-- a file that begins with a list
+unfoldable pub list_file_text : FileFields → ListFields Revoked → Moment → Bool → ℕ → List ℕ
+list_file_text file list now all left = concat (
+    file_lines file
+    ∷ line (codes "Kind") (codes "revocation list")
+    ∷ list_text list now all
+    ∷ left_line left
+    ∷ [])
+
+-- the file begins with a certificate, and this is its text
+pub record IsCertificateFileText (options : Options) (file : FileFields) (text : List ℕ) : Type 0 where
+  pub cert : CertFields
+  pub left : ℕ
+  pub begins : BeginsBefore IsCertificate file.octets cert left
+  pub answers : Answers
+  pub answers_are : AreAnswers options.strict cert answers
+  pub text_is : text ≡ certificate_file_text file cert.fields options.at answers left
+
+-- the file begins with a list, and this is its text
+pub record IsListFileText (options : Options) (file : FileFields) (text : List ℕ) : Type 0 where
+  pub list : CrlFields
+  pub left : ℕ
+  pub begins : BeginsBefore IsCertificateList file.octets list left
+  pub text_is : text ≡ list_file_text file list.fields options.at options.all left
+
+-- ---- other files
+
+-- where reading stops: at this field, which begins at this octet
+abbrev pub stop_text : List ℕ → ℕ → List ℕ
+stop_text field octet = field ++ (codes ", from octet " ++ decimal octet)
+
+-- a file that begins with neither: its fault, where reading stops, what that means, and what asks it
+unfoldable pub other_file_text : FileFields → List ℕ → List ℕ → List ℕ → List ℕ → List ℕ
+other_file_text file fault stop says section = concat (
+    file_lines file
+    ∷ line (codes "Fault") fault
+    ∷ line (codes "Where") stop
+    ∷ line (codes "Why") says
+    ∷ line (codes "Standard") section
+    ∷ [])
+
+-- the text of a file that begins with neither; which fault is named, no definition says
+pub record IsOtherFileText (file : FileFields) (text : List ℕ) : Type 0 where
+  pub fault : List ℕ
+  pub field : List ℕ
+  pub octet : ℕ
+  pub says : List ℕ
+  pub section : List ℕ
+  pub text_is : text ≡ other_file_text file fault (stop_text field octet) says section
+
+-- ---- the whole
+
+-- the text of a file that begins so, or of one that doesn't
+abbrev pub IsTextIf : (List ℕ → Type 0) → (FileFields → List ℕ → Type 0) → FileFields → List ℕ → Type 0
+IsTextIf BeginsSo IsText file text = IsText file text ⊎ ((BeginsSo file.octets → ⊥) × IsOtherFileText file text)
+
+-- the text of a file
+abbrev pub IsFileText : Options → FileFields → List ℕ → Type 0
+IsFileText options = IsTextIf CanBeShown (λ file text. IsCertificateFileText options file text ⊎ IsListFileText options file text)
+
+-- the text of a file behind another one: an empty line, and its own
+abbrev pub IsFurtherText : Options → FileFields → List ℕ → Type 0
+IsFurtherText options file text = (its : List ℕ) × IsFileText options file its × (text ≡ line_end ++ its)
+
+-- the text of files
+abbrev pub IsTextOfFiles : Options → List FileFields → List ℕ → Type 0
+IsTextOfFiles options [] text = text ≡ []
+IsTextOfFiles options (file ∷ files) text =
+    (first : List ℕ) × (more : List ℕ) × IsFileText options file first × SaysOfEach (IsFurtherText options) files more × (text ≡ first ++ more)
