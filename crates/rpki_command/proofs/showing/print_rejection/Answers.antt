@@ -1,5 +1,4 @@
-use Rattle.std.proofs.Common.{◌++◌, refl}
-use Rattle.std.specs.Prelude.{codes}
+use Rattle.std.proofs.Common.{refl}
 use Rattle.rpki_command.specs.Pages.{Appends}
 use Rattle.rpki_command.specs.ShownTexts.{IsOtherFileText, other_file_text, stop_text}
 use Rattle.rpki_command.proofs.AppendedTexts.{then_appended, last_appended, such_appended}

@@ -1,5 +1,5 @@
 use Rattle.std.specs.Prelude.{IsTrue}
-use Rattle.std.proofs.Common.{◌≡◌, ◌↔◌, ℕ, List, inl, ⊎_elim, ap, subst}
+use Rattle.std.proofs.Common.{◌≡◌, ◌↔◌, inl, ⊎_elim, subst}
 use Rattle.std.proofs.lemmas.Result.{IfOk-weaker, on_ok_weaker}
 use Rattle.rpki_command.specs.Contents.{BeginsWithCertificate, BeginsWithList, CanBeShown}
 use Rattle.rpki_command.specs.Files.{FileFields}

@@ -1,6 +1,6 @@
 use Rattle.std.proofs.Common.{◌≡◌, ◌++◌, ℕ, List, refl, ap}
 use Rattle.std.proofs.lemmas.Result.{on_ok_weaker}
-use Rattle.rpki_command.specs.Pages.{AppendsSome, line_end}
+use Rattle.rpki_command.specs.Pages.{line_end}
 use Rattle.rpki_command.specs.ShownTexts.{IsFileText, IsFurtherText}
 use Rattle.rpki_command.proofs.AppendedTexts.{such_appended, both_appended}
 use Rattle.rpki_command.proofs.showing.show_further.Goals as goal
