@@ -90,7 +90,7 @@ module _ (x : Context) (lists : List (List ℕ)) (pairs : List Stored) (all : Al
     member = c;
     member_begins = b;
     list = h.0.0.list;
-    given = list_given c h.0.0 h.0.1;
+    is_given = list_given c h.0.0 h.0.1;
     checks = checks_of issuer.fields c h;
   }
 

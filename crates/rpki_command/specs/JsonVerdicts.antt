@@ -21,9 +21,9 @@ abbrev pub names_json : List FileFields → Data
 names_json files = array_of (map (λ file. string file.name) files)
 
 -- whether lists were given
-abbrev pub is_asked : List FileFields → Bool
-is_asked [] = false
-is_asked (list ∷ lists) = true
+abbrev pub has_lists : List FileFields → Bool
+has_lists [] = false
+has_lists (list ∷ lists) = true
 
 -- of the files given as lists, those that begin with none
 abbrev pub AreNoLists : List FileFields → List FileFields → Type 0
@@ -70,7 +70,7 @@ answer_members members (Some (Rejected fault)) = rejected_members members fault
 unfoldable pub verdict_json : QuestionFields → List FileFields → Option Verdict → Data
 verdict_json question others verdict = object_of (joined (
     member_of (codes "path") (names_json question.members)
-    ∷ member_of (codes "revocation_asked") (boolean (is_asked question.lists))
+    ∷ member_of (codes "revocation_asked") (boolean (has_lists question.lists))
     ∷ member_of (codes "not_lists") (names_json others)
     ∷ answer_members question.members verdict
     ∷ []))

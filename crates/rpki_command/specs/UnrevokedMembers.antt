@@ -19,7 +19,7 @@ pub record IsUnrevokedBelow (x : Context) (lists : List (List ℕ)) (above octet
   pub member : CertFields
   pub member_begins : Means IsCertificate member octets
   pub list : CrlFields
-  pub given : IsGivenAmong lists list
+  pub is_given : IsGivenAmong lists list
   pub checks : (e : RevocationError) → ListCheck x issuer.fields member.fields.serial list e
 
 -- of each of these, below the one before it, and of the first below these octets

@@ -39,9 +39,9 @@ IsMemberText strict (Some c) name text =
 pub record IsMemberLine (strict : Bool) (file : FileFields) (text : List ℕ) : Type 0 where
   pub found : Option CertFields
   pub found_is : FindsBy (λ c. c) IsCertificate file.octets found
-  pub said : List ℕ
-  pub said_is : IsMemberText strict found file.name said
-  pub text_is : text ≡ line (codes "Member") said
+  pub member : List ℕ
+  pub member_is : IsMemberText strict found file.name member
+  pub text_is : text ≡ line (codes "Member") member
 
 -- what is said of a file that was given as a list: its name where it is none, else nothing
 abbrev pub IsListPart : FileFields → List ℕ → Type 0

@@ -50,4 +50,4 @@ returns-in-Err c = c.in-Err.ensures.rejected c.in_ok-say-in-Err.ensures
 pub returns-in-Some : goal.returns-in-Some
 returns-in-Some c =
     let r = fields_of c.in-Ok.request in
-    (r, c.in-Ok.ensures.asked, told r c.in-Some.ensures)
+    (r, c.in-Ok.ensures.command_line, told r c.in-Some.ensures)

@@ -4,7 +4,7 @@ ghost use Rattle.serde_json.specs.Data.{string};
 ghost use Rattle.serde_json.specs.View.{view};
 ghost use Rattle.rpki_command.specs.Files.{FileFields};
 ghost use Rattle.rpki_command.specs.JsonValues.{Puts, Pushes, text_member_if_any};
-ghost use Rattle.rpki_command.specs.JsonVerdicts.{AreNoLists, IsVerdictJson, accepted_members, answer_members, fault_json, is_asked, names_json, rejected_members};
+ghost use Rattle.rpki_command.specs.JsonVerdicts.{AreNoLists, IsVerdictJson, accepted_members, answer_members, fault_json, has_lists, names_json, rejected_members};
 ghost use Rattle.rpki_command.specs.VerdictTexts.{name_at};
 
 use crate::as_json::blocks::held;
@@ -29,8 +29,8 @@ fn names(alloc: Global, files: &[Object<'_>]) -> Result<Value, AllocError>
 }
 
 // Whether lists were given.
-fn is_asked(lists: &[Object<'_>]) -> bool
-    ensures { result ≡ is_asked lists.now }
+fn has_lists(lists: &[Object<'_>]) -> bool
+    ensures { result ≡ has_lists lists.now }
 {
     !lists.is_empty()
 }
@@ -135,7 +135,7 @@ pub fn path(
     let mut out = Members::new(alloc);
     let files = names(alloc, question.members)?;
     out.value("path", files)?;
-    out.value("revocation_asked", Value::from(is_asked(question.lists)))?;
+    out.value("revocation_asked", Value::from(has_lists(question.lists)))?;
     let others = not_lists(alloc, question.lists)?;
     out.value("not_lists", others)?;
     put_answer(&mut out, alloc, question.members, verdict)?;

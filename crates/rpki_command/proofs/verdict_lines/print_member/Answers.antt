@@ -19,8 +19,8 @@ returns-in-Ok-Some c =
     (record {
       found = Some cert;
       found_is = rw c.in-Ok-Some.field-0-is at c.in-Ok-Some.ensures;
-      said = text;
-      said_is = (said.0, said.1, refl);
+      member = text;
+      member_is = (said.0, said.1, refl);
       text_is = refl;
     })
     (subst (λ (f : FileFields). Appends old (line (codes "Member") (member_text (kind_text said.0) cert.fields.serial f.name)) new) c.object.view_is said.2)
@@ -34,8 +34,8 @@ returns-in-Ok-None c =
     (record {
       found = None;
       found_is = rw c.in-Ok-None.field-0-is at c.in-Ok-None.ensures;
-      said = other_text file.name;
-      said_is = refl;
+      member = other_text file.name;
+      member_is = refl;
       text_is = refl;
     })
     (subst (λ (f : FileFields). Appends old (line (codes "Member") (other_text f.name)) new) c.object.view_is c.line_of.ensures)

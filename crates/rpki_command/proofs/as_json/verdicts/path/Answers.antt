@@ -12,7 +12,7 @@ returns c =
     let others = c.in_ok-others.ensures in
     let value = object_made _ _ _ _ c.new-out.ensures
     (then_put _ _ _ _ _ (rw c.in_ok-files.ensures at c.in_ok-value.ensures)
-    (then_put _ _ _ _ _ (rw (c.from.ensures, c.is_asked.ensures) at c.in_ok-value-2.ensures)
+    (then_put _ _ _ _ _ (rw (c.from.ensures, c.has_lists.ensures) at c.in_ok-value-2.ensures)
     (then_put _ _ _ _ _ (rw others.2 at c.in_ok-value-3.ensures)
     (last_put _ _ _ c.in_ok-put_answer.ensures))))
     c.into_value.ensures in
