@@ -1,19 +1,28 @@
--- Texts of files that are shown.
+-- What is said of files that are shown.
 use Rattle.std.specs.Option.{option_map}
-use Rattle.std.specs.Prelude.{All, IsTrue, Option, None}
-use Rattle.std.proofs.Common.{◌≡◌, ◌↔◌, ◌&&◌, ◌++◌, ◌∷◌, ℕ, Bool, List, inl, inr, ⊎_elim}
+use Rattle.std.specs.Prelude.{All, IsTrue, Option, Some, None, Result, Ok, Err, IfOk, MatchResult}
+use Rattle.std.proofs.Common.{◌≡◌, ◌↔◌, ◌&&◌, ◌++◌, ◌∷◌, ◌⊎◌, ℕ, Bool, false, List, inl, inr, ⊎_elim}
 use Rattle.std.proofs.lemmas.Bool.{and_from, and_parts}
 use Rattle.std.proofs.lemmas.List.Elements.{All-cons, All-head, All-tail}
-use Rattle.rpki_command.specs.Contents.{BeginsWithCertificate, BeginsWithList}
+use Rattle.serde_json.specs.Data.{Data}
+use Rattle.serde_json.specs.Written.{has_float}
+use Rattle.rpki_command.specs.Contents.{BeginsWithCertificate, BeginsWithList, CanBeShown}
 use Rattle.rpki_command.specs.Files.{FileFields}
-use Rattle.rpki_command.specs.Pages.{AppendsSome}
-use Rattle.rpki_command.specs.ShownTexts.{IsCertificateFileText, IsListFileText, IsTextIf, IsFileText}
-use Rattle.rpki_command.specs.declared.showing.Options.{Options}
+use Rattle.rpki_command.specs.JsonTexts.{json_lines}
+use Rattle.rpki_command.specs.Pages.{Appends, AppendsSome}
+use Rattle.rpki_command.specs.ShownTexts.{SaysIf}
+use Rattle.rpki_command.proofs.AppendedTexts.{such_appended}
+use Rattle.rpki_command.proofs.WholeValues.{IsWhole}
 
 -- a text of which something else holds too
 pub some_weaker : (P Q : List ℕ → Type 0) (old new : Option (List ℕ)) → ((text : List ℕ) → P text → Q text) → AppendsSome P old new → AppendsSome Q old new
 some_weaker P Q old new f p =
     ⊎_elim (λ (some : (text : List ℕ) × P text × (new ≡ option_map (λ so_far. so_far ++ text) old)). inl (some.0, f some.0 some.1, some.2)) (λ (is : new ≡ None). inr is) p
+
+-- the lines of a value that was made; where none was, memory has run out
+pub made_appended : {V E : Type 0} (seen : V → Data) (Is : Data → Type 0) (Holds : List ℕ → Type 0) (old new : Option (List ℕ)) (made : Result V E) → ((value : Data) → Is value → IsWhole value) → ((value : Data) → Is value → Holds (json_lines value)) → IfOk made (λ v. Is (seen v)) → MatchResult made (λ v. has_float (seen v) ≡ false → Appends old (json_lines (seen v)) new) (λ _. new ≡ None) → AppendsSome Holds old new
+made_appended seen Is Holds old new (Ok v) whole holds is printed = such_appended Holds old new (json_lines (seen v)) (holds (seen v) is) (printed (whole (seen v) is))
+made_appended seen Is Holds old new (Err e) whole holds is printed = inr printed
 
 -- of an item before others
 pub flag_of_first : {X : Type 0} (P : X → Type 0) (x : X) (xs : List X) (has others : Bool) → (IsTrue has ↔ P x) → (IsTrue others ↔ All P xs) → IsTrue (others && has) ↔ All P (x ∷ xs)
@@ -22,13 +31,13 @@ flag_of_first P x xs has others here behind = (
   (λ all. and_from others has (behind.1 (All-tail P x xs all)) (here.1 (All-head P x xs all))),
 )
 
-module _ (options : Options) (file : FileFields) (text : List ℕ) where
+module _ (OfCertificate OfList OfOther : FileFields → List ℕ → Type 0) (file : FileFields) (text : List ℕ) where
   -- of a file that begins with no certificate, in which a list is looked for
-  pub list_shown : (BeginsWithCertificate file.octets → ⊥) → IsTextIf BeginsWithList (IsListFileText options) file text → IsFileText options file text
+  pub list_shown : (BeginsWithCertificate file.octets → ⊥) → SaysIf BeginsWithList OfList OfOther file text → SaysIf CanBeShown (λ file text. OfCertificate file text ⊎ OfList file text) OfOther file text
   list_shown none (inl its) = inl (inr its)
   list_shown none (inr other) = inr ((λ shown. ⊎_elim none other.0 shown), other.1)
 
   -- of a file that begins with no list, in which a certificate is looked for
-  pub certificate_shown : (BeginsWithList file.octets → ⊥) → IsTextIf BeginsWithCertificate (IsCertificateFileText options) file text → IsFileText options file text
+  pub certificate_shown : (BeginsWithList file.octets → ⊥) → SaysIf BeginsWithCertificate OfCertificate OfOther file text → SaysIf CanBeShown (λ file text. OfCertificate file text ⊎ OfList file text) OfOther file text
   certificate_shown none (inl its) = inl (inl its)
   certificate_shown none (inr other) = inr ((λ shown. ⊎_elim other.0 none shown), other.1)

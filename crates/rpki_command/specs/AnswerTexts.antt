@@ -1,11 +1,13 @@
 -- What is answered of the files that a request names.
-use Rattle.std.specs.Prelude.{◌≡◌, ℕ, List, IfSome, IsFalse}
+use Rattle.std.specs.Prelude.{◌≡◌, ℕ, List, IfSome, IsFalse, IsTrue}
 use Rattle.rpki.specs.RsaSignatures.{IsSignedByRsa}
 use Rattle.rpki.specs.Times.{Moment}
 use Rattle.rpki.specs.Verification.{context}
 use Rattle.rpki_command.specs.CommandLines.{RequestFields}
 use Rattle.rpki_command.specs.Files.{FileFields, file_names, contents}
 use Rattle.rpki_command.specs.GivenPaths.{QuestionFields}
+use Rattle.rpki_command.specs.JsonAnswers.{AreFilesJson}
+use Rattle.rpki_command.specs.JsonVerdicts.{IsJsonOfPath}
 use Rattle.rpki_command.specs.Outcomes.{IsOutcomeOf}
 use Rattle.rpki_command.specs.ShownTexts.{IsTextOfFiles}
 use Rattle.rpki_command.specs.VerdictTexts.{IsTextOfPath}
@@ -32,6 +34,16 @@ IsTextBy _ r now files lists text = ⊥
 abbrev pub IsTextFor : RequestFields → Moment → List FileFields → List FileFields → List ℕ → Type 0
 IsTextFor r now files lists text = IsTextBy r.task r now files lists text
 
+-- the JSON of what a request with this task asks of files and lists at a moment
+abbrev pub IsJsonBy : Task → RequestFields → Moment → List FileFields → List FileFields → List ℕ → Type 0
+IsJsonBy Show r now files lists text = AreFilesJson (options_of r now) files text
+IsJsonBy Validate r now files lists text = IsJsonOfPath (context IsSignedByRsa now r.strict) (question_of r now files lists) text
+IsJsonBy _ r now files lists text = ⊥
+
+-- the JSON of what a request asks of files and lists at a moment
+abbrev pub IsJsonFor : RequestFields → Moment → List FileFields → List FileFields → List ℕ → Type 0
+IsJsonFor r now files lists text = IsJsonBy r.task r now files lists text
+
 -- what is asked may be answered so: at the moment that is named, if one is, by files and lists of the
 -- names that are given
 pub record MayAnswer (r : RequestFields) (outcome : Outcome) (text : List ℕ) : Type 0 where
@@ -43,3 +55,4 @@ pub record MayAnswer (r : RequestFields) (outcome : Outcome) (text : List ℕ) :
   pub lists_named : file_names lists ≡ r.lists
   pub outcome_is : IsOutcomeOf r.task (context IsSignedByRsa now r.strict) (contents files) (contents lists) outcome
   pub text_is : IsFalse r.json → IsTextFor r now files lists text
+  pub json_is : IsTrue r.json → IsJsonFor r now files lists text

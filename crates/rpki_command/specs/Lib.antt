@@ -25,5 +25,6 @@ pub mod JsonBlocks
 pub mod JsonFiles
 pub mod JsonTexts
 pub mod JsonVerdicts
+pub mod JsonAnswers
 pub mod AnswerTexts
 pub mod KnownKinds

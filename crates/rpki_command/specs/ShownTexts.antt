@@ -94,9 +94,13 @@ pub record IsOtherFileText (file : FileFields) (text : List ℕ) : Type 0 where
 
 -- ---- the whole
 
+-- what is said of a file that begins so, or else of another one
+abbrev pub SaysIf : (List ℕ → Type 0) → (FileFields → List ℕ → Type 0) → (FileFields → List ℕ → Type 0) → FileFields → List ℕ → Type 0
+SaysIf BeginsSo Says SaysOfOther file text = Says file text ⊎ ((BeginsSo file.octets → ⊥) × SaysOfOther file text)
+
 -- the text of a file that begins so, or of one that doesn't
 abbrev pub IsTextIf : (List ℕ → Type 0) → (FileFields → List ℕ → Type 0) → FileFields → List ℕ → Type 0
-IsTextIf BeginsSo IsText file text = IsText file text ⊎ ((BeginsSo file.octets → ⊥) × IsOtherFileText file text)
+IsTextIf BeginsSo IsText = SaysIf BeginsSo IsText IsOtherFileText
 
 -- the text of a file
 abbrev pub IsFileText : Options → FileFields → List ℕ → Type 0

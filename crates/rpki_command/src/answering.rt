@@ -1,8 +1,8 @@
 //! What is answered of files.
-ghost use Rattle.std.specs.Prelude.{IfOk, IsFalse, string_bytes};
+ghost use Rattle.std.specs.Prelude.{IfOk, IsFalse, IsTrue, string_bytes};
 ghost use Rattle.rpki.specs.RsaSignatures.{IsSignedByRsa};
 ghost use Rattle.rpki.specs.Verification.{context};
-ghost use Rattle.rpki_command.specs.AnswerTexts.{IsTextFor};
+ghost use Rattle.rpki_command.specs.AnswerTexts.{IsJsonFor, IsTextFor};
 ghost use Rattle.rpki_command.specs.CommandLines.Views.{fields_of};
 ghost use Rattle.rpki_command.specs.Files.{contents};
 ghost use Rattle.rpki_command.specs.Outcomes.{AsksOfFiles, IsOutcomeOf};
@@ -32,6 +32,9 @@ pub fn answer_request(
     ensures text { let request = fields_of request.now in
         IsFalse request.json → IfOk result (λ answer.
         IsTextFor request now files.now lists.now (string_bytes answer.text)) }
+    ensures json { let request = fields_of request.now in
+        IsTrue request.json → IfOk result (λ answer.
+        IsJsonFor request now files.now lists.now (string_bytes answer.text)) }
 {
     match request.task {
         Task::Show => {

@@ -1,5 +1,7 @@
 //! A file for a person or as JSON.
-ghost use Rattle.std.specs.Prelude.{◌↔◌, All, IfOk, OnOk, IsTrue, IsFalse, Some, codes, string_bytes};
+ghost use Rattle.std.specs.Prelude.{◌≡◌, ◌↔◌, false, All, IfOk, OnOk, IsTrue, IsFalse, MatchResult, Some, None, codes, string_bytes};
+ghost use Rattle.serde_json.specs.View.{view};
+ghost use Rattle.serde_json.specs.Written.{has_float};
 ghost use Rattle.sha2.specs.Sha256.{sha256};
 ghost use Rattle.rpki.specs.Place.{MeansOrMemoryBy};
 ghost use Rattle.rpki.specs.Encoding.{Means};
@@ -8,6 +10,8 @@ ghost use Rattle.rpki.specs.Lists.{IsCertificateList};
 ghost use Rattle.rpki_command.specs.CertificateTexts.{AreAnswers};
 ghost use Rattle.rpki_command.specs.Contents.{BeginsWithCertificate, BeginsWithList, CanBeShown};
 ghost use Rattle.rpki_command.specs.Files.{contents};
+ghost use Rattle.rpki_command.specs.JsonAnswers.{AreFilesJson, IsCertificateFileJson, IsFileJson, IsJsonIf, IsListFileJson, IsOtherFileJson, IsShown};
+ghost use Rattle.rpki_command.specs.JsonTexts.{json_lines};
 ghost use Rattle.rpki_command.specs.Outcomes.{IsOutcomeOfShow};
 ghost use Rattle.rpki_command.specs.Pages.{Appends, AppendsSome, line, line_end};
 ghost use Rattle.rpki_command.specs.PemFiles.{base64_of};
@@ -91,12 +95,18 @@ fn ended(page: &mut Page, left: usize)
     }
 }
 
-fn printed(page: &mut Page, made: Result<Value, AllocError>) {
+// Appends the lines of a value, if it was made.
+fn printed(page: &mut Page, made: Result<Value, AllocError>)
+    ensures { MatchResult made
+        (λ value. has_float (view value) ≡ false
+        → Appends page.old (json_lines (view value)) page.new)
+        (λ _. page.new ≡ None) }
+{
     match made {
         Ok(value) => {
-            let text = value.to_string_pretty(page.alloc());
+            let text = as_json::lines_of(page.alloc(), &value);
+            drop(value);
             page.formed(text);
-            page.end();
         }
         Err(_) => page.fail(),
     }
@@ -149,9 +159,29 @@ fn print_rejection(page: &mut Page, object: &Object<'_>, it: &Rejection)
     page.line("Standard", it.rule.section);
 }
 
+fn as_shown<'a>(object: &'a Object<'_>, left: usize) -> as_json::Shown<'a>
+    ensures { IsShown object.now left result }
+{
+    as_json::Shown {
+        name: object.name,
+        whole: object.octets.as_slice(),
+        left,
+    }
+}
+
+fn rejection_json(page: &mut Page, object: &Object<'_>, it: &Rejection)
+    ensures { AppendsSome (IsOtherFileJson object.now) page.old page.new }
+{
+    let file = as_shown(object, 0);
+    let made = as_json::refused(page.alloc(), &file, it.why.as_str(), it.rule, it.place);
+    printed(page, made);
+}
+
 fn refused(page: &mut Page, object: &Object<'_>, fault: &DecodeError, options: &Options)
-    ensures { IsFalse options.now.json
+    ensures text { IsFalse options.now.json
         → AppendsSome (IsOtherFileText object.now) page.old page.new }
+    ensures json { IsTrue options.now.json
+        → AppendsSome (IsOtherFileJson object.now) page.old page.new }
 {
     let it = match rejection_of(page.alloc(), object, fault) {
         Ok(it) => it,
@@ -161,21 +191,11 @@ fn refused(page: &mut Page, object: &Object<'_>, fault: &DecodeError, options: &
         }
     };
     if options.json {
-        let file = as_shown(object, 0);
-        let made = as_json::refused(page.alloc(), &file, it.why.as_str(), it.rule, it.place);
-        printed(page, made);
+        rejection_json(page, object, &it);
     } else {
         print_rejection(page, object, &it);
     }
     drop(it);
-}
-
-fn as_shown<'a>(object: &'a Object<'_>, left: usize) -> as_json::Shown<'a> {
-    as_json::Shown {
-        name: object.name,
-        whole: object.octets.as_slice(),
-        left,
-    }
 }
 
 // The certificate that the octets begin with, and how many octets stand behind it.
@@ -204,6 +224,21 @@ fn print_certificate(
     ended(page, left);
 }
 
+fn certificate_json(
+    page: &mut Page,
+    object: &Object<'_>,
+    cert: &Cert,
+    left: usize,
+    options: &Options,
+)
+    ensures { BeginsBefore IsCertificate object.now.octets cert.now left
+        → AppendsSome (IsCertificateFileJson options.now object.now) page.old page.new }
+{
+    let file = as_shown(object, left);
+    let made = as_json::certificate(page.alloc(), &file, cert, options.strict);
+    printed(page, made);
+}
+
 fn whole_certificate(
     page: &mut Page,
     object: &Object<'_>,
@@ -211,14 +246,15 @@ fn whole_certificate(
     left: usize,
     options: &Options,
 )
-    ensures { IsFalse options.now.json
+    ensures text { IsFalse options.now.json
         → BeginsBefore IsCertificate object.now.octets cert.now left
         → AppendsSome (IsCertificateFileText options.now object.now) page.old page.new }
+    ensures json { IsTrue options.now.json
+        → BeginsBefore IsCertificate object.now.octets cert.now left
+        → AppendsSome (IsCertificateFileJson options.now object.now) page.old page.new }
 {
     if options.json {
-        let file = as_shown(object, left);
-        let made = as_json::certificate(page.alloc(), &file, cert, options.strict);
-        printed(page, made);
+        certificate_json(page, object, cert, left, options);
     } else {
         print_certificate(page, object, cert, left, options);
     }
@@ -233,6 +269,8 @@ fn certificate_of(
     ensures begins { IfOk result (λ yes. IsTrue yes ↔ BeginsWithCertificate object.now.octets) }
     ensures text { let IsText = IsTextIf BeginsWithCertificate (IsCertificateFileText options.now) in
         IsFalse options.now.json → OnOk result (AppendsSome (IsText object.now) page.old page.new) }
+    ensures json { let IsJson = IsJsonIf BeginsWithCertificate (IsCertificateFileJson options.now) in
+        IsTrue options.now.json → OnOk result (AppendsSome (IsJson object.now) page.old page.new) }
 {
     match certificate_in(page.alloc(), &object.octets) {
         Ok(found) => {
@@ -271,14 +309,25 @@ fn print_list(page: &mut Page, object: &Object<'_>, it: &Crl, left: usize, optio
     ended(page, left);
 }
 
+fn list_json(page: &mut Page, object: &Object<'_>, it: &Crl, left: usize)
+    ensures { BeginsBefore IsCertificateList object.now.octets it.now.list left
+        → AppendsSome (IsListFileJson object.now) page.old page.new }
+{
+    let file = as_shown(object, left);
+    let made = as_json::list(page.alloc(), &file, it);
+    printed(page, made);
+}
+
 fn whole_list(page: &mut Page, object: &Object<'_>, it: &Crl, left: usize, options: &Options)
-    ensures { IsFalse options.now.json
+    ensures text { IsFalse options.now.json
         → BeginsBefore IsCertificateList object.now.octets it.now.list left
         → AppendsSome (IsListFileText options.now object.now) page.old page.new }
+    ensures json { IsTrue options.now.json
+        → BeginsBefore IsCertificateList object.now.octets it.now.list left
+        → AppendsSome (IsListFileJson object.now) page.old page.new }
 {
     if options.json {
-        let made = as_json::list(page.alloc(), &as_shown(object, left), it);
-        printed(page, made);
+        list_json(page, object, it, left);
     } else {
         print_list(page, object, it, left, options);
     }
@@ -289,6 +338,8 @@ fn list_of(page: &mut Page, object: &Object<'_>, options: &Options) -> Result<bo
     ensures begins { IfOk result (λ yes. IsTrue yes ↔ BeginsWithList object.now.octets) }
     ensures text { let IsText = IsTextIf BeginsWithList (IsListFileText options.now) in
         IsFalse options.now.json → OnOk result (AppendsSome (IsText object.now) page.old page.new) }
+    ensures json { let IsJson = IsJsonIf BeginsWithList IsListFileJson in
+        IsTrue options.now.json → OnOk result (AppendsSome (IsJson object.now) page.old page.new) }
 {
     match list_in(page.alloc(), &object.octets) {
         Ok(found) => {
@@ -310,6 +361,8 @@ pub fn show(page: &mut Page, object: &Object<'_>, options: &Options) -> Result<b
     ensures shows { IfOk result (λ yes. IsTrue yes ↔ CanBeShown object.now.octets) }
     ensures text { IsFalse options.now.json
         → OnOk result (AppendsSome (IsFileText options.now object.now) page.old page.new) }
+    ensures json { IsTrue options.now.json
+        → OnOk result (AppendsSome (IsFileJson options.now object.now) page.old page.new) }
 {
     match looks_like(&object.octets) {
         Form::List => list_of(page, object, options),
@@ -317,9 +370,10 @@ pub fn show(page: &mut Page, object: &Object<'_>, options: &Options) -> Result<b
     }
 }
 
-// Ends the text of a file that another one follows.
+// Ends the text of a file that another one follows, and of JSON nothing.
 fn gap(page: &mut Page, options: &Options)
-    ensures { IsFalse options.now.json → Appends page.old line_end page.new }
+    ensures text { IsFalse options.now.json → Appends page.old line_end page.new }
+    ensures json { IsTrue options.now.json → page.new ≡ page.old }
 {
     if !options.json {
         page.end();
@@ -331,6 +385,8 @@ fn show_further(page: &mut Page, object: &Object<'_>, options: &Options) -> Resu
     ensures shows { IfOk result (λ yes. IsTrue yes ↔ CanBeShown object.now.octets) }
     ensures text { IsFalse options.now.json
         → OnOk result (AppendsSome (IsFurtherText options.now object.now) page.old page.new) }
+    ensures json { IsTrue options.now.json
+        → OnOk result (AppendsSome (IsFileJson options.now object.now) page.old page.new) }
 {
     gap(page, options);
     show(page, object, options)
@@ -341,6 +397,8 @@ fn show_more(page: &mut Page, objects: &[Object<'_>], options: &Options) -> Resu
     ensures shows { IfOk result (λ yes. IsTrue yes ↔ All CanBeShown (contents objects.now)) }
     ensures text { let IsText = SaysOfEach (IsFurtherText options.now) in
         IsFalse options.now.json → OnOk result (AppendsSome (IsText objects.now) page.old page.new) }
+    ensures json { IsTrue options.now.json
+        → OnOk result (AppendsSome (AreFilesJson options.now objects.now) page.old page.new) }
 {
     let mut can_be_shown = true;
     for object in objects {
@@ -354,6 +412,8 @@ fn show_all(page: &mut Page, objects: &[Object<'_>], options: &Options) -> Resul
     ensures shows { IfOk result (λ yes. IsTrue yes ↔ All CanBeShown (contents objects.now)) }
     ensures text { IsFalse options.now.json
         → OnOk result (AppendsSome (IsTextOfFiles options.now objects.now) page.old page.new) }
+    ensures json { IsTrue options.now.json
+        → OnOk result (AppendsSome (AreFilesJson options.now objects.now) page.old page.new) }
 {
     let Some((first, more)) = objects.split_first() else {
         return Ok(true);
@@ -369,6 +429,8 @@ pub fn shown(alloc: Global, objects: &[Object<'_>], options: &Options) -> Result
         IsOutcomeOfShow (contents objects.now) answer.outcome) }
     ensures text { IsFalse options.now.json → IfOk result (λ answer.
         IsTextOfFiles options.now objects.now (string_bytes answer.text)) }
+    ensures json { IsTrue options.now.json → IfOk result (λ answer.
+        AreFilesJson options.now objects.now (string_bytes answer.text)) }
 {
     let mut page = Page::new(alloc);
     let can_be_shown = show_all(&mut page, objects, options)?;

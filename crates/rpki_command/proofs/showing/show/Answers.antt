@@ -3,7 +3,8 @@ use Rattle.std.proofs.Common.{◌≡◌, ◌↔◌, inl, ⊎_elim, subst}
 use Rattle.std.proofs.lemmas.Result.{IfOk-weaker, on_ok_weaker}
 use Rattle.rpki_command.specs.Contents.{BeginsWithCertificate, BeginsWithList, CanBeShown}
 use Rattle.rpki_command.specs.Files.{FileFields}
-use Rattle.rpki_command.specs.ShownTexts.{IsCertificateFileText, IsListFileText, IsTextIf, IsFileText}
+use Rattle.rpki_command.specs.JsonAnswers.{IsCertificateFileJson, IsFileJson, IsJsonIf, IsListFileJson, IsOtherFileJson}
+use Rattle.rpki_command.specs.ShownTexts.{IsCertificateFileText, IsListFileText, IsOtherFileText, IsTextIf, IsFileText}
 use Rattle.rpki_command.specs.declared.files.Form.TheVariants as forms
 use Rattle.rpki_command.proofs.ShownFiles.{some_weaker, list_shown, certificate_shown}
 use Rattle.rpki_command.proofs.showing.show.Goals as goal
@@ -14,7 +15,15 @@ returns-in-List-clause-text c = λ lines.
     let file = c.args.object.now in
     let as_other = subst (λ (f : FileFields). BeginsWithCertificate f.octets → c.looks_like.result ≡ forms.List → ⊥) c.object.view_is c.looks_like.ensures.certificate in
     let none : BeginsWithCertificate file.octets → ⊥ = λ begins. as_other begins c.in-List.is in
-    on_ok_weaker c.list_of.result (λ p. some_weaker (IsTextIf BeginsWithList (IsListFileText o) file) (IsFileText o file) c.args.page.now c.list_of.new.page (λ text. list_shown o file text none) p) (c.list_of.ensures.text lines)
+    on_ok_weaker c.list_of.result (λ p. some_weaker (IsTextIf BeginsWithList (IsListFileText o) file) (IsFileText o file) c.args.page.now c.list_of.new.page (λ text. list_shown (IsCertificateFileText o) (IsListFileText o) IsOtherFileText file text none) p) (c.list_of.ensures.text lines)
+
+pub returns-in-List-clause-json : goal.returns-in-List-clause-json
+returns-in-List-clause-json c = λ json.
+    let o = c.args.options.now in
+    let file = c.args.object.now in
+    let as_other = subst (λ (f : FileFields). BeginsWithCertificate f.octets → c.looks_like.result ≡ forms.List → ⊥) c.object.view_is c.looks_like.ensures.certificate in
+    let none : BeginsWithCertificate file.octets → ⊥ = λ begins. as_other begins c.in-List.is in
+    on_ok_weaker c.list_of.result (λ p. some_weaker (IsJsonIf BeginsWithList IsListFileJson file) (IsFileJson o file) c.args.page.now c.list_of.new.page (λ text. list_shown (IsCertificateFileJson o) IsListFileJson IsOtherFileJson file text none) p) (c.list_of.ensures.json json)
 
 pub returns-in-Certificate : goal.returns-in-Certificate
 returns-in-Certificate c =
@@ -27,5 +36,7 @@ returns-in-Certificate c =
     record {
       shows = IfOk-weaker c.certificate_of.result (λ yes. IsTrue yes ↔ BeginsWithCertificate file.octets) (λ yes. IsTrue yes ↔ CanBeShown file.octets) (λ yes h. ((λ is. inl (h.0 is)), (λ shown. h.1 (⊎_elim (λ cert. cert) (λ list. absurd (none list)) shown)))) c.certificate_of.ensures.begins;
       text = λ lines.
-          on_ok_weaker c.certificate_of.result (λ p. some_weaker (IsTextIf BeginsWithCertificate (IsCertificateFileText o) file) (IsFileText o file) c.args.page.now c.certificate_of.new.page (λ text. certificate_shown o file text none) p) (c.certificate_of.ensures.text lines);
+          on_ok_weaker c.certificate_of.result (λ p. some_weaker (IsTextIf BeginsWithCertificate (IsCertificateFileText o) file) (IsFileText o file) c.args.page.now c.certificate_of.new.page (λ text. certificate_shown (IsCertificateFileText o) (IsListFileText o) IsOtherFileText file text none) p) (c.certificate_of.ensures.text lines);
+      json = λ json.
+          on_ok_weaker c.certificate_of.result (λ p. some_weaker (IsJsonIf BeginsWithCertificate (IsCertificateFileJson o) file) (IsFileJson o file) c.args.page.now c.certificate_of.new.page (λ text. certificate_shown (IsCertificateFileJson o) IsListFileJson IsOtherFileJson file text none) p) (c.certificate_of.ensures.json json);
     }

@@ -2,6 +2,7 @@ use Rattle.std.specs.Prelude.{All, IsTrue}
 use Rattle.std.proofs.Common.{rules, ◌≡◌, ◌↔◌, ◌&&◌, ◌∷◌, List, refl, sym, subst}
 use Rattle.rpki_command.specs.Contents.{CanBeShown}
 use Rattle.rpki_command.specs.Files.{FileFields, contents}
+use Rattle.rpki_command.specs.JsonAnswers.{AreFilesJson, IsFileJson}
 use Rattle.rpki_command.specs.Pages.{AppendsSome}
 use Rattle.rpki_command.specs.ShownTexts.{IsFileText, IsFurtherText, IsTextOfFiles}
 use Rattle.rpki_command.specs.VerdictTexts.{SaysOfEach}
@@ -29,3 +30,15 @@ returns-clause-text c = λ lines.
     let new = c.show_more.new.page in
     subst (λ (files : List FileFields). AppendsSome (IsTextOfFiles o files) old new) (sym parts)
     (both_appended (IsFileText o first) (SaysOfEach (IsFurtherText o) more) (IsTextOfFiles o (first ∷ more)) old mid new (λ a b its others. (a, b, its, others, refl)) (c.in_ok-can_be_shown.ensures.text lines) (c.in_ok-show_more.ensures.text lines))
+
+pub returns-clause-json : goal.returns-clause-json
+returns-clause-json c = λ json.
+    let o = c.args.options.now in
+    let first = c.in-Some.first.now in
+    let more = c.in-Some.more.now in
+    let parts : c.args.objects.now ≡ first ∷ more = search rules in
+    let old = c.args.page.now in
+    let mid = c.show.new.page in
+    let new = c.show_more.new.page in
+    subst (λ (files : List FileFields). AppendsSome (AreFilesJson o files) old new) (sym parts)
+    (both_appended (IsFileJson o first) (SaysOfEach (IsFileJson o) more) (AreFilesJson o (first ∷ more)) old mid new (λ a b its others. (a, b, its, others, refl)) (c.in_ok-can_be_shown.ensures.json json) (c.in_ok-show_more.ensures.json json))

@@ -1,5 +1,6 @@
 use Rattle.rpki_command.specs.Contents.{CanBeShown}
 use Rattle.rpki_command.specs.Files.{contents}
+use Rattle.rpki_command.specs.JsonAnswers.{IsFileJson}
 use Rattle.rpki_command.specs.ShownTexts.{IsFurtherText}
 use Rattle.rpki_command.proofs.AppendedTexts.{each_more, each_said}
 use Rattle.rpki_command.proofs.FlaggedItems.{flag_of_more, flag_of_all}
@@ -18,6 +19,8 @@ loop-object-preserved c =
       shows = flag_of_more CanBeShown (contents objects) i file.octets (mapped_low (λ file. file.octets) objects i low) (mapped_there (λ file. file.octets) objects i file low c.object-item.is) l.can_be_shown c.in_ok-can_be_shown.field-0 l.invariant.shows here.shows;
       text = λ lines.
           each_more (IsFurtherText c.args.options.now) objects i file c.args.page.now l.page c.show_further.new.page low c.object-item.is (l.invariant.text lines) (here.text lines);
+      json = λ json.
+          each_more (IsFileJson c.args.options.now) objects i file c.args.page.now l.page c.show_further.new.page low c.object-item.is (l.invariant.json json) (here.json json);
     }
 
 pub returns-clause-shows : goal.returns-clause-shows
@@ -30,3 +33,8 @@ pub returns-clause-text : goal.returns-clause-text
 returns-clause-text c = λ lines.
     let l = c.loop-object in
     each_said (IsFurtherText c.args.options.now) c.args.objects.now l.object-index c.args.page.now l.page c.loop-object-test.false (l.invariant.text lines)
+
+pub returns-clause-json : goal.returns-clause-json
+returns-clause-json c = λ json.
+    let l = c.loop-object in
+    each_said (IsFileJson c.args.options.now) c.args.objects.now l.object-index c.args.page.now l.page c.loop-object-test.false (l.invariant.json json)

@@ -3,8 +3,8 @@ use Rattle.rpki_command.specs.ShownTexts.{IsCertificateFileText, certificate_fil
 use Rattle.rpki_command.proofs.AppendedTexts.{such_appended}
 use Rattle.rpki_command.proofs.showing.whole_certificate.Goals as goal
 
-pub returns-else-options : goal.returns-else-options
-returns-else-options c = λ lines begins.
+pub returns-else-options-clause-text : goal.returns-else-options-clause-text
+returns-else-options-clause-text c = λ lines begins.
     let file = c.args.object.now in
     let o = c.args.options.now in
     let printed = c.print_certificate.ensures in

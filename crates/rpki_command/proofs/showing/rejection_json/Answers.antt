@@ -1,0 +1,27 @@
+use Rattle.std.proofs.Common.{◌≡◌, sym, ap, subst}
+use Rattle.serde_json.specs.View.{view}
+use Rattle.rpki_command.specs.JsonAnswers.{IsOtherFileJson}
+use Rattle.rpki_command.specs.JsonFiles.{rejection_json}
+use Rattle.rpki_command.specs.JsonTexts.{json_lines}
+use Rattle.rpki_command.proofs.ShownFiles.{made_appended}
+use Rattle.rpki_command.proofs.WholeFiles.{rejection_whole}
+use Rattle.rpki_command.proofs.WholeValues.{IsWhole}
+use Rattle.rpki_command.proofs.showing.rejection_json.Goals as goal
+
+pub returns : goal.returns
+returns c =
+    let file = c.args.object.now in
+    let it = c.args.it.now in
+    let shown = c.as_shown-file.result in
+    let why = c.as_str.result.now in
+    made_appended view (λ value. value ≡ rejection_json shown why it.rule it.place) (IsOtherFileJson file) c.args.page.now c.printed.new.page c.refused-made.result
+    (λ value is. subst IsWhole (sym is) (rejection_whole shown why it.rule it.place))
+    (λ value is. record {
+      fault = why;
+      rule = it.rule;
+      place = it.place;
+      shown = shown;
+      shown_is = c.as_shown-file.ensures;
+      text_is = ap json_lines is;
+    })
+    c.refused-made.ensures c.printed.ensures

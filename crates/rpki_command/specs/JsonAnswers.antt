@@ -1,0 +1,60 @@
+-- What is shown of files as JSON.
+use Rattle.std.specs.Prelude.{◌≡◌, ◌⊎◌, ℕ, List}
+use Rattle.serde_json.specs.Data.{Data}
+use Rattle.rpki.specs.Certificates.{CertFields, IsCertificate}
+use Rattle.rpki.specs.Lists.{CrlFields, IsCertificateList}
+use Rattle.rpki_command.specs.Contents.{CanBeShown}
+use Rattle.rpki_command.specs.Files.{FileFields}
+use Rattle.rpki_command.specs.JsonFiles.{IsCertificateJson, list_json, rejection_json}
+use Rattle.rpki_command.specs.JsonTexts.{json_lines}
+use Rattle.rpki_command.specs.ShownTexts.{BeginsBefore, SaysIf}
+use Rattle.rpki_command.specs.VerdictTexts.{SaysOfEach}
+use Rattle.rpki_command.specs.declared.as_json.Shown.{Shown}
+use Rattle.rpki_command.specs.declared.places.Place.{Place}
+use Rattle.rpki_command.specs.declared.rules.Rule.{Rule}
+use Rattle.rpki_command.specs.declared.showing.Options.{Options}
+
+-- a file with so many octets behind its object, as its JSON has it
+abbrev pub IsShown : FileFields → ℕ → Shown → Type 0
+IsShown file left shown = (shown.name.now ≡ file.name) × (shown.whole.now ≡ file.octets) × (shown.left ≡ left)
+
+-- the file begins with a certificate, and this is its JSON
+pub record IsCertificateFileJson (options : Options) (file : FileFields) (text : List ℕ) : Type 0 where
+  pub cert : CertFields
+  pub left : ℕ
+  pub begins : BeginsBefore IsCertificate file.octets cert left
+  pub shown : Shown
+  pub shown_is : IsShown file left shown
+  pub value : Data
+  pub value_is : IsCertificateJson options.strict shown cert value
+  pub text_is : text ≡ json_lines value
+
+-- the file begins with a list, and this is its JSON
+pub record IsListFileJson (file : FileFields) (text : List ℕ) : Type 0 where
+  pub list : CrlFields
+  pub left : ℕ
+  pub begins : BeginsBefore IsCertificateList file.octets list left
+  pub shown : Shown
+  pub shown_is : IsShown file left shown
+  pub text_is : text ≡ json_lines (list_json shown list.fields)
+
+-- the JSON of a file that begins with neither; which fault is named, no definition says
+pub record IsOtherFileJson (file : FileFields) (text : List ℕ) : Type 0 where
+  pub fault : List ℕ
+  pub rule : Rule
+  pub place : Place
+  pub shown : Shown
+  pub shown_is : IsShown file 0 shown
+  pub text_is : text ≡ json_lines (rejection_json shown fault rule place)
+
+-- the JSON of a file that begins so, or of one that doesn't
+abbrev pub IsJsonIf : (List ℕ → Type 0) → (FileFields → List ℕ → Type 0) → FileFields → List ℕ → Type 0
+IsJsonIf BeginsSo IsJson = SaysIf BeginsSo IsJson IsOtherFileJson
+
+-- the JSON of a file
+abbrev pub IsFileJson : Options → FileFields → List ℕ → Type 0
+IsFileJson options = IsJsonIf CanBeShown (λ file text. IsCertificateFileJson options file text ⊎ IsListFileJson file text)
+
+-- the JSON of files, one behind the other
+abbrev pub AreFilesJson : Options → List FileFields → List ℕ → Type 0
+AreFilesJson options files text = SaysOfEach (IsFileJson options) files text
