@@ -1,6 +1,6 @@
 -- What is said of files that are shown.
 use Rattle.std.specs.Option.{option_map}
-use Rattle.std.specs.Prelude.{All, IsTrue, Option, Some, None, Result, Ok, Err, IfOk, MatchResult}
+use Rattle.std.specs.Prelude.{All, IsTrue, Option, None, Result, Ok, Err, IfOk, MatchResult}
 use Rattle.std.proofs.Common.{◌≡◌, ◌↔◌, ◌&&◌, ◌++◌, ◌∷◌, ◌⊎◌, ℕ, Bool, false, List, inl, inr, ⊎_elim}
 use Rattle.std.proofs.lemmas.Bool.{and_from, and_parts}
 use Rattle.std.proofs.lemmas.List.Elements.{All-cons, All-head, All-tail}

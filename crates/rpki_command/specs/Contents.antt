@@ -31,3 +31,7 @@ pub record HasFirstInside (first : ℕ) (octets : List ℕ) : Type 0 where
   pub begins : Means (IsEnc SEQUENCE) outer octets
   pub inside : Means (IsEnc SEQUENCE) inner outer
   pub first_is : inner ≡ first ∷ rest
+
+-- the octets look like a list: that first octet is the tag of an INTEGER, as of a list's version
+abbrev pub LooksLikeList : List ℕ → Type 0
+LooksLikeList octets = HasFirstInside 0x02 octets

@@ -7,7 +7,7 @@ use Rattle.rpki_command.specs.Contents.{CanBeShown}
 use Rattle.rpki_command.specs.Files.{FileFields}
 use Rattle.rpki_command.specs.JsonFiles.{IsCertificateJson, list_json, rejection_json}
 use Rattle.rpki_command.specs.JsonTexts.{json_lines}
-use Rattle.rpki_command.specs.ShownTexts.{BeginsBefore, SaysIf}
+use Rattle.rpki_command.specs.ShownTexts.{BeginsBefore, IsRejection, SaysIf}
 use Rattle.rpki_command.specs.VerdictTexts.{SaysOfEach}
 use Rattle.rpki_command.specs.declared.as_json.Shown.{Shown}
 use Rattle.rpki_command.specs.declared.places.Place.{Place}
@@ -38,14 +38,15 @@ pub record IsListFileJson (file : FileFields) (text : List ℕ) : Type 0 where
   pub shown_is : IsShown file left shown
   pub text_is : text ≡ json_lines (list_json shown list.fields)
 
--- the JSON of a file that begins with neither; which fault is named, no definition says
+-- the JSON of a file that begins with neither; how a fault is named, no definition says
 pub record IsOtherFileJson (file : FileFields) (text : List ℕ) : Type 0 where
-  pub fault : List ℕ
+  pub why : List ℕ
   pub rule : Rule
   pub place : Place
+  pub rejection : IsRejection file.octets rule place
   pub shown : Shown
   pub shown_is : IsShown file 0 shown
-  pub text_is : text ≡ json_lines (rejection_json shown fault rule place)
+  pub text_is : text ≡ json_lines (rejection_json shown why rule place)
 
 -- the JSON of a file that begins so, or of one that doesn't
 abbrev pub IsJsonIf : (List ℕ → Type 0) → (FileFields → List ℕ → Type 0) → FileFields → List ℕ → Type 0

@@ -1,21 +1,26 @@
 -- What is shown of files.
 use Rattle.std.specs.Fmt.{decimal}
 use Rattle.std.specs.List.{concat}
-use Rattle.std.specs.Prelude.{◌≡◌, ◌⊎◌, ℕ, Bool, ◌==◌, if◌then◌else◌, List, [], ◌∷◌, ◌++◌, length, codes}
+use Rattle.std.specs.Prelude.{◌≡◌, ◌≢◌, ◌≤◌, ◌↔◌, ◌⊎◌, ℕ, Bool, IsTrue, ◌==◌, if◌then◌else◌, List, [], ◌∷◌, ◌++◌, length, codes}
 use Rattle.sha2.specs.Sha256.{sha256}
 use Rattle.rpki.specs.Encoding.{Begins}
 use Rattle.rpki.specs.Certificates.{CertFields, TbsFields, IsCertificate}
+use Rattle.rpki.specs.DecodeError.{DecodeError}
+use Rattle.rpki.specs.DecodeError.TheVariants.{Memory}
 use Rattle.rpki.specs.Lists.{CrlFields, ListFields, IsCertificateList}
 use Rattle.rpki.specs.RevokedEntries.{Revoked}
 use Rattle.rpki.specs.Times.{Moment}
 use Rattle.rpki_command.specs.CertificateTexts.{AreAnswers, certificate_text}
-use Rattle.rpki_command.specs.Contents.{CanBeShown}
+use Rattle.rpki_command.specs.Contents.{CanBeShown, LooksLikeList}
+use Rattle.rpki_command.specs.FaultRules.{IsFileRule, rule_of}
 use Rattle.rpki_command.specs.Files.{FileFields}
 use Rattle.rpki_command.specs.ListTexts.{list_text}
 use Rattle.rpki_command.specs.Pages.{line, line_end, count_text}
 use Rattle.rpki_command.specs.PemFiles.{base64_of}
 use Rattle.rpki_command.specs.VerdictTexts.{SaysOfEach}
 use Rattle.rpki_command.specs.declared.certificate.Answers.{Answers}
+use Rattle.rpki_command.specs.declared.places.Place.{Place}
+use Rattle.rpki_command.specs.declared.rules.Rule.{Rule}
 use Rattle.rpki_command.specs.declared.showing.Options.{Options}
 
 -- ---- around an object
@@ -83,14 +88,22 @@ other_file_text file fault stop says section = concat (
     ∷ line (codes "Standard") section
     ∷ [])
 
--- the text of a file that begins with neither; which fault is named, no definition says
+-- why octets begin with neither: a fault of reading, its rule, and where reading stops
+pub record IsRejection (octets : List ℕ) (rule : Rule) (place : Place) : Type 0 where
+  pub fault : DecodeError
+  pub not_memory : fault ≢ Memory
+  pub is_list : Bool
+  pub is_list_by : IsTrue is_list ↔ LooksLikeList octets
+  pub rule_is : IsFileRule is_list fault octets (rule_of rule)
+  pub octet_within : place.octet ≤ length octets
+
+-- the text of a file that begins with neither; how a fault is named, no definition says
 pub record IsOtherFileText (file : FileFields) (text : List ℕ) : Type 0 where
-  pub fault : List ℕ
-  pub field : List ℕ
-  pub octet : ℕ
-  pub says : List ℕ
-  pub section : List ℕ
-  pub text_is : text ≡ other_file_text file fault (stop_text field octet) says section
+  pub why : List ℕ
+  pub rule : Rule
+  pub place : Place
+  pub rejection : IsRejection file.octets rule place
+  pub text_is : text ≡ other_file_text file why (stop_text place.field.now place.octet) rule.says.now rule.section.now
 
 -- ---- the whole
 

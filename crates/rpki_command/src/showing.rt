@@ -8,14 +8,14 @@ ghost use Rattle.rpki.specs.Encoding.{Means};
 ghost use Rattle.rpki.specs.Certificates.{IsCertificate};
 ghost use Rattle.rpki.specs.Lists.{IsCertificateList};
 ghost use Rattle.rpki_command.specs.CertificateTexts.{AreAnswers};
-ghost use Rattle.rpki_command.specs.Contents.{BeginsWithCertificate, BeginsWithList, CanBeShown};
+ghost use Rattle.rpki_command.specs.Contents.{BeginsWithCertificate, BeginsWithList, CanBeShown, LooksLikeList};
 ghost use Rattle.rpki_command.specs.Files.{contents};
 ghost use Rattle.rpki_command.specs.JsonAnswers.{AreFilesJson, IsCertificateFileJson, IsFileJson, IsJsonIf, IsListFileJson, IsOtherFileJson, IsShown};
 ghost use Rattle.rpki_command.specs.JsonTexts.{json_lines};
 ghost use Rattle.rpki_command.specs.Outcomes.{IsOutcomeOfShow};
 ghost use Rattle.rpki_command.specs.Pages.{Appends, AppendsSome, line, line_end};
 ghost use Rattle.rpki_command.specs.PemFiles.{base64_of};
-ghost use Rattle.rpki_command.specs.ShownTexts.{BeginsBefore, IsCertificateFileText, IsFileText, IsFurtherText, IsListFileText, IsOtherFileText, IsTextIf, IsTextOfFiles, certificate_file_text, file_lines, left_line, left_text, list_file_text, stop_text};
+ghost use Rattle.rpki_command.specs.ShownTexts.{BeginsBefore, IsCertificateFileText, IsFileText, IsFurtherText, IsListFileText, IsOtherFileText, IsRejection, IsTextIf, IsTextOfFiles, certificate_file_text, file_lines, left_line, left_text, list_file_text, stop_text};
 ghost use Rattle.rpki_command.specs.VerdictTexts.{SaysOfEach};
 
 use crate::files::{Form, Object, looks_like, unless_memory};
@@ -120,15 +120,27 @@ struct Rejection {
     place: Place,
 }
 
+// Whether the octets look like a list.
+fn is_like_list(octets: &Bytes) -> bool
+    ensures { IsTrue result ↔ LooksLikeList octets.now }
+{
+    match looks_like(octets) {
+        Form::List => true,
+        Form::Certificate | Form::Other => false,
+    }
+}
+
 fn rejection_of(
     alloc: Global,
     object: &Object<'_>,
     fault: &DecodeError,
-) -> Result<Rejection, AllocError> {
+) -> Result<Rejection, AllocError>
+    ensures { IfOk result (λ it. IsRejection object.now.octets it.rule it.place) }
+{
     if fault.is_memory() {
         return Err(AllocError);
     }
-    let is_list = looks_like(&object.octets) == Form::List;
+    let is_list = is_like_list(&object.octets);
     let place = place_of(alloc, &object.octets, is_list)?;
     let rule = of_file(fault, &object.octets, is_list);
     let why = format!(in alloc; "{fault}")?;
@@ -150,7 +162,8 @@ impl fmt::Display for Stop {
 }
 
 fn print_rejection(page: &mut Page, object: &Object<'_>, it: &Rejection)
-    ensures { AppendsSome (IsOtherFileText object.now) page.old page.new }
+    ensures { IsRejection object.now.octets it.now.rule it.now.place
+        → AppendsSome (IsOtherFileText object.now) page.old page.new }
 {
     begun(page, object);
     page.line("Fault", it.why.as_str());
@@ -170,11 +183,27 @@ fn as_shown<'a>(object: &'a Object<'_>, left: usize) -> as_json::Shown<'a>
 }
 
 fn rejection_json(page: &mut Page, object: &Object<'_>, it: &Rejection)
-    ensures { AppendsSome (IsOtherFileJson object.now) page.old page.new }
+    ensures { IsRejection object.now.octets it.now.rule it.now.place
+        → AppendsSome (IsOtherFileJson object.now) page.old page.new }
 {
     let file = as_shown(object, 0);
     let made = as_json::refused(page.alloc(), &file, it.why.as_str(), it.rule, it.place);
     printed(page, made);
+}
+
+fn whole_rejection(page: &mut Page, object: &Object<'_>, it: &Rejection, options: &Options)
+    ensures text { IsFalse options.now.json
+        → IsRejection object.now.octets it.now.rule it.now.place
+        → AppendsSome (IsOtherFileText object.now) page.old page.new }
+    ensures json { IsTrue options.now.json
+        → IsRejection object.now.octets it.now.rule it.now.place
+        → AppendsSome (IsOtherFileJson object.now) page.old page.new }
+{
+    if options.json {
+        rejection_json(page, object, it);
+    } else {
+        print_rejection(page, object, it);
+    }
 }
 
 fn refused(page: &mut Page, object: &Object<'_>, fault: &DecodeError, options: &Options)
@@ -183,19 +212,13 @@ fn refused(page: &mut Page, object: &Object<'_>, fault: &DecodeError, options: &
     ensures json { IsTrue options.now.json
         → AppendsSome (IsOtherFileJson object.now) page.old page.new }
 {
-    let it = match rejection_of(page.alloc(), object, fault) {
-        Ok(it) => it,
-        Err(_) => {
-            page.fail();
-            return;
+    match rejection_of(page.alloc(), object, fault) {
+        Ok(it) => {
+            whole_rejection(page, object, &it, options);
+            drop(it);
         }
-    };
-    if options.json {
-        rejection_json(page, object, &it);
-    } else {
-        print_rejection(page, object, &it);
+        Err(_) => page.fail(),
     }
-    drop(it);
 }
 
 // The certificate that the octets begin with, and how many octets stand behind it.

@@ -6,7 +6,7 @@ use Rattle.rpki_command.proofs.showing.print_rejection.Goals as goal
 
 pub returns : goal.returns
 unfolding other_file_text
-returns c =
+returns c = λ rejection.
     let file = c.args.object.now in
     let it = c.args.it.now in
     let old = c.args.page.now in
@@ -18,4 +18,4 @@ returns c =
     (then_appended _ _ _ _ _ c.line_of.ensures
     (then_appended _ _ _ _ _ c.line-2.ensures
     (last_appended _ _ _ c.line-3.ensures)))) in
-    such_appended (IsOtherFileText file) old new text (record { fault = c.as_str.result.now; field = it.place.field.now; octet = it.place.octet; says = it.rule.says.now; section = it.rule.section.now; text_is = refl }) appended
+    such_appended (IsOtherFileText file) old new text (record { why = c.as_str.result.now; rule = it.rule; place = it.place; rejection = rejection; text_is = refl }) appended

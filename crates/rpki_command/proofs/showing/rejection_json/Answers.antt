@@ -9,7 +9,7 @@ use Rattle.rpki_command.proofs.WholeValues.{IsWhole}
 use Rattle.rpki_command.proofs.showing.rejection_json.Goals as goal
 
 pub returns : goal.returns
-returns c =
+returns c = λ rejection.
     let file = c.args.object.now in
     let it = c.args.it.now in
     let shown = c.as_shown-file.result in
@@ -17,9 +17,10 @@ returns c =
     made_appended view (λ value. value ≡ rejection_json shown why it.rule it.place) (IsOtherFileJson file) c.args.page.now c.printed.new.page c.refused-made.result
     (λ value is. subst IsWhole (sym is) (rejection_whole shown why it.rule it.place))
     (λ value is. record {
-      fault = why;
+      why = why;
       rule = it.rule;
       place = it.place;
+      rejection = rejection;
       shown = shown;
       shown_is = c.as_shown-file.ensures;
       text_is = ap json_lines is;

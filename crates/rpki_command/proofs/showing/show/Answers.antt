@@ -1,5 +1,5 @@
 use Rattle.std.specs.Prelude.{IsTrue}
-use Rattle.std.proofs.Common.{◌≡◌, ◌↔◌, inl, ⊎_elim, subst}
+use Rattle.std.proofs.Common.{◌≡◌, ◌↔◌, inl, inr, ⊎_elim, subst}
 use Rattle.std.proofs.lemmas.Result.{IfOk-weaker, on_ok_weaker}
 use Rattle.rpki_command.specs.Contents.{BeginsWithCertificate, BeginsWithList, CanBeShown}
 use Rattle.rpki_command.specs.Files.{FileFields}
@@ -8,6 +8,13 @@ use Rattle.rpki_command.specs.ShownTexts.{IsCertificateFileText, IsListFileText,
 use Rattle.rpki_command.specs.declared.files.Form.TheVariants as forms
 use Rattle.rpki_command.proofs.ShownFiles.{some_weaker, list_shown, certificate_shown}
 use Rattle.rpki_command.proofs.showing.show.Goals as goal
+
+pub returns-in-List-clause-shows : goal.returns-in-List-clause-shows
+returns-in-List-clause-shows c =
+    let file = c.args.object.now in
+    let as_other = subst (λ (f : FileFields). BeginsWithCertificate f.octets → c.looks_like.result ≡ forms.List → ⊥) c.object.view_is c.looks_like.ensures.certificate in
+    let none : BeginsWithCertificate file.octets → ⊥ = λ begins. as_other begins c.in-List.is in
+    IfOk-weaker c.list_of.result (λ yes. IsTrue yes ↔ BeginsWithList file.octets) (λ yes. IsTrue yes ↔ CanBeShown file.octets) (λ yes h. ((λ is. inr (h.0 is)), (λ shown. h.1 (⊎_elim (λ cert. absurd (none cert)) (λ list. list) shown)))) c.list_of.ensures.begins
 
 pub returns-in-List-clause-text : goal.returns-in-List-clause-text
 returns-in-List-clause-text c = λ lines.
