@@ -310,46 +310,17 @@ fn uris(access: Option<Sia>) -> (Option<Rsync>, Option<Rsync>, Option<Rsync>, Op
     }
 }
 
-// What is wrong where a field of every certificate wasn't seen: its resources, if they are, else the
-// field that is missing.
-fn fault_without(seen: ReadExtensions, field: Field) -> DecodeError
-    ensures { result ≢ Memory }
-{
-    let ReadExtensions {
-        extended_key_usage,
-        crl_uri,
-        ca_issuer,
-        access,
-        overclaim,
-        ip_resources,
-        as_resources,
-        ..
-    } = seen;
-    drop((extended_key_usage, crl_uri, ca_issuer, access));
-    match agreed(overclaim, ip_resources, as_resources) {
-        Ok(resources) => {
-            drop(resources);
-            DecodeError::Missing(field)
-        }
-        Err(error) => error,
-    }
-}
-
 impl Extensions {
     // What was seen, if all is there that must be, and the identifiers of the resources are those
     // of the policy.
     fn complete(seen: ReadExtensions) -> Result<Extensions, DecodeError>
         ensures { Returns result (completed (state_of seen)) }
     {
-        let Some(subject_key_identifier) = seen.subject_key_identifier else {
-            return Err(fault_without(seen, Field::SubjectKeyIdentifier));
-        };
-        let Some(key_usage) = seen.key_usage else {
-            return Err(fault_without(seen, Field::KeyUsage));
-        };
         let ReadExtensions {
             basic_ca,
+            subject_key_identifier,
             authority_key_identifier,
+            key_usage,
             extended_key_usage,
             crl_uri,
             ca_issuer,
@@ -357,7 +328,6 @@ impl Extensions {
             overclaim,
             ip_resources,
             as_resources,
-            ..
         } = seen;
         let resources = match agreed(overclaim, ip_resources, as_resources) {
             Ok(resources) => resources,
@@ -365,6 +335,14 @@ impl Extensions {
                 drop((extended_key_usage, crl_uri, ca_issuer, access));
                 return Err(error);
             }
+        };
+        let Some(subject_key_identifier) = subject_key_identifier else {
+            drop((resources, extended_key_usage, crl_uri, ca_issuer, access));
+            return Err(DecodeError::Missing(Field::SubjectKeyIdentifier));
+        };
+        let Some(key_usage) = key_usage else {
+            drop((resources, extended_key_usage, crl_uri, ca_issuer, access));
+            return Err(DecodeError::Missing(Field::KeyUsage));
         };
         let (ca_repository, rpki_manifest, signed_object, rpki_notify) = uris(access);
         Ok(Extensions {
