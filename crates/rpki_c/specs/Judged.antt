@@ -57,7 +57,7 @@ pub record IsFaultAbove (x : Context) (lists : Option (List Stored)) (above : Li
 
 -- the strings above the router are a valid path to the issuer, and this is what is wrong of the
 -- router's
-pub record IsFaultOfRouter (x : Context) (lists : Option (List Stored)) (above : List (List ℕ)) (octets : List ℕ) (e : PathError) : Type 0 where
+pub record IsRouterFault (x : Context) (lists : Option (List Stored)) (above : List (List ℕ)) (octets : List ℕ) (e : PathError) : Type 0 where
   pub index_is : e.index ≡ length above
   pub issuer : ResourceFields
   pub judged : IsJudged x lists Authority above (Ok issuer)
@@ -67,7 +67,7 @@ pub record IsFaultOfRouter (x : Context) (lists : Option (List Stored)) (above :
 -- the router's is valid below it; an error says which string is wrong, and why
 abbrev pub AnswersRouter : Context → Option (List Stored) → List (List ℕ) → List ℕ → Result ResourceFields PathError → Type 0
 AnswersRouter x lists above octets (Ok issuer) = IsJudged x lists Authority above (Ok issuer) × BeginsWithRouter x lists issuer octets
-AnswersRouter x lists above octets (Err e) = IsFaultAbove x lists above e ⊎ IsFaultOfRouter x lists above octets e
+AnswersRouter x lists above octets (Err e) = IsFaultAbove x lists above e ⊎ IsRouterFault x lists above octets e
 
 -- the verdict on strings of which the last is a router's
 pub record EndsInRouter (x : Context) (lists : Option (List Stored)) (strings : List (List ℕ)) (answer : Result ResourceFields PathError) : Type 0 where

@@ -6,7 +6,7 @@ use Rattle.std.proofs.lemmas.List.{append_assoc, append-nil, map-append, map_mor
 use Rattle.std.proofs.lemmas.List.Sums.{fold_push}
 use Rattle.rpki_command.specs.CommandLines.{IsOption, Part, file, list, AreParts, RequestFields, with_part}
 use Rattle.rpki_command.specs.CommandLines.Steps.{AddsPart, AddsParts, BeginsNoPart, TakesValue}
-use Rattle.rpki_command.specs.CommandLines.Views.{octets_of}
+use Rattle.rpki_command.specs.CommandLines.Views.{word_octets}
 use Rattle.rpki_command.proofs.CommandParts.{one_more, none_behind, value_missing}
 
 -- ---- a name
@@ -48,47 +48,47 @@ part_added words front its old new newer is h p = record {
 
 module _ {Z : Type 0} (words : List (String Z)) (i : ℕ) (word : String Z) (low : i < length words) (there : word ≡ get_or words i word) where
   -- those before the word, the word, and those behind it
-  words_split : octets_of words ≡ octets_of (take i words) ++ string_bytes word ∷ octets_of (drop (i + 1) words)
+  words_split : word_octets words ≡ word_octets (take i words) ++ string_bytes word ∷ word_octets (drop (i + 1) words)
   words_split =
-      ap octets_of (sym (take-append-drop i words) ∙ ap (λ (l : List (String Z)). take i words ++ l) (drop_more words i word low)) ∙ map-append string_bytes (take i words) (get_or words i word ∷ drop (i + 1) words)
-      ∙ ap (λ (w : String Z). octets_of (take i words) ++ string_bytes w ∷ octets_of (drop (i + 1) words)) (sym there)
+      ap word_octets (sym (take-append-drop i words) ∙ ap (λ (l : List (String Z)). take i words ++ l) (drop_more words i word low)) ∙ map-append string_bytes (take i words) (get_or words i word ∷ drop (i + 1) words)
+      ∙ ap (λ (w : String Z). word_octets (take i words) ++ string_bytes w ∷ word_octets (drop (i + 1) words)) (sym there)
 
   -- the words up to it
-  words_more : octets_of (take (i + 1) words) ≡ octets_of (take i words) ++ string_bytes word ∷ []
-  words_more = map_more string_bytes words i word low ∙ ap (λ (w : String Z). octets_of (take i words) ++ string_bytes w ∷ []) (sym there)
+  words_more : word_octets (take (i + 1) words) ≡ word_octets (take i words) ++ string_bytes word ∷ []
+  words_more = map_more string_bytes words i word low ∙ ap (λ (w : String Z). word_octets (take i words) ++ string_bytes w ∷ []) (sym there)
 
   module _ (old new : RequestFields) (text : List ℕ) (text_is : text ≡ string_bytes word) where
-    module _ (option : Bor (List ℕ)) (so_far : AreAdded (octets_of (take i words)) old new (Some option)) where
+    module _ (option : Bor (List ℕ)) (so_far : AreAdded (word_octets (take i words)) old new (Some option)) where
       -- the word is the value of an option
-      pub value_added : (newer : RequestFields) → AddsPart (option.now ∷ text ∷ []) new newer → AreAdded (octets_of (take (i + 1) words)) old newer None
+      pub value_added : (newer : RequestFields) → AddsPart (option.now ∷ text ∷ []) new newer → AreAdded (word_octets (take (i + 1) words)) old newer None
       value_added newer adds =
-          part_added (octets_of (take (i + 1) words)) so_far.front (option.now ∷ text ∷ []) old new newer
+          part_added (word_octets (take (i + 1) words)) so_far.front (option.now ∷ text ∷ []) old new newer
           (words_more ∙ ap (λ (l : List (List ℕ)). l ++ string_bytes word ∷ []) so_far.words_are ∙ append_assoc so_far.front (option.now ∷ []) (string_bytes word ∷ []) ∙ ap (λ (w : List ℕ). so_far.front ++ option.now ∷ w ∷ []) (sym text_is)) so_far.added adds
 
       -- the word is no value of the option
-      pub value_rejected : BeginsNoPart (option.now ∷ text ∷ []) → (parts : List Part) → AreParts parts (octets_of words) → ⊥
+      pub value_rejected : BeginsNoPart (option.now ∷ text ∷ []) → (parts : List Part) → AreParts parts (word_octets words) → ⊥
       value_rejected none parts =
-          none_behind so_far.added.0 parts so_far.front (text ∷ []) (octets_of (drop (i + 1) words)) (octets_of words) option.now so_far.added.1 none
-          (words_split ∙ ap (λ (l : List (List ℕ)). l ++ string_bytes word ∷ octets_of (drop (i + 1) words)) so_far.words_are ∙ append_assoc so_far.front (option.now ∷ []) (string_bytes word ∷ octets_of (drop (i + 1) words)) ∙ ap (λ (w : List ℕ). so_far.front ++ option.now ∷ w ∷ octets_of (drop (i + 1) words)) (sym text_is))
+          none_behind so_far.added.0 parts so_far.front (text ∷ []) (word_octets (drop (i + 1) words)) (word_octets words) option.now so_far.added.1 none
+          (words_split ∙ ap (λ (l : List (List ℕ)). l ++ string_bytes word ∷ word_octets (drop (i + 1) words)) so_far.words_are ∙ append_assoc so_far.front (option.now ∷ []) (string_bytes word ∷ word_octets (drop (i + 1) words)) ∙ ap (λ (w : List ℕ). so_far.front ++ option.now ∷ w ∷ word_octets (drop (i + 1) words)) (sym text_is))
 
-    module _ (so_far : AreAdded (octets_of (take i words)) old new None) where
-      front_is : octets_of (take i words) ≡ so_far.front
+    module _ (so_far : AreAdded (word_octets (take i words)) old new None) where
+      front_is : word_octets (take i words) ≡ so_far.front
       front_is = so_far.words_are ∙ append-nil so_far.front
 
       -- the word is a part by itself
-      pub word_added : (newer : RequestFields) → AddsPart (text ∷ []) new newer → AreAdded (octets_of (take (i + 1) words)) old newer None
+      pub word_added : (newer : RequestFields) → AddsPart (text ∷ []) new newer → AreAdded (word_octets (take (i + 1) words)) old newer None
       word_added newer adds =
-          part_added (octets_of (take (i + 1) words)) so_far.front (text ∷ []) old new newer
+          part_added (word_octets (take (i + 1) words)) so_far.front (text ∷ []) old new newer
           (words_more ∙ ap (λ (l : List (List ℕ)). l ++ string_bytes word ∷ []) front_is ∙ ap (λ (w : List ℕ). so_far.front ++ w ∷ []) (sym text_is)) so_far.added adds
 
       -- the word is none
-      pub word_rejected : BeginsNoPart (text ∷ []) → (parts : List Part) → AreParts parts (octets_of words) → ⊥
+      pub word_rejected : BeginsNoPart (text ∷ []) → (parts : List Part) → AreParts parts (word_octets words) → ⊥
       word_rejected none parts =
-          none_behind so_far.added.0 parts so_far.front [] (octets_of (drop (i + 1) words)) (octets_of words) text so_far.added.1 none
-          (words_split ∙ ap (λ (l : List (List ℕ)). l ++ string_bytes word ∷ octets_of (drop (i + 1) words)) front_is ∙ ap (λ (w : List ℕ). so_far.front ++ w ∷ octets_of (drop (i + 1) words)) (sym text_is))
+          none_behind so_far.added.0 parts so_far.front [] (word_octets (drop (i + 1) words)) (word_octets words) text so_far.added.1 none
+          (words_split ∙ ap (λ (l : List (List ℕ)). l ++ string_bytes word ∷ word_octets (drop (i + 1) words)) front_is ∙ ap (λ (w : List ℕ). so_far.front ++ w ∷ word_octets (drop (i + 1) words)) (sym text_is))
 
       -- the word is an option whose value comes next
-      pub option_awaits : (option : Bor (List ℕ)) → option.now ≡ text → TakesValue text → AreAdded (octets_of (take (i + 1) words)) old new (Some option)
+      pub option_awaits : (option : Bor (List ℕ)) → option.now ≡ text → TakesValue text → AreAdded (word_octets (take (i + 1) words)) old new (Some option)
       option_awaits option is takes = record {
         front = so_far.front;
         added = so_far.added;
@@ -97,6 +97,6 @@ module _ {Z : Type 0} (words : List (String Z)) (i : ℕ) (word : String Z) (low
       }
 
 -- all words were gone over, and an option's value is missing
-pub value_awaited : {Z : Type 0} (words : List (String Z)) (i : ℕ) (old new : RequestFields) (option : Bor (List ℕ)) → AreAdded (octets_of (take i words)) old new (Some option) → length words ≤ i → (parts : List Part) → AreParts parts (octets_of words) → ⊥
+pub value_awaited : {Z : Type 0} (words : List (String Z)) (i : ℕ) (old new : RequestFields) (option : Bor (List ℕ)) → AreAdded (word_octets (take i words)) old new (Some option) → length words ≤ i → (parts : List Part) → AreParts parts (word_octets words) → ⊥
 value_awaited words i old new option so_far high parts =
-    value_missing so_far.added.0 parts so_far.front (octets_of words) option.now so_far.added.1 so_far.takes (ap octets_of (sym (take_all i words high)) ∙ so_far.words_are)
+    value_missing so_far.added.0 parts so_far.front (word_octets words) option.now so_far.added.1 so_far.takes (ap word_octets (sym (take_all i words high)) ∙ so_far.words_are)

@@ -3,8 +3,8 @@ use Rattle.std.specs.Option.{option_map}
 use Rattle.std.specs.Prelude.{Option, Some, None, Result, Ok, Err, IfOk, MatchResult}
 use Rattle.std.proofs.Common.{◌≡◌, ◌+◌, ◌<◌, ◌≤◌, ℕ, List, [], ◌∷◌, ◌++◌, length, take, get_or, refl, sym, ap, subst, ◌∙◌, inl, inr, ⊎_elim, append_assoc}
 use Rattle.std.proofs.lemmas.List.{append-nil, take_more, take_all}
-use Rattle.rpki_command.specs.Files.{FileFields}
-use Rattle.rpki_command.specs.Pages.{Appends, AppendsSome}
+use Rattle.rpki_files.specs.Files.{FileFields}
+use Rattle.rpki_text.specs.Pages.{Appends, AppendsSome}
 use Rattle.rpki_command.specs.VerdictTexts.{SaysOfEach}
 
 -- ---- one text

@@ -5,10 +5,10 @@ use Rattle.std.proofs.Common.{◌≡◌, ℕ, Bool, true, false, cond, inl, inr,
 use Rattle.std.proofs.lemmas.Slice.Eq.{bytes_eq-Decides}
 use Rattle.std.proofs.lemmas.List.{append_assoc, append-nil}
 use Rattle.rpki.specs.Times.{Moment}
-use Rattle.rpki_command.specs.MomentTexts.{IsMomentText}
+use Rattle.rpki_text.specs.MomentTexts.{IsMomentText}
 use Rattle.rpki_command.specs.CommandLines.{IsOption, Part, file, list, at_moment, lenient, json, all, help, IsPart, AreParts}
 use Rattle.rpki_command.specs.CommandLines.Steps.{BeginsNoPart, TakesValue}
-use Rattle.rpki_command.proofs.OneMoment.{one_moment}
+use Rattle.rpki_text.proofs.OneMoment.{one_moment}
 
 -- ---- the first word
 

@@ -5,8 +5,8 @@ use Rattle.serde_json.specs.Data.{Data, string}
 use Rattle.serde_json.specs.View.{view}
 use Rattle.serde_json.specs.declared.value.Value.{Value}
 use Rattle.rpki_command.specs.JsonValues.{Pushes}
-use Rattle.rpki_command.specs.Contents.{BeginsWithList}
-use Rattle.rpki_command.specs.Files.{FileFields}
+use Rattle.rpki_files.specs.Contents.{BeginsWithList}
+use Rattle.rpki_files.specs.Files.{FileFields}
 use Rattle.rpki_command.specs.JsonVerdicts.{AreNoLists}
 
 both_no_lists : (a b xs ys : List FileFields) → AreNoLists a xs → AreNoLists b ys → AreNoLists (a ++ b) (xs ++ ys)

@@ -10,7 +10,7 @@ use Rattle.rpki_command.specs.JsonValues.{Pushes}
 pub then_pushed : (old mid new : List Value) (a b : List Data) → Pushes a old mid → Pushes b mid new → Pushes (a ++ b) old new
 then_pushed old mid new a b p q = q ∙ ap (λ (l : List Data). l ++ b) p ∙ append_assoc (map view old) a b
 
--- the last values of several, behind which `joined` has none
+-- the last values of several, behind which `flattened` has none
 pub last_pushed : (old new : List Value) (a : List Data) → Pushes a old new → Pushes (a ++ []) old new
 last_pushed old new a p = p ∙ ap (λ (l : List Data). map view old ++ l) (sym (append-nil a))
 

@@ -14,7 +14,7 @@ put_both (pair ∷ a) b ms = put_both a b _
 pub then_put : (old mid new : Entries) (a b : List Pair) → Puts a old mid → Puts b mid new → Puts (a ++ b) old new
 then_put old mid new a b p q = q ∙ ap (put_all b) p ∙ sym (put_both a b (members_view old))
 
--- the last members of several, behind which `joined` has none
+-- the last members of several, behind which `flattened` has none
 pub last_put : (old new : Entries) (a : List Pair) → Puts a old new → Puts (a ++ []) old new
 last_put old new a p = subst (λ (pairs : List Pair). Puts pairs old new) (sym (append-nil a)) p
 

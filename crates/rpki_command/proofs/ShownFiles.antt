@@ -6,10 +6,10 @@ use Rattle.std.proofs.lemmas.Bool.{and_from, and_parts}
 use Rattle.std.proofs.lemmas.List.Elements.{All-cons, All-head, All-tail}
 use Rattle.serde_json.specs.Data.{Data}
 use Rattle.serde_json.specs.Written.{has_float}
-use Rattle.rpki_command.specs.Contents.{BeginsWithCertificate, BeginsWithList, CanBeShown}
-use Rattle.rpki_command.specs.Files.{FileFields}
+use Rattle.rpki_files.specs.Contents.{BeginsWithCertificate, BeginsWithList, CanBeShown}
+use Rattle.rpki_files.specs.Files.{FileFields}
 use Rattle.rpki_command.specs.JsonTexts.{json_lines}
-use Rattle.rpki_command.specs.Pages.{Appends, AppendsSome}
+use Rattle.rpki_text.specs.Pages.{Appends, AppendsSome}
 use Rattle.rpki_command.specs.ShownTexts.{SaysIf}
 use Rattle.rpki_command.proofs.AppendedTexts.{such_appended}
 use Rattle.rpki_command.proofs.WholeValues.{IsWhole}

@@ -15,13 +15,13 @@ use Rattle.rpki_command.specs.declared.arguments.Task.{Task}
 use Rattle.rpki_command.specs.declared.arguments.Task.TheVariants.{Show, Validate, Help, Version}
 use Rattle.rpki_command.specs.declared.outcomes.Outcome.{Outcome}
 use Rattle.rpki_command.specs.declared.outcomes.Outcome.TheVariants.{Success, Rejection, WrongUse}
-use Rattle.rpki_command.specs.declared.path.Verdict.TheVariants.{Accepted, Rejected}
-use Rattle.rpki_command.specs.declared.path.Fault.{Fault}
-use Rattle.rpki_command.specs.GivenPaths.{SaysKind, BeginsWithKind, IsJudgedAs, GivenPath, given_path, path_to, HasLast, IsGivenBy}
-use Rattle.rpki_command.specs.PathVerdicts.{IsAcceptedWith}
-use Rattle.rpki_command.specs.PathAnswers.{AreAsked, IsVerdictBy}
+use Rattle.rpki_verdicts.specs.declared.path.Verdict.TheVariants.{Accepted, Rejected}
+use Rattle.rpki_verdicts.specs.declared.path.Fault.{Fault}
+use Rattle.rpki_verdicts.specs.GivenPaths.{SaysKind, BeginsWithKind, IsJudgedAs, GivenPath, given_path, path_to, HasLast, IsGivenBy}
+use Rattle.rpki_verdicts.specs.PathVerdicts.{IsAcceptedWith}
+use Rattle.rpki_verdicts.specs.PathAnswers.{AreAsked, IsVerdictBy}
 use Rattle.rpki_command.specs.Outcomes.{IsOutcomeOf, IsOutcomeOfShow, IsOutcomeOfValidate}
-use Rattle.rpki_command.proofs.OneStore.{one_stored}
+use Rattle.rpki_verdicts.proofs.OneStore.{one_stored}
 
 -- ---- one kind
 

@@ -18,13 +18,13 @@ use Rattle.rpki_cert.proofs.Reordering.{all_append}
 use Rattle.rpki_command.specs.JsonBlocks.{ends_json, block_json, numbers_json, resource_items, listed_items, held_items}
 use Rattle.rpki_command.specs.JsonFiles.{head_members, profiles_json, name_members, key_members, uri_member, uri_members, certificate_json, entry_json, list_json, rejection_json}
 use Rattle.rpki_command.specs.JsonValues.{Pair}
-use Rattle.rpki_command.specs.Pages.{characters_text}
+use Rattle.rpki_text.specs.Pages.{characters_text}
 use Rattle.rpki_command.specs.declared.as_json.Shown.{Shown}
-use Rattle.rpki_command.specs.declared.blocks.Family.{Family}
-use Rattle.rpki_command.specs.declared.blocks.Family.TheVariants.{V4, V6}
-use Rattle.rpki_command.specs.declared.certificate.Answers.{Answers}
-use Rattle.rpki_command.specs.declared.places.Place.{Place}
-use Rattle.rpki_command.specs.declared.rules.Rule.{Rule}
+use Rattle.rpki_text.specs.declared.blocks.Family.{Family}
+use Rattle.rpki_text.specs.declared.blocks.Family.TheVariants.{V4, V6}
+use Rattle.rpki_text.specs.declared.certificate.Answers.{Answers}
+use Rattle.rpki_files.specs.declared.places.Place.{Place}
+use Rattle.rpki_files.specs.declared.rules.Rule.{Rule}
 use Rattle.rpki_command.proofs.WholeValues.{IsWhole, AreWhole, none_whole, then_whole, both_whole, object_whole, array_whole, mapped_whole, if_whole, integer_whole, text_if_any_whole, count_if_any_whole}
 
 all_whole : (a b : List Data) → AllByRecursion IsWhole a → AllByRecursion IsWhole b → AllByRecursion IsWhole (a ++ b)

@@ -2,12 +2,12 @@
 use Rattle.std.specs.Prelude.{Option, Some, None}
 use Rattle.std.proofs.Common.{List, refl, subst, sym}
 use Rattle.serde_json.specs.Data.{Data, string}
-use Rattle.rpki_command.specs.Files.{FileFields}
-use Rattle.rpki_command.specs.GivenPaths.{QuestionFields}
+use Rattle.rpki_files.specs.Files.{FileFields}
+use Rattle.rpki_verdicts.specs.GivenPaths.{QuestionFields}
 use Rattle.rpki_command.specs.JsonVerdicts.{names_json, fault_json, answer_members, verdict_json, IsVerdictJson}
-use Rattle.rpki_command.specs.declared.path.Fault.{Fault}
-use Rattle.rpki_command.specs.declared.path.Verdict.{Verdict}
-use Rattle.rpki_command.specs.declared.path.Verdict.TheVariants.{Accepted, Rejected}
+use Rattle.rpki_verdicts.specs.declared.path.Fault.{Fault}
+use Rattle.rpki_verdicts.specs.declared.path.Verdict.{Verdict}
+use Rattle.rpki_verdicts.specs.declared.path.Verdict.TheVariants.{Accepted, Rejected}
 use Rattle.rpki_command.proofs.WholeFiles.{held_whole}
 use Rattle.rpki_command.proofs.WholeValues.{IsWhole, AreWhole, none_whole, then_whole, both_whole, object_whole, array_whole, mapped_whole, text_if_any_whole}
 

@@ -4,8 +4,8 @@ use Rattle.rpki.specs.RsaSignatures.{IsSignedByRsa}
 use Rattle.rpki.specs.Times.{Moment}
 use Rattle.rpki.specs.Verification.{context}
 use Rattle.rpki_command.specs.CommandLines.{RequestFields}
-use Rattle.rpki_command.specs.Files.{FileFields, file_names, contents}
-use Rattle.rpki_command.specs.GivenPaths.{QuestionFields}
+use Rattle.rpki_files.specs.Files.{FileFields, file_names, contents}
+use Rattle.rpki_verdicts.specs.GivenPaths.{QuestionFields}
 use Rattle.rpki_command.specs.JsonAnswers.{AreFilesJson}
 use Rattle.rpki_command.specs.JsonVerdicts.{IsJsonOfPath}
 use Rattle.rpki_command.specs.Outcomes.{IsOutcomeOf}

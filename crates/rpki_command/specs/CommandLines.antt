@@ -1,7 +1,7 @@
 -- Which words behind the program's name are a command line, and what it asks (own).
 use Rattle.std.specs.Prelude.{◌≡◌, ◌≢◌, ◌<◌, ◌⊎◌, ℕ, List, [], ◌∷◌, ◌++◌, length, slice_index, Option, Some, None, Bool, true, false, fold, codes}
 use Rattle.rpki.specs.Times.{Moment, IsMoment}
-use Rattle.rpki_command.specs.MomentTexts.{IsMomentText}
+use Rattle.rpki_text.specs.MomentTexts.{IsMomentText}
 use Rattle.rpki_command.specs.declared.arguments.Task.{Task}
 use Rattle.rpki_command.specs.declared.arguments.Task.TheVariants.{Show, Validate, Help, Version}
 pub mod Views

@@ -3,15 +3,15 @@ use Rattle.std.specs.Prelude.{◌≡◌, ◌⊎◌, ℕ, List}
 use Rattle.serde_json.specs.Data.{Data}
 use Rattle.rpki.specs.Certificates.{CertFields, IsCertificate}
 use Rattle.rpki.specs.Lists.{CrlFields, IsCertificateList}
-use Rattle.rpki_command.specs.Contents.{CanBeShown}
-use Rattle.rpki_command.specs.Files.{FileFields}
+use Rattle.rpki_files.specs.Contents.{CanBeShown}
+use Rattle.rpki_files.specs.Files.{FileFields}
 use Rattle.rpki_command.specs.JsonFiles.{IsCertificateJson, list_json, rejection_json}
 use Rattle.rpki_command.specs.JsonTexts.{json_lines}
 use Rattle.rpki_command.specs.ShownTexts.{BeginsBefore, IsRejection, SaysIf}
 use Rattle.rpki_command.specs.VerdictTexts.{SaysOfEach}
 use Rattle.rpki_command.specs.declared.as_json.Shown.{Shown}
-use Rattle.rpki_command.specs.declared.places.Place.{Place}
-use Rattle.rpki_command.specs.declared.rules.Rule.{Rule}
+use Rattle.rpki_files.specs.declared.places.Place.{Place}
+use Rattle.rpki_files.specs.declared.rules.Rule.{Rule}
 use Rattle.rpki_command.specs.declared.showing.Options.{Options}
 
 -- a file with so many octets behind its object, as its JSON has it

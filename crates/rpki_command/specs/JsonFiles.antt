@@ -17,23 +17,23 @@ use Rattle.rpki.specs.Overclaim.{Overclaim}
 use Rattle.rpki.specs.Overclaim.TheVariants.{Refuse, Trim}
 use Rattle.rpki.specs.RevokedEntries.{Entry, Revoked}
 use Rattle.rpki.specs.Texts.{serial_text}
-use Rattle.rpki_command.specs.CertificateTexts.{AreAnswers}
-use Rattle.rpki_command.specs.GivenPaths.{SaysKind}
+use Rattle.rpki_text.specs.CertificateTexts.{AreAnswers}
+use Rattle.rpki_verdicts.specs.GivenPaths.{SaysKind}
 use Rattle.rpki_command.specs.JsonBlocks.{listed_items}
-use Rattle.rpki_command.specs.JsonValues.{Pair, moment_json, array_of, member_of, text_member, text_member_if_any, count_member_if_any, object_of, rule_members, place_members, joined}
-use Rattle.rpki_command.specs.Pages.{characters_text, colons_text}
-use Rattle.rpki_command.specs.PemFiles.{base64_of}
-use Rattle.rpki_command.specs.declared.certificate.Answers.{Answers}
+use Rattle.rpki_command.specs.JsonValues.{Pair, moment_json, array_of, member_of, text_member, text_member_if_any, count_member_if_any, object_of, rule_members, place_members, flattened}
+use Rattle.rpki_text.specs.Pages.{characters_text, colons_text}
+use Rattle.rpki_files.specs.PemFiles.{base64_of}
+use Rattle.rpki_text.specs.declared.certificate.Answers.{Answers}
 use Rattle.rpki_command.specs.declared.as_json.Shown.{Shown}
-use Rattle.rpki_command.specs.declared.places.Place.{Place}
-use Rattle.rpki_command.specs.declared.rules.Rule.{Rule}
+use Rattle.rpki_files.specs.declared.places.Place.{Place}
+use Rattle.rpki_files.specs.declared.rules.Rule.{Rule}
 
 -- ---- files
 
 -- a file: its name, the SHA-256 of its octets in base64, and how many octets stand behind its
 -- object, where some do
 unfoldable pub head_members : Shown → List Pair
-head_members file = joined (
+head_members file = flattened (
     text_member (codes "file") file.name.now
     ∷ text_member (codes "hash_id") (base64_of (sha256 file.whole.now))
     ∷ count_member_if_any (codes "octets_after_end") file.left
@@ -68,7 +68,7 @@ answer_word (Some fault) = inspection_error_name fault
 
 -- the answers for the five kinds
 unfoldable pub profiles_json : Answers → Data
-profiles_json a = object_of (joined (
+profiles_json a = object_of (flattened (
     text_member (codes "ta") (answer_word a.anchor)
     ∷ text_member (codes "ca") (answer_word a.authority)
     ∷ text_member (codes "ee") (answer_word a.end_entity)
@@ -80,7 +80,7 @@ profiles_json a = object_of (joined (
 
 -- its number, its names and its validity
 unfoldable pub name_members : TbsFields → List Pair
-name_members f = joined (
+name_members f = flattened (
     text_member (codes "cert_serial") (serial_text f.serial)
     ∷ text_member (codes "cert_issuer") (name_text f.issuer)
     ∷ text_member (codes "cert_subject") (name_text f.subject)
@@ -90,7 +90,7 @@ name_members f = joined (
 
 -- its key, its issuer's, and what its key and its resources may be
 unfoldable pub key_members : ExtensionFields → List Pair
-key_members x = joined (
+key_members x = flattened (
     text_member (codes "ski") (colons_text x.subject_key_identifier)
     ∷ text_member_if_any (codes "aki") (option_map colons_text x.authority_key_identifier)
     ∷ text_member (codes "key_usage") (usage_word x.key_usage)
@@ -103,7 +103,7 @@ uri_member name uri = text_member_if_any name (option_map characters_text uri)
 
 -- where things are
 unfoldable pub uri_members : ExtensionFields → List Pair
-uri_members x = joined (
+uri_members x = flattened (
     uri_member (codes "aia") x.ca_issuer
     ∷ uri_member (codes "crl") x.crl_uri
     ∷ uri_member (codes "carepository") x.access.ca_repository
@@ -114,7 +114,7 @@ uri_members x = joined (
 
 -- a certificate of this kind, with what inspection answers
 unfoldable pub certificate_json : Shown → Kind → Answers → TbsFields → Data
-certificate_json file kind answers f = object_of (joined (
+certificate_json file kind answers f = object_of (flattened (
     head_members file
     ∷ text_member (codes "type") (type_word kind)
     ∷ name_members f
@@ -137,14 +137,14 @@ pub record IsCertificateJson (strict : Bool) (file : Shown) (c : CertFields) (va
 
 -- a revoked certificate: its serial number, and since when it is revoked
 abbrev pub entry_json : Entry → Data
-entry_json e = object_of (joined (
+entry_json e = object_of (flattened (
     text_member (codes "serial") (serial_text e.serial)
     ∷ member_of (codes "date") (moment_json e.date)
     ∷ []))
 
 -- a list with all its entries
 unfoldable pub list_json : Shown → ListFields Revoked → Data
-list_json file l = object_of (joined (
+list_json file l = object_of (flattened (
     head_members file
     ∷ text_member (codes "type") (codes "crl")
     ∷ text_member (codes "crl_issuer") (name_text l.issuer)
@@ -160,7 +160,7 @@ list_json file l = object_of (joined (
 
 -- the fault, what it means and the section of the standard, and where reading stops
 unfoldable pub rejection_json : Shown → List ℕ → Rule → Place → Data
-rejection_json file fault rule place = object_of (joined (
+rejection_json file fault rule place = object_of (flattened (
     head_members file
     ∷ text_member (codes "fault") fault
     ∷ rule_members rule

@@ -8,8 +8,8 @@ use Rattle.serde_json.specs.View.{view, items_of, members_view}
 use Rattle.serde_json.specs.declared.value.Value.{Value}
 use Rattle.rpki.specs.Times.{Moment}
 use Rattle.rpki.specs.Timestamps.{timestamp}
-use Rattle.rpki_command.specs.declared.places.Place.{Place}
-use Rattle.rpki_command.specs.declared.rules.Rule.{Rule}
+use Rattle.rpki_files.specs.declared.places.Place.{Place}
+use Rattle.rpki_files.specs.declared.rules.Rule.{Rule}
 
 -- ---- values
 
@@ -26,9 +26,9 @@ abbrev pub array_of : List Data → Data
 array_of values = array (items_of values)
 
 -- lists one behind the other
-abbrev pub joined : {X : Type 0} → List (List X) → List X
-joined [] = []
-joined (some ∷ more) = some ++ joined more
+abbrev pub flattened : {X : Type 0} → List (List X) → List X
+flattened [] = []
+flattened (some ∷ more) = some ++ flattened more
 
 -- ---- members
 
@@ -86,14 +86,14 @@ Pushes values old new = map view new ≡ map view old ++ values
 
 -- what a fault means, and the section of the standard
 abbrev pub rule_members : Rule → List Pair
-rule_members rule = joined (
+rule_members rule = flattened (
     text_member (codes "why") rule.says.now
     ∷ text_member (codes "standard") rule.section.now
     ∷ [])
 
 -- the field at which reading stops, and the octet at which that begins
 abbrev pub place_members : Place → List Pair
-place_members place = joined (
+place_members place = flattened (
     text_member (codes "field") place.field.now
     ∷ member_of (codes "octet") (count_json place.octet)
     ∷ [])

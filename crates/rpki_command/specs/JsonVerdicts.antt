@@ -2,17 +2,17 @@
 use Rattle.std.specs.Prelude.{◌≡◌, ◌⊎◌, ℕ, Bool, true, false, List, [], ◌∷◌, map, codes, Option, Some, None, MatchOption}
 use Rattle.serde_json.specs.Data.{Data, boolean, string}
 use Rattle.rpki.specs.Verification.{Context, ResourceFields}
-use Rattle.rpki_command.specs.Contents.{BeginsWithList}
-use Rattle.rpki_command.specs.Files.{FileFields, contents}
-use Rattle.rpki_command.specs.GivenPaths.{QuestionFields}
+use Rattle.rpki_files.specs.Contents.{BeginsWithList}
+use Rattle.rpki_files.specs.Files.{FileFields, contents}
+use Rattle.rpki_verdicts.specs.GivenPaths.{QuestionFields}
 use Rattle.rpki_command.specs.JsonBlocks.{held_items}
 use Rattle.rpki_command.specs.JsonTexts.{json_lines}
-use Rattle.rpki_command.specs.JsonValues.{Pair, joined, count_json, array_of, member_of, text_member, text_member_if_any, object_of, rule_members}
-use Rattle.rpki_command.specs.PathAnswers.{IsVerdictBy}
-use Rattle.rpki_command.specs.VerdictTexts.{name_at}
-use Rattle.rpki_command.specs.declared.path.Fault.{Fault}
-use Rattle.rpki_command.specs.declared.path.Verdict.{Verdict}
-use Rattle.rpki_command.specs.declared.path.Verdict.TheVariants.{Accepted, Rejected}
+use Rattle.rpki_command.specs.JsonValues.{Pair, flattened, count_json, array_of, member_of, text_member, text_member_if_any, object_of, rule_members}
+use Rattle.rpki_verdicts.specs.PathAnswers.{IsVerdictBy}
+use Rattle.rpki_command.specs.VerdictTexts.{file_name_at}
+use Rattle.rpki_verdicts.specs.declared.path.Fault.{Fault}
+use Rattle.rpki_verdicts.specs.declared.path.Verdict.{Verdict}
+use Rattle.rpki_verdicts.specs.declared.path.Verdict.TheVariants.{Accepted, Rejected}
 
 -- ---- files
 
@@ -36,9 +36,9 @@ AreNoLists (file ∷ files) others =
 
 -- a fault: its member, that member's file, the step, the fault's name, and its rule
 unfoldable pub fault_json : List FileFields → Fault → Data
-fault_json members fault = object_of (joined (
+fault_json members fault = object_of (flattened (
     member_of (codes "member") (count_json fault.index)
-    ∷ text_member_if_any (codes "file") (name_at members fault.index)
+    ∷ text_member_if_any (codes "file") (file_name_at members fault.index)
     ∷ text_member (codes "step") fault.step.now
     ∷ text_member (codes "fault") fault.name.now
     ∷ rule_members fault.rule
@@ -46,14 +46,14 @@ fault_json members fault = object_of (joined (
 
 -- that the path is accepted, and what its last member holds
 abbrev pub accepted_members : ResourceFields → List Pair
-accepted_members holder = joined (
+accepted_members holder = flattened (
     member_of (codes "accepted") (boolean true)
     ∷ member_of (codes "holds") (array_of (held_items holder))
     ∷ [])
 
 -- that it is rejected, and why
 abbrev pub rejected_members : List FileFields → Fault → List Pair
-rejected_members members fault = joined (
+rejected_members members fault = flattened (
     member_of (codes "accepted") (boolean false)
     ∷ member_of (codes "rejected") (fault_json members fault)
     ∷ [])
@@ -68,7 +68,7 @@ answer_members members (Some (Rejected fault)) = rejected_members members fault
 
 -- a verdict: the members, whether lists were given, those of these that are none, and the answer
 unfoldable pub verdict_json : QuestionFields → List FileFields → Option Verdict → Data
-verdict_json question others verdict = object_of (joined (
+verdict_json question others verdict = object_of (flattened (
     member_of (codes "path") (names_json question.members)
     ∷ member_of (codes "revocation_asked") (boolean (has_lists question.lists))
     ∷ member_of (codes "not_lists") (names_json others)

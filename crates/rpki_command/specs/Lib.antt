@@ -1,23 +1,6 @@
 -- The definitions that the contracts of the command cite.
-pub mod PemFiles
-pub mod Files
-pub mod Contents
-pub mod GivenPaths
-pub mod PathVerdicts
-pub mod AskedLists
-pub mod StopPlaces
-pub mod PolicyPresence
-pub mod FaultRules
-pub mod PathAnswers
-pub mod UnrevokedMembers
-pub mod MomentTexts
 pub mod CommandLines
 pub mod Outcomes
-pub mod Pages
-pub mod Periods
-pub mod BlockLines
-pub mod ListTexts
-pub mod CertificateTexts
 pub mod VerdictTexts
 pub mod ShownTexts
 pub mod JsonValues
@@ -27,4 +10,3 @@ pub mod JsonTexts
 pub mod JsonVerdicts
 pub mod JsonAnswers
 pub mod AnswerTexts
-pub mod KnownKinds

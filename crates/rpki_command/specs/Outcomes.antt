@@ -7,12 +7,12 @@ use Rattle.rpki_command.specs.declared.arguments.Task.{Task}
 use Rattle.rpki_command.specs.declared.arguments.Task.TheVariants.{Show, Validate}
 use Rattle.rpki_command.specs.declared.outcomes.Outcome.{Outcome}
 use Rattle.rpki_command.specs.declared.outcomes.Outcome.TheVariants.{Success, Rejection, WrongUse}
-use Rattle.rpki_command.specs.declared.path.Verdict.TheVariants.{Accepted, Rejected}
-use Rattle.rpki_command.specs.declared.path.Fault.{Fault}
+use Rattle.rpki_verdicts.specs.declared.path.Verdict.TheVariants.{Accepted, Rejected}
+use Rattle.rpki_verdicts.specs.declared.path.Fault.{Fault}
 use Rattle.rpki_command.specs.CommandLines.{RequestFields, IsCommandLine}
-use Rattle.rpki_command.specs.Contents.{BeginsWithList, CanBeShown}
-use Rattle.rpki_command.specs.Files.{FileFields, file_names, contents}
-use Rattle.rpki_command.specs.PathAnswers.{IsVerdictBy}
+use Rattle.rpki_files.specs.Contents.{BeginsWithList, CanBeShown}
+use Rattle.rpki_files.specs.Files.{FileFields, file_names, contents}
+use Rattle.rpki_verdicts.specs.PathAnswers.{IsVerdictBy}
 
 -- ---- the exit status
 

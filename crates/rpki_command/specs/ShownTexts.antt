@@ -10,17 +10,17 @@ use Rattle.rpki.specs.DecodeError.TheVariants.{Memory}
 use Rattle.rpki.specs.Lists.{CrlFields, ListFields, IsCertificateList}
 use Rattle.rpki.specs.RevokedEntries.{Revoked}
 use Rattle.rpki.specs.Times.{Moment}
-use Rattle.rpki_command.specs.CertificateTexts.{AreAnswers, certificate_text}
-use Rattle.rpki_command.specs.Contents.{CanBeShown, LooksLikeList}
-use Rattle.rpki_command.specs.FaultRules.{IsFileRule, rule_of}
-use Rattle.rpki_command.specs.Files.{FileFields}
-use Rattle.rpki_command.specs.ListTexts.{list_text}
-use Rattle.rpki_command.specs.Pages.{line, line_end, count_text}
-use Rattle.rpki_command.specs.PemFiles.{base64_of}
+use Rattle.rpki_text.specs.CertificateTexts.{AreAnswers, certificate_text}
+use Rattle.rpki_files.specs.Contents.{CanBeShown, LooksLikeList}
+use Rattle.rpki_files.specs.FaultRules.{IsFileRule, rule_of}
+use Rattle.rpki_files.specs.Files.{FileFields}
+use Rattle.rpki_text.specs.ListTexts.{list_text}
+use Rattle.rpki_text.specs.Pages.{line, line_feed, count_text}
+use Rattle.rpki_files.specs.PemFiles.{base64_of}
 use Rattle.rpki_command.specs.VerdictTexts.{SaysOfEach}
-use Rattle.rpki_command.specs.declared.certificate.Answers.{Answers}
-use Rattle.rpki_command.specs.declared.places.Place.{Place}
-use Rattle.rpki_command.specs.declared.rules.Rule.{Rule}
+use Rattle.rpki_text.specs.declared.certificate.Answers.{Answers}
+use Rattle.rpki_files.specs.declared.places.Place.{Place}
+use Rattle.rpki_files.specs.declared.rules.Rule.{Rule}
 use Rattle.rpki_command.specs.declared.showing.Options.{Options}
 
 -- ---- around an object
@@ -121,7 +121,7 @@ IsFileText options = IsTextIf CanBeShown (λ file text. IsCertificateFileText op
 
 -- the text of a file behind another one: an empty line, and its own
 abbrev pub IsFurtherText : Options → FileFields → List ℕ → Type 0
-IsFurtherText options file text = (its : List ℕ) × IsFileText options file its × (text ≡ line_end ++ its)
+IsFurtherText options file text = (its : List ℕ) × IsFileText options file its × (text ≡ line_feed ++ its)
 
 -- the text of files
 abbrev pub IsTextOfFiles : Options → List FileFields → List ℕ → Type 0

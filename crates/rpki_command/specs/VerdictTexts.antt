@@ -7,17 +7,17 @@ use Rattle.rpki.specs.BlockTexts.{v4_block_text, v6_block_text}
 use Rattle.rpki.specs.Certificates.{CertFields, IsCertificate}
 use Rattle.rpki.specs.Texts.{serial_text}
 use Rattle.rpki.specs.Verification.{Context, ResourceFields}
-use Rattle.rpki_command.specs.BlockLines.{numbers_text, blocks_lines}
-use Rattle.rpki_command.specs.CertificateTexts.{AreAnswers, kind_text}
-use Rattle.rpki_command.specs.Contents.{BeginsWithList, FindsBy}
-use Rattle.rpki_command.specs.Files.{FileFields, contents}
-use Rattle.rpki_command.specs.GivenPaths.{QuestionFields}
-use Rattle.rpki_command.specs.Pages.{line}
-use Rattle.rpki_command.specs.PathAnswers.{IsVerdictBy}
-use Rattle.rpki_command.specs.declared.certificate.Answers.{Answers}
-use Rattle.rpki_command.specs.declared.path.Fault.{Fault}
-use Rattle.rpki_command.specs.declared.path.Verdict.{Verdict}
-use Rattle.rpki_command.specs.declared.path.Verdict.TheVariants.{Accepted, Rejected}
+use Rattle.rpki_text.specs.BlockLines.{as_block_text, blocks_lines}
+use Rattle.rpki_text.specs.CertificateTexts.{AreAnswers, met_kind_text}
+use Rattle.rpki_files.specs.Contents.{BeginsWithList, FindsBy}
+use Rattle.rpki_files.specs.Files.{FileFields, contents}
+use Rattle.rpki_verdicts.specs.GivenPaths.{QuestionFields}
+use Rattle.rpki_text.specs.Pages.{line}
+use Rattle.rpki_verdicts.specs.PathAnswers.{IsVerdictBy}
+use Rattle.rpki_text.specs.declared.certificate.Answers.{Answers}
+use Rattle.rpki_verdicts.specs.declared.path.Fault.{Fault}
+use Rattle.rpki_verdicts.specs.declared.path.Verdict.{Verdict}
+use Rattle.rpki_verdicts.specs.declared.path.Verdict.TheVariants.{Accepted, Rejected}
 
 -- ---- files
 
@@ -33,7 +33,7 @@ other_text name = codes "no certificate, " ++ name
 abbrev pub IsMemberText : Bool → Option CertFields → List ℕ → List ℕ → Type 0
 IsMemberText strict None name text = text ≡ other_text name
 IsMemberText strict (Some c) name text =
-    (answers : Answers) × AreAnswers strict c answers × (text ≡ member_text (kind_text answers) c.fields.serial name)
+    (answers : Answers) × AreAnswers strict c answers × (text ≡ member_text (met_kind_text answers) c.fields.serial name)
 
 -- the line of a member
 pub record IsMemberLine (strict : Bool) (file : FileFields) (text : List ℕ) : Type 0 where
@@ -63,15 +63,15 @@ revocation_text [] = codes "not asked, since no list was given"
 revocation_text (list ∷ lists) = codes "no member is revoked, by the lists given"
 
 -- that it is accepted, what was asked of it, and what its last member holds
-unfoldable pub accepted_text : List FileFields → ResourceFields → List ℕ
-accepted_text lists holder = concat (
+unfoldable pub acceptance_text : List FileFields → ResourceFields → List ℕ
+acceptance_text lists holder = concat (
     line (codes "Path") (codes "accepted")
     ∷ line (codes "Signatures") (codes "checked (RSASSA-PKCS1-v1_5 with SHA-256, RFC 7935)")
     ∷ line (codes "Revocation") (revocation_text lists)
     ∷ line (codes "Not asked") (codes "manifests, and whether names of issuer and subject match")
     ∷ blocks_lines v4_block_text (codes "Holds IPv4") holder.v4
     ∷ blocks_lines v6_block_text (codes "Holds IPv6") holder.v6
-    ∷ blocks_lines numbers_text (codes "Holds AS numbers") holder.as_numbers
+    ∷ blocks_lines as_block_text (codes "Holds AS numbers") holder.as_numbers
     ∷ [])
 
 -- ---- a rejected path
@@ -96,16 +96,16 @@ rejected_text fault name = concat (
     ∷ [])
 
 -- the name of the member at this place, where there is a member
-abbrev pub name_at : List FileFields → ℕ → Option (List ℕ)
-name_at members place = option_map (λ file. file.name) (slice_get members place)
+abbrev pub file_name_at : List FileFields → ℕ → Option (List ℕ)
+file_name_at members place = option_map (λ file. file.name) (slice_get members place)
 
 -- ---- the whole
 
 -- what is said of a verdict, if there is one
 abbrev pub IsOutcomeText : QuestionFields → Option Verdict → List ℕ → Type 0
 IsOutcomeText question None text = text ≡ []
-IsOutcomeText question (Some (Accepted holder)) text = text ≡ accepted_text question.lists holder
-IsOutcomeText question (Some (Rejected fault)) text = text ≡ rejected_text fault (name_at question.members fault.index)
+IsOutcomeText question (Some (Accepted holder)) text = text ≡ acceptance_text question.lists holder
+IsOutcomeText question (Some (Rejected fault)) text = text ≡ rejected_text fault (file_name_at question.members fault.index)
 
 -- the members, files given as lists that are none, and the verdict
 pub record IsVerdictText (question : QuestionFields) (verdict : Option Verdict) (text : List ℕ) : Type 0 where

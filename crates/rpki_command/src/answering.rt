@@ -4,16 +4,16 @@ ghost use Rattle.rpki.specs.RsaSignatures.{IsSignedByRsa};
 ghost use Rattle.rpki.specs.Verification.{context};
 ghost use Rattle.rpki_command.specs.AnswerTexts.{IsJsonFor, IsTextFor};
 ghost use Rattle.rpki_command.specs.CommandLines.Views.{fields_of};
-ghost use Rattle.rpki_command.specs.Files.{contents};
+ghost use Rattle.rpki_files.specs.Files.{contents};
 ghost use Rattle.rpki_command.specs.Outcomes.{AsksOfFiles, IsOutcomeOf};
 
 use crate::arguments::{Request, Task};
-use crate::files::Object;
 use crate::outcomes::Answer;
-use crate::path::Question;
 use crate::showing::{Options, shown};
 use crate::verdicts::validated;
 use rpki::repository::x509::Time;
+use rpki_files::Object;
+use rpki_verdicts::Question;
 use std::alloc::{AllocError, Global};
 
 /// Answers what the request asks of these files and lists at this moment.

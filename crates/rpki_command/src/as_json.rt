@@ -1,7 +1,7 @@
 //! Certificates and lists as JSON, with the names that rpki-client gives to what it shows too.
 ghost use Rattle.std.specs.Prelude.{◌≡◌, codes, map, option_map, IfOk, OnOk};
 ghost use Rattle.serde_json.specs.View.{view};
-ghost use Rattle.rpki_command.specs.Pages.{colons_text};
+ghost use Rattle.rpki_text.specs.Pages.{colons_text};
 ghost use Rattle.rpki_command.specs.JsonFiles.{IsCertificateJson, answer_word, certificate_json, entry_json, head_members, key_members, list_json, name_members, overclaim_word, profiles_json, rejection_json, type_word, uri_member, uri_members, usage_word};
 ghost use Rattle.rpki_command.specs.JsonValues.{Puts, array_of, count_member_if_any, place_members, rule_members, text_member_if_any};
 
@@ -9,10 +9,6 @@ mod blocks;
 mod objects;
 mod verdicts;
 
-use crate::certificate::{Answers, answers_of};
-use crate::places::Place;
-use crate::rules::Rule;
-use crate::saying::said_kind;
 use objects::Members;
 pub use objects::lines_of;
 use rpki::crypto::KeyIdentifier;
@@ -21,6 +17,10 @@ use rpki::repository::crl::{Crl, RevokedCertificates};
 use rpki::repository::error::InspectionError;
 use rpki::repository::x509::{Serial, Time};
 use rpki::uri::{Https, Rsync};
+use rpki_files::Place;
+use rpki_files::rules::Rule;
+use rpki_text::certificate::{Answers, answers_of};
+use rpki_verdicts::said_kind;
 use serde_json::Value;
 use std::alloc::{AllocError, Global};
 pub use verdicts::path;
@@ -269,7 +269,7 @@ fn put_place(out: &mut Members, place: Place) -> Result<(), AllocError>
 
 /// Makes the value of a file that is neither: the fault and its rule, the field at which reading
 /// stops, and the octet at which that begins.
-pub fn refused(
+pub fn rejected(
     alloc: Global,
     file: &Shown<'_>,
     fault: &str,

@@ -5,31 +5,15 @@
 ghost use Rattle.std.specs.Prelude.{◌≡◌, ◌≢◌, ◌≤◌, map, IfOk, IfSome, MatchOption, OnOk, string_bytes};
 ghost use Rattle.std.specs.Process.{exit_status};
 ghost use Rattle.rpki_command.specs.AnswerTexts.{MayAnswer};
-ghost use Rattle.rpki_command.specs.CommandLines.Views.{fields_of, octets_of};
-ghost use Rattle.rpki_command.specs.Files.{file_names};
+ghost use Rattle.rpki_command.specs.CommandLines.Views.{fields_of, word_octets};
+ghost use Rattle.rpki_files.specs.Files.{file_names};
 ghost use Rattle.rpki_command.specs.Outcomes.{AsksOfFiles, MayEndWith, RunMayEndWith};
 
 mod answering;
 mod arguments;
 mod as_json;
-mod blocks;
-mod certificate;
-mod files;
-mod judging;
-mod kinds;
-mod lines;
-mod list;
-mod moments;
-mod names;
 pub mod outcome_laws;
 mod outcomes;
-mod page;
-mod path;
-mod places;
-mod policies;
-mod revocation;
-mod rules;
-mod saying;
 mod showing;
 mod verdict_lines;
 mod verdicts;
@@ -37,9 +21,10 @@ mod verdicts;
 use answering::answer_request;
 use anyhow::{Context, Result, anyhow};
 use arguments::{Misuse, Request, Task, read_words};
-use files::{Object, read_object};
 use outcomes::{Answer, Outcome, status_of};
 use rpki::repository::x509::Time;
+use rpki_files::{Object, read_object};
+use rpki_text::moments;
 use std::io::Read;
 use std::process::ExitCode;
 use std::rt::Clock;
@@ -149,7 +134,7 @@ fn answer(rt: &HostRuntime, request: &Request<'_>) -> Result<Outcome>
 
 // Answers the words of the command line.
 fn run(rt: &HostRuntime, words: &[String]) -> Result<Outcome>
-    ensures { IfOk result (RunMayEndWith (octets_of words.now)) }
+    ensures { IfOk result (RunMayEndWith (word_octets words.now)) }
 {
     let request = match read_words(rt.alloc(), words) {
         Ok(request) => request,

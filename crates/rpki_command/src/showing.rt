@@ -7,28 +7,27 @@ ghost use Rattle.rpki.specs.Place.{MeansOrMemoryBy};
 ghost use Rattle.rpki.specs.Encoding.{Means};
 ghost use Rattle.rpki.specs.Certificates.{IsCertificate};
 ghost use Rattle.rpki.specs.Lists.{IsCertificateList};
-ghost use Rattle.rpki_command.specs.CertificateTexts.{AreAnswers};
-ghost use Rattle.rpki_command.specs.Contents.{BeginsWithCertificate, BeginsWithList, CanBeShown, LooksLikeList};
-ghost use Rattle.rpki_command.specs.Files.{contents};
+ghost use Rattle.rpki_text.specs.CertificateTexts.{AreAnswers};
+ghost use Rattle.rpki_files.specs.Contents.{BeginsWithCertificate, BeginsWithList, CanBeShown, LooksLikeList};
+ghost use Rattle.rpki_files.specs.Files.{contents};
 ghost use Rattle.rpki_command.specs.JsonAnswers.{AreFilesJson, IsCertificateFileJson, IsFileJson, IsJsonIf, IsListFileJson, IsOtherFileJson, IsShown};
 ghost use Rattle.rpki_command.specs.JsonTexts.{json_lines};
 ghost use Rattle.rpki_command.specs.Outcomes.{IsOutcomeOfShow};
-ghost use Rattle.rpki_command.specs.Pages.{Appends, AppendsSome, line, line_end};
-ghost use Rattle.rpki_command.specs.PemFiles.{base64_of};
+ghost use Rattle.rpki_text.specs.Pages.{Appends, AppendsSome, line, line_feed};
+ghost use Rattle.rpki_files.specs.PemFiles.{base64_of};
 ghost use Rattle.rpki_command.specs.ShownTexts.{BeginsBefore, IsCertificateFileText, IsFileText, IsFurtherText, IsListFileText, IsOtherFileText, IsRejection, IsTextIf, IsTextOfFiles, certificate_file_text, file_lines, left_line, left_text, list_file_text, stop_text};
 ghost use Rattle.rpki_command.specs.VerdictTexts.{SaysOfEach};
 
-use crate::files::{Form, Object, looks_like, unless_memory};
+use crate::as_json;
 use crate::outcomes::{Answer, Outcome};
-use crate::page::Page;
-use crate::places::{Place, place_of};
-use crate::rules::{Rule, of_file};
-use crate::{as_json, certificate, list};
 use base64::engine::general_purpose::STANDARD;
 use bytes::Bytes;
 use rpki::der::{Cursor, DecodeError};
 use rpki::repository::x509::Time;
 use rpki::repository::{Cert, Crl};
+use rpki_files::rules::{Rule, of_file};
+use rpki_files::{Form, Object, Place, looks_like, place_of, unless_memory};
+use rpki_text::{Page, certificate, list};
 use serde_json::Value;
 use sha2::{Digest, Sha256};
 use std::alloc::{AllocError, Global};
@@ -44,7 +43,7 @@ pub struct Options {
 }
 
 // The SHA-256 hash of octets, in base64.
-#[tactic(auto, unfolding(crate::specs::PemFiles::base64_of))]
+#[tactic(auto, unfolding(rpki_files::specs::PemFiles::base64_of))]
 fn hash(page: &mut Page, octets: &[u8])
     ensures { Appends page.old (base64_of (sha256 octets.now)) page.new }
 {
@@ -53,7 +52,7 @@ fn hash(page: &mut Page, octets: &[u8])
     page.formed(made);
 }
 
-#[tactic(auto, unfolding(crate::specs::Pages::line))]
+#[tactic(auto, unfolding(rpki_text::specs::Pages::line))]
 fn hash_line(page: &mut Page, octets: &[u8])
     ensures { Appends page.old (line (codes "SHA-256") (base64_of (sha256 octets.now))) page.new }
 {
@@ -78,7 +77,7 @@ fn left_over(page: &mut Page, left: usize)
     page.text(" not read");
 }
 
-#[tactic(auto, unfolding(crate::specs::Pages::line))]
+#[tactic(auto, unfolding(rpki_text::specs::Pages::line))]
 fn left_over_line(page: &mut Page, left: usize)
     ensures { Appends page.old (line (codes "After its end") (left_text left)) page.new }
 {
@@ -187,7 +186,7 @@ fn rejection_json(page: &mut Page, object: &Object<'_>, it: &Rejection)
         → AppendsSome (IsOtherFileJson object.now) page.old page.new }
 {
     let file = as_shown(object, 0);
-    let made = as_json::refused(page.alloc(), &file, it.why.as_str(), it.rule, it.place);
+    let made = as_json::rejected(page.alloc(), &file, it.why.as_str(), it.rule, it.place);
     printed(page, made);
 }
 
@@ -206,7 +205,7 @@ fn whole_rejection(page: &mut Page, object: &Object<'_>, it: &Rejection, options
     }
 }
 
-fn refused(page: &mut Page, object: &Object<'_>, fault: &DecodeError, options: &Options)
+fn rejected(page: &mut Page, object: &Object<'_>, fault: &DecodeError, options: &Options)
     ensures text { IsFalse options.now.json
         → AppendsSome (IsOtherFileText object.now) page.old page.new }
     ensures json { IsTrue options.now.json
@@ -303,7 +302,7 @@ fn certificate_of(
             Ok(true)
         }
         Err(fault) => {
-            refused(page, object, &fault, options);
+            rejected(page, object, &fault, options);
             unless_memory(fault)?;
             Ok(false)
         }
@@ -372,7 +371,7 @@ fn list_of(page: &mut Page, object: &Object<'_>, options: &Options) -> Result<bo
             Ok(true)
         }
         Err(fault) => {
-            refused(page, object, &fault, options);
+            rejected(page, object, &fault, options);
             unless_memory(fault)?;
             Ok(false)
         }
@@ -395,7 +394,7 @@ pub fn show(page: &mut Page, object: &Object<'_>, options: &Options) -> Result<b
 
 // Ends the text of a file that another one follows, and of JSON nothing.
 fn gap(page: &mut Page, options: &Options)
-    ensures text { IsFalse options.now.json → Appends page.old line_end page.new }
+    ensures text { IsFalse options.now.json → Appends page.old line_feed page.new }
     ensures json { IsTrue options.now.json → page.new ≡ page.old }
 {
     if !options.json {

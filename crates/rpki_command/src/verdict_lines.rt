@@ -1,16 +1,16 @@
 //! The verdict on a path for a person.
 ghost use Rattle.std.specs.Prelude.{◌≡◌, Some, IfOk, option_copied, option_map, codes, string_bytes};
-ghost use Rattle.rpki_command.specs.CertificateTexts.{AreAnswers, kind_text};
-ghost use Rattle.rpki_command.specs.Pages.{Appends, AppendsSome, line};
-ghost use Rattle.rpki_command.specs.VerdictTexts.{SaysOfEach, IsMemberLine, IsListPart, IsOutcomeText, IsVerdictText, member_text, other_text, revocation_text, accepted_text, place_text, reason_text, rejected_text, name_at};
+ghost use Rattle.rpki_text.specs.CertificateTexts.{AreAnswers, met_kind_text};
+ghost use Rattle.rpki_text.specs.Pages.{Appends, AppendsSome, line};
+ghost use Rattle.rpki_command.specs.VerdictTexts.{SaysOfEach, IsMemberLine, IsListPart, IsOutcomeText, IsVerdictText, member_text, other_text, revocation_text, acceptance_text, place_text, reason_text, rejected_text, file_name_at};
 
-use crate::blocks::{Family, as_blocks, ip_blocks};
-use crate::certificate::kind_of;
-use crate::files::{Object, as_certificate};
-use crate::page::Page;
-use crate::path::{Fault, Question, Verdict, is_list};
 use rpki::repository::cert::{Cert, ResourceCert};
 use rpki::repository::x509::Serial;
+use rpki_files::{Object, as_certificate};
+use rpki_text::Page;
+use rpki_text::blocks::{Family, as_blocks, ip_blocks};
+use rpki_text::certificate::kind_of;
+use rpki_verdicts::{Fault, Question, Verdict, is_list};
 use std::alloc::{AllocError, Global};
 use std::fmt;
 
@@ -52,7 +52,7 @@ impl fmt::Display for OtherMember<'_> {
 
 fn print_certificate(page: &mut Page, cert: &Cert, strict: bool, name: &str)
     ensures { (answers : _) × AreAnswers strict cert.now answers × Appends page.old
-        (line (codes "Member") (member_text (kind_text answers) cert.now.fields.serial name.now))
+        (line (codes "Member") (member_text (met_kind_text answers) cert.now.fields.serial name.now))
         page.new }
 {
     page.line_of(
@@ -118,7 +118,7 @@ fn revocation(lists: &[Object<'_>]) -> &'static str
 }
 
 fn print_accepted(page: &mut Page, lists: &[Object<'_>], holder: &ResourceCert)
-    ensures { Appends page.old (accepted_text lists.now holder.now) page.new }
+    ensures { Appends page.old (acceptance_text lists.now holder.now) page.new }
 {
     page.line("Path", "accepted");
     page.line("Signatures", ALGORITHM);
@@ -189,7 +189,7 @@ fn print_fault(page: &mut Page, fault: &Fault, name: Option<&str>)
 }
 
 fn print_rejected(page: &mut Page, members: &[Object<'_>], fault: &Fault)
-    ensures { let name = name_at members.now fault.now.index in
+    ensures { let name = file_name_at members.now fault.now.index in
         Appends page.old (rejected_text fault.now name) page.new }
 {
     match members.get(fault.index) {

@@ -2,18 +2,18 @@
 ghost use Rattle.std.specs.Prelude.{◌↔◌, All, IfOk, IsTrue, IsFalse, option_copied, string_bytes};
 ghost use Rattle.rpki.specs.RsaSignatures.{IsSignedByRsa};
 ghost use Rattle.rpki.specs.Verification.{context};
-ghost use Rattle.rpki_command.specs.Contents.{BeginsWithList};
-ghost use Rattle.rpki_command.specs.Files.{contents};
+ghost use Rattle.rpki_files.specs.Contents.{BeginsWithList};
+ghost use Rattle.rpki_files.specs.Files.{contents};
 ghost use Rattle.rpki_command.specs.JsonVerdicts.{IsJsonOfPath, IsVerdictLines};
 ghost use Rattle.rpki_command.specs.Outcomes.{IsOutcomeOfValidate};
-ghost use Rattle.rpki_command.specs.PathAnswers.{IsAcceptance};
+ghost use Rattle.rpki_verdicts.specs.PathAnswers.{IsAcceptance};
 ghost use Rattle.rpki_command.specs.VerdictTexts.{IsTextOfPath};
 
 use crate::as_json;
-use crate::files::Object;
 use crate::outcomes::{Answer, Outcome};
-use crate::path::{Question, Verdict, is_list, judge};
 use crate::verdict_lines::verdict_text;
+use rpki_files::Object;
+use rpki_verdicts::{Question, Verdict, is_list, judge};
 use std::alloc::{AllocError, Global};
 
 // The verdict as JSON.

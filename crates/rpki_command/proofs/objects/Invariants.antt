@@ -1,5 +1,5 @@
 use Rattle.std.proofs.Common.{◌≡◌, map, take}
-use Rattle.rpki_command.specs.Files.{file_names}
+use Rattle.rpki_files.specs.Files.{file_names}
 use Rattle.rpki_command.proofs.objects.Given as goal
 
 abbrev pub invariant-loop-name : goal.invariant-loop-name

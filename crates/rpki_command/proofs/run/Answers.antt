@@ -5,7 +5,7 @@ use Rattle.rpki.specs.RsaSignatures.{IsSignedByRsa}
 use Rattle.rpki.specs.Verification.{Context, context}
 use Rattle.rpki_command.specs.CommandLines.{RequestFields}
 use Rattle.rpki_command.specs.CommandLines.Views.{fields_of}
-use Rattle.rpki_command.specs.Files.{FileFields, file_names, contents}
+use Rattle.rpki_files.specs.Files.{FileFields, file_names, contents}
 use Rattle.rpki_command.specs.Outcomes.{AsksOfFiles, IsOutcomeOf, MayEndWith}
 use Rattle.rpki_command.specs.declared.arguments.Task.{Task}
 use Rattle.rpki_command.specs.declared.arguments.Task.TheVariants.{Show, Validate, Help, Version}

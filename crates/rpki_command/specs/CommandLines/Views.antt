@@ -5,8 +5,8 @@ use Rattle.rpki_command.specs.declared.arguments.Request.{Request}
 use Rattle.rpki_command.specs.CommandLines.{RequestFields}
 
 -- the octets of each word
-abbrev pub octets_of : {Z : Type 0} → List (String Z) → List (List ℕ)
-octets_of words = map string_bytes words
+abbrev pub word_octets : {Z : Type 0} → List (String Z) → List (List ℕ)
+word_octets words = map string_bytes words
 
 -- what a request asks
 abbrev pub fields_of : Request → RequestFields

@@ -2,17 +2,17 @@
 ghost use Rattle.std.specs.Prelude.{◌≡◌, codes, map, IfOk, OnOk};
 ghost use Rattle.serde_json.specs.Data.{string};
 ghost use Rattle.serde_json.specs.View.{view};
-ghost use Rattle.rpki_command.specs.BlockLines.{address_text, family_text};
+ghost use Rattle.rpki_text.specs.BlockLines.{family_address_text, family_text};
 ghost use Rattle.rpki_command.specs.JsonBlocks.{ends_json, block_json, numbers_json, resource_items, listed_items, held_items};
 ghost use Rattle.rpki_command.specs.JsonValues.{Pushes, object_with};
 
 use crate::as_json::objects::{Members, object_of, value_of};
-use crate::blocks::{Family, ip_block, ip_end};
-use crate::page::Page;
 use rpki::repository::cert::{ResourceCert, TbsCert};
 use rpki::repository::resources::{
     Addr, AsBlock, AsBlocks, AsResources, IpBlock, IpBlocks, IpResources,
 };
+use rpki_text::Page;
+use rpki_text::blocks::{Family, ip_block, ip_end};
 use serde_json::Value;
 use std::alloc::{AllocError, Global};
 
@@ -28,7 +28,7 @@ fn ends(alloc: Global, min: Value, max: Value) -> Result<Value, AllocError>
 
 // An address of a family.
 fn address(alloc: Global, family: Family, at: Addr) -> Result<Value, AllocError>
-    ensures { IfOk result (λ value. view value ≡ string (address_text family at)) }
+    ensures { IfOk result (λ value. view value ≡ string (family_address_text family at)) }
 {
     let mut page = Page::new(alloc);
     ip_end(&mut page, family, at);

@@ -2,17 +2,17 @@
 ghost use Rattle.std.specs.Prelude.{◌≡◌, [], ◌∷◌, List, codes, map, IfOk, OnOk, option_copied};
 ghost use Rattle.serde_json.specs.Data.{string};
 ghost use Rattle.serde_json.specs.View.{view};
-ghost use Rattle.rpki_command.specs.Files.{FileFields};
+ghost use Rattle.rpki_files.specs.Files.{FileFields};
 ghost use Rattle.rpki_command.specs.JsonValues.{Puts, Pushes, text_member_if_any};
 ghost use Rattle.rpki_command.specs.JsonVerdicts.{AreNoLists, IsVerdictJson, accepted_members, answer_members, fault_json, has_lists, names_json, rejected_members};
-ghost use Rattle.rpki_command.specs.VerdictTexts.{name_at};
+ghost use Rattle.rpki_command.specs.VerdictTexts.{file_name_at};
 
 use crate::as_json::blocks::held;
 use crate::as_json::objects::Members;
 use crate::as_json::put_rule;
-use crate::files::Object;
-use crate::path::{Fault, Question, Verdict, is_list};
 use rpki::repository::cert::ResourceCert;
+use rpki_files::Object;
+use rpki_verdicts::{Fault, Question, Verdict, is_list};
 use serde_json::Value;
 use std::alloc::{AllocError, Global};
 
@@ -64,7 +64,7 @@ fn not_lists(alloc: Global, lists: &[Object<'_>]) -> Result<Value, AllocError>
 #[tactic(auto, unfolding(crate::specs::JsonValues::put_all))]
 fn file_at(out: &mut Members, members: &[Object<'_>], index: usize) -> Result<(), AllocError>
     ensures { OnOk result
-        (Puts (text_member_if_any (codes "file") (name_at members.now index)) out.old out.new) }
+        (Puts (text_member_if_any (codes "file") (file_name_at members.now index)) out.old out.new) }
 {
     match members.get(index) {
         Some(object) => out.text("file", object.name),

@@ -1,8 +1,8 @@
 use Rattle.std.proofs.Common.{take}
-use Rattle.rpki_command.specs.CommandLines.Views.{octets_of, fields_of}
+use Rattle.rpki_command.specs.CommandLines.Views.{word_octets, fields_of}
 use Rattle.rpki_command.proofs.AddedParts.{AreAdded}
 use Rattle.rpki_command.proofs.arguments.add_words.Given as goal
 
 abbrev pub invariant-loop-word : goal.invariant-loop-word
 invariant-loop-word l =
-    AreAdded (octets_of (take l.word-index l.words)) (fields_of l.fn.request) (fields_of l.request) l.awaiting
+    AreAdded (word_octets (take l.word-index l.words)) (fields_of l.fn.request) (fields_of l.request) l.awaiting

@@ -1,5 +1,5 @@
 use Rattle.std.proofs.Common.{refl}
-use Rattle.rpki_command.specs.Pages.{Appends}
+use Rattle.rpki_text.specs.Pages.{Appends}
 use Rattle.rpki_command.specs.ShownTexts.{IsOtherFileText, other_file_text, stop_text}
 use Rattle.rpki_command.proofs.AppendedTexts.{then_appended, last_appended, such_appended}
 use Rattle.rpki_command.proofs.showing.print_rejection.Goals as goal

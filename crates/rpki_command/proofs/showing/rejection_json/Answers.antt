@@ -14,7 +14,7 @@ returns c = λ rejection.
     let it = c.args.it.now in
     let shown = c.as_shown-file.result in
     let why = c.as_str.result.now in
-    made_appended view (λ value. value ≡ rejection_json shown why it.rule it.place) (IsOtherFileJson file) c.args.page.now c.printed.new.page c.refused-made.result
+    made_appended view (λ value. value ≡ rejection_json shown why it.rule it.place) (IsOtherFileJson file) c.args.page.now c.printed.new.page c.rejected-made.result
     (λ value is. subst IsWhole (sym is) (rejection_whole shown why it.rule it.place))
     (λ value is. record {
       why = why;
@@ -25,4 +25,4 @@ returns c = λ rejection.
       shown_is = c.as_shown-file.ensures;
       text_is = ap json_lines is;
     })
-    c.refused-made.ensures c.printed.ensures
+    c.rejected-made.ensures c.printed.ensures

@@ -1,9 +1,9 @@
 use Rattle.std.specs.Prelude.{IsTrue}
 use Rattle.std.proofs.Common.{rules, ◌≢◌, ◌↔◌, ◌≤◌, length, subst}
 use Rattle.rpki.specs.DecodeError.TheVariants as decoding
-use Rattle.rpki_command.specs.Contents.{LooksLikeList}
-use Rattle.rpki_command.specs.FaultRules.{IsFileRule, rule_of}
-use Rattle.rpki_command.specs.Files.{FileFields}
+use Rattle.rpki_files.specs.Contents.{LooksLikeList}
+use Rattle.rpki_files.specs.FaultRules.{IsFileRule, rule_of}
+use Rattle.rpki_files.specs.Files.{FileFields}
 use Rattle.rpki_command.proofs.showing.rejection_of.Goals as goal
 
 pub returns : goal.returns

@@ -1,11 +1,11 @@
 use Rattle.std.specs.Prelude.{IsTrue}
 use Rattle.std.proofs.Common.{◌≡◌, ◌↔◌, inl, inr, ⊎_elim, subst}
 use Rattle.std.proofs.lemmas.Result.{IfOk-weaker, on_ok_weaker}
-use Rattle.rpki_command.specs.Contents.{BeginsWithCertificate, BeginsWithList, CanBeShown}
-use Rattle.rpki_command.specs.Files.{FileFields}
+use Rattle.rpki_files.specs.Contents.{BeginsWithCertificate, BeginsWithList, CanBeShown}
+use Rattle.rpki_files.specs.Files.{FileFields}
 use Rattle.rpki_command.specs.JsonAnswers.{IsCertificateFileJson, IsFileJson, IsJsonIf, IsListFileJson, IsOtherFileJson}
 use Rattle.rpki_command.specs.ShownTexts.{IsCertificateFileText, IsListFileText, IsOtherFileText, IsTextIf, IsFileText}
-use Rattle.rpki_command.specs.declared.files.Form.TheVariants as forms
+use Rattle.rpki_files.specs.declared.files.Form.TheVariants as forms
 use Rattle.rpki_command.proofs.ShownFiles.{some_weaker, list_shown, certificate_shown}
 use Rattle.rpki_command.proofs.showing.show.Goals as goal
 

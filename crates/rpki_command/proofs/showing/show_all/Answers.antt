@@ -1,9 +1,9 @@
 use Rattle.std.specs.Prelude.{All, IsTrue}
 use Rattle.std.proofs.Common.{rules, ◌≡◌, ◌↔◌, ◌&&◌, ◌∷◌, List, refl, sym, subst}
-use Rattle.rpki_command.specs.Contents.{CanBeShown}
-use Rattle.rpki_command.specs.Files.{FileFields, contents}
+use Rattle.rpki_files.specs.Contents.{CanBeShown}
+use Rattle.rpki_files.specs.Files.{FileFields, contents}
 use Rattle.rpki_command.specs.JsonAnswers.{AreFilesJson, IsFileJson}
-use Rattle.rpki_command.specs.Pages.{AppendsSome}
+use Rattle.rpki_text.specs.Pages.{AppendsSome}
 use Rattle.rpki_command.specs.ShownTexts.{IsFileText, IsFurtherText, IsTextOfFiles}
 use Rattle.rpki_command.specs.VerdictTexts.{SaysOfEach}
 use Rattle.rpki_command.proofs.AppendedTexts.{both_appended}

@@ -1,10 +1,10 @@
-use Rattle.rpki_command.specs.Contents.{CanBeShown}
-use Rattle.rpki_command.specs.Files.{contents}
+use Rattle.rpki_files.specs.Contents.{CanBeShown}
+use Rattle.rpki_files.specs.Files.{contents}
 use Rattle.rpki_command.specs.JsonAnswers.{IsFileJson}
 use Rattle.rpki_command.specs.ShownTexts.{IsFurtherText}
 use Rattle.rpki_command.proofs.AppendedTexts.{each_more, each_said}
 use Rattle.rpki_command.proofs.FlaggedItems.{flag_of_more, flag_of_all}
-use Rattle.rpki_command.proofs.MappedItems.{mapped_low, mapped_high, mapped_there}
+use Rattle.rpki_verdicts.proofs.MappedItems.{mapped_low, mapped_high, mapped_there}
 use Rattle.rpki_command.proofs.showing.show_more.Goals as goal
 
 pub loop-object-preserved : goal.loop-object-preserved

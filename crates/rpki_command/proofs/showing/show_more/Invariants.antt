@@ -1,9 +1,9 @@
 use Rattle.std.specs.Prelude.{All, IsFalse, IsTrue}
 use Rattle.std.proofs.Common.{◌↔◌, take}
-use Rattle.rpki_command.specs.Contents.{CanBeShown}
-use Rattle.rpki_command.specs.Files.{contents}
+use Rattle.rpki_files.specs.Contents.{CanBeShown}
+use Rattle.rpki_files.specs.Files.{contents}
 use Rattle.rpki_command.specs.JsonAnswers.{IsFileJson}
-use Rattle.rpki_command.specs.Pages.{AppendsSome}
+use Rattle.rpki_text.specs.Pages.{AppendsSome}
 use Rattle.rpki_command.specs.ShownTexts.{IsFurtherText}
 use Rattle.rpki_command.specs.VerdictTexts.{SaysOfEach}
 use Rattle.rpki_command.proofs.showing.show_more.Given as goal

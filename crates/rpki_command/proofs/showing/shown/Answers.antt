@@ -1,8 +1,8 @@
 use Rattle.std.specs.Prelude.{All, IsFalse, IsTrue}
 use Rattle.std.proofs.Common.{◌≡◌, ◌↔◌, ℕ, Bool, true, false, List, refl}
 use Rattle.std.proofs.lemmas.Bool.{false≢true}
-use Rattle.rpki_command.specs.Contents.{CanBeShown}
-use Rattle.rpki_command.specs.Files.{contents}
+use Rattle.rpki_files.specs.Contents.{CanBeShown}
+use Rattle.rpki_files.specs.Files.{contents}
 use Rattle.rpki_command.specs.Outcomes.{IsOutcomeOfShow}
 use Rattle.rpki_command.specs.declared.outcomes.Outcome.{Outcome}
 use Rattle.rpki_command.specs.declared.outcomes.Outcome.TheVariants.{Success, Rejection}

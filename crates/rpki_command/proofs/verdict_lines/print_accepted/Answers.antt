@@ -1,9 +1,9 @@
-use Rattle.rpki_command.specs.VerdictTexts.{accepted_text}
+use Rattle.rpki_command.specs.VerdictTexts.{acceptance_text}
 use Rattle.rpki_command.proofs.AppendedTexts.{then_appended, last_appended}
 use Rattle.rpki_command.proofs.verdict_lines.print_accepted.Goals as goal
 
 pub returns : goal.returns
-unfolding accepted_text
+unfolding acceptance_text
 returns c =
     then_appended _ _ _ _ _ c.line.ensures
     (then_appended _ _ _ _ _ c.line-2.ensures

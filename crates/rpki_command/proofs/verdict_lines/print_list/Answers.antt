@@ -1,8 +1,8 @@
 use Rattle.std.specs.Prelude.{codes}
 use Rattle.std.proofs.Common.{refl, sym, subst, ◌∙◌, inl, inr}
 use Rattle.std.proofs.lemmas.Bool.{false≢true}
-use Rattle.rpki_command.specs.Files.{FileFields}
-use Rattle.rpki_command.specs.Pages.{Appends, line}
+use Rattle.rpki_files.specs.Files.{FileFields}
+use Rattle.rpki_text.specs.Pages.{Appends, line}
 use Rattle.rpki_command.specs.VerdictTexts.{IsListPart}
 use Rattle.rpki_command.proofs.AppendedTexts.{none_appended, such_appended}
 use Rattle.rpki_command.proofs.verdict_lines.print_list.Goals as goal

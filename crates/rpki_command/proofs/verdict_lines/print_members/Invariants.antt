@@ -1,5 +1,5 @@
 use Rattle.std.proofs.Common.{take}
-use Rattle.rpki_command.specs.Pages.{AppendsSome}
+use Rattle.rpki_text.specs.Pages.{AppendsSome}
 use Rattle.rpki_command.specs.VerdictTexts.{SaysOfEach, IsMemberLine}
 use Rattle.rpki_command.proofs.verdict_lines.print_members.Given as goal
 

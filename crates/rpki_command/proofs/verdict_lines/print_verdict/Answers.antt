@@ -1,7 +1,7 @@
 use Rattle.std.specs.Prelude.{option_copied}
 use Rattle.std.proofs.Common.{◌≡◌, ℕ, List, ◌++◌, refl, ap, subst}
-use Rattle.rpki_command.specs.GivenPaths.{QuestionFields}
-use Rattle.rpki_command.specs.Pages.{AppendsSome}
+use Rattle.rpki_verdicts.specs.GivenPaths.{QuestionFields}
+use Rattle.rpki_text.specs.Pages.{AppendsSome}
 use Rattle.rpki_command.specs.VerdictTexts.{SaysOfEach, IsMemberLine, IsListPart, IsOutcomeText, IsVerdictText}
 use Rattle.rpki_command.proofs.AppendedTexts.{both_appended}
 use Rattle.rpki_command.proofs.verdict_lines.print_verdict.Goals as goal

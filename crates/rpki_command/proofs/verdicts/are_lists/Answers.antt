@@ -1,7 +1,7 @@
-use Rattle.rpki_command.specs.Contents.{BeginsWithList}
-use Rattle.rpki_command.specs.Files.{contents}
+use Rattle.rpki_files.specs.Contents.{BeginsWithList}
+use Rattle.rpki_files.specs.Files.{contents}
 use Rattle.rpki_command.proofs.FlaggedItems.{flag_of_more, flag_of_all}
-use Rattle.rpki_command.proofs.MappedItems.{mapped_low, mapped_high, mapped_there}
+use Rattle.rpki_verdicts.proofs.MappedItems.{mapped_low, mapped_high, mapped_there}
 use Rattle.rpki_command.proofs.verdicts.are_lists.Goals as goal
 
 pub loop-object-preserved : goal.loop-object-preserved

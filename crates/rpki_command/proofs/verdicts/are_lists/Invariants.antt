@@ -1,7 +1,7 @@
 use Rattle.std.specs.Prelude.{All, IsTrue}
 use Rattle.std.proofs.Common.{◌↔◌, take}
-use Rattle.rpki_command.specs.Contents.{BeginsWithList}
-use Rattle.rpki_command.specs.Files.{contents}
+use Rattle.rpki_files.specs.Contents.{BeginsWithList}
+use Rattle.rpki_files.specs.Files.{contents}
 use Rattle.rpki_command.proofs.verdicts.are_lists.Given as goal
 
 abbrev pub invariant-loop-object : goal.invariant-loop-object

@@ -3,15 +3,15 @@ use Rattle.std.proofs.Common.{◌≡◌, ◌↔◌, ◌&&◌, ℕ, Bool, true, f
 use Rattle.std.proofs.lemmas.Bool.{false≢true}
 use Rattle.rpki.specs.RsaSignatures.{IsSignedByRsa}
 use Rattle.rpki.specs.Verification.{Context, context}
-use Rattle.rpki_command.specs.Contents.{BeginsWithList}
-use Rattle.rpki_command.specs.PathAnswers.{IsAcceptance, IsVerdictBy}
-use Rattle.rpki_command.specs.Files.{FileFields, contents}
+use Rattle.rpki_files.specs.Contents.{BeginsWithList}
+use Rattle.rpki_verdicts.specs.PathAnswers.{IsAcceptance, IsVerdictBy}
+use Rattle.rpki_files.specs.Files.{FileFields, contents}
 use Rattle.rpki_command.specs.Outcomes.{IsOutcomeOfValidate}
-use Rattle.rpki_command.specs.declared.path.Verdict.{Verdict}
-use Rattle.rpki_command.specs.declared.path.Verdict.TheVariants.{Accepted, Rejected}
+use Rattle.rpki_verdicts.specs.declared.path.Verdict.{Verdict}
+use Rattle.rpki_verdicts.specs.declared.path.Verdict.TheVariants.{Accepted, Rejected}
 use Rattle.rpki_command.specs.declared.outcomes.Outcome.{Outcome}
 use Rattle.rpki_command.specs.declared.outcomes.Outcome.TheVariants.{Success, Rejection}
-use Rattle.rpki_command.specs.GivenPaths.{QuestionFields}
+use Rattle.rpki_verdicts.specs.GivenPaths.{QuestionFields}
 use Rattle.rpki_command.proofs.verdicts.validated.Goals as goal
 
 module _ (x : Context) (members : List FileFields) (lists : List (List ℕ)) where

@@ -4,16 +4,16 @@ use Rattle.std.proofs.lemmas.Result.{IfOk-weaker}
 use Rattle.serde_json.specs.Data.{Data, string}
 use Rattle.rpki.specs.AddressBits.{is_prefix, prefix_bits}
 use Rattle.rpki.specs.Sets.{Block}
-use Rattle.rpki_command.specs.BlockLines.{address_text, family_text}
+use Rattle.rpki_text.specs.BlockLines.{family_address_text, family_text}
 use Rattle.rpki_command.specs.JsonBlocks.{ends_json, block_json}
 use Rattle.rpki_command.specs.JsonValues.{object_with}
-use Rattle.rpki_command.specs.declared.blocks.Family.{Family}
+use Rattle.rpki_text.specs.declared.blocks.Family.{Family}
 use Rattle.rpki_command.proofs.as_json.blocks.block.Goals as goal
 
 of_prefix : (family : Family) (b : Block) → is_prefix b (prefix_bits b) ≡ true → block_json family b ≡ object_with (codes "ip_prefix") (string (family_text family b))
 of_prefix family b is =
     ap (λ (yes : Bool). if yes then object_with (codes "ip_prefix") (string (family_text family b))
-    else object_with (codes "ip_range") (ends_json (string (address_text family b.min)) (string (address_text family b.max)))) is
+    else object_with (codes "ip_range") (ends_json (string (family_address_text family b.min)) (string (family_address_text family b.max)))) is
 
 pub returns-then-is_prefix : goal.returns-then-is_prefix
 returns-then-is_prefix c =

@@ -1,6 +1,6 @@
 use Rattle.std.proofs.Common.{◌++◌, [], map}
 use Rattle.rpki_command.specs.JsonBlocks.{numbers_json, block_json}
-use Rattle.rpki_command.specs.declared.blocks.Family.TheVariants.{V4, V6}
+use Rattle.rpki_text.specs.declared.blocks.Family.TheVariants.{V4, V6}
 use Rattle.rpki_command.proofs.PushedValues.{then_pushed, last_pushed, all_pushed}
 use Rattle.rpki_command.proofs.as_json.blocks.held.Goals as goal
 

@@ -1,7 +1,7 @@
 use Rattle.std.specs.Prelude.{codes}
 use Rattle.std.proofs.Common.{◌++◌, []}
 use Rattle.rpki_command.specs.JsonBlocks.{numbers_json, block_json, resource_items}
-use Rattle.rpki_command.specs.declared.blocks.Family.TheVariants.{V4, V6}
+use Rattle.rpki_text.specs.declared.blocks.Family.TheVariants.{V4, V6}
 use Rattle.rpki_command.proofs.PushedValues.{then_pushed, last_pushed, all_pushed}
 use Rattle.rpki_command.proofs.as_json.blocks.listed.Goals as goal
 

@@ -1,7 +1,7 @@
 use Rattle.std.specs.Prelude.{option_copied}
 use Rattle.std.proofs.Common.{subst}
 use Rattle.serde_json.specs.View.{view}
-use Rattle.rpki_command.specs.GivenPaths.{QuestionFields}
+use Rattle.rpki_verdicts.specs.GivenPaths.{QuestionFields}
 use Rattle.rpki_command.specs.JsonVerdicts.{IsVerdictJson, verdict_json}
 use Rattle.rpki_command.proofs.PutMembers.{then_put, last_put, object_made}
 use Rattle.rpki_command.proofs.as_json.verdicts.path.Goals as goal

@@ -1,7 +1,7 @@
 use Rattle.std.proofs.Common.{sym, ap, ◌∙◌}
 use Rattle.std.proofs.lemmas.Bool.{false≢true}
 use Rattle.serde_json.specs.Data.{string}
-use Rattle.rpki_command.specs.Files.{FileFields}
+use Rattle.rpki_files.specs.Files.{FileFields}
 use Rattle.rpki_command.proofs.NoLists.{list_named, other_named}
 use Rattle.rpki_command.proofs.as_json.verdicts.push_other.Goals as goal
 

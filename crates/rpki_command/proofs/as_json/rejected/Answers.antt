@@ -1,0 +1,13 @@
+use Rattle.rpki_command.specs.JsonFiles.{rejection_json}
+use Rattle.rpki_command.proofs.PutMembers.{then_put, last_put, object_made}
+use Rattle.rpki_command.proofs.as_json.rejected.Goals as goal
+
+pub returns : goal.returns
+unfolding rejection_json
+returns c =
+    object_made _ _ _ _ c.new-out.ensures
+    (then_put _ _ _ _ _ c.in_ok-head.ensures
+    (then_put _ _ _ _ _ c.in_ok-text.ensures
+    (then_put _ _ _ _ _ c.in_ok-put_rule.ensures
+    (last_put _ _ _ c.in_ok-put_place.ensures))))
+    c.into_value.ensures

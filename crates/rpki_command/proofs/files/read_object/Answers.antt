@@ -1,9 +1,0 @@
-use Rattle.std.proofs.Common.{rules}
-use Rattle.rpki_command.specs.PemFiles.{IsObjectOf}
-use Rattle.rpki_command.proofs.DerTexts.{taken_as_is}
-use Rattle.rpki_command.proofs.files.read_object.Goals as goal
-
-pub returns-clause-der : goal.returns-clause-der
-returns-clause-der c =
-    let object : IsObjectOf c.args.file.items c.in_ok-from_vec.field-0 = search rules in
-    taken_as_is c.args.file.items c.in_ok-from_vec.field-0 object

@@ -1,0 +1,7 @@
+-- Lemmas of the proofs about files.
+mod ContentReads
+mod DerTexts
+mod FirstInside
+mod FoundPolicies
+pub mod NothingRead
+mod PemLines

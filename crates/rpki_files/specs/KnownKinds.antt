@@ -1,0 +1,126 @@
+-- The kinds of extensions that certificates and lists know, by their identifiers.
+use Rattle.std.specs.Prelude.{ℕ, Bool, true, false, if◌then◌else◌, List, [], ◌∷◌, ◌++◌, bytes_eq, codes, Result, Ok, Err}
+use Rattle.rpki.specs.Addresses.{IsIPAddrBlocks}
+use Rattle.rpki.specs.DecodeError.{DecodeError}
+use Rattle.rpki.specs.Encoding.{Means}
+use Rattle.rpki.specs.ExtensionKinds.{basic_constraints, subject_key_identifier, authority_key_identifier, key_usage, extended_key_usage, crl_distribution_points, authority_information_access, subject_information_access, certificate_policies, ip_resources, as_resources, crl_number}
+use Rattle.rpki.specs.Kinds.{Flag, IsFlagFor, required}
+use Rattle.rpki.specs.Overclaim.TheVariants.{Refuse, Trim}
+use Rattle.rpki.specs.Place.{Rejects}
+use Rattle.rpki.specs.Systems.{IsASIdentifiers}
+use Rattle.rpki_files.specs.declared.kinds.Kind.{Kind}
+use Rattle.rpki_files.specs.declared.kinds.Kind.TheVariants as known
+
+-- the kind that stands beside an identifier, or another one where it stands nowhere
+abbrev pub kind_among : List (List ℕ × Kind) → Kind → List ℕ → Kind
+kind_among [] other id = other
+kind_among (named ∷ more) other id = if bytes_eq id named.0 then named.1 else kind_among more other id
+
+-- kinds that speak of the key and its use
+abbrev pub key_kinds : List (List ℕ × Kind)
+key_kinds =
+    (basic_constraints.identifier, known.BasicConstraints)
+    ∷ (subject_key_identifier.identifier, known.SubjectKeyIdentifier)
+    ∷ (authority_key_identifier.identifier, known.AuthorityKeyIdentifier)
+    ∷ (key_usage.identifier, known.KeyUsage)
+    ∷ (extended_key_usage.identifier, known.ExtendedKeyUsage)
+    ∷ []
+
+-- kinds that say where something is, and under which policy
+abbrev pub place_kinds : List (List ℕ × Kind)
+place_kinds =
+    (crl_distribution_points.identifier, known.CrlDistributionPoints)
+    ∷ (authority_information_access.identifier, known.AuthorityInformationAccess)
+    ∷ (subject_information_access.identifier, known.SubjectInformationAccess)
+    ∷ (certificate_policies.identifier, known.CertificatePolicies)
+    ∷ []
+
+-- kinds of resources, which have two identifiers each (RFC 8360 4.2)
+abbrev pub resource_kinds : List (List ℕ × Kind)
+resource_kinds =
+    ((ip_resources Refuse).identifier, known.IpResources)
+    ∷ ((ip_resources Trim).identifier, known.IpResources)
+    ∷ ((as_resources Refuse).identifier, known.AsResources)
+    ∷ ((as_resources Trim).identifier, known.AsResources)
+    ∷ []
+
+-- the kinds of a certificate
+abbrev pub known_in_certificates : List (List ℕ × Kind)
+known_in_certificates = key_kinds ++ (place_kinds ++ resource_kinds)
+
+-- the kinds of a list
+abbrev pub known_in_lists : List (List ℕ × Kind)
+known_in_lists =
+    (authority_key_identifier.identifier, known.AuthorityKeyIdentifier)
+    ∷ (crl_number.identifier, known.CrlNumber)
+    ∷ []
+
+-- the kind that an identifier names, in a list or in a certificate
+abbrev pub known_kind : Bool → List ℕ → Kind
+known_kind is_list id = if is_list then kind_among known_in_lists known.NoList id else kind_among known_in_certificates known.Unknown id
+
+-- the flag that extensions of a kind have in a certificate; an unknown one may not be critical
+abbrev pub certificate_flag : Kind → Flag
+certificate_flag known.BasicConstraints = basic_constraints.flag
+certificate_flag known.SubjectKeyIdentifier = subject_key_identifier.flag
+certificate_flag known.AuthorityKeyIdentifier = authority_key_identifier.flag
+certificate_flag known.KeyUsage = key_usage.flag
+certificate_flag known.ExtendedKeyUsage = extended_key_usage.flag
+certificate_flag known.CrlDistributionPoints = crl_distribution_points.flag
+certificate_flag known.AuthorityInformationAccess = authority_information_access.flag
+certificate_flag known.SubjectInformationAccess = subject_information_access.flag
+certificate_flag known.CertificatePolicies = certificate_policies.flag
+certificate_flag known.IpResources = (ip_resources Refuse).flag
+certificate_flag known.AsResources = (as_resources Refuse).flag
+certificate_flag known.CrlNumber = required false
+certificate_flag known.Unknown = required false
+certificate_flag known.NoList = required false
+
+-- the flag is one that an extension of the kind may have: in a list it isn't tested (own)
+abbrev pub MayHaveFlag : Bool → Kind → Bool → Type 0
+MayHaveFlag true kind critical = Unit {0}
+MayHaveFlag false kind critical = IsFlagFor (certificate_flag kind) critical
+
+-- the content begins with a value
+abbrev pub HasValue : {V : Type 0} → (V → List ℕ → Type 0) → List ℕ → Type 0
+HasValue {V} encodes content = (v : V) × Means encodes v content
+
+-- the content is one that extensions of the kind have; of those that aren't known it is any, and
+-- those that lists may not have have none
+abbrev pub HasContent : Kind → List ℕ → Type 0
+HasContent known.BasicConstraints content = HasValue basic_constraints.encodes content
+HasContent known.SubjectKeyIdentifier content = HasValue subject_key_identifier.encodes content
+HasContent known.AuthorityKeyIdentifier content = HasValue authority_key_identifier.encodes content
+HasContent known.KeyUsage content = HasValue key_usage.encodes content
+HasContent known.ExtendedKeyUsage content = HasValue extended_key_usage.encodes content
+HasContent known.CrlDistributionPoints content = HasValue crl_distribution_points.encodes content
+HasContent known.AuthorityInformationAccess content = HasValue authority_information_access.encodes content
+HasContent known.SubjectInformationAccess content = HasValue subject_information_access.encodes content
+HasContent known.CertificatePolicies content = HasValue certificate_policies.encodes content
+HasContent known.IpResources content = HasValue IsIPAddrBlocks content
+HasContent known.AsResources content = HasValue IsASIdentifiers content
+HasContent known.CrlNumber content = HasValue crl_number.encodes content
+HasContent known.Unknown content = Unit {0}
+HasContent known.NoList content = ⊥
+
+-- the answer on P: Ok where it holds, and an error where it doesn't, or where memory ran out
+abbrev pub SaysWhether : {X : Type 0} → Result X DecodeError → Type 0 → Type 0
+SaysWhether (Ok x) P = P
+SaysWhether (Err e) P = Rejects e (¬ P)
+
+-- the name of a kind (RFC 6487 4.8, 5)
+abbrev pub kind_name : Kind → List ℕ
+kind_name known.BasicConstraints = codes "Basic Constraints"
+kind_name known.SubjectKeyIdentifier = codes "Subject Key Identifier"
+kind_name known.AuthorityKeyIdentifier = codes "Authority Key Identifier"
+kind_name known.KeyUsage = codes "Key Usage"
+kind_name known.ExtendedKeyUsage = codes "Extended Key Usage"
+kind_name known.CrlDistributionPoints = codes "CRL Distribution Points"
+kind_name known.AuthorityInformationAccess = codes "Authority Information Access"
+kind_name known.SubjectInformationAccess = codes "Subject Information Access"
+kind_name known.CertificatePolicies = codes "Certificate Policies"
+kind_name known.IpResources = codes "IP Resources"
+kind_name known.AsResources = codes "AS Resources"
+kind_name known.CrlNumber = codes "CRL Number"
+kind_name known.Unknown = codes "an unknown extension"
+kind_name known.NoList = codes "an unknown extension"

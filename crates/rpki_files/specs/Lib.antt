@@ -1,0 +1,8 @@
+-- The definitions that the contracts of reading files cite.
+pub mod PemFiles
+pub mod Files
+pub mod Contents
+pub mod StopPlaces
+pub mod PolicyPresence
+pub mod FaultRules
+pub mod KnownKinds

@@ -1,0 +1,202 @@
+//! The kinds of extensions: their names, and whether one may stand as it stands.
+ghost use Rattle.std.specs.Prelude.{◌≡◌, ◌++◌, ◌↔◌, IsTrue, IsOk, MatchResult};
+ghost use Rattle.rpki.specs.Place.{remaining};
+ghost use Rattle.rpki_files.specs.KnownKinds.{kind_among, place_kinds, resource_kinds, known_in_certificates, known_in_lists, known_kind, kind_name, HasContent, MayHaveFlag, SaysWhether};
+ghost use Rattle.rpki_files.specs.declared.kinds.Kind.TheVariants.{Unknown, NoList};
+
+use rpki::der::{Cursor, DecodeError};
+use rpki::oid;
+use rpki::repository::extension::{
+    take_authority_information_access, take_authority_key_identifier, take_basic_constraints,
+    take_certificate_policies, take_crl_distribution_points, take_extended_key_usage,
+    take_key_usage, take_subject_information_access, take_subject_key_identifier,
+};
+use rpki::repository::resources::{AsResources, IpResources};
+use rpki::repository::x509::Serial;
+use std::alloc::Global;
+
+/// The kinds that certificates and lists know. Resources have two identifiers (RFC 8360 4.2).
+#[derive(Clone, Copy, PartialEq, Eq)]
+pub enum Kind {
+    BasicConstraints,
+    SubjectKeyIdentifier,
+    AuthorityKeyIdentifier,
+    KeyUsage,
+    ExtendedKeyUsage,
+    CrlDistributionPoints,
+    AuthorityInformationAccess,
+    SubjectInformationAccess,
+    CertificatePolicies,
+    IpResources,
+    AsResources,
+    CrlNumber,
+    /// One that certificates don't know.
+    Unknown,
+    /// One that lists may not have.
+    NoList,
+}
+
+fn of_key(identifier: &[u8]) -> Kind
+    ensures { result ≡ kind_among known_in_certificates Unknown identifier.now }
+{
+    if identifier == oid::CE_BASIC_CONSTRAINTS {
+        Kind::BasicConstraints
+    } else if identifier == oid::CE_SUBJECT_KEY_IDENTIFIER {
+        Kind::SubjectKeyIdentifier
+    } else if identifier == oid::CE_AUTHORITY_KEY_IDENTIFIER {
+        Kind::AuthorityKeyIdentifier
+    } else if identifier == oid::CE_KEY_USAGE {
+        Kind::KeyUsage
+    } else if identifier == oid::CE_EXTENDED_KEY_USAGE {
+        Kind::ExtendedKeyUsage
+    } else {
+        of_place(identifier)
+    }
+}
+
+fn of_place(identifier: &[u8]) -> Kind
+    ensures { result ≡ kind_among (place_kinds ++ resource_kinds) Unknown identifier.now }
+{
+    if identifier == oid::CE_CRL_DISTRIBUTION_POINTS {
+        Kind::CrlDistributionPoints
+    } else if identifier == oid::PE_AUTHORITY_INFO_ACCESS {
+        Kind::AuthorityInformationAccess
+    } else if identifier == oid::PE_SUBJECT_INFO_ACCESS {
+        Kind::SubjectInformationAccess
+    } else if identifier == oid::CE_CERTIFICATE_POLICIES {
+        Kind::CertificatePolicies
+    } else {
+        of_resources(identifier)
+    }
+}
+
+fn of_resources(identifier: &[u8]) -> Kind
+    ensures { result ≡ kind_among resource_kinds Unknown identifier.now }
+{
+    if identifier == oid::PE_IP_ADDR_BLOCK || identifier == oid::PE_IP_ADDR_BLOCK_V2 {
+        Kind::IpResources
+    } else if identifier == oid::PE_AUTONOMOUS_SYS_IDS
+        || identifier == oid::PE_AUTONOMOUS_SYS_IDS_V2
+    {
+        Kind::AsResources
+    } else {
+        Kind::Unknown
+    }
+}
+
+fn of_list(identifier: &[u8]) -> Kind
+    ensures { result ≡ kind_among known_in_lists NoList identifier.now }
+{
+    if identifier == oid::CE_AUTHORITY_KEY_IDENTIFIER {
+        Kind::AuthorityKeyIdentifier
+    } else if identifier == oid::CE_CRL_NUMBER {
+        Kind::CrlNumber
+    } else {
+        Kind::NoList
+    }
+}
+
+impl Kind {
+    /// Returns the kind that an identifier names in a list, or in a certificate.
+    pub fn of(identifier: &[u8], is_list: bool) -> Kind
+        ensures { result ≡ known_kind is_list identifier.now }
+    {
+        if is_list {
+            of_list(identifier)
+        } else {
+            of_key(identifier)
+        }
+    }
+
+    /// Returns its name, as RFC 6487 4.8 and 5 have it.
+    pub fn name(self) -> &'static str
+        ensures { result.now ≡ kind_name self }
+    {
+        match self {
+            Kind::BasicConstraints => "Basic Constraints",
+            Kind::SubjectKeyIdentifier => "Subject Key Identifier",
+            Kind::AuthorityKeyIdentifier => "Authority Key Identifier",
+            Kind::KeyUsage => "Key Usage",
+            Kind::ExtendedKeyUsage => "Extended Key Usage",
+            Kind::CrlDistributionPoints => "CRL Distribution Points",
+            Kind::AuthorityInformationAccess => "Authority Information Access",
+            Kind::SubjectInformationAccess => "Subject Information Access",
+            Kind::CertificatePolicies => "Certificate Policies",
+            Kind::IpResources => "IP Resources",
+            Kind::AsResources => "AS Resources",
+            Kind::CrlNumber => "CRL Number",
+            Kind::Unknown | Kind::NoList => "an unknown extension",
+        }
+    }
+
+    // Whether an extension of this kind may have this flag. In lists, and of resources, it isn't
+    // tested.
+    fn may_be(self, is_list: bool, critical: bool) -> bool
+        ensures { IsTrue result ↔ MayHaveFlag is_list self critical }
+    {
+        if is_list {
+            return true;
+        }
+        match self {
+            Kind::BasicConstraints | Kind::KeyUsage | Kind::CertificatePolicies => critical,
+            Kind::IpResources | Kind::AsResources => true,
+            _ => !critical,
+        }
+    }
+
+    /// Reads an extension with this flag and this content in a list, or in a certificate. Fails
+    /// where the flag is another one or the content has another form; which error it is doesn't
+    /// matter but for `Memory`.
+    pub fn read(
+        self,
+        alloc: Global,
+        is_list: bool,
+        critical: bool,
+        content: &mut Cursor<'_>,
+    ) -> Result<(), DecodeError>
+        ensures { SaysWhether result (MayHaveFlag is_list self critical
+            × HasContent self (remaining content.old)) }
+    {
+        if self.may_be(is_list, critical) {
+            self.take(alloc, content)
+        } else {
+            Err(DecodeError::BadValue)
+        }
+    }
+
+    fn take(self, alloc: Global, content: &mut Cursor<'_>) -> Result<(), DecodeError>
+        ensures { SaysWhether result (HasContent self (remaining content.old)) }
+    {
+        match self {
+            Kind::BasicConstraints => without_value(take_basic_constraints(content)),
+            Kind::SubjectKeyIdentifier => without_value(take_subject_key_identifier(content)),
+            Kind::AuthorityKeyIdentifier => without_value(take_authority_key_identifier(content)),
+            Kind::KeyUsage => without_value(take_key_usage(content)),
+            Kind::ExtendedKeyUsage => without_value(take_extended_key_usage(alloc, content)),
+            Kind::CrlDistributionPoints => {
+                without_value(take_crl_distribution_points(alloc, content))
+            }
+            Kind::AuthorityInformationAccess => {
+                without_value(take_authority_information_access(alloc, content))
+            }
+            Kind::SubjectInformationAccess => {
+                without_value(take_subject_information_access(alloc, content))
+            }
+            Kind::CertificatePolicies => without_value(take_certificate_policies(content)),
+            Kind::IpResources => without_value(IpResources::take_families_from(alloc, content)),
+            Kind::AsResources => without_value(AsResources::take_from(alloc, content)),
+            Kind::CrlNumber => without_value(Serial::take_from(content)),
+            Kind::Unknown => Ok(()),
+            Kind::NoList => Err(DecodeError::BadValue),
+        }
+    }
+}
+
+// Whether a value was read.
+fn without_value<T: Drop>(read: Result<T, DecodeError>) -> Result<(), DecodeError>
+    ensures { MatchResult read (λ _. IsOk result) (λ e. result ≡ Err e) }
+{
+    let value = read?;
+    drop(value);
+    Ok(())
+}

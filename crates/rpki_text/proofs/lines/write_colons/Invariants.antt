@@ -1,0 +1,10 @@
+use Rattle.std.proofs.Common.{take}
+use Rattle.std.specs.Fmt.{HasWritten, IsPlainFormatter}
+use Rattle.std.specs.List.{flat_map}
+use Rattle.std.specs.Prelude.{◌∷◌, ◌++◌, [], codes}
+use Rattle.rpki.specs.Texts.{hexadecimal}
+use Rattle.rpki_text.proofs.lines.write_colons.Given as goal
+
+abbrev pub invariant-loop-octet : goal.invariant-loop-octet
+invariant-loop-octet g l =
+    IsPlainFormatter l.initial.f → HasWritten g.W.Write.write_str_gives l.initial.f (flat_map (λ more. codes ":" ++ hexadecimal (more ∷ [])) (take l.octet-index l.more)) l.f

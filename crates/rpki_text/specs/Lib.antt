@@ -1,0 +1,7 @@
+-- The definitions that the contracts of printing cite.
+pub mod MomentTexts
+pub mod Pages
+pub mod Periods
+pub mod BlockLines
+pub mod ListTexts
+pub mod CertificateTexts

@@ -1,0 +1,61 @@
+-- How the command lays out what it prints: labels, and values from column 26 on.
+use Rattle.std.specs.Fmt.{decimal}
+use Rattle.std.specs.List.{flat_map}
+use Rattle.std.specs.Option.{option_map}
+use Rattle.std.specs.Prelude.{◌≡◌, ℕ, ◌-◌, ◌==◌, ◌&&◌, not, if◌then◌else◌, List, [], ◌∷◌, ◌++◌, length, replicate, codes, Option, Some, None, ◌⊎◌}
+use Rattle.rpki.specs.NameTexts.{is_visible}
+use Rattle.rpki.specs.Texts.{hexadecimal}
+
+-- ---- a page: the text so far, or nothing once memory has run out
+
+-- new is old with the text appended, or memory has run out
+abbrev pub Appends : Option (List ℕ) → List ℕ → Option (List ℕ) → Type 0
+Appends old text new = (new ≡ option_map (λ so_far. so_far ++ text) old) ⊎ (new ≡ None)
+
+-- new is old with some text appended of which this holds, or memory has run out
+abbrev pub AppendsSome : (List ℕ → Type 0) → Option (List ℕ) → Option (List ℕ) → Type 0
+AppendsSome Holds old new =
+    ((text : List ℕ) × Holds text × (new ≡ option_map (λ so_far. so_far ++ text) old)) ⊎ (new ≡ None)
+
+-- ---- lines
+
+-- a line feed
+abbrev pub line_feed : List ℕ
+line_feed = 10 ∷ []
+
+-- a label, a colon, and spaces up to column 26
+abbrev pub label_text : List ℕ → List ℕ
+label_text label = label ++ codes ":" ++ replicate (25 - length label) 32
+
+-- a line: a label and its value
+unfoldable pub line : List ℕ → List ℕ → List ℕ
+line label value = label_text label ++ value ++ line_feed
+
+-- a further line of the label above it
+unfoldable pub further_line : List ℕ → List ℕ
+further_line value = replicate 26 32 ++ value ++ line_feed
+
+-- a line, where there is a value
+abbrev pub line_if_any : List ℕ → Option (List ℕ) → List ℕ
+line_if_any label None = []
+line_if_any label (Some value) = line label value
+
+-- ---- values
+
+-- a number and what is counted, which has one name for one and another for others
+abbrev pub count_text : ℕ → List ℕ → List ℕ → List ℕ
+count_text n one others = decimal n ++ (if n == 1 then one else others)
+
+-- octets in two hexadecimal digits each, with colons between them
+abbrev pub colons_text : List ℕ → List ℕ
+colons_text [] = []
+colons_text (octet ∷ octets) = hexadecimal (octet ∷ []) ++ flat_map (λ more. codes ":" ++ hexadecimal (more ∷ [])) octets
+
+-- a visible character of ASCII, or a space, as it stands; a backslash, and any other octet, as `\x`
+-- and two hexadecimal digits
+abbrev pub character_text : ℕ → List ℕ
+character_text octet = if is_visible octet && not (octet == 92) then octet ∷ [] else 92 ∷ 120 ∷ hexadecimal (octet ∷ [])
+
+-- octets as characters
+abbrev pub characters_text : List ℕ → List ℕ
+characters_text octets = flat_map character_text octets

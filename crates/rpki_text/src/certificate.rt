@@ -1,0 +1,376 @@
+//! A certificate for a person.
+ghost use Rattle.std.specs.Prelude.{◌≡◌, ◌++◌, Some, codes, option_map};
+ghost use Rattle.std.specs.Fmt.{WritesOnOk};
+ghost use Rattle.rpki.specs.Kind.{Kind as Profile};
+ghost use Rattle.rpki.specs.Kind.TheVariants.{Anchor, Authority, EndEntity, Detached, Router};
+ghost use Rattle.rpki.specs.Texts.{serial_text};
+ghost use Rattle.rpki_text.specs.Pages.{Appends, line, line_if_any, colons_text};
+ghost use Rattle.rpki_text.specs.CertificateTexts.{IsAnswer, AreAnswers, met_kind_text, answer_text, profile_line, algorithm_text, key_text, usage_text, policy_text, uri_line, names_text, validity_text, keys_text, places_text, resources_text, details_text, profiles_text, certificate_text};
+
+use crate::blocks::{Family, write_as_resources, write_ip_resources};
+use crate::lines::{Characters, Colons, write_line};
+use crate::list::write_signature;
+use crate::moments::Period;
+use crate::page::Page;
+use rpki::crypto::{KeyIdentifier, PublicKey, PublicKeyFormat};
+use rpki::repository::cert::{Cert, KeyUsage, Overclaim, TbsCert};
+use rpki::repository::error::InspectionError;
+use rpki::repository::x509::{Serial, Time, Validity};
+use rpki::uri::{Https, Rsync};
+use std::fmt;
+
+/// Prints the serial number in hexadecimal, without zeros before it but in whole octets.
+pub fn serial(page: &mut Page, it: Serial)
+    ensures { Appends page.old (serial_text it) page.new }
+{
+    page.value(&it);
+}
+
+/// Prints the identifier of a key.
+pub fn key_identifier(page: &mut Page, it: &KeyIdentifier)
+    ensures { Appends page.old (colons_text it.now) page.new }
+{
+    page.value(&Colons(it.as_octets().as_slice()));
+}
+
+/// What inspection answers for each kind: nothing where the profile is met, else the first fault.
+#[derive(Clone, Copy)]
+pub struct Answers {
+    pub anchor: Option<InspectionError>,
+    pub authority: Option<InspectionError>,
+    pub end_entity: Option<InspectionError>,
+    pub detached: Option<InspectionError>,
+    pub router: Option<InspectionError>,
+}
+
+fn anchor_fault(cert: &Cert, strict: bool) -> Option<InspectionError>
+    ensures { IsAnswer Anchor strict cert.now result }
+{
+    match cert.inspect_ta(strict) {
+        Ok(()) => None,
+        Err(fault) => Some(fault),
+    }
+}
+
+fn authority_fault(cert: &Cert, strict: bool) -> Option<InspectionError>
+    ensures { IsAnswer Authority strict cert.now result }
+{
+    match cert.inspect_ca(strict) {
+        Ok(()) => None,
+        Err(fault) => Some(fault),
+    }
+}
+
+fn end_entity_fault(cert: &Cert, strict: bool) -> Option<InspectionError>
+    ensures { IsAnswer EndEntity strict cert.now result }
+{
+    match cert.inspect_ee(strict) {
+        Ok(()) => None,
+        Err(fault) => Some(fault),
+    }
+}
+
+fn detached_fault(cert: &Cert, strict: bool) -> Option<InspectionError>
+    ensures { IsAnswer Detached strict cert.now result }
+{
+    match cert.inspect_detached_ee(strict) {
+        Ok(()) => None,
+        Err(fault) => Some(fault),
+    }
+}
+
+fn router_fault(cert: &Cert, strict: bool) -> Option<InspectionError>
+    ensures { IsAnswer Router strict cert.now result }
+{
+    match cert.inspect_router(strict) {
+        Ok(()) => None,
+        Err(fault) => Some(fault),
+    }
+}
+
+/// Returns what inspection answers for each kind.
+pub fn answers_of(cert: &Cert, strict: bool) -> Answers
+    ensures { AreAnswers strict cert.now result }
+{
+    Answers {
+        anchor: anchor_fault(cert, strict),
+        authority: authority_fault(cert, strict),
+        end_entity: end_entity_fault(cert, strict),
+        detached: detached_fault(cert, strict),
+        router: router_fault(cert, strict),
+    }
+}
+
+#[tactic(auto, unfolding(crate::specs::CertificateTexts::met_kind_text))]
+fn kind_name(answers: &Answers) -> &'static str
+    ensures { result.now ≡ met_kind_text answers.now }
+{
+    if answers.anchor.is_none() {
+        "trust anchor"
+    } else if answers.authority.is_none() {
+        "authority (CA)"
+    } else if answers.end_entity.is_none() {
+        "end entity"
+    } else if answers.detached.is_none() {
+        "detached end entity"
+    } else if answers.router.is_none() {
+        "BGPsec router"
+    } else {
+        "none: it meets no profile"
+    }
+}
+
+/// Returns the kind whose profile the certificate meets; no two are met at once but the two of end
+/// entities.
+pub fn kind_of(cert: &Cert, strict: bool) -> &'static str
+    ensures { (answers : _) × AreAnswers strict cert.now answers × (result.now ≡ met_kind_text answers) }
+{
+    kind_name(&answers_of(cert, strict))
+}
+
+#[tactic(auto, unfolding(crate::specs::CertificateTexts::names_text))]
+fn write_names<W: fmt::Write>(f: &mut fmt::Formatter<W>, fields: &TbsCert) -> fmt::Result
+    ensures { WritesOnOk W.write_str_gives f.old result (names_text fields.now) f.new }
+{
+    write_line(f, "Serial number", &fields.serial_number())?;
+    write_line(f, "Issuer", fields.issuer())?;
+    write_line(f, "Subject", fields.subject())
+}
+
+#[tactic(auto, unfolding(crate::specs::CertificateTexts::validity_text))]
+fn write_validity<W: fmt::Write>(
+    f: &mut fmt::Formatter<W>,
+    validity: Validity,
+    now: Time,
+) -> fmt::Result
+    ensures { WritesOnOk W.write_str_gives f.old result (validity_text validity now) f.new }
+{
+    let period = Period {
+        over: "expired",
+        from: validity.not_before(),
+        until: validity.not_after(),
+        at: now,
+    };
+    write_line(f, "Valid from", &period.from)?;
+    write_line(f, "Valid until", &period)
+}
+
+// A key: its algorithm, and how many octets it has.
+#[derive(Drop)]
+struct Key<'a>(&'a PublicKey);
+
+fn algorithm_name(format: PublicKeyFormat) -> &'static str
+    ensures { result.now ≡ algorithm_text format }
+{
+    match format {
+        PublicKeyFormat::Rsa => "RSA, ",
+        PublicKeyFormat::EcdsaP256 => "ECDSA P-256, ",
+    }
+}
+
+impl fmt::Display for Key<'_> {
+    ghost output = { λ key. Some (key_text key.0.now) };
+
+    fn fmt<W: fmt::Write>(&self, f: &mut fmt::Formatter<W>) -> fmt::Result {
+        f.write_str(algorithm_name(self.0.algorithm()))?;
+        let count = self.0.bits().len();
+        write!(f, "{count} octets")
+    }
+}
+
+fn usage_name(usage: KeyUsage) -> &'static str
+    ensures { result.now ≡ usage_text usage }
+{
+    match usage {
+        KeyUsage::Ca => "keyCertSign, cRLSign",
+        KeyUsage::Ee => "digitalSignature",
+    }
+}
+
+/// Writes the line of a key's identifier.
+pub fn write_key_identifier<W: fmt::Write>(
+    f: &mut fmt::Formatter<W>,
+    label: &str,
+    it: &KeyIdentifier,
+) -> fmt::Result
+    ensures { WritesOnOk W.write_str_gives f.old result
+        (line label.now (colons_text it.now)) f.new }
+{
+    write_line(f, label, &Colons(it.as_octets().as_slice()))
+}
+
+// The line of the issuer's key, where its identifier is there.
+fn write_authority_key<W: fmt::Write>(
+    f: &mut fmt::Formatter<W>,
+    identifier: Option<KeyIdentifier>,
+) -> fmt::Result
+    ensures { WritesOnOk W.write_str_gives f.old result
+        (line_if_any (codes "Authority key identifier") (option_map colons_text identifier)) f.new }
+{
+    match identifier {
+        Some(identifier) => write_key_identifier(f, "Authority key identifier", &identifier),
+        None => Ok(()),
+    }
+}
+
+#[tactic(auto, unfolding(crate::specs::CertificateTexts::keys_text))]
+fn write_keys<W: fmt::Write>(f: &mut fmt::Formatter<W>, fields: &TbsCert) -> fmt::Result
+    ensures { WritesOnOk W.write_str_gives f.old result (keys_text fields.now) f.new }
+{
+    let key = Key(fields.subject_public_key_info());
+    let identifier = fields.subject_key_identifier();
+    write_line(f, "Key", &key)?;
+    write_key_identifier(f, "Subject key identifier", &identifier)?;
+    write_authority_key(f, fields.authority_key_identifier())?;
+    write_line(f, "Key usage", &usage_name(fields.key_usage()))
+}
+
+fn write_rsync<W: fmt::Write>(
+    f: &mut fmt::Formatter<W>,
+    label: &str,
+    uri: Option<&Rsync>,
+) -> fmt::Result
+    ensures { let octets = option_map (λ it. it.now) uri.entry in
+        WritesOnOk W.write_str_gives f.old result (uri_line label.now octets) f.new }
+{
+    match uri {
+        Some(uri) => write_line(f, label, &Characters(uri.as_bytes())),
+        None => Ok(()),
+    }
+}
+
+fn write_https<W: fmt::Write>(
+    f: &mut fmt::Formatter<W>,
+    label: &str,
+    uri: Option<&Https>,
+) -> fmt::Result
+    ensures { let octets = option_map (λ it. it.now) uri.entry in
+        WritesOnOk W.write_str_gives f.old result (uri_line label.now octets) f.new }
+{
+    match uri {
+        Some(uri) => write_line(f, label, &Characters(uri.as_bytes())),
+        None => Ok(()),
+    }
+}
+
+#[tactic(auto, unfolding(crate::specs::CertificateTexts::places_text))]
+fn write_places<W: fmt::Write>(f: &mut fmt::Formatter<W>, fields: &TbsCert) -> fmt::Result
+    ensures { WritesOnOk W.write_str_gives f.old result (places_text fields.now.extensions) f.new }
+{
+    write_rsync(f, "Authority info access", fields.ca_issuer())?;
+    write_rsync(f, "Revocation list", fields.crl_uri())?;
+    write_rsync(f, "Repository", fields.ca_repository())?;
+    write_rsync(f, "Manifest", fields.rpki_manifest())?;
+    write_rsync(f, "Signed object", fields.signed_object())?;
+    write_https(f, "Notify URL", fields.rpki_notify())
+}
+
+fn overclaim_name(overclaim: Overclaim) -> &'static str
+    ensures { result.now ≡ policy_text overclaim }
+{
+    match overclaim {
+        Overclaim::Refuse => "refused (RFC 6484 policy)",
+        Overclaim::Trim => "trimmed (RFC 8360 policy)",
+    }
+}
+
+#[tactic(auto, unfolding(crate::specs::CertificateTexts::resources_text))]
+fn write_resources<W: fmt::Write>(f: &mut fmt::Formatter<W>, fields: &TbsCert) -> fmt::Result
+    ensures { WritesOnOk W.write_str_gives f.old result
+        (resources_text fields.now.extensions) f.new }
+{
+    write_line(
+        f,
+        "Overclaimed resources",
+        &overclaim_name(fields.overclaim()),
+    )?;
+    write_ip_resources(f, "IPv4", Family::V4, fields.v4_resources())?;
+    write_ip_resources(f, "IPv6", Family::V6, fields.v6_resources())?;
+    write_as_resources(f, "AS numbers", fields.as_resources())
+}
+
+// What the profile of a kind says.
+#[derive(Drop)]
+struct Answer {
+    kind: &'static str,
+    fault: Option<InspectionError>,
+}
+
+impl fmt::Display for Answer {
+    ghost output = { λ a. Some (a.kind.now ++ (codes ": " ++ answer_text a.fault)) };
+
+    fn fmt<W: fmt::Write>(&self, f: &mut fmt::Formatter<W>) -> fmt::Result {
+        f.write_str(self.kind)?;
+        f.write_str(": ")?;
+        match self.fault {
+            None => f.write_str("met"),
+            Some(fault) => f.write_str(fault.name()),
+        }
+    }
+}
+
+#[tactic(auto, unfolding(crate::specs::CertificateTexts::profile_line))]
+fn write_profile<W: fmt::Write>(
+    f: &mut fmt::Formatter<W>,
+    kind: &'static str,
+    fault: Option<InspectionError>,
+) -> fmt::Result
+    ensures { WritesOnOk W.write_str_gives f.old result (profile_line kind.now fault) f.new }
+{
+    write_line(f, "Profile", &Answer { kind, fault })
+}
+
+#[tactic(auto, unfolding(crate::specs::CertificateTexts::profiles_text))]
+fn write_profiles<W: fmt::Write>(f: &mut fmt::Formatter<W>, answers: &Answers) -> fmt::Result
+    ensures { WritesOnOk W.write_str_gives f.old result (profiles_text answers.now) f.new }
+{
+    write_profile(f, "trust anchor", answers.anchor)?;
+    write_profile(f, "authority", answers.authority)?;
+    write_profile(f, "end entity", answers.end_entity)?;
+    write_profile(f, "detached end entity", answers.detached)?;
+    write_profile(f, "router", answers.router)
+}
+
+// The parts of a certificate.
+#[tactic(auto, unfolding(crate::specs::CertificateTexts::details_text))]
+fn write_parts<W: fmt::Write>(f: &mut fmt::Formatter<W>, fields: &TbsCert) -> fmt::Result
+    ensures { WritesOnOk W.write_str_gives f.old result (details_text fields.now) f.new }
+{
+    write_keys(f, fields)?;
+    write_places(f, fields)?;
+    write_resources(f, fields)
+}
+
+// A certificate at a moment, with what inspection answers.
+#[derive(Drop)]
+struct ShownCertificate<'a> {
+    fields: &'a TbsCert,
+    at: Time,
+    answers: Answers,
+}
+
+impl fmt::Display for ShownCertificate<'_> {
+    ghost output = { λ shown. Some (certificate_text shown.fields.now shown.at shown.answers) };
+
+    #[tactic(auto, unfolding(crate::specs::CertificateTexts::certificate_text))]
+    fn fmt<W: fmt::Write>(&self, f: &mut fmt::Formatter<W>) -> fmt::Result {
+        write_line(f, "Kind", &kind_name(&self.answers))?;
+        write_names(f, self.fields)?;
+        write_validity(f, self.fields.validity(), self.at)?;
+        write_parts(f, self.fields)?;
+        write_profiles(f, &self.answers)?;
+        write_signature(f)
+    }
+}
+
+/// Prints a certificate at a moment, and what inspection answers for each kind.
+pub fn certificate(page: &mut Page, cert: &Cert, now: Time, strict: bool)
+    ensures { (answers : _) × AreAnswers strict cert.now answers
+        × Appends page.old (certificate_text cert.now.fields now answers) page.new }
+{
+    page.value(&ShownCertificate {
+        fields: cert.as_tbs(),
+        at: now,
+        answers: answers_of(cert, strict),
+    });
+}

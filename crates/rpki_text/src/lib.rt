@@ -1,0 +1,12 @@
+//! Certificates and revocation lists as text for a person: lines of labels and values.
+#![tactic(auto)]
+
+pub mod blocks;
+pub mod certificate;
+mod lines;
+pub mod list;
+pub mod moments;
+pub mod names;
+mod page;
+
+pub use page::Page;

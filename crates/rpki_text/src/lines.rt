@@ -1,0 +1,149 @@
+//! Lines: labels, and values from column 26 on.
+ghost use Rattle.std.specs.Prelude.{[], ◌∷◌, Some, IfSome, replicate};
+ghost use Rattle.std.specs.Fmt.{WritesOnOk};
+ghost use Rattle.rpki.specs.Texts.{hexadecimal};
+ghost use Rattle.rpki_text.specs.Pages.{label_text, line, further_line, count_text, colons_text, character_text, characters_text};
+
+use std::fmt;
+
+// So many spaces.
+fn write_spaces<W: fmt::Write>(f: &mut fmt::Formatter<W>, count: usize) -> fmt::Result
+    ensures { WritesOnOk W.write_str_gives f.old result (replicate count 32) f.new }
+{
+    for _column in 0..count {
+        f.write_str(" ")?;
+    }
+    Ok(())
+}
+
+// A label, padded to the column of values.
+fn write_label<W: fmt::Write>(f: &mut fmt::Formatter<W>, label: &str) -> fmt::Result
+    ensures { WritesOnOk W.write_str_gives f.old result (label_text label.now) f.new }
+{
+    f.write_str(label)?;
+    f.write_str(":")?;
+    write_spaces(f, 25usize.saturating_sub(label.len()))
+}
+
+/// Writes a line: a label and the text of a value.
+#[tactic(auto, unfolding(crate::specs::Pages::line))]
+pub fn write_line<W: fmt::Write, T: fmt::Display>(
+    f: &mut fmt::Formatter<W>,
+    label: &str,
+    value: &T,
+) -> fmt::Result
+    ensures { IfSome (T.output value.now) (λ text.
+        WritesOnOk W.write_str_gives f.old result (line label.now text) f.new) }
+{
+    write_label(f, label)?;
+    write!(f, "{value}\n")
+}
+
+/// Writes a further line of the label above it.
+#[tactic(auto, unfolding(crate::specs::Pages::further_line))]
+pub fn write_further_line<W: fmt::Write, T: fmt::Display>(
+    f: &mut fmt::Formatter<W>,
+    value: &T,
+) -> fmt::Result
+    ensures { IfSome (T.output value.now) (λ text.
+        WritesOnOk W.write_str_gives f.old result (further_line text) f.new) }
+{
+    write_spaces(f, 26)?;
+    write!(f, "{value}\n")
+}
+
+/// A label, padded to the column of values.
+#[derive(Drop)]
+pub struct Label<'a>(pub &'a str);
+
+impl fmt::Display for Label<'_> {
+    ghost output = { λ label. Some (label_text label.0.now) };
+
+    fn fmt<W: fmt::Write>(&self, f: &mut fmt::Formatter<W>) -> fmt::Result {
+        write_label(f, self.0)
+    }
+}
+
+/// A number and what is counted, which has one name for one and another for others.
+#[derive(Drop)]
+pub struct Count<'a> {
+    pub number: u64,
+    pub one: &'a str,
+    pub others: &'a str,
+}
+
+impl fmt::Display for Count<'_> {
+    ghost output = { λ count. Some (count_text count.number count.one.now count.others.now) };
+
+    fn fmt<W: fmt::Write>(&self, f: &mut fmt::Formatter<W>) -> fmt::Result {
+        let number = self.number;
+        write!(f, "{number}")?;
+        f.write_str(if number == 1 { self.one } else { self.others })
+    }
+}
+
+// An octet in two hexadecimal digits.
+#[tactic(auto, using(std::proofs::lemmas::Fmt::hex_byte))]
+fn write_octet<W: fmt::Write>(f: &mut fmt::Formatter<W>, octet: u8) -> fmt::Result
+    ensures { WritesOnOk W.write_str_gives f.old result (hexadecimal (octet ∷ [])) f.new }
+{
+    write!(f, "{octet:02X}")
+}
+
+fn write_colons<W: fmt::Write>(f: &mut fmt::Formatter<W>, octets: &[u8]) -> fmt::Result
+    ensures { WritesOnOk W.write_str_gives f.old result (colons_text octets.now) f.new }
+{
+    let Some((first, more)) = octets.split_first() else {
+        return Ok(());
+    };
+    write_octet(f, *first)?;
+    for octet in more {
+        f.write_str(":")?;
+        write_octet(f, *octet)?;
+    }
+    Ok(())
+}
+
+/// Octets in hexadecimal, with colons between them.
+#[derive(Drop)]
+pub struct Colons<'a>(pub &'a [u8]);
+
+impl fmt::Display for Colons<'_> {
+    ghost output = { λ octets. Some (colons_text octets.0.now) };
+
+    fn fmt<W: fmt::Write>(&self, f: &mut fmt::Formatter<W>) -> fmt::Result {
+        write_colons(f, self.0)
+    }
+}
+
+fn write_character<W: fmt::Write>(f: &mut fmt::Formatter<W>, octet: u8) -> fmt::Result
+    ensures { WritesOnOk W.write_str_gives f.old result (character_text octet) f.new }
+{
+    if octet > 31 && octet < 127 && octet != b'\\' {
+        f.write_char(char::from(octet))
+    } else {
+        f.write_str("\\x")?;
+        write_octet(f, octet)
+    }
+}
+
+fn write_characters<W: fmt::Write>(f: &mut fmt::Formatter<W>, octets: &[u8]) -> fmt::Result
+    ensures { WritesOnOk W.write_str_gives f.old result (characters_text octets.now) f.new }
+{
+    for octet in octets {
+        write_character(f, *octet)?;
+    }
+    Ok(())
+}
+
+/// Octets as characters: visible ones of ASCII as they stand, a backslash and all others as `\xHH`.
+#[derive(Drop)]
+pub struct Characters<'a>(pub &'a [u8]);
+
+impl fmt::Display for Characters<'_> {
+    ghost output = { λ octets. Some (characters_text octets.0.now) };
+
+    fn fmt<W: fmt::Write>(&self, f: &mut fmt::Formatter<W>) -> fmt::Result {
+        write_characters(f, self.0)
+    }
+}

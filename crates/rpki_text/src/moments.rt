@@ -1,0 +1,148 @@
+//! Moments as text, as seconds, and what is said of a period at a moment.
+ghost use Rattle.std.specs.Prelude.{◌≡◌, ◌↔◌, ◌<◌, ◌^◌, Some, IfSome, IfNone, IsTrue, length, pos};
+ghost use Rattle.std.specs.Fmt.{WritesOnOk};
+ghost use Rattle.rpki.specs.Texts.{time_text};
+ghost use Rattle.rpki.specs.Times.{Moment, IsMoment};
+ghost use Rattle.rpki.specs.Timestamps.{timestamp};
+ghost use Rattle.rpki_text.specs.MomentTexts.{date_digits, all_digits, IsDateText, HasMarks, IsMomentText};
+ghost use Rattle.rpki_text.specs.Periods.{day, days_between, state_text, end_text};
+
+use crate::lines::Count;
+use rpki::repository::x509::Time;
+use std::fmt;
+
+fn day(time: Time) -> i64
+    ensures { result ≡ day time }
+{
+    time.timestamp().div_euclid(86_400)
+}
+
+fn days_between(one: Time, other: Time) -> u64
+    ensures { result ≡ days_between one other }
+{
+    day(one).abs_diff(day(other))
+}
+
+/// A period at a moment, with the word for a period that is over. It is shown as its end, and what
+/// is said of it: `2026-11-25T06:00:00Z (valid for 3 days)`.
+#[derive(Drop)]
+pub struct Period {
+    pub over: &'static str,
+    pub from: Time,
+    pub until: Time,
+    pub at: Time,
+}
+
+fn write_state<W: fmt::Write>(f: &mut fmt::Formatter<W>, it: &Period) -> fmt::Result
+    ensures { WritesOnOk W.write_str_gives f.old result
+        (state_text it.now.over.now it.now.from it.now.until it.now.at) f.new }
+{
+    if it.until < it.at {
+        return f.write_str(it.over);
+    }
+    if it.at < it.from {
+        return f.write_str("not yet valid");
+    }
+    let days = Count {
+        number: days_between(it.until, it.at),
+        one: " day",
+        others: " days",
+    };
+    write!(f, "valid for {days}")
+}
+
+impl fmt::Display for Period {
+    ghost output = { λ p. Some (end_text p.over.now p.from p.until p.at) };
+
+    #[tactic(auto, unfolding(crate::specs::Periods::end_text))]
+    fn fmt<W: fmt::Write>(&self, f: &mut fmt::Formatter<W>) -> fmt::Result {
+        let until = self.until;
+        write!(f, "{until} (")?;
+        write_state(f, self)?;
+        f.write_str(")")
+    }
+}
+
+/// Returns the moment so many seconds from 1970-01-01T00:00:00Z, which is what a clock gives.
+pub fn from_seconds(seconds: u64) -> Option<Time>
+    ensures some { IfSome result (λ t. IsMoment t × (timestamp t ≡ pos seconds)) }
+    ensures none { seconds < 2 ^ 63
+        → IfNone result ((t : Moment) → IsMoment t → timestamp t ≡ pos seconds → ⊥) }
+{
+    match i64::try_from(seconds) {
+        Ok(seconds) => Time::from_timestamp(seconds),
+        Err(_) => None,
+    }
+}
+
+// The digits of `YYYY-MM-DD`, and those of midnight.
+fn date_digits(text: &[u8]) -> [u8; 14]
+    requires { length text.now ≡ 10 }
+    ensures { result ≡ date_digits text.now }
+{
+    [
+        text[0], text[1], text[2], text[3], text[5], text[6], text[8], text[9], b'0', b'0', b'0',
+        b'0', b'0', b'0',
+    ]
+}
+
+// The moment of `YYYY-MM-DD`, at midnight.
+fn from_date(text: &[u8]) -> Option<Time>
+    ensures some { IfSome result (λ t. IsMoment t × IsDateText t text.now) }
+    ensures none { IfNone result ((t : Moment) → IsMoment t → IsDateText t text.now → ⊥) }
+{
+    if text.len() != 10 || text[4] != b'-' || text[7] != b'-' {
+        return None;
+    }
+    let digits = date_digits(text);
+    Time::from_digits(&digits)
+}
+
+// Whether the marks between the digits of `YYYY-MM-DDThh:mm:ssZ` stand in their places.
+fn has_marks(text: &[u8]) -> bool
+    ensures { IsTrue result ↔ HasMarks text.now }
+{
+    text.len() == 20
+        && text[4] == b'-'
+        && text[7] == b'-'
+        && text[10] == b'T'
+        && text[13] == b':'
+        && text[16] == b':'
+        && text[19] == b'Z'
+}
+
+// The digits of `YYYY-MM-DDThh:mm:ssZ`.
+fn all_digits(text: &[u8]) -> [u8; 14]
+    requires { length text.now ≡ 20 }
+    ensures { result ≡ all_digits text.now }
+{
+    [
+        text[0], text[1], text[2], text[3], text[5], text[6], text[8], text[9], text[11], text[12],
+        text[14], text[15], text[17], text[18],
+    ]
+}
+
+// The moment of `YYYY-MM-DDThh:mm:ssZ`.
+fn from_date_and_clock(text: &[u8]) -> Option<Time>
+    ensures some { IfSome result (λ t. IsMoment t × (text.now ≡ time_text t)) }
+    ensures none { IfNone result ((t : Moment) → IsMoment t → text.now ≡ time_text t → ⊥) }
+{
+    if !has_marks(text) {
+        return None;
+    }
+    let digits = all_digits(text);
+    Time::from_digits(&digits)
+}
+
+/// Reads the moment of `YYYY-MM-DD`, `YYYY-MM-DDThh:mm:ssZ` or `YYYYMMDDhhmmss`.
+pub fn from_text(text: &str) -> Option<Time>
+    ensures some { IfSome result (λ t. IsMoment t × IsMomentText t text.now) }
+    ensures none { IfNone result ((t : Moment) → IsMoment t → IsMomentText t text.now → ⊥) }
+{
+    let octets = text.as_bytes();
+    match octets.len() {
+        10 => from_date(octets),
+        20 => from_date_and_clock(octets),
+        _ => Time::from_digits(octets),
+    }
+}

@@ -1,0 +1,11 @@
+//! The verdict on a path of files, from a trust anchor down, with real signatures and, where lists
+//! are given, with revocation.
+#![tactic(auto)]
+
+mod judging;
+mod path;
+mod revocation;
+mod saying;
+
+pub use path::{Fault, Question, Verdict, accepted_are_unrevoked, is_list, judge};
+pub use saying::{is_router, said_kind};
