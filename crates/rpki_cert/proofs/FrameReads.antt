@@ -28,7 +28,7 @@ use Rattle.rpki_ext.proofs.Pieces.{sequence_pieces}
 use Rattle.rpki_cert.specs.Certificates.{CertFields, TbsFields, version_3, IsTbsCertificateContent, IsCertificate}
 use Rattle.rpki_cert.specs.Rearranged.{IsBuiltOf, IsSomeExtension}
 use Rattle.rpki_cert.specs.Rearranging.{BeginsWith, IsRejected, Parts}
-use Rattle.rpki_cert.specs.Rearranging.Reading.{parts_at, sequence_in, split_last, with_front}
+use Rattle.rpki_cert.specs.Rearranging.Reading.{frame_at, sequence_in, split_last, with_front}
 use Rattle.rpki_cert.specs.RearrangeErrors.{of_reading}
 use Rattle.rpki_cert.specs.declared.extra.Extra.{Extra}
 use Rattle.rpki_cert.specs.declared.rearrange_error.RearrangeError.{RearrangeError}
@@ -112,14 +112,14 @@ concat_last before last = concat-append before (last ∷ []) ∙ ap (λ (s : Lis
 
 parts_from : (octets content rest tbs behind last : List ℕ) (values before elements : List (List ℕ)) → value_at SEQUENCE octets ≡ some {A = List ℕ × List ℕ} (content, rest) → value_at SEQUENCE content ≡ some {A = List ℕ × List ℕ} (tbs, behind)
     → sequence_of captured_at tbs ≡ some values → split_last values ≡ some {A = List (List ℕ) × List ℕ} (before, last) → sequence_in last ≡ some elements
-    → parts_at octets ≡ some {A = List (List ℕ) × (List (List ℕ) × List ℕ)} (before, (elements, behind))
-unfolding parts_at
+    → frame_at octets ≡ some {A = List (List ℕ) × (List (List ℕ) × List ℕ)} (before, (elements, behind))
+unfolding frame_at
 parts_from octets content rest tbs behind last values before elements a b c d e = rw (a, b, c, d, e) refl
 
 -- of a certificate the parts are read that it is built of
 record AreParts (octets front : List ℕ) : Type 0 where
   parts : Parts
-  read : parts_at octets ≡ some {A = List (List ℕ) × (List (List ℕ) × List ℕ)} (parts.before, (parts.old, parts.behind))
+  read : frame_at octets ≡ some {A = List (List ℕ) × (List (List ℕ) × List ℕ)} (parts.before, (parts.old, parts.behind))
   built : IsBuiltOf parts.before parts.old parts.behind front
   extensions_are : AllByRecursion IsSomeExtension parts.old
 
@@ -160,7 +160,7 @@ view p = (p.before, (p.old, p.behind))
 same_parts : (p q : Parts) → some {A = List (List ℕ) × (List (List ℕ) × List ℕ)} (view p) ≡ Some (view q) → p ≡ q
 same_parts p q e = let same : view p ≡ view q = some_is (view p) (view q) e in ap (λ (x : List (List ℕ) × (List (List ℕ) × List ℕ)). record { before = x.0; old = x.1.0; behind = x.1.1 }) same
 
-begins : (octets : List ℕ) (c : CertFields) (m : Means IsCertificate c octets) (p : Parts) → parts_at octets ≡ Some (view p) → BeginsWith octets p
+begins : (octets : List ℕ) (c : CertFields) (m : Means IsCertificate c octets) (p : Parts) → frame_at octets ≡ Some (view p) → BeginsWith octets p
 begins octets c m p e =
     let found = certificate_parts c octets m.1.text m.0 m.1.parts m.1.encoded in
     let same : found.parts ≡ p = same_parts found.parts p (sym found.read ∙ e) in
@@ -175,7 +175,7 @@ begins octets c m p e =
     })
 
 -- a certificate's parts are read, or it ran out of memory
-pub parts_ok : (octets copy : List ℕ) (c : CertFields) → Means IsCertificate c copy → copy ≡ octets → (r : Result Parts DecodeError) → ReturnsOrMemoryBy view r (parts_at octets) → IfOk r (λ p. BeginsWith octets p)
+pub parts_ok : (octets copy : List ℕ) (c : CertFields) → Means IsCertificate c copy → copy ≡ octets → (r : Result Parts DecodeError) → ReturnsOrMemoryBy view r (frame_at octets) → IfOk r (λ p. BeginsWith octets p)
 parts_ok octets copy c m same (Ok p) e = begins octets c (subst (λ (o : List ℕ). Means IsCertificate c o) same m) p e
 parts_ok octets copy c m same (Err d) e = tt
 
@@ -183,7 +183,7 @@ abbrev IsNone : List ℕ → Type 0
 IsNone octets = (x : CertFields) → Means IsCertificate x octets → ⊥
 
 -- where a certificate begins the octets, reading its parts fails only when out of memory
-pub parts_rejected : (octets copy : List ℕ) (c : CertFields) → Means IsCertificate c copy → copy ≡ octets → (r : Result Parts DecodeError) → ReturnsOrMemoryBy view r (parts_at octets) → IfErr r (λ d. Rejects d (IsNone octets))
+pub parts_rejected : (octets copy : List ℕ) (c : CertFields) → Means IsCertificate c copy → copy ≡ octets → (r : Result Parts DecodeError) → ReturnsOrMemoryBy view r (frame_at octets) → IfErr r (λ d. Rejects d (IsNone octets))
 parts_rejected octets copy c m same (Ok p) e = tt
 parts_rejected octets copy c m same (Err d) e =
     let n = subst (λ (o : List ℕ). Means IsCertificate c o) same m in

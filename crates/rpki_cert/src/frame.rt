@@ -11,7 +11,7 @@ ghost use Rattle.rpki_der.specs.Skipping.Reading.{captured_at};
 ghost use Rattle.rpki_der.specs.Encoding.{Means};
 ghost use Rattle.rpki_cert.specs.Certificates.{CertFields, IsCertificate};
 ghost use Rattle.rpki_cert.specs.Rearranging.{BeginsWith, IsRejected, tbs_content_with, content_with};
-ghost use Rattle.rpki_cert.specs.Rearranging.Reading.{sequence_in, parts_at, split_last};
+ghost use Rattle.rpki_cert.specs.Rearranging.Reading.{sequence_in, frame_at, split_last};
 ghost use Rattle.rpki_cert.specs.declared.extra.Extra.{Extra};
 
 use crate::cert::Cert;
@@ -77,9 +77,9 @@ fn extensions_in(alloc: Global, value: &Piece) -> Result<Vec<Piece>, DecodeError
 }
 
 // What the certificate at the beginning of the octets is built of, by the reading function.
-#[tactic(auto, unfolding(crate::specs::Rearranging::Reading::parts_at))]
+#[tactic(auto, unfolding(crate::specs::Rearranging::Reading::frame_at))]
 fn read(alloc: Global, octets: &Bytes) -> Result<Frame, DecodeError>
-    ensures { ReturnsOrMemoryBy (λ f. (f.before, (f.old, f.behind))) result (parts_at octets.now) }
+    ensures { ReturnsOrMemoryBy (λ f. (f.before, (f.old, f.behind))) result (frame_at octets.now) }
 {
     let mut content = Cursor::new(octets).take_sequence()?;
     let tbs = content.take_sequence()?;

@@ -4,7 +4,7 @@ use Rattle.std.specs.declared.string.String.{String}
 use Rattle.std.proofs.Common.{◌≡◌, ℕ, ◌+◌, ◌<◌, ◌≤◌, List, [], ◌∷◌, ◌++◌, length, get_or, take, drop, refl, sym, ap, ◌∙◌, subst, Bor}
 use Rattle.std.proofs.lemmas.List.{append_assoc, append-nil, map-append, map_more, take-append-drop, take_all, drop_more}
 use Rattle.std.proofs.lemmas.List.Sums.{fold_push}
-use Rattle.rpki_command.specs.CommandLines.{IsOption, Part, file, list, AreParts, RequestFields, with_part}
+use Rattle.rpki_command.specs.CommandLines.{IsOption, LinePart, file, list, AreParts, RequestFields, with_part}
 use Rattle.rpki_command.specs.CommandLines.Steps.{AddsPart, AddsParts, BeginsNoPart, TakesValue}
 use Rattle.rpki_command.specs.CommandLines.Views.{word_octets}
 use Rattle.rpki_command.proofs.CommandParts.{one_more, none_behind, value_missing}
@@ -66,7 +66,7 @@ module _ {Z : Type 0} (words : List (String Z)) (i : ℕ) (word : String Z) (low
           (words_more ∙ ap (λ (l : List (List ℕ)). l ++ string_bytes word ∷ []) so_far.words_are ∙ append_assoc so_far.front (option.now ∷ []) (string_bytes word ∷ []) ∙ ap (λ (w : List ℕ). so_far.front ++ option.now ∷ w ∷ []) (sym text_is)) so_far.added adds
 
       -- the word is no value of the option
-      pub value_rejected : BeginsNoPart (option.now ∷ text ∷ []) → (parts : List Part) → AreParts parts (word_octets words) → ⊥
+      pub value_rejected : BeginsNoPart (option.now ∷ text ∷ []) → (parts : List LinePart) → AreParts parts (word_octets words) → ⊥
       value_rejected none parts =
           none_behind so_far.added.0 parts so_far.front (text ∷ []) (word_octets (drop (i + 1) words)) (word_octets words) option.now so_far.added.1 none
           (words_split ∙ ap (λ (l : List (List ℕ)). l ++ string_bytes word ∷ word_octets (drop (i + 1) words)) so_far.words_are ∙ append_assoc so_far.front (option.now ∷ []) (string_bytes word ∷ word_octets (drop (i + 1) words)) ∙ ap (λ (w : List ℕ). so_far.front ++ option.now ∷ w ∷ word_octets (drop (i + 1) words)) (sym text_is))
@@ -82,7 +82,7 @@ module _ {Z : Type 0} (words : List (String Z)) (i : ℕ) (word : String Z) (low
           (words_more ∙ ap (λ (l : List (List ℕ)). l ++ string_bytes word ∷ []) front_is ∙ ap (λ (w : List ℕ). so_far.front ++ w ∷ []) (sym text_is)) so_far.added adds
 
       -- the word is none
-      pub word_rejected : BeginsNoPart (text ∷ []) → (parts : List Part) → AreParts parts (word_octets words) → ⊥
+      pub word_rejected : BeginsNoPart (text ∷ []) → (parts : List LinePart) → AreParts parts (word_octets words) → ⊥
       word_rejected none parts =
           none_behind so_far.added.0 parts so_far.front [] (word_octets (drop (i + 1) words)) (word_octets words) text so_far.added.1 none
           (words_split ∙ ap (λ (l : List (List ℕ)). l ++ string_bytes word ∷ word_octets (drop (i + 1) words)) front_is ∙ ap (λ (w : List ℕ). so_far.front ++ w ∷ word_octets (drop (i + 1) words)) (sym text_is))
@@ -97,6 +97,6 @@ module _ {Z : Type 0} (words : List (String Z)) (i : ℕ) (word : String Z) (low
       }
 
 -- all words were gone over, and an option's value is missing
-pub value_awaited : {Z : Type 0} (words : List (String Z)) (i : ℕ) (old new : RequestFields) (option : Bor (List ℕ)) → AreAdded (word_octets (take i words)) old new (Some option) → length words ≤ i → (parts : List Part) → AreParts parts (word_octets words) → ⊥
+pub value_awaited : {Z : Type 0} (words : List (String Z)) (i : ℕ) (old new : RequestFields) (option : Bor (List ℕ)) → AreAdded (word_octets (take i words)) old new (Some option) → length words ≤ i → (parts : List LinePart) → AreParts parts (word_octets words) → ⊥
 value_awaited words i old new option so_far high parts =
     value_missing so_far.added.0 parts so_far.front (word_octets words) option.now so_far.added.1 so_far.takes (ap word_octets (sym (take_all i words high)) ∙ so_far.words_are)

@@ -6,7 +6,7 @@ use Rattle.std.proofs.lemmas.Slice.Eq.{bytes_eq-Decides}
 use Rattle.std.proofs.lemmas.List.{append_assoc, append-nil}
 use Rattle.rpki.specs.Times.{Moment}
 use Rattle.rpki_text.specs.MomentTexts.{IsMomentText}
-use Rattle.rpki_command.specs.CommandLines.{IsOption, Part, file, list, at_moment, lenient, json, all, help, IsPart, AreParts}
+use Rattle.rpki_command.specs.CommandLines.{IsOption, LinePart, file, list, at_moment, lenient, json, all, help, IsPart, AreParts}
 use Rattle.rpki_command.specs.CommandLines.Steps.{BeginsNoPart, TakesValue}
 use Rattle.rpki_text.proofs.OneMoment.{one_moment}
 
@@ -14,7 +14,7 @@ use Rattle.rpki_text.proofs.OneMoment.{one_moment}
 
 -- what a first word is: a part by itself, or an option that takes a value
 data Sort : Type 0 where
-  single : Part → Sort
+  single : LinePart → Sort
   before_list before_moment : Sort
 
 -- the sort of a word
@@ -50,17 +50,17 @@ file_sort word not_option =
 -- ---- a part
 
 -- a part is one word of its own sort, or an option with a value
-data Shape : Part → List (List ℕ) → Type 0 where
-  alone : (part : Part) (word : List ℕ) → sort_of word ≡ single part → Shape part (word ∷ [])
+data Shape : LinePart → List (List ℕ) → Type 0 where
+  alone : (part : LinePart) (word : List ℕ) → sort_of word ≡ single part → Shape part (word ∷ [])
   with_list : (option name : List ℕ) → sort_of option ≡ before_list → Shape (list name) (option ∷ name ∷ [])
   with_moment : (option text : List ℕ) (m : Moment) → sort_of option ≡ before_moment → IsMomentText m text → Shape (at_moment m) (option ∷ text ∷ [])
 
 -- one word of the part's sort
-alone_is : (part : Part) (words : List (List ℕ)) (word : List ℕ) → words ≡ word ∷ [] → sort_of word ≡ single part → Shape part words
+alone_is : (part : LinePart) (words : List (List ℕ)) (word : List ℕ) → words ≡ word ∷ [] → sort_of word ≡ single part → Shape part words
 alone_is part words word is sort = subst (λ (l : List (List ℕ)). Shape part l) (sym is) (alone part word sort)
 
 -- the words of a part have its shape
-shape : (part : Part) (words : List (List ℕ)) → IsPart part words → Shape part words
+shape : (part : LinePart) (words : List (List ℕ)) → IsPart part words → Shape part words
 unfolding sort_of
 shape (file name) words h = alone_is (file name) words name h.0 (file_sort name h.1)
 shape (list name) words h = subst (λ (l : List (List ℕ)). Shape (list name) l) (sym h) (with_list (codes "--crl") name refl)
@@ -73,7 +73,7 @@ shape help words (inl h) = alone_is help words (codes "--help") h refl
 shape help words (inr h) = alone_is help words (codes "-h") h refl
 
 -- words begin with one part at most
-same_front : (p q : Part) (a b x y : List (List ℕ)) → Shape p a → Shape q b → a ++ x ≡ b ++ y → (p ≡ q) × (x ≡ y)
+same_front : (p q : LinePart) (a b x y : List (List ℕ)) → Shape p a → Shape q b → a ++ x ≡ b ++ y → (p ≡ q) × (x ≡ y)
 same_front _ _ _ _ x y (alone p v s) (alone q w t) e =
     let words : v ≡ w = cc in
     let sorts : single p ≡ single q = sym s ∙ ap sort_of words ∙ t in
@@ -110,19 +110,19 @@ same_front _ _ _ _ x y (with_moment v text m s is) (with_moment w other n t is_t
     (ap at_moment (one_moment m n other (subst (λ (l : List ℕ). IsMomentText m l) same is) is_too), cc)
 
 -- a part has words
-some_words : (part : Part) (words rest : List (List ℕ)) → Shape part words → words ++ rest ≡ [] → ⊥
+some_words : (part : LinePart) (words rest : List (List ℕ)) → Shape part words → words ++ rest ≡ [] → ⊥
 some_words _ _ rest (alone part word s) e = cc
 some_words _ _ rest (with_list option name s) e = cc
 some_words _ _ rest (with_moment option text m s is) e = cc
 
 -- an option that takes a value is no part by itself
-value_sort : (option : List ℕ) → TakesValue option → (part : Part) → sort_of option ≡ single part → ⊥
+value_sort : (option : List ℕ) → TakesValue option → (part : LinePart) → sort_of option ≡ single part → ⊥
 unfolding sort_of
 value_sort option (inl is) part s = let sorts : before_list ≡ single part = ap sort_of (sym is) ∙ s in cc
 value_sort option (inr is) part s = let sorts : before_moment ≡ single part = ap sort_of (sym is) ∙ s in cc
 
 -- it doesn't begin a part alone
-value_first : (option : List ℕ) → TakesValue option → (part : Part) (words rest : List (List ℕ)) → Shape part words → option ∷ [] ≡ words ++ rest → ⊥
+value_first : (option : List ℕ) → TakesValue option → (part : LinePart) (words rest : List (List ℕ)) → Shape part words → option ∷ [] ≡ words ++ rest → ⊥
 value_first option takes _ _ rest (alone part word s) e =
     let same : option ≡ word = cc in
     value_sort option takes part (ap sort_of same ∙ s)
@@ -132,18 +132,18 @@ value_first option takes _ _ rest (with_moment first text m s is) e = cc
 -- ---- parts one after the other
 
 -- one more part stands behind them
-pub one_more : (parts : List Part) (front : List (List ℕ)) → AreParts parts front → (part : Part) (words : List (List ℕ)) → IsPart part words → AreParts (parts ++ part ∷ []) (front ++ words)
+pub one_more : (parts : List LinePart) (front : List (List ℕ)) → AreParts parts front → (part : LinePart) (words : List (List ℕ)) → IsPart part words → AreParts (parts ++ part ∷ []) (front ++ words)
 one_more [] front h part words is = (words, [], is, refl, ap (λ (l : List (List ℕ)). l ++ words) h ∙ sym (append-nil words))
 one_more (p ∷ ps) front h part words is =
     (h.0, h.1 ++ words, h.2, one_more ps h.1 h.3 part words is, ap (λ (l : List (List ℕ)). l ++ words) h.4 ∙ append_assoc h.0 h.1 words)
 
 -- words that begin with these parts and are parts begin with no others
-record Further (parts all_parts : List Part) (rest : List (List ℕ)) : Type 0 where
-  more : List Part
+record Further (parts all_parts : List LinePart) (rest : List (List ℕ)) : Type 0 where
+  more : List LinePart
   all_are : all_parts ≡ parts ++ more
   more_are : AreParts more rest
 
-further : (parts all_parts : List Part) (front rest : List (List ℕ)) → AreParts parts front → AreParts all_parts (front ++ rest) → Further parts all_parts rest
+further : (parts all_parts : List LinePart) (front rest : List (List ℕ)) → AreParts parts front → AreParts all_parts (front ++ rest) → Further parts all_parts rest
 further [] qs front rest h k = record { more = qs; all_are = refl; more_are = subst (λ (l : List (List ℕ)). AreParts qs (l ++ rest)) h k }
 further (p ∷ ps) [] front rest h k =
     absurd (some_words p h.0 (h.1 ++ rest) (shape p h.0 h.2) (sym (append_assoc h.0 h.1 rest) ∙ ap (λ (l : List (List ℕ)). l ++ rest) (sym h.4) ∙ k))
@@ -154,10 +154,10 @@ further (p ∷ ps) (q ∷ qs) front rest h k =
     record { more = later.more; all_are = cc; more_are = later.more_are }
 
 -- parts that are followed by the beginning of no part
-pub none_behind : (parts others : List Part) (front bad after words : List (List ℕ)) (word : List ℕ) → AreParts parts front → BeginsNoPart (word ∷ bad) → words ≡ front ++ (word ∷ bad ++ after) → AreParts others words → ⊥
+pub none_behind : (parts others : List LinePart) (front bad after words : List (List ℕ)) (word : List ℕ) → AreParts parts front → BeginsNoPart (word ∷ bad) → words ≡ front ++ (word ∷ bad ++ after) → AreParts others words → ⊥
 none_behind parts others front bad after words word h none is k =
     let f = further parts others front (word ∷ bad ++ after) h (subst (λ (l : List (List ℕ)). AreParts others l) is k) in
-    let empty : (more : List Part) → AreParts more (word ∷ bad ++ after) → ⊥ =
+    let empty : (more : List LinePart) → AreParts more (word ∷ bad ++ after) → ⊥ =
     λ more. elim more as (λ more. AreParts more (word ∷ bad ++ after) → ⊥) [
       | [] ↦ λ e. cc
       | p ∷ ps ↦ λ m. none p m.0 after m.1 m.2 m.4
@@ -165,10 +165,10 @@ none_behind parts others front bad after words word h none is k =
     empty f.more f.more_are
 
 -- parts that are followed by an option alone that takes a value
-pub value_missing : (parts others : List Part) (front words : List (List ℕ)) (option : List ℕ) → AreParts parts front → TakesValue option → words ≡ front ++ option ∷ [] → AreParts others words → ⊥
+pub value_missing : (parts others : List LinePart) (front words : List (List ℕ)) (option : List ℕ) → AreParts parts front → TakesValue option → words ≡ front ++ option ∷ [] → AreParts others words → ⊥
 value_missing parts others front words option h takes is k =
     let f = further parts others front (option ∷ []) h (subst (λ (l : List (List ℕ)). AreParts others l) is k) in
-    let empty : (more : List Part) → AreParts more (option ∷ []) → ⊥ =
+    let empty : (more : List LinePart) → AreParts more (option ∷ []) → ⊥ =
     λ more. elim more as (λ more. AreParts more (option ∷ []) → ⊥) [
       | [] ↦ λ e. cc
       | p ∷ ps ↦ λ m. value_first option takes p m.0 m.1 (shape p m.0 m.2) m.4
@@ -176,12 +176,12 @@ value_missing parts others front words option h takes is k =
     empty f.more f.more_are
 
 -- words are one list of parts at most
-pub one_list : (parts others : List Part) (words : List (List ℕ)) → AreParts parts words → AreParts others words → others ≡ parts
+pub one_list : (parts others : List LinePart) (words : List (List ℕ)) → AreParts parts words → AreParts others words → others ≡ parts
 one_list parts others words h k =
     let f = further parts others words [] h (subst (λ (l : List (List ℕ)). AreParts others l) (sym (append-nil words)) k) in
-    let empty : (more : List Part) → AreParts more [] → more ≡ [] =
+    let empty : (more : List LinePart) → AreParts more [] → more ≡ [] =
     λ more. elim more as (λ more. AreParts more [] → more ≡ []) [
       | [] ↦ λ e. refl
       | p ∷ ps ↦ λ m. absurd (some_words p m.0 m.1 (shape p m.0 m.2) (sym m.4))
     ] in
-    f.all_are ∙ ap (λ (l : List Part). parts ++ l) (empty f.more f.more_are) ∙ append-nil parts
+    f.all_are ∙ ap (λ (l : List LinePart). parts ++ l) (empty f.more f.more_are) ∙ append-nil parts

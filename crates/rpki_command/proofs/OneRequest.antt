@@ -4,7 +4,7 @@ use Rattle.std.specs.Str.{bytes_eq}
 use Rattle.std.proofs.Common.{◌≡◌, ℕ, inl, inr, List, [], ◌∷◌, sym, ap, ◌∙◌, subst}
 use Rattle.rpki_command.specs.declared.arguments.Task.{Task}
 use Rattle.rpki_command.specs.declared.arguments.Task.TheVariants.{Show, Validate, Help, Version}
-use Rattle.rpki_command.specs.CommandLines.{IsTaskName, Part, AreParts, RequestFields, only_task, with_parts, Suits, IsCommandLine}
+use Rattle.rpki_command.specs.CommandLines.{IsTaskName, LinePart, AreParts, RequestFields, only_task, with_parts, Suits, IsCommandLine}
 use Rattle.rpki_command.specs.CommandLines.Steps.{AddsParts}
 use Rattle.rpki_command.proofs.CommandParts.{one_list}
 
@@ -49,7 +49,7 @@ module _ (words : List (List ℕ)) (first : List ℕ) (rest : List (List ℕ)) (
   no_task none r h = none h.task (subst (λ (w : List ℕ). IsTaskName h.task w) (sym (same_words r h).0) h.task_is)
 
   -- those behind it are no parts
-  pub no_parts : ((parts : List Part) → AreParts parts rest → ⊥) → (r : RequestFields) → IsCommandLine r words → ⊥
+  pub no_parts : ((parts : List LinePart) → AreParts parts rest → ⊥) → (r : RequestFields) → IsCommandLine r words → ⊥
   no_parts none r h = none h.parts (subst (λ (l : List (List ℕ)). AreParts h.parts l) (sym (same_words r h).1) h.parts_are)
 
   module _ (task : Task) (task_is : IsTaskName task first) (r : RequestFields) (adds : AddsParts rest (only_task task) r) where
@@ -63,7 +63,7 @@ module _ (words : List (List ℕ)) (first : List ℕ) (rest : List (List ℕ)) (
         let same = same_words other h in
         let tasks = one_task task h.task first h.first same.0 task_is h.task_is in
         let parts = one_list adds.0 h.parts rest adds.1 (subst (λ (l : List (List ℕ)). AreParts h.parts l) (sym same.1) h.parts_are) in
-        h.asks ∙ ap (λ (t : Task). with_parts (only_task t) h.parts) tasks ∙ ap (λ (l : List Part). with_parts (only_task task) l) parts ∙ sym adds.2
+        h.asks ∙ ap (λ (t : Task). with_parts (only_task t) h.parts) tasks ∙ ap (λ (l : List LinePart). with_parts (only_task task) l) parts ∙ sym adds.2
 
     -- the task doesn't suit what it asks
     pub unsuited : (Suits r.task r → ⊥) → (other : RequestFields) → IsCommandLine other words → ⊥

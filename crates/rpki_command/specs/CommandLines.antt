@@ -21,13 +21,13 @@ abbrev pub IsOption : List ℕ → Type 0
 IsOption word = (slice_index word 0 ≡ 0x2D) × (1 < length word)
 
 -- what stands behind the task: files, and options, some with a value
-pub data Part : Type 0 where
-  file list : List ℕ → Part
-  at_moment : Moment → Part
-  lenient json all help : Part
+pub data LinePart : Type 0 where
+  file list : List ℕ → LinePart
+  at_moment : Moment → LinePart
+  lenient json all help : LinePart
 
 -- the words are this part
-abbrev pub IsPart : Part → List (List ℕ) → Type 0
+abbrev pub IsPart : LinePart → List (List ℕ) → Type 0
 IsPart (file name) words = (words ≡ name ∷ []) × (IsOption name → ⊥)
 IsPart (list name) words = words ≡ codes "--crl" ∷ name ∷ []
 IsPart (at_moment m) words = (text : List ℕ) × (words ≡ codes "--at" ∷ text ∷ []) × IsMoment m × IsMomentText m text
@@ -37,7 +37,7 @@ IsPart all words = words ≡ codes "--all" ∷ []
 IsPart help words = (words ≡ codes "--help" ∷ []) ⊎ (words ≡ codes "-h" ∷ [])
 
 -- the words are these parts, one after the other, in any order
-abbrev pub AreParts : List Part → List (List ℕ) → Type 0
+abbrev pub AreParts : List LinePart → List (List ℕ) → Type 0
 AreParts [] words = words ≡ []
 AreParts (part ∷ parts) words = (front : List (List ℕ)) × (rest : List (List ℕ)) × IsPart part front × AreParts parts rest × (words ≡ front ++ rest)
 
@@ -59,7 +59,7 @@ abbrev pub only_task : Task → RequestFields
 only_task task = record { task = task; at = None; strict = true; json = false; all_entries = false; files = []; lists = [] }
 
 -- with what a further part says; of several moments the last one counts
-abbrev pub with_part : RequestFields → Part → RequestFields
+abbrev pub with_part : RequestFields → LinePart → RequestFields
 with_part r (file name) = record r { files = r.files ++ name ∷ [] }
 with_part r (list name) = record r { lists = r.lists ++ name ∷ [] }
 with_part r (at_moment m) = record r { at = Some m }
@@ -69,7 +69,7 @@ with_part r all = record r { all_entries = true }
 with_part r help = record r { task = Help }
 
 -- with what these parts say, one after the other
-abbrev pub with_parts : RequestFields → List Part → RequestFields
+abbrev pub with_parts : RequestFields → List LinePart → RequestFields
 with_parts r parts = fold with_part r parts
 
 -- what the task wants: files, and no option that only the other task takes
@@ -85,7 +85,7 @@ pub record IsCommandLine (r : RequestFields) (words : List (List ℕ)) : Type 0 
   pub words_are : words ≡ first ∷ rest
   pub task : Task
   pub task_is : IsTaskName task first
-  pub parts : List Part
+  pub parts : List LinePart
   pub parts_are : AreParts parts rest
   pub asks : r ≡ with_parts (only_task task) parts
   pub suits : Suits r.task r

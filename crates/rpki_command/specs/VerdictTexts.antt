@@ -7,7 +7,7 @@ use Rattle.rpki.specs.BlockTexts.{v4_block_text, v6_block_text}
 use Rattle.rpki.specs.Certificates.{CertFields, IsCertificate}
 use Rattle.rpki.specs.Texts.{serial_text}
 use Rattle.rpki.specs.Verification.{Context, ResourceFields}
-use Rattle.rpki_text.specs.BlockLines.{as_block_text, blocks_lines}
+use Rattle.rpki_text.specs.BlockLines.{as_numbers_text, blocks_lines}
 use Rattle.rpki_text.specs.CertificateTexts.{AreAnswers, met_kind_text}
 use Rattle.rpki_files.specs.Contents.{BeginsWithList, FindsBy}
 use Rattle.rpki_files.specs.Files.{FileFields, contents}
@@ -71,7 +71,7 @@ acceptance_text lists holder = concat (
     ∷ line (codes "Not asked") (codes "manifests, and whether names of issuer and subject match")
     ∷ blocks_lines v4_block_text (codes "Holds IPv4") holder.v4
     ∷ blocks_lines v6_block_text (codes "Holds IPv6") holder.v6
-    ∷ blocks_lines as_block_text (codes "Holds AS numbers") holder.as_numbers
+    ∷ blocks_lines as_numbers_text (codes "Holds AS numbers") holder.as_numbers
     ∷ [])
 
 -- ---- a rejected path

@@ -20,8 +20,8 @@ family_text V4 = v4_block_text
 family_text V6 = v6_block_text
 
 -- AS numbers: one, or two ends with a hyphen between them
-abbrev pub as_block_text : Block → List ℕ
-as_block_text b = if b.min == b.max then decimal b.min else range_text decimal b
+abbrev pub as_numbers_text : Block → List ℕ
+as_numbers_text b = if b.min == b.max then decimal b.min else range_text decimal b
 
 -- a set: a line for each block, and `none` of the empty set
 abbrev pub blocks_lines : (Block → List ℕ) → List ℕ → List Block → List ℕ

@@ -22,7 +22,7 @@ use Rattle.rpki.specs.PublicKeyFormat.TheVariants.{Rsa, EcdsaP256}
 use Rattle.rpki.specs.Texts.{serial_text, time_text}
 use Rattle.rpki.specs.Times.{Moment}
 use Rattle.rpki.specs.Validities.{ValidityFields}
-use Rattle.rpki_text.specs.BlockLines.{as_block_text, resources_lines}
+use Rattle.rpki_text.specs.BlockLines.{as_numbers_text, resources_lines}
 use Rattle.rpki_text.specs.ListTexts.{signature_line}
 use Rattle.rpki_text.specs.Pages.{line, line_if_any, colons_text, characters_text}
 use Rattle.rpki_text.specs.Periods.{end_text}
@@ -130,7 +130,7 @@ resources_text x = concat (
     line (codes "Overclaimed resources") (policy_text x.overclaim)
     ∷ resources_lines v4_block_text (codes "IPv4") x.v4_resources
     ∷ resources_lines v6_block_text (codes "IPv6") x.v6_resources
-    ∷ resources_lines as_block_text (codes "AS numbers") x.as_resources
+    ∷ resources_lines as_numbers_text (codes "AS numbers") x.as_resources
     ∷ [])
 
 -- its key, where things are, and its resources

@@ -2,7 +2,7 @@
 ghost use Rattle.std.specs.Prelude.{Some};
 ghost use Rattle.std.specs.Fmt.{WritesOnOk};
 ghost use Rattle.rpki_text.specs.Pages.{Appends};
-ghost use Rattle.rpki_text.specs.BlockLines.{family_address_text, family_text, as_block_text, blocks_lines, resources_lines};
+ghost use Rattle.rpki_text.specs.BlockLines.{family_address_text, family_text, as_numbers_text, blocks_lines, resources_lines};
 
 use crate::lines::{write_further_line, write_line};
 use crate::page::Page;
@@ -47,7 +47,7 @@ impl fmt::Display for Addresses {
 struct Numbers(AsBlock);
 
 impl fmt::Display for Numbers {
-    ghost output = { λ n. Some (as_block_text n.0) };
+    ghost output = { λ n. Some (as_numbers_text n.0) };
 
     fn fmt<W: fmt::Write>(&self, f: &mut fmt::Formatter<W>) -> fmt::Result {
         let min = self.0.min().into_u32();
@@ -118,7 +118,7 @@ fn write_as_blocks<W: fmt::Write>(
     blocks: &AsBlocks,
 ) -> fmt::Result
     ensures { WritesOnOk W.write_str_gives f.old result
-        (blocks_lines as_block_text label.now blocks.now) f.new }
+        (blocks_lines as_numbers_text label.now blocks.now) f.new }
 {
     let mut blocks = blocks.iter();
     let Some(first) = blocks.next() else {
@@ -155,7 +155,7 @@ struct AsLines<'a> {
 }
 
 impl fmt::Display for AsLines<'_> {
-    ghost output = { λ l. Some (blocks_lines as_block_text l.label.now l.blocks.now) };
+    ghost output = { λ l. Some (blocks_lines as_numbers_text l.label.now l.blocks.now) };
 
     fn fmt<W: fmt::Write>(&self, f: &mut fmt::Formatter<W>) -> fmt::Result {
         write_as_blocks(f, self.label, self.blocks)
@@ -175,7 +175,7 @@ pub fn ip_blocks(page: &mut Page, label: &str, family: Family, blocks: &IpBlocks
 
 /// Prints a line for each block of AS numbers; `none` where there are none.
 pub fn as_blocks(page: &mut Page, label: &str, blocks: &AsBlocks)
-    ensures { Appends page.old (blocks_lines as_block_text label.now blocks.now) page.new }
+    ensures { Appends page.old (blocks_lines as_numbers_text label.now blocks.now) page.new }
 {
     page.value(&AsLines { label, blocks });
 }
@@ -204,7 +204,7 @@ pub fn write_as_resources<W: fmt::Write>(
     listed: &AsResources,
 ) -> fmt::Result
     ensures { WritesOnOk W.write_str_gives f.old result
-        (resources_lines as_block_text label.now listed.now) f.new }
+        (resources_lines as_numbers_text label.now listed.now) f.new }
 {
     match listed.as_blocks() {
         Some(blocks) => write_as_blocks(f, label, blocks),

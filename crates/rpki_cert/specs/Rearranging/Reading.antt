@@ -23,8 +23,8 @@ sequence_in value = do
   sequence_of captured_at elements.0
 
 -- the values before the extensions, the extensions, and what stands behind the TBSCertificate
-unfoldable pub parts_at : List ℕ → Option (List (List ℕ) × (List (List ℕ) × List ℕ))
-parts_at octets = do
+unfoldable pub frame_at : List ℕ → Option (List (List ℕ) × (List (List ℕ) × List ℕ))
+frame_at octets = do
   whole ← value_at SEQUENCE octets
   tbs ← value_at SEQUENCE whole.0
   values ← sequence_of captured_at tbs.0
