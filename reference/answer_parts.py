@@ -66,6 +66,7 @@ DER = {
     'octets': lambda w: read(w, 1, lambda c: c.take_value(4), content),
     'bits': lambda w: read(w, 1, take_bits, lambda it: [
         ('unused', it[0]), *content(it[1])]),
+    'unsigned': lambda w: read(w, 1, ref.take_unsigned, content),
     'oid': lambda w: read(w, 1, ref.take_oid, lambda it: [
         ('oid', show.hexed(it))]),
     'u32': lambda w: read(w, 1, ref.take_u32, lambda it: [('number', it)]),

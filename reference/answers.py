@@ -1,6 +1,7 @@
 """What the reference answers to each question of the vectors, in their words."""
 
 import answer_words as show
+import keys
 import reference as ref
 import rsa
 from answer_parts import (
@@ -414,6 +415,13 @@ def revocation(words, verifier=ref.stand_in):
     return line(answer, ('cached', 'same'))
 
 
+def key_form(words):
+    is_router, bits = words.at(1) == 'router', words.octets(2)
+    return line('ok', *keys.form(is_router, bits),
+                ('used', show.yes(keys.is_used(is_router, bits))),
+                ('point', show.yes(keys.is_point(bits))))
+
+
 WORDS = {
     'certificate': certificate, 'data': data, 'make': make,
     'inspect': inspect, 'verify': verify, 'validate': validate,
@@ -424,6 +432,7 @@ WORDS = {
     'real-revocation': lambda w: revocation(w, rsa.verifier),
     'rsa': lambda w: show.yes(rsa.verify(*map(w.octets, (1, 2, 3)))),
     'rsa-key': lambda w: show.yes(rsa.is_rpki_key(w.octets(1))),
+    'key-form': key_form,
     **PARTS, **URIS, **RESOURCES, **DER,
 }
 

@@ -165,6 +165,15 @@ def take_integer(cursor):
 
 
 @reader
+def take_unsigned(cursor):
+    """A cursor over the content of an INTEGER from 0 on."""
+    place = cursor.place
+    require(take_integer(cursor) >= 0)
+    cursor.place = place
+    return cursor.take_value(0x02)
+
+
+@reader
 def take_number(cursor, limit):
     """An INTEGER from 0 to below the limit."""
     number = take_integer(cursor)

@@ -8,8 +8,8 @@ use Rattle.std.proofs.lemmas.Nat.{pow-add}
 use Rattle.std.proofs.Math.Nat.{mul-add-mod_self_right}
 use Rattle.std.proofs.lemmas.Int.Digits.{number_after_append, number_after_ge, number_more}
 use Rattle.rpki_der.specs.Values.{length_octets, enc, IsEnc}
-use Rattle.rpki_der.specs.Primitives.{IsNull, IsBits, IsU32, IsBoolOrFalse, IsInteger, IsNumber}
-use Rattle.rpki_der.specs.Primitives.Reading.{octets_at, null_of, null_at, or_false, bool_or_false_at, has_zero_bits, bits_of, bits_at, is_unsigned, number_below, u32_at, bool_of, bool_at}
+use Rattle.rpki_der.specs.Primitives.{IsNull, IsBits, IsU32, IsUnsigned, IsBoolOrFalse, IsInteger, IsNumber}
+use Rattle.rpki_der.specs.Primitives.Reading.{octets_at, null_of, null_at, or_false, bool_or_false_at, has_zero_bits, bits_of, bits_at, is_unsigned, unsigned_of, unsigned_at, number_below, u32_at, bool_of, bool_at}
 use Rattle.rpki_der.specs.Reading.{content, optional, Reads, ReadsBefore, ReadsOrAbsent, Inside, Optional, BeginWith}
 use Rattle.rpki_der.specs.Encoding.{BeginsOther}
 use Rattle.rpki_der.specs.Tags.{BIT_STRING, BOOLEAN, INTEGER, NULL, OCTET_STRING}
@@ -230,3 +230,30 @@ u32_reads =
     same_reads (content INTEGER (number_below (2 ^ 32))) (λ n b. IsNumber n b × (n < 2 ^ 32)) IsU32 (number_reads (2 ^ 32))
     (λ n text s. record { number = s.0; small = s.1 })
     (λ n text s. (s.number, s.small))
+
+abbrev IsUnsignedContent : List ℕ → List ℕ → Type 0
+IsUnsignedContent content c = (c ≡ content) × (is_unsigned c ≡ true)
+
+unsigned_takes : (c content : List ℕ) → unsigned_of c ≡ Some content → IsUnsignedContent content c
+unsigned_takes c content e = let g = if_some (is_unsigned c) c content e in (g.1, g.0)
+
+unsigned_again : (content c : List ℕ) → IsUnsignedContent content c → unsigned_of c ≡ Some content
+unsigned_again content c s = rw s.1 (ap Some s.0)
+
+unsigned_is : (c text : List ℕ) → is_unsigned c ≡ true → IsEnc INTEGER c text → IsUnsigned c text
+unsigned_is [] text tests v = absurd cc
+unsigned_is (x ∷ more) text tests v =
+    let h = number_takes x more tests in
+    record { first = x; more = more; is = refl; shortest = h.0; not_negative = h.1; enc = v }
+
+is_one : (c text : List ℕ) (s : IsUnsigned c text) → is_unsigned c ≡ true
+is_one c text s = rw s.is (number_again s.first s.more (rw s.is at s.shortest) s.not_negative)
+
+-- an INTEGER from 0 on is read as it is encoded
+pub unsigned_reads : Reads unsigned_at IsUnsigned
+unfolding unsigned_at
+unsigned_reads =
+    same_reads (content INTEGER unsigned_of) (Inside INTEGER IsUnsignedContent) IsUnsigned
+    (content_reads INTEGER unsigned_of IsUnsignedContent (record { takes = λ c v fits e. unsigned_takes c v e; again = unsigned_again }))
+    (λ c text s. subst (λ (d : List ℕ). IsUnsigned d text) s.1.0 (unsigned_is s.0 text s.1.1 s.2))
+    (λ c text s. (c, (refl, is_one c text s), s.enc))

@@ -26,6 +26,15 @@ pub record IsNumber (n : ℕ) (b : List ℕ) : Type 0 where
   pub not_negative : first < 128
   pub is : n ≡ number_from_digits 256 (first ∷ more)
 
+-- INTEGER (0..MAX) with this content: the octets of the number, the highest first
+pub record IsUnsigned (content b : List ℕ) : Type 0 where
+  pub first : ℕ
+  pub more : List ℕ
+  pub is : content ≡ first ∷ more
+  pub shortest : IsInteger content
+  pub not_negative : first < 128
+  pub enc : IsEnc INTEGER content b
+
 -- INTEGER (0..4294967295)
 pub record IsU32 (n : ℕ) (b : List ℕ) : Type 0 where
   pub number : IsNumber n b

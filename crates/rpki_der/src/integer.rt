@@ -1,10 +1,10 @@
 //! INTEGER of a number that is not negative.
-ghost use Rattle.std.specs.Prelude.{◌≡◌, ◌^◌, ◌≤◌, ◌++◌, length};
+ghost use Rattle.std.specs.Prelude.{◌≡◌, ◌^◌, ◌≤◌, ◌++◌, length, IfOk};
 ghost use Rattle.std.specs.Int.Digits.{digits_of, number_from_digits};
-ghost use Rattle.rpki_der.specs.Place.{remaining, Keeps, Answers};
-ghost use Rattle.rpki_der.specs.Place.Reading.{Took, Returns};
-ghost use Rattle.rpki_der.specs.Primitives.{IsU32, unsigned};
-ghost use Rattle.rpki_der.specs.Primitives.Reading.{is_unsigned, number_below, u32_at};
+ghost use Rattle.rpki_der.specs.Place.{remaining, IsWithin, Keeps, Answers, AnswersBy};
+ghost use Rattle.rpki_der.specs.Place.Reading.{Took, TookBy, Returns};
+ghost use Rattle.rpki_der.specs.Primitives.{IsU32, IsUnsigned, unsigned};
+ghost use Rattle.rpki_der.specs.Primitives.Reading.{is_unsigned, number_below, u32_at, unsigned_at};
 ghost use Rattle.rpki_der.specs.Values.{AreOctets};
 
 use crate::cursor::Cursor;
@@ -106,5 +106,33 @@ impl<'a> Cursor<'a> {
         ensures keeps { Keeps result self.old self.new }
     {
         self.next_u32()
+    }
+
+    // The content of the next INTEGER, by the reading function.
+    #[tactic(auto, unfolding(crate::specs::Primitives::Reading::unsigned_at))]
+    fn next_unsigned(&mut self) -> Result<Cursor<'a>, DecodeError>
+        ensures reads { TookBy remaining unsigned_at self.old result self.new }
+        ensures keeps { Keeps result self.old self.new }
+        ensures inside { IfOk result (λ c. IsWithin c self.old) }
+        ensures octets { AreOctets (remaining self.old) }
+    {
+        let mut ahead = self.fork();
+        let content = ahead.take_value(tag::INTEGER)?;
+        if !is_unsigned(content.rest()) {
+            return Err(DecodeError::BadValue);
+        }
+        *self = ahead;
+        Ok(content)
+    }
+
+    /// Reads the INTEGER from 0 on that must stand next, of whatever size (X.690 8.3). Returns a
+    /// cursor over its content: the octets of the number, the highest first.
+    pub fn take_unsigned(&mut self) -> Result<Cursor<'a>, DecodeError>
+        ensures answers { AnswersBy remaining IsUnsigned self.old result self.new }
+        ensures reads { TookBy remaining unsigned_at self.old result self.new }
+        ensures keeps { Keeps result self.old self.new }
+        ensures inside { IfOk result (λ c. IsWithin c self.old) }
+    {
+        self.next_unsigned()
     }
 }

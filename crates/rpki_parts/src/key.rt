@@ -322,6 +322,13 @@ impl PublicKey {
         self.bits.as_bytes()
     }
 
+    /// Returns a cursor over the key's bits.
+    pub fn bits_cursor(&self) -> Cursor<'_>
+        ensures { remaining result ≡ self.now.bits }
+    {
+        self.bits.cursor()
+    }
+
     /// Returns the SHA-1 hash of the bits.
     pub fn key_identifier(&self) -> KeyIdentifier
         ensures { result ≡ key_identifier self.now }

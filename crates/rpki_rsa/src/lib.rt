@@ -5,7 +5,7 @@
 
 mod encoding;
 mod key;
-mod octets;
+pub mod octets;
 mod verifier;
 mod verifying;
 

@@ -125,6 +125,12 @@ impl Answer {
         self.formed(made);
     }
 
+    /// Appends the number in decimal digits.
+    pub fn wide_number(&mut self, n: u64) {
+        let made = format!(in self.alloc; "{n}");
+        self.formed(made);
+    }
+
     /// Appends the number in hexadecimal digits, shortest.
     pub fn address(&mut self, n: u128) {
         let made = format!(in self.alloc; "{n:x}");

@@ -137,6 +137,8 @@ fn enclosing(words: &Words<'_>, cursor: &mut Cursor<'_>, out: &mut Answer) -> bo
         inside(out, cursor.take_octets());
     } else if words.is(0, "bits") {
         bits(out, cursor.take_bits());
+    } else if words.is(0, "unsigned") {
+        inside(out, cursor.take_unsigned());
     } else {
         return false;
     }

@@ -34,6 +34,8 @@
 //! Signatures:
 //! - `rsa KEY HEX SIGNATURE`: whether a signature is one of a message, by the bits of a key.
 //! - `rsa-key KEY`: whether bits are a key of the RPKI.
+//! - `key-form rpki KEY`, `key-form router KEY`: what the bits of such a key are, whether the RPKI
+//!   uses it, and whether the bits are a point of P-256. An exponent of 2^64 or more is `none`.
 //! - `real-path YYYYMMDDhhmmss MODE ta:HEX ca:HEX .. ee:HEX`: a path as above, with RSA signatures.
 //! - `real-revocation YYYYMMDDhhmmss MODE STORE ta:HEX ca:HEX .. ee:HEX`: the same, where the lists
 //!   of a store are asked, as `revocation` does.
@@ -63,8 +65,8 @@
 //!
 //! Values of DER, by one call of a cursor; TAG is an octet in hexadecimal:
 //! - `value TAG HEX`, `optional-value TAG HEX`.
-//! - `sequence`, `optional-sequence`, `octets`, `bits`, `oid`, `u32`, `null`, `boolean`, `skip`,
-//!   `skip-all`, `capture`, `capture-rest` and `finish`, each with HEX.
+//! - `sequence`, `optional-sequence`, `octets`, `bits`, `unsigned`, `oid`, `u32`, `null`, `boolean`,
+//!   `skip`, `skip-all`, `capture`, `capture-rest` and `finish`, each with HEX.
 //! - `identifier HEX`: the content of an OBJECT IDENTIFIER.
 //! - `write value TAG HEX`, `write parts TAG HEX HEX`, `write boolean yes`, `write unsigned HEX`,
 //!   `write bits UNUSED HEX`, `write oid HEX`, `write extension HEX critical HEX` (or `plain`).
@@ -97,6 +99,7 @@ mod certificates;
 mod cursors;
 mod extensions;
 mod judging;
+mod keys;
 mod lists;
 mod making;
 mod parts;
@@ -178,6 +181,8 @@ fn of_several(words: &Words<'_>, out: &mut Answer) -> bool {
         signatures::rsa(words, out);
     } else if words.is(0, "rsa-key") {
         signatures::rsa_key(words, out);
+    } else if words.is(0, "key-form") {
+        keys::key_form(words, out);
     } else if words.is(0, "run") {
         runs::answer(words, out);
     } else if words.is(0, "run-unnamed") {

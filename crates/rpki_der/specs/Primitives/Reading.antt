@@ -30,6 +30,14 @@ is_unsigned [] = false
 is_unsigned (b ∷ []) = nat_lt b 0x80
 is_unsigned (b ∷ c ∷ bytes) = nat_lt b 0x80 && (nat_lt 0 b || not (nat_lt c 0x80))
 
+-- the content, where it is one of an INTEGER of a number that isn't negative
+abbrev pub unsigned_of : List ℕ → Option (List ℕ)
+unsigned_of c = if is_unsigned c then Some c else None
+
+-- reads an INTEGER from 0 on as its content
+unfoldable pub unsigned_at : List ℕ → Option (List ℕ × List ℕ)
+unsigned_at = content INTEGER unsigned_of
+
 -- the number of an INTEGER's content, below this bound
 abbrev pub number_below : ℕ → List ℕ → Option ℕ
 number_below limit c = if is_unsigned c && nat_lt (number_from_digits 256 c) limit then Some (number_from_digits 256 c) else None

@@ -1,0 +1,3 @@
+pub mod Curve
+pub mod KeyForms
+pub mod RsaNumbers
