@@ -66,6 +66,10 @@ pub use Rattle.rpki_parts.specs.declared.valid_at.ValidityError
 pub use Rattle.rpki_rsa.specs.Octets
 pub use Rattle.rpki_rsa.specs.RsaKeys
 pub use Rattle.rpki_rsa.specs.RsaSignatures
+-- ---- which keys can be used
+pub use Rattle.rpki_keys.specs.Curve
+pub use Rattle.rpki_keys.specs.KeyForms
+pub use Rattle.rpki_keys.specs.declared.form.KeyForm
 -- ---- extensions
 pub use Rattle.rpki_ext.specs.OnlyElements
 pub use Rattle.rpki_ext.specs.Kinds
@@ -115,6 +119,9 @@ pub use Rattle.rpki_crl.specs.ListMaking
 pub use Rattle.rpki_crl.specs.Revocation
 pub use Rattle.rpki_crl.specs.declared.entry.CrlEntry
 pub use Rattle.rpki_crl.specs.declared.revocation_error.RevocationError
+-- ---- who answers for revocation
+pub use Rattle.rpki_revocation.specs.Asking
+pub use Rattle.rpki_revocation.specs.AskedLists
 -- ---- whole paths, and the program
 pub use Rattle.rpki_path.specs.Watching
 pub use Rattle.rpki_path.specs.HexWords
@@ -127,6 +134,10 @@ pub use Rattle.rpki_path.specs.Reports
 pub use Rattle.rpki_path.specs.FaultNames
 pub use Rattle.rpki_path.specs.Paths
 pub use Rattle.rpki_path.specs.Routers
+pub use Rattle.rpki_path.specs.GivenPaths
+pub use Rattle.rpki_path.specs.Judging
+pub use Rattle.rpki_path.specs.declared.given.Last
+pub use Rattle.rpki_path.specs.declared.judging.Judged
 pub use Rattle.rpki_path.specs.declared.path_fault.PathError
 pub use Rattle.rpki_path.specs.declared.path_fault.PathFault
 pub use Rattle.rpki_path.specs.declared.running.RunFault

@@ -1,5 +1,6 @@
 //! Keys, algorithms and signatures. A `Verifier` says what a valid signature is, a `Signer` makes
-//! one; `RsaVerifier` verifies those of the RPKI.
+//! one; `RsaVerifier` verifies those of the RPKI. `keys` tells which keys can be used.
+pub mod keys;
 pub mod rsa;
 
 pub use rpki_parts::{

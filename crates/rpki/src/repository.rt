@@ -5,6 +5,7 @@ pub mod error;
 pub mod extension;
 pub mod path;
 pub mod resources;
+pub mod revocation;
 pub mod tal;
 pub mod x509;
 

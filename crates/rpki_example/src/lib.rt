@@ -2,6 +2,7 @@
 #![tactic(auto)]
 
 ghost use Rattle.std.specs.Prelude.{true};
+ghost use Rattle.rpki.specs.Asking.{by_uri};
 ghost use Rattle.rpki.specs.RsaSignatures.{IsSignedByRsa};
 ghost use Rattle.rpki.specs.Verification.{context};
 ghost use Rattle.rpki_example.specs.Answers.{TellsHeld};
@@ -29,7 +30,7 @@ pub fn holds_as(
     asn: Asn,
 ) -> Result<bool, PathError>
     ensures held { let x = context IsSignedByRsa now true in
-        TellsHeld x store.now.pairs anchor.now cas.now asn result }
+        TellsHeld x (by_uri x store.now.pairs) anchor.now cas.now asn result }
 {
     let verifier = RsaVerifier;
     let holder = validate_path_with(alloc, store, anchor, cas, None, tal, true, now, &verifier)?;

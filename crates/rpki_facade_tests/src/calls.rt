@@ -1,26 +1,34 @@
 //! Signatures, certificates, paths, the program: what the facade's calls answer is what the layer
 //! says.
-ghost use Rattle.std.specs.Prelude.{◌≡◌, ◌↔◌, ◌^◌, ◌+◌, IsTrue, IfOk, OnOk, IfErr, None, Some, option_map};
+ghost use Rattle.std.specs.Prelude.{◌≡◌, ◌↔◌, ◌^◌, ◌+◌, IsTrue, IfOk, OnOk, IfErr, IsSome, length, option_map};
 ghost use Rattle.std.proofs.Common.{rc_value};
 ghost use Rattle.rpki_rsa.specs.RsaKeys.{IsRpkiKey};
 ghost use Rattle.rpki_rsa.specs.RsaSignatures.{IsRsaSignature};
+ghost use Rattle.rpki_keys.specs.Curve.{IsCurvePoint};
+ghost use Rattle.rpki_keys.specs.KeyForms.{IsKeyForm, IsUsableKey};
 ghost use Rattle.rpki_cert.specs.Certificates.{encoding};
 ghost use Rattle.rpki_cert.specs.Rearranging.{IsRejected};
 ghost use Rattle.rpki_cert.specs.Verification.{context};
+ghost use Rattle.rpki_revocation.specs.Asking.{nobody, by_uri};
 ghost use Rattle.rpki_path.specs.Paths.{candidates, Validates};
-ghost use Rattle.rpki_path.specs.Routers.{BeginsWithRouter};
+ghost use Rattle.rpki_path.specs.GivenPaths.{CanEndIn};
+ghost use Rattle.rpki_path.specs.Judging.{Judges};
+ghost use Rattle.rpki_path.specs.Routers.{BeginsWithRouter, by_uri_if_any};
 ghost use Rattle.rpki_path.specs.Watching.{device, HasFailed, TakesAtMost};
 
 use bytes::Bytes;
-use rpki::crypto::{Signer, Verifier, rsa};
+use rpki::crypto::keys::{self, KeyForm};
+use rpki::crypto::{PublicKey, Signer, Verifier, rsa};
 use rpki::program::{MAX_INPUT, RunFault, Status, Watched, program, run};
 use rpki::repository::cert::{
-    Extra, IssueCaError, RearrangeError, ResourceCert, TbsCert, issue_ca, rearrange,
+    Extra, IssueCaError, Kind, RearrangeError, ResourceCert, TbsCert, issue_ca, rearrange,
 };
 use rpki::repository::crl::CrlStore;
 use rpki::repository::path::{
-    Leaf, PathError, PathFault, validate_path, validate_path_with, validate_router,
+    GivenPath, Judged, Leaf, PathError, PathFault, judge, validate_path, validate_path_with,
+    validate_router,
 };
+use rpki::repository::revocation::RevocationSource;
 use rpki::repository::tal::TalInfo;
 use rpki::repository::x509::Time;
 use std::alloc::Global;
@@ -40,6 +48,27 @@ pub fn is_signature(bits: &[u8], message: &[u8], signature: &[u8]) -> bool
     ensures { IsTrue result ↔ IsRsaSignature bits.now message.now signature.now }
 {
     rsa::verify(bits, message, signature)
+}
+
+/// Tells whether bits are a point of P-256.
+pub fn is_curve_point(bits: &[u8]) -> bool
+    ensures { IsTrue result ↔ IsCurvePoint bits.now }
+{
+    keys::is_point(bits)
+}
+
+/// Tells whether the RPKI uses a key.
+pub fn is_used(key: &PublicKey) -> bool
+    ensures { IsTrue result ↔ IsUsableKey key.now }
+{
+    keys::is_usable(key)
+}
+
+/// Returns what a key is.
+pub fn key_form(key: &PublicKey) -> KeyForm
+    ensures { IsKeyForm result key.now }
+{
+    keys::form_of(key)
 }
 
 /// Issues a certificate below an issuer.
@@ -82,7 +111,7 @@ pub fn validated<V: Verifier>(
     verifier: &V,
 ) -> Result<ResourceCert, PathError>
     ensures { let x = context (V.verifies verifier.now) now strict in
-        Validates x None anchor.now (candidates cas.now leaf) (rc_value tal) result }
+        Validates x nobody anchor.now (candidates cas.now leaf) (rc_value tal) result }
 {
     validate_path(alloc, anchor, cas, leaf, tal, strict, now, verifier)
 }
@@ -100,8 +129,8 @@ pub fn validated_with<V: Verifier>(
     verifier: &V,
 ) -> Result<ResourceCert, PathError>
     ensures { let x = context (V.verifies verifier.now) now strict in
-        let pairs = Some store.now.pairs in
-        Validates x pairs anchor.now (candidates cas.now leaf) (rc_value tal) result }
+        let asked = by_uri x store.now.pairs in
+        Validates x asked anchor.now (candidates cas.now leaf) (rc_value tal) result }
 {
     validate_path_with(alloc, store, anchor, cas, leaf, tal, strict, now, verifier)
 }
@@ -117,10 +146,32 @@ pub fn validated_router<V: Verifier>(
     verifier: &V,
 ) -> Result<(), PathFault>
     ensures { let x = context (V.verifies verifier.now) now strict in
-        let pairs = option_map (λ store. store.now.pairs) lists.entry in
-        OnOk result (BeginsWithRouter x pairs issuer.now octets.now) }
+        let asked = by_uri_if_any x (option_map (λ store. store.now.pairs) lists.entry) in
+        OnOk result (BeginsWithRouter x asked issuer.now octets.now) }
 {
     validate_router(alloc, octets, issuer, lists, strict, now, verifier)
+}
+
+/// Splits strings into a path that is asked about.
+pub fn split<'p>(strings: &'p [Bytes], last: Kind) -> Option<GivenPath<'p>>
+    ensures { IsSome result ↔ CanEndIn last (length strings.now) }
+{
+    GivenPath::of(strings, last)
+}
+
+/// Judges a path, whoever is asked.
+pub fn judged<R: RevocationSource, V: Verifier>(
+    alloc: Global,
+    path: &GivenPath<'_>,
+    asked: &R,
+    strict: bool,
+    now: Time,
+    verifier: &V,
+) -> Result<Judged, PathError>
+    ensures { let x = context (V.verifies verifier.now) now strict in
+        Judges x (R.asks asked.now x) path.now result }
+{
+    judge(alloc, path, asked, strict, now, verifier)
 }
 
 /// Tells how many octets an input may have.

@@ -1,19 +1,25 @@
 //! Laws and comparisons: each of the facade's modules has those of the layer of its name.
-ghost use Rattle.std.specs.Prelude.{◌≡◌, ◌↔◌, IsOkAnd, IsTrue, ℕ, List, Bool};
+ghost use Rattle.std.specs.Prelude.{◌≡◌, ◌↔◌, Any, IsOkAnd, IsTrue, ℕ, List, Bool};
 ghost use Rattle.rpki_blocks.specs.Addresses.{IsIPAddrBlocks};
 ghost use Rattle.rpki_blocks.specs.Sets.{AreIn};
 ghost use Rattle.rpki_der.specs.Extensions.{IsExtension};
 ghost use Rattle.rpki_der.specs.Serials.{IsSerial};
+ghost use Rattle.rpki_der.specs.Times.{Moment};
 ghost use Rattle.rpki_der.specs.Values.{IsUnambiguous};
 ghost use Rattle.rpki_parts.specs.Uris.{IsParent};
-ghost use Rattle.rpki_cert.specs.Certificates.{CertFields, IsCertificate};
+ghost use Rattle.rpki_parts.specs.Keys.{KeyFields};
+ghost use Rattle.rpki_keys.specs.KeyForms.{IsKeyForm, IsUsableForm, IsUsableKey};
+ghost use Rattle.rpki_keys.specs.declared.form.KeyForm.{KeyForm};
+ghost use Rattle.rpki_cert.specs.Certificates.{TbsFields, CertFields, IsCertificate};
 ghost use Rattle.rpki_cert.specs.Profiles.{MeetsProfile, group};
-ghost use Rattle.rpki_cert.specs.Verification.{ResourceFields, HasIssued};
+ghost use Rattle.rpki_cert.specs.Verification.{ResourceFields, HasIssued, context};
 ghost use Rattle.rpki_cert.specs.declared.inspect.Kind.{Kind};
-ghost use Rattle.rpki_crl.specs.Lists.{IsCertificateList};
+ghost use Rattle.rpki_crl.specs.Lists.{CrlState, IsCertificateList};
+ghost use Rattle.rpki_revocation.specs.Asking.{IsUnrevokedBy};
+ghost use Rattle.rpki_revocation.specs.AskedLists.{LeavesUnrevoked, by_lists};
 ghost use Rattle.rpki_path.specs.Paths.{Path, Candidate, IsPathOf};
 
-use rpki::crypto::RpkiSignatureAlgorithm;
+use rpki::crypto::{RpkiSignatureAlgorithm, Verifier};
 use rpki::program::Status;
 use rpki::repository::cert::{KeyUsage, Kind};
 use rpki::repository::crl::CrlEntry;
@@ -34,6 +40,14 @@ pub fn of_resources()
     ensures { IsUnambiguous IsIPAddrBlocks }
 {
     laws::resources::unambiguous();
+}
+
+/// Tells which forms of keys the RPKI uses.
+pub fn of_keys()
+    ensures { (form : KeyForm) (key : KeyFields)
+        → IsKeyForm form key → IsUsableKey key → IsUsableForm form }
+{
+    laws::keys::usable_forms();
 }
 
 /// Tells that a URI has one parent.
@@ -78,6 +92,16 @@ pub fn of_lists()
     ensures { IsUnambiguous IsCertificateList }
 {
     laws::lists::unambiguous();
+}
+
+/// Tells that a certificate that given lists leave unrevoked is left so by one among them.
+pub fn of_revocation<V: Verifier>()
+    ensures { (v : V) (now : Moment) (strict : Bool) (lists : List CrlState)
+        (issuer : TbsFields) (c : CertFields) → let x = context (V.verifies v) now strict in
+        IsUnrevokedBy (by_lists x lists) issuer c
+        → Any (λ l. LeavesUnrevoked x issuer c l.list) lists }
+{
+    laws::revocation::left_by_one::<V>();
 }
 
 /// Tells that strings are at most one path.

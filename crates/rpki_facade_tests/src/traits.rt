@@ -6,6 +6,8 @@ fn lower_signer<S: rpki_parts::Signer>() {}
 
 fn lower_verifier<V: rpki_parts::Verifier>() {}
 
+fn lower_source<R: rpki_revocation::RevocationSource>() {}
+
 /// Takes a type of blocks for one of the layer.
 pub fn bound<B: rpki::repository::resources::Bound>() {
     lower_bound::<B>();
@@ -19,4 +21,9 @@ pub fn signer<S: rpki::crypto::Signer>() {
 /// Takes a verifier for one of the layer.
 pub fn verifier<V: rpki::crypto::Verifier>() {
     lower_verifier::<V>();
+}
+
+/// Takes who answers for revocation for one of the layer.
+pub fn source<R: rpki::repository::revocation::RevocationSource>() {
+    lower_source::<R>();
 }

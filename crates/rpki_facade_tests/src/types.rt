@@ -1,6 +1,6 @@
 //! Types: each is the lower crate's type.
 
-use rpki::repository::{cert, crl, error, extension, path, resources, tal, x509};
+use rpki::repository::{cert, crl, error, extension, path, resources, revocation, tal, x509};
 use rpki::{crypto, der, program, repository, uri};
 use rpki_blocks::{Addr, Asn};
 
@@ -39,6 +39,7 @@ pub fn of_parts() {
     same::<crypto::SigningError<u8>, rpki_parts::SigningError<u8>>();
     same::<crypto::StandIn, rpki_parts::StandIn>();
     same::<crypto::RsaVerifier, rpki_rsa::RsaVerifier>();
+    same::<crypto::keys::KeyForm, rpki_keys::KeyForm>();
     same::<x509::InvalidName, rpki_parts::InvalidName>();
     same::<x509::Name, rpki_parts::Name>();
     same::<x509::SignedData, rpki_parts::SignedData>();
@@ -106,6 +107,9 @@ pub fn of_lists_and_paths() {
     same::<crl::RevokedCertificatesIter<'static>, rpki_crl::RevokedCertificatesIter<'static>>();
     same::<crl::TbsCertList<u8>, rpki_crl::TbsCertList<u8>>();
     same::<path::Leaf, rpki_path::Leaf>();
+    same::<path::Last<'static>, rpki_path::Last<'static>>();
+    same::<revocation::NobodyAsked, rpki_revocation::NobodyAsked>();
+    same::<revocation::GivenLists<'static>, rpki_revocation::GivenLists<'static>>();
     same::<path::PathError, rpki_path::PathError>();
     same::<path::PathFault, rpki_path::PathFault>();
     same::<program::RunFault, rpki_path::RunFault>();

@@ -1,5 +1,4 @@
 -- What a step finds wrong, from what its calls find.
-use Rattle.std.specs.Prelude.{Option}
 use Rattle.std.proofs.Common.{◌≡◌, ℕ, List, sym, subst, inl, inr}
 use Rattle.rpki_der.specs.Place.{Rejects}
 use Rattle.rpki_der.specs.declared.error.DecodeError.{DecodeError}
@@ -15,14 +14,13 @@ use Rattle.rpki_cert.specs.declared.validation_error.ValidationError.TheVariants
 use Rattle.rpki_cert.specs.declared.verification_error.VerificationError.{VerificationError}
 use Rattle.rpki_cert.specs.declared.verification_error.VerificationError.TheVariants as verification
 use Rattle.rpki_crl.specs.Revocation.{revocation_checks}
-use Rattle.rpki_crl.specs.Stores.{Stored}
 use Rattle.rpki_crl.specs.declared.revocation_error.RevocationError.{RevocationError}
+use Rattle.rpki_revocation.specs.Asking.{RevocationChecks}
 use Rattle.rpki_path.specs.FaultNames.{of_decoding, of_verification, of_validation}
 use Rattle.rpki_path.specs.declared.path_fault.PathFault.{PathFault}
 use Rattle.rpki_path.specs.declared.path_fault.PathFault.TheVariants.{Decode, Inspect, Verify, Revocation, Memory}
-use Rattle.rpki_path.specs.Paths.{Demand, AskedCheck, Finds}
+use Rattle.rpki_path.specs.Paths.{Demand, Finds}
 use Rattle.rpki_path.specs.Paths.Steps.{IsUnread, IsIssuedBy, demand_under}
-use Rattle.rpki_path.proofs.ValidPaths.{unrevoked_asked}
 
 -- an error of reading says that no certificate begins the string
 pub not_decoded : (octets : List ℕ) (e : DecodeError) → Rejects e ((c : CertFields) → Means IsCertificate c octets → ⊥) → IsUnread octets (of_decoding e)
@@ -55,22 +53,22 @@ module _ (x : Context) (d : Demand) (octets : List ℕ) where
 
 -- ---- a member, from the certificate that is decoded
 
-module _ (x : Context) (lists : Option (List Stored)) (issuer : ResourceFields) (k : Kind) (octets : List ℕ) (c : CertFields) (r : ResourceFields) (begins : Means IsCertificate c octets) (below : IsValidBelow x issuer k c r) where
-  pub issued_by : IsVerified (AskedCheck x lists issuer.cert.fields r.cert) revocation_checks → IsIssuedBy x lists issuer k octets r
+module _ (x : Context) (asked : RevocationChecks) (issuer : ResourceFields) (k : Kind) (octets : List ℕ) (c : CertFields) (r : ResourceFields) (begins : Means IsCertificate c octets) (below : IsValidBelow x issuer k c r) where
+  pub issued_by : IsVerified (asked issuer.cert.fields r.cert) revocation_checks → IsIssuedBy x asked issuer k octets r
   issued_by free =
       let same : c ≡ r.cert = sym below.issued.cert_is in
       record {
         begins = subst (λ (d : CertFields). Means IsCertificate d octets) same begins;
         below = subst (λ (d : CertFields). IsValidBelow x issuer k d r) same below;
-        unrevoked = (unrevoked_asked x lists issuer.cert.fields r.cert).0 free;
+        unrevoked = free;
       }
 
   -- a member that is revoked is found so
-  pub revoked_below : (e : RevocationError) → IsFirstFalse (AskedCheck x lists issuer.cert.fields r.cert) revocation_checks e → Finds x (demand_under x lists issuer k) octets (Revocation e)
+  pub revoked_below : (e : RevocationError) → IsFirstFalse (asked issuer.cert.fields r.cert) revocation_checks e → Finds x (demand_under x asked issuer k) octets (Revocation e)
   revoked_below e first = record {
     cert = c;
     begins = begins;
     meets = below.meets;
     verified = below.checks;
-    first = subst (λ (d : CertFields). IsFirstFalse (AskedCheck x lists issuer.cert.fields d) revocation_checks e) below.issued.cert_is first;
+    first = subst (λ (d : CertFields). IsFirstFalse (asked issuer.cert.fields d) revocation_checks e) below.issued.cert_is first;
   }

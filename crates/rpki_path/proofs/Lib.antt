@@ -16,3 +16,5 @@ pub mod Routers
 pub mod PathSteps
 pub mod MoreNumbers
 pub mod Headlines
+pub mod GivenPaths
+pub mod Verdicts

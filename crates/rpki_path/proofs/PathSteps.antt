@@ -1,9 +1,8 @@
 -- The steps of a path: the CAs in turn, and a leaf.
-use Rattle.std.specs.Prelude.{Option}
 use Rattle.std.proofs.Common.{◌≡◌, ◌+◌, ◌<◌, ◌≤◌, ℕ, List, [], ◌∷◌, ◌++◌, length, map, take, drop, get_or, Result, Ok, Err, IfOk, IfErr, sym, ap, subst, ◌∙◌, add-one, arith}
 use Rattle.std.proofs.Math.Seq.{drop-cons}
 use Rattle.std.proofs.lemmas.List.{take-append-drop, take_more, take_all, map-append, length-map, length-take}
-use Rattle.rpki_crl.specs.Stores.{Stored}
+use Rattle.rpki_revocation.specs.Asking.{RevocationChecks}
 use Rattle.rpki_cert.specs.Verification.{Context, ResourceFields}
 use Rattle.rpki_cert.specs.declared.inspect.Kind.{Kind}
 use Rattle.rpki_cert.specs.declared.inspect.Kind.TheVariants.{Authority}
@@ -16,42 +15,42 @@ use Rattle.rpki_path.proofs.Rejections.{fault_there}
 parts : {X : Type 0} (xs : List X) (i : ℕ) (d : X) → i < length xs → xs ≡ take i xs ++ get_or xs i d ∷ drop (i + 1) xs
 parts xs i d h = sym (take-append-drop i xs) ∙ ap (λ (l : List _). take i xs ++ l) (rw add-one (drop-cons xs i d h))
 
-module _ (x : Context) (lists : Option (List Stored)) (anchor tal : List ℕ) where
+module _ (x : Context) (asked : RevocationChecks) (anchor tal : List ℕ) where
   -- ---- a CA
 
-  module _ (cas : List (List ℕ)) (i : ℕ) (h : i < length cas) (octets : List ℕ) (there : octets ≡ get_or cas i octets) (issuer : ResourceFields) (a : IsAccepted x lists anchor (map (candidate Authority) (take i cas)) tal issuer) where
+  module _ (cas : List (List ℕ)) (i : ℕ) (h : i < length cas) (octets : List ℕ) (there : octets ≡ get_or cas i octets) (issuer : ResourceFields) (a : IsAccepted x asked anchor (map (candidate Authority) (take i cas)) tal issuer) where
     -- an accepted path goes on with a CA that its last member issued
-    pub next_authority : (r : ResourceFields) → IsIssuedBy x lists issuer Authority octets r → IsAccepted x lists anchor (map (candidate Authority) (take (i + 1) cas)) tal r
+    pub next_authority : (r : ResourceFields) → IsIssuedBy x asked issuer Authority octets r → IsAccepted x asked anchor (map (candidate Authority) (take (i + 1) cas)) tal r
     next_authority r is =
-        let more = one_more x lists anchor (map (candidate Authority) (take i cas)) tal issuer Authority octets r a is in
+        let more = one_more x asked anchor (map (candidate Authority) (take i cas)) tal issuer Authority octets r a is in
         let longer : take (i + 1) cas ≡ take i cas ++ octets ∷ [] = take_more cas i octets h ∙ ap (λ (y : List ℕ). take i cas ++ y ∷ []) (sym there) in
         let same : map (candidate Authority) (take (i + 1) cas) ≡ map (candidate Authority) (take i cas) ++ candidate Authority octets ∷ [] = ap (λ (l : List (List ℕ)). map (candidate Authority) l) longer ∙ map-append (candidate Authority) (take i cas) (octets ∷ []) in
-        subst (λ (l : List Candidate). IsAccepted x lists anchor l tal r) (sym same) more
+        subst (λ (l : List Candidate). IsAccepted x asked anchor l tal r) (sym same) more
 
     -- a fault of the next CA is one of the path
-    pub wrong_authority : (e : PathError) → e.index ≡ i + 1 → Finds x (demand_under x lists issuer Authority) octets e.fault → IsFault x lists anchor (map (candidate Authority) cas) e
+    pub wrong_authority : (e : PathError) → e.index ≡ i + 1 → Finds x (demand_under x asked issuer Authority) octets e.fault → IsFault x asked anchor (map (candidate Authority) cas) e
     wrong_authority e at found =
         let before = map (candidate Authority) (take i cas) in
         let after = map (candidate Authority) (drop (i + 1) cas) in
         let index : e.index ≡ length before + 1 = omega (arith, at, length-map (take i cas) (candidate Authority), length-take i cas) in
-        let fault = fault_there x lists anchor before Authority octets after tal issuer a e index found in
+        let fault = fault_there x asked anchor before Authority octets after tal issuer a e index found in
         let split : cas ≡ take i cas ++ octets ∷ drop (i + 1) cas = parts cas i octets h ∙ ap (λ (y : List ℕ). take i cas ++ y ∷ drop (i + 1) cas) (sym there) in
         let same : map (candidate Authority) cas ≡ before ++ candidate Authority octets ∷ after = ap (λ (l : List (List ℕ)). map (candidate Authority) l) split ∙ map-append (candidate Authority) (take i cas) (octets ∷ drop (i + 1) cas) in
-        subst (λ (l : List Candidate). IsFault x lists anchor l e) (sym same) fault
+        subst (λ (l : List Candidate). IsFault x asked anchor l e) (sym same) fault
 
   -- all of them
-  pub whole : (cas : List (List ℕ)) (i : ℕ) → length cas ≤ i → (r : ResourceFields) → IsAccepted x lists anchor (map (candidate Authority) (take i cas)) tal r → IsAccepted x lists anchor (map (candidate Authority) cas) tal r
-  whole cas i h r a = subst (λ (l : List (List ℕ)). IsAccepted x lists anchor (map (candidate Authority) l) tal r) (take_all i cas h) a
+  pub whole : (cas : List (List ℕ)) (i : ℕ) → length cas ≤ i → (r : ResourceFields) → IsAccepted x asked anchor (map (candidate Authority) (take i cas)) tal r → IsAccepted x asked anchor (map (candidate Authority) cas) tal r
+  whole cas i h r a = subst (λ (l : List (List ℕ)). IsAccepted x asked anchor (map (candidate Authority) l) tal r) (take_all i cas h) a
 
   -- ---- a leaf
 
-  module _ (below : List Candidate) (issuer : ResourceFields) (a : IsAccepted x lists anchor below tal issuer) (kind : Kind) (octets : List ℕ) where
+  module _ (below : List Candidate) (issuer : ResourceFields) (a : IsAccepted x asked anchor below tal issuer) (kind : Kind) (octets : List ℕ) where
     -- an accepted path goes on with a leaf that its last member issued
-    pub leaf_accepted : (r : Result ResourceFields PathError) → IfOk r (IsIssuedBy x lists issuer kind octets) → IfOk r (IsAccepted x lists anchor (below ++ candidate kind octets ∷ []) tal)
-    leaf_accepted (Ok r) h = one_more x lists anchor below tal issuer kind octets r a h
+    pub leaf_accepted : (r : Result ResourceFields PathError) → IfOk r (IsIssuedBy x asked issuer kind octets) → IfOk r (IsAccepted x asked anchor (below ++ candidate kind octets ∷ []) tal)
+    leaf_accepted (Ok r) h = one_more x asked anchor below tal issuer kind octets r a h
     leaf_accepted (Err e) h = tt
 
     -- a fault of the leaf is one of the path
-    pub leaf_wrong : (n : ℕ) → n ≡ length below + 1 → (r : Result ResourceFields PathError) → IfErr r (λ e. e.index ≡ n) → IfErr r (λ e. Finds x (demand_under x lists issuer kind) octets e.fault) → IfErr r (IsFault x lists anchor (below ++ candidate kind octets ∷ []))
+    pub leaf_wrong : (n : ℕ) → n ≡ length below + 1 → (r : Result ResourceFields PathError) → IfErr r (λ e. e.index ≡ n) → IfErr r (λ e. Finds x (demand_under x asked issuer kind) octets e.fault) → IfErr r (IsFault x asked anchor (below ++ candidate kind octets ∷ []))
     leaf_wrong n is (Ok r) at h = tt
-    leaf_wrong n is (Err e) at h = fault_there x lists anchor below kind octets [] tal issuer a e (at ∙ is) h
+    leaf_wrong n is (Err e) at h = fault_there x asked anchor below kind octets [] tal issuer a e (at ∙ is) h

@@ -1,6 +1,5 @@
 -- Strings that begin with other members than a valid path has.
 use Rattle.std.specs.List.{AllZip}
-use Rattle.std.specs.Prelude.{Option, None}
 use Rattle.std.proofs.Common.{◌≡◌, ◌+◌, ◌<◌, ◌≤◌, ◌↔◌, ℕ, List, ◌∷◌, ◌++◌, length, refl, sym, ap, subst, ◌∙◌, inl, inr, arith}
 use Rattle.std.proofs.lemmas.List.{append_assoc, length-append}
 use Rattle.rpki_der.specs.Values.{IsUnambiguous}
@@ -13,16 +12,16 @@ use Rattle.rpki_cert.proofs.Checks.{all_map, first_map, first_not_all}
 use Rattle.rpki_cert.specs.declared.inspect.Kind.{Kind}
 use Rattle.rpki_cert.specs.declared.verification_error.VerificationError.{VerificationError}
 use Rattle.rpki_crl.specs.Revocation.{revocation_checks}
-use Rattle.rpki_crl.specs.Stores.{Stored}
 use Rattle.rpki_crl.specs.declared.revocation_error.RevocationError.{RevocationError}
+use Rattle.rpki_revocation.specs.Asking.{RevocationChecks, nobody, IsUnrevokedBy}
 use Rattle.rpki_der.proofs.Formats.{one_meant}
 use Rattle.rpki_path.specs.declared.path_fault.PathFault.{PathFault}
 use Rattle.rpki_path.specs.declared.path_fault.PathFault.TheVariants.{Decode, Inspect, Verify, Revocation, Memory}
 use Rattle.rpki_path.specs.declared.path_fault.PathError.{PathError}
-use Rattle.rpki_path.specs.Paths.{Member, Path, last, certificate_at, CheckBelow, AskedCheck, AskedBelow, IsUnrevokedIfAsked, IsValidPath, Candidate, candidate, IsMember, IsPathOf, IsAccepted, IsNoValidPath, UnlessMemory, Demand, trust_anchor_demand, demand_below, Finds, IsFaultOfTrustAnchor, IsFaultBelow, IsFault, IsUnasked}
+use Rattle.rpki_path.specs.Paths.{Member, Path, last, certificate_at, CheckBelow, AskedBelow, IsValidPath, Candidate, candidate, IsMember, IsPathOf, IsAccepted, IsNoValidPath, UnlessMemory, Demand, trust_anchor_demand, demand_below, Finds, IsFaultOfTrustAnchor, IsFaultBelow, IsFault, IsUnasked}
 use Rattle.rpki_path.specs.Paths.Steps.{demand_under}
 use Rattle.rpki_path.proofs.LongerPaths.{extended, above, there, Parted, parted, zip_one, all_at}
-use Rattle.rpki_path.proofs.ValidPaths.{unasked_checks, unrevoked_asked, check_last, check_above}
+use Rattle.rpki_path.proofs.ValidPaths.{unasked_checks, check_last, check_above}
 
 -- ---- the members that strings begin with
 
@@ -65,7 +64,7 @@ finds_map x kind check other checks asked next octets (Revocation e) same free h
 finds_map x kind check other checks asked next octets Memory same free h = h
 
 module _ (x : Context) where
-  -- where no lists are given, no fault is one of revocation
+  -- where what is asked is true, no fault is one of revocation
   pub unasked_demand : (d : Demand) → ((c : CertFields) → IsVerified (d.asked_check c) revocation_checks) → (octets : List ℕ) (e : PathFault) → Finds x d octets e → IsUnasked e
   unasked_demand d all octets (Decode e) h = tt
   unasked_demand d all octets (Inspect e) h = tt
@@ -73,10 +72,10 @@ module _ (x : Context) where
   unasked_demand d all octets (Revocation e) h = first_not_all (d.asked_check h.cert) revocation_checks e h.first (all h.cert)
   unasked_demand d all octets Memory h = tt
 
-  -- without revocation lists no fault is one of revocation
-  pub unasked : (anchor : List ℕ) (below : List Candidate) (e : PathError) → IsFault x None anchor below e → IsUnasked e.fault
+  -- where nobody is asked, no fault is one of revocation
+  pub unasked : (anchor : List ℕ) (below : List Candidate) (e : PathError) → IsFault x nobody anchor below e → IsUnasked e.fault
   unasked anchor below e (inl h) = unasked_demand (trust_anchor_demand x) (λ c. unasked_checks revocation_checks) anchor e.fault h.fault_is
-  unasked anchor below e (inr h) = unasked_demand (demand_below x None h.path (last h.path) h.there.kind) (λ c. unasked_checks revocation_checks) h.there.octets e.fault h.fault_is
+  unasked anchor below e (inr h) = unasked_demand (demand_below x nobody h.path (last h.path) h.there.kind) (λ c. unasked_checks revocation_checks) h.there.octets e.fault h.fault_is
 
 -- ---- what is found doesn't fit a valid certificate
 
@@ -112,15 +111,15 @@ unless_refuted P (Verify e) h = h
 unless_refuted P (Revocation e) h = h
 unless_refuted P Memory h = tt
 
-module _ (x : Context) (lists : Option (List Stored)) where
+module _ (x : Context) (asked : RevocationChecks) where
   -- ---- errors
 
   -- an error of the string below an accepted path
-  pub fault_there : (anchor : List ℕ) (before : List Candidate) (kind : Kind) (octets : List ℕ) (after : List Candidate) (tal : List ℕ) (issuer : ResourceFields) → IsAccepted x lists anchor before tal issuer → (e : PathError) → e.index ≡ length before + 1 → Finds x (demand_under x lists issuer kind) octets e.fault → IsFault x lists anchor (before ++ candidate kind octets ∷ after) e
+  pub fault_there : (anchor : List ℕ) (before : List Candidate) (kind : Kind) (octets : List ℕ) (after : List Candidate) (tal : List ℕ) (issuer : ResourceFields) → IsAccepted x asked anchor before tal issuer → (e : PathError) → e.index ≡ length before + 1 → Finds x (demand_under x asked issuer kind) octets e.fault → IsFault x asked anchor (before ++ candidate kind octets ∷ after) e
   fault_there anchor before kind octets after tal issuer a e at found =
       let p = a.path in
-      let asked_same : (c : CertFields) (l : RevocationError) → AskedCheck x lists issuer.cert.fields c l ↔ AskedBelow x lists p (last p) c l =
-      λ c l. subst (λ (d : CertFields). AskedCheck x lists issuer.cert.fields c l ↔ AskedCheck x lists d.fields c l) a.held.cert_is ((λ h. h), (λ h. h)) in
+      let asked_same : (c : CertFields) (l : RevocationError) → asked issuer.cert.fields c l ↔ AskedBelow asked p (last p) c l =
+      λ c l. subst (λ (d : CertFields). asked issuer.cert.fields c l ↔ asked d.fields c l) a.held.cert_is ((λ h. h), (λ h. h)) in
       inr (record {
         before = before;
         there = candidate kind octets;
@@ -130,11 +129,11 @@ module _ (x : Context) (lists : Option (List Stored)) where
         path_of = a.path_of;
         is_valid = a.is_valid;
         index_is = at;
-        fault_is = finds_map x kind (CheckUnder x issuer) (CheckBelow x p (last p)) issued_checks (AskedCheck x lists issuer.cert.fields) (AskedBelow x lists p (last p)) octets e.fault (check_last x p tal issuer a.held) asked_same found;
+        fault_is = finds_map x kind (CheckUnder x issuer) (CheckBelow x p (last p)) issued_checks (asked issuer.cert.fields) (AskedBelow asked p (last p)) octets e.fault (check_last x p tal issuer a.held) asked_same found;
       })
 
   -- it is one of more strings
-  pub fault_of_more : (anchor : List ℕ) (below more : List Candidate) (e : PathError) → IsFault x lists anchor below e → IsFault x lists anchor (below ++ more) e
+  pub fault_of_more : (anchor : List ℕ) (below more : List Candidate) (e : PathError) → IsFault x asked anchor below e → IsFault x asked anchor (below ++ more) e
   fault_of_more anchor below more e (inl h) = inl h
   fault_of_more anchor below more e (inr h) = inr (record {
     before = h.before;
@@ -152,14 +151,14 @@ module _ (x : Context) (lists : Option (List Stored)) where
 
   module _ (law : IsUnambiguous IsCertificate) where
     -- a refusal that holds of each path
-    for_each : (e : PathFault) (anchor : List ℕ) (below : List Candidate) → ((p : Path) → IsPathOf anchor below p → IsValidPath x lists p → UnlessMemory e ⊥) → UnlessMemory e (IsNoValidPath x lists anchor below)
+    for_each : (e : PathFault) (anchor : List ℕ) (below : List Candidate) → ((p : Path) → IsPathOf anchor below p → IsValidPath x asked p → UnlessMemory e ⊥) → UnlessMemory e (IsNoValidPath x asked anchor below)
     for_each e anchor below h =
-        unless_weaker e (λ none p of is_valid. none (p, of, is_valid)) (unless_refuted ((p : Path) × IsPathOf anchor below p × IsValidPath x lists p) e (λ t. h t.0 t.1 t.2))
+        unless_weaker e (λ none p of is_valid. none (p, of, is_valid)) (unless_refuted ((p : Path) × IsPathOf anchor below p × IsValidPath x asked p) e (λ t. h t.0 t.1 t.2))
 
-    no_anchor : (anchor : List ℕ) (below : List Candidate) (e : PathError) → IsFaultOfTrustAnchor x anchor e → (p : Path) → IsPathOf anchor below p → IsValidPath x lists p → UnlessMemory e.fault ⊥
+    no_anchor : (anchor : List ℕ) (below : List Candidate) (e : PathError) → IsFaultOfTrustAnchor x anchor e → (p : Path) → IsPathOf anchor below p → IsValidPath x asked p → UnlessMemory e.fault ⊥
     no_anchor anchor below e h p of is_valid = found_against x law (trust_anchor_demand x) anchor e.fault h.fault_is p.anchor of.anchor_begins is_valid.anchor_meets is_valid.anchor_verified (unasked_checks revocation_checks)
 
-    module _ (anchor : List ℕ) (below : List Candidate) (e : PathError) (h : IsFaultBelow x lists anchor below e) (p : Path) (of : IsPathOf anchor below p) where
+    module _ (anchor : List ℕ) (below : List Candidate) (e : PathError) (h : IsFaultBelow x asked anchor below e) (p : Path) (of : IsPathOf anchor below p) where
       split : Parted IsMember p.below h.before h.there
       split = parted IsMember p.below h.before h.there h.after (subst (λ (l : List Candidate). AllZip IsMember p.below l) h.parts of.members)
 
@@ -172,24 +171,23 @@ module _ (x : Context) (lists : Option (List Stored)) where
           let first : p ≡ record { anchor = h.path.anchor; below = p.below } = ap (λ (c : CertFields). let y : Path = record { anchor = c; below = p.below } in y) anchors in
           first ∙ ap (λ (l : List Member). let y : Path = record { anchor = h.path.anchor; below = l } in y) belows
 
-      no_member : IsValidPath x lists p → UnlessMemory e.fault ⊥
+      no_member : IsValidPath x asked p → UnlessMemory e.fault ⊥
       no_member is_valid =
           let q = h.path in
           let m = split.item in
           let all = extended q m split.more in
-          let longer : IsValidPath x lists all = subst (λ (y : Path). IsValidPath x lists y) goes_on is_valid in
+          let longer : IsValidPath x asked all = subst (λ (y : Path). IsValidPath x asked y) goes_on is_valid in
           let low : last q < last all = omega (arith, length-append q.below (m ∷ split.more)) in
           let same : last q ≤ last q = omega arith in
           let meets : MeetsProfile m.kind x.strict m.cert = all_at (λ (y : Member). MeetsProfile y.kind x.strict y.cert) q.below m split.more longer.members_meet in
           let verified : IsVerified (CheckBelow x all (last q) m.cert) issued_checks = subst (λ (c : CertFields). IsVerified (CheckBelow x all (last q) c) issued_checks) (there q m split.more) (longer.members_verified (last q) low) in
           let checks : IsVerified (CheckBelow x q (last q) m.cert) issued_checks = all_map (CheckBelow x all (last q) m.cert) (CheckBelow x q (last q) m.cert) issued_checks (λ l. (check_above x q m split.more (last q) same m.cert l).1) verified in
-          let unrevoked : IsUnrevokedIfAsked x lists (certificate_at all (last q)).fields m.cert = subst (λ (c : CertFields). IsUnrevokedIfAsked x lists (certificate_at all (last q)).fields c) (there q m split.more) (longer.members_unrevoked (last q) low) in
-          let under : IsUnrevokedIfAsked x lists (certificate_at q (last q)).fields m.cert = subst (λ (c : CertFields). IsUnrevokedIfAsked x lists c.fields m.cert) (above q m split.more (last q) same) unrevoked in
-          let free : IsVerified (AskedBelow x lists q (last q) m.cert) revocation_checks = (unrevoked_asked x lists (certificate_at q (last q)).fields m.cert).1 under in
+          let unrevoked : IsUnrevokedBy asked (certificate_at all (last q)).fields m.cert = subst (λ (c : CertFields). IsUnrevokedBy asked (certificate_at all (last q)).fields c) (there q m split.more) (longer.members_unrevoked (last q) low) in
+          let free : IsUnrevokedBy asked (certificate_at q (last q)).fields m.cert = subst (λ (c : CertFields). IsUnrevokedBy asked c.fields m.cert) (above q m split.more (last q) same) unrevoked in
           let kind_is : m.kind ≡ h.there.kind = split.items.kind_is in
-          found_against x law (demand_below x lists q (last q) h.there.kind) h.there.octets e.fault h.fault_is m.cert split.items.begins (subst (λ (k : Kind). MeetsProfile k x.strict m.cert) kind_is meets) checks free
+          found_against x law (demand_below x asked q (last q) h.there.kind) h.there.octets e.fault h.fault_is m.cert split.items.begins (subst (λ (k : Kind). MeetsProfile k x.strict m.cert) kind_is meets) checks free
 
     -- a fault says that the strings are no valid path, unless it ran out of memory
-    pub no_valid_path : (anchor : List ℕ) (below : List Candidate) (e : PathError) → IsFault x lists anchor below e → UnlessMemory e.fault (IsNoValidPath x lists anchor below)
+    pub no_valid_path : (anchor : List ℕ) (below : List Candidate) (e : PathError) → IsFault x asked anchor below e → UnlessMemory e.fault (IsNoValidPath x asked anchor below)
     no_valid_path anchor below e (inl h) = for_each e.fault anchor below (no_anchor anchor below e h)
     no_valid_path anchor below e (inr h) = for_each e.fault anchor below (no_member anchor below e h)

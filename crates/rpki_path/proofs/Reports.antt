@@ -1,6 +1,6 @@
 -- What a report says of what was asked.
 use Rattle.std.proofs.Common.{◌≡◌, ℕ, Bool, true, false, inl, inr, List, [], ◌∷◌, Result, Ok, Err, refl, sym, subst, arith}
-use Rattle.std.specs.Prelude.{IsTrue, ◌↔◌, Contains, IfOk, OnOk, None, cond, codes, string_bytes}
+use Rattle.std.specs.Prelude.{IsTrue, ◌↔◌, Contains, IfOk, OnOk, cond, codes, string_bytes}
 use Rattle.std.proofs.lemmas.Bool.{false≢true}
 use Rattle.rpki_der.specs.declared.error.DecodeError.{DecodeError}
 use Rattle.rpki_der.specs.declared.error.DecodeError.TheVariants.{Truncated, BadLength, BadTag, BadValue, Trailing, TooDeep, Missing, Duplicate, Critical, NotCritical, UnexpectedCritical, InvalidExtension, WrongResources, AlgorithmMismatch, Memory}
@@ -8,6 +8,7 @@ use Rattle.rpki_der.specs.ErrorNames.{decode_error_name}
 use Rattle.rpki_der.specs.Place.{Rejects}
 use Rattle.rpki_cert.specs.Verification.{ResourceFields}
 use Rattle.rpki_crl.specs.RevokedEntries.{IsRevoked, IsRevokedCertificates, Revoked}
+use Rattle.rpki_revocation.specs.Asking.{nobody}
 use Rattle.rpki_path.specs.declared.running.Status.{Status}
 use Rattle.rpki_path.specs.declared.running.Status.TheVariants as status
 use Rattle.rpki_path.specs.declared.report.Report.{Report}
@@ -73,7 +74,7 @@ rejected_says list serial e (Err x) none other s named = tt
 
 -- ---- paths
 
-accepted_says : (q : PathQuestion) (tal : List ℕ) (r : ResourceFields) → IsAccepted (question_context q) None q.anchor_octets (asked_below q) tal r → HasSortedSets r → SaysOfPath q (accepted_text r) status.Done
+accepted_says : (q : PathQuestion) (tal : List ℕ) (r : ResourceFields) → IsAccepted (question_context q) nobody q.anchor_octets (asked_below q) tal r → HasSortedSets r → SaysOfPath q (accepted_text r) status.Done
 accepted_says q tal r a sorted = (
   a.path,
   a.path_of,
@@ -90,7 +91,7 @@ accepted_says q tal r a sorted = (
 )
 
 -- a report of an accepted path says what its last member holds
-pub path_accepted : {E : Type 0} (q : PathQuestion) (tal : List ℕ) (cert : ResourceFields) (r : Result Report E) → IsAccepted (question_context q) None q.anchor_octets (asked_below q) tal cert
+pub path_accepted : {E : Type 0} (q : PathQuestion) (tal : List ℕ) (cert : ResourceFields) (r : Result Report E) → IsAccepted (question_context q) nobody q.anchor_octets (asked_below q) tal cert
     → IfOk r (λ report. report.status ≡ status.Done) → IfOk r (λ report. string_bytes report.text ≡ accepted_text cert) → OnOk r (HasSortedSets cert) → IfOk r (λ report. SaysOfPath q (string_bytes report.text) report.status)
 path_accepted q tal cert (Ok report) a s t sorted = says_with (SaysOfPath q) report status.Done (accepted_text cert) s t (accepted_says q tal cert a sorted)
 path_accepted q tal cert (Err x) a s t sorted = tt
@@ -104,7 +105,7 @@ not_memory (fault.Revocation e) stage name t h = h
 not_memory fault.Memory stage name t h = absurd t
 
 -- a report that prints the fault of a rejected path says what the program has to say
-pub path_wrong : {E : Type 0} (q : PathQuestion) (e : PathError) (r : Result Report E) → paths.UnlessMemory e.fault (IsNoValidPath (question_context q) None q.anchor_octets (asked_below q)) → IsFault (question_context q) None q.anchor_octets (asked_below q) e
+pub path_wrong : {E : Type 0} (q : PathQuestion) (e : PathError) (r : Result Report E) → paths.UnlessMemory e.fault (IsNoValidPath (question_context q) nobody q.anchor_octets (asked_below q)) → IsFault (question_context q) nobody q.anchor_octets (asked_below q) e
     → IfOk r (λ report. report.status ≡ status.Refused) → IfOk r (λ report. PrintsFault e (string_bytes report.text)) → IfOk r (λ report. SaysOfPath q (string_bytes report.text) report.status)
 path_wrong q e (Ok report) none is s prints =
     subst (λ (x : Status). SaysOfPath q (string_bytes report.text) x) (sym s) (not_memory e.fault prints.stage prints.name prints.told none, e, is, prints)

@@ -1,6 +1,5 @@
 -- A valid path gets a further member.
 use Rattle.std.specs.List.{AllByRecursion}
-use Rattle.std.specs.Prelude.{Option, None, Some}
 use Rattle.std.proofs.Common.{◌≡◌, ◌⊎◌, ◌↔◌, ◌+◌, ◌<◌, ◌≤◌, ℕ, List, [], ◌∷◌, ◌++◌, refl, sym, ap, subst, ◌∙◌, inl, inr, arith}
 use Rattle.std.proofs.Math.Nat.{eq-or-lt_of_le}
 use Rattle.rpki_blocks.specs.Sets.{Has, Block}
@@ -12,25 +11,19 @@ use Rattle.rpki_cert.specs.Verification.{Context, Held, Check, CheckUnder, issue
 use Rattle.rpki_cert.specs.declared.inspect.Kind.{Kind}
 use Rattle.rpki_cert.specs.declared.verification_error.VerificationError.{VerificationError}
 use Rattle.rpki_cert.specs.declared.verification_error.VerificationError.TheVariants.{NotYetValid, Expired, InheritedV4, InheritedV6, InheritedAs, MissingKeyId, WrongKeyId, MissingIssuerUri, BadSignature, OverclaimV4, OverclaimV6, OverclaimAs, Memory}
-use Rattle.rpki_crl.specs.Revocation.{revocation_checks}
-use Rattle.rpki_crl.specs.Stores.{Stored}
 use Rattle.rpki_crl.specs.declared.revocation_error.RevocationError.{RevocationError}
+use Rattle.rpki_revocation.specs.Asking.{RevocationChecks, IsUnrevokedBy}
 use Rattle.rpki_cert.proofs.Checks.{all_map}
-use Rattle.rpki_path.specs.Paths.{Member, Path, member, longer, last, certificate_at, NumberKind, v4_addresses, v6_addresses, system_numbers, kind_resources, Holds, HeldAt, CheckBelow, AskedCheck, IsUnrevokedIfAsked, IsValidPath, Candidate, candidate, IsMember, HasHeld, IsAccepted}
+use Rattle.rpki_path.specs.Paths.{Member, Path, member, longer, last, certificate_at, NumberKind, v4_addresses, v6_addresses, system_numbers, kind_resources, Holds, HeldAt, CheckBelow, IsValidPath, Candidate, candidate, IsMember, HasHeld, IsAccepted}
 use Rattle.rpki_path.specs.Paths.Steps.{IsTrustAnchor, IsIssuedBy}
 use Rattle.rpki_path.proofs.LongerPaths.{extended, above, there, last_extended, holds_above, holds_there, gets_passed, zip_more, all_more}
 
--- ---- lists
+-- ---- revocation
 
 -- checks that ask nothing are true
 pub unasked_checks : (es : List RevocationError) → AllByRecursion (λ e. Unit {0}) es
 unasked_checks [] = tt
 unasked_checks (e ∷ es) = (tt, unasked_checks es)
-
--- all that is asked is true where lists, if they are given, leave the certificate unrevoked
-pub unrevoked_asked : (x : Context) (lists : Option (List Stored)) (issuer : TbsFields) (c : CertFields) → IsVerified (AskedCheck x lists issuer c) revocation_checks ↔ IsUnrevokedIfAsked x lists issuer c
-unrevoked_asked x None issuer c = ((λ h. tt), (λ h. unasked_checks revocation_checks))
-unrevoked_asked x (Some lists) issuer c = ((λ h. h), (λ h. h))
 
 -- ---- checks
 
@@ -87,9 +80,9 @@ module _ (x : Context) where
 
   -- ---- a further member
 
-  module _ (lists : Option (List Stored)) where
+  module _ (asked : RevocationChecks) where
     -- a trust anchor alone
-    pub anchor_alone : (anchor tal : List ℕ) (r : ResourceFields) → IsTrustAnchor x anchor tal r → IsAccepted x lists anchor [] tal r
+    pub anchor_alone : (anchor tal : List ℕ) (r : ResourceFields) → IsTrustAnchor x anchor tal r → IsAccepted x asked anchor [] tal r
     anchor_alone anchor tal r is =
         let p : Path = record { anchor = r.cert; below = [] } in
         let holds : (k : NumberKind) (n : ℕ) → Rattle.rpki_path.specs.Paths.Lists r.cert k n ↔ Holds p 0 k n = λ k n. ((λ l. record { listed = l; passed_on = λ j low high. absurd (omega arith) }), (λ h. h.listed)) in
@@ -138,7 +131,7 @@ module _ (x : Context) where
         tal_is = issued.tal_is ∙ held.tal_is;
       }
 
-      module _ (is_valid : IsValidPath x lists p) (is : IsValidBelow x issuer k r.cert r) (free : IsUnrevokedIfAsked x lists issuer.cert.fields r.cert) where
+      module _ (is_valid : IsValidPath x asked p) (is : IsValidBelow x issuer k r.cert r) (free : IsUnrevokedBy asked issuer.cert.fields r.cert) where
         verified : (i : ℕ) → (i ≡ last p) ⊎ (i < last p) → IsVerified (CheckBelow x more i (certificate_at more (i + 1))) issued_checks
         verified i (inl e) =
             let h : last p ≤ last p = omega arith in
@@ -155,7 +148,7 @@ module _ (x : Context) where
 
         -- a certificate that isn't revoked below another
         abbrev Free : CertFields → CertFields → Type 0
-        Free above c = IsUnrevokedIfAsked x lists above.fields c
+        Free above c = IsUnrevokedBy asked above.fields c
 
         unrevoked : (i : ℕ) → (i ≡ last p) ⊎ (i < last p) → Free (certificate_at more i) (certificate_at more (i + 1))
         unrevoked i (inl e) =
@@ -170,7 +163,7 @@ module _ (x : Context) where
             subst (λ (c : CertFields). Free (certificate_at more i) c) (sym (above p m [] (i + 1) next))
             (subst (λ (c : CertFields). Free c (certificate_at p (i + 1))) (sym (above p m [] i low)) (is_valid.members_unrevoked i h))
 
-        pub valid_then : IsValidPath x lists more
+        pub valid_then : IsValidPath x asked more
         valid_then = record {
           anchor_meets = is_valid.anchor_meets;
           members_meet = all_more (λ (m : Member). MeetsProfile m.kind x.strict m.cert) p.below m is_valid.members_meet is.meets;
@@ -180,7 +173,7 @@ module _ (x : Context) where
         }
 
     -- the path with one member more
-    pub one_more : (anchor : List ℕ) (below : List Candidate) (tal : List ℕ) (issuer : ResourceFields) (k : Kind) (octets : List ℕ) (r : ResourceFields) → IsAccepted x lists anchor below tal issuer → IsIssuedBy x lists issuer k octets r → IsAccepted x lists anchor (below ++ candidate k octets ∷ []) tal r
+    pub one_more : (anchor : List ℕ) (below : List Candidate) (tal : List ℕ) (issuer : ResourceFields) (k : Kind) (octets : List ℕ) (r : ResourceFields) → IsAccepted x asked anchor below tal issuer → IsIssuedBy x asked issuer k octets r → IsAccepted x asked anchor (below ++ candidate k octets ∷ []) tal r
     one_more anchor below tal issuer k octets r a is =
         let p = a.path in
         record {

@@ -9,3 +9,5 @@ pub mod Reports
 pub mod FaultNames
 pub mod Paths
 pub mod Routers
+pub mod GivenPaths
+pub mod Judging

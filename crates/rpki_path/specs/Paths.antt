@@ -1,6 +1,6 @@
 -- Valid paths: what they are, and which numbers their members hold (RFC 6487 7.2, RFC 8360 4.2.4.4;
--- own: revocation lists are asked where they are given, and the chaining of names is the caller's
--- to ask).
+-- own: whoever is asked for revocation is the caller's to choose, and the chaining of names the
+-- caller's to ask).
 use Rattle.std.specs.Prelude.{◌≡◌, ◌≢◌, ◌↔◌, ◌⊎◌, ◌+◌, ◌-◌, ◌^◌, ◌<◌, ◌≤◌, ℕ, List, [], ◌∷◌, ◌++◌, length, map, slice_index_or, Option, Some, None, Result, Ok, Err}
 use Rattle.std.specs.List.{AllByRecursion, AllZip}
 use Rattle.rpki_der.specs.declared.error.DecodeError.TheVariants as decoding
@@ -18,9 +18,9 @@ use Rattle.rpki_cert.specs.declared.inspect.Kind.TheVariants.{Anchor, Authority,
 use Rattle.rpki_cert.specs.declared.validation_error.ValidationError.{ValidationError}
 use Rattle.rpki_cert.specs.declared.validation_error.ValidationError.TheVariants.{Inspection, Verification}
 use Rattle.rpki_cert.specs.declared.verification_error.VerificationError.{VerificationError}
-use Rattle.rpki_crl.specs.Revocation.{CertRevocationCheck, IsUnrevoked, revocation_checks}
-use Rattle.rpki_crl.specs.Stores.{Stored}
+use Rattle.rpki_crl.specs.Revocation.{revocation_checks}
 use Rattle.rpki_crl.specs.declared.revocation_error.RevocationError.{RevocationError}
+use Rattle.rpki_revocation.specs.Asking.{RevocationChecks, IsUnrevokedBy}
 use Rattle.rpki_path.specs.declared.path_fault.PathFault.{PathFault}
 use Rattle.rpki_path.specs.declared.path_fault.PathFault.TheVariants.{Decode, Inspect, Verify, Revocation, Memory}
 use Rattle.rpki_path.specs.declared.path_fault.PathError.{PathError}
@@ -94,30 +94,19 @@ HeldAt p i = record { v4 = Holds p i v4_addresses; v6 = Holds p i v6_addresses; 
 abbrev pub CheckBelow : Context → Path → ℕ → CertFields → VerificationError → Type 0
 CheckBelow x p i c = Check x (certificate_at p i).fields (HeldAt p i) c
 
--- where lists are given, the checks that they are asked for a certificate below this issuer
-abbrev pub AskedCheck : Context → Option (List Stored) → TbsFields → CertFields → RevocationError → Type 0
-AskedCheck x None issuer c e = Unit {0}
-AskedCheck x (Some lists) issuer c e = CertRevocationCheck x lists issuer c e
-
--- where lists are given, the checks that they are asked for a certificate below the member at place
--- i
-abbrev pub AskedBelow : Context → Option (List Stored) → Path → ℕ → CertFields → RevocationError → Type 0
-AskedBelow x lists p i c = AskedCheck x lists (certificate_at p i).fields c
-
--- where lists are given, they leave the certificate unrevoked below this issuer
-abbrev pub IsUnrevokedIfAsked : Context → Option (List Stored) → TbsFields → CertFields → Type 0
-IsUnrevokedIfAsked x None issuer c = Unit {0}
-IsUnrevokedIfAsked x (Some lists) issuer c = IsUnrevoked x lists issuer c
+-- the checks of revocation of a certificate that the member at place i issued
+abbrev pub AskedBelow : RevocationChecks → Path → ℕ → CertFields → RevocationError → Type 0
+AskedBelow asked p i = asked (certificate_at p i).fields
 
 -- every member meets the profile of its kind, the trust anchor's checks are true of itself, and
--- those of each later member under the one above it; where lists are given, none of the later
--- members is revoked
-pub record IsValidPath (x : Context) (lists : Option (List Stored)) (p : Path) : Type 0 where
+-- those of each later member under the one above it; none of the later members is revoked, by who
+-- is asked
+pub record IsValidPath (x : Context) (asked : RevocationChecks) (p : Path) : Type 0 where
   pub anchor_meets : MeetsProfile Anchor x.strict p.anchor
   pub members_meet : AllByRecursion (λ m. MeetsProfile m.kind x.strict m.cert) p.below
   pub anchor_verified : IsVerified (TrustAnchorCheck x p.anchor) trust_anchor_checks
   pub members_verified : (i : ℕ) → i < last p → IsVerified (CheckBelow x p i (certificate_at p (i + 1))) issued_checks
-  pub members_unrevoked : (i : ℕ) → i < last p → IsUnrevokedIfAsked x lists (certificate_at p i).fields (certificate_at p (i + 1))
+  pub members_unrevoked : (i : ℕ) → i < last p → IsUnrevokedBy asked (certificate_at p i).fields (certificate_at p (i + 1))
 
 -- ---- strings
 
@@ -162,15 +151,15 @@ pub record HasHeld (p : Path) (tal : List ℕ) (r : ResourceFields) : Type 0 whe
   pub tal_is : r.tal ≡ tal
 
 -- the strings are a valid path, and the result is what its last member holds
-pub record IsAccepted (x : Context) (lists : Option (List Stored)) (anchor : List ℕ) (below : List Candidate) (tal : List ℕ) (r : ResourceFields) : Type 0 where
+pub record IsAccepted (x : Context) (asked : RevocationChecks) (anchor : List ℕ) (below : List Candidate) (tal : List ℕ) (r : ResourceFields) : Type 0 where
   pub path : Path
   pub path_of : IsPathOf anchor below path
-  pub is_valid : IsValidPath x lists path
+  pub is_valid : IsValidPath x asked path
   pub held : HasHeld path tal r
 
 -- the strings are not a valid path
-abbrev pub IsNoValidPath : Context → Option (List Stored) → List ℕ → List Candidate → Type 0
-IsNoValidPath x lists anchor below = (p : Path) → IsPathOf anchor below p → IsValidPath x lists p → ⊥
+abbrev pub IsNoValidPath : Context → RevocationChecks → List ℕ → List Candidate → Type 0
+IsNoValidPath x asked anchor below = (p : Path) → IsPathOf anchor below p → IsValidPath x asked p → ⊥
 
 -- what `out of memory` may stand in place of
 abbrev pub UnlessMemory : PathFault → Type 0 → Type 0
@@ -179,25 +168,25 @@ UnlessMemory _ P = P
 
 -- Ok exactly where the strings are a valid path, with what its last member holds, unless it runs
 -- out of memory
-abbrev pub Validates : Context → Option (List Stored) → List ℕ → List Candidate → List ℕ → Result ResourceFields PathError → Type 0
-Validates x lists anchor below tal (Ok r) = IsAccepted x lists anchor below tal r
-Validates x lists anchor below tal (Err e) = UnlessMemory e.fault (IsNoValidPath x lists anchor below)
+abbrev pub Validates : Context → RevocationChecks → List ℕ → List Candidate → List ℕ → Result ResourceFields PathError → Type 0
+Validates x asked anchor below tal (Ok r) = IsAccepted x asked anchor below tal r
+Validates x asked anchor below tal (Err e) = UnlessMemory e.fault (IsNoValidPath x asked anchor below)
 
 -- what is asked of a certificate: its kind, with the profile, the checks that are verified, and
--- then those of revocation lists
+-- then those of revocation
 pub record Demand : Type 1 where
   pub kind : Kind
   pub check : CertFields → VerificationError → Type 0
   pub checks : List VerificationError
   pub asked_check : CertFields → RevocationError → Type 0
 
--- of a trust anchor, for which no lists are asked
+-- of a trust anchor, for which nobody is asked
 abbrev pub trust_anchor_demand : Context → Demand
 trust_anchor_demand x = record { kind = Anchor; check = TrustAnchorCheck x; checks = trust_anchor_checks; asked_check = λ c e. Unit {0} }
 
 -- of a member of this kind below the member at place i
-abbrev pub demand_below : Context → Option (List Stored) → Path → ℕ → Kind → Demand
-demand_below x lists p i kind = record { kind = kind; check = CheckBelow x p i; checks = issued_checks; asked_check = AskedBelow x lists p i }
+abbrev pub demand_below : Context → RevocationChecks → Path → ℕ → Kind → Demand
+demand_below x asked p i kind = record { kind = kind; check = CheckBelow x p i; checks = issued_checks; asked_check = AskedBelow asked p i }
 
 -- the string begins with a certificate, which isn't valid as one of the kind, and this is why
 abbrev pub BeginsInvalid : Context → Demand → List ℕ → ValidationError → Type 0
@@ -205,7 +194,7 @@ BeginsInvalid x d octets e =
     (c : CertFields) × Means IsCertificate c octets × IsInvalid d.kind x.strict c (IsFirstFalse (d.check c) d.checks) e
 
 -- the string begins with a certificate, which is valid, and this is the first of its checks of
--- revocation lists that isn't true
+-- revocation that isn't true
 pub record BeginsRevoked (x : Context) (d : Demand) (octets : List ℕ) (e : RevocationError) : Type 0 where
   pub cert : CertFields
   pub begins : Means IsCertificate cert octets
@@ -227,20 +216,20 @@ pub record IsFaultOfTrustAnchor (x : Context) (anchor : List ℕ) (e : PathError
   pub fault_is : Finds x (trust_anchor_demand x) anchor e.fault
 
 -- the members before the index are a valid path, and the error is one of the string there
-pub record IsFaultBelow (x : Context) (lists : Option (List Stored)) (anchor : List ℕ) (below : List Candidate) (e : PathError) : Type 0 where
+pub record IsFaultBelow (x : Context) (asked : RevocationChecks) (anchor : List ℕ) (below : List Candidate) (e : PathError) : Type 0 where
   pub before : List Candidate
   pub there : Candidate
   pub after : List Candidate
   pub parts : below ≡ before ++ there ∷ after
   pub path : Path
   pub path_of : IsPathOf anchor before path
-  pub is_valid : IsValidPath x lists path
+  pub is_valid : IsValidPath x asked path
   pub index_is : e.index ≡ length before + 1
-  pub fault_is : Finds x (demand_below x lists path (last path) there.kind) there.octets e.fault
+  pub fault_is : Finds x (demand_below x asked path (last path) there.kind) there.octets e.fault
 
 -- the error says what is wrong of the string at its index
-abbrev pub IsFault : Context → Option (List Stored) → List ℕ → List Candidate → PathError → Type 0
-IsFault x lists anchor below e = IsFaultOfTrustAnchor x anchor e ⊎ IsFaultBelow x lists anchor below e
+abbrev pub IsFault : Context → RevocationChecks → List ℕ → List Candidate → PathError → Type 0
+IsFault x asked anchor below e = IsFaultOfTrustAnchor x anchor e ⊎ IsFaultBelow x asked anchor below e
 
 -- the fault isn't one of revocation
 abbrev pub IsUnasked : PathFault → Type 0

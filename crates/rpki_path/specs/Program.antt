@@ -7,6 +7,7 @@ use Rattle.rpki_parts.specs.Signatures.{IsStandInSignature}
 use Rattle.rpki_ext.specs.Inspection.{inspection_error_name}
 use Rattle.rpki_cert.specs.Verification.{Context, context, verification_error_name}
 use Rattle.rpki_crl.specs.RevokedEntries.{Revoked, IsRevoked, IsRevokedCertificates}
+use Rattle.rpki_revocation.specs.Asking.{nobody}
 use Rattle.rpki_path.specs.declared.path_fault.PathError.{PathError}
 use Rattle.rpki_path.specs.declared.path_fault.PathFault.{PathFault}
 use Rattle.rpki_path.specs.declared.path_fault.PathFault.TheVariants.{Decode, Inspect, Verify, Revocation, Memory}
@@ -111,8 +112,8 @@ pub record PrintsHeld (p : Path) (output : List ℕ) : Type 0 where
   pub as_is : IsSetLine (codes "as") decimal (Holds p (paths.last p) system_numbers) as_line
   pub is : output ≡ stand_in ++ concat (output_of (codes "accepted" ∷ []) ∷ output_of (v4_line ∷ []) ∷ output_of (v6_line ∷ []) ∷ output_of (as_line ∷ []) ∷ [])
 
--- where a fault was met, and its name; which of its faults a reader names is free, and no lists are
--- asked
+-- where a fault was met, and its name; which of its faults a reader names is free, and nobody is asked
+-- for revocation
 abbrev pub IsToldBy : PathFault → List ℕ → List ℕ → Type 0
 IsToldBy (Decode e) stage name = (stage ≡ codes "decode") × Contains decode_faults name
 IsToldBy (Inspect e) stage name = (stage ≡ codes "inspect") × (name ≡ inspection_error_name e)
@@ -139,10 +140,10 @@ question_context q = context IsStandInSignature q.now q.strict
 -- first fault
 abbrev pub SaysOfPath : PathQuestion → List ℕ → Status → Type 0
 SaysOfPath q output Done =
-    (p : Path) × IsPathOf q.anchor_octets (asked_below q) p × IsValidPath (question_context q) None p × PrintsHeld p output
+    (p : Path) × IsPathOf q.anchor_octets (asked_below q) p × IsValidPath (question_context q) nobody p × PrintsHeld p output
 SaysOfPath q output Refused =
-    IsNoValidPath (question_context q) None q.anchor_octets (asked_below q)
-    × (e : PathError) × IsFault (question_context q) None q.anchor_octets (asked_below q) e × PrintsFault e output
+    IsNoValidPath (question_context q) nobody q.anchor_octets (asked_below q)
+    × (e : PathError) × IsFault (question_context q) nobody q.anchor_octets (asked_below q) e × PrintsFault e output
 SaysOfPath q output BadInput = ⊥
 
 -- the answer to a question

@@ -11,9 +11,10 @@ ghost use Rattle.rpki_cert.specs.Profiles.{MeetsProfile};
 ghost use Rattle.rpki_cert.specs.Verification.{context, CheckUnder, IsVerified, issued_checks};
 ghost use Rattle.rpki_cert.specs.declared.inspect.Kind.TheVariants.{Authority};
 ghost use Rattle.rpki_crl.specs.Stores.{Stored};
-ghost use Rattle.rpki_path.specs.Paths.{Path, member, longer, HasHeld, IsValidPath, IsUnrevokedIfAsked};
+ghost use Rattle.rpki_revocation.specs.Asking.{IsUnrevokedBy};
+ghost use Rattle.rpki_path.specs.Paths.{Path, member, longer, HasHeld, IsValidPath};
+ghost use Rattle.rpki_path.specs.Routers.{by_uri_if_any};
 
-use crate::laws;
 use rpki_cert::{IssueCaError, ResourceCert, TbsCert, issue_ca};
 use rpki_der::Time;
 use rpki_parts::{Signer, Verifier};
@@ -51,12 +52,12 @@ pub fn issue_below<S: Signer, V: Verifier>(
     ensures fields { IfOk result (λ r. r.cert.fields ≡ tbs) }
     ensures path { let x = context (V.verifies verifier.now) now strict in
         (lists : Option (List Stored)) (p : Path) (tal : List ℕ)
-        → IsValidPath x lists p → HasHeld p tal issuer.now
-        → IfOk result (λ r. IsUnrevokedIfAsked x lists issuer.now.cert.fields r.cert
-        → IsValidPath x lists (longer p (member Authority r.cert))
+        → let asked = by_uri_if_any x lists in
+        IsValidPath x asked p → HasHeld p tal issuer.now
+        → IfOk result (λ r. IsUnrevokedBy asked issuer.now.cert.fields r.cert
+        → IsValidPath x asked (longer p (member Authority r.cert))
         × HasHeld (longer p (member Authority r.cert)) tal r) }
     ensures memory { IfErr result IsMemory }
 {
-    laws::issued_below::<V>();
     issue_ca(alloc, tbs, signer, key, issuer, strict, now, verifier)
 }

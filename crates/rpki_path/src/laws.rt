@@ -1,18 +1,19 @@
 //! Laws about paths. Each is the contract of a function with no parameters, whose body names at
 //! most the law that it stands on.
-ghost use Rattle.std.specs.Prelude.{◌≡◌, ◌≤◌, ℕ, Bool, List, [], ◌∷◌, ◌++◌, Option};
+ghost use Rattle.std.specs.Prelude.{◌≡◌, ◌≤◌, ℕ, Bool, List, [], ◌∷◌, ◌++◌};
 ghost use Rattle.rpki_der.specs.Times.{Moment};
 ghost use Rattle.rpki_cert.specs.Certificates.{CertFields, IsCertificate};
 ghost use Rattle.rpki_cert.specs.Validation.{IsValidBelow};
 ghost use Rattle.rpki_cert.specs.Verification.{HeldCheck, ResourceFields, context};
 ghost use Rattle.rpki_cert.specs.declared.inspect.Kind.{Kind};
 ghost use Rattle.rpki_cert.specs.declared.verification_error.VerificationError.{VerificationError};
-ghost use Rattle.rpki_crl.specs.Stores.{Stored};
-ghost use Rattle.rpki_path.specs.Paths.{member, longer, candidate, HasHeld, IsValidPath, IsAccepted, IsUnrevokedIfAsked};
+ghost use Rattle.rpki_revocation.specs.Asking.{IsUnrevokedBy};
+ghost use Rattle.rpki_path.specs.Paths.{member, longer, candidate, HasHeld, IsValidPath, IsAccepted};
 ghost use Rattle.rpki_path.specs.Paths.{Path, last, NumberKind, greatest_number, Holds, HeldAt, Candidate, IsPathOf, PassesMore};
 
 use rpki_cert::laws;
 use rpki_parts::Verifier;
+use rpki_revocation::RevocationSource;
 
 /// Says that strings begin with the members of at most one path.
 pub fn one_path()
@@ -36,21 +37,23 @@ pub fn monotone()
 /// gets of the numbers that this member has, is the last member of a valid path that is longer by
 /// it, and has exactly what that path holds (`path`). So where strings are accepted, they and the
 /// octets of the new certificate are accepted with what was issued (`strings`). The premises are
-/// what [`crate::validate_path`] and [`rpki_cert::issue_ca`] promise, and, where lists are given,
-/// what [`rpki_crl::CrlStore::check`] does.
-pub fn issued_below<V: Verifier>()
-    ensures path { (verifier : V) (now : Moment) (strict : Bool) (lists : Option (List Stored))
+/// what [`crate::judge`], [`crate::validate_path`] and [`rpki_cert::issue_ca`] promise, and what
+/// who is asked for revocation does ([`RevocationSource::ask`]).
+pub fn issued_below<R: RevocationSource, V: Verifier>()
+    ensures path { (verifier : V) (source : R) (now : Moment) (strict : Bool)
         (p : Path) (tal : List ℕ) (issuer r : ResourceFields) (kind : Kind)
         → let x = context (V.verifies verifier) now strict in
-        IsValidPath x lists p → HasHeld p tal issuer → IsValidBelow x issuer kind r.cert r
-        → IsUnrevokedIfAsked x lists issuer.cert.fields r.cert
-        → IsValidPath x lists (longer p (member kind r.cert))
+        let asked = R.asks source x in
+        IsValidPath x asked p → HasHeld p tal issuer → IsValidBelow x issuer kind r.cert r
+        → IsUnrevokedBy asked issuer.cert.fields r.cert
+        → IsValidPath x asked (longer p (member kind r.cert))
         × HasHeld (longer p (member kind r.cert)) tal r }
-    ensures strings { (verifier : V) (now : Moment) (strict : Bool) (lists : Option (List Stored))
+    ensures strings { (verifier : V) (source : R) (now : Moment) (strict : Bool)
         (anchor : List ℕ) (below : List Candidate) (tal : List ℕ) (issuer r : ResourceFields)
         (kind : Kind) (octets : List ℕ)
         → let x = context (V.verifies verifier) now strict in
-        IsAccepted x lists anchor below tal issuer → IsValidBelow x issuer kind r.cert r
-        → IsUnrevokedIfAsked x lists issuer.cert.fields r.cert → IsCertificate r.cert octets
-        → IsAccepted x lists anchor (below ++ candidate kind octets ∷ []) tal r }
+        let asked = R.asks source x in
+        IsAccepted x asked anchor below tal issuer → IsValidBelow x issuer kind r.cert r
+        → IsUnrevokedBy asked issuer.cert.fields r.cert → IsCertificate r.cert octets
+        → IsAccepted x asked anchor (below ++ candidate kind octets ∷ []) tal r }
 {}

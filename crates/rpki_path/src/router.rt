@@ -1,40 +1,44 @@
 //! Routers' certificates, below the last member of a path (RFC 8209 3.3).
-ghost use Rattle.std.specs.Prelude.{List, ℕ, OnOk, IfErr, IfNone, option_map};
-ghost use Rattle.rpki_ext.specs.Kinds.{Means};
-ghost use Rattle.rpki_cert.specs.Certificates.{IsCertificate};
+ghost use Rattle.std.specs.Prelude.{OnOk, IfErr, IfNone, option_map};
 ghost use Rattle.rpki_cert.specs.Verification.{context};
+ghost use Rattle.rpki_revocation.specs.Asking.{RevocationChecks};
 ghost use Rattle.rpki_path.specs.Paths.{UnlessMemory, Finds, IsUnasked};
-ghost use Rattle.rpki_path.specs.Routers.{IsRouterUnder, BeginsWithRouter, router_demand};
+ghost use Rattle.rpki_path.specs.Routers.{BeginsWithRouter, by_uri_if_any, router_demand};
 
 use crate::path_fault::PathFault;
-use crate::validating::{ask_lists, decoded};
+use crate::validator::Validator;
 use bytes::Bytes;
-use rpki_cert::{Cert, ResourceCert, laws};
+use rpki_cert::{ResourceCert, laws};
 use rpki_crl::CrlStore;
 use rpki_der::Time;
 use rpki_parts::Verifier;
+use rpki_revocation::{NobodyAsked, RevocationSource};
 use std::alloc::Global;
 
-// Whether the router's certificate is valid below the issuer, and not revoked where lists are
-// given. A fault is one of all octets that begin with it.
-fn validate_router_cert<V: Verifier>(
-    cert: &Cert,
+// Whether the octets begin with a router's certificate that is valid below the issuer.
+fn test_router<R: RevocationSource, V: Verifier>(
+    alloc: Global,
+    octets: &Bytes,
     issuer: &ResourceCert,
-    lists: Option<&CrlStore>,
+    asked: &R,
     strict: bool,
     now: Time,
     verifier: &V,
 ) -> Result<(), PathFault>
     ensures ok { let x = context (V.verifies verifier.now) now strict in
-        let pairs = option_map (λ store. store.now.pairs) lists.entry in
-        OnOk result (IsRouterUnder x pairs issuer.now cert.now) }
+        OnOk result (BeginsWithRouter x (R.asks asked.now x) issuer.now octets.now) }
     ensures fault { let x = context (V.verifies verifier.now) now strict in
-        let pairs = option_map (λ store. store.now.pairs) lists.entry in
-        (octets : List ℕ) → Means IsCertificate cert.now octets
-        → IfErr result (Finds x (router_demand x pairs issuer.now) octets) }
+        IfErr result (Finds x (router_demand x (R.asks asked.now x) issuer.now) octets.now) }
 {
-    cert.validate_router_at(issuer, strict, now, verifier)?;
-    ask_lists(lists, cert, issuer, strict, now, verifier)?;
+    let validator = Validator {
+        alloc,
+        asked,
+        strict,
+        at: now,
+        verifier,
+    };
+    let cert = validator.router(octets, issuer)?;
+    drop(cert);
     Ok(())
 }
 
@@ -46,6 +50,7 @@ fn validate_router_cert<V: Verifier>(
 ///
 /// The issuer is what `validate_path` and `validate_path_with` return. A router is no `Leaf` of
 /// theirs: a path ends in a [`ResourceCert`], and of a router's certificate none is made.
+/// [`crate::judge`] validates both at once, and returns the certificate.
 pub fn validate_router<V: Verifier>(
     alloc: Global,
     octets: &Bytes,
@@ -58,22 +63,22 @@ pub fn validate_router<V: Verifier>(
     // The octets begin with a router's certificate that is valid below the issuer, and unrevoked
     // where lists are given.
     ensures ok { let x = context (V.verifies verifier.now) now strict in
-        let pairs = option_map (λ store. store.now.pairs) lists.entry in
-        OnOk result (BeginsWithRouter x pairs issuer.now octets.now) }
+        let asked = by_uri_if_any x (option_map (λ store. store.now.pairs) lists.entry) in
+        OnOk result (BeginsWithRouter x asked issuer.now octets.now) }
     // They begin with none, unless memory ran out.
     ensures rejected { let x = context (V.verifies verifier.now) now strict in
-        let pairs = option_map (λ store. store.now.pairs) lists.entry in
-        let accepted = BeginsWithRouter x pairs issuer.now octets.now in
+        let asked = by_uri_if_any x (option_map (λ store. store.now.pairs) lists.entry) in
+        let accepted = BeginsWithRouter x asked issuer.now octets.now in
         IfErr result (λ e. UnlessMemory e (accepted → ⊥)) }
     // The fault is what is wrong with these octets.
     ensures fault { let x = context (V.verifies verifier.now) now strict in
-        let pairs = option_map (λ store. store.now.pairs) lists.entry in
-        IfErr result (Finds x (router_demand x pairs issuer.now) octets.now) }
+        let asked = by_uri_if_any x (option_map (λ store. store.now.pairs) lists.entry) in
+        IfErr result (Finds x (router_demand x asked issuer.now) octets.now) }
     ensures unasked { IfNone lists.entry (IfErr result IsUnasked) }
 {
     laws::unambiguous();
-    let cert = decoded(alloc, octets)?;
-    let answer = validate_router_cert(&cert, issuer, lists, strict, now, verifier);
-    drop(cert);
-    answer
+    match lists {
+        Some(store) => test_router(alloc, octets, issuer, store, strict, now, verifier),
+        None => test_router(alloc, octets, issuer, &NobodyAsked, strict, now, verifier),
+    }
 }

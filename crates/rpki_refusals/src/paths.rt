@@ -5,11 +5,16 @@ use crate::inputs::{
     ANCHOR, FIRST, NUMBERS, OTHER, SECOND, SIGNING, anchor, december, list, locator, new_year,
     octets,
 };
-use rpki_cert::ResourceCert;
+use bytes::Bytes;
+use rpki_cert::{Kind, ResourceCert};
 use rpki_crl::CrlStore;
 use rpki_der::Time;
 use rpki_parts::StandIn;
-use rpki_path::{Leaf, Watched, program, run, validate_path, validate_path_with, validate_router};
+use rpki_path::{
+    GivenPath, Leaf, Watched, judge, program, run, validate_path, validate_path_with,
+    validate_router,
+};
+use rpki_revocation::NobodyAsked;
 use rpki_samples::{router, signed, uri};
 use std::alloc::Global;
 use std::process::ExitCode;
@@ -153,6 +158,30 @@ fn router_validated(alloc: Global) -> Option<Told> {
     told
 }
 
+fn judged_as(alloc: Global, strings: &[Bytes], last: Kind, now: Time) -> Option<Told> {
+    let path = GivenPath::of(strings, last)?;
+    begin(alloc);
+    let answer = judge(alloc, &path, &NobodyAsked, true, now, &StandIn);
+    plain(alloc, answer)
+}
+
+fn path_judged(alloc: Global) -> Option<Told> {
+    let now = new_year()?;
+    let strings = [
+        octets(alloc, NUMBERS)?,
+        octets(alloc, FIRST)?,
+        octets(alloc, SECOND)?,
+    ];
+    judged_as(alloc, &strings, Kind::Authority, now)
+}
+
+// The path of an anchor and a router below it.
+fn router_judged(alloc: Global) -> Option<Told> {
+    let now = new_year()?;
+    let strings = [octets(alloc, ANCHOR)?, signed(alloc, router(alloc)?)?];
+    judged_as(alloc, &strings, Kind::Router, now)
+}
+
 fn of_paths(alloc: Global, asked: &mut Asked<'_>) -> Option<Told> {
     if asked.is("rpki_path::validate_path") {
         validated(alloc)
@@ -162,6 +191,10 @@ fn of_paths(alloc: Global, asked: &mut Asked<'_>) -> Option<Told> {
         asked_validated(alloc)
     } else if asked.is("rpki_path::validate_router") {
         router_validated(alloc)
+    } else if asked.is("rpki_path::judge") {
+        path_judged(alloc)
+    } else if asked.is("rpki_path::judge/router") {
+        router_judged(alloc)
     } else {
         None
     }

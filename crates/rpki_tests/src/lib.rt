@@ -9,9 +9,13 @@ mod devices;
 #[cfg(test)]
 mod errors;
 #[cfg(test)]
+mod given_lists;
+#[cfg(test)]
 mod inspection;
 #[cfg(test)]
 mod issuing;
+#[cfg(test)]
+mod judging;
 #[cfg(test)]
 mod list_parts;
 #[cfg(test)]

@@ -1,5 +1,6 @@
 //! Whole paths, from a trust anchor down to the last member, and routers below it (RFC 6487 7.2, RFC
 //! 8209 3.3).
 pub use rpki_path::{
-    Leaf, PathError, PathFault, validate_path, validate_path_with, validate_router,
+    GivenPath, Judged, Last, Leaf, PathError, PathFault, judge, validate_path, validate_path_with,
+    validate_router,
 };

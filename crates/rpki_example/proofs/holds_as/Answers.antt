@@ -1,16 +1,15 @@
 use Rattle.std.proofs.Common.{rules, ◌≡◌, ℕ, List, Bool, true, None, rc_value}
-use Rattle.std.specs.Prelude.{Some}
 use Rattle.rpki.specs.RsaSignatures.{IsSignedByRsa}
 use Rattle.rpki.specs.Sets.{is_in}
-use Rattle.rpki.specs.Stores.{Stored}
+use Rattle.rpki.specs.Asking.{RevocationChecks, by_uri}
 use Rattle.rpki.specs.Verification.{Context, context, ResourceFields}
 use Rattle.rpki.specs.Paths.{candidates, IsAccepted}
 use Rattle.rpki_example.specs.Answers.{IsHeld}
 use Rattle.rpki_example.proofs.holds_as.Goals as goal
 
 -- what was accepted holds exactly the numbers of the result
-answered : (x : Context) (lists : List Stored) (anchor : List ℕ) (cas : List (List ℕ)) (tal : List ℕ) (asn : ℕ) (r : ResourceFields) (answer : Bool) → answer ≡ is_in asn r.as_numbers → IsAccepted x (Some lists) anchor (candidates cas None) tal r → IsHeld x lists anchor cas asn answer
-answered x lists anchor cas tal asn r answer is a =
+answered : (x : Context) (asked : RevocationChecks) (anchor : List ℕ) (cas : List (List ℕ)) (tal : List ℕ) (asn : ℕ) (r : ResourceFields) (answer : Bool) → answer ≡ is_in asn r.as_numbers → IsAccepted x asked anchor (candidates cas None) tal r → IsHeld x asked anchor cas asn answer
+answered x asked anchor cas tal asn r answer is a =
     record { path = a.path; path_of = a.path_of; is_valid = a.is_valid; held = rw is (a.held.as_is asn) }
 
 pub returns : goal.returns
@@ -18,5 +17,5 @@ returns c =
     let x = context IsSignedByRsa c.args.now true in
     let is : c.contains.result ≡ is_in c.args.asn c.in_ok-holder.holder.as_numbers = search rules in
     record {
-      held = answered x c.args.store.now.pairs c.args.anchor.now c.args.cas.now (rc_value c.args.tal) c.args.asn c.in_ok-holder.holder c.contains.result is c.in_ok-holder.ensures.validates;
+      held = answered x (by_uri x c.args.store.now.pairs) c.args.anchor.now c.args.cas.now (rc_value c.args.tal) c.args.asn c.in_ok-holder.holder c.contains.result is c.in_ok-holder.ensures.validates;
     }

@@ -1,0 +1,2 @@
+//! What the bits of a public key are, and whether the RPKI uses it.
+pub use rpki_keys::{KeyForm, form_of, is_point, is_usable};

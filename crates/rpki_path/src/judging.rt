@@ -1,0 +1,98 @@
+//! The verdict on a path, whatever its last member is and whoever is asked for revocation.
+ghost use Rattle.std.specs.Prelude.{◌≡◌, ◌<◌, [], IfOk, IfErr};
+ghost use Rattle.std.proofs.Common.{rc_value};
+ghost use Rattle.rpki_cert.specs.Verification.{context};
+ghost use Rattle.rpki_path.specs.GivenPaths.{string_count};
+ghost use Rattle.rpki_path.specs.Judging.{Judges};
+ghost use Rattle.rpki_path.specs.declared.path_fault.PathFault.TheVariants.{Memory};
+
+use crate::given::{GivenPath, Last};
+use crate::path_fault::{PathError, PathFault};
+use crate::validator::{Validator, placed};
+use rpki_cert::{Cert, ResourceCert, laws};
+use rpki_der::Time;
+use rpki_ext::beside;
+use rpki_parts::{TalInfo, Verifier};
+use rpki_revocation::RevocationSource;
+use std::alloc::Global;
+use std::rc::Rc;
+
+/// What the last member of a valid path holds (of a router: the CA above it), and the router's
+/// certificate, where the last is one's.
+#[derive(Drop)]
+pub struct Judged {
+    pub holder: ResourceCert,
+    pub router: Option<Cert>,
+}
+
+// A locator without a name.
+fn nameless(alloc: Global) -> Result<Rc<TalInfo>, PathFault>
+    ensures ok { IfOk result (λ tal. rc_value tal ≡ []) }
+    ensures memory { IfErr result (λ e. e ≡ Memory) }
+{
+    Ok(TalInfo::from_name(String::new(alloc)).into_rc(alloc)?)
+}
+
+// The verdict on the path, whose locator has no name.
+fn verdict<R: RevocationSource, V: Verifier>(
+    path: &GivenPath<'_>,
+    tal: Rc<TalInfo>,
+    validator: &Validator<'_, '_, R, V>,
+) -> Result<Judged, PathError>
+    requires { rc_value tal ≡ [] }
+    ensures judges { let v = validator.now in
+        let x = context (V.verifies v.verifier.now) v.at v.strict in
+        Judges x (R.asks v.asked.now x) path.now result }
+    ensures place { IfErr result (λ e. e.index < string_count path.now) }
+{
+    laws::unambiguous();
+    let holder = validator.members(path.anchor, path.cas, path.last, tal)?;
+    match path.last {
+        Some(Last::Router(octets)) => {
+            let found = placed(path.cas.len() + 1, validator.router(octets, &holder));
+            let (holder, cert) = beside(holder, found)?;
+            Ok(Judged {
+                holder,
+                router: Some(cert),
+            })
+        }
+        _ => Ok(Judged {
+            holder,
+            router: None,
+        }),
+    }
+}
+
+/// Judges a path, from the trust anchor's string down to that of its last member, which is a CA, an
+/// end entity or a router. Members are validated as [`crate::validate_path`] does, and a router
+/// below the last CA as [`crate::validate_router`] does; each one below the trust anchor is asked
+/// for at this source, once it is verified and before the next is decoded. Returns what the last
+/// member holds (above a router, the CA), with a locator without a name, and the router's
+/// certificate. Errs with the place of the first member that is wrong, and what is wrong with it.
+///
+/// Not asked (own): whether names chain, and anything of manifests.
+pub fn judge<R: RevocationSource, V: Verifier>(
+    alloc: Global,
+    path: &GivenPath<'_>,
+    asked: &R,
+    strict: bool,
+    now: Time,
+    verifier: &V,
+) -> Result<Judged, PathError>
+    // Ok exactly where the path is valid, with what its last member holds; and an error says what
+    // is wrong of the string at its index, those before it being a valid path.
+    ensures judges { let x = context (V.verifies verifier.now) now strict in
+        Judges x (R.asks asked.now x) path.now result }
+    // The index is that of a string.
+    ensures place { IfErr result (λ e. e.index < string_count path.now) }
+{
+    let tal = placed(0, nameless(alloc))?;
+    let validator = Validator {
+        alloc,
+        asked,
+        strict,
+        at: now,
+        verifier,
+    };
+    verdict(path, tal, &validator)
+}

@@ -1,0 +1,243 @@
+//! The one walk down a path, for each verifier and whoever is asked for revocation.
+ghost use Rattle.std.specs.Prelude.{◌≡◌, ℕ, List, Ok, Err, IfOk, OnOk, IfErr, map};
+ghost use Rattle.std.proofs.Common.{rc_value};
+ghost use Rattle.rpki_ext.specs.Kinds.{Means};
+ghost use Rattle.rpki_cert.specs.Certificates.{IsCertificate};
+ghost use Rattle.rpki_cert.specs.Validation.{IsValidBelow, IsInvalidBelow};
+ghost use Rattle.rpki_cert.specs.Verification.{context};
+ghost use Rattle.rpki_cert.specs.declared.inspect.Kind.TheVariants.{Authority as authority};
+ghost use Rattle.rpki_path.specs.GivenPaths.{members_below};
+ghost use Rattle.rpki_path.specs.Paths.{candidate, trust_anchor_demand, Finds, IsFault, IsAccepted};
+ghost use Rattle.rpki_path.specs.Paths.Steps.{kind_of, IsUnread, IsTrustAnchor, IsIssuedBy, demand_under};
+ghost use Rattle.rpki_path.specs.Routers.{IsRouterUnder, router_demand};
+
+use crate::given::Last;
+use crate::path_fault::{PathError, PathFault};
+use bytes::Bytes;
+use rpki_cert::{Cert, ResourceCert, ValidationError};
+use rpki_der::Time;
+use rpki_ext::beside;
+use rpki_parts::{TalInfo, Verifier};
+use rpki_revocation::RevocationSource;
+use std::alloc::Global;
+use std::rc::Rc;
+
+// What a member below the trust anchor is.
+#[derive(Clone, Copy)]
+pub(crate) enum Role {
+    Authority,
+    EndEntity,
+    Detached,
+}
+
+/// Returns what was answered of the member at this place.
+pub(crate) fn placed<T: Drop>(index: usize, answer: Result<T, PathFault>) -> Result<T, PathError>
+    ensures ok { IfOk result (λ r. answer ≡ Ok r) }
+    ensures index { IfErr result (λ e. e.index ≡ index) }
+    ensures fault { IfErr result (λ e. answer ≡ Err e.fault) }
+{
+    match answer {
+        Ok(value) => Ok(value),
+        Err(fault) => Err(PathError { index, fault }),
+    }
+}
+
+// An answer, once the issuer is let go.
+fn without<T: Drop, A>(_issuer: T, answer: A) -> A
+    ensures { result ≡ answer }
+{
+    answer
+}
+
+/// Who validates: by this check of signatures, at this moment, in this mode, and asking this source
+/// for revocation.
+#[derive(Drop)]
+pub(crate) struct Validator<'r, 'v, R, V> {
+    pub(crate) alloc: Global,
+    pub(crate) asked: &'r R,
+    pub(crate) strict: bool,
+    pub(crate) at: Time,
+    pub(crate) verifier: &'v V,
+}
+
+impl<'r, 'v, R: RevocationSource, V: Verifier> Validator<'r, 'v, R, V> {
+    // The certificate that the string begins with.
+    fn decoded(&self, octets: &Bytes) -> Result<Cert, PathFault>
+        ensures ok { IfOk result (λ c. Means IsCertificate c octets.now) }
+        ensures fault { IfErr result (IsUnread octets.now) }
+    {
+        Ok(Cert::decode_shared(self.alloc, octets.clone()?)?)
+    }
+
+    // The trust anchor of a path.
+    fn trust_anchor(&self, octets: &Bytes, tal: Rc<TalInfo>) -> Result<ResourceCert, PathFault>
+        ensures ok { let v = self.now in
+            let x = context (V.verifies v.verifier.now) v.at v.strict in
+            IfOk result (IsTrustAnchor x octets.now (rc_value tal)) }
+        ensures fault { let v = self.now in
+            let x = context (V.verifies v.verifier.now) v.at v.strict in
+            IfErr result (Finds x (trust_anchor_demand x) octets.now) }
+    {
+        let cert = self.decoded(octets)?;
+        Ok(cert.validate_ta_at(self.alloc, tal, self.strict, self.at, self.verifier)?)
+    }
+
+    // The certificate, valid below the issuer.
+    fn valid_below(
+        &self,
+        cert: Cert,
+        issuer: &ResourceCert,
+        role: Role,
+    ) -> Result<ResourceCert, ValidationError>
+        ensures ok { let v = self.now in
+            let x = context (V.verifies v.verifier.now) v.at v.strict in
+            IfOk result (IsValidBelow x issuer.now (kind_of role) cert) }
+        ensures fault { let v = self.now in
+            let x = context (V.verifies v.verifier.now) v.at v.strict in
+            IfErr result (IsInvalidBelow x issuer.now (kind_of role) cert) }
+    {
+        let (alloc, strict, now, verifier) = (self.alloc, self.strict, self.at, self.verifier);
+        match role {
+            Role::Authority => cert.validate_ca_at(alloc, issuer, strict, now, verifier),
+            Role::EndEntity => cert.validate_ee_at(alloc, issuer, strict, now, verifier),
+            Role::Detached => cert.validate_detached_ee_at(alloc, issuer, strict, now, verifier),
+        }
+    }
+
+    // The member that stands below the issuer.
+    fn member(
+        &self,
+        issuer: &ResourceCert,
+        octets: &Bytes,
+        role: Role,
+    ) -> Result<ResourceCert, PathFault>
+        ensures ok { let v = self.now in
+            let x = context (V.verifies v.verifier.now) v.at v.strict in
+            let asked = R.asks v.asked.now x in
+            IfOk result (IsIssuedBy x asked issuer.now (kind_of role) octets.now) }
+        ensures fault { let v = self.now in
+            let x = context (V.verifies v.verifier.now) v.at v.strict in
+            let asked = R.asks v.asked.now x in
+            IfErr result (Finds x (demand_under x asked issuer.now (kind_of role)) octets.now) }
+    {
+        let cert = self.decoded(octets)?;
+        let member = self.valid_below(cert, issuer, role)?;
+        let (asked, strict, now, verifier) = (self.asked, self.strict, self.at, self.verifier);
+        let test = asked.ask(member.as_cert(), issuer, strict, now, verifier);
+        let (member, ()) = beside(member, test)?;
+        Ok(member)
+    }
+
+    // The member at this place, in place of its issuer.
+    fn next(
+        &self,
+        issuer: ResourceCert,
+        index: usize,
+        octets: &Bytes,
+        role: Role,
+    ) -> Result<ResourceCert, PathError>
+        ensures ok { let v = self.now in
+            let x = context (V.verifies v.verifier.now) v.at v.strict in
+            let asked = R.asks v.asked.now x in
+            IfOk result (IsIssuedBy x asked issuer (kind_of role) octets.now) }
+        ensures index { IfErr result (λ e. e.index ≡ index) }
+        ensures fault { let v = self.now in
+            let x = context (V.verifies v.verifier.now) v.at v.strict in
+            let asked = R.asks v.asked.now x in
+            let demand = demand_under x asked issuer (kind_of role) in
+            IfErr result (λ e. Finds x demand octets.now e.fault) }
+    {
+        let next = self.member(&issuer, octets, role);
+        placed(index, without(issuer, next))
+    }
+
+    // The trust anchor and the CAs below it.
+    fn authorities(
+        &self,
+        anchor: &Bytes,
+        cas: &[Bytes],
+        tal: Rc<TalInfo>,
+    ) -> Result<ResourceCert, PathError>
+        ensures ok { let v = self.now in
+            let x = context (V.verifies v.verifier.now) v.at v.strict in
+            let asked = R.asks v.asked.now x in
+            let below = map (candidate authority) cas.now in
+            IfOk result (IsAccepted x asked anchor.now below (rc_value tal)) }
+        ensures named { let v = self.now in
+            let x = context (V.verifies v.verifier.now) v.at v.strict in
+            let asked = R.asks v.asked.now x in
+            IfErr result (IsFault x asked anchor.now (map (candidate authority) cas.now)) }
+    {
+        let mut issuer = placed(0, self.trust_anchor(anchor, tal))?;
+        for (i, ca) in cas.iter().enumerate() {
+            issuer = self.next(issuer, i + 1, ca, Role::Authority)?;
+        }
+        Ok(issuer)
+    }
+
+    /// Validates the trust anchor, the CAs below it, and the end entity below them, if the last is
+    /// one.
+    pub(crate) fn members(
+        &self,
+        anchor: &Bytes,
+        cas: &[Bytes],
+        last: Option<Last<'_>>,
+        tal: Rc<TalInfo>,
+    ) -> Result<ResourceCert, PathError>
+        ensures ok { let v = self.now in
+            let x = context (V.verifies v.verifier.now) v.at v.strict in
+            let asked = R.asks v.asked.now x in
+            let below = members_below cas.now last.entry in
+            IfOk result (IsAccepted x asked anchor.now below (rc_value tal)) }
+        ensures named { let v = self.now in
+            let x = context (V.verifies v.verifier.now) v.at v.strict in
+            let asked = R.asks v.asked.now x in
+            let below = members_below cas.now last.entry in
+            IfErr result (IsFault x asked anchor.now below) }
+    {
+        let issuer = self.authorities(anchor, cas, tal)?;
+        let below = cas.len() + 1;
+        match last {
+            None | Some(Last::Router(_)) => Ok(issuer),
+            Some(Last::Ee(octets)) => self.next(issuer, below, octets, Role::EndEntity),
+            Some(Last::DetachedEe(octets)) => self.next(issuer, below, octets, Role::Detached),
+        }
+    }
+
+    // Whether the router's certificate is valid below the issuer, and not revoked. A fault is one
+    // of all octets that begin with it.
+    fn test_router(&self, cert: &Cert, issuer: &ResourceCert) -> Result<(), PathFault>
+        ensures ok { let v = self.now in
+            let x = context (V.verifies v.verifier.now) v.at v.strict in
+            let asked = R.asks v.asked.now x in
+            OnOk result (IsRouterUnder x asked issuer.now cert.now) }
+        ensures fault { let v = self.now in
+            let x = context (V.verifies v.verifier.now) v.at v.strict in
+            let asked = R.asks v.asked.now x in
+            (octets : List ℕ) → Means IsCertificate cert.now octets
+            → IfErr result (Finds x (router_demand x asked issuer.now) octets) }
+    {
+        let (strict, now, verifier) = (self.strict, self.at, self.verifier);
+        cert.validate_router_at(issuer, strict, now, verifier)?;
+        self.asked.ask(cert, issuer, strict, now, verifier)?;
+        Ok(())
+    }
+
+    /// Validates the router's certificate that the octets begin with, below the issuer.
+    pub(crate) fn router(&self, octets: &Bytes, issuer: &ResourceCert) -> Result<Cert, PathFault>
+        ensures begins { IfOk result (λ c. Means IsCertificate c octets.now) }
+        ensures under { let v = self.now in
+            let x = context (V.verifies v.verifier.now) v.at v.strict in
+            let asked = R.asks v.asked.now x in
+            IfOk result (IsRouterUnder x asked issuer.now) }
+        ensures fault { let v = self.now in
+            let x = context (V.verifies v.verifier.now) v.at v.strict in
+            let asked = R.asks v.asked.now x in
+            IfErr result (Finds x (router_demand x asked issuer.now) octets.now) }
+    {
+        let cert = self.decoded(octets)?;
+        let test = self.test_router(&cert, issuer);
+        let (cert, ()) = beside(cert, test)?;
+        Ok(cert)
+    }
+}

@@ -1,0 +1,3 @@
+mod ListOrder
+pub mod LatestLists
+pub mod AskedList

@@ -1,0 +1,171 @@
+//! The verdict on paths: each kind of last member, and a caller's own answer for revocation.
+
+use bytes::Bytes;
+use rpki_cert::{Cert, InspectionError, KeyUsage, Kind, ResourceCert};
+use rpki_crl::RevocationError;
+use rpki_der::{Serial, Time};
+use rpki_parts::{StandIn, Verifier};
+use rpki_path::{GivenPath, Judged, PathError, PathFault, judge};
+use rpki_revocation::{NobodyAsked, RevocationSource};
+use rpki_samples::{day, rsa};
+use std::alloc::Global;
+use std::process::Abort;
+
+/// Revokes the certificate with this serial number, whoever issued it.
+#[derive(Drop)]
+struct Revoking(Serial);
+
+impl RevocationSource for Revoking {
+    ghost use Rattle.rpki_tests.specs.Revoking.{HasAnother};
+
+    ghost asks = { λ s _ _ c. HasAnother s.0 c };
+
+    fn ask<V: Verifier>(
+        &self,
+        cert: &Cert,
+        _issuer: &ResourceCert,
+        _strict: bool,
+        _now: Time,
+        _verifier: &V,
+    ) -> Result<(), RevocationError> {
+        if cert.as_tbs().serial_number() == self.0 {
+            return Err(RevocationError::Revoked);
+        }
+        Ok(())
+    }
+}
+
+// An authority with the anchor's key and the serial number 13, which inherits all.
+fn authority(rt: &impl Abort, alloc: Global) -> Bytes {
+    let mut tbs = rpki_samples::bare(alloc, 13, rsa(b"abc"), KeyUsage::Ca).expect(rt, "memory");
+    tbs.set_basic_ca(Some(true));
+    rpki_samples::set_issuer(alloc, &mut tbs).expect(rt, "memory");
+    rpki_samples::set_places(alloc, &mut tbs).expect(rt, "memory");
+    tbs.set_v4_resources_inherit();
+    tbs.set_v6_resources_inherit();
+    tbs.set_as_resources_inherit();
+    rpki_samples::signed(alloc, tbs).expect(rt, "memory")
+}
+
+// A detached end entity's.
+fn end_entity(rt: &impl Abort, alloc: Global) -> Bytes {
+    let tbs = rpki_samples::end_entity(alloc).expect(rt, "memory");
+    rpki_samples::signed(alloc, tbs).expect(rt, "memory")
+}
+
+// A router's, with the serial number 42.
+fn router(rt: &impl Abort, alloc: Global) -> Bytes {
+    let mut tbs = rpki_samples::router(alloc).expect(rt, "memory");
+    tbs.set_serial_number(Serial::from(42u64));
+    rpki_samples::signed(alloc, tbs).expect(rt, "memory")
+}
+
+// What is answered of the anchor, an authority and this last member, which is to be of this kind.
+fn judged<R: RevocationSource>(
+    rt: &impl Abort,
+    alloc: Global,
+    last: Bytes,
+    kind: Kind,
+    asked: &R,
+) -> Result<Judged, PathError> {
+    let anchor = rpki_samples::anchor_octets(alloc).expect(rt, "memory");
+    let strings = [anchor, authority(rt, alloc), last];
+    let path = GivenPath::of(&strings, kind).expect(rt, "three strings");
+    let now = day(2024).expect(rt, "a day");
+    judge(alloc, &path, asked, true, now, &StandIn)
+}
+
+// The serial numbers of the holder and of the router, if there is one.
+fn serials(rt: &impl Abort, answer: Result<Judged, PathError>) -> (Serial, Option<Serial>) {
+    let Judged { holder, router } = answer.expect(rt, "a path");
+    let number = holder.as_cert().as_tbs().serial_number();
+    drop(holder);
+    match router {
+        Some(cert) => {
+            let serial = cert.as_tbs().serial_number();
+            drop(cert);
+            (number, Some(serial))
+        }
+        None => (number, None),
+    }
+}
+
+#[test]
+fn a_router_is_answered_with_the_authority_above_it(rt: HostRuntime) {
+    let last = router(&rt, rt.alloc());
+    let answer = judged(&rt, rt.alloc(), last, Kind::Router, &NobodyAsked);
+    let (holder, router) = serials(&rt, answer);
+    assert!(rt; holder == Serial::from(13u64));
+    assert!(rt; router == Some(Serial::from(42u64)));
+}
+
+#[test]
+fn an_authority_holds_for_itself(rt: HostRuntime) {
+    let last = authority(&rt, rt.alloc());
+    let answer = judged(&rt, rt.alloc(), last, Kind::Authority, &NobodyAsked);
+    let (holder, router) = serials(&rt, answer);
+    assert!(rt; holder == Serial::from(13u64));
+    assert!(rt; router.is_none());
+}
+
+#[test]
+fn a_detached_end_entity_holds_for_itself(rt: HostRuntime) {
+    let last = end_entity(&rt, rt.alloc());
+    let answer = judged(&rt, rt.alloc(), last, Kind::Detached, &NobodyAsked);
+    let (holder, router) = serials(&rt, answer);
+    assert!(rt; holder != Serial::from(13u64));
+    assert!(rt; router.is_none());
+}
+
+// The place and the fault of a path that isn't valid.
+fn fault(rt: &impl Abort, answer: Result<Judged, PathError>) -> (usize, PathFault) {
+    match answer {
+        Ok(judged) => {
+            drop(judged);
+            rt.abort()
+        }
+        Err(PathError { index, fault }) => (index, fault),
+    }
+}
+
+#[test]
+fn a_router_is_no_end_entity(rt: HostRuntime) {
+    let last = router(&rt, rt.alloc());
+    let (index, fault) = fault(
+        &rt,
+        judged(&rt, rt.alloc(), last, Kind::EndEntity, &NobodyAsked),
+    );
+    assert_eq!(rt; index, 2);
+    assert!(rt; matches!(&fault, PathFault::Inspect(InspectionError::KeyAlgorithm)));
+}
+
+fn assert_revoked(rt: &impl Abort, answer: Result<Judged, PathError>, place: usize) {
+    let (index, fault) = fault(rt, answer);
+    assert_eq!(rt; index, place);
+    assert!(rt; matches!(&fault, PathFault::Revocation(RevocationError::Revoked)));
+}
+
+#[test]
+fn a_source_of_the_callers_own_is_asked_of_each_member(rt: HostRuntime) {
+    let last = router(&rt, rt.alloc());
+    let asked = Revoking(Serial::from(13u64));
+    assert_revoked(&rt, judged(&rt, rt.alloc(), last, Kind::Router, &asked), 1);
+}
+
+#[test]
+fn a_source_of_the_callers_own_is_asked_of_the_router(rt: HostRuntime) {
+    let last = router(&rt, rt.alloc());
+    let asked = Revoking(Serial::from(42u64));
+    assert_revoked(&rt, judged(&rt, rt.alloc(), last, Kind::Router, &asked), 2);
+}
+
+#[test]
+fn strings_are_too_few(rt: HostRuntime) {
+    let none: [Bytes; 0] = [];
+    assert!(rt; GivenPath::of(&none, Kind::Authority).is_none());
+    let alone = [rpki_samples::anchor_octets(rt.alloc()).expect(&rt, "memory")];
+    assert!(rt; GivenPath::of(&alone, Kind::Anchor).is_some());
+    assert!(rt; GivenPath::of(&alone, Kind::Authority).is_some());
+    assert!(rt; GivenPath::of(&alone, Kind::EndEntity).is_none());
+    assert!(rt; GivenPath::of(&alone, Kind::Router).is_none());
+}
