@@ -6,19 +6,24 @@
  *   - Octets are read as a certificate or list exactly where they begin with one, unless memory
  *     runs out.
  *   - A path is accepted exactly where its members are a valid path, by the definitions of
- *     crates/rpki_path/specs/Paths.antt, unless memory runs out.
- *     Where the last member is a router's, crates/rpki_c/specs/Judged.antt says what is accepted.
+ *     crates/rpki_path/specs (Judging.antt, Paths.antt), unless memory runs out.
+ *   - The list that is asked of a member is that of crates/rpki_revocation/specs/AskedLists.antt,
+ *     whatever the order of the lists.
  *   - The fault of a rejected path is that of the first wrong member, whose place is the index.
- * Only tested is that the caller's memory then holds those fields, ranges and numbers.
+ * Only tested is that the caller's memory then holds those fields and ranges.
  *
  * What the caller has to keep:
  *   - Each pointer points to as many elements as the length beside it says, aligned as C asks.
  *   - What a function writes overlaps nothing else of the call.
  *   - A pointer beside the length 0 may be NULL. It is neither read nor written. No other may be.
+ *   - The program's malloc, realloc and free are those of one allocator. A block that malloc or
+ *     realloc gives is aligned to each power of two up to 16 that divides its size.
+ *   - No function is called from a signal handler, or in the forked child of a process with
+ *     threads.
  *
  * Every function:
  *   - It keeps no pointer, holds no lock and has no state. Threads may call side by side.
- *   - Nothing has to be freed.
+ *   - What it takes by malloc it gives back before it ends, so nothing has to be freed.
  *   - Octets are DER. What follows a certificate or list in them is ignored.
  *   - It answers RPKI_OK or the number of a fault. A number never gets another meaning.
  *   - After a fault, what it writes says nothing, unless its comment says more.
@@ -36,7 +41,7 @@ extern "C" {
 #endif
 
 /* What rpki_abi_version answers where this header fits the library. */
-#define RPKI_ABI 1
+#define RPKI_ABI 2
 
 /* Tells the number of the library's interface. */
 uint32_t rpki_abi_version(void);
@@ -65,7 +70,7 @@ enum rpki_field {
 enum rpki_fault {
     RPKI_OK = 0,
     RPKI_MEMORY = 1,   /* memory ran out */
-    RPKI_BAD_CALL = 2, /* lengths don't add up, or no such kind, moment or URI */
+    RPKI_BAD_CALL = 2, /* lengths don't add up, or no such moment, kind, family, URI or name */
 
     /* The octets begin with no certificate, or no list. */
     RPKI_DECODE_TRUNCATED = 100,
@@ -192,13 +197,15 @@ struct rpki_as_range {
 uint32_t rpki_certificate_read(const uint8_t *octets, size_t length, struct rpki_certificate *out);
 
 /* Answers RPKI_OK where the certificate meets the profile of the kind, an enum rpki_kind. Else it
- * answers its first fault. `strict` is 1 where names have to have the strings of RFC 6487 4.4, and
- * 0 where other strings may stand there. */
+ * answers its first fault, or RPKI_BAD_CALL where no kind has the number. `strict` is 1 where names
+ * have to have the strings of RFC 6487 4.4, and 0 where other strings may stand there. Any number
+ * but 0 is as 1. */
 uint32_t rpki_certificate_inspect(const uint8_t *octets, size_t length, uint32_t kind,
                                   uint32_t strict);
 
-/* Writes the ranges of addresses that the certificate lists: of IPv4 where `family` is 4, and else
- * of IPv6. They ascend, and neither overlap nor touch. */
+/* Writes the ranges of addresses that the certificate lists: of IPv4 where `family` is 4, of IPv6
+ * where it is 6. They ascend, and neither overlap nor touch. Answers RPKI_BAD_CALL where `family`
+ * is another number. */
 uint32_t rpki_certificate_addresses(const uint8_t *octets, size_t length, uint32_t family,
                                     struct rpki_ip_range *out, size_t room, uint64_t *count);
 
@@ -216,11 +223,13 @@ enum rpki_uri {
     RPKI_URI_NOTIFY = 5
 };
 
-/* Writes one URI, an enum rpki_uri. *count is 0 where the certificate has none such. */
+/* Writes one URI, an enum rpki_uri. *count is 0 where the certificate has none such. Answers
+ * RPKI_BAD_CALL where no URI has the number. */
 uint32_t rpki_certificate_uri(const uint8_t *octets, size_t length, uint32_t which, uint8_t *out,
                               size_t room, uint64_t *count);
 
-/* Writes a Name in DER: of the issuer where `which` is 0, and else of the subject. */
+/* Writes a Name in DER: of the issuer where `which` is 0, of the subject where it is 1. Answers
+ * RPKI_BAD_CALL where `which` is another number. */
 uint32_t rpki_certificate_name(const uint8_t *octets, size_t length, uint32_t which, uint8_t *out,
                                size_t room, uint64_t *count);
 
@@ -259,33 +268,43 @@ uint32_t rpki_list_ask(const uint8_t *octets, size_t length, const uint8_t *seri
 /* ---- paths */
 
 /* Says what became of a path. A path that ends in a router's certificate holds the ranges of the
- * member above it. */
+ * member above it; the router's own AS numbers are those that rpki_certificate_as_numbers writes of
+ * its certificate. */
 struct rpki_verdict {
     uint32_t fault;       /* is what the function answers */
     uint32_t index;       /* is the place of the first wrong member; the anchor's is 0 */
     uint64_t v4, v6, asn; /* count the ranges that the last member holds, where the fault is 0 */
 };
 
-/* Validates a path. The members' octets stand one behind the other, the anchor first. `lengths` has
- * the length of each. `last` says what the last one is, by an enum rpki_kind: RPKI_AUTHORITY (also
- * for the anchor alone) to RPKI_ROUTER. Signatures are checked as the RPKI has them (RFC 7935).
- * Writes the ranges that are held, as many as there is room for. *out holds after every fault.
- * Doesn't ask whether a member is revoked, nor whether names chain. */
+/* Validates a path. The members' octets stand one behind the other, the anchor first, and `lengths`
+ * has the length of each. `last` says what the last one is, by an enum rpki_kind: RPKI_ANCHOR where
+ * the anchor stands alone, and RPKI_AUTHORITY also there. Signatures are checked as the RPKI has
+ * them (RFC 7935). Doesn't ask whether a member is revoked, nor whether names chain.
+ * Writes the ranges that are held, as many as there is room for, and into *out how many there are:
+ * where there are more, ask again with more room. *out holds after every fault.
+ * Answers RPKI_BAD_CALL also where there are too few members (none, or the anchor alone where the
+ * last one is to be an end entity or a router), or members below an RPKI_ANCHOR. */
 uint32_t rpki_path_validate(const uint8_t *octets, size_t length, const size_t *lengths,
                             size_t members, uint32_t last, uint32_t strict,
                             const struct rpki_time *now, struct rpki_ip_range *v4, size_t v4_room,
                             struct rpki_ip_range *v6, size_t v6_room, struct rpki_as_range *asn,
                             size_t asn_room, struct rpki_verdict *out);
 
-/* Validates a path as above, and asks revocation lists of each member below the anchor: the first
- * list under the member's URI is signed by the member above, isn't stale, and doesn't name the
- * member. The lists stand one behind the other. So do the rsync URIs where they were found, one for
- * each list. Where a list can't be read, or its URI is none, the verdict's index is the number of
- * members and the list's place. */
+/* Validates a path as above, and asks revocation lists of each member below the anchor, and of a
+ * router. The lists stand one behind the other, in any order, of any issuers; where they were found
+ * isn't asked. Of a member the latest list of its issuer is asked:
+ *   - It names the key that signed the member, and is signed by that key.
+ *   - It has begun: it is neither from after `now` nor from after its own next update. A list from
+ *     the future, or one whose two times are exchanged, supersedes none.
+ *   - Of these it is the one with the greatest number (RFC 6487 5). Of several with one number,
+ *     which RFC 5280 5.2.3 forbids, one that revokes the member goes first, then the later one,
+ *     then the one that was given first.
+ * That list has to be current (its next update isn't before `now`), and not to have the member's
+ * serial number. Where no list is such, the first that names the key rejects the member; where none
+ * names it, the fault is RPKI_REVOCATION_NO_CRL. Where a list can't be read, the verdict's index is
+ * the number of members and the list's place. */
 uint32_t rpki_path_validate_with(const uint8_t *lists, size_t lists_length,
                                  const size_t *list_lengths, size_t list_count,
-                                 const uint8_t *uris, size_t uris_length,
-                                 const size_t *uri_lengths, size_t uri_count,
                                  const uint8_t *octets, size_t length, const size_t *lengths,
                                  size_t members, uint32_t last, uint32_t strict,
                                  const struct rpki_time *now, struct rpki_ip_range *v4,

@@ -1,8 +1,9 @@
 /* Calls the library at its edges: lengths cut short or that don't add up, no room, room one too
  * small, NULL beside the length 0, numbers behind the last, moments at the ends, no members and
- * many. usage: edges EXAMPLES ROWS, which are the folders examples/ and crates/rpki_vectors/data/. What
- * is wanted follows from include/rpki.h, from what examples/make.sh writes into the files, and, of
- * routers, from validation.vectors. Prints what isn't so, and a last line `N passed, M failed`.
+ * many. usage: edges EXAMPLES VECTORS FILES, which are the folders examples/,
+ * crates/rpki_vectors/data/ and tests/files/. What is wanted follows from include/rpki.h, from
+ * what examples/make.sh and tests/files/make.py write into the files, and, of routers, from
+ * validation.vectors. Prints what isn't so, and a last line `N passed, M failed`.
  * tests/callers runs it, under valgrind where that is there. */
 #include "rpki.h"
 #include <stdio.h>
@@ -107,7 +108,7 @@ static void rooms(struct file cert, struct file list) {
           "the URI is cut where there is one octet too little");
     check(memcmp(uri, "rsync://", 8) == 0, "its beginning is there");
     free(uri);
-    check(rpki_certificate_uri(cert.octets, cert.length, 99, NULL, 0, &count) == RPKI_OK && count == 0, "there is no URI 99");
+    check(rpki_certificate_uri(cert.octets, cert.length, 99, NULL, 0, &count) == RPKI_BAD_CALL && count == 0, "there is no URI 99");
     check(rpki_list_entries(list.octets, list.length, NULL, 0, &count) == RPKI_OK && count == 1, "one entry");
     struct rpki_entry entry;
     check(rpki_list_entries(list.octets, list.length, &entry, 1, &count) == RPKI_OK && entry.serial[19] == 3, "it is 3");
@@ -170,34 +171,6 @@ static void members(struct file anchor) {
     free(questions);
     free(octets);
     free(lengths);
-}
-
-/* a list that is none, and one under no URI */
-static void stores(struct file anchor, struct file list) {
-    struct rpki_verdict out;
-    size_t length = anchor.length;
-    static const uint8_t uri[] = "rsync://h/m/x.crl";
-    size_t uri_length = sizeof uri - 1, list_length = list.length, short_length = list.length - 1;
-    check(rpki_path_validate_with(NULL, 0, NULL, 0, NULL, 0, NULL, 0, anchor.octets, length, &length, 1, RPKI_AUTHORITY, 1, &now, NULL, 0,
-                                  NULL, 0, NULL, 0, &out)
-              == RPKI_OK,
-          "an anchor needs no list");
-    check(rpki_path_validate_with(list.octets, list.length, &list_length, 1, uri, uri_length, &uri_length, 1, anchor.octets, length, &length, 1,
-                                  RPKI_AUTHORITY, 1, &now, NULL, 0, NULL, 0, NULL, 0, &out)
-              == RPKI_OK,
-          "a list that nobody asks");
-    check(is_decoding(rpki_path_validate_with(list.octets, short_length, &short_length, 1, uri, uri_length, &uri_length, 1, anchor.octets,
-                                              length, &length, 1, RPKI_AUTHORITY, 1, &now, NULL, 0, NULL, 0, NULL, 0, &out))
-              && out.index == 1,
-          "a cut list");
-    check(rpki_path_validate_with(list.octets, list.length, &list_length, 1, uri + 1, uri_length - 1, (size_t[]){uri_length - 1}, 1,
-                                  anchor.octets, length, &length, 1, RPKI_AUTHORITY, 1, &now, NULL, 0, NULL, 0, NULL, 0, &out)
-              == RPKI_BAD_CALL,
-          "a list under no URI");
-    check(rpki_path_validate_with(list.octets, list.length, &list_length, 1, NULL, 0, NULL, 0, anchor.octets, length, &length, 1,
-                                  RPKI_AUTHORITY, 1, &now, NULL, 0, NULL, 0, NULL, 0, &out)
-              == RPKI_BAD_CALL,
-          "a list without a URI");
 }
 
 /* ---- numbers */
@@ -304,16 +277,18 @@ static void ranges(struct file anchor, struct file second, struct file object) {
               && memcmp(out[0].max, "\x20\x01\x0d\xb8\xff\xff\xff\xff\xff\xff\xff\xff\xff\xff\xff\xff", 16) == 0,
           "the anchor lists 2001:db8::/32");
     check(out[1].min[0] == 0xa5 && out[1].max[15] == 0xa5, "nothing is written behind the room");
-    for (uint32_t family = 0; family < 8; family++)
-        if (family != 4)
-            check(rpki_certificate_addresses(anchor.octets, anchor.length, family, out, 1, &count)
-                          == RPKI_OK
-                      && count == 1 && out[0].min[0] == 0x20,
-                  "a family that isn't 4 is IPv6");
-    check(rpki_certificate_addresses(anchor.octets, anchor.length, UINT32_MAX, NULL, 0, &count)
-                  == RPKI_OK
-              && count == 1,
-          "the greatest family is IPv6");
+    static const uint32_t no_families[] = {0, 1, 2, 3, 5, 7, 8, 10, 260, UINT32_MAX};
+    for (size_t i = 0; i < sizeof no_families / sizeof *no_families; i++) {
+        count = 9;
+        check(rpki_certificate_addresses(anchor.octets, anchor.length, no_families[i], out + 1, 1,
+                                         &count)
+                      == RPKI_BAD_CALL
+                  && count == 0 && out[1].min[0] == 0xa5,
+              "a family is 4 or 6");
+        check(rpki_certificate_addresses(NULL, 0, no_families[i], NULL, 0, &count)
+                  == RPKI_BAD_CALL,
+              "a family is 4 or 6, whatever the octets");
+    }
     check(rpki_certificate_addresses(anchor.octets, anchor.length, 4, out, 2, &count) == RPKI_OK
               && count == 1 && out[0].min[0] == 10 && out[0].max[0] == 10 && out[0].max[3] == 255
               && out[1].min[0] == 0xa5,
@@ -376,10 +351,18 @@ static void uris(struct file anchor, struct file first, struct file object) {
     uri(object, RPKI_URI_NOTIFY, "");
     uri(anchor, RPKI_URI_CA_ISSUER, "");
     uri(anchor, RPKI_URI_CRL, "");
-    uri(anchor, RPKI_URI_NOTIFY + 1, "");
-    uri(anchor, UINT32_MAX, "");
-    uint8_t out[64];
+    static const uint32_t no_uris[] = {6, 7, 99, 256, 0x80000000, UINT32_MAX};
+    uint8_t out[64] = {7};
     uint64_t count;
+    for (size_t i = 0; i < sizeof no_uris / sizeof *no_uris; i++) {
+        count = 9;
+        check(rpki_certificate_uri(first.octets, first.length, no_uris[i], out, 64, &count)
+                      == RPKI_BAD_CALL
+                  && count == 0 && out[0] == 7,
+              "there is no such URI");
+        check(rpki_certificate_uri(NULL, 0, no_uris[i], NULL, 0, &count) == RPKI_BAD_CALL,
+              "there is no such URI, whatever the octets");
+    }
     check(rpki_certificate_uri(anchor.octets, anchor.length, RPKI_URI_NOTIFY, out, 64, &count)
                   == RPKI_OK
               && count == 41 && memcmp(out, "https://rpki.example.net/notification.xml", 41) == 0,
@@ -405,12 +388,19 @@ static void names(struct file anchor, struct file first, struct file list) {
     check(above[0] == 0x30 && (uint64_t)above[1] + 2 == count, "a name is one SEQUENCE");
     check(above[count] == 1 && issuer[count] == 2 && other[count] == 3,
           "nothing is written behind a name");
-    check(rpki_certificate_name(first.octets, first.length, UINT32_MAX, other, 128, &again)
-                  == RPKI_OK
-              && rpki_certificate_name(first.octets, first.length, 1, issuer, 128, &listed) == RPKI_OK
-              && again == listed && memcmp(other, issuer, again) == 0
-              && memcmp(other, above, count) != 0,
-          "each number but 0 is the subject");
+    check(rpki_certificate_name(first.octets, first.length, 1, other, 128, &listed) == RPKI_OK
+              && listed < 128 && memcmp(other, above, count) != 0,
+          "the first authority's own name is another");
+    static const uint32_t no_names[] = {2, 3, 256, 0x80000000, UINT32_MAX};
+    for (size_t i = 0; i < sizeof no_names / sizeof *no_names; i++) {
+        again = 9, issuer[0] = 7;
+        check(rpki_certificate_name(first.octets, first.length, no_names[i], issuer, 128, &again)
+                      == RPKI_BAD_CALL
+                  && again == 0 && issuer[0] == 7,
+              "there is no such name");
+        check(rpki_certificate_name(NULL, 0, no_names[i], NULL, 0, &again) == RPKI_BAD_CALL,
+              "there is no such name, whatever the octets");
+    }
     check(rpki_certificate_name(first.octets, first.length, 0, NULL, 0, &again) == RPKI_OK
               && again == count,
           "room 0 counts a name");
@@ -525,9 +515,8 @@ static void moments(struct file anchor) {
                                       at, NULL, 0, NULL, 0, NULL, 0, &out)
                   == cases[i].wanted,
               "a moment at an end, with the caller's answer");
-        check(rpki_path_validate_with(NULL, 0, NULL, 0, NULL, 0, NULL, 0, anchor.octets, length,
-                                      &length, 1, RPKI_AUTHORITY, 1, at, NULL, 0, NULL, 0, NULL, 0,
-                                      &out)
+        check(rpki_path_validate_with(NULL, 0, NULL, 0, anchor.octets, length, &length, 1,
+                                      RPKI_AUTHORITY, 1, at, NULL, 0, NULL, 0, NULL, 0, &out)
                   == cases[i].wanted,
               "a moment at an end, with lists");
     }
@@ -548,10 +537,15 @@ static void lengths(struct file anchor, struct file first) {
     struct rpki_verdict out;
     struct file path = both(anchor, first);
     const size_t a = anchor.length, f = first.length, all = path.length;
-    static const uint32_t no_kinds[] = {0, 5, 6, 255, 256, 0x80000000, UINT32_MAX};
+    static const uint32_t no_kinds[] = {5, 6, 255, 256, 0x80000000, UINT32_MAX};
     for (size_t i = 0; i < sizeof no_kinds / sizeof *no_kinds; i++)
         check(judge(path.octets, all, (size_t[]){a, f}, 2, no_kinds[i], &now, &out) == RPKI_BAD_CALL,
               "the last member is of no such kind");
+    check(judge(anchor.octets, a, &a, 1, RPKI_ANCHOR, &now, &out) == RPKI_OK && out.v4 == 1,
+          "the last one is the anchor, alone");
+    check(judge(path.octets, all, (size_t[]){a, f}, 2, RPKI_ANCHOR, &now, &out) == RPKI_BAD_CALL
+              && judge(NULL, 0, NULL, 0, RPKI_ANCHOR, &now, &out) == RPKI_BAD_CALL,
+          "the anchor stands alone");
     for (uint32_t last = 1; last < 5; last++) {
         check(judge(NULL, 0, NULL, 0, last, &now, &out) == RPKI_BAD_CALL, "no members");
         check(judge(anchor.octets, a, (size_t[]){a}, 1, last, &now, &out)
@@ -654,81 +648,156 @@ static void questions(struct file anchor, struct file first) {
     free(path.octets);
 }
 
-/* asks the lists of one list, or none, about the anchor and the first authority */
-static uint32_t listed(struct file path, const size_t *parts, const uint8_t *lists,
-                       const size_t *list_lengths, size_t list_count, const char *uris,
-                       const size_t *uri_lengths, size_t uri_count, struct rpki_verdict *out) {
-    size_t lists_length = 0;
-    for (size_t i = 0; i < list_count; i++) lists_length += list_lengths[i];
-    return rpki_path_validate_with(lists, lists_length, list_lengths, list_count,
-                                   (const uint8_t *)uris, strlen(uris), uri_lengths, uri_count,
-                                   path.octets, path.length, parts, 2, RPKI_AUTHORITY, 1, &now,
-                                   NULL, 0, NULL, 0, NULL, 0, out);
+/* files one behind the other, and their lengths */
+static struct file joined(const struct file *files, size_t count, size_t *lengths) {
+    struct file it = {malloc(1), 0};
+    for (size_t i = 0; i < count; i++) {
+        it.octets = realloc(it.octets, it.length + files[i].length + 1);
+        memcpy(it.octets + it.length, files[i].octets, files[i].length);
+        lengths[i] = files[i].length;
+        it.length += files[i].length;
+    }
+    return it;
 }
 
-#define LIST SITE "anchor/anchor.crl"
-#define OTHER SITE "anchor/others.crl"
-#define WEB "https://rpki.example.net/anchor.crl"
+/* asks these lists about these members */
+static uint32_t listed(const struct file *lists, size_t list_count, const struct file *members,
+                       size_t count, uint32_t last, const struct rpki_time *at,
+                       struct rpki_verdict *out) {
+    size_t list_lengths[8], lengths[8];
+    struct file all = joined(lists, list_count, list_lengths), path = joined(members, count, lengths);
+    uint32_t answer = rpki_path_validate_with(all.octets, all.length, list_lengths, list_count,
+                                              path.octets, path.length, lengths, count, last, 1,
+                                              at, NULL, 0, NULL, 0, NULL, 0, out);
+    free(all.octets);
+    free(path.octets);
+    return answer;
+}
 
-/* the list of the anchor and another authority's, alone and together, and lists that are none */
+/* lists that are none, that nobody asks, and whose lengths don't add up */
 static void asked(struct file anchor, struct file first, struct file own, struct file other) {
-    struct file path = both(anchor, first), right = both(own, other), wrong = both(other, own);
-    const size_t parts[] = {anchor.length, first.length};
-    const size_t right_lengths[] = {own.length, other.length};
-    const size_t wrong_lengths[] = {other.length, own.length};
-    const size_t u = strlen(LIST), uri_lengths[] = {u, u};
+    const struct file path[] = {anchor, first}, both_lists[] = {own, other};
+    const struct file cut = {own.octets, own.length - 1}, nothing = {own.octets, 0};
+    const size_t a = anchor.length, l = own.length;
     struct rpki_verdict out;
-    check(listed(path, parts, own.octets, &own.length, 1, LIST, &u, 1, &out) == RPKI_OK
-              && out.v4 == 2,
+    check(listed(NULL, 0, path, 1, RPKI_AUTHORITY, &now, &out) == RPKI_OK,
+          "an anchor needs no list");
+    check(listed(&other, 1, path, 1, RPKI_AUTHORITY, &now, &out) == RPKI_OK,
+          "a list that nobody asks");
+    check(listed(&own, 1, path, 2, RPKI_AUTHORITY, &now, &out) == RPKI_OK && out.v4 == 2,
           "the list leaves the first authority unrevoked");
-    check(listed(path, parts, NULL, NULL, 0, "", NULL, 0, &out) == RPKI_REVOCATION_NO_CRL
+    check(listed(both_lists, 2, path, 2, RPKI_AUTHORITY, &now, &out) == RPKI_OK && out.v4 == 2,
+          "a further list of another authority");
+    check(listed(NULL, 0, path, 2, RPKI_AUTHORITY, &now, &out) == RPKI_REVOCATION_NO_CRL
               && out.index == 1,
           "no lists, where one is asked");
-    check(listed(path, parts, own.octets, &own.length, 1, OTHER, &u, 1, &out)
-                  == RPKI_REVOCATION_NO_CRL
+    check(listed(&other, 1, path, 2, RPKI_AUTHORITY, &now, &out) == RPKI_REVOCATION_NO_CRL
               && out.index == 1,
-          "the list under another URI");
-    check(listed(path, parts, other.octets, &other.length, 1, LIST, &u, 1, &out)
-                  == RPKI_REVOCATION_WRONG_KEY_ID
-              && out.index == 1,
-          "the list of another authority");
-    check(listed(path, parts, right.octets, right_lengths, 2, LIST LIST, uri_lengths, 2, &out)
-              == RPKI_OK,
-          "of two lists under one URI the first is asked");
-    check(listed(path, parts, wrong.octets, wrong_lengths, 2, LIST LIST, uri_lengths, 2, &out)
-              == RPKI_REVOCATION_WRONG_KEY_ID,
-          "of two lists under one URI the second isn't asked");
-    check(listed(path, parts, wrong.octets, wrong_lengths, 2, OTHER LIST, uri_lengths, 2, &out)
-              == RPKI_OK,
-          "each list under its own URI");
-    check(listed(path, parts, own.octets, &own.length, 1, LIST, NULL, 0, &out) == RPKI_BAD_CALL
-              && listed(path, parts, NULL, NULL, 0, LIST, &u, 1, &out) == RPKI_BAD_CALL
-              && listed(path, parts, own.octets, &own.length, 1, LIST LIST, uri_lengths, 2, &out)
-                  == RPKI_BAD_CALL
-              && listed(path, parts, own.octets, &own.length, 1, LIST, (size_t[]){u - 1}, 1, &out)
-                  == RPKI_BAD_CALL
-              && listed(path, parts, own.octets, &own.length, 1, LIST, (size_t[]){u + 1}, 1, &out)
-                  == RPKI_BAD_CALL,
-          "lists and URIs that don't add up");
-    check(is_decoding(listed(path, parts, own.octets, (size_t[]){own.length, 0}, 2, LIST LIST,
-                             uri_lengths, 2, &out))
+          "the list of another authority alone");
+    check(is_decoding(listed(&cut, 1, path, 1, RPKI_AUTHORITY, &now, &out)) && out.index == 1,
+          "a cut list");
+    check(is_decoding(listed((struct file[]){own, nothing}, 2, path, 2, RPKI_AUTHORITY, &now, &out))
               && out.index == 3,
           "the second list is empty");
-    check(is_decoding(listed(path, parts, first.octets, &first.length, 1, LIST, &u, 1, &out))
-              && out.index == 2,
+    check(is_decoding(listed(&first, 1, path, 2, RPKI_AUTHORITY, &now, &out)) && out.index == 2,
           "a certificate in place of a list");
-    check(listed(path, parts, right.octets, right_lengths, 2, LIST, (size_t[]){u, 0}, 2, &out)
+    check(rpki_path_validate_with(own.octets, l, (size_t[]){l - 1}, 1, anchor.octets, a, &a, 1,
+                                  RPKI_AUTHORITY, 1, &now, NULL, 0, NULL, 0, NULL, 0, &out)
                   == RPKI_BAD_CALL
-              && out.index == 3,
-          "the second URI is empty");
-    check(listed(path, parts, own.octets, &own.length, 1, WEB, (size_t[]){sizeof WEB - 1}, 1,
-                 &out)
+              && rpki_path_validate_with(own.octets, l, (size_t[]){l + 1}, 1, anchor.octets, a, &a,
+                                         1, RPKI_AUTHORITY, 1, &now, NULL, 0, NULL, 0, NULL, 0,
+                                         &out)
                   == RPKI_BAD_CALL
-              && out.index == 2,
-          "a URI that isn't one of rsync");
-    free(path.octets);
-    free(right.octets);
-    free(wrong.octets);
+              && rpki_path_validate_with(own.octets, l, NULL, 0, anchor.octets, a, &a, 1,
+                                         RPKI_AUTHORITY, 1, &now, NULL, 0, NULL, 0, NULL, 0, &out)
+                  == RPKI_BAD_CALL
+              && rpki_path_validate_with(NULL, 0, (size_t[]){1}, 1, anchor.octets, a, &a, 1,
+                                         RPKI_AUTHORITY, 1, &now, NULL, 0, NULL, 0, NULL, 0, &out)
+                  == RPKI_BAD_CALL,
+          "lengths of lists that don't add up");
+}
+
+/* ---- several lists of one issuer */
+
+/* a path of tests/files, lists, and what is wanted of it at `then`, in each order of the lists */
+struct given {
+    const char *members[3], *lists[5];
+    uint32_t last, wanted, index;
+    const char *what;
+};
+
+/* ca1 has lists of the numbers 3225 (stale), 3226, 3227 (revokes ca2), 3228 (of 2040), 3229 (revokes
+ * others) and 3230 (signed by nobody). Of sharing/ both members below the anchor name one URI. */
+static const struct given given[] = {
+    {{"ta.cer", "ca1.cer", "ca2.cer"}, {"ta.crl", "ca1.crl"}, RPKI_AUTHORITY, RPKI_OK, 0,
+     "a list of each issuer"},
+    {{"ta.cer", "ca1.cer", "ca2.cer"}, {"ta.crl", "ca1.crl", "ca1_revoking_ca2.crl"},
+     RPKI_AUTHORITY, RPKI_REVOCATION_REVOKED, 2, "the later list revokes"},
+    {{"ta.cer", "ca1.cer", "ca2.cer"}, {"ta.crl", "ca1_revoking_ca2.crl", "ca1_seven.crl"},
+     RPKI_AUTHORITY, RPKI_OK, 0, "the earlier list revoked"},
+    {{"ta.cer", "ca1.cer", "ca2.cer"}, {"ta.crl", "ca1.crl", "ca1_stale.crl"},
+     RPKI_AUTHORITY, RPKI_OK, 0, "the earlier list is stale"},
+    {{"ta.cer", "ca1.cer", "ca2.cer"}, {"ta.crl", "ca1_stale.crl"}, RPKI_AUTHORITY,
+     RPKI_REVOCATION_STALE, 2, "the one list is stale"},
+    {{"ta.cer", "ca1.cer", "ca2.cer"}, {"ta.crl", "ca1.crl", "ca1_not_yet.crl"},
+     RPKI_AUTHORITY, RPKI_OK, 0, "a list of the future supersedes none"},
+    {{"ta.cer", "ca1.cer", "ca2.cer"},
+     {"ta.crl", "ca1.crl", "ca1_revoking_ca2.crl", "ca1_not_yet.crl"},
+     RPKI_AUTHORITY, RPKI_REVOCATION_REVOKED, 2, "a list of the future hides none"},
+    {{"ta.cer", "ca1.cer", "ca2.cer"}, {"ta.crl", "ca1_not_yet.crl"}, RPKI_AUTHORITY,
+     RPKI_REVOCATION_STALE, 2, "a list of the future alone"},
+    {{"ta.cer", "ca1.cer", "ca2.cer"},
+     {"ta.crl", "ca1.crl", "ca1_revoking_ca2.crl", "ca1_bad_signature.crl"},
+     RPKI_AUTHORITY, RPKI_REVOCATION_REVOKED, 2, "a list that the issuer didn't sign hides none"},
+    {{"ta.cer", "ca1.cer", "ca2.cer"}, {"ta.crl", "ca1_bad_signature.crl"}, RPKI_AUTHORITY,
+     RPKI_REVOCATION_BAD_SIGNATURE, 2, "a list that the issuer didn't sign"},
+    {{"ta.cer", "ca1.cer", "ca2.cer"}, {"ta.crl", "ca2.crl"}, RPKI_AUTHORITY,
+     RPKI_REVOCATION_NO_CRL, 2, "no list of the last one's issuer"},
+    {{"ta.cer", "ca1.cer", "ca2.cer"}, {"ca1.crl", "ca2.crl"}, RPKI_AUTHORITY,
+     RPKI_REVOCATION_NO_CRL, 1, "no list of the anchor"},
+    {{"sharing/ta.cer", "sharing/ca.cer", "sharing/ee.cer"}, {"sharing/ta.crl", "sharing/ca.crl"},
+     RPKI_END_ENTITY, RPKI_OK, 0, "two members name one URI"},
+    {{"sharing/ta.cer", "sharing/ca.cer", "sharing/ee.cer"},
+     {"sharing/ta.crl", "sharing/ca.crl", "sharing/ca_revoking.crl"},
+     RPKI_DETACHED, RPKI_REVOCATION_REVOKED, 2, "two members name one URI, and one is revoked"},
+    {{"sharing/ta.cer", "sharing/ca.cer", "sharing/ee.cer"},
+     {"sharing/ta.crl", "sharing/ta_exchanged.crl", "sharing/ca.crl"},
+     RPKI_END_ENTITY, RPKI_OK, 0, "a list with exchanged times supersedes none"},
+    {{"sharing/ta.cer", "sharing/ca.cer", "sharing/ee.cer"},
+     {"sharing/ta_exchanged.crl", "sharing/ca.crl"},
+     RPKI_END_ENTITY, RPKI_REVOCATION_STALE, 1, "a list with exchanged times alone"},
+    {{"ta.cer", "ca1.cer", "ca2.cer"}, {NULL}, RPKI_AUTHORITY, RPKI_REVOCATION_NO_CRL, 1,
+     "no list"},
+};
+
+/* each order of the lists from the place `from` on */
+static void each_order(const struct given *it, const struct file *members, struct file *lists,
+                       size_t count, size_t from) {
+    static const struct rpki_time then = {2025, 6, 1, 0, 0, 0, 0};
+    struct rpki_verdict out;
+    if (from == count)
+        check(listed(lists, count, members, 3, it->last, &then, &out) == it->wanted
+                  && out.index == it->index,
+              it->what);
+    for (size_t i = from; i < count; i++) {
+        struct file one = lists[from];
+        lists[from] = lists[i], lists[i] = one;
+        each_order(it, members, lists, count, from + 1);
+        one = lists[from], lists[from] = lists[i], lists[i] = one;
+    }
+}
+
+static void orders(const char *folder) {
+    for (size_t i = 0; i < sizeof given / sizeof *given; i++) {
+        struct file members[3], lists[5];
+        size_t count = 0;
+        for (size_t m = 0; m < 3; m++) members[m] = contents(folder, given[i].members[m]);
+        for (; count < 5 && given[i].lists[count] != NULL; count++)
+            lists[count] = contents(folder, given[i].lists[count]);
+        each_order(&given[i], members, lists, count, 0);
+        for (size_t m = 0; m < 3; m++) free(members[m].octets);
+        for (size_t l = 0; l < count; l++) free(lists[l].octets);
+    }
 }
 
 /* ---- routers */
@@ -795,20 +864,19 @@ static void routers(struct file anchor, struct file router, struct file trimming
 static void no_router(struct file anchor, struct file first, struct file second, struct file list) {
     struct file above = both(anchor, first), path = both(above, second);
     const size_t parts[] = {anchor.length, first.length, second.length};
-    const size_t u = strlen(LIST);
     struct rpki_verdict out;
     check(judge(path.octets, path.length, parts, 3, RPKI_ROUTER, &now, &out)
                   == RPKI_INSPECTION_KEY_ALGORITHM
               && out.index == 2,
           "an authority is no router");
-    check(rpki_path_validate_with(list.octets, list.length, &list.length, 1, (const uint8_t *)LIST, u,
-                                  &u, 1, path.octets, path.length, parts, 3, RPKI_ROUTER, 1, &now,
-                                  NULL, 0, NULL, 0, NULL, 0, &out)
+    check(rpki_path_validate_with(list.octets, list.length, &list.length, 1, path.octets,
+                                  path.length, parts, 3, RPKI_ROUTER, 1, &now, NULL, 0, NULL, 0,
+                                  NULL, 0, &out)
                   == RPKI_INSPECTION_KEY_ALGORITHM
               && out.index == 2,
           "an authority is no router, where lists are asked");
-    check(rpki_path_validate_with(NULL, 0, NULL, 0, NULL, 0, NULL, 0, path.octets, path.length,
-                                  parts, 3, RPKI_ROUTER, 1, &now, NULL, 0, NULL, 0, NULL, 0, &out)
+    check(rpki_path_validate_with(NULL, 0, NULL, 0, path.octets, path.length, parts, 3, RPKI_ROUTER,
+                                  1, &now, NULL, 0, NULL, 0, NULL, 0, &out)
                   == RPKI_REVOCATION_NO_CRL
               && out.index == 1,
           "a member above the router has no list");
@@ -817,7 +885,7 @@ static void no_router(struct file anchor, struct file first, struct file second,
 }
 
 int main(int count, char **words) {
-    if (count != 3) return 2;
+    if (count != 4) return 2;
     struct file anchor = contents(words[1], "anchor.cer"), first = contents(words[1], "first.cer");
     struct file second = contents(words[1], "second.cer"), object = contents(words[1], "object.cer");
     struct file list = contents(words[1], "revoked.crl"), empty = contents(words[1], "first.crl");
@@ -829,7 +897,6 @@ int main(int count, char **words) {
     more(first);
     rooms(first, list);
     members(anchor);
-    stores(anchor, list);
     numbers();
     kinds(anchor, first, object);
     fields(anchor, second, object);
@@ -842,6 +909,7 @@ int main(int count, char **words) {
     held(anchor, first);
     questions(anchor, first);
     asked(anchor, first, empty, list);
+    orders(words[3]);
     routers(above, router, trimming);
     no_router(anchor, first, second, empty);
     const struct file files[] = {anchor, first, second, object, list, empty, above, router, trimming};

@@ -1,89 +1,104 @@
 /* Validates a path of files, from the trust anchor down.
  *
- * usage: validate [-l LIST.crl].. YYYY-MM-DD LAST MEMBER.cer..   LAST: authority, ee, detached or router
+ * usage: validate [-l LIST.crl].. YYYY-MM-DD LAST MEMBER.cer..
+ *        LAST: authority, ee, detached or router
  *
- * Revocation lists are asked where some are given. Compiled with -DLIBCRYPTO it takes no lists, and libcrypto checks the
- * signatures that the library asks for, in place of the library's own proved verifier. */
+ * Revocation lists are asked where some are given. Compiled with -DLIBCRYPTO it takes no lists, and
+ * libcrypto checks the signatures that the library asks for, in place of the library's own proved
+ * verifier. Ends with 0 where the path is accepted, with 1 where it is rejected, and with 2 where
+ * the words or a file are not as above. */
 #include "rpki.h"
 #include <arpa/inet.h>
+#include <ctype.h>
+#include <errno.h>
 #include <stdio.h>
 #include <stdlib.h>
 #include <string.h>
 
-#define MOST 64     /* members, and lists */
-#define ROOM 4096   /* ranges */
-#define TEXT 65536  /* octets of a URI or sentence */
+#define MEBIBYTES 64 /* of a file, at most */
 
 /* Octets that stand one behind the other, and their lengths. */
 struct strings {
     uint8_t *octets;
-    size_t length, lengths[MOST], count;
+    size_t length, *lengths, count;
 };
 
-static void fail(const char *why, const char *of) {
-    fprintf(stderr, "%s: %s\n", of, why);
+/* What is asked. */
+struct request {
+    struct strings path, lists;
+    uint32_t last;
+    struct rpki_time now;
+    uint8_t *yes; /* what libcrypto says of each signature */
+};
+
+/* The ranges that are held, and how many there is room for. */
+struct held {
+    struct rpki_ip_range *v4, *v6;
+    struct rpki_as_range *asn;
+    size_t v4_room, v6_room, asn_room;
+};
+
+static void fail(const char *of, const char *why) {
+    fprintf(stderr, "validate: %s: %s\n", of, why);
     exit(2);
 }
 
+/* ---- words and files */
+
+static void *resized(void *block, size_t size) {
+    block = realloc(block, size > 0 ? size : 1);
+    if (block == NULL) fail("memory", "there is no more");
+    return block;
+}
+
+static void *room_for(uint64_t count, size_t size) {
+    if (count > SIZE_MAX / size) fail("memory", "there is no more");
+    return resized(NULL, (size_t)count * size);
+}
+
 static void append(struct strings *to, const uint8_t *octets, size_t length) {
-    if (to->count == MOST) fail("too many", "validate");
-    to->octets = realloc(to->octets, to->length + length + 1);
-    if (to->octets == NULL) fail("out of memory", "validate");
+    to->octets = resized(to->octets, to->length + length);
+    to->lengths = resized(to->lengths, (to->count + 1) * sizeof *to->lengths);
     memcpy(to->octets + to->length, octets, length);
     to->length += length;
     to->lengths[to->count++] = length;
 }
 
 static void append_file(struct strings *to, const char *name) {
-    static uint8_t octets[1 << 24];
+    static uint8_t octets[(MEBIBYTES << 20) + 1];
     FILE *file = fopen(name, "rb");
-    if (file == NULL) fail("can't be opened", name);
-    append(to, octets, fread(octets, 1, sizeof octets, file));
+    if (file == NULL) fail(name, strerror(errno));
+    size_t length = fread(octets, 1, sizeof octets, file);
+    if (ferror(file)) fail(name, strerror(errno)); /* of a folder too */
+    if (length == 0) fail(name, "the file is empty");
+    if (length == sizeof octets) fail(name, "the file has more than 64 MiB");
     fclose(file);
+    append(to, octets, length);
 }
 
-static void print_address(int family, const uint8_t *address) {
-    char text[64];
-    printf("%s", inet_ntop(family, address, text, sizeof text));
-}
-
-static void print_addresses(int family, const struct rpki_ip_range *ranges, uint64_t count) {
-    for (uint64_t i = 0; i < count && i < ROOM; i++) {
-        printf("  ");
-        print_address(family, ranges[i].min);
-        printf("-");
-        print_address(family, ranges[i].max);
-        printf("\n");
-    }
-}
-
-static void print_fault(const struct rpki_verdict *verdict) {
-    static uint8_t name[TEXT], sentence[TEXT];
-    uint64_t name_length, sentence_length;
-    rpki_fault_name(verdict->fault, name, TEXT, &name_length);
-    rpki_fault_sentence(verdict->fault, sentence, TEXT, &sentence_length);
-    printf("refused: member %u, fault %u, %.*s: %.*s\n", verdict->index, verdict->fault, (int)name_length, (const char *)name,
-           (int)sentence_length, (const char *)sentence);
-}
-
+/* The kind of the last member, as enum rpki_kind numbers it. */
 static uint32_t kind(const char *word) {
-    static const char *const words[] = {"anchor", "authority", "ee", "detached", "router"};
-    for (uint32_t i = 0; i < 5; i++)
-        if (strcmp(word, words[i]) == 0) return i;
-    fail("no such kind", word);
+    static const char *const words[] = {"authority", "ee", "detached", "router"};
+    for (uint32_t i = 0; i < 4; i++)
+        if (strcmp(word, words[i]) == 0) return RPKI_AUTHORITY + i;
+    fail(word, "the last member is authority, ee, detached or router");
     return 0;
 }
 
+/* The beginning of a day. Whether the calendar has it is left to the library. */
 static struct rpki_time moment(const char *text) {
+    static const char form[] = "dddd-dd-dd";
     struct rpki_time now = {0};
-    unsigned year, month, day;
-    if (sscanf(text, "%4u-%2u-%2u", &year, &month, &day) != 3) fail("no day", text);
-    now.year = (uint16_t)year, now.month = (uint8_t)month, now.day = (uint8_t)day;
+    for (size_t i = 0; i < sizeof form; i++)
+        if (form[i] == 'd' ? !isdigit((unsigned char)text[i]) : text[i] != form[i])
+            fail(text, "the day isn't YYYY-MM-DD");
+    now.year = (uint16_t)atoi(text);
+    now.month = (uint8_t)atoi(text + 5);
+    now.day = (uint8_t)atoi(text + 8);
     return now;
 }
 
-static struct rpki_ip_range v4[ROOM], v6[ROOM];
-static struct rpki_as_range asn[ROOM];
+/* ---- the library */
 
 #ifdef LIBCRYPTO
 #include <openssl/evp.h>
@@ -93,82 +108,122 @@ static int is_good(const uint8_t *octets, const struct rpki_question *it) {
     const uint8_t *key_at = octets + it->key_at;
     EVP_PKEY *key = d2i_PUBKEY(NULL, &key_at, (long)it->key_length);
     EVP_MD_CTX *context = EVP_MD_CTX_new();
-    int good = key != NULL && EVP_PKEY_base_id(key) == EVP_PKEY_RSA
+    int good = key != NULL && context != NULL && EVP_PKEY_base_id(key) == EVP_PKEY_RSA
         && EVP_DigestVerifyInit(context, NULL, EVP_sha256(), NULL, key) == 1
-        && EVP_DigestVerify(context, octets + it->signature_at, it->signature_length, octets + it->message_at, it->message_length) == 1;
+        && EVP_DigestVerify(context, octets + it->signature_at, it->signature_length,
+                            octets + it->message_at, it->message_length) == 1;
     EVP_MD_CTX_free(context);
     EVP_PKEY_free(key);
     return good;
 }
 
-static void judge(const struct strings *path, const struct strings *given, uint32_t last, const struct rpki_time *now,
-                  struct rpki_verdict *out) {
-    struct rpki_question questions[MOST];
-    uint8_t yes[MOST] = {0};
-    uint32_t fault = rpki_path_questions(path->octets, path->length, path->lengths, path->count, questions, MOST);
-    if (given->count > 0) fail("no lists with -DLIBCRYPTO", "validate");
-    for (size_t i = 0; fault == RPKI_OK && i < path->count; i++) yes[i] = (uint8_t)is_good(path->octets, &questions[i]);
-    rpki_path_validate_said(path->octets, path->length, path->lengths, path->count, last, yes, path->count, 1, now, v4, ROOM, v6,
-                            ROOM, asn, ROOM, out);
+/* Asks libcrypto about each signature, up to the first member that can't be read. */
+static uint8_t *answers(const struct strings *path) {
+    size_t count = path->count, length = path->length;
+    struct rpki_question *questions = room_for(count, sizeof *questions);
+    uint8_t *yes = room_for(count, 1);
+    memset(yes, 0, count);
+    while (count > 0
+           && rpki_path_questions(path->octets, length, path->lengths, count, questions, count)
+               != RPKI_OK)
+        length -= path->lengths[--count];
+    for (size_t i = 0; i < count; i++) yes[i] = (uint8_t)is_good(path->octets, &questions[i]);
+    free(questions);
+    return yes;
+}
+
+static void ask(struct request *it, struct held *out, struct rpki_verdict *verdict) {
+    if (it->lists.count > 0) fail("lists", "none are taken with -DLIBCRYPTO");
+    if (it->yes == NULL) it->yes = answers(&it->path);
+    rpki_path_validate_said(it->path.octets, it->path.length, it->path.lengths, it->path.count,
+                            it->last, it->yes, it->path.count, 1, &it->now, out->v4, out->v4_room,
+                            out->v6, out->v6_room, out->asn, out->asn_room, verdict);
 }
 #else
-static const uint8_t *at(const struct strings *it, size_t place) {
-    const uint8_t *octets = it->octets;
-    for (size_t i = 0; i < place; i++) octets += it->lengths[i];
-    return octets;
-}
-
-/* Each list once under the URI of each member that names the key of the list's issuer. */
-static void find_uris(const struct strings *members, const struct strings *given, struct strings *lists, struct strings *uris) {
-    static uint8_t uri[TEXT];
-    struct rpki_certificate member;
-    struct rpki_list list;
-    for (size_t m = 1; m < members->count; m++) {
-        uint64_t length = 0;
-        rpki_certificate_uri(at(members, m), members->lengths[m], RPKI_URI_CRL, uri, TEXT, &length);
-        if (rpki_certificate_read(at(members, m), members->lengths[m], &member) != RPKI_OK || length == 0 || length > TEXT) continue;
-        for (size_t l = 0; l < given->count; l++) {
-            if (rpki_list_read(at(given, l), given->lengths[l], &list) != RPKI_OK) fail("no list", "validate");
-            if (memcmp(list.authority_key, member.authority_key, 20) != 0) continue;
-            append(lists, at(given, l), given->lengths[l]);
-            append(uris, uri, length);
-        }
-    }
-}
-
-static void judge(const struct strings *path, const struct strings *given, uint32_t last, const struct rpki_time *now,
-                  struct rpki_verdict *out) {
-    struct strings lists = {0}, uris = {0};
-    if (given->count == 0) {
-        rpki_path_validate(path->octets, path->length, path->lengths, path->count, last, 1, now, v4, ROOM, v6, ROOM, asn, ROOM, out);
-        return;
-    }
-    find_uris(path, given, &lists, &uris);
-    rpki_path_validate_with(lists.octets, lists.length, lists.lengths, lists.count, uris.octets, uris.length, uris.lengths, uris.count,
-                            path->octets, path->length, path->lengths, path->count, last, 1, now, v4, ROOM, v6, ROOM, asn, ROOM, out);
-    free(lists.octets);
-    free(uris.octets);
+static void ask(struct request *it, struct held *out, struct rpki_verdict *verdict) {
+    if (it->lists.count == 0)
+        rpki_path_validate(it->path.octets, it->path.length, it->path.lengths, it->path.count,
+                           it->last, 1, &it->now, out->v4, out->v4_room, out->v6, out->v6_room,
+                           out->asn, out->asn_room, verdict);
+    else
+        rpki_path_validate_with(it->lists.octets, it->lists.length, it->lists.lengths,
+                                it->lists.count, it->path.octets, it->path.length, it->path.lengths,
+                                it->path.count, it->last, 1, &it->now, out->v4, out->v4_room,
+                                out->v6, out->v6_room, out->asn, out->asn_room, verdict);
 }
 #endif
 
-int main(int count, char **words) {
-    struct strings path = {0}, given = {0};
+/* The verdict, which accepts or rejects the path. */
+static struct rpki_verdict verdict_on(struct request *it, struct held *out) {
     struct rpki_verdict verdict;
+    ask(it, out, &verdict);
+    if (verdict.fault == RPKI_MEMORY) fail("memory", "there is no more");
+    if (verdict.fault == RPKI_BAD_CALL) fail("words", "no such day, or too few members");
+    return verdict;
+}
+
+/* A first call counts the ranges that are held, and a second one writes them. */
+static struct rpki_verdict judge(struct request *it, struct held *out) {
+    struct rpki_verdict verdict = verdict_on(it, out);
+    if (verdict.fault != RPKI_OK) return verdict;
+    out->v4 = room_for(out->v4_room = verdict.v4, sizeof *out->v4);
+    out->v6 = room_for(out->v6_room = verdict.v6, sizeof *out->v6);
+    out->asn = room_for(out->asn_room = verdict.asn, sizeof *out->asn);
+    return verdict_on(it, out);
+}
+
+/* ---- what is printed */
+
+static void print_addresses(int family, const struct rpki_ip_range *ranges, size_t count) {
+    char min[INET6_ADDRSTRLEN], max[INET6_ADDRSTRLEN];
+    for (size_t i = 0; i < count; i++)
+        printf("  %s-%s\n", inet_ntop(family, ranges[i].min, min, sizeof min),
+               inet_ntop(family, ranges[i].max, max, sizeof max));
+}
+
+static void print_held(const struct held *it) {
+    printf("accepted; held are\n");
+    print_addresses(AF_INET, it->v4, it->v4_room);
+    print_addresses(AF_INET6, it->v6, it->v6_room);
+    for (size_t i = 0; i < it->asn_room; i++)
+        printf("  AS%u-AS%u\n", it->asn[i].min, it->asn[i].max);
+}
+
+static void print_fault(const struct rpki_verdict *it) {
+    uint8_t name[64], sentence[256];
+    uint64_t name_length, sentence_length;
+    rpki_fault_name(it->fault, name, sizeof name, &name_length);
+    rpki_fault_sentence(it->fault, sentence, sizeof sentence, &sentence_length);
+    printf("refused: member %u, fault %u, %.*s: %.*s\n", it->index, it->fault, (int)name_length,
+           (const char *)name, (int)sentence_length, (const char *)sentence);
+}
+
+static void let_go(struct strings *it) {
+    free(it->octets);
+    free(it->lengths);
+}
+
+int main(int count, char **words) {
+    struct request it = {0};
+    struct held held = {0};
     int first = 1;
-    for (; first + 1 < count && strcmp(words[first], "-l") == 0; first += 2) append_file(&given, words[first + 1]);
-    if (count < first + 3 || rpki_abi_version() != RPKI_ABI) fail("usage: validate [-l LIST.crl].. YYYY-MM-DD LAST MEMBER.cer..", words[0]);
-    struct rpki_time now = moment(words[first]);
-    for (int i = first + 2; i < count; i++) append_file(&path, words[i]);
-    judge(&path, &given, kind(words[first + 1]), &now, &verdict);
-    if (verdict.fault == RPKI_OK) {
-        printf("accepted; held are\n");
-        print_addresses(AF_INET, v4, verdict.v4);
-        print_addresses(AF_INET6, v6, verdict.v6);
-        for (uint64_t i = 0; i < verdict.asn && i < ROOM; i++) printf("  AS%u-AS%u\n", asn[i].min, asn[i].max);
-    } else {
+    if (rpki_abi_version() != RPKI_ABI) fail("librpki", "isn't of the version of rpki.h");
+    for (; first + 1 < count && strcmp(words[first], "-l") == 0; first += 2)
+        append_file(&it.lists, words[first + 1]);
+    if (count < first + 3) fail("usage", "validate [-l LIST.crl].. YYYY-MM-DD LAST MEMBER.cer..");
+    it.now = moment(words[first]);
+    it.last = kind(words[first + 1]);
+    for (int i = first + 2; i < count; i++) append_file(&it.path, words[i]);
+    struct rpki_verdict verdict = judge(&it, &held);
+    if (verdict.fault == RPKI_OK)
+        print_held(&held);
+    else
         print_fault(&verdict);
-    }
-    free(path.octets);
-    free(given.octets);
+    let_go(&it.path);
+    let_go(&it.lists);
+    free(it.yes);
+    free(held.v4);
+    free(held.v6);
+    free(held.asn);
     return verdict.fault != RPKI_OK;
 }

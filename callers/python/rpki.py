@@ -1,28 +1,43 @@
-"""The library from Python, by ctypes: no package is needed. librpki.so is taken from beside this file, or from the folder RPKI_LIBRARY.
+"""The library from Python, by ctypes: no package is needed. librpki.so is taken from beside this
+file, or from the folder RPKI_LIBRARY.
 
-usage: rpki.py FILE..                                what certificates and revocation lists hold, as JSON, as `./rpki show -j` prints it
-       rpki.py path MOMENT LAST MEMBER..             validates a path: LAST is authority, ee, detached or router
-       rpki.py with LIST[,LIST].. MOMENT LAST MEMBER..  the same, with revocation lists
-MOMENT is YYYY-MM-DD.
+usage: rpki.py FILE..
+           prints what certificates and revocation lists hold, as `./rpki show -j` does
+       rpki.py path YYYY-MM-DD LAST MEMBER..
+           validates a path: LAST is authority, ee, detached or router
+       rpki.py with LIST[,LIST].. YYYY-MM-DD LAST MEMBER..
+           the same, with revocation lists
+
+Ends with 0, or with 2 where the words or a file are not as above.
 """
-import base64, ctypes, datetime, hashlib, ipaddress, json, os, sys
+import base64, ctypes, datetime, hashlib, ipaddress, json, os, re, sys
 
+ABI = 2             # of rpki.h
+MOST = 64 << 20     # octets of a file
 here = os.path.dirname(os.path.abspath(__file__))
 lib = ctypes.CDLL(os.path.join(os.environ.get("RPKI_LIBRARY", here), "librpki.so"))
-u8, u16, u32, u64, size = ctypes.c_uint8, ctypes.c_uint16, ctypes.c_uint32, ctypes.c_uint64, ctypes.c_size_t
+if lib.rpki_abi_version() != ABI:
+    raise ImportError("librpki.so isn't of the version of this file")
+u8, u16, u32, u64 = ctypes.c_uint8, ctypes.c_uint16, ctypes.c_uint32, ctypes.c_uint64
+size = ctypes.c_size_t
 KINDS = ("ta", "ca", "ee", "detached_ee", "router")
+MEMORY, BAD_CALL = 1, 2
 LAST = {"authority": 1, "ee": 2, "detached": 3, "router": 4}
 URIS = ("aia", "crl", "carepository", "manifest", "signed_object", "notify_url")
-ATTRIBUTES = {b"\x55\x04\x03": "CN", b"\x55\x04\x05": "serialNumber", b"\x55\x04\x06": "C", b"\x55\x04\x0a": "O", b"\x55\x04\x0b": "OU"}
+ATTRIBUTES = {b"\x55\x04\x03": "CN", b"\x55\x04\x05": "serialNumber", b"\x55\x04\x06": "C",
+              b"\x55\x04\x0a": "O", b"\x55\x04\x0b": "OU"}
 
 
 class Time(ctypes.Structure):
-    _fields_ = [("year", u16)] + [(part, u8) for part in ("month", "day", "hour", "minute", "second", "unused")]
+    _fields_ = [("year", u16), ("month", u8), ("day", u8), ("hour", u8), ("minute", u8),
+                ("second", u8), ("unused", u8)]
 
 
 class Certificate(ctypes.Structure):
-    _fields_ = [("not_before", Time), ("not_after", Time), ("serial", u8 * 20), ("subject_key", u8 * 20), ("authority_key", u8 * 20),
-                ("has_authority_key", u8), ("is_authority", u8), ("key_usage", u8), ("overclaim", u8), ("v4", u8), ("v6", u8), ("asn", u8)]
+    _fields_ = [("not_before", Time), ("not_after", Time), ("serial", u8 * 20),
+                ("subject_key", u8 * 20), ("authority_key", u8 * 20), ("has_authority_key", u8),
+                ("is_authority", u8), ("key_usage", u8), ("overclaim", u8), ("v4", u8), ("v6", u8),
+                ("asn", u8)]
 
 
 class IpRange(ctypes.Structure):
@@ -34,7 +49,8 @@ class AsRange(ctypes.Structure):
 
 
 class List(ctypes.Structure):
-    _fields_ = [("this_update", Time), ("next_update", Time), ("entries", u64), ("number", u8 * 20), ("authority_key", u8 * 20)]
+    _fields_ = [("this_update", Time), ("next_update", Time), ("entries", u64), ("number", u8 * 20),
+                ("authority_key", u8 * 20)]
 
 
 class Entry(ctypes.Structure):
@@ -47,6 +63,8 @@ class Verdict(ctypes.Structure):
 
 class Fault(Exception):
     """A fault of the library, by its number."""
+    def __str__(self):
+        return text(lib.rpki_fault_sentence, u32(self.args[0]))
 
 
 def octets(data):
@@ -82,9 +100,11 @@ def name_of(fault):
 
 
 def seconds(it):
-    """Seconds from 1970, also in the year 0, which Python's dates don't have: 400 years are 146,097 days."""
+    """Seconds from 1970, also in the year 0, which Python's dates don't have: 400 years are 146,097
+    days."""
     day = datetime.date(it.year or 400, it.month, it.day).toordinal() - (0 if it.year else 146097)
-    return (day - datetime.date(1970, 1, 1).toordinal()) * 86400 + it.hour * 3600 + it.minute * 60 + it.second
+    hours = (day - datetime.date(1970, 1, 1).toordinal()) * 24 + it.hour
+    return hours * 3600 + it.minute * 60 + it.second
 
 
 def serial(number):
@@ -131,7 +151,8 @@ def resources(data, it):
     items = [system(one) for one in all_of(AsRange, lib.rpki_certificate_as_numbers, *data)]
     items += [{"as_inherit": "inherit"}] if it.asn == 1 else []
     for family, length, state in ((4, 4, it.v4), (6, 16, it.v6)):
-        items += [block(one, length) for one in all_of(IpRange, lib.rpki_certificate_addresses, *data, u32(family))]
+        listed = all_of(IpRange, lib.rpki_certificate_addresses, *data, u32(family))
+        items += [block(one, length) for one in listed]
         items += [{f"ip{family}_inherit": "inherit"}] if state == 1 else []
     return items
 
@@ -143,10 +164,12 @@ def certificate(whole):
     out = {"type": "ca_cert" if it.is_authority else "ee_cert", "cert_serial": serial(it.serial),
            "cert_issuer": name(bytes(all_of(u8, lib.rpki_certificate_name, *data, u32(0)))),
            "cert_subject": name(bytes(all_of(u8, lib.rpki_certificate_name, *data, u32(1)))),
-           "valid_since": seconds(it.not_before), "valid_until": seconds(it.not_after), "ski": identifier(it.subject_key),
+           "valid_since": seconds(it.not_before), "valid_until": seconds(it.not_after),
+           "ski": identifier(it.subject_key),
            "key_usage": ("ca", "ee")[it.key_usage], "overclaim": ("refuse", "trim")[it.overclaim],
            "subordinate_resources": resources(data, it),
-           "profiles": {kind: name_of(fault) if fault else "OK" for kind, fault in zip(KINDS, faults)}}
+           "profiles": {kind: name_of(fault) if fault else "OK"
+                        for kind, fault in zip(KINDS, faults)}}
     if it.has_authority_key:
         out["aki"] = identifier(it.authority_key)
     if not faults[4]:
@@ -160,8 +183,9 @@ def certificate(whole):
 def revocation_list(whole):
     data, it = octets(whole), List()
     called(lib.rpki_list_read, *data, ctypes.byref(it))
-    return {"type": "crl", "crl_issuer": name(bytes(all_of(u8, lib.rpki_list_issuer, *data))), "aki": identifier(it.authority_key),
-            "crl_serial": serial(it.number), "valid_since": seconds(it.this_update), "valid_until": seconds(it.next_update),
+    return {"type": "crl", "crl_issuer": name(bytes(all_of(u8, lib.rpki_list_issuer, *data))),
+            "aki": identifier(it.authority_key), "crl_serial": serial(it.number),
+            "valid_since": seconds(it.this_update), "valid_until": seconds(it.next_update),
             "revoked_certs": [{"serial": serial(one.serial), "date": seconds(one.date)}
                               for one in all_of(Entry, lib.rpki_list_entries, *data)]}
 
@@ -179,52 +203,76 @@ def show(file):
     return json.dumps(out, indent=2, sort_keys=True)
 
 
-def found_uris(members, lists):
-    """Each list under the URI of each member that names the key of the list's issuer."""
-    for member in members[1:]:
-        it = Certificate()
-        called(lib.rpki_certificate_read, *octets(member), ctypes.byref(it))
-        uri = bytes(all_of(u8, lib.rpki_certificate_uri, *octets(member), u32(1)))
-        for one in lists:
-            head = List()
-            called(lib.rpki_list_read, *octets(one), ctypes.byref(head))
-            if bytes(head.authority_key) == bytes(it.authority_key):
-                yield one, uri
-
-
 def path(day, last, members, lists=None):
-    at = datetime.date.fromisoformat(day)
-    out, room = Verdict(), size(4096)
-    v4, v6, asn = (IpRange * 4096)(), (IpRange * 4096)(), (AsRange * 4096)()
-    rest = (*strings(members), u32(LAST[last]), u32(1), ctypes.byref(Time(at.year, at.month, at.day)), v4, room, v6, room, asn, room,
-            ctypes.byref(out))
-    if lists is None:
-        lib.rpki_path_validate(*rest)
-    else:
-        pairs = list(found_uris(members, lists))
-        lib.rpki_path_validate_with(*strings([one for one, _ in pairs]), *strings([uri for _, uri in pairs]), *rest)
-    if out.fault:
-        return {"accepted": False, "rejected": {"member": out.index, "fault": name_of(out.fault),
-                                                "sentence": text(lib.rpki_fault_sentence, u32(out.fault))}}
-    holds = [system(it) for it in asn[:out.asn]] + [block(it, 4) for it in v4[:out.v4]] + [block(it, 16) for it in v6[:out.v6]]
+    """The verdict on a path. A first call counts the ranges, and a second one writes them."""
+    if last not in LAST:
+        raise ValueError(f"{last}: the last member is authority, ee, detached or router")
+    out = Verdict()
+    words = (*strings(members), u32(LAST[last]), u32(1), ctypes.byref(moment(day)))
+    function = lib.rpki_path_validate
+    if lists is not None:
+        words = (*strings(lists), *words)
+        function = lib.rpki_path_validate_with
+    for _ in range(2):
+        v4, v6, asn = (IpRange * out.v4)(), (IpRange * out.v6)(), (AsRange * out.asn)()
+        function(*words, v4, size(out.v4), v6, size(out.v6), asn, size(out.asn), ctypes.byref(out))
+        if out.fault == MEMORY:
+            raise MemoryError
+        if out.fault == BAD_CALL:
+            raise ValueError("no such day, or too few members")
+        if out.fault:
+            sentence = text(lib.rpki_fault_sentence, u32(out.fault))
+            fault = {"member": out.index, "fault": name_of(out.fault), "sentence": sentence}
+            return {"accepted": False, "rejected": fault}
+    holds = [system(it) for it in asn]
+    holds += [block(it, 4) for it in v4] + [block(it, 16) for it in v6]
     return {"accepted": True, "holds": holds}
 
 
+def moment(day):
+    """The beginning of a day that is written YYYY-MM-DD. Whether the calendar has it is left to the
+    library."""
+    if not re.fullmatch("[0-9]{4}-[0-9]{2}-[0-9]{2}", day):
+        raise ValueError(f"{day}: the day isn't YYYY-MM-DD")
+    return Time(*map(int, day.split("-")))
+
+
 def contents(file):
+    """The octets of a file, which has some, and at most MOST."""
     with open(file, "rb") as it:
-        return it.read()
+        octets = it.read(MOST + 1)
+    if not octets:
+        raise ValueError(f"{file}: the file is empty")
+    if len(octets) > MOST:
+        raise ValueError(f"{file}: the file has more than 64 MiB")
+    return octets
 
 
-def main(words):
-    if words[:1] == ["path"]:
-        print(json.dumps(path(words[1], words[2], list(map(contents, words[3:])))))
-    elif words[:1] == ["with"]:
-        lists = list(map(contents, words[1].split(",")))
-        print(json.dumps(path(words[2], words[3], list(map(contents, words[4:])), lists)))
+def run(words):
+    if words[0] == "path":
+        day, last, *members = words[1:]
+        print(json.dumps(path(day, last, list(map(contents, members)))))
+    elif words[0] == "with":
+        lists, day, last, *members = words[1:]
+        lists = list(map(contents, lists.split(",")))
+        print(json.dumps(path(day, last, list(map(contents, members)), lists)))
     else:
         for file in words:
             print(show(file))
 
 
+def main(words):
+    """Does what the words ask, and gives the exit status."""
+    if not words or len(words) < {"path": 4, "with": 5}.get(words[0], 1):
+        print(__doc__, file=sys.stderr)
+        return 2
+    try:
+        run(words)
+    except (Fault, OSError, ValueError) as error:
+        print(f"rpki.py: {error}", file=sys.stderr)
+        return 2
+    return 0
+
+
 if __name__ == "__main__":
-    main(sys.argv[1:])
+    sys.exit(main(sys.argv[1:]))

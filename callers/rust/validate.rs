@@ -1,6 +1,24 @@
-//! Validates a path of files, from the trust anchor down, with signatures by the library: one file for rustc, no crate.
-//! usage: validate YYYY-MM-DD LAST MEMBER.cer..   LAST: authority, ee, detached or router
-use std::{env, fs, net::Ipv4Addr, net::Ipv6Addr, process::ExitCode};
+//! Validates a path of files, from the trust anchor down, with signatures by the library: one file
+//! for rustc, no crate.
+//!
+//! usage: validate [-l LIST.crl].. YYYY-MM-DD LAST MEMBER.cer..
+//!        LAST: authority, ee, detached or router
+//!
+//! Revocation lists are asked where some are given.
+//! Ends with 0 where the path is accepted, with 1 where it is rejected, and with 2 where the words
+//! or a file are not as above.
+use std::env;
+use std::fs::File;
+use std::io::Read;
+use std::net::{Ipv4Addr, Ipv6Addr};
+use std::process::ExitCode;
+
+/// Of rpki.h.
+const ABI: u32 = 2;
+const MEMORY: u32 = 1;
+const BAD_CALL: u32 = 2;
+/// Octets of a file, at most: 64 MiB.
+const MOST: u64 = 64 << 20;
 
 #[repr(C)]
 #[derive(Default)]
@@ -59,51 +77,122 @@ extern "C" {
         asn_room: usize,
         out: *mut Verdict,
     ) -> u32;
+    fn rpki_path_validate_with(
+        lists: *const u8,
+        lists_length: usize,
+        list_lengths: *const usize,
+        list_count: usize,
+        octets: *const u8,
+        length: usize,
+        lengths: *const usize,
+        members: usize,
+        last: u32,
+        strict: u32,
+        now: *const Time,
+        v4: *mut IpRange,
+        v4_room: usize,
+        v6: *mut IpRange,
+        v6_room: usize,
+        asn: *mut AsRange,
+        asn_room: usize,
+        out: *mut Verdict,
+    ) -> u32;
 }
 
-/// What the members hold, or the place and the number of the first fault.
+/// Octets that stand one behind the other, and their lengths.
+struct Strings {
+    octets: Vec<u8>,
+    lengths: Vec<usize>,
+}
+
+impl Strings {
+    fn of(parts: &[Vec<u8>]) -> Strings {
+        Strings {
+            octets: parts.concat(),
+            lengths: parts.iter().map(Vec::len).collect(),
+        }
+    }
+}
+
+/// What the last member holds.
+#[derive(Default)]
 struct Held {
     v4: Vec<IpRange>,
     v6: Vec<IpRange>,
     asn: Vec<AsRange>,
 }
 
-/// Validates the path of these members, the anchor first.
-fn validate(members: &[Vec<u8>], last: u32, now: &Time) -> Result<Held, Verdict> {
-    let octets = members.concat();
-    let lengths: Vec<usize> = members.iter().map(Vec::len).collect();
-    let mut held = Held { v4: Vec::new(), v6: Vec::new(), asn: Vec::new() };
-    loop {
+/// What is asked: the members, the anchor first, and revocation lists.
+struct Request {
+    lists: Strings,
+    members: Strings,
+    last: u32,
+    now: Time,
+}
+
+impl Request {
+    /// Calls the library, which writes as many ranges as `held` has room for.
+    fn ask(&self, held: &mut Held) -> Verdict {
+        let (lists, members) = (&self.lists, &self.members);
         let mut out = Verdict::default();
         // Each pointer goes with the length of its own slice, and what is written overlaps nothing.
         unsafe {
-            rpki_path_validate(
-                octets.as_ptr(),
-                octets.len(),
-                lengths.as_ptr(),
-                lengths.len(),
-                last,
-                1,
-                now,
-                held.v4.as_mut_ptr(),
-                held.v4.len(),
-                held.v6.as_mut_ptr(),
-                held.v6.len(),
-                held.asn.as_mut_ptr(),
-                held.asn.len(),
-                &mut out,
-            );
+            if lists.lengths.is_empty() {
+                rpki_path_validate(
+                    members.octets.as_ptr(),
+                    members.octets.len(),
+                    members.lengths.as_ptr(),
+                    members.lengths.len(),
+                    self.last,
+                    1,
+                    &self.now,
+                    held.v4.as_mut_ptr(),
+                    held.v4.len(),
+                    held.v6.as_mut_ptr(),
+                    held.v6.len(),
+                    held.asn.as_mut_ptr(),
+                    held.asn.len(),
+                    &mut out,
+                );
+            } else {
+                rpki_path_validate_with(
+                    lists.octets.as_ptr(),
+                    lists.octets.len(),
+                    lists.lengths.as_ptr(),
+                    lists.lengths.len(),
+                    members.octets.as_ptr(),
+                    members.octets.len(),
+                    members.lengths.as_ptr(),
+                    members.lengths.len(),
+                    self.last,
+                    1,
+                    &self.now,
+                    held.v4.as_mut_ptr(),
+                    held.v4.len(),
+                    held.v6.as_mut_ptr(),
+                    held.v6.len(),
+                    held.asn.as_mut_ptr(),
+                    held.asn.len(),
+                    &mut out,
+                );
+            }
         }
-        if out.fault != 0 {
-            return Err(out);
+        out
+    }
+
+    /// Gives what the last member holds: a first call counts the ranges, a second one writes them.
+    fn judge(&self) -> Result<Held, Verdict> {
+        let mut held = Held::default();
+        for _ in 0..2 {
+            let out = self.ask(&mut held);
+            if out.fault != 0 {
+                return Err(out);
+            }
+            held.v4.resize(out.v4 as usize, IpRange::default());
+            held.v6.resize(out.v6 as usize, IpRange::default());
+            held.asn.resize(out.asn as usize, AsRange::default());
         }
-        let counts = (out.v4 as usize, out.v6 as usize, out.asn as usize);
-        if counts == (held.v4.len(), held.v6.len(), held.asn.len()) {
-            return Ok(held);
-        }
-        held.v4.resize(counts.0, IpRange::default());
-        held.v6.resize(counts.1, IpRange::default());
-        held.asn.resize(counts.2, AsRange::default());
+        Ok(held)
     }
 }
 
@@ -133,39 +222,108 @@ fn print(held: &Held) {
     }
 }
 
-fn moment(day: &str) -> Option<Time> {
-    let mut parts = day.split('-');
-    Some(Time {
-        year: parts.next()?.parse().ok()?,
-        month: parts.next()?.parse().ok()?,
-        day: parts.next()?.parse().ok()?,
+/// The beginning of a day that is written YYYY-MM-DD. Whether the calendar has it is left to the
+/// library.
+fn moment(day: &str) -> Result<Time, String> {
+    let octets = day.as_bytes();
+    let is_in_place = |(at, octet): (usize, &u8)| match at {
+        4 | 7 => *octet == b'-',
+        _ => octet.is_ascii_digit(),
+    };
+    if octets.len() != 10 || !octets.iter().enumerate().all(is_in_place) {
+        return Err(format!("{day}: the day isn't YYYY-MM-DD"));
+    }
+    let number = |digits: &[u8]| digits.iter().fold(0, |n, it| n * 10 + u16::from(it - b'0'));
+    Ok(Time {
+        year: number(&octets[..4]),
+        month: number(&octets[5..7]) as u8,
+        day: number(&octets[8..]) as u8,
         ..Time::default()
     })
 }
 
-fn main() -> ExitCode {
-    let words: Vec<String> = env::args().skip(1).collect();
-    let kinds = ["anchor", "authority", "ee", "detached", "router"];
-    let last = words.get(1).and_then(|word| kinds.iter().position(|kind| kind == word));
-    let now = words.first().and_then(|day| moment(day));
-    let (Some(last), Some(now), 1) = (last, now, unsafe { rpki_abi_version() }) else {
-        eprintln!("usage: validate YYYY-MM-DD LAST MEMBER.cer..");
-        return ExitCode::from(2);
+/// The kind of the last member, as `enum rpki_kind` numbers it.
+fn kind(word: &str) -> Result<u32, String> {
+    match word {
+        "authority" => Ok(1),
+        "ee" => Ok(2),
+        "detached" => Ok(3),
+        "router" => Ok(4),
+        _ => Err(format!(
+            "{word}: the last member is authority, ee, detached or router"
+        )),
+    }
+}
+
+/// The octets of a file, which has some, and at most `MOST`.
+fn contents(name: &String) -> Result<Vec<u8>, String> {
+    let mut octets = Vec::new();
+    File::open(name)
+        .and_then(|file| file.take(MOST + 1).read_to_end(&mut octets))
+        .map_err(|error| format!("{name}: {error}"))?;
+    match octets.len() as u64 {
+        0 => Err(format!("{name}: the file is empty")),
+        length if length > MOST => Err(format!("{name}: the file has more than 64 MiB")),
+        _ => Ok(octets),
+    }
+}
+
+/// The octets of each file.
+fn all_contents(names: &[String]) -> Result<Vec<Vec<u8>>, String> {
+    names.iter().map(contents).collect()
+}
+
+/// The request of the words.
+fn request(mut words: &[String]) -> Result<Request, String> {
+    let mut lists = Vec::new();
+    while let [option, list, rest @ ..] = words {
+        if option != "-l" {
+            break;
+        }
+        lists.push(contents(list)?);
+        words = rest;
+    }
+    let [day, last, _, ..] = words else {
+        return Err("usage: validate [-l LIST.crl].. YYYY-MM-DD LAST MEMBER.cer..".to_owned());
     };
-    let members: Result<Vec<Vec<u8>>, _> = words[2..].iter().map(fs::read).collect();
-    match members.map(|members| validate(&members, last as u32, &now)) {
-        Ok(Ok(held)) => {
+    Ok(Request {
+        lists: Strings::of(&lists),
+        last: kind(last)?,
+        now: moment(day)?,
+        members: Strings::of(&all_contents(&words[2..])?),
+    })
+}
+
+/// Prints the verdict. Errs with what isn't as it has to be.
+fn run(words: &[String]) -> Result<ExitCode, String> {
+    if unsafe { rpki_abi_version() } != ABI {
+        return Err("librpki isn't of the version of rpki.h".to_owned());
+    }
+    match request(words)?.judge() {
+        Ok(held) => {
             print(&held);
-            ExitCode::SUCCESS
+            Ok(ExitCode::SUCCESS)
         }
-        Ok(Err(it)) => {
-            let (name, sentence) = (text(rpki_fault_name, it.fault), text(rpki_fault_sentence, it.fault));
-            println!("refused: member {}, fault {}, {name}: {sentence}", it.index, it.fault);
-            ExitCode::from(1)
-        }
-        Err(error) => {
-            eprintln!("{error}");
-            ExitCode::from(2)
+        Err(Verdict { fault: MEMORY, .. }) => Err("there is no more memory".to_owned()),
+        Err(Verdict {
+            fault: BAD_CALL, ..
+        }) => Err("no such day, or too few members".to_owned()),
+        Err(it) => {
+            let name = text(rpki_fault_name, it.fault);
+            let sentence = text(rpki_fault_sentence, it.fault);
+            println!(
+                "refused: member {}, fault {}, {name}: {sentence}",
+                it.index, it.fault
+            );
+            Ok(ExitCode::from(1))
         }
     }
+}
+
+fn main() -> ExitCode {
+    let words: Vec<String> = env::args().skip(1).collect();
+    run(&words).unwrap_or_else(|error| {
+        eprintln!("validate: {error}");
+        ExitCode::from(2)
+    })
 }

@@ -1,1 +1,1 @@
-pub mod Routers
+mod Cutting

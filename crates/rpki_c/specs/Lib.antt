@@ -1,2 +1,2 @@
 pub mod Answered
-pub mod Judged
+pub mod Strings

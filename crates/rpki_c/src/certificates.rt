@@ -1,5 +1,5 @@
 //! Certificates for C.
-ghost use Rattle.std.specs.Prelude.{OnOk, IfErr};
+ghost use Rattle.std.specs.Prelude.{◌≡◌, ◌≢◌, ◌<◌, ◌↔◌, IsNone, OnOk, IfErr};
 ghost use Rattle.rpki_cert.specs.Profiles.{MeetsProfile, IsFirstFault};
 
 use crate::copying::{RpkiAsRange, RpkiIpRange, put_addresses, put_as_numbers, put_octets};
@@ -98,8 +98,10 @@ pub extern "C" fn rpki_certificate_read(
     }
 }
 
-// The kind that the header numbers so.
-fn kind_of(number: u32) -> Option<Kind> {
+/// Returns the kind that the header numbers so.
+pub(crate) fn kind_of(number: u32) -> Option<Kind>
+    ensures { IsNone result ↔ 4 < number }
+{
     match number {
         0 => Some(Kind::Anchor),
         1 => Some(Kind::Authority),
@@ -126,14 +128,16 @@ fn inspect(cert: &Cert, kind: Kind, strict: bool) -> Result<(), InspectionError>
 
 /// Inspects the certificate that the octets begin with as one of a kind: 0 a trust anchor, 1 an
 /// authority, 2 an end entity, 3 a detached one, 4 a router. Answers 0 where it meets the profile;
-/// else the number of its first fault.
+/// else the number of its first fault, or 2 where no kind has the number.
 #[unsafe(no_mangle)]
 pub extern "C" fn rpki_certificate_inspect(
     alloc: Global,
     octets: &[u8],
     kind: u32,
     strict: u32,
-) -> u32 {
+) -> u32
+    ensures bad_call { (result ≡ BAD_CALL) ↔ 4 < kind }
+{
     let Some(kind) = kind_of(kind) else {
         return BAD_CALL;
     };
@@ -150,9 +154,34 @@ pub extern "C" fn rpki_certificate_inspect(
     }
 }
 
-/// Writes the ranges of addresses that the certificate lists, of IPv4 where `family` is 4 and else
-/// of IPv6: as many as there is room for, and in `count` how many there are. Answers 0, or the
-/// number of a fault.
+/// A family of addresses.
+#[derive(Clone, Copy)]
+enum Family {
+    V4,
+    V6,
+}
+
+// The family that has this number.
+fn family_of(number: u32) -> Option<Family>
+    ensures { IsNone result ↔ (number ≢ 4) × (number ≢ 6) }
+{
+    match number {
+        4 => Some(Family::V4),
+        6 => Some(Family::V6),
+        _ => None,
+    }
+}
+
+fn addresses_of(data: &TbsCert, family: Family) -> &IpResources {
+    match family {
+        Family::V4 => data.v4_resources(),
+        Family::V6 => data.v6_resources(),
+    }
+}
+
+/// Writes the ranges of addresses that the certificate lists, of IPv4 where `family` is 4, of IPv6
+/// where it is 6: as many as there is room for, and in `count` how many there are. Answers 0, or
+/// the number of a fault: 2 where `family` is another number.
 #[unsafe(no_mangle)]
 pub extern "C" fn rpki_certificate_addresses(
     alloc: Global,
@@ -160,15 +189,17 @@ pub extern "C" fn rpki_certificate_addresses(
     family: u32,
     out: &mut [RpkiIpRange],
     count: &mut u64,
-) -> u32 {
+) -> u32
+    ensures bad_call { (result ≡ BAD_CALL) ↔ (family ≢ 4) × (family ≢ 6) }
+    ensures at_fault { result ≢ NONE → count.new ≡ 0 }
+{
     *count = 0;
+    let Some(family) = family_of(family) else {
+        return BAD_CALL;
+    };
     match Cert::decode(alloc, octets) {
         Ok(cert) => {
-            let listed = match family {
-                4 => cert.as_tbs().v4_resources(),
-                _ => cert.as_tbs().v6_resources(),
-            };
-            if let Some(blocks) = listed.as_blocks() {
+            if let Some(blocks) = addresses_of(cert.as_tbs(), family).as_blocks() {
                 *count = put_addresses(blocks, out);
             }
             drop(cert);
@@ -186,7 +217,9 @@ pub extern "C" fn rpki_certificate_as_numbers(
     octets: &[u8],
     out: &mut [RpkiAsRange],
     count: &mut u64,
-) -> u32 {
+) -> u32
+    ensures at_fault { result ≢ NONE → count.new ≡ 0 }
+{
     *count = 0;
     match Cert::decode(alloc, octets) {
         Ok(cert) => {
@@ -200,22 +233,47 @@ pub extern "C" fn rpki_certificate_as_numbers(
     }
 }
 
-fn uri_of(data: &TbsCert, which: u32) -> Option<&[u8]> {
-    match which {
-        0 => Some(data.ca_issuer()?.as_bytes()),
-        1 => Some(data.crl_uri()?.as_bytes()),
-        2 => Some(data.ca_repository()?.as_bytes()),
-        3 => Some(data.rpki_manifest()?.as_bytes()),
-        4 => Some(data.signed_object()?.as_bytes()),
-        5 => Some(data.rpki_notify()?.as_bytes()),
+/// A URI of a certificate.
+#[derive(Clone, Copy)]
+enum CertUri {
+    CaIssuer,
+    Crl,
+    Repository,
+    Manifest,
+    SignedObject,
+    Notify,
+}
+
+// The URI that the header numbers so.
+fn uri_numbered(number: u32) -> Option<CertUri>
+    ensures { IsNone result ↔ 5 < number }
+{
+    match number {
+        0 => Some(CertUri::CaIssuer),
+        1 => Some(CertUri::Crl),
+        2 => Some(CertUri::Repository),
+        3 => Some(CertUri::Manifest),
+        4 => Some(CertUri::SignedObject),
+        5 => Some(CertUri::Notify),
         _ => None,
+    }
+}
+
+fn uri_of(data: &TbsCert, which: CertUri) -> Option<&[u8]> {
+    match which {
+        CertUri::CaIssuer => Some(data.ca_issuer()?.as_bytes()),
+        CertUri::Crl => Some(data.crl_uri()?.as_bytes()),
+        CertUri::Repository => Some(data.ca_repository()?.as_bytes()),
+        CertUri::Manifest => Some(data.rpki_manifest()?.as_bytes()),
+        CertUri::SignedObject => Some(data.signed_object()?.as_bytes()),
+        CertUri::Notify => Some(data.rpki_notify()?.as_bytes()),
     }
 }
 
 /// Writes one URI: 0 of the issuer's certificate, 1 of the revocation list, 2 of the repository, 3
 /// of the manifest, 4 of the signed object, 5 of the notification file. Writes as many octets as
-/// there is room for, and in `count` how many there are; 0 where there is no such URI. Answers 0,
-/// or the number of a fault.
+/// there is room for, and in `count` how many there are; 0 where the certificate has none such.
+/// Answers 0, or the number of a fault: 2 where `which` is another number.
 #[unsafe(no_mangle)]
 pub extern "C" fn rpki_certificate_uri(
     alloc: Global,
@@ -223,8 +281,14 @@ pub extern "C" fn rpki_certificate_uri(
     which: u32,
     out: &mut [u8],
     count: &mut u64,
-) -> u32 {
+) -> u32
+    ensures bad_call { (result ≡ BAD_CALL) ↔ 5 < which }
+    ensures at_fault { result ≢ NONE → count.new ≡ 0 }
+{
     *count = 0;
+    let Some(which) = uri_numbered(which) else {
+        return BAD_CALL;
+    };
     match Cert::decode(alloc, octets) {
         Ok(cert) => {
             if let Some(uri) = uri_of(cert.as_tbs(), which) {
@@ -237,9 +301,34 @@ pub extern "C" fn rpki_certificate_uri(
     }
 }
 
-/// Writes a name as DER: of the issuer where `which` is 0, and else of the subject. Writes as many
-/// octets as there is room for, and in `count` how many there are. Answers 0, or the number of a
-/// fault.
+/// A name in a certificate.
+#[derive(Clone, Copy)]
+enum CertName {
+    Issuer,
+    Subject,
+}
+
+// The name that has this number.
+fn name_numbered(number: u32) -> Option<CertName>
+    ensures { IsNone result ↔ 1 < number }
+{
+    match number {
+        0 => Some(CertName::Issuer),
+        1 => Some(CertName::Subject),
+        _ => None,
+    }
+}
+
+fn name_of(data: &TbsCert, which: CertName) -> &[u8] {
+    match which {
+        CertName::Issuer => data.issuer().as_bytes(),
+        CertName::Subject => data.subject().as_bytes(),
+    }
+}
+
+/// Writes a name as DER: of the issuer where `which` is 0, of the subject where it is 1. Writes as
+/// many octets as there is room for, and in `count` how many there are. Answers 0, or the number of
+/// a fault: 2 where `which` is another number.
 #[unsafe(no_mangle)]
 pub extern "C" fn rpki_certificate_name(
     alloc: Global,
@@ -247,16 +336,17 @@ pub extern "C" fn rpki_certificate_name(
     which: u32,
     out: &mut [u8],
     count: &mut u64,
-) -> u32 {
+) -> u32
+    ensures bad_call { (result ≡ BAD_CALL) ↔ 1 < which }
+    ensures at_fault { result ≢ NONE → count.new ≡ 0 }
+{
     *count = 0;
+    let Some(which) = name_numbered(which) else {
+        return BAD_CALL;
+    };
     match Cert::decode(alloc, octets) {
         Ok(cert) => {
-            let data = cert.as_tbs();
-            let name = match which {
-                0 => data.issuer(),
-                _ => data.subject(),
-            };
-            *count = put_octets(name.as_bytes(), out);
+            *count = put_octets(name_of(cert.as_tbs(), which), out);
             drop(cert);
             NONE
         }

@@ -1,4 +1,6 @@
 //! Octets, and ranges of addresses and AS numbers, in the caller's memory.
+ghost use Rattle.std.specs.Prelude.{◌≡◌, ◌++◌, length, take, drop};
+
 use rpki_blocks::{AsBlock, AsBlocks, IpBlock, IpBlocks};
 
 /// A range of addresses, each in 16 octets; an IPv4 address stands in the first four.
@@ -32,33 +34,31 @@ fn as_range(block: AsBlock) -> RpkiAsRange {
 }
 
 /// Writes as many ranges as there is room for, and tells how many there are.
-pub(crate) fn put_addresses(blocks: &IpBlocks, out: &mut [RpkiIpRange]) -> u64 {
-    let mut count = 0usize;
-    for block in blocks.iter() {
-        if count < out.len() {
-            out[count] = ip_range(*block);
-        }
-        count = count.wrapping_add(1);
+pub(crate) fn put_addresses(blocks: &IpBlocks, out: &mut [RpkiIpRange]) -> u64
+    ensures { result ≡ length blocks.now }
+{
+    for (at, block) in out.iter_mut().zip(blocks.iter()) {
+        *at = ip_range(*block);
     }
-    count as u64
+    blocks.iter().count() as u64
 }
 
 /// Writes as many ranges of AS numbers as there is room for, and tells how many there are.
-pub(crate) fn put_as_numbers(blocks: &AsBlocks, out: &mut [RpkiAsRange]) -> u64 {
-    let mut count = 0usize;
-    for block in blocks.iter() {
-        if count < out.len() {
-            out[count] = as_range(*block);
-        }
-        count = count.wrapping_add(1);
+pub(crate) fn put_as_numbers(blocks: &AsBlocks, out: &mut [RpkiAsRange]) -> u64
+    ensures { result ≡ length blocks.now }
+{
+    for (at, block) in out.iter_mut().zip(blocks.iter()) {
+        *at = as_range(*block);
     }
-    count as u64
+    blocks.iter().count() as u64
 }
 
 /// Writes as many octets as there is room for, and tells how many there are.
-pub(crate) fn put_octets(from: &[u8], out: &mut [u8]) -> u64 {
-    for (at, octet) in out.iter_mut().zip(from.iter()) {
-        *at = *octet;
-    }
+pub(crate) fn put_octets(from: &[u8], out: &mut [u8]) -> u64
+    ensures count { result ≡ length from.now }
+    ensures written { out.new ≡ take (length out.old) from.now ++ drop (length from.now) out.old }
+{
+    let fit = from.len().min(out.len());
+    out[..fit].copy_from_slice(&from[..fit]);
     from.len() as u64
 }

@@ -1,5 +1,7 @@
 //! Faults as numbers. They are written out, here and in `include/rpki.h`: a number never gets
 //! another meaning.
+ghost use Rattle.std.specs.Prelude.{◌≢◌, ◌<◌};
+
 use rpki_cert::{InspectionError, VerificationError};
 use rpki_crl::RevocationError;
 use rpki_der::{DecodeError, Field};
@@ -12,7 +14,9 @@ pub(crate) const MEMORY: u32 = 1;
 /// The caller's lengths or numbers don't fit.
 pub(crate) const BAD_CALL: u32 = 2;
 
-fn field(field: Field) -> u32 {
+fn field(field: Field) -> u32
+    ensures { result < 13 }
+{
     match field {
         Field::BasicConstraints => 0,
         Field::SubjectKeyIdentifier => 1,
@@ -31,7 +35,10 @@ fn field(field: Field) -> u32 {
 }
 
 /// The number of a fault of reading.
-pub(crate) fn of_decoding(error: &DecodeError) -> u32 {
+pub(crate) fn of_decoding(error: &DecodeError) -> u32
+    ensures fault { result ≢ NONE }
+    ensures no_bad_call { result ≢ BAD_CALL }
+{
     match error {
         DecodeError::Truncated => 100,
         DecodeError::BadLength => 101,
@@ -42,17 +49,20 @@ pub(crate) fn of_decoding(error: &DecodeError) -> u32 {
         DecodeError::AlgorithmMismatch => 106,
         DecodeError::UnexpectedCritical(_) => 107,
         DecodeError::InvalidExtension(_) => 108,
-        DecodeError::Missing(part) => field(*part).wrapping_add(120),
-        DecodeError::Duplicate(part) => field(*part).wrapping_add(140),
-        DecodeError::Critical(part) => field(*part).wrapping_add(160),
-        DecodeError::NotCritical(part) => field(*part).wrapping_add(180),
-        DecodeError::WrongResources(part) => field(*part).wrapping_add(200),
+        DecodeError::Missing(part) => field(*part) + 120,
+        DecodeError::Duplicate(part) => field(*part) + 140,
+        DecodeError::Critical(part) => field(*part) + 160,
+        DecodeError::NotCritical(part) => field(*part) + 180,
+        DecodeError::WrongResources(part) => field(*part) + 200,
         DecodeError::Memory => MEMORY,
     }
 }
 
 /// The number of a fault of inspection.
-pub(crate) fn of_inspection(error: InspectionError) -> u32 {
+pub(crate) fn of_inspection(error: InspectionError) -> u32
+    ensures fault { result ≢ NONE }
+    ensures no_bad_call { result ≢ BAD_CALL }
+{
     match error {
         InspectionError::AlgorithmMismatch => 300,
         InspectionError::Issuer => 301,
@@ -85,7 +95,10 @@ pub(crate) fn of_inspection(error: InspectionError) -> u32 {
 }
 
 /// The number of a fault of verification.
-pub(crate) fn of_verification(error: &VerificationError) -> u32 {
+pub(crate) fn of_verification(error: &VerificationError) -> u32
+    ensures fault { result ≢ NONE }
+    ensures no_bad_call { result ≢ BAD_CALL }
+{
     match error {
         VerificationError::NotYetValid => 400,
         VerificationError::Expired => 401,
@@ -104,7 +117,10 @@ pub(crate) fn of_verification(error: &VerificationError) -> u32 {
 }
 
 /// The number of a fault of revocation.
-pub(crate) fn of_revocation(error: RevocationError) -> u32 {
+pub(crate) fn of_revocation(error: RevocationError) -> u32
+    ensures fault { result ≢ NONE }
+    ensures no_bad_call { result ≢ BAD_CALL }
+{
     match error {
         RevocationError::NoCrl => 500,
         RevocationError::WrongKeyId => 501,
@@ -115,7 +131,10 @@ pub(crate) fn of_revocation(error: RevocationError) -> u32 {
 }
 
 /// The number of a fault of a path's member.
-pub(crate) fn of_path(fault: &PathFault) -> u32 {
+pub(crate) fn of_path(fault: &PathFault) -> u32
+    ensures fault { result ≢ NONE }
+    ensures no_bad_call { result ≢ BAD_CALL }
+{
     match fault {
         PathFault::Decode(error) => of_decoding(error),
         PathFault::Inspect(error) => of_inspection(*error),

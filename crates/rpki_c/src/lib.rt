@@ -13,10 +13,9 @@ mod paths;
 mod questions;
 mod strings;
 mod telling;
-mod validating;
 
 /// Tells the number of this interface. It grows with each change that a caller has to follow.
 #[unsafe(no_mangle)]
 pub extern "C" fn rpki_abi_version() -> u32 {
-    1
+    2
 }

@@ -1,10 +1,17 @@
 //! Revocation lists for C.
+ghost use Rattle.std.specs.Prelude.{◌≡◌, ◌≢◌, ◌*◌, ◌↔◌, length, IsTrue};
+ghost use Rattle.rpki_der.specs.Place.{MeansOrMemoryBy};
+ghost use Rattle.rpki_ext.specs.Kinds.{Means};
+ghost use Rattle.rpki_crl.specs.Lists.{IsCertificateList};
+
 use crate::copying::put_octets;
 use crate::faults::{BAD_CALL, MEMORY, NONE, of_decoding};
 use crate::moments::{RpkiTime, parts_of};
+use crate::strings::cut;
+use bytes::Bytes;
 use rpki_crl::{Crl, CrlEntry};
-use rpki_der::Serial;
-use std::alloc::Global;
+use rpki_der::{DecodeError, Serial};
+use std::alloc::{AllocError, Global};
 
 /// What a list holds that has a fixed size.
 #[repr(C)]
@@ -82,7 +89,9 @@ pub extern "C" fn rpki_list_entries(
     octets: &[u8],
     out: &mut [RpkiEntry],
     count: &mut u64,
-) -> u32 {
+) -> u32
+    ensures at_fault { result ≢ NONE → count.new ≡ 0 }
+{
     *count = 0;
     match Crl::decode(alloc, octets) {
         Ok(list) => {
@@ -102,7 +111,9 @@ pub extern "C" fn rpki_list_issuer(
     octets: &[u8],
     out: &mut [u8],
     count: &mut u64,
-) -> u32 {
+) -> u32
+    ensures at_fault { result ≢ NONE → count.new ≡ 0 }
+{
     *count = 0;
     match Crl::decode(alloc, octets) {
         Ok(list) => {
@@ -121,7 +132,9 @@ fn serial_at(serials: &[u8], at: usize) -> Option<Serial> {
 }
 
 // Whether there are 20 octets for each answer.
-fn add_up(serials: &[u8], answers: &[u8]) -> bool {
+fn add_up(serials: &[u8], answers: &[u8]) -> bool
+    ensures { IsTrue result ↔ (length serials.now ≡ 20 * length answers.now) }
+{
     serials.len() % 20 == 0 && serials.len() / 20 == answers.len()
 }
 
@@ -147,7 +160,9 @@ pub extern "C" fn rpki_list_ask(
     octets: &[u8],
     serials: &[u8],
     answers: &mut [u8],
-) -> u32 {
+) -> u32
+    ensures bad_call { (length serials.now ≢ 20 * length answers.old) → result ≡ BAD_CALL }
+{
     if !add_up(serials, answers) {
         return BAD_CALL;
     }
@@ -162,5 +177,77 @@ pub extern "C" fn rpki_list_ask(
             answer
         }
         Err(error) => of_decoding(&error),
+    }
+}
+
+/// Why lists aren't read: the number of a fault, and the place of the list that it is of.
+#[derive(Clone, Copy)]
+pub(crate) struct Unread {
+    pub(crate) fault: u32,
+    pub(crate) place: usize,
+}
+
+impl From<AllocError> for Unread {
+    fn from(_error: AllocError) -> Unread {
+        Unread {
+            fault: MEMORY,
+            place: 0,
+        }
+    }
+}
+
+// The list that the octets begin with, its serial numbers in a table.
+fn list_of(alloc: Global, octets: &Bytes) -> Result<Crl, DecodeError>
+    ensures { let front = Means IsCertificateList in
+        MeansOrMemoryBy (λ l. l.list) front result octets.now }
+{
+    let mut list = Crl::decode_shared(alloc, octets.clone()?)?;
+    match list.cache_serials(alloc) {
+        Ok(()) => Ok(list),
+        Err(error) => {
+            drop(list);
+            Err(DecodeError::from(error))
+        }
+    }
+}
+
+fn append(lists: &mut Vec<Crl>, list: Crl) -> Result<(), AllocError> {
+    lists.push(list)?;
+    Ok(())
+}
+
+fn read_lists(alloc: Global, strings: &[Bytes]) -> Result<Vec<Crl>, Unread> {
+    let mut lists = Vec::new(alloc);
+    for (place, octets) in strings.iter().enumerate() {
+        match list_of(alloc, octets) {
+            Ok(list) => append(&mut lists, list)?,
+            Err(error) => {
+                drop(lists);
+                let fault = of_decoding(&error);
+                drop(error);
+                return Err(Unread { fault, place });
+            }
+        }
+    }
+    Ok(lists)
+}
+
+/// Reads the lists that stand one behind the other and have these lengths, with their serial
+/// numbers in tables.
+pub(crate) fn lists_of(
+    alloc: Global,
+    octets: &[u8],
+    lengths: &[usize],
+) -> Result<Vec<Crl>, Unread> {
+    match cut(alloc, octets, lengths)? {
+        Some(strings) => {
+            let lists = read_lists(alloc, &strings);
+            drop(strings);
+            lists
+        }
+        None => Err(Unread {
+            fault: BAD_CALL,
+            place: 0,
+        }),
     }
 }

@@ -1,18 +1,25 @@
 //! Paths for C.
+ghost use Rattle.std.specs.Prelude.{◌≡◌, ◌≢◌, ◌↔◌, ◌<◌, ◌^◌, length, IsTrue, IsSome, IsNone, IfSome, IsOk, IfOk, IfErr};
+ghost use Rattle.rpki_cert.specs.Verification.{context};
+ghost use Rattle.rpki_der.specs.Times.{moment};
+ghost use Rattle.rpki_path.specs.GivenPaths.{PathStrings, CanEndIn, IsSplitAs};
+ghost use Rattle.rpki_path.specs.Judging.{Judges};
+
+use crate::certificates::kind_of;
 use crate::copying::{RpkiAsRange, RpkiIpRange, put_addresses, put_as_numbers};
-use crate::faults::{BAD_CALL, MEMORY, NONE, of_decoding, of_path};
+use crate::faults::{BAD_CALL, MEMORY, NONE, of_path};
+use crate::lists::lists_of;
 use crate::moments::{RpkiTime, moment_of};
 use crate::questions::answers;
 use crate::strings::cut;
-use crate::validating::{Last, judge, judge_router};
 use bytes::Bytes;
-use rpki_cert::ResourceCert;
-use rpki_crl::{Crl, CrlStore};
+use rpki_cert::{Kind, ResourceCert};
 use rpki_der::Time;
-use rpki_parts::{Rsync, Verifier};
-use rpki_path::PathError;
+use rpki_parts::Verifier;
+use rpki_path::{GivenPath, Judged, PathError, judge};
+use rpki_revocation::{GivenLists, NobodyAsked, RevocationSource};
 use rpki_rsa::RsaVerifier;
-use std::alloc::{AllocError, Global};
+use std::alloc::Global;
 
 /// What became of a path.
 #[repr(C)]
@@ -29,7 +36,10 @@ pub struct RpkiVerdict {
     pub asn: u64,
 }
 
-fn rejected_as(fault: u32, index: usize) -> RpkiVerdict {
+fn rejected_as(fault: u32, index: usize) -> RpkiVerdict
+    ensures fault { result.fault ≡ fault }
+    ensures place { index < 2 ^ 32 → result.index ≡ index }
+{
     RpkiVerdict {
         fault,
         index: u32::try_from(index).unwrap_or(u32::MAX),
@@ -44,7 +54,12 @@ fn accepted(
     v4: &mut [RpkiIpRange],
     v6: &mut [RpkiIpRange],
     asn: &mut [RpkiAsRange],
-) -> RpkiVerdict {
+) -> RpkiVerdict
+    ensures fault { result.fault ≡ NONE }
+    ensures v4 { result.v4 ≡ length cert.now.v4 }
+    ensures v6 { result.v6 ≡ length cert.now.v6 }
+    ensures asn { result.asn ≡ length cert.now.as_numbers }
+{
     RpkiVerdict {
         fault: NONE,
         index: 0,
@@ -56,15 +71,23 @@ fn accepted(
 
 // The verdict that an answer is, with the ranges that are held.
 fn verdict(
-    answer: Option<Result<ResourceCert, PathError>>,
+    answer: Option<Result<Judged, PathError>>,
     v4: &mut [RpkiIpRange],
     v6: &mut [RpkiIpRange],
     asn: &mut [RpkiAsRange],
-) -> RpkiVerdict {
+) -> RpkiVerdict
+    ensures bad_call { IsNone answer ↔ (result.fault ≡ BAD_CALL) }
+    ensures accepted { IfSome answer (λ it. IsOk it ↔ (result.fault ≡ NONE)) }
+    ensures counts { IfSome answer (λ it. IfOk it (λ judged.
+        (result.v4 ≡ length judged.holder.v4) × (result.v6 ≡ length judged.holder.v6)
+        × (result.asn ≡ length judged.holder.as_numbers))) }
+    ensures place { IfSome answer (λ it. IfErr it (λ e.
+        e.index < 2 ^ 32 → result.index ≡ e.index)) }
+{
     match answer {
-        Some(Ok(cert)) => {
-            let out = accepted(&cert, v4, v6, asn);
-            drop(cert);
+        Some(Ok(judged)) => {
+            let out = accepted(&judged.holder, v4, v6, asn);
+            drop(judged);
             out
         }
         Some(Err(error)) => {
@@ -76,31 +99,55 @@ fn verdict(
     }
 }
 
-// The answer for the kind of the last member, as the header numbers them.
-fn answer<V: Verifier>(
-    alloc: Global,
-    members: &[Bytes],
-    last: u32,
-    lists: Option<&CrlStore>,
+/// How a path is judged: what its last member is, whether names are read strictly, and when.
+#[derive(Clone, Copy)]
+struct Terms {
+    last: Kind,
     strict: bool,
     now: Time,
+}
+
+// The terms that have these numbers.
+fn terms_of(last: u32, strict: u32, now: &RpkiTime) -> Option<Terms>
+    ensures kind { 4 < last → IsNone result }
+    ensures strict { IfSome result (λ it. IsTrue it.strict ↔ (strict ≢ 0)) }
+    ensures now { IfSome result (λ it. it.now ≡ moment now.now.year now.now.month now.now.day
+        now.now.hour now.now.minute now.now.second) }
+{
+    let last = kind_of(last)?;
+    let now = moment_of(now)?;
+    Some(Terms {
+        last,
+        strict: strict != 0,
+        now,
+    })
+}
+
+// The answer to the members. `None` where there are too few, or more than the trust anchor where
+// the last one is to be that.
+fn answer<R: RevocationSource, V: Verifier>(
+    alloc: Global,
+    members: &[Bytes],
+    terms: Terms,
+    asked: &R,
     verifier: &V,
-) -> Option<Result<ResourceCert, PathError>> {
-    let kind = match last {
-        1 => Last::Authority,
-        2 => Last::EndEntity,
-        3 => Last::Detached,
-        4 => return judge_router(alloc, members, lists, strict, now, verifier),
-        _ => return None,
-    };
-    judge(alloc, members, kind, lists, strict, now, verifier)
+) -> Option<Result<Judged, PathError>>
+    ensures some { IsSome result ↔ CanEndIn terms.last (length members.now) }
+    // Ok exactly where the members are a valid path, which those who are asked leave unrevoked; and
+    // an error says what is wrong of the member at its index.
+    ensures judged { let x = context (V.verifies verifier.now) terms.now terms.strict in
+        IfSome result (λ it. (path : PathStrings)
+        × IsSplitAs members.now terms.last path × Judges x (R.asks asked.now x) path it) }
+{
+    let path = GivenPath::of(members, terms.last)?;
+    Some(judge(alloc, &path, asked, terms.strict, terms.now, verifier))
 }
 
 /// Validates the path of the members, which stand one behind the other and have these lengths, the
 /// trust anchor first, with real signatures (RSASSA-PKCS1-v1_5 with SHA-256). `last` says what the
-/// last one is: 1 a CA (or the trust anchor, alone), 2 an end entity, 3 a detached one, 4 a router.
-/// Writes the ranges that the last member holds (of a router: the one above it), as many as there
-/// is room for. Answers the verdict's fault.
+/// last one is: 0 the trust anchor, alone, 1 a CA (or the trust anchor, alone), 2 an end entity, 3 a
+/// detached one, 4 a router. Writes the ranges that the last member holds (of a router: the one
+/// above it), as many as there is room for. Answers the verdict's fault.
 #[unsafe(no_mangle)]
 pub extern "C" fn rpki_path_validate(
     alloc: Global,
@@ -113,14 +160,16 @@ pub extern "C" fn rpki_path_validate(
     v6: &mut [RpkiIpRange],
     asn: &mut [RpkiAsRange],
     out: &mut RpkiVerdict,
-) -> u32 {
+) -> u32
+    ensures answered { result ≡ out.new.fault }
+{
     *out = rejected_as(BAD_CALL, 0);
-    let Some(now) = moment_of(now) else {
+    let Some(terms) = terms_of(last, strict, now) else {
         return BAD_CALL;
     };
     match cut(alloc, octets, lengths) {
         Ok(Some(members)) => {
-            let answer = answer(alloc, &members, last, None, strict != 0, now, &RsaVerifier);
+            let answer = answer(alloc, &members, terms, &NobodyAsked, &RsaVerifier);
             *out = verdict(answer, v4, v6, asn);
             drop(members);
         }
@@ -130,91 +179,15 @@ pub extern "C" fn rpki_path_validate(
     out.fault
 }
 
-// Stores a list under a URI. Errs with the number of a fault.
-fn store_list(alloc: Global, store: &mut CrlStore, list: &Bytes, uri: &Bytes) -> Result<(), u32> {
-    let Ok(octets) = shared(uri) else {
-        return Err(MEMORY);
-    };
-    let Ok(uri) = Rsync::from_bytes(octets) else {
-        return Err(BAD_CALL);
-    };
-    match Crl::decode(alloc, list.as_slice()) {
-        Ok(list) => match store.push(uri, list) {
-            Ok(()) => Ok(()),
-            Err(pair) => {
-                drop(pair);
-                Err(MEMORY)
-            }
-        },
-        Err(error) => {
-            let fault = of_decoding(&error);
-            drop(error);
-            drop(uri);
-            Err(fault)
-        }
-    }
-}
-
-fn shared(octets: &Bytes) -> Result<Bytes, AllocError> {
-    octets.clone()
-}
-
-// The lists under their URIs. Errs with the number of a fault, and the place of the list that it is
-// of.
-fn store_of(alloc: Global, lists: &[Bytes], uris: &[Bytes]) -> Result<CrlStore, (u32, usize)> {
-    let mut store = CrlStore::new(alloc);
-    let mut at = 0usize;
-    for (list, uri) in lists.iter().zip(uris.iter()) {
-        match store_list(alloc, &mut store, list, uri) {
-            Ok(()) => {}
-            Err(fault) => {
-                drop(store);
-                return Err((fault, at));
-            }
-        }
-        at = at.wrapping_add(1);
-    }
-    Ok(store)
-}
-
-// The lists of the caller's octets. Errs with the number of a fault, and the place of the list that
-// it is of.
-fn given_lists(
-    alloc: Global,
-    lists: &[u8],
-    list_lengths: &[usize],
-    uris: &[u8],
-    uri_lengths: &[usize],
-) -> Result<CrlStore, (u32, usize)> {
-    if list_lengths.len() != uri_lengths.len() {
-        return Err((BAD_CALL, 0));
-    }
-    match (
-        cut(alloc, lists, list_lengths),
-        cut(alloc, uris, uri_lengths),
-    ) {
-        (Ok(Some(lists)), Ok(Some(uris))) => {
-            let store = store_of(alloc, &lists, &uris);
-            drop(lists);
-            drop(uris);
-            store
-        }
-        (Ok(_), Ok(_)) => Err((BAD_CALL, 0)),
-        _ => Err((MEMORY, 0)),
-    }
-}
-
-/// Validates a path as `rpki_path_validate` does, and asks the revocation lists whether a member
-/// below the trust anchor is revoked. The lists stand one behind the other and have these lengths,
-/// and so do the URIs under which they are found, one for each list. Where a list can't be read or
-/// its URI is none, the verdict's index is the number of members and the list's place.
+/// Validates a path as `rpki_path_validate` does, and asks revocation lists whether a member below
+/// the trust anchor is revoked: of each the latest of its issuer that has begun, whatever their
+/// order. The lists stand one behind the other and have these lengths. Where one can't be read, the
+/// verdict's index is the number of members and the list's place.
 #[unsafe(no_mangle)]
 pub extern "C" fn rpki_path_validate_with(
     alloc: Global,
     lists: &[u8],
     list_lengths: &[usize],
-    uris: &[u8],
-    uri_lengths: &[usize],
     octets: &[u8],
     lengths: &[usize],
     last: u32,
@@ -224,53 +197,52 @@ pub extern "C" fn rpki_path_validate_with(
     v6: &mut [RpkiIpRange],
     asn: &mut [RpkiAsRange],
     out: &mut RpkiVerdict,
-) -> u32 {
+) -> u32
+    ensures answered { result ≡ out.new.fault }
+{
     *out = rejected_as(BAD_CALL, 0);
-    let Some(now) = moment_of(now) else {
+    let Some(terms) = terms_of(last, strict, now) else {
         return BAD_CALL;
     };
-    let store = match given_lists(alloc, lists, list_lengths, uris, uri_lengths) {
-        Ok(store) => store,
-        Err((fault, at)) => {
-            *out = rejected_as(fault, lengths.len().wrapping_add(at));
-            return fault;
+    let lists = match lists_of(alloc, lists, list_lengths) {
+        Ok(lists) => lists,
+        Err(unread) => {
+            *out = rejected_as(unread.fault, lengths.len().wrapping_add(unread.place));
+            return unread.fault;
         }
     };
     match cut(alloc, octets, lengths) {
         Ok(Some(members)) => {
-            let store_now = Some(&store);
-            let answer = answer(
-                alloc,
-                &members,
-                last,
-                store_now,
-                strict != 0,
-                now,
-                &RsaVerifier,
-            );
+            let asked = GivenLists::new(&lists);
+            let answer = answer(alloc, &members, terms, &asked, &RsaVerifier);
             *out = verdict(answer, v4, v6, asn);
             drop(members);
         }
         Ok(None) => {}
         Err(_) => *out = rejected_as(MEMORY, 0),
     }
-    drop(store);
+    drop(lists);
     out.fault
 }
 
-// The answer for signatures that the caller has checked.
-fn answer_said(
+// The verdict by signatures that the caller has checked.
+fn verdict_said(
     alloc: Global,
     members: &[Bytes],
-    last: u32,
+    terms: Terms,
     yes: &[u8],
-    strict: bool,
-    now: Time,
-) -> Result<Option<Result<ResourceCert, PathError>>, AllocError> {
-    let verifier = answers(alloc, members, yes)?;
-    let answer = answer(alloc, members, last, None, strict, now, &verifier);
-    drop(verifier);
-    Ok(answer)
+    v4: &mut [RpkiIpRange],
+    v6: &mut [RpkiIpRange],
+    asn: &mut [RpkiAsRange],
+) -> RpkiVerdict {
+    match answers(alloc, members, yes) {
+        Ok(verifier) => {
+            let answer = answer(alloc, members, terms, &NobodyAsked, &verifier);
+            drop(verifier);
+            verdict(answer, v4, v6, asn)
+        }
+        Err(_) => rejected_as(MEMORY, 0),
+    }
 }
 
 /// Validates a path as `rpki_path_validate` does, with signatures that the caller has checked:
@@ -289,17 +261,16 @@ pub extern "C" fn rpki_path_validate_said(
     v6: &mut [RpkiIpRange],
     asn: &mut [RpkiAsRange],
     out: &mut RpkiVerdict,
-) -> u32 {
+) -> u32
+    ensures answered { result ≡ out.new.fault }
+{
     *out = rejected_as(BAD_CALL, 0);
-    let Some(now) = moment_of(now) else {
+    let Some(terms) = terms_of(last, strict, now) else {
         return BAD_CALL;
     };
     match cut(alloc, octets, lengths) {
         Ok(Some(members)) => {
-            match answer_said(alloc, &members, last, yes, strict != 0, now) {
-                Ok(answer) => *out = verdict(answer, v4, v6, asn),
-                Err(_) => *out = rejected_as(MEMORY, 0),
-            }
+            *out = verdict_said(alloc, &members, terms, yes, v4, v6, asn);
             drop(members);
         }
         Ok(None) => {}

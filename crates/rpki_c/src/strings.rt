@@ -1,14 +1,21 @@
 //! Strings of octets that stand one behind the other.
+ghost use Rattle.std.specs.Prelude.{◌≡◌, ◌↔◌, length, sum, IsSome, IfOk, IfSome};
+ghost use Rattle.rpki_c.specs.Strings.{AreCut};
+
 use bytes::Bytes;
 use std::alloc::{AllocError, Global};
 
-/// The strings that stand one behind the other and have these lengths; none where the octets end
-/// before them or go on behind them.
+/// Cuts octets into the strings that stand there one behind the other and have these lengths. Gives
+/// `None` where the octets end before them or go on behind them.
 pub(crate) fn cut(
     alloc: Global,
     octets: &[u8],
     lengths: &[usize],
-) -> Result<Option<Vec<Bytes>>, AllocError> {
+) -> Result<Option<Vec<Bytes>>, AllocError>
+    ensures some { IfOk result (λ it. IsSome it ↔ (sum lengths.now ≡ length octets.now)) }
+    ensures strings { IfOk result (λ it.
+        IfSome it (λ strings. AreCut octets.now lengths.now strings.items)) }
+{
     let mut strings = Vec::new(alloc);
     let mut rest = octets;
     for length in lengths {

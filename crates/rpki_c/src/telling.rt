@@ -1,4 +1,6 @@
 //! Names and sentences of faults, from their numbers.
+ghost use Rattle.std.specs.Prelude.{◌≡◌, ◌≢◌};
+
 use crate::copying::put_octets;
 use crate::faults::{BAD_CALL, MEMORY, NONE};
 use rpki_cert::{InspectionError, VerificationError};
@@ -142,7 +144,9 @@ fn name_of(fault: &PathFault) -> &'static str {
 /// octets as there is room for, and in `count` how many there are. Answers 0, or 2 where no fault
 /// has the number.
 #[unsafe(no_mangle)]
-pub extern "C" fn rpki_fault_name(number: u32, out: &mut [u8], count: &mut u64) -> u32 {
+pub extern "C" fn rpki_fault_name(number: u32, out: &mut [u8], count: &mut u64) -> u32
+    ensures at_fault { result ≢ NONE → count.new ≡ 0 }
+{
     *count = 0;
     if let Some((name, _)) = plain(number) {
         *count = put_octets(name.as_bytes(), out);
@@ -158,7 +162,9 @@ pub extern "C" fn rpki_fault_name(number: u32, out: &mut [u8], count: &mut u64) 
     }
 }
 
-fn put_sentence(alloc: Global, fault: &PathFault, out: &mut [u8], count: &mut u64) -> u32 {
+fn put_sentence(alloc: Global, fault: &PathFault, out: &mut [u8], count: &mut u64) -> u32
+    ensures at_fault { result ≢ NONE → count.new ≡ count.old }
+{
     match format!(in alloc; "{fault}") {
         Ok(sentence) => {
             *count = put_octets(sentence.as_bytes(), out);
@@ -177,7 +183,9 @@ pub extern "C" fn rpki_fault_sentence(
     number: u32,
     out: &mut [u8],
     count: &mut u64,
-) -> u32 {
+) -> u32
+    ensures at_fault { result ≢ NONE → count.new ≡ 0 }
+{
     *count = 0;
     if let Some((_, sentence)) = plain(number) {
         *count = put_octets(sentence.as_bytes(), out);
