@@ -2,6 +2,6 @@
 mod ContentReads
 mod DerTexts
 mod FirstInside
-mod FoundPolicies
+pub mod FoundPolicies
 pub mod NothingRead
 mod PemLines

@@ -13,6 +13,8 @@ use Rattle.rpki.specs.InspectionError.{InspectionError}
 use Rattle.rpki.specs.InspectionError.TheVariants as inspection
 use Rattle.rpki.specs.PathFault.{PathFault}
 use Rattle.rpki.specs.PathFault.TheVariants as path
+use Rattle.rpki.specs.PublicKeyFormat.{PublicKeyFormat}
+use Rattle.rpki.specs.PublicKeyFormat.TheVariants.{Rsa, EcdsaP256}
 use Rattle.rpki.specs.Revocation.{revocation_error_name}
 use Rattle.rpki.specs.RevocationError.{RevocationError}
 use Rattle.rpki.specs.RevocationError.TheVariants as revocation
@@ -94,10 +96,17 @@ verification_rule verification.Memory = no_memory
 -- of the list that is asked
 abbrev pub revocation_rule : RevocationError → RuleFields
 revocation_rule revocation.NoCrl = rule "its issuer's list isn't among those given" "RFC 6487 7.2"
-revocation_rule revocation.WrongKeyId = rule "the list under its URI names another key than its issuer's" "RFC 6487 5"
+revocation_rule revocation.WrongKeyId = rule "the list that is asked names another key than its issuer's" "RFC 6487 5"
 revocation_rule revocation.BadSignature = rule "the signature of its issuer's list isn't that of the issuer's key" "RFC 6487 5"
-revocation_rule revocation.Stale = rule "its issuer's list is stale" "RFC 5280 5.1.2.5"
+revocation_rule revocation.Stale = rule "its issuer's list isn't current" "RFC 5280 5.1.2.4, 5.1.2.5"
 revocation_rule revocation.Revoked = rule "its issuer has revoked it" "RFC 6487 7.2"
+
+-- ---- a key that can't be used
+
+-- of a last member's key of this algorithm
+abbrev pub key_rule : PublicKeyFormat → RuleFields
+key_rule Rsa = rule "its key isn't RSA of 2048 bits with the exponent 65537" "RFC 7935 3"
+key_rule EcdsaP256 = rule "its key isn't an uncompressed point on the curve P-256" "RFC 8608 3.1"
 
 -- ---- faults of reading
 
@@ -199,3 +208,7 @@ IsReason (path.Inspect e) octets r = r ≡ reason (codes "profile") (inspection_
 IsReason (path.Verify e) octets r = r ≡ reason (codes "verification") (verification_error_name e) (verification_rule e)
 IsReason (path.Revocation e) octets r = r ≡ reason (codes "revocation") (revocation_error_name e) (revocation_rule e)
 IsReason path.Memory octets r = r ≡ reason (codes "memory") (path_fault_name path.Memory) no_memory
+
+-- of the last member's key, where the path is valid but that key can't be used
+abbrev pub key_reason : PublicKeyFormat → ReasonFields
+key_reason format = reason (codes "key") (codes "BadKey") (key_rule format)

@@ -10,3 +10,4 @@ pub mod rules;
 
 pub use files::{Form, Object, as_certificate, as_list, looks_like, read_object, unless_memory};
 pub use places::{Place, place_of};
+pub use policies::extensions_in;

@@ -1,4 +1,5 @@
-//! Whether octets that are built as a certificate is have Certificate Policies.
+//! The extensions of octets that are built as a certificate is, and whether Certificate Policies are
+//! among them.
 ghost use Rattle.std.specs.Prelude.{◌≡◌, ◌↔◌, IsTrue, option_map};
 ghost use Rattle.rpki.specs.Place.{remaining};
 ghost use Rattle.rpki.specs.Values.Reading.{value_at};
@@ -33,9 +34,9 @@ fn past_fields(fields: &mut Cursor<'_>) -> Option<()>
     Some(())
 }
 
-// The extensions of what is built as a certificate is.
+/// Returns a cursor over the extensions of octets that are built as a certificate is, if they are.
 #[tactic(auto, unfolding(crate::specs::PolicyPresence::Reading::extensions_at))]
-fn extensions_in(octets: &Bytes) -> Option<Cursor<'_>>
+pub fn extensions_in(octets: &Bytes) -> Option<Cursor<'_>>
     ensures { option_map remaining result ≡ extensions_at octets.now }
 {
     let mut file = Cursor::new(octets);

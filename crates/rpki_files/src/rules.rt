@@ -1,9 +1,10 @@
 //! What a fault means for a person, and the section of the standard that it breaks.
 ghost use Rattle.std.specs.Prelude.{◌≡◌};
-ghost use Rattle.rpki_files.specs.FaultRules.{IsFileRule, IsReadingRule, IsReason, field_section, inspection_rule, list_rule, no_memory, reading_rule, reason, resources_rule, revocation_rule, rule_of, verification_rule};
+ghost use Rattle.rpki_files.specs.FaultRules.{IsFileRule, IsReadingRule, IsReason, field_section, inspection_rule, key_rule, list_rule, no_memory, reading_rule, reason, resources_rule, revocation_rule, rule_of, verification_rule};
 
 use crate::policies::has_policies;
 use bytes::Bytes;
+use rpki::crypto::PublicKeyFormat;
 use rpki::der::{DecodeError, Field};
 use rpki::repository::crl::RevocationError;
 use rpki::repository::error::{InspectionError, VerificationError};
@@ -166,15 +167,34 @@ pub fn of_revocation(fault: &RevocationError) -> Rule
             "RFC 6487 7.2",
         ),
         RevocationError::WrongKeyId => meaning(
-            "the list under its URI names another key than its issuer's",
+            "the list that is asked names another key than its issuer's",
             "RFC 6487 5",
         ),
         RevocationError::BadSignature => meaning(
             "the signature of its issuer's list isn't that of the issuer's key",
             "RFC 6487 5",
         ),
-        RevocationError::Stale => meaning("its issuer's list is stale", "RFC 5280 5.1.2.5"),
+        RevocationError::Stale => meaning(
+            "its issuer's list isn't current",
+            "RFC 5280 5.1.2.4, 5.1.2.5",
+        ),
         RevocationError::Revoked => meaning("its issuer has revoked it", "RFC 6487 7.2"),
+    }
+}
+
+/// Tells why a last member's key of this algorithm can't be used.
+pub fn of_key(algorithm: PublicKeyFormat) -> Rule
+    ensures { rule_of result ≡ key_rule algorithm }
+{
+    match algorithm {
+        PublicKeyFormat::Rsa => meaning(
+            "its key isn't RSA of 2048 bits with the exponent 65537",
+            "RFC 7935 3",
+        ),
+        PublicKeyFormat::EcdsaP256 => meaning(
+            "its key isn't an uncompressed point on the curve P-256",
+            "RFC 8608 3.1",
+        ),
     }
 }
 

@@ -1,4 +1,5 @@
 -- Lemmas of the proofs of printing.
+mod CharacterTexts
 mod DigitPlaces
 pub mod OneMoment
 mod WrittenLines

@@ -1,14 +1,12 @@
 -- What is shown of a certificate.
-use Rattle.std.specs.Fmt.{decimal}
 use Rattle.std.specs.List.{concat}
 use Rattle.std.specs.Option.{option_map}
-use Rattle.std.specs.Prelude.{ℕ, Bool, if◌then◌else◌, is_none, List, [], ◌∷◌, ◌++◌, length, codes, Option, Some, None}
+use Rattle.std.specs.Prelude.{ℕ, Bool, if◌then◌else◌, is_none, List, [], ◌∷◌, ◌++◌, codes, Option, Some, None}
 use Rattle.rpki.specs.BlockTexts.{v4_block_text, v6_block_text}
 use Rattle.rpki.specs.CertificateExtensions.{ExtensionFields}
 use Rattle.rpki.specs.Certificates.{CertFields, TbsFields}
 use Rattle.rpki.specs.Inspection.{inspection_error_name}
 use Rattle.rpki.specs.InspectionError.{InspectionError}
-use Rattle.rpki.specs.Keys.{KeyFields}
 use Rattle.rpki.specs.KeyUsage.{KeyUsage}
 use Rattle.rpki.specs.KeyUsage.TheVariants.{Ca, Ee}
 use Rattle.rpki.specs.Kind.{Kind}
@@ -17,16 +15,17 @@ use Rattle.rpki.specs.NameTexts.{name_text}
 use Rattle.rpki.specs.Overclaim.{Overclaim}
 use Rattle.rpki.specs.Overclaim.TheVariants.{Refuse, Trim}
 use Rattle.rpki.specs.Profiles.{MeetsProfile, IsFirstFault}
-use Rattle.rpki.specs.PublicKeyFormat.{PublicKeyFormat}
-use Rattle.rpki.specs.PublicKeyFormat.TheVariants.{Rsa, EcdsaP256}
 use Rattle.rpki.specs.Texts.{serial_text, time_text}
 use Rattle.rpki.specs.Times.{Moment}
 use Rattle.rpki.specs.Validities.{ValidityFields}
 use Rattle.rpki_text.specs.BlockLines.{as_numbers_text, resources_lines}
+use Rattle.rpki_text.specs.KeyTexts.{IsKeyAnswer, key_text}
 use Rattle.rpki_text.specs.ListTexts.{signature_line}
 use Rattle.rpki_text.specs.Pages.{line, line_if_any, colons_text, characters_text}
 use Rattle.rpki_text.specs.Periods.{end_text}
 use Rattle.rpki_text.specs.declared.certificate.Answers.{Answers}
+use Rattle.rpki_text.specs.declared.certificate.Findings.{Findings}
+use Rattle.rpki_text.specs.declared.keys.KeyAnswer.{KeyAnswer}
 
 -- ---- what inspection answers
 
@@ -42,6 +41,11 @@ pub record AreAnswers (strict : Bool) (c : CertFields) (a : Answers) : Type 0 wh
   pub end_entity : IsAnswer EndEntity strict c a.end_entity
   pub detached : IsAnswer Detached strict c a.detached
   pub router : IsAnswer Router strict c a.router
+
+-- what is found of a certificate beyond its fields: what inspection answers, and what its key is
+pub record AreFindings (strict : Bool) (c : CertFields) (found : Findings) : Type 0 where
+  pub answers_are : AreAnswers strict c found.answers
+  pub key_is : IsKeyAnswer c.fields.key found.key
 
 -- the kind whose profile is met; of an end entity that names its object that one of the two
 unfoldable pub met_kind_text : Answers → List ℕ
@@ -63,15 +67,6 @@ unfoldable pub profile_line : List ℕ → Option InspectionError → List ℕ
 profile_line kind answer = line (codes "Profile") (kind ++ (codes ": " ++ answer_text answer))
 
 -- ---- values
-
--- the algorithm of a key
-abbrev pub algorithm_text : PublicKeyFormat → List ℕ
-algorithm_text Rsa = codes "RSA, "
-algorithm_text EcdsaP256 = codes "ECDSA P-256, "
-
--- a key: its algorithm, and how many octets it has
-abbrev pub key_text : KeyFields → List ℕ
-key_text key = algorithm_text key.format ++ (decimal (length key.bits) ++ codes " octets")
 
 -- what a key may be used for
 abbrev pub usage_text : KeyUsage → List ℕ
@@ -101,13 +96,13 @@ names_text f = concat (
 unfoldable pub validity_text : ValidityFields → Moment → List ℕ
 validity_text validity now = concat (
     line (codes "Valid from") (time_text validity.not_before)
-    ∷ line (codes "Valid until") (end_text (codes "expired") validity.not_before validity.not_after now)
+    ∷ line (codes "Valid until") (end_text (codes "expires") (codes "expired") validity.not_before validity.not_after now)
     ∷ [])
 
 -- its key
-unfoldable pub keys_text : TbsFields → List ℕ
-keys_text f = concat (
-    line (codes "Key") (key_text f.key)
+unfoldable pub keys_text : TbsFields → KeyAnswer → List ℕ
+keys_text f key = concat (
+    line (codes "Key") (key_text key)
     ∷ line (codes "Subject key identifier") (colons_text f.extensions.subject_key_identifier)
     ∷ line_if_any (codes "Authority key identifier") (option_map colons_text f.extensions.authority_key_identifier)
     ∷ line (codes "Key usage") (usage_text f.extensions.key_usage)
@@ -134,8 +129,8 @@ resources_text x = concat (
     ∷ [])
 
 -- its key, where things are, and its resources
-unfoldable pub details_text : TbsFields → List ℕ
-details_text f = concat (keys_text f ∷ places_text f.extensions ∷ resources_text f.extensions ∷ [])
+unfoldable pub details_text : TbsFields → KeyAnswer → List ℕ
+details_text f key = concat (keys_text f key ∷ places_text f.extensions ∷ resources_text f.extensions ∷ [])
 
 -- what each profile says to it
 unfoldable pub profiles_text : Answers → List ℕ
@@ -147,13 +142,13 @@ profiles_text a = concat (
     ∷ profile_line (codes "router") a.router
     ∷ [])
 
--- a certificate with these fields at a moment, to which inspection gave these answers
-unfoldable pub certificate_text : TbsFields → Moment → Answers → List ℕ
-certificate_text f now answers = concat (
-    line (codes "Kind") (met_kind_text answers)
+-- a certificate with these fields at a moment, of which this was found
+unfoldable pub certificate_text : TbsFields → Moment → Findings → List ℕ
+certificate_text f now found = concat (
+    line (codes "Kind") (met_kind_text found.answers)
     ∷ names_text f
     ∷ validity_text f.validity now
-    ∷ details_text f
-    ∷ profiles_text answers
+    ∷ details_text f found.key
+    ∷ profiles_text found.answers
     ∷ signature_line
     ∷ [])

@@ -4,4 +4,5 @@ pub mod Pages
 pub mod Periods
 pub mod BlockLines
 pub mod ListTexts
+pub mod KeyTexts
 pub mod CertificateTexts

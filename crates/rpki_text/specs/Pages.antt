@@ -1,8 +1,8 @@
 -- How the command lays out what it prints: labels, and values from column 26 on.
 use Rattle.std.specs.Fmt.{decimal}
-use Rattle.std.specs.List.{flat_map}
+use Rattle.std.specs.List.{AllByRecursion, flat_map}
 use Rattle.std.specs.Option.{option_map}
-use Rattle.std.specs.Prelude.{◌≡◌, ℕ, ◌-◌, ◌==◌, ◌&&◌, not, if◌then◌else◌, List, [], ◌∷◌, ◌++◌, length, replicate, codes, Option, Some, None, ◌⊎◌}
+use Rattle.std.specs.Prelude.{◌≡◌, ℕ, ◌-◌, ◌==◌, ◌&&◌, not, IsTrue, if◌then◌else◌, List, [], ◌∷◌, ◌++◌, length, replicate, codes, Option, Some, None, ◌⊎◌}
 use Rattle.rpki.specs.NameTexts.{is_visible}
 use Rattle.rpki.specs.Texts.{hexadecimal}
 
@@ -56,6 +56,14 @@ colons_text (octet ∷ octets) = hexadecimal (octet ∷ []) ++ flat_map (λ more
 abbrev pub character_text : ℕ → List ℕ
 character_text octet = if is_visible octet && not (octet == 92) then octet ∷ [] else 92 ∷ 120 ∷ hexadecimal (octet ∷ [])
 
+-- a text of visible characters of ASCII and spaces: it doesn't leave its line
+abbrev pub AreVisible : List ℕ → Type 0
+AreVisible text = AllByRecursion (λ octet. IsTrue (is_visible octet)) text
+
 -- octets as characters
 abbrev pub characters_text : List ℕ → List ℕ
 characters_text octets = flat_map character_text octets
+
+-- the name of a file: its octets as characters
+abbrev pub file_name_text : List ℕ → List ℕ
+file_name_text name = characters_text name

@@ -1,31 +1,34 @@
--- What is said of a period at a moment.
-use Rattle.std.specs.Prelude.{ℕ, ℤ, pos, ◌-ℤ◌, Bool, nat_lt, if◌then◌else◌, List, ◌++◌, codes, unsigned_abs}
-use Rattle.std.specs.Int.{int_div_euclid}
+-- What is said of a period at a moment: what time is left of it, or gone since (own).
+use Rattle.std.specs.Fmt.{decimal}
+use Rattle.std.specs.Prelude.{ℕ, ◌/◌, ◌%◌, ◌-ℤ◌, Bool, nat_le, nat_lt, if◌then◌else◌, List, ◌++◌, codes, unsigned_abs}
 use Rattle.rpki.specs.Texts.{time_text}
 use Rattle.rpki.specs.Times.{Moment, second_number}
 use Rattle.rpki.specs.Timestamps.{timestamp}
-use Rattle.rpki_text.specs.Pages.{count_text}
 
--- the day of a moment, counted from 1970-01-01; a day has 86,400 seconds
-abbrev pub day : Moment → ℤ
-day m = int_div_euclid (timestamp m) (pos 86_400)
+-- how many seconds lie between two moments; no day has a leap second
+abbrev pub seconds_between : Moment → Moment → ℕ
+seconds_between m n = unsigned_abs (timestamp m -ℤ timestamp n)
 
--- how many days lie between the dates of two moments
-abbrev pub days_between : Moment → Moment → ℕ
-days_between m n = unsigned_abs (day m -ℤ day n)
+-- so many seconds: from 48 hours on in days of 86,400 seconds, from an hour on in hours and minutes,
+-- from a minute on in minutes, else in seconds; what is left over isn't told
+abbrev pub duration_text : ℕ → List ℕ
+duration_text s =
+    if nat_le 172_800 s then decimal (s / 86_400) ++ codes " days"
+    else (if nat_le 3_600 s then decimal (s / 3_600) ++ (codes " h " ++ (decimal ((s % 3_600) / 60) ++ codes " min"))
+    else (if nat_le 60 s then decimal (s / 60) ++ codes " min" else decimal s ++ codes " s"))
 
 -- whether a moment is earlier than another
 abbrev pub is_before : Moment → Moment → Bool
 is_before m n = nat_lt (second_number m) (second_number n)
 
--- of a period that is over: the word for that; of one that hasn't begun: that; else for how many
--- days it lasts
-abbrev pub state_text : List ℕ → Moment → Moment → Moment → List ℕ
-state_text over from until now =
-    if is_before until now then over
-    else (if is_before now from then codes "not yet valid"
-    else codes "valid for " ++ count_text (days_between until now) (codes " day") (codes " days"))
+-- of a period that is over: the word for that, and since when; of one that hasn't begun: when it
+-- will; else the word for its end, and what time is left
+abbrev pub state_text : List ℕ → List ℕ → Moment → Moment → Moment → List ℕ
+state_text ends ended from until now =
+    if is_before until now then ended ++ (codes " " ++ (duration_text (seconds_between now until) ++ codes " ago"))
+    else (if is_before now from then codes "not valid before " ++ time_text from
+    else ends ++ (codes " in " ++ duration_text (seconds_between until now)))
 
 -- the end of a period, and its state in parentheses
-unfoldable pub end_text : List ℕ → Moment → Moment → Moment → List ℕ
-end_text over from until now = time_text until ++ (codes " (" ++ (state_text over from until now ++ codes ")"))
+unfoldable pub end_text : List ℕ → List ℕ → Moment → Moment → Moment → List ℕ
+end_text ends ended from until now = time_text until ++ (codes " (" ++ (state_text ends ended from until now ++ codes ")"))

@@ -5,14 +5,15 @@ ghost use Rattle.rpki.specs.Kind.{Kind as Profile};
 ghost use Rattle.rpki.specs.Kind.TheVariants.{Anchor, Authority, EndEntity, Detached, Router};
 ghost use Rattle.rpki.specs.Texts.{serial_text};
 ghost use Rattle.rpki_text.specs.Pages.{Appends, line, line_if_any, colons_text};
-ghost use Rattle.rpki_text.specs.CertificateTexts.{IsAnswer, AreAnswers, met_kind_text, answer_text, profile_line, algorithm_text, key_text, usage_text, policy_text, uri_line, names_text, validity_text, keys_text, places_text, resources_text, details_text, profiles_text, certificate_text};
+ghost use Rattle.rpki_text.specs.CertificateTexts.{IsAnswer, AreAnswers, AreFindings, met_kind_text, answer_text, profile_line, usage_text, policy_text, uri_line, names_text, validity_text, keys_text, places_text, resources_text, details_text, profiles_text, certificate_text};
 
 use crate::blocks::{Family, write_as_resources, write_ip_resources};
+use crate::keys::{self, KeyAnswer};
 use crate::lines::{Characters, Colons, write_line};
 use crate::list::write_signature;
 use crate::moments::Period;
 use crate::page::Page;
-use rpki::crypto::{KeyIdentifier, PublicKey, PublicKeyFormat};
+use rpki::crypto::KeyIdentifier;
 use rpki::repository::cert::{Cert, KeyUsage, Overclaim, TbsCert};
 use rpki::repository::error::InspectionError;
 use rpki::repository::x509::{Serial, Time, Validity};
@@ -120,6 +121,24 @@ fn kind_name(answers: &Answers) -> &'static str
     }
 }
 
+/// What is found of a certificate beyond its fields: what inspection answers for each kind, and
+/// what its key is.
+#[derive(Clone, Copy)]
+pub struct Findings {
+    pub answers: Answers,
+    pub key: KeyAnswer,
+}
+
+/// Returns what is found of a certificate.
+pub fn findings_of(cert: &Cert, strict: bool) -> Findings
+    ensures { AreFindings strict cert.now result }
+{
+    Findings {
+        answers: answers_of(cert, strict),
+        key: keys::answer_of(cert.as_tbs().subject_public_key_info()),
+    }
+}
+
 /// Returns the kind whose profile the certificate meets; no two are met at once but the two of end
 /// entities.
 pub fn kind_of(cert: &Cert, strict: bool) -> &'static str
@@ -146,36 +165,14 @@ fn write_validity<W: fmt::Write>(
     ensures { WritesOnOk W.write_str_gives f.old result (validity_text validity now) f.new }
 {
     let period = Period {
-        over: "expired",
+        ends: "expires",
+        ended: "expired",
         from: validity.not_before(),
         until: validity.not_after(),
         at: now,
     };
     write_line(f, "Valid from", &period.from)?;
     write_line(f, "Valid until", &period)
-}
-
-// A key: its algorithm, and how many octets it has.
-#[derive(Drop)]
-struct Key<'a>(&'a PublicKey);
-
-fn algorithm_name(format: PublicKeyFormat) -> &'static str
-    ensures { result.now ≡ algorithm_text format }
-{
-    match format {
-        PublicKeyFormat::Rsa => "RSA, ",
-        PublicKeyFormat::EcdsaP256 => "ECDSA P-256, ",
-    }
-}
-
-impl fmt::Display for Key<'_> {
-    ghost output = { λ key. Some (key_text key.0.now) };
-
-    fn fmt<W: fmt::Write>(&self, f: &mut fmt::Formatter<W>) -> fmt::Result {
-        f.write_str(algorithm_name(self.0.algorithm()))?;
-        let count = self.0.bits().len();
-        write!(f, "{count} octets")
-    }
 }
 
 fn usage_name(usage: KeyUsage) -> &'static str
@@ -214,12 +211,15 @@ fn write_authority_key<W: fmt::Write>(
 }
 
 #[tactic(auto, unfolding(crate::specs::CertificateTexts::keys_text))]
-fn write_keys<W: fmt::Write>(f: &mut fmt::Formatter<W>, fields: &TbsCert) -> fmt::Result
-    ensures { WritesOnOk W.write_str_gives f.old result (keys_text fields.now) f.new }
+fn write_keys<W: fmt::Write>(
+    f: &mut fmt::Formatter<W>,
+    fields: &TbsCert,
+    key: &KeyAnswer,
+) -> fmt::Result
+    ensures { WritesOnOk W.write_str_gives f.old result (keys_text fields.now key.now) f.new }
 {
-    let key = Key(fields.subject_public_key_info());
     let identifier = fields.subject_key_identifier();
-    write_line(f, "Key", &key)?;
+    write_line(f, "Key", key)?;
     write_key_identifier(f, "Subject key identifier", &identifier)?;
     write_authority_key(f, fields.authority_key_identifier())?;
     write_line(f, "Key usage", &usage_name(fields.key_usage()))
@@ -333,44 +333,48 @@ fn write_profiles<W: fmt::Write>(f: &mut fmt::Formatter<W>, answers: &Answers) -
 
 // The parts of a certificate.
 #[tactic(auto, unfolding(crate::specs::CertificateTexts::details_text))]
-fn write_parts<W: fmt::Write>(f: &mut fmt::Formatter<W>, fields: &TbsCert) -> fmt::Result
-    ensures { WritesOnOk W.write_str_gives f.old result (details_text fields.now) f.new }
+fn write_parts<W: fmt::Write>(
+    f: &mut fmt::Formatter<W>,
+    fields: &TbsCert,
+    key: &KeyAnswer,
+) -> fmt::Result
+    ensures { WritesOnOk W.write_str_gives f.old result (details_text fields.now key.now) f.new }
 {
-    write_keys(f, fields)?;
+    write_keys(f, fields, key)?;
     write_places(f, fields)?;
     write_resources(f, fields)
 }
 
-// A certificate at a moment, with what inspection answers.
+// A certificate at a moment, with what is found of it.
 #[derive(Drop)]
 struct ShownCertificate<'a> {
     fields: &'a TbsCert,
     at: Time,
-    answers: Answers,
+    found: Findings,
 }
 
 impl fmt::Display for ShownCertificate<'_> {
-    ghost output = { λ shown. Some (certificate_text shown.fields.now shown.at shown.answers) };
+    ghost output = { λ shown. Some (certificate_text shown.fields.now shown.at shown.found) };
 
     #[tactic(auto, unfolding(crate::specs::CertificateTexts::certificate_text))]
     fn fmt<W: fmt::Write>(&self, f: &mut fmt::Formatter<W>) -> fmt::Result {
-        write_line(f, "Kind", &kind_name(&self.answers))?;
+        write_line(f, "Kind", &kind_name(&self.found.answers))?;
         write_names(f, self.fields)?;
         write_validity(f, self.fields.validity(), self.at)?;
-        write_parts(f, self.fields)?;
-        write_profiles(f, &self.answers)?;
+        write_parts(f, self.fields, &self.found.key)?;
+        write_profiles(f, &self.found.answers)?;
         write_signature(f)
     }
 }
 
-/// Prints a certificate at a moment, and what inspection answers for each kind.
+/// Prints a certificate at a moment, and what is found of it.
 pub fn certificate(page: &mut Page, cert: &Cert, now: Time, strict: bool)
-    ensures { (answers : _) × AreAnswers strict cert.now answers
-        × Appends page.old (certificate_text cert.now.fields now answers) page.new }
+    ensures { (found : _) × AreFindings strict cert.now found
+        × Appends page.old (certificate_text cert.now.fields now found) page.new }
 {
     page.value(&ShownCertificate {
         fields: cert.as_tbs(),
         at: now,
-        answers: answers_of(cert, strict),
+        found: findings_of(cert, strict),
     });
 }

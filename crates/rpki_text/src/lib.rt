@@ -3,10 +3,13 @@
 
 pub mod blocks;
 pub mod certificate;
+pub mod keys;
+pub mod laws;
 mod lines;
 pub mod list;
 pub mod moments;
 pub mod names;
 mod page;
 
+pub use lines::{Characters, FileName, write_line};
 pub use page::Page;

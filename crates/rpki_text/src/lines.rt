@@ -2,7 +2,7 @@
 ghost use Rattle.std.specs.Prelude.{[], ◌∷◌, Some, IfSome, replicate};
 ghost use Rattle.std.specs.Fmt.{WritesOnOk};
 ghost use Rattle.rpki.specs.Texts.{hexadecimal};
-ghost use Rattle.rpki_text.specs.Pages.{label_text, line, further_line, count_text, colons_text, character_text, characters_text};
+ghost use Rattle.rpki_text.specs.Pages.{label_text, line, further_line, count_text, colons_text, character_text, characters_text, file_name_text};
 
 use std::fmt;
 
@@ -145,5 +145,18 @@ impl fmt::Display for Characters<'_> {
 
     fn fmt<W: fmt::Write>(&self, f: &mut fmt::Formatter<W>) -> fmt::Result {
         write_characters(f, self.0)
+    }
+}
+
+/// The name of a file. Whoever made the file chose it, so it is printed as octets are, and can't
+/// end its line, move the cursor or hide a letter.
+#[derive(Drop)]
+pub struct FileName<'a>(pub &'a str);
+
+impl fmt::Display for FileName<'_> {
+    ghost output = { λ name. Some (file_name_text name.0.now) };
+
+    fn fmt<W: fmt::Write>(&self, f: &mut fmt::Formatter<W>) -> fmt::Result {
+        write_characters(f, self.0.as_bytes())
     }
 }

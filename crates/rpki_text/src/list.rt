@@ -113,7 +113,8 @@ fn write_head<W: fmt::Write>(
     ensures { WritesOnOk W.write_str_gives f.old result (list_head fields.now now) f.new }
 {
     let period = Period {
-        over: "stale",
+        ends: "goes stale",
+        ended: "went stale",
         from: fields.this_update(),
         until: fields.next_update(),
         at: now,

@@ -5,29 +5,49 @@ ghost use Rattle.rpki.specs.Texts.{time_text};
 ghost use Rattle.rpki.specs.Times.{Moment, IsMoment};
 ghost use Rattle.rpki.specs.Timestamps.{timestamp};
 ghost use Rattle.rpki_text.specs.MomentTexts.{date_digits, all_digits, IsDateText, HasMarks, IsMomentText};
-ghost use Rattle.rpki_text.specs.Periods.{day, days_between, state_text, end_text};
+ghost use Rattle.rpki_text.specs.Periods.{seconds_between, duration_text, state_text, end_text};
 
-use crate::lines::Count;
 use rpki::repository::x509::Time;
 use std::fmt;
 
-fn day(time: Time) -> i64
-    ensures { result ≡ day time }
+fn seconds_between(one: Time, other: Time) -> u64
+    ensures { result ≡ seconds_between one other }
 {
-    time.timestamp().div_euclid(86_400)
+    one.timestamp().abs_diff(other.timestamp())
 }
 
-fn days_between(one: Time, other: Time) -> u64
-    ensures { result ≡ days_between one other }
-{
-    day(one).abs_diff(day(other))
+// So many seconds, in the two units at most that tell them best.
+#[derive(Clone, Copy)]
+struct Duration(u64);
+
+impl fmt::Display for Duration {
+    ghost output = { λ d. Some (duration_text d.0) };
+
+    fn fmt<W: fmt::Write>(&self, f: &mut fmt::Formatter<W>) -> fmt::Result {
+        let seconds = self.0;
+        if seconds >= 172_800 {
+            let days = seconds / 86_400;
+            return write!(f, "{days} days");
+        }
+        if seconds >= 3_600 {
+            let hours = seconds / 3_600;
+            let minutes = seconds % 3_600 / 60;
+            return write!(f, "{hours} h {minutes} min");
+        }
+        if seconds >= 60 {
+            let minutes = seconds / 60;
+            return write!(f, "{minutes} min");
+        }
+        write!(f, "{seconds} s")
+    }
 }
 
-/// A period at a moment, with the word for a period that is over. It is shown as its end, and what
-/// is said of it: `2026-11-25T06:00:00Z (valid for 3 days)`.
+/// A period at a moment, with the words for its end, now and afterwards. It is shown as its end,
+/// and what time is left of it or gone since: `2026-11-25T06:00:00Z (expires in 3 days)`.
 #[derive(Drop)]
 pub struct Period {
-    pub over: &'static str,
+    pub ends: &'static str,
+    pub ended: &'static str,
     pub from: Time,
     pub until: Time,
     pub at: Time,
@@ -35,24 +55,24 @@ pub struct Period {
 
 fn write_state<W: fmt::Write>(f: &mut fmt::Formatter<W>, it: &Period) -> fmt::Result
     ensures { WritesOnOk W.write_str_gives f.old result
-        (state_text it.now.over.now it.now.from it.now.until it.now.at) f.new }
+        (state_text it.now.ends.now it.now.ended.now it.now.from it.now.until it.now.at) f.new }
 {
     if it.until < it.at {
-        return f.write_str(it.over);
+        let ended = it.ended;
+        let since = Duration(seconds_between(it.at, it.until));
+        return write!(f, "{ended} {since} ago");
     }
     if it.at < it.from {
-        return f.write_str("not yet valid");
+        let from = it.from;
+        return write!(f, "not valid before {from}");
     }
-    let days = Count {
-        number: days_between(it.until, it.at),
-        one: " day",
-        others: " days",
-    };
-    write!(f, "valid for {days}")
+    let ends = it.ends;
+    let left = Duration(seconds_between(it.until, it.at));
+    write!(f, "{ends} in {left}")
 }
 
 impl fmt::Display for Period {
-    ghost output = { λ p. Some (end_text p.over.now p.from p.until p.at) };
+    ghost output = { λ p. Some (end_text p.ends.now p.ended.now p.from p.until p.at) };
 
     #[tactic(auto, unfolding(crate::specs::Periods::end_text))]
     fn fmt<W: fmt::Write>(&self, f: &mut fmt::Formatter<W>) -> fmt::Result {
@@ -135,14 +155,13 @@ fn from_date_and_clock(text: &[u8]) -> Option<Time>
 }
 
 /// Reads the moment of `YYYY-MM-DD`, `YYYY-MM-DDThh:mm:ssZ` or `YYYYMMDDhhmmss`.
-pub fn from_text(text: &str) -> Option<Time>
+pub fn from_text(text: &[u8]) -> Option<Time>
     ensures some { IfSome result (λ t. IsMoment t × IsMomentText t text.now) }
     ensures none { IfNone result ((t : Moment) → IsMoment t → IsMomentText t text.now → ⊥) }
 {
-    let octets = text.as_bytes();
-    match octets.len() {
-        10 => from_date(octets),
-        20 => from_date_and_clock(octets),
-        _ => Time::from_digits(octets),
+    match text.len() {
+        10 => from_date(text),
+        20 => from_date_and_clock(text),
+        _ => Time::from_digits(text),
     }
 }

@@ -1,13 +1,6 @@
 -- Lemmas of the proofs about verdicts.
-mod AllItems
-mod AskedVerdicts
-mod FaultPlaces
-mod KeptLists
-mod LeadingItems
-mod ListOrder
+mod GivenKinds
 pub mod MappedItems
-pub mod OneStore
-mod RouterFaults
-mod StoredPairs
-mod TwoSplits
+pub mod OneVerdict
+mod ReadLists
 mod UnrevokedFiles

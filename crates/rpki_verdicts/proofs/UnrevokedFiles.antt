@@ -1,115 +1,88 @@
 -- The members of an accepted path are unrevoked by lists that were given.
 use Rattle.std.specs.Prelude.{Any, Option, Some, None}
-use Rattle.std.specs.List.{AllByRecursion, AllZip}
-use Rattle.std.proofs.Common.{◌≡◌, ◌+◌, ◌<◌, ℕ, suc, List, [], ◌∷◌, ◌++◌, length, map, get_or, refl, sym, ap, subst, ◌∙◌, inl, inr, arith}
-use Rattle.std.proofs.lemmas.List.{append-nil}
+use Rattle.std.specs.List.{AllZip}
+use Rattle.std.proofs.Common.{◌≡◌, ◌+◌, ◌<◌, ℕ, zero, suc, List, [], ◌∷◌, ◌++◌, length, map, get_or, refl, sym, ap, subst, ◌∙◌, inl, inr, arith}
 use Rattle.std.proofs.lemmas.Slice.Zip.{all_zipped_more}
+use Rattle.rpki.specs.Asking.{RevocationChecks, IsUnrevokedBy}
+use Rattle.rpki.specs.AskedLists.{LeavesUnrevoked, by_lists}
 use Rattle.rpki.specs.Encoding.{Means}
-use Rattle.rpki.specs.Certificates.{TbsFields, CertFields, IsCertificate}
-use Rattle.rpki.specs.Lists.{CrlState, IsCertificateList}
-use Rattle.rpki.specs.Stores.{Stored}
-use Rattle.rpki.specs.RevocationError.{RevocationError}
-use Rattle.rpki.specs.RevocationError.TheVariants.{NoCrl, WrongKeyId, BadSignature, Stale, Revoked}
-use Rattle.rpki.specs.Revocation.{ListCheck, IsListOf, IsUnrevoked}
-use Rattle.rpki.specs.Verification.{Context, ResourceFields}
+use Rattle.rpki.specs.Certificates.{CertFields, IsCertificate}
+use Rattle.rpki.specs.GivenPaths.{PathStrings, path_to}
+use Rattle.rpki.specs.Judged.{Judged}
+use Rattle.rpki.specs.Judging.{IsAcceptedWith, IsRouterIfAny}
 use Rattle.rpki.specs.Kind.{Kind}
 use Rattle.rpki.specs.Kind.TheVariants.{Anchor, Authority, EndEntity, Detached, Router}
-use Rattle.rpki.specs.Leaf.TheVariants.{Ee, DetachedEe}
-use Rattle.rpki.specs.Paths.{Member, Path, Candidate, candidate, candidates, IsMember, IsValidPath, IsAccepted}
-use Rattle.rpki.specs.Routers.{BeginsWithRouter}
-use Rattle.rpki_verdicts.specs.GivenPaths.{GivenPath, path_to, IsGivenBy}
-use Rattle.rpki_verdicts.specs.PathVerdicts.{IsAcceptedWith}
-use Rattle.rpki_verdicts.specs.AskedLists.{IsAskedOf, pairs_for, AreStoredBelow, AreStored, AreListsOf, AreStoredOf}
+use Rattle.rpki.specs.Lists.{CrlState, IsCertificateList}
+use Rattle.rpki.specs.Paths.{Member, Path, Candidate, candidate, IsMember, IsValidPath, IsAccepted}
+use Rattle.rpki.specs.Routers.{IsRouterUnder}
+use Rattle.rpki.specs.Verification.{Context, ResourceFields}
+use Rattle.rpki_revocation.proofs.AskedList.{left_by_asked}
+use Rattle.rpki_verdicts.specs.PathFiles.{IsGivenBy, AreListsOf}
 use Rattle.rpki_verdicts.specs.UnrevokedMembers.{IsGivenAmong, IsUnrevokedBelow, AreUnrevokedBelow, AreUnrevoked}
-use Rattle.rpki_verdicts.proofs.AllItems.{all_weaker, all_joined, all_within}
-use Rattle.rpki_verdicts.proofs.StoredPairs.{last_of}
 
--- ---- what is stored was given
-
--- a list of the store
-abbrev IsGivenPair : List (List ℕ) → Stored → Type 0
-IsGivenPair lists pair = IsGivenAmong lists pair.1.list
+-- ---- what was read was given
 
 any_later : {X : Type 0} (P : X → Type 0) (x : X) (xs : List X) → Any P xs → Any P (x ∷ xs)
 any_later P x xs h = (suc h.0, h.1, omega (arith, h.2), h.3, h.4)
 
-read_given : (files : List (List ℕ)) (read : List CrlState) → AreListsOf files read → AllByRecursion (λ l. IsGivenAmong files l.list) read
-read_given [] read h = subst (λ (ls : List CrlState). AllByRecursion (λ l. IsGivenAmong [] l.list) ls) (sym h) tt
-read_given (octets ∷ files) read (inl h) =
-    all_weaker (λ l. IsGivenAmong files l.list) (λ l. IsGivenAmong (octets ∷ files) l.list) (λ l given. any_later (λ o. Means IsCertificateList l.list o) octets files given) read (read_given files read h.1)
-read_given (octets ∷ files) read (inr h) =
-    let first : IsGivenAmong (octets ∷ files) h.0.list = (0, octets, omega arith, refl, h.2) in
-    let more = all_weaker (λ l. IsGivenAmong files l.list) (λ l. IsGivenAmong (octets ∷ files) l.list) (λ l given. any_later (λ o. Means IsCertificateList l.list o) octets files given) h.1 (read_given files h.1 h.4) in
-    subst (λ (ls : List CrlState). AllByRecursion (λ l. IsGivenAmong (octets ∷ files) l.list) ls) (sym h.5) (first, more)
+-- of a list that leaves a certificate unrevoked it is known which file it begins
+module _ (P : CrlState → Type 0) where
+  -- one of the lists that have it was given
+  abbrev GivenWith : List (List ℕ) → Type 0
+  GivenWith files = (l : CrlState) × IsGivenAmong files l.list × P l
 
-module _ (lists : List (List ℕ)) (read : List CrlState) (all : AllByRecursion (λ l. IsGivenAmong lists l.list) read) (members : List CertFields) where
-  asked_given : (issuer c : CertFields) (l : CrlState) → IsAskedOf read members issuer c (Some l) → IsGivenAmong lists l.list
-  asked_given issuer c l (inl h) =
-      let same : h.0 ≡ l = cc h.1 in
-      let here = all_within (λ l. IsGivenAmong lists l.list) h.2.before h.0 h.2.after (subst (λ (ls : List CrlState). AllByRecursion (λ l. IsGivenAmong lists l.list) ls) h.2.is all) in
-      subst (λ (k : CrlState). IsGivenAmong lists k.list) same here
-  asked_given issuer c l (inr h) = all_within (λ l. IsGivenAmong lists l.list) h.1.before l h.1.after (subst (λ (ls : List CrlState). AllByRecursion (λ l. IsGivenAmong lists l.list) ls) h.1.is all)
+  later : (octets : List ℕ) (files : List (List ℕ)) → GivenWith files → GivenWith (octets ∷ files)
+  later octets files h = (h.0, any_later (λ o. Means IsCertificateList h.0.list o) octets files h.1, h.2)
 
-  under_given : (uri : Option (List ℕ)) (c : CertFields) (l : CrlState) → c.fields.extensions.crl_uri ≡ uri → IsGivenAmong lists l.list → AllByRecursion (IsGivenPair lists) (pairs_for c (Some l))
-  under_given None c l is given = rw is tt
-  under_given (Some uri) c l is given = rw is (given, tt)
+  among : (octets : List ℕ) (files : List (List ℕ)) (first : CrlState) (rest : List CrlState) → Means IsCertificateList first.list octets → (Any P rest → GivenWith files) → Any P (first ∷ rest) → GivenWith (octets ∷ files)
+  among octets files first rest begins more (zero, l, low, is, p) = (first, (0, octets, omega arith, refl, begins), subst P (sym is) p)
+  among octets files first rest begins more (suc k, l, low, is, p) = later octets files (more (k, l, omega arith, is, p))
 
-  one_given : (issuer c : CertFields) (asked : Option CrlState) → IsAskedOf read members issuer c asked → AllByRecursion (IsGivenPair lists) (pairs_for c asked)
-  one_given issuer c None h = tt
-  one_given issuer c (Some l) h = under_given c.fields.extensions.crl_uri c l refl (asked_given issuer c l h)
-
-  below_given : (issuer : CertFields) (cs : List CertFields) (pairs : List Stored) → AreStoredBelow read members issuer cs pairs → AllByRecursion (IsGivenPair lists) pairs
-  below_given issuer [] pairs h = subst (λ (ps : List Stored). AllByRecursion (IsGivenPair lists) ps) (sym h) tt
-  below_given issuer (c ∷ cs) pairs h =
-      subst (λ (ps : List Stored). AllByRecursion (IsGivenPair lists) ps) (sym h.4) (all_joined (IsGivenPair lists) (pairs_for c h.0) h.1 (one_given issuer c h.0 h.2) (below_given c cs h.1 h.3))
-
-stored_given : (lists : List (List ℕ)) (read : List CrlState) (certs : List CertFields) (pairs : List Stored) → AreListsOf lists read → AreStored read certs pairs → AllByRecursion (IsGivenPair lists) pairs
-stored_given lists read [] pairs are h = subst (λ (ps : List Stored). AllByRecursion (IsGivenPair lists) ps) (sym h) tt
-stored_given lists read (anchor ∷ members) pairs are h = below_given lists read (read_given lists read are) members anchor members pairs h
+  given_of : (files : List (List ℕ)) (read : List CrlState) → AreListsOf files read → Any P read → GivenWith files
+  given_of [] read are h = let none : Any P [] = subst (λ (ls : List CrlState). Any P ls) are h in absurd (omega (arith, none.2))
+  given_of (octets ∷ files) read (inl are) h = later octets files (given_of files read are.1 h)
+  given_of (octets ∷ files) read (inr are) h = among octets files are.0 are.1 are.2 (given_of files are.1 are.4) (subst (λ (ls : List CrlState). Any P ls) are.5 h)
 
 -- ---- one member
 
-module _ (x : Context) (lists : List (List ℕ)) (pairs : List Stored) (all : AllByRecursion (IsGivenPair lists) pairs) where
-  list_given : (c : CertFields) (crl : CrlState) → IsListOf pairs c crl → IsGivenAmong lists crl.list
-  list_given c crl h =
-      let first = h.2.1 in
-      let here = all_within (IsGivenPair lists) first.before h.2.0 first.after (subst (λ (ps : List Stored). AllByRecursion (IsGivenPair lists) ps) first.is all) in
-      subst (λ (l : CrlState). IsGivenAmong lists l.list) (sym h.2.2) here
+module _ (x : Context) (lists : List (List ℕ)) (read : List CrlState) (are : AreListsOf lists read) where
+  abbrev ByThese : RevocationChecks
+  ByThese = by_lists x read
 
-  checks_of : (issuer : TbsFields) (c : CertFields) (h : IsUnrevoked x pairs issuer c) → (e : RevocationError) → ListCheck x issuer c.fields.serial h.0.0.list e
-  checks_of issuer c h NoCrl = tt
-  checks_of issuer c h WrongKeyId = h.1.0 h.0.0 h.0.1
-  checks_of issuer c h BadSignature = h.1.1.0 h.0.0 h.0.1
-  checks_of issuer c h Stale = h.1.1.1.0 h.0.0 h.0.1
-  checks_of issuer c h Revoked = h.1.1.1.1.0 h.0.0 h.0.1
-
-  one_unrevoked : (above octets : List ℕ) (issuer c : CertFields) → Means IsCertificate issuer above → Means IsCertificate c octets → IsUnrevoked x pairs issuer.fields c → IsUnrevokedBelow x lists above octets
-  one_unrevoked above octets issuer c i b h = record {
-    issuer = issuer;
-    issuer_begins = i;
-    member = c;
-    member_begins = b;
-    list = h.0.0.list;
-    is_given = list_given c h.0.0 h.0.1;
-    checks = checks_of issuer.fields c h;
-  }
+  one_unrevoked : (above octets : List ℕ) (issuer c : CertFields) → Means IsCertificate issuer above → Means IsCertificate c octets → IsUnrevokedBy ByThese issuer.fields c → IsUnrevokedBelow x lists above octets
+  one_unrevoked above octets issuer c i b h =
+      let given = given_of (λ l. LeavesUnrevoked x issuer.fields c l.list) lists read are (left_by_asked x read issuer.fields c h) in
+      record {
+        issuer = issuer;
+        issuer_begins = i;
+        member = c;
+        member_begins = b;
+        list = given.0.list;
+        is_given = given.1;
+        unrevoked = given.2;
+      }
 
   -- ---- members, one below the other
 
   abbrev Chain : CertFields → List CertFields → Type 0
   Chain issuer [] = Unit {0}
-  Chain issuer (c ∷ cs) = IsUnrevoked x pairs issuer.fields c × Chain c cs
+  Chain issuer (c ∷ cs) = IsUnrevokedBy ByThese issuer.fields c × Chain c cs
 
-  by_place : (d issuer : CertFields) (cs : List CertFields) → ((i : ℕ) → i < length cs → IsUnrevoked x pairs (get_or (issuer ∷ cs) i d).fields (get_or (issuer ∷ cs) (i + 1) d)) → Chain issuer cs
+  by_place : (d issuer : CertFields) (cs : List CertFields) → ((i : ℕ) → i < length cs → IsUnrevokedBy ByThese (get_or (issuer ∷ cs) i d).fields (get_or (issuer ∷ cs) (i + 1) d)) → Chain issuer cs
   by_place d issuer [] h = tt
   by_place d issuer (c ∷ cs) h = (
     h 0 (omega arith),
     by_place d c cs (λ i low.
         let more : suc i + 1 ≡ suc (i + 1) = omega arith in
-        subst (λ (n : ℕ). IsUnrevoked x pairs (get_or (c ∷ cs) i d).fields (get_or (issuer ∷ c ∷ cs) n d)) more (h (suc i) (omega (arith, low)))),
+        subst (λ (n : ℕ). IsUnrevokedBy ByThese (get_or (c ∷ cs) i d).fields (get_or (issuer ∷ c ∷ cs) n d)) more (h (suc i) (omega (arith, low)))),
   )
 
-  chain_more : (issuer : CertFields) (cs : List CertFields) (c : CertFields) → Chain issuer cs → IsUnrevoked x pairs (last_of issuer cs).fields c → Chain issuer (cs ++ c ∷ [])
+  -- the last of them
+  abbrev last_of : CertFields → List CertFields → CertFields
+  last_of issuer [] = issuer
+  last_of issuer (c ∷ cs) = last_of c cs
+
+  chain_more : (issuer : CertFields) (cs : List CertFields) (c : CertFields) → Chain issuer cs → IsUnrevokedBy ByThese (last_of issuer cs).fields c → Chain issuer (cs ++ c ∷ [])
   chain_more issuer [] c h u = (u, tt)
   chain_more issuer (d ∷ ds) c h u = (h.0, chain_more d ds c h.1 u)
 
@@ -135,48 +108,51 @@ module _ (x : Context) (lists : List (List ℕ)) (pairs : List Stored) (all : Al
   last_place d issuer [] = refl
   last_place d issuer (m ∷ ms) = last_place d m.cert ms
 
-  chain_of : (p : Path) → IsValidPath x (Some pairs) p → Chain p.anchor (map (λ (m : Member). m.cert) p.below)
+  chain_of : (p : Path) → IsValidPath x ByThese p → Chain p.anchor (map (λ (m : Member). m.cert) p.below)
   chain_of p h = by_place p.anchor p.anchor (map (λ (m : Member). m.cert) p.below) (λ i low. h.members_unrevoked i (omega (arith, low, mapped_long p.below)))
 
-  -- the octets of CAs
+  -- the octets of CAs, and of more
   authorities_octets : (cas : List (List ℕ)) (more : List Candidate) → map (λ (s : Candidate). s.octets) (map (candidate Authority) cas ++ more) ≡ cas ++ map (λ (s : Candidate). s.octets) more
   authorities_octets [] more = refl
   authorities_octets (o ∷ os) more = ap (λ (l : List (List ℕ)). o ∷ l) (authorities_octets os more)
 
-  members_unrevoked : (anchor : List ℕ) (below : List Candidate) (files : List (List ℕ)) (r : ResourceFields) → IsAccepted x (Some pairs) anchor below [] r → map (λ (s : Candidate). s.octets) below ≡ files → AreUnrevokedBelow x lists anchor files
+  mapped_alone : (cas : List (List ℕ)) → map (λ (s : Candidate). s.octets) (map (candidate Authority) cas) ≡ cas
+  mapped_alone [] = refl
+  mapped_alone (o ∷ os) = ap (λ (l : List (List ℕ)). o ∷ l) (mapped_alone os)
+
+  members_unrevoked : (anchor : List ℕ) (below : List Candidate) (files : List (List ℕ)) (r : ResourceFields) → IsAccepted x ByThese anchor below [] r → map (λ (s : Candidate). s.octets) below ≡ files → AreUnrevokedBelow x lists anchor files
   members_unrevoked anchor below files r h is =
       let certs = map (λ (m : Member). m.cert) h.path.below in
       let begin = subst (λ (os : List (List ℕ)). AllZip (λ c octets. Means IsCertificate c octets) certs os) is (certs_begin h.path.below below h.path_of.members) in
       files_unrevoked anchor h.path.anchor h.path_of.anchor_begins certs files begin (chain_of h.path h.is_valid)
 
   -- with a router below the last member
-  router_unrevoked : (anchor : List ℕ) (below : List Candidate) (files : List (List ℕ)) (router : List ℕ) (r : ResourceFields) → IsAccepted x (Some pairs) anchor below [] r → map (λ (s : Candidate). s.octets) below ≡ files
-      → BeginsWithRouter x (Some pairs) r router → AreUnrevokedBelow x lists anchor (files ++ router ∷ [])
-  router_unrevoked anchor below files router r h is b =
+  router_unrevoked : (anchor : List ℕ) (below : List Candidate) (files : List (List ℕ)) (router : List ℕ) (r : ResourceFields) (c : CertFields) → IsAccepted x ByThese anchor below [] r → map (λ (s : Candidate). s.octets) below ≡ files
+      → Means IsCertificate c router → IsRouterUnder x ByThese r c → AreUnrevokedBelow x lists anchor (files ++ router ∷ [])
+  router_unrevoked anchor below files router r c h is begins under =
       let p = h.path in
       let certs = map (λ (m : Member). m.cert) p.below in
       let begin = subst (λ (os : List (List ℕ)). AllZip (λ c octets. Means IsCertificate c octets) certs os) is (certs_begin p.below below h.path_of.members) in
       let issuer : r.cert ≡ last_of p.anchor certs = h.held.cert_is ∙ last_place p.anchor p.anchor p.below in
-      let under : IsUnrevoked x pairs (last_of p.anchor certs).fields b.cert = subst (λ (c : CertFields). IsUnrevoked x pairs c.fields b.cert) issuer b.under.unrevoked in
-      files_unrevoked anchor p.anchor h.path_of.anchor_begins (certs ++ b.cert ∷ []) (files ++ router ∷ []) (all_zipped_more (λ (c : CertFields) (octets : List ℕ). Means IsCertificate c octets) certs files b.cert router begin b.begins)
-      (chain_more p.anchor certs b.cert (chain_of p h.is_valid) under)
+      let unrevoked : IsUnrevokedBy ByThese (last_of p.anchor certs).fields c = subst (λ (above : CertFields). IsUnrevokedBy ByThese above.fields c) issuer under.unrevoked in
+      files_unrevoked anchor p.anchor h.path_of.anchor_begins (certs ++ c ∷ []) (files ++ router ∷ []) (all_zipped_more (λ (c : CertFields) (octets : List ℕ). Means IsCertificate c octets) certs files c router begin begins)
+      (chain_more p.anchor certs c (chain_of p h.is_valid) unrevoked)
 
-  to_last : (anchor : List ℕ) (cas : List (List ℕ)) (octets : List ℕ) (kind : Kind) (r : ResourceFields) → IsAcceptedWith x (Some pairs) (path_to anchor cas kind octets) r → AreUnrevokedBelow x lists anchor (cas ++ octets ∷ [])
-  to_last anchor cas octets Router r h =
-      router_unrevoked anchor (candidates cas None) cas octets r h.accepted (authorities_octets cas [] ∙ append-nil cas) h.router
-  to_last anchor cas octets EndEntity r h = members_unrevoked anchor (candidates cas (Some (Ee octets))) (cas ++ octets ∷ []) r h.accepted (authorities_octets cas (candidate EndEntity octets ∷ []))
-  to_last anchor cas octets Detached r h = members_unrevoked anchor (candidates cas (Some (DetachedEe octets))) (cas ++ octets ∷ []) r h.accepted (authorities_octets cas (candidate Detached octets ∷ []))
-  to_last anchor cas octets Authority r h =
-      members_unrevoked anchor (candidates (cas ++ octets ∷ []) None) (cas ++ octets ∷ []) r h.accepted (authorities_octets (cas ++ octets ∷ []) [] ∙ append-nil (cas ++ octets ∷ []))
-  to_last anchor cas octets Anchor r h =
-      members_unrevoked anchor (candidates (cas ++ octets ∷ []) None) (cas ++ octets ∷ []) r h.accepted (authorities_octets (cas ++ octets ∷ []) [] ∙ append-nil (cas ++ octets ∷ []))
+  to_router : (anchor : List ℕ) (cas : List (List ℕ)) (octets : List ℕ) (r : ResourceFields) (router : Option CertFields) → IsAccepted x ByThese anchor (map (candidate Authority) cas) [] r → IsRouterIfAny x ByThese r (Some octets) router → AreUnrevokedBelow x lists anchor (cas ++ octets ∷ [])
+  to_router anchor cas octets r None h b = absurd b
+  to_router anchor cas octets r (Some c) h b = router_unrevoked anchor (map (candidate Authority) cas) cas octets r c h (mapped_alone cas) b.0 b.1
 
-  given_unrevoked : (files : List (List ℕ)) (g : GivenPath) (r : ResourceFields) → IsGivenBy files g → IsAcceptedWith x (Some pairs) g r → AreUnrevoked x lists files
-  given_unrevoked files g r (inl h) a = subst (λ (fs : List (List ℕ)). AreUnrevoked x lists fs) (sym h.1) tt
-  given_unrevoked files g r (inr h) a =
-      let under = to_last h.anchor h.authorities h.last h.kind r (subst (λ (k : GivenPath). IsAcceptedWith x (Some pairs) k r) h.path_is a) in
-      subst (λ (fs : List (List ℕ)). AreUnrevoked x lists fs) (sym h.files_are) under
+  to_last : (anchor : List ℕ) (cas : List (List ℕ)) (octets : List ℕ) (kind : Kind) (j : Judged) → IsAcceptedWith x ByThese (path_to anchor cas kind octets) j → AreUnrevokedBelow x lists anchor (cas ++ octets ∷ [])
+  to_last anchor cas octets Router j h = to_router anchor cas octets j.holder j.router h.accepted h.router
+  to_last anchor cas octets EndEntity j h = members_unrevoked anchor (map (candidate Authority) cas ++ candidate EndEntity octets ∷ []) (cas ++ octets ∷ []) j.holder h.accepted (authorities_octets cas (candidate EndEntity octets ∷ []))
+  to_last anchor cas octets Detached j h = members_unrevoked anchor (map (candidate Authority) cas ++ candidate Detached octets ∷ []) (cas ++ octets ∷ []) j.holder h.accepted (authorities_octets cas (candidate Detached octets ∷ []))
+  to_last anchor cas octets Authority j h = members_unrevoked anchor (map (candidate Authority) cas ++ candidate Authority octets ∷ []) (cas ++ octets ∷ []) j.holder h.accepted (authorities_octets cas (candidate Authority octets ∷ []))
+  to_last anchor cas octets Anchor j h = members_unrevoked anchor (map (candidate Authority) cas ++ candidate Anchor octets ∷ []) (cas ++ octets ∷ []) j.holder h.accepted (authorities_octets cas (candidate Anchor octets ∷ []))
 
--- each member of a path that is accepted is left unrevoked by a list that was given
-pub accepted_unrevoked : (x : Context) (files lists : List (List ℕ)) (pairs : List Stored) (g : GivenPath) (r : ResourceFields) → AreStoredOf files lists pairs → IsGivenBy files g → IsAcceptedWith x (Some pairs) g r → AreUnrevoked x lists files
-accepted_unrevoked x files lists pairs g r s = given_unrevoked x lists pairs (stored_given lists s.read s.certs pairs s.read_are s.stored) files g r
+  -- each member of a path that is accepted is left unrevoked by a list that was given
+  pub accepted_unrevoked : (files : List (List ℕ)) (g : PathStrings) (j : Judged) → IsGivenBy files g → IsAcceptedWith x ByThese g j → AreUnrevoked x lists files
+  accepted_unrevoked files g j (inl h) a = subst (λ (fs : List (List ℕ)). AreUnrevoked x lists fs) (sym h.1) tt
+  accepted_unrevoked files g j (inr h) a =
+      let s = h.split in
+      let under = to_last s.anchor s.cas s.octets h.kind j (subst (λ (k : PathStrings). IsAcceptedWith x ByThese k j) s.path_is a) in
+      subst (λ (fs : List (List ℕ)). AreUnrevoked x lists fs) (sym s.strings_are) under

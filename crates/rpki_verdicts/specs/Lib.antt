@@ -1,6 +1,5 @@
 -- The definitions that the contracts of judging files cite.
-pub mod GivenPaths
-pub mod PathVerdicts
-pub mod AskedLists
+pub mod SaidKinds
+pub mod PathFiles
 pub mod PathAnswers
 pub mod UnrevokedMembers

@@ -3,8 +3,7 @@ use Rattle.std.specs.Prelude.{List, [], ◌∷◌, ℕ, Any}
 use Rattle.rpki.specs.Encoding.{Means}
 use Rattle.rpki.specs.Certificates.{CertFields, IsCertificate}
 use Rattle.rpki.specs.Lists.{CrlFields, IsCertificateList}
-use Rattle.rpki.specs.RevocationError.{RevocationError}
-use Rattle.rpki.specs.Revocation.{ListCheck}
+use Rattle.rpki.specs.AskedLists.{LeavesUnrevoked}
 use Rattle.rpki.specs.Verification.{Context}
 
 -- one of the files begins with the list
@@ -12,7 +11,7 @@ abbrev pub IsGivenAmong : List (List ℕ) → CrlFields → Type 0
 IsGivenAmong files l = Any (λ octets. Means IsCertificateList l octets) files
 
 -- Of the octets of a member, below those of its issuer: a list that was given names the issuer's
--- key and is signed by it, isn't stale, and doesn't have the member's serial number.
+-- key and is signed by it, is current, and doesn't have the member's serial number.
 pub record IsUnrevokedBelow (x : Context) (lists : List (List ℕ)) (above octets : List ℕ) : Type 0 where
   pub issuer : CertFields
   pub issuer_begins : Means IsCertificate issuer above
@@ -20,7 +19,7 @@ pub record IsUnrevokedBelow (x : Context) (lists : List (List ℕ)) (above octet
   pub member_begins : Means IsCertificate member octets
   pub list : CrlFields
   pub is_given : IsGivenAmong lists list
-  pub checks : (e : RevocationError) → ListCheck x issuer.fields member.fields.serial list e
+  pub unrevoked : LeavesUnrevoked x issuer.fields member list
 
 -- of each of these, below the one before it, and of the first below these octets
 abbrev pub AreUnrevokedBelow : Context → List (List ℕ) → List ℕ → List (List ℕ) → Type 0

@@ -2,10 +2,8 @@
 //! are given, with revocation.
 #![tactic(auto)]
 
-mod judging;
 mod path;
-mod revocation;
 mod saying;
 
-pub use path::{Fault, Question, Verdict, accepted_are_unrevoked, is_list, judge};
+pub use path::{Fault, Question, Verdict, accepted_are_unrevoked, is_list, judge, one_answer};
 pub use saying::{is_router, said_kind};

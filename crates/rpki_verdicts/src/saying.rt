@@ -1,7 +1,7 @@
 //! What a certificate says that it is.
 ghost use Rattle.std.specs.Prelude.{◌↔◌, IsTrue, IsSomeAnd};
 ghost use Rattle.rpki.specs.RouterPurposes.{HasRouterPurpose};
-ghost use Rattle.rpki_verdicts.specs.GivenPaths.{SaysRouter, SaysKind};
+ghost use Rattle.rpki_verdicts.specs.SaidKinds.{SaysRouter, SaysKind};
 
 use rpki::crypto::PublicKeyFormat;
 use rpki::repository::cert::{Kind, TbsCert};

@@ -1,14 +1,9 @@
-use Rattle.std.specs.Prelude.{Option, ◌∷◌}
-use Rattle.std.proofs.Common.{List, subst}
+use Rattle.std.proofs.Common.{◌∷◌}
 use Rattle.rpki.specs.RsaSignatures.{IsSignedByRsa}
-use Rattle.rpki.specs.Stores.{Stored}
 use Rattle.rpki.specs.Verification.{context}
-use Rattle.rpki_verdicts.specs.PathVerdicts.{IsAcceptedWith}
 use Rattle.rpki_verdicts.proofs.UnrevokedFiles.{accepted_unrevoked}
 use Rattle.rpki_verdicts.proofs.path.accepted_are_unrevoked.Goals as goal
 
 pub returns : goal.returns
-returns c = λ now strict files lists list r v.
-    let x = context IsSignedByRsa now strict in
-    let accepted = subst (λ (asked : Option (List Stored)). IsAcceptedWith x asked v.2.0 r) v.1.1 v.2.2 in
-    accepted_unrevoked x files (list ∷ lists) v.1.0 v.2.0 r v.1.2 v.2.1 accepted
+returns c = λ now strict files lists list judged v.
+    accepted_unrevoked (context IsSignedByRsa now strict) (list ∷ lists) v.0 v.1 files v.2.0 judged v.2.1 v.2.2.accepted

@@ -1,22 +1,27 @@
-use Rattle.std.specs.Prelude.{Some}
-use Rattle.std.proofs.Common.{◌≡◌, [], length, sym, subst, ◌∙◌}
+use Rattle.std.specs.Prelude.{IfOk, MatchOption}
+use Rattle.std.proofs.Common.{◌≡◌, [], List, length, sym, subst, ◌∙◌}
 use Rattle.std.proofs.lemmas.Bool.{false≢true}
 use Rattle.std.proofs.lemmas.Bool.Decides.{Decides-eqb}
 use Rattle.std.proofs.lemmas.List.{length-map}
+use Rattle.rpki.specs.AskedLists.{by_lists}
+use Rattle.rpki.specs.Lists.{CrlState}
 use Rattle.rpki.specs.RsaSignatures.{IsSignedByRsa}
 use Rattle.rpki.specs.Verification.{context}
 use Rattle.rpki_files.specs.Files.{contents}
-use Rattle.rpki_verdicts.specs.GivenPaths.{QuestionFields}
-use Rattle.rpki_verdicts.specs.PathAnswers.{AreAsked}
-use Rattle.rpki_verdicts.proofs.AskedVerdicts.{asked_of, verdict_by}
+use Rattle.rpki_verdicts.specs.PathFiles.{QuestionFields, AreListsOf}
+use Rattle.rpki_verdicts.specs.PathAnswers.{IsPathVerdict}
+use Rattle.rpki_verdicts.proofs.GivenKinds.{verdict_by}
 use Rattle.rpki_verdicts.proofs.path.judge.Goals as goal
 
 pub returns : goal.returns
 returns c =
     let q = c.args.question.now in
     let x = context IsSignedByRsa q.at q.strict in
-    let inside = c.question.inside in
-    let pairs = c.in_ok-store.store.pairs in
-    let some : length inside.lists.now ≡ 0 → ⊥ = λ none. false≢true (sym c.if-is_empty.false ∙ c.is_empty.ensures ∙ (Decides-eqb (length inside.lists.now) 0).1 none) in
-    let are = asked_of (contents inside.members.now) (contents inside.lists.now) pairs (λ none. some (sym (length-map inside.lists.now (λ file. file.octets)) ∙ none)) c.in_ok-store.ensures in
-    verdict_by x (q.members ≡ []) (contents q.members) (contents q.lists) (Some pairs) (subst (λ (f : QuestionFields). AreAsked (contents f.members) (contents f.lists) (Some pairs)) c.question.view_is are) c.judged-verdict.result c.judged-verdict.ensures
+    let lists = c.question.inside.lists.now in
+    let read = c.in_ok-lists.lists.items in
+    let some : length lists ≡ 0 → ⊥ = λ none. false≢true (sym c.if-is_empty.false ∙ c.is_empty.ensures ∙ (Decides-eqb (length lists) 0).1 none) in
+    let given : length (contents lists) ≡ 0 → ⊥ = λ none. some (sym (length-map lists (λ file. file.octets)) ∙ none) in
+    let are = subst (λ (f : QuestionFields). AreListsOf (contents f.lists) read) c.question.view_is c.in_ok-lists.ensures in
+    let any = subst (λ (f : QuestionFields). length (contents f.lists) ≡ 0 → ⊥) c.question.view_is given in
+    let verdict = subst (λ (ls : List CrlState). IfOk c.judged_by-verdict.result (λ o. MatchOption o (contents q.members ≡ []) (IsPathVerdict x (by_lists x ls) (contents q.members)))) (c.new-given.ensures ∙ c.deref.ensures.value) c.judged_by-verdict.ensures in
+    verdict_by x (contents q.members ≡ []) (contents q.members) (contents q.lists) read any are c.judged_by-verdict.result verdict

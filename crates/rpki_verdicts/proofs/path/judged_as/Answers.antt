@@ -1,7 +1,7 @@
 use Rattle.std.proofs.Common.{subst, inl}
 use Rattle.rpki.specs.Certificates.{TbsFields, IsCertificate}
 use Rattle.rpki.specs.Encoding.{Means}
-use Rattle.rpki_verdicts.specs.GivenPaths.{SaysKind}
+use Rattle.rpki_verdicts.specs.SaidKinds.{SaysKind}
 use Rattle.rpki_verdicts.proofs.path.judged_as.Goals as goal
 
 pub returns : goal.returns

@@ -1,6 +1,6 @@
 use Rattle.std.proofs.Common.{rules, ◌≡◌, ◌++◌, ◌∷◌, [], ℕ, List, take, sym, ap, ◌∙◌}
 use Rattle.rpki_files.specs.Files.{FileFields, contents}
-use Rattle.rpki_verdicts.proofs.LeadingItems.{gone_over}
+use Rattle.rpki_revocation.proofs.LatestLists.{gone_over}
 use Rattle.rpki_verdicts.proofs.MappedItems.{mapped_low, mapped_there}
 use Rattle.rpki_verdicts.proofs.path.shared.Goals as goal
 

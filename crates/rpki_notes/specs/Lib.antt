@@ -1,0 +1,4 @@
+-- The definitions that the contracts of notes cite.
+pub mod Notes
+pub mod NoteTexts
+pub mod FaultSearch

@@ -1,0 +1,41 @@
+-- What is said of a key.
+use Rattle.std.specs.Fmt.{decimal}
+use Rattle.std.specs.Prelude.{◌↔◌, ℕ, Bool, IsTrue, if◌then◌else◌, List, [], ◌++◌, codes, Option, Some, None}
+use Rattle.rpki.specs.KeyForm.{KeyForm}
+use Rattle.rpki.specs.KeyForm.TheVariants.{RsaKey, EvenModulus, NoRsaKey, Point, OffCurve, CompressedPoint, NoPoint}
+use Rattle.rpki.specs.KeyForms.{IsKeyForm, IsUsableKey}
+use Rattle.rpki.specs.Keys.{KeyFields}
+use Rattle.rpki_text.specs.declared.keys.KeyAnswer.{KeyAnswer}
+
+-- what is found of a key: its form, and whether the RPKI uses it
+pub record IsKeyAnswer (key : KeyFields) (answer : KeyAnswer) : Type 0 where
+  pub form_is : IsKeyForm answer.form key
+  pub usable_is : IsTrue answer.is_usable ↔ IsUsableKey key
+
+-- the exponent of an RSA key, where it is below 2^64
+abbrev pub exponent_text : Option ℕ → List ℕ
+exponent_text (Some e) = codes "exponent " ++ decimal e
+exponent_text None = codes "an exponent of 2^64 or more"
+
+-- the form of a key
+abbrev pub form_text : KeyForm → List ℕ
+form_text (RsaKey count exponent) = codes "RSA, " ++ (decimal count ++ (codes " bits, " ++ exponent_text exponent))
+form_text EvenModulus = codes "RSA, an even modulus"
+form_text NoRsaKey = codes "RSA, no RSAPublicKey"
+form_text Point = codes "ECDSA P-256, an uncompressed point of the curve"
+form_text OffCurve = codes "ECDSA P-256, a point off the curve"
+form_text CompressedPoint = codes "ECDSA P-256, a compressed point"
+form_text NoPoint = codes "ECDSA P-256, no point"
+
+-- what is asked of a key with this algorithm
+abbrev pub asked_text : KeyForm → List ℕ
+asked_text (RsaKey count exponent) = codes "RFC 7935 3 asks 2048 bits, exponent 65537"
+asked_text EvenModulus = codes "RFC 7935 3 asks 2048 bits, exponent 65537"
+asked_text NoRsaKey = codes "RFC 7935 3 asks 2048 bits, exponent 65537"
+asked_text _ = codes "RFC 8608 3.1 asks an uncompressed point of the curve"
+
+-- a key, and what is asked of it where it can't be used
+abbrev pub key_text : KeyAnswer → List ℕ
+key_text key =
+    if key.is_usable then form_text key.form
+    else form_text key.form ++ (codes " (not usable: " ++ (asked_text key.form ++ codes ")"))

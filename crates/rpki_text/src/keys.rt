@@ -1,0 +1,95 @@
+//! What is said of a key.
+ghost use Rattle.std.specs.Prelude.{Some};
+ghost use Rattle.rpki_text.specs.KeyTexts.{IsKeyAnswer, exponent_text, form_text, asked_text, key_text};
+
+use rpki::crypto::PublicKey;
+use rpki::crypto::keys::{KeyForm, form_of, is_usable};
+use std::fmt;
+
+/// What a key is, and whether the RPKI uses it. It is printed as that, and where it can't be used
+/// with what is asked of it: `RSA, 2048 bits, exponent 65537`.
+#[derive(Clone, Copy)]
+pub struct KeyAnswer {
+    pub form: KeyForm,
+    pub is_usable: bool,
+}
+
+/// Returns what the key is, and whether the RPKI uses it.
+pub fn answer_of(key: &PublicKey) -> KeyAnswer
+    ensures { IsKeyAnswer key.now result }
+{
+    KeyAnswer {
+        form: form_of(key),
+        is_usable: is_usable(key),
+    }
+}
+
+// The exponent of an RSA key.
+#[derive(Clone, Copy)]
+struct Exponent(Option<u64>);
+
+impl fmt::Display for Exponent {
+    ghost output = { λ e. Some (exponent_text e.0) };
+
+    fn fmt<W: fmt::Write>(&self, f: &mut fmt::Formatter<W>) -> fmt::Result {
+        match self.0 {
+            Some(exponent) => write!(f, "exponent {exponent}"),
+            None => f.write_str("an exponent of 2^64 or more"),
+        }
+    }
+}
+
+// The form of a key.
+#[derive(Clone, Copy)]
+struct Form(KeyForm);
+
+impl fmt::Display for Form {
+    ghost output = { λ form. Some (form_text form.0) };
+
+    fn fmt<W: fmt::Write>(&self, f: &mut fmt::Formatter<W>) -> fmt::Result {
+        match self.0 {
+            KeyForm::RsaKey { bits, exponent } => {
+                let exponent = Exponent(exponent);
+                write!(f, "RSA, {bits} bits, {exponent}")
+            }
+            KeyForm::EvenModulus => f.write_str("RSA, an even modulus"),
+            KeyForm::NoRsaKey => f.write_str("RSA, no RSAPublicKey"),
+            KeyForm::Point => f.write_str("ECDSA P-256, an uncompressed point of the curve"),
+            KeyForm::OffCurve => f.write_str("ECDSA P-256, a point off the curve"),
+            KeyForm::CompressedPoint => f.write_str("ECDSA P-256, a compressed point"),
+            KeyForm::NoPoint => f.write_str("ECDSA P-256, no point"),
+        }
+    }
+}
+
+// What is asked of a key with this algorithm.
+#[derive(Clone, Copy)]
+struct Asked(KeyForm);
+
+impl fmt::Display for Asked {
+    ghost output = { λ form. Some (asked_text form.0) };
+
+    fn fmt<W: fmt::Write>(&self, f: &mut fmt::Formatter<W>) -> fmt::Result {
+        match self.0 {
+            KeyForm::RsaKey { .. } | KeyForm::EvenModulus | KeyForm::NoRsaKey => {
+                f.write_str("RFC 7935 3 asks 2048 bits, exponent 65537")
+            }
+            KeyForm::Point | KeyForm::OffCurve | KeyForm::CompressedPoint | KeyForm::NoPoint => {
+                f.write_str("RFC 8608 3.1 asks an uncompressed point of the curve")
+            }
+        }
+    }
+}
+
+impl fmt::Display for KeyAnswer {
+    ghost output = { λ key. Some (key_text key) };
+
+    fn fmt<W: fmt::Write>(&self, f: &mut fmt::Formatter<W>) -> fmt::Result {
+        let form = Form(self.form);
+        if self.is_usable {
+            return write!(f, "{form}");
+        }
+        let asked = Asked(self.form);
+        write!(f, "{form} (not usable: {asked})")
+    }
+}

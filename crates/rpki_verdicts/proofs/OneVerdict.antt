@@ -1,0 +1,152 @@
+-- Files have one verdict at most.
+use Rattle.std.specs.Prelude.{Option, Some, None, IsSome, IsNone}
+use Rattle.std.proofs.Common.{◌≡◌, ◌+◌, ◌++◌, ◌∷◌, [], ℕ, List, length, inl, inr, refl, sym, ap, subst, ◌∙◌, arith}
+use Rattle.std.proofs.lemmas.Bool.{true≢false, false≢true}
+use Rattle.std.proofs.lemmas.List.{same_from_push, length-append}
+use Rattle.rpki.specs.Asking.{RevocationChecks, nobody}
+use Rattle.rpki.specs.AskedLists.{by_lists}
+use Rattle.rpki.specs.Certificates.{TbsFields, CertFields, IsCertificate}
+use Rattle.rpki.specs.GivenPaths.{PathStrings, path_to, anchor_alone}
+use Rattle.rpki.specs.Judged.{Judged}
+use Rattle.rpki.specs.Judging.{IsAcceptedWith, IsRouterIfAny}
+use Rattle.rpki.specs.KeyForms.{IsUsableKey}
+use Rattle.rpki.specs.Kind.{Kind}
+use Rattle.rpki.specs.Kind.TheVariants.{Anchor, Authority, EndEntity, Detached, Router}
+use Rattle.rpki.specs.Lists.{CrlFields, CrlState, IsCertificateList}
+use Rattle.rpki.specs.Paths.{Path, Candidate, IsAccepted, certificate_at, last}
+use Rattle.rpki.specs.Values.{IsUnambiguous}
+use Rattle.rpki.specs.Verification.{Context, ResourceFields}
+use Rattle.rpki_der.proofs.Formats.{one_meant}
+use Rattle.rpki_path.proofs.Rejections as paths
+use Rattle.rpki_verdicts.specs.SaidKinds.{SaysKind, BeginsWithKind, IsJudgedAs}
+use Rattle.rpki_verdicts.specs.PathFiles.{HasJudgedLast, IsGivenBy, AreListsOf}
+use Rattle.rpki_verdicts.specs.PathAnswers.{last_certificate, last_key, IsUsablePath, IsVerdictOn, IsVerdictBy}
+use Rattle.rpki_verdicts.specs.PathAnswers.Steps.{IsKeyVerdict}
+use Rattle.rpki_verdicts.specs.declared.path.Fault.{Fault}
+use Rattle.rpki_verdicts.specs.declared.path.Verdict.{Verdict}
+use Rattle.rpki_verdicts.specs.declared.path.Verdict.TheVariants.{Accepted, Rejected}
+
+-- ---- one kind
+
+some_or_none : {A : Type 0} (o : Option A) → IsSome o → IsNone o → ⊥
+some_or_none None some none = false≢true some
+some_or_none (Some x) some none = true≢false none
+
+one_kind : (f : TbsFields) (a b : Kind) → SaysKind a f → SaysKind b f → a ≡ b
+one_kind f Anchor b p q = absurd p
+one_kind f a Anchor p q = absurd q
+one_kind f Router Router p q = refl
+one_kind f Router Authority p q = absurd (q.0 p)
+one_kind f Router EndEntity p q = absurd (q.0.0 p)
+one_kind f Router Detached p q = absurd (q.0.0 p)
+one_kind f Authority Router p q = absurd (p.0 q)
+one_kind f Authority Authority p q = refl
+one_kind f Authority EndEntity p q = absurd (q.0.1 p.1)
+one_kind f Authority Detached p q = absurd (q.0.1 p.1)
+one_kind f EndEntity Router p q = absurd (p.0.0 q)
+one_kind f EndEntity Authority p q = absurd (p.0.1 q.1)
+one_kind f EndEntity EndEntity p q = refl
+one_kind f EndEntity Detached p q = absurd (some_or_none f.extensions.access.signed_object p.1 q.1)
+one_kind f Detached Router p q = absurd (p.0.0 q)
+one_kind f Detached Authority p q = absurd (p.0.1 q.1)
+one_kind f Detached EndEntity p q = absurd (some_or_none f.extensions.access.signed_object q.1 p.1)
+one_kind f Detached Detached p q = refl
+
+module _ (one_certificate : IsUnambiguous IsCertificate) where
+  one_said : (octets : List ℕ) (a b : Kind) → BeginsWithKind a octets → BeginsWithKind b octets → a ≡ b
+  one_said octets a b p q =
+      let same = one_meant IsCertificate one_certificate p.0 q.0 octets p.1 q.1 in
+      one_kind q.0.fields a b (subst (λ (cert : CertFields). SaysKind a cert.fields) same p.2) q.2
+
+  one_judged : (octets : List ℕ) (a b : Kind) → IsJudgedAs a octets → IsJudgedAs b octets → a ≡ b
+  one_judged octets a b (inl p) (inl q) = one_said octets a b p q
+  one_judged octets a b (inl p) (inr q) = absurd (q.1 p.0 p.1)
+  one_judged octets a b (inr p) (inl q) = absurd (p.1 q.0 q.1)
+  one_judged octets a b (inr p) (inr q) = p.0 ∙ sym q.0
+
+  -- ---- one path
+
+  never_alone : (files : List (List ℕ)) (anchor : List ℕ) (g : PathStrings) → files ≡ anchor ∷ [] → HasJudgedLast files g → ⊥
+  never_alone files anchor g alone h =
+      let short = ap (λ (l : List (List ℕ)). length l) (sym alone ∙ h.split.strings_are) in
+      omega (arith, short, length-append h.split.cas (h.split.octets ∷ []))
+
+  one_last : (files : List (List ℕ)) (g h : PathStrings) → HasJudgedLast files g → HasJudgedLast files h → g ≡ h
+  one_last files g h a b =
+      let p = a.split in
+      let q = b.split in
+      let anchors : p.anchor ≡ q.anchor = cc (p.strings_are, q.strings_are) in
+      let below : p.cas ++ p.octets ∷ [] ≡ q.cas ++ q.octets ∷ [] = cc (p.strings_are, q.strings_are) in
+      let parts = same_from_push p.cas q.cas p.octets q.octets below in
+      let kinds = one_judged q.octets a.kind b.kind (subst (λ (octets : List ℕ). IsJudgedAs a.kind octets) parts.1 a.kind_is) b.kind_is in
+      let made : path_to p.anchor p.cas a.kind p.octets ≡ path_to q.anchor q.cas b.kind q.octets =
+      ap (λ (anchor : List ℕ). path_to anchor p.cas a.kind p.octets) anchors
+      ∙ ap (λ (cas : List (List ℕ)). path_to q.anchor cas a.kind p.octets) parts.0
+      ∙ ap (λ (kind : Kind). path_to q.anchor q.cas kind p.octets) kinds
+      ∙ ap (λ (octets : List ℕ). path_to q.anchor q.cas b.kind octets) parts.1
+      in
+      p.path_is ∙ made ∙ sym q.path_is
+
+  one_path : (files : List (List ℕ)) (g h : PathStrings) → IsGivenBy files g → IsGivenBy files h → g ≡ h
+  one_path files g h (inl p) (inl q) =
+      let anchors : p.0 ≡ q.0 = cc (p.1, q.1) in
+      p.2 ∙ ap anchor_alone anchors ∙ sym q.2
+  one_path files g h (inl p) (inr q) = absurd (never_alone files p.0 h p.1 q)
+  one_path files g h (inr p) (inl q) = absurd (never_alone files q.0 g q.1 p)
+  one_path files g h (inr p) (inr q) = one_last files g h p q
+
+  -- ---- one last certificate
+
+  one_holder : (x : Context) (asked : RevocationChecks) (anchor : List ℕ) (below : List Candidate) (r s : ResourceFields) → IsAccepted x asked anchor below [] r → IsAccepted x asked anchor below [] s → r.cert ≡ s.cert
+  one_holder x asked anchor below r s h k =
+      let same = paths.one_path one_certificate anchor below h.path k.path h.path_of k.path_of in
+      h.held.cert_is ∙ ap (λ (p : Path). certificate_at p (last p)) same ∙ sym k.held.cert_is
+
+  same_router : (x : Context) (asked : RevocationChecks) (octets : Option (List ℕ)) (r s : ResourceFields) (c d : Option CertFields) → r.cert ≡ s.cert → IsRouterIfAny x asked r octets c → IsRouterIfAny x asked s octets d → last_certificate r c ≡ last_certificate s d
+  same_router x asked None r s None None same h k = same
+  same_router x asked None r s None (Some d) same h k = absurd k
+  same_router x asked None r s (Some c) d same h k = absurd h
+  same_router x asked (Some octets) r s None d same h k = absurd h
+  same_router x asked (Some octets) r s (Some c) None same h k = absurd k
+  same_router x asked (Some octets) r s (Some c) (Some d) same h k = one_meant IsCertificate one_certificate c d octets h.0 k.0
+
+  -- a path that is accepted ends in one certificate
+  pub one_last_certificate : (x : Context) (asked : RevocationChecks) (g : PathStrings) (j i : Judged) → IsAcceptedWith x asked g j → IsAcceptedWith x asked g i → last_certificate j.holder j.router ≡ last_certificate i.holder i.router
+  one_last_certificate x asked g j i h k =
+      same_router x asked g.router j.holder i.holder j.router i.router (one_holder x asked g.anchor g.below j.holder i.holder h.accepted k.accepted) h.router k.router
+
+  -- what the last key makes of a valid path
+  pub key_verdict : (x : Context) (asked : RevocationChecks) (files : List (List ℕ)) (g : PathStrings) (judged : Judged) (place : ℕ) (v : Verdict) → IsAcceptedWith x asked g judged → place + 1 ≡ length files → IsKeyVerdict judged place v → IsVerdictOn x asked files g v
+  key_verdict x asked files g judged place (Accepted j) accepted end k = record {
+    accepted = subst (λ (i : Judged). IsAcceptedWith x asked g i) (sym k.0) accepted;
+    usable = subst (λ (i : Judged). IsUsableKey (last_key i)) (sym k.0) k.1;
+  }
+  key_verdict x asked files g judged place (Rejected fault) accepted end k = (
+    (λ j u. k.0 (subst (λ (c : CertFields). IsUsableKey c.fields.key) (one_last_certificate x asked g j judged u.accepted accepted) u.usable)),
+    inr (record { judged = judged; accepted = accepted; unusable = k.0; place_is = omega (arith, end, k.1); reason_is = k.2 }),
+  )
+
+  module _ (one_list : IsUnambiguous IsCertificateList) where
+    -- ---- the lists that are asked
+
+    same_state : (l k : CrlState) → l.list ≡ k.list → l.is_cached ≡ k.is_cached → l ≡ k
+    same_state l k lists cached = ap (λ (list : CrlFields). record { list = list; is_cached = l.is_cached }) lists ∙ ap (λ (b : _). record { list = k.list; is_cached = b }) cached
+
+    same_lists : (files : List (List ℕ)) (a b : List CrlState) → AreListsOf files a → AreListsOf files b → a ≡ b
+    same_lists [] a b p q = p ∙ sym q
+    same_lists (octets ∷ files) a b (inl p) (inl q) = same_lists files a b p.1 q.1
+    same_lists (octets ∷ files) a b (inl p) (inr q) = absurd (p.0 (q.0.list, q.2))
+    same_lists (octets ∷ files) a b (inr p) (inl q) = absurd (q.0 (p.0.list, p.2))
+    same_lists (octets ∷ files) a b (inr p) (inr q) =
+        let first = same_state p.0 q.0 (one_meant IsCertificateList one_list p.0.list q.0.list octets p.2 q.2) (p.3 ∙ sym q.3) in
+        let more = same_lists files p.1 q.1 p.4 q.4 in
+        p.5 ∙ ap (λ (l : CrlState). l ∷ p.1) first ∙ ap (λ (ls : List CrlState). q.0 ∷ ls) more ∙ sym q.5
+
+    -- files aren't both accepted and rejected
+    pub never_both : (x : Context) (files lists : List (List ℕ)) (j : Judged) (fault : Fault) → IsVerdictBy x files lists (Accepted j) → IsVerdictBy x files lists (Rejected fault) → ⊥
+    never_both x files [] j fault a b = b.2.0 j (subst (λ (g : PathStrings). IsUsablePath x nobody g j) (one_path files a.0 b.0 a.1 b.1) a.2)
+    never_both x files (list ∷ lists) j fault a b =
+        let read = same_lists (list ∷ lists) a.0 b.0 a.1 b.1 in
+        let paths = one_path files a.2.0 b.2.0 a.2.1 b.2.1 in
+        let usable = subst (λ (g : PathStrings). IsUsablePath x (by_lists x a.0) g j) paths a.2.2 in
+        b.2.2.0 j (subst (λ (ls : List CrlState). IsUsablePath x (by_lists x ls) b.2.0 j) read usable)

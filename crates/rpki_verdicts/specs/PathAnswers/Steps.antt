@@ -1,0 +1,22 @@
+-- What one step of judging files gives.
+use Rattle.std.specs.Prelude.{◌≡◌, ◌≤◌, ℕ, List, [], ◌∷◌, ◌++◌, length}
+use Rattle.rpki.specs.Judged.{Judged}
+use Rattle.rpki.specs.KeyForms.{IsUsableKey}
+use Rattle.rpki.specs.Kind.{Kind}
+use Rattle.rpki.specs.Kind.TheVariants.{Authority}
+use Rattle.rpki_files.specs.FaultRules.{key_reason}
+use Rattle.rpki_verdicts.specs.SaidKinds.{IsJudgedAs}
+use Rattle.rpki_verdicts.specs.PathAnswers.{last_key, reason_of}
+use Rattle.rpki_verdicts.specs.declared.path.Verdict.{Verdict}
+use Rattle.rpki_verdicts.specs.declared.path.Verdict.TheVariants.{Accepted, Rejected}
+
+-- as what the last of the files below the trust anchor's is judged; a CA where there is none
+pub record IsKindOfLast (files : List (List ℕ)) (kind : Kind) : Type 0 where
+  pub alone : length files ≤ 1 → kind ≡ Authority
+  pub judged : (anchor : List ℕ) (cas : List (List ℕ)) (last : List ℕ) → files ≡ anchor ∷ (cas ++ last ∷ []) → IsJudgedAs kind last
+
+-- what the last key makes of a valid path, whose last member stands at this place
+abbrev pub IsKeyVerdict : Judged → ℕ → Verdict → Type 0
+IsKeyVerdict judged place (Accepted j) = (j ≡ judged) × IsUsableKey (last_key judged)
+IsKeyVerdict judged place (Rejected fault) =
+    (IsUsableKey (last_key judged) → ⊥) × (fault.index ≡ place) × (reason_of fault ≡ key_reason (last_key judged).format)
