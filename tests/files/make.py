@@ -1,8 +1,9 @@
 #!/usr/bin/env python3
 """Makes the certificates and revocation lists of this folder anew, with new keys.
 
-    tests/files/make.py
+    tests/files/make.py [FOLDER..]
 
+With the names of folders it makes these alone: each has keys of its own.
 It writes DER by itself, from X.690, RFC 5280, RFC 3779, RFC 6487, RFC 8209 and
 RFC 8360; keys and signatures are made by the `openssl` command. The keys are
 lost. tests/verdicts tells of each file what is odd in it, and what is wanted.
@@ -66,10 +67,10 @@ RSA_SHA256 = seq(oid('1.2.840.113549.1.1.11'), NULL)
 class Key:
     """A key of the `openssl` command, in a folder that goes away."""
 
-    def __init__(self, room, name, *kind):
+    def __init__(self, room, name, *kind, form=()):
         self.file = room / f'{name}.key'
         run('genpkey', *kind, '-out', self.file)
-        self.info = run('pkey', '-in', self.file, '-pubout', '-outform', 'DER')
+        self.info = run('pkey', '-in', self.file, '-pubout', '-outform', 'DER', *form)
         self.identifier = sha1(self.bits())
 
     def bits(self):
@@ -419,25 +420,138 @@ def twins(ta, ca):
     yield 'stale.crl', revocation_list(ta, 7, begin='230101000000Z', end='250101000000Z')
 
 
-def main():
-    rsa = ('-algorithm', 'RSA', '-pkeyopt', 'rsa_keygen_bits:2048')
-    curve = ('-algorithm', 'EC', '-pkeyopt', 'ec_paramgen_curve:P-256')
+def sharing(ta, ca, leaf):
+    """Apart from the others: a CA and an end entity below it that name one URI, where each needs its
+    own issuer's list, and a list with its two moments exchanged."""
+    anchor = ca_extensions('ta', ta, ta, 'ta', ['0.0.0.0/0'], ['::/0'], [(0, 2**32 - 1)])
+    yield 'ta.cer', certificate(ta, ta, 1, changed(anchor, aki=None, lists=None, issuer=None))
+    one = lists_at(f'{SITE}/all.crl')
+    full = ca_extensions('ca', ca, ta, 'ta', **CA1)
+    yield 'ca.cer', certificate(ca, ta, 0x7f01, changed(full, lists=one))
+    end_entity = leaf_extensions(leaf, ca, 'ca', f'{SITE}/ca/object.roa')
+    yield 'ee.cer', certificate(leaf, ca, 0x7f02, changed(end_entity, lists=one))
+    yield 'ta.crl', revocation_list(ta, 7)
+    yield 'ca.crl', revocation_list(ca, 7)
+    yield 'ca_revoking.crl', revocation_list(ca, 8, [(0x7f02, '231213120054Z')])
+    yield 'ta_exchanged.crl', revocation_list(ta, 8, begin='250101000000Z', end=BEGIN)
+
+
+def noted(ca, key):
+    """Apart from the others: certificates of one key below a CA, each with one thing that is taken
+    although a standard forbids it. tests/notes tells which."""
+    full = ca_extensions('ca', key, ca, 'ta', **CA2)
+    leaf = leaf_extensions(key, ca, 'ca', f'{SITE}/ca/leaf.roa')
+
+    def made(extensions=full, *, more=None, **changes):
+        return certificate(key, ca, 0x7f01, changed(extensions, **changes), **(more or {}))
+    v4, v6 = seq(*map(ip_block, CA2['v4'])), seq(*map(ip_block, CA2['v6']))
+    families = [seq(octet_string(b'\0\1'), v4), seq(octet_string(b'\0\2'), v6)]
+    yield 'nothing', made()
+    yield 'nothing_leaf', made(leaf)
+    yield 'serial_zero', made(more={'serial_octets': number(0)})
+    yield 'serial_of_20_octets', made(more={'serial_octets': number(2**159 - 1)})
+    yield 'serial_of_21_octets', made(more={'serial_octets': number(2**159)})
+    yield 'issuer_utf8', made(more={'issuer_name': common_name('ca', 0x0c)})
+    yield 'subject_utf8', made(more={'subject': common_name('sub', 0x0c)})
+    yield 'router_utf8', made(
+        leaf, information=None, ip=None, purposes=extended_key_usage('1.3.6.1.5.5.7.3.30'),
+        more={'subject': common_name('ROUTER-0000FBF0', 0x0c)}, **{'as': systems([64496])})
+    yield 'leaf_with_notify', made(leaf, information=information(
+        object=f'{SITE}/ca/leaf.roa', notify='https://rpki.example.net/notification.xml'))
+    yield 'addresses_not_critical', made(ip=addresses(CA2['v4'], CA2['v6'], critical=False))
+    yield 'systems_not_critical', made(**{'as': systems(CA2['asn'], critical=False)})
+    yield 'addresses_unsorted', made(ip=addresses(CA2['v4'][::-1], CA2['v6']))
+    yield 'addresses_touching', made(ip=addresses(['10.0.0.0/9', '10.128.0.0/9'], CA2['v6']))
+    yield 'addresses_twice', made(ip=addresses(['10.0.0.0/9', '10.0.0.0/9'], CA2['v6']))
+    yield 'range_of_a_prefix', made(ip=addresses(['10.0.0.0-10.255.255.255'], CA2['v6']))
+    yield 'end_with_zeros', made(ip=addresses(
+        seq(seq(bits(address('10.0.0.0')), bits(address('10.0.2.255')))), CA2['v6']))
+    yield 'families_swapped', made(ip=extension('1.3.6.1.5.5.7.1.7', seq(*families[::-1]), True))
+    yield 'addresses_none', made(ip=addresses([], CA2['v6']))
+    yield 'systems_unsorted', made(**{'as': systems([64496, 3333])})
+    yield 'systems_touching', made(**{'as': systems([3333, 3334])})
+    yield 'range_of_one_system', made(**{'as': systems([(3333, 3333)])})
+    yield 'octets_behind_constraints', made(constraints=extension(
+        '2.5.29.19', seq(TRUE) + b'\0', True))
+    yield 'octets_behind_systems', made(**{'as': extension(
+        '1.3.6.1.5.5.7.1.8', seq(der(0xa0, seq(number(3333)))) + NULL, True)})
+    yield 'octets_in_an_unknown', made(other=extension('1.2.3.4', NULL + NULL))
+    yield 'several', made(
+        ip=addresses(CA2['v4'][::-1], CA2['v6'], critical=False),
+        **{'as': systems([64496, 3333], critical=False)}, more={'serial_octets': number(0)})
+    yield 'trimming', made(
+        policy=policy('1.3.6.1.5.5.7.14.3'),
+        ip=addresses(CA2['v4'][::-1], CA2['v6'], False, '1.3.6.1.5.5.7.1.28'),
+        **{'as': systems(CA2['asn'], identifier='1.3.6.1.5.5.7.1.29')})
+
+
+def keyed(ta, router, compressed, *keys):
+    """Apart from the others: a trust anchor and, below it, members whose keys the RPKI uses or not
+    (RFC 7935 3, RFC 8608 3.1), each signed by the trust anchor's."""
+    anchor = ca_extensions('ta', ta, ta, 'ta', ['0.0.0.0/0'], ['::/0'], [(0, 2**32 - 1)])
+    yield 'ta.cer', certificate(ta, ta, 1, changed(anchor, aki=None, lists=None, issuer=None))
+    for place, (name, key) in enumerate(zip(('2048', *SIZES), keys)):
+        full = ca_extensions('ca', key, ta, 'ta', **CA1)
+        yield f'ca_{name}', certificate(key, ta, 0x8f00 + place, changed(full))
+        leaf = leaf_extensions(key, ta, 'ta', f'{SITE}/ta/object.roa')
+        yield f'ee_{name}', certificate(key, ta, 0x8f10 + place, changed(leaf))
+    yield 'router', router_certificate(router, ta, 'ta', 0x8f20, [64496, (65000, 65009)])
+    yield 'router_compressed', router_certificate(compressed, ta, 'ta', 0x8f21, [64496])
+
+
+def wide(ta):
+    """Apart from the others: a trust anchor that lists 4,097 ranges of each kind."""
+    places = [(2 * at >> 8, 2 * at & 255) for at in range(4097)]
+    yield 'ta.cer', certificate(ta, ta, 1, changed(
+        ca_extensions(
+            'ta', ta, ta, 'ta', [f'10.{high}.{low}.0/24' for high, low in places],
+            [f'2001:db8:{2 * at:x}::/48' for at in range(4097)],
+            [65536 + 2 * at for at in range(4097)]),
+        aki=None, lists=None, issuer=None))
+
+
+# The folders, and the keys that the files of each take.
+FOLDERS = {'twins': (twins, ('ta', 'ca')), 'sharing': (sharing, ('ta', 'ca', 'leaf')),
+           'noted': (noted, ('ca', 'key')), 'wide': (wide, ('ta',)),
+           'keyed': (keyed, ('ta', 'router', 'compressed', '2048', '1024', '3072', 'exponent_3'))}
+RSA = ('-algorithm', 'RSA', '-pkeyopt', 'rsa_keygen_bits:2048')
+CURVE = ('-algorithm', 'EC', '-pkeyopt', 'ec_paramgen_curve:P-256')
+# Keys of other sizes, and on the curve, by their names; the others are RSA.
+SIZES = {'1024': (*RSA[:3], 'rsa_keygen_bits:1024'), '3072': (*RSA[:3], 'rsa_keygen_bits:3072'),
+         'exponent_3': (*RSA, '-pkeyopt', 'rsa_keygen_pubexp:3')}
+KINDS = {**SIZES, 'router': CURVE, 'compressed': CURVE}
+FORMS = {'compressed': ('-ec_conv_form', 'compressed')}
+
+
+def make_folder(room, folder):
+    """The files of a folder; a name without an ending is a certificate's."""
+    files, names = FOLDERS[folder]
+    (HERE / folder).mkdir(exist_ok=True)
+    for name, octets in files(*(
+            Key(room, name, *KINDS.get(name, RSA), form=FORMS.get(name, ())) for name in names)):
+        (HERE / folder / (name if '.' in name else f'{name}.cer')).write_bytes(octets)
+
+
+def make_top(room):
+    """The files that stand in no folder."""
+    ta, ca1, ca2, leaf = (Key(room, name, *RSA) for name in ('ta', 'ca1', 'ca2', 'leaf'))
+    router = Key(room, 'router', *CURVE)
+    second = ca_extensions('ca2', ca2, ca1, 'ca1', **CA2)
+    certificates = [*good_files(ta, ca1, ca2, leaf, router), *bad_files(ca1, ca2, second),
+                    *odd_files(ca1, ca2, second), *later_files(ta, ca1, ca2, leaf, router)]
+    for name, octets in certificates:
+        (HERE / f'{name}.cer').write_bytes(octets)
+    for name, octets in lists(ta, ca1, ca2):
+        (HERE / f'{name}.crl').write_bytes(octets)
+
+
+def main(folders):
     with tempfile.TemporaryDirectory() as room:
-        ta, ca1, ca2, leaf = (Key(Path(room), name, *rsa)
-                              for name in ('ta', 'ca1', 'ca2', 'leaf'))
-        router = Key(Path(room), 'router', *curve)
-        second = ca_extensions('ca2', ca2, ca1, 'ca1', **CA2)
-        certificates = [*good_files(ta, ca1, ca2, leaf, router),
-                        *bad_files(ca1, ca2, second), *odd_files(ca1, ca2, second),
-                        *later_files(ta, ca1, ca2, leaf, router)]
-        for name, octets in certificates:
-            (HERE / f'{name}.cer').write_bytes(octets)
-        for name, octets in lists(ta, ca1, ca2):
-            (HERE / f'{name}.crl').write_bytes(octets)
-        (HERE / 'twins').mkdir(exist_ok=True)
-        for name, octets in twins(*(Key(Path(room), name, *rsa) for name in ('ta', 'ca'))):
-            (HERE / 'twins' / name).write_bytes(octets)
+        if not folders:
+            make_top(Path(room))
+        for folder in folders or FOLDERS:
+            make_folder(Path(room), folder)
 
 
 if __name__ == '__main__':
-    sys.exit(main())
+    sys.exit(main(sys.argv[1:]))

@@ -1,13 +1,15 @@
 -- The parts of a command line that are added to a request, word by word.
-use Rattle.std.specs.Prelude.{codes, string_bytes, Option, Some, None, IfSome, Result, Ok, Err, OnOk}
-use Rattle.std.specs.declared.string.String.{String}
-use Rattle.std.proofs.Common.{◌≡◌, ℕ, ◌+◌, ◌<◌, ◌≤◌, List, [], ◌∷◌, ◌++◌, length, get_or, take, drop, refl, sym, ap, ◌∙◌, subst, Bor}
+use Rattle.std.specs.Prelude.{Option, Some, None, Result, Ok, Err, OnOk, IfErr}
+use Rattle.std.specs.declared.vec.Vec.{Vec}
+use Rattle.std.proofs.Common.{◌≡◌, ℕ, ◌+◌, ◌<◌, ◌≤◌, List, [], ◌∷◌, ◌++◌, length, get_or, take, drop, refl, sym, ap, ◌∙◌, inl, inr, ◌≢◌}
 use Rattle.std.proofs.lemmas.List.{append_assoc, append-nil, map-append, map_more, take-append-drop, take_all, drop_more}
 use Rattle.std.proofs.lemmas.List.Sums.{fold_push}
-use Rattle.rpki_command.specs.CommandLines.{IsOption, LinePart, file, list, AreParts, RequestFields, with_part}
-use Rattle.rpki_command.specs.CommandLines.Steps.{AddsPart, AddsParts, BeginsNoPart, TakesValue}
+use Rattle.rpki_command.specs.declared.arguments.Setting.{Setting}
+use Rattle.rpki_command.specs.declared.arguments.Setting.TheVariants.{Crl}
+use Rattle.rpki_command.specs.CommandLines.{IsOption, LinePart, file, list, AreParts, RequestFields, setting_name, with_files, with_part}
+use Rattle.rpki_command.specs.CommandLines.Steps.{AddsPart, AddsParts, AddsSet, BeginsNoPart, IsSet, Joins, Names}
 use Rattle.rpki_command.specs.CommandLines.Views.{word_octets}
-use Rattle.rpki_command.proofs.CommandParts.{one_more, none_behind, value_missing}
+use Rattle.rpki_command.proofs.CommandParts.{one_more, none_behind, value_missing, set_is_part, no_value, no_joined}
 
 -- ---- a name
 
@@ -17,23 +19,32 @@ file_added (Ok x) old names name e not_option = (file name, (refl, not_option), 
 file_added (Err x) old names name e not_option = e
 
 -- a list is added
-pub list_added : {T E : Type 0} (r : Result T E) (old : RequestFields) (names : List (List ℕ)) (option name : List ℕ) → OnOk r (names ≡ old.lists ++ name ∷ []) → option ≡ codes "--crl" → OnOk r (AddsPart (option ∷ name ∷ []) old (record old { lists = names }))
-list_added (Ok x) old names option name e is = (list name, ap (λ (w : List ℕ). w ∷ name ∷ []) is, ap (λ (l : List (List ℕ)). record old { lists = l }) e)
-list_added (Err x) old names option name e is = e
+pub list_added : {T E : Type 0} (r : Result T E) (old : RequestFields) (names : List (List ℕ)) (name : List ℕ) → OnOk r (names ≡ old.lists ++ name ∷ []) → OnOk r (AddsSet Crl name old (record old { lists = names }))
+list_added (Ok x) old names name e = (list name, refl, ap (λ (l : List (List ℕ)). record old { lists = l }) e)
+list_added (Err x) old names name e = e
+
+-- what an option says is added, whose value stands behind `=`
+pub joined_added : {T E : Type 0} (r : Result T E) (old new : RequestFields) (setting : Setting) (value word : List ℕ) → Joins setting value word → OnOk r (AddsSet setting value old new) → OnOk r (AddsPart (word ∷ []) old new)
+joined_added (Ok x) old new setting value word joins adds = (adds.0, set_is_part setting value adds.0 (word ∷ []) adds.1 (inr (ap (λ (w : List ℕ). w ∷ []) joins)), adds.2)
+joined_added (Err x) old new setting value word joins adds = adds
+
+-- and isn't where that says nothing
+pub joined_rejected : {T E : Type 0} (r : Result T E) (memory : E) (setting : Setting) (value word : List ℕ) → Joins setting value word → IfErr r (λ e. e ≢ memory → (part : LinePart) → IsSet setting value part → ⊥) → IfErr r (λ e. e ≢ memory → BeginsNoPart (word ∷ []))
+joined_rejected (Ok x) memory setting value word joins none = tt
+joined_rejected (Err e) memory setting value word joins none = λ not_memory. no_joined setting value (none not_memory) word joins
 
 -- ---- words that are gone over
 
 -- the option whose value comes next
-abbrev pub awaited : Option (Bor (List ℕ)) → List (List ℕ)
+abbrev pub awaited : Option Setting → List (List ℕ)
 awaited None = []
-awaited (Some option) = option.now ∷ []
+awaited (Some setting) = setting_name setting ∷ []
 
 -- the words are parts that were added, and perhaps an option whose value comes next
-pub record AreAdded (words : List (List ℕ)) (old new : RequestFields) (awaiting : Option (Bor (List ℕ))) : Type 0 where
+pub record AreAdded (words : List (List ℕ)) (old new : RequestFields) (awaiting : Option Setting) : Type 0 where
   pub front : List (List ℕ)
   pub added : AddsParts front old new
   pub words_are : words ≡ front ++ awaited awaiting
-  pub takes : IfSome awaiting (λ option. TakesValue option.now)
 
 -- one part more
 part_added : (words front its : List (List ℕ)) (old new newer : RequestFields) → words ≡ front ++ its → AddsParts front old new → AddsPart its new newer → AreAdded words old newer None
@@ -41,35 +52,41 @@ part_added words front its old new newer is h p = record {
   front = front ++ its;
   added = (h.0 ++ p.0 ∷ [], one_more h.0 front h.1 p.0 its p.1, p.2 ∙ ap (λ (r : RequestFields). with_part r p.0) h.2 ∙ sym (fold_push with_part old h.0 p.0));
   words_are = is ∙ sym (append-nil (front ++ its));
-  takes = tt;
 }
 
 -- ---- words of the command line, by their places
 
-module _ {Z : Type 0} (words : List (String Z)) (i : ℕ) (word : String Z) (low : i < length words) (there : word ≡ get_or words i word) where
+module _ {Z : Type 0} (words : List (Vec ℕ Z)) (i : ℕ) (word : Vec ℕ Z) (low : i < length words) (there : word ≡ get_or words i word) where
   -- those before the word, the word, and those behind it
-  words_split : word_octets words ≡ word_octets (take i words) ++ string_bytes word ∷ word_octets (drop (i + 1) words)
+  words_split : word_octets words ≡ word_octets (take i words) ++ word.items ∷ word_octets (drop (i + 1) words)
   words_split =
-      ap word_octets (sym (take-append-drop i words) ∙ ap (λ (l : List (String Z)). take i words ++ l) (drop_more words i word low)) ∙ map-append string_bytes (take i words) (get_or words i word ∷ drop (i + 1) words)
-      ∙ ap (λ (w : String Z). word_octets (take i words) ++ string_bytes w ∷ word_octets (drop (i + 1) words)) (sym there)
+      ap word_octets (sym (take-append-drop i words) ∙ ap (λ (l : List (Vec ℕ Z)). take i words ++ l) (drop_more words i word low)) ∙ map-append (λ (w : Vec ℕ Z). w.items) (take i words) (get_or words i word ∷ drop (i + 1) words)
+      ∙ ap (λ (w : Vec ℕ Z). word_octets (take i words) ++ w.items ∷ word_octets (drop (i + 1) words)) (sym there)
 
   -- the words up to it
-  words_more : word_octets (take (i + 1) words) ≡ word_octets (take i words) ++ string_bytes word ∷ []
-  words_more = map_more string_bytes words i word low ∙ ap (λ (w : String Z). word_octets (take i words) ++ string_bytes w ∷ []) (sym there)
+  words_more : word_octets (take (i + 1) words) ≡ word_octets (take i words) ++ word.items ∷ []
+  words_more = map_more (λ (w : Vec ℕ Z). w.items) words i word low ∙ ap (λ (w : Vec ℕ Z). word_octets (take i words) ++ w.items ∷ []) (sym there)
 
-  module _ (old new : RequestFields) (text : List ℕ) (text_is : text ≡ string_bytes word) where
-    module _ (option : Bor (List ℕ)) (so_far : AreAdded (word_octets (take i words)) old new (Some option)) where
+  -- the word is a file behind `--`
+  pub files_more : (start so_far : RequestFields) (names : List (List ℕ)) (text : List ℕ) → text ≡ word.items → so_far ≡ with_files start (word_octets (take i words)) → names ≡ so_far.files ++ text ∷ [] → record so_far { files = names } ≡ with_files start (word_octets (take (i + 1) words))
+  files_more start so_far names text text_is is added =
+      ap (λ (l : List (List ℕ)). record so_far { files = l }) (added ∙ ap (λ (t : List ℕ). so_far.files ++ t ∷ []) text_is)
+      ∙ ap (λ (r : RequestFields). record r { files = r.files ++ word.items ∷ [] }) is
+      ∙ ap (λ (l : List (List ℕ)). record start { files = l }) (append_assoc start.files (word_octets (take i words)) (word.items ∷ []) ∙ ap (λ (l : List (List ℕ)). start.files ++ l) (sym words_more))
+
+  module _ (old new : RequestFields) (text : List ℕ) (text_is : text ≡ word.items) where
+    module _ (setting : Setting) (so_far : AreAdded (word_octets (take i words)) old new (Some setting)) where
       -- the word is the value of an option
-      pub value_added : (newer : RequestFields) → AddsPart (option.now ∷ text ∷ []) new newer → AreAdded (word_octets (take (i + 1) words)) old newer None
+      pub value_added : (newer : RequestFields) → AddsSet setting text new newer → AreAdded (word_octets (take (i + 1) words)) old newer None
       value_added newer adds =
-          part_added (word_octets (take (i + 1) words)) so_far.front (option.now ∷ text ∷ []) old new newer
-          (words_more ∙ ap (λ (l : List (List ℕ)). l ++ string_bytes word ∷ []) so_far.words_are ∙ append_assoc so_far.front (option.now ∷ []) (string_bytes word ∷ []) ∙ ap (λ (w : List ℕ). so_far.front ++ option.now ∷ w ∷ []) (sym text_is)) so_far.added adds
+          part_added (word_octets (take (i + 1) words)) so_far.front (setting_name setting ∷ text ∷ []) old new newer
+          (words_more ∙ ap (λ (l : List (List ℕ)). l ++ word.items ∷ []) so_far.words_are ∙ append_assoc so_far.front (setting_name setting ∷ []) (word.items ∷ []) ∙ ap (λ (w : List ℕ). so_far.front ++ setting_name setting ∷ w ∷ []) (sym text_is)) so_far.added (adds.0, set_is_part setting text adds.0 (setting_name setting ∷ text ∷ []) adds.1 (inl refl), adds.2)
 
       -- the word is no value of the option
-      pub value_rejected : BeginsNoPart (option.now ∷ text ∷ []) → (parts : List LinePart) → AreParts parts (word_octets words) → ⊥
+      pub value_rejected : ((part : LinePart) → IsSet setting text part → ⊥) → (parts : List LinePart) → AreParts parts (word_octets words) → ⊥
       value_rejected none parts =
-          none_behind so_far.added.0 parts so_far.front (text ∷ []) (word_octets (drop (i + 1) words)) (word_octets words) option.now so_far.added.1 none
-          (words_split ∙ ap (λ (l : List (List ℕ)). l ++ string_bytes word ∷ word_octets (drop (i + 1) words)) so_far.words_are ∙ append_assoc so_far.front (option.now ∷ []) (string_bytes word ∷ word_octets (drop (i + 1) words)) ∙ ap (λ (w : List ℕ). so_far.front ++ option.now ∷ w ∷ word_octets (drop (i + 1) words)) (sym text_is))
+          none_behind so_far.added.0 parts so_far.front (text ∷ []) (word_octets (drop (i + 1) words)) (word_octets words) (setting_name setting) so_far.added.1 (no_value setting text none)
+          (words_split ∙ ap (λ (l : List (List ℕ)). l ++ word.items ∷ word_octets (drop (i + 1) words)) so_far.words_are ∙ append_assoc so_far.front (setting_name setting ∷ []) (word.items ∷ word_octets (drop (i + 1) words)) ∙ ap (λ (w : List ℕ). so_far.front ++ setting_name setting ∷ w ∷ word_octets (drop (i + 1) words)) (sym text_is))
 
     module _ (so_far : AreAdded (word_octets (take i words)) old new None) where
       front_is : word_octets (take i words) ≡ so_far.front
@@ -79,24 +96,23 @@ module _ {Z : Type 0} (words : List (String Z)) (i : ℕ) (word : String Z) (low
       pub word_added : (newer : RequestFields) → AddsPart (text ∷ []) new newer → AreAdded (word_octets (take (i + 1) words)) old newer None
       word_added newer adds =
           part_added (word_octets (take (i + 1) words)) so_far.front (text ∷ []) old new newer
-          (words_more ∙ ap (λ (l : List (List ℕ)). l ++ string_bytes word ∷ []) front_is ∙ ap (λ (w : List ℕ). so_far.front ++ w ∷ []) (sym text_is)) so_far.added adds
+          (words_more ∙ ap (λ (l : List (List ℕ)). l ++ word.items ∷ []) front_is ∙ ap (λ (w : List ℕ). so_far.front ++ w ∷ []) (sym text_is)) so_far.added adds
 
       -- the word is none
       pub word_rejected : BeginsNoPart (text ∷ []) → (parts : List LinePart) → AreParts parts (word_octets words) → ⊥
       word_rejected none parts =
           none_behind so_far.added.0 parts so_far.front [] (word_octets (drop (i + 1) words)) (word_octets words) text so_far.added.1 none
-          (words_split ∙ ap (λ (l : List (List ℕ)). l ++ string_bytes word ∷ word_octets (drop (i + 1) words)) front_is ∙ ap (λ (w : List ℕ). so_far.front ++ w ∷ word_octets (drop (i + 1) words)) (sym text_is))
+          (words_split ∙ ap (λ (l : List (List ℕ)). l ++ word.items ∷ word_octets (drop (i + 1) words)) front_is ∙ ap (λ (w : List ℕ). so_far.front ++ w ∷ word_octets (drop (i + 1) words)) (sym text_is))
 
       -- the word is an option whose value comes next
-      pub option_awaits : (option : Bor (List ℕ)) → option.now ≡ text → TakesValue text → AreAdded (word_octets (take (i + 1) words)) old new (Some option)
-      option_awaits option is takes = record {
+      pub option_awaits : (setting : Setting) → Names setting text → AreAdded (word_octets (take (i + 1) words)) old new (Some setting)
+      option_awaits setting names = record {
         front = so_far.front;
         added = so_far.added;
-        words_are = words_more ∙ ap (λ (l : List (List ℕ)). l ++ string_bytes word ∷ []) front_is ∙ ap (λ (w : List ℕ). so_far.front ++ w ∷ []) (sym (is ∙ text_is));
-        takes = subst TakesValue (sym is) takes;
+        words_are = words_more ∙ ap (λ (l : List (List ℕ)). l ++ word.items ∷ []) front_is ∙ ap (λ (w : List ℕ). so_far.front ++ w ∷ []) (sym text_is ∙ names);
       }
 
 -- all words were gone over, and an option's value is missing
-pub value_awaited : {Z : Type 0} (words : List (String Z)) (i : ℕ) (old new : RequestFields) (option : Bor (List ℕ)) → AreAdded (word_octets (take i words)) old new (Some option) → length words ≤ i → (parts : List LinePart) → AreParts parts (word_octets words) → ⊥
-value_awaited words i old new option so_far high parts =
-    value_missing so_far.added.0 parts so_far.front (word_octets words) option.now so_far.added.1 so_far.takes (ap word_octets (sym (take_all i words high)) ∙ so_far.words_are)
+pub value_awaited : {Z : Type 0} (words : List (Vec ℕ Z)) (i : ℕ) (old new : RequestFields) (setting : Setting) → AreAdded (word_octets (take i words)) old new (Some setting) → length words ≤ i → (parts : List LinePart) → AreParts parts (word_octets words) → ⊥
+value_awaited words i old new setting so_far high parts =
+    value_missing so_far.added.0 parts so_far.front (word_octets words) setting so_far.added.1 (ap word_octets (sym (take_all i words high)) ∙ so_far.words_are)

@@ -61,11 +61,11 @@ text_of_page bytes Holds page (Err e) p is = tt
 
 -- ---- a text for each file
 
-says_more : (Says : FileFields → List ℕ → Type 0) (files : List FileFields) (so_far : List ℕ) (file : FileFields) (text : List ℕ) → SaysOfEach Says files so_far → Says file text → SaysOfEach Says (files ++ file ∷ []) (so_far ++ text)
-says_more Says [] so_far file text is says =
-    (text, [], says, refl, ap (λ (l : List ℕ). l ++ text) is ∙ sym (append-nil text))
-says_more Says (f ∷ fs) so_far file text is says =
-    (is.0, is.1 ++ text, is.2, says_more Says fs is.1 file text is.3 says, ap (λ (l : List ℕ). l ++ text) is.4 ∙ append_assoc is.0 is.1 text)
+pub says_more : {X : Type 0} (Says : FileFields → List X → Type 0) (files : List FileFields) (so_far : List X) (file : FileFields) (text : List X) → SaysOfEach Says files so_far → Says file text → SaysOfEach Says (files ++ file ∷ []) (so_far ++ text)
+says_more {X} Says [] so_far file text is says =
+    (text, [], says, refl, ap (λ (l : List X). l ++ text) is ∙ sym (append-nil text))
+says_more {X} Says (f ∷ fs) so_far file text is says =
+    (is.0, is.1 ++ text, is.2, says_more Says fs is.1 file text is.3 says, ap (λ (l : List X). l ++ text) is.4 ∙ append_assoc is.0 is.1 text)
 
 module _ (Says : FileFields → List ℕ → Type 0) (files : List FileFields) where
   -- one file more

@@ -1,34 +1,64 @@
 -- The parts of a command line: words are one list of parts at most.
-use Rattle.std.specs.Prelude.{codes}
+use Rattle.std.specs.Prelude.{codes, Option, Some, None}
 use Rattle.std.specs.Str.{bytes_eq}
-use Rattle.std.proofs.Common.{◌≡◌, ℕ, Bool, true, false, cond, inl, inr, List, [], ◌∷◌, ◌++◌, refl, sym, ap, ◌∙◌, subst, lit<}
+use Rattle.std.proofs.Common.{◌≡◌, ◌==◌, ◌<◌, ℕ, Bool, true, false, cond, inl, inr, List, [], ◌∷◌, ◌++◌, length, refl, sym, ap, ◌∙◌, subst, lit<, arith}
+use Rattle.std.proofs.lemmas.Bool.{eqb-true}
 use Rattle.std.proofs.lemmas.Slice.Eq.{bytes_eq-Decides}
 use Rattle.std.proofs.lemmas.List.{append_assoc, append-nil}
-use Rattle.rpki.specs.Times.{Moment}
-use Rattle.rpki_text.specs.MomentTexts.{IsMomentText}
-use Rattle.rpki_command.specs.CommandLines.{IsOption, LinePart, file, list, at_moment, lenient, json, all, help, IsPart, AreParts}
-use Rattle.rpki_command.specs.CommandLines.Steps.{BeginsNoPart, TakesValue}
+use Rattle.rpki_command.specs.declared.arguments.Setting.{Setting}
+use Rattle.rpki_command.specs.declared.arguments.Setting.TheVariants.{Crl, At, MaxSize}
+use Rattle.rpki_command.specs.CommandLines.{IsOption, LinePart, file, list, at_moment, max_size, lenient, json, all, help, setting_name, Gives, IsPart, AreParts}
+use Rattle.rpki_command.specs.CommandLines.Steps.{BeginsNoPart, IsSet, IsSwitch, Joins, Names}
 use Rattle.rpki_text.proofs.OneMoment.{one_moment}
 
 -- ---- the first word
 
--- what a first word is: a part by itself, or an option that takes a value
+-- what a first word is: a part by itself, an option whose value comes next, or an option and its value
 data Sort : Type 0 where
   single : LinePart → Sort
-  before_list before_moment : Sort
+  before : Setting → Sort
+  joining : Setting → List ℕ → Sort
+
+-- what stands in a word behind a text
+stripped : List ℕ → List ℕ → Option (List ℕ)
+stripped [] word = Some word
+stripped (c ∷ cs) [] = None
+stripped (c ∷ cs) (w ∷ ws) = cond (w == c) (stripped cs ws) None
+
+-- an option and its value, where there is one, or else another sort
+joining_or : Setting → Option (List ℕ) → Sort → Sort
+joining_or setting None sort = sort
+joining_or setting (Some value) sort = joining setting value
 
 -- the sort of a word
 sort_of : List ℕ → Sort
 sort_of word =
-    cond (bytes_eq word (codes "--crl")) before_list
-    (cond (bytes_eq word (codes "--at")) before_moment
+    cond (bytes_eq word (codes "--crl")) (before Crl)
+    (cond (bytes_eq word (codes "--at")) (before At)
+    (cond (bytes_eq word (codes "--max-size")) (before MaxSize)
     (cond (bytes_eq word (codes "--lenient")) (single lenient)
     (cond (bytes_eq word (codes "--json")) (single json)
     (cond (bytes_eq word (codes "-j")) (single json)
     (cond (bytes_eq word (codes "--all")) (single all)
     (cond (bytes_eq word (codes "--help")) (single help)
     (cond (bytes_eq word (codes "-h")) (single help)
-    (single (file word)))))))))
+    (joining_or Crl (stripped (codes "--crl=") word)
+    (joining_or At (stripped (codes "--at=") word)
+    (joining_or MaxSize (stripped (codes "--max-size=") word)
+    (single (file word)))))))))))))
+
+-- an option that takes a value
+named : (setting : Setting) → sort_of (setting_name setting) ≡ before setting
+unfolding sort_of
+named Crl = refl
+named At = refl
+named MaxSize = refl
+
+joined : (setting : Setting) (value : List ℕ) → sort_of (setting_name setting ++ codes "=" ++ value) ≡ joining setting value
+unfolding sort_of stripped joining_or
+joined Crl value = refl
+joined At value = refl
+joined MaxSize value = refl
 
 -- a file isn't this option
 unlike : (word option : List ℕ) → (IsOption word → ⊥) → IsOption option → bytes_eq word option ≡ false
@@ -41,30 +71,60 @@ unlike word option not_option is_option =
     ] in
     split (bytes_eq word option) decides.0
 
+none_if : (b : Bool) (o : Option (List ℕ)) → (b ≡ true → ⊥) → cond b o None ≡ None
+none_if true o never = absurd (never refl)
+none_if false o never = refl
+
+either_none : (b : Bool) (o : Option (List ℕ)) → o ≡ None → cond b o None ≡ None
+either_none true o is = is
+either_none false o is = refl
+
+-- and doesn't begin with two hyphens
+not_stripped : (cs word : List ℕ) → (IsOption word → ⊥) → stripped (45 ∷ 45 ∷ cs) word ≡ None
+unfolding stripped
+not_stripped cs [] not_option = refl
+not_stripped cs (w ∷ []) not_option = either_none (w == 45) _ refl
+not_stripped cs (w ∷ v ∷ ws) not_option =
+    none_if (w == 45) _ (λ same. let long : 1 < length (w ∷ v ∷ ws) = omega arith in not_option (eqb-true w 45 same, long))
+
 -- a file is a part by itself
 file_sort : (word : List ℕ) → (IsOption word → ⊥) → sort_of word ≡ single (file word)
-unfolding sort_of
+unfolding sort_of joining_or
 file_sort word not_option =
-    rw (unlike word (codes "--crl") not_option (refl, lit< tt), unlike word (codes "--at") not_option (refl, lit< tt), unlike word (codes "--lenient") not_option (refl, lit< tt), unlike word (codes "--json") not_option (refl, lit< tt), unlike word (codes "-j") not_option (refl, lit< tt), unlike word (codes "--all") not_option (refl, lit< tt), unlike word (codes "--help") not_option (refl, lit< tt), unlike word (codes "-h") not_option (refl, lit< tt)) refl
+    rw (unlike word (codes "--crl") not_option (refl, lit< tt), unlike word (codes "--at") not_option (refl, lit< tt), unlike word (codes "--max-size") not_option (refl, lit< tt), unlike word (codes "--lenient") not_option (refl, lit< tt), unlike word (codes "--json") not_option (refl, lit< tt), unlike word (codes "-j") not_option (refl, lit< tt), unlike word (codes "--all") not_option (refl, lit< tt), unlike word (codes "--help") not_option (refl, lit< tt), unlike word (codes "-h") not_option (refl, lit< tt), not_stripped (codes "crl=") word not_option, not_stripped (codes "at=") word not_option, not_stripped (codes "max-size=") word not_option) refl
 
 -- ---- a part
 
--- a part is one word of its own sort, or an option with a value
+-- an option with its value is one part
+one_set : (setting : Setting) (value : List ℕ) (p q : LinePart) → IsSet setting value p → IsSet setting value q → p ≡ q
+one_set Crl value p q h k = h ∙ sym k
+one_set At value p q h k = h.1 ∙ ap at_moment (one_moment h.0 k.0 value h.3 k.3) ∙ sym k.1
+one_set MaxSize value p q h k = h.1 ∙ ap max_size (sym h.2.1 ∙ k.2.1) ∙ sym k.1
+
+-- a part is one word of its own sort, or an option with a value, in two words or one
 data Shape : LinePart → List (List ℕ) → Type 0 where
   alone : (part : LinePart) (word : List ℕ) → sort_of word ≡ single part → Shape part (word ∷ [])
-  with_list : (option name : List ℕ) → sort_of option ≡ before_list → Shape (list name) (option ∷ name ∷ [])
-  with_moment : (option text : List ℕ) (m : Moment) → sort_of option ≡ before_moment → IsMomentText m text → Shape (at_moment m) (option ∷ text ∷ [])
+  apart : (setting : Setting) (option value : List ℕ) (part : LinePart) → sort_of option ≡ before setting → IsSet setting value part → Shape part (option ∷ value ∷ [])
+  in_one : (setting : Setting) (word value : List ℕ) (part : LinePart) → sort_of word ≡ joining setting value → IsSet setting value part → Shape part (word ∷ [])
 
 -- one word of the part's sort
 alone_is : (part : LinePart) (words : List (List ℕ)) (word : List ℕ) → words ≡ word ∷ [] → sort_of word ≡ single part → Shape part words
 alone_is part words word is sort = subst (λ (l : List (List ℕ)). Shape part l) (sym is) (alone part word sort)
 
+-- an option with its value
+given : (setting : Setting) (value : List ℕ) (part : LinePart) (words : List (List ℕ)) → IsSet setting value part → Gives setting value words → Shape part words
+given setting value part words set (inl is) =
+    subst (λ (l : List (List ℕ)). Shape part l) (sym is) (apart setting (setting_name setting) value part (named setting) set)
+given setting value part words set (inr is) =
+    subst (λ (l : List (List ℕ)). Shape part l) (sym is) (in_one setting (setting_name setting ++ codes "=" ++ value) value part (joined setting value) set)
+
 -- the words of a part have its shape
 shape : (part : LinePart) (words : List (List ℕ)) → IsPart part words → Shape part words
 unfolding sort_of
 shape (file name) words h = alone_is (file name) words name h.0 (file_sort name h.1)
-shape (list name) words h = subst (λ (l : List (List ℕ)). Shape (list name) l) (sym h) (with_list (codes "--crl") name refl)
-shape (at_moment m) words h = subst (λ (l : List (List ℕ)). Shape (at_moment m) l) (sym h.1) (with_moment (codes "--at") h.0 m refl h.3)
+shape (list name) words h = given Crl name (list name) words refl h
+shape (at_moment m) words h = given At h.0 (at_moment m) words (m, refl, h.2, h.3) h.1
+shape (max_size n) words h = given MaxSize h.0 (max_size n) words (n, refl, h.2) h.1
 shape lenient words h = alone_is lenient words (codes "--lenient") h refl
 shape json words (inl h) = alone_is json words (codes "--json") h refl
 shape json words (inr h) = alone_is json words (codes "-j") h refl
@@ -72,62 +132,133 @@ shape all words h = alone_is all words (codes "--all") h refl
 shape help words (inl h) = alone_is help words (codes "--help") h refl
 shape help words (inr h) = alone_is help words (codes "-h") h refl
 
+-- an option with its value is a part
+pub set_is_part : (setting : Setting) (value : List ℕ) (part : LinePart) (words : List (List ℕ)) → IsSet setting value part → Gives setting value words → IsPart part words
+set_is_part Crl value part words set gives = subst (λ (p : LinePart). IsPart p words) (sym set) gives
+set_is_part At value part words set gives = subst (λ (p : LinePart). IsPart p words) (sym set.1) (value, gives, set.2, set.3)
+set_is_part MaxSize value part words set gives = subst (λ (p : LinePart). IsPart p words) (sym set.1) (value, gives, set.2)
+
 -- words begin with one part at most
 same_front : (p q : LinePart) (a b x y : List (List ℕ)) → Shape p a → Shape q b → a ++ x ≡ b ++ y → (p ≡ q) × (x ≡ y)
 same_front _ _ _ _ x y (alone p v s) (alone q w t) e =
     let words : v ≡ w = cc in
     let sorts : single p ≡ single q = sym s ∙ ap sort_of words ∙ t in
     (cc, cc)
-same_front _ _ _ _ x y (alone p v s) (with_list w name t) e =
+same_front _ _ _ _ x y (alone p v s) (apart set w value q t is) e =
     let words : v ≡ w = cc in
-    let sorts : single p ≡ before_list = sym s ∙ ap sort_of words ∙ t in
+    let sorts : single p ≡ before set = sym s ∙ ap sort_of words ∙ t in
     absurd cc
-same_front _ _ _ _ x y (alone p v s) (with_moment w text m t is) e =
+same_front _ _ _ _ x y (alone p v s) (in_one set w value q t is) e =
     let words : v ≡ w = cc in
-    let sorts : single p ≡ before_moment = sym s ∙ ap sort_of words ∙ t in
+    let sorts : single p ≡ joining set value = sym s ∙ ap sort_of words ∙ t in
     absurd cc
-same_front _ _ _ _ x y (with_list v name s) (alone q w t) e =
+same_front _ _ _ _ x y (apart set v value p s is) (alone q w t) e =
     let words : v ≡ w = cc in
-    let sorts : before_list ≡ single q = sym s ∙ ap sort_of words ∙ t in
+    let sorts : before set ≡ single q = sym s ∙ ap sort_of words ∙ t in
     absurd cc
-same_front _ _ _ _ x y (with_list v name s) (with_list w other t) e =
-    let names : name ≡ other = cc in
-    (ap list names, cc)
-same_front _ _ _ _ x y (with_list v name s) (with_moment w text m t is) e =
+same_front _ _ _ _ x y (apart set v value p s is) (apart other w another q t is_too) e =
     let words : v ≡ w = cc in
-    let sorts : before_list ≡ before_moment = sym s ∙ ap sort_of words ∙ t in
-    absurd cc
-same_front _ _ _ _ x y (with_moment v text m s is) (alone q w t) e =
+    let sorts : before set ≡ before other = sym s ∙ ap sort_of words ∙ t in
+    let settings : set ≡ other = cc in
+    let values : value ≡ another = cc in
+    (one_set other another p q (subst (λ (l : List ℕ). IsSet other l p) values (subst (λ (o : Setting). IsSet o value p) settings is)) is_too, cc)
+same_front _ _ _ _ x y (apart set v value p s is) (in_one other w another q t is_too) e =
     let words : v ≡ w = cc in
-    let sorts : before_moment ≡ single q = sym s ∙ ap sort_of words ∙ t in
+    let sorts : before set ≡ joining other another = sym s ∙ ap sort_of words ∙ t in
     absurd cc
-same_front _ _ _ _ x y (with_moment v text m s is) (with_list w name t) e =
+same_front _ _ _ _ x y (in_one set v value p s is) (alone q w t) e =
     let words : v ≡ w = cc in
-    let sorts : before_moment ≡ before_list = sym s ∙ ap sort_of words ∙ t in
+    let sorts : joining set value ≡ single q = sym s ∙ ap sort_of words ∙ t in
     absurd cc
-same_front _ _ _ _ x y (with_moment v text m s is) (with_moment w other n t is_too) e =
-    let same : text ≡ other = cc in
-    (ap at_moment (one_moment m n other (subst (λ (l : List ℕ). IsMomentText m l) same is) is_too), cc)
+same_front _ _ _ _ x y (in_one set v value p s is) (apart other w another q t is_too) e =
+    let words : v ≡ w = cc in
+    let sorts : joining set value ≡ before other = sym s ∙ ap sort_of words ∙ t in
+    absurd cc
+same_front _ _ _ _ x y (in_one set v value p s is) (in_one other w another q t is_too) e =
+    let words : v ≡ w = cc in
+    let sorts : joining set value ≡ joining other another = sym s ∙ ap sort_of words ∙ t in
+    let settings : set ≡ other = cc in
+    let values : value ≡ another = cc in
+    (one_set other another p q (subst (λ (l : List ℕ). IsSet other l p) values (subst (λ (o : Setting). IsSet o value p) settings is)) is_too, cc)
 
 -- a part has words
 some_words : (part : LinePart) (words rest : List (List ℕ)) → Shape part words → words ++ rest ≡ [] → ⊥
 some_words _ _ rest (alone part word s) e = cc
-some_words _ _ rest (with_list option name s) e = cc
-some_words _ _ rest (with_moment option text m s is) e = cc
+some_words _ _ rest (apart setting option value part s is) e = cc
+some_words _ _ rest (in_one setting word value part s is) e = cc
 
--- an option that takes a value is no part by itself
-value_sort : (option : List ℕ) → TakesValue option → (part : LinePart) → sort_of option ≡ single part → ⊥
-unfolding sort_of
-value_sort option (inl is) part s = let sorts : before_list ≡ single part = ap sort_of (sym is) ∙ s in cc
-value_sort option (inr is) part s = let sorts : before_moment ≡ single part = ap sort_of (sym is) ∙ s in cc
+-- the name of an option that takes a value doesn't begin a part alone
+value_first : (setting : Setting) (part : LinePart) (words rest : List (List ℕ)) → Shape part words → setting_name setting ∷ [] ≡ words ++ rest → ⊥
+value_first setting _ _ rest (alone part word s) e =
+    let words : setting_name setting ≡ word = cc in
+    let sorts : before setting ≡ single part = sym (named setting) ∙ ap sort_of words ∙ s in
+    cc
+value_first setting _ _ rest (apart other option value part s is) e = cc
+value_first setting _ _ rest (in_one other word value part s is) e =
+    let words : setting_name setting ≡ word = cc in
+    let sorts : before setting ≡ joining other value = sym (named setting) ∙ ap sort_of words ∙ s in
+    cc
 
--- it doesn't begin a part alone
-value_first : (option : List ℕ) → TakesValue option → (part : LinePart) (words rest : List (List ℕ)) → Shape part words → option ∷ [] ≡ words ++ rest → ⊥
-value_first option takes _ _ rest (alone part word s) e =
-    let same : option ≡ word = cc in
-    value_sort option takes part (ap sort_of same ∙ s)
-value_first option takes _ _ rest (with_list first name s) e = cc
-value_first option takes _ _ rest (with_moment first text m s is) e = cc
+-- ---- words that begin no part
+
+module _ (setting : Setting) (value : List ℕ) (none : (part : LinePart) → IsSet setting value part → ⊥) where
+  no_apart : (part : LinePart) (its behind rest : List (List ℕ)) → Shape part its → (setting_name setting ∷ value ∷ []) ++ behind ≡ its ++ rest → ⊥
+  no_apart _ _ behind rest (alone part word s) e =
+      let words : setting_name setting ≡ word = cc in
+      let sorts : before setting ≡ single part = sym (named setting) ∙ ap sort_of words ∙ s in
+      cc
+  no_apart _ _ behind rest (apart other option another part s is) e =
+      let words : setting_name setting ≡ option = cc in
+      let sorts : before setting ≡ before other = sym (named setting) ∙ ap sort_of words ∙ s in
+      let settings : other ≡ setting = cc in
+      let values : another ≡ value = cc in
+      none part (subst (λ (l : List ℕ). IsSet setting l part) values (subst (λ (o : Setting). IsSet o another part) settings is))
+  no_apart _ _ behind rest (in_one other word another part s is) e =
+      let words : setting_name setting ≡ word = cc in
+      let sorts : before setting ≡ joining other another = sym (named setting) ∙ ap sort_of words ∙ s in
+      cc
+
+  -- an option before what isn't its value
+  pub no_value : BeginsNoPart (setting_name setting ∷ value ∷ [])
+  no_value part its behind rest is e = no_apart part its behind rest (shape part its is) e
+
+  no_in_one : (word : List ℕ) → Joins setting value word → (part : LinePart) (its behind rest : List (List ℕ)) → Shape part its → (word ∷ []) ++ behind ≡ its ++ rest → ⊥
+  no_in_one word joins _ _ behind rest (alone part first s) e =
+      let words : setting_name setting ++ codes "=" ++ value ≡ first = sym joins ∙ cc in
+      let sorts : joining setting value ≡ single part = sym (joined setting value) ∙ ap sort_of words ∙ s in
+      cc
+  no_in_one word joins _ _ behind rest (apart other option another part s is) e =
+      let words : setting_name setting ++ codes "=" ++ value ≡ option = sym joins ∙ cc in
+      let sorts : joining setting value ≡ before other = sym (joined setting value) ∙ ap sort_of words ∙ s in
+      cc
+  no_in_one word joins _ _ behind rest (in_one other first another part s is) e =
+      let words : setting_name setting ++ codes "=" ++ value ≡ first = sym joins ∙ cc in
+      let sorts : joining setting value ≡ joining other another = sym (joined setting value) ∙ ap sort_of words ∙ s in
+      let settings : other ≡ setting = cc in
+      let values : another ≡ value = cc in
+      none part (subst (λ (l : List ℕ). IsSet setting l part) values (subst (λ (o : Setting). IsSet o another part) settings is))
+
+  -- an option and, in the same word, what isn't its value
+  pub no_joined : (word : List ℕ) → Joins setting value word → BeginsNoPart (word ∷ [])
+  no_joined word joins part its behind rest is e = no_in_one word joins part its behind rest (shape part its is) e
+
+-- a word that is an option and none of those that there are
+module _ (word : List ℕ) (is_option : IsOption word) (unnamed : (setting : Setting) → Names setting word → ⊥) (unjoined : (setting : Setting) (value : List ℕ) → Joins setting value word → ⊥) (no_switch : (part : LinePart) → IsSwitch part word → ⊥) where
+  not_given : (setting : Setting) (value : List ℕ) (its behind rest : List (List ℕ)) → Gives setting value its → (word ∷ []) ++ behind ≡ its ++ rest → ⊥
+  not_given setting value its behind rest (inl is) e = unnamed setting cc
+  not_given setting value its behind rest (inr is) e = unjoined setting value cc
+
+  pub no_option : BeginsNoPart (word ∷ [])
+  no_option (file name) its behind rest is e = let same : word ≡ name = cc in is.1 (subst IsOption same is_option)
+  no_option (list name) its behind rest is e = not_given Crl name its behind rest is e
+  no_option (at_moment m) its behind rest is e = not_given At is.0 its behind rest is.1 e
+  no_option (max_size n) its behind rest is e = not_given MaxSize is.0 its behind rest is.1 e
+  no_option lenient its behind rest is e = no_switch lenient cc
+  no_option json its behind rest (inl is) e = no_switch json (inl cc)
+  no_option json its behind rest (inr is) e = no_switch json (inr cc)
+  no_option all its behind rest is e = no_switch all cc
+  no_option help its behind rest (inl is) e = no_switch help (inl cc)
+  no_option help its behind rest (inr is) e = no_switch help (inr cc)
 
 -- ---- parts one after the other
 
@@ -164,14 +295,14 @@ none_behind parts others front bad after words word h none is k =
     ] in
     empty f.more f.more_are
 
--- parts that are followed by an option alone that takes a value
-pub value_missing : (parts others : List LinePart) (front words : List (List ℕ)) (option : List ℕ) → AreParts parts front → TakesValue option → words ≡ front ++ option ∷ [] → AreParts others words → ⊥
-value_missing parts others front words option h takes is k =
-    let f = further parts others front (option ∷ []) h (subst (λ (l : List (List ℕ)). AreParts others l) is k) in
-    let empty : (more : List LinePart) → AreParts more (option ∷ []) → ⊥ =
-    λ more. elim more as (λ more. AreParts more (option ∷ []) → ⊥) [
+-- parts that are followed by an option whose value is missing
+pub value_missing : (parts others : List LinePart) (front words : List (List ℕ)) (setting : Setting) → AreParts parts front → words ≡ front ++ setting_name setting ∷ [] → AreParts others words → ⊥
+value_missing parts others front words setting h is k =
+    let f = further parts others front (setting_name setting ∷ []) h (subst (λ (l : List (List ℕ)). AreParts others l) is k) in
+    let empty : (more : List LinePart) → AreParts more (setting_name setting ∷ []) → ⊥ =
+    λ more. elim more as (λ more. AreParts more (setting_name setting ∷ []) → ⊥) [
       | [] ↦ λ e. cc
-      | p ∷ ps ↦ λ m. value_first option takes p m.0 m.1 (shape p m.0 m.2) m.4
+      | p ∷ ps ↦ λ m. value_first setting p m.0 m.1 (shape p m.0 m.2) m.4
     ] in
     empty f.more f.more_are
 

@@ -4,7 +4,7 @@ use Rattle.std.specs.Str.{bytes_eq}
 use Rattle.std.proofs.Common.{◌≡◌, ℕ, inl, inr, List, [], ◌∷◌, sym, ap, ◌∙◌, subst}
 use Rattle.rpki_command.specs.declared.arguments.Task.{Task}
 use Rattle.rpki_command.specs.declared.arguments.Task.TheVariants.{Show, Validate, Help, Version}
-use Rattle.rpki_command.specs.CommandLines.{IsTaskName, LinePart, AreParts, RequestFields, only_task, with_parts, Suits, IsCommandLine}
+use Rattle.rpki_command.specs.CommandLines.{IsTaskName, LinePart, AreParts, RequestFields, only_task, with_files, with_parts, words_before, words_behind, Suits, IsCommandLine}
 use Rattle.rpki_command.specs.CommandLines.Steps.{AddsParts}
 use Rattle.rpki_command.proofs.CommandParts.{one_list}
 
@@ -49,21 +49,28 @@ module _ (words : List (List ℕ)) (first : List ℕ) (rest : List (List ℕ)) (
   no_task none r h = none h.task (subst (λ (w : List ℕ). IsTaskName h.task w) (sym (same_words r h).0) h.task_is)
 
   -- those behind it are no parts
-  pub no_parts : ((parts : List LinePart) → AreParts parts rest → ⊥) → (r : RequestFields) → IsCommandLine r words → ⊥
-  no_parts none r h = none h.parts (subst (λ (l : List (List ℕ)). AreParts h.parts l) (sym (same_words r h).1) h.parts_are)
+  pub no_parts : ((parts : List LinePart) → AreParts parts (words_before rest) → ⊥) → (r : RequestFields) → IsCommandLine r words → ⊥
+  no_parts none r h = none h.parts (subst (λ (l : List (List ℕ)). AreParts h.parts (words_before l)) (sym (same_words r h).1) h.parts_are)
 
-  module _ (task : Task) (task_is : IsTaskName task first) (r : RequestFields) (adds : AddsParts rest (only_task task) r) where
+  module _ (task : Task) (task_is : IsTaskName task first) (mid r : RequestFields) (adds : AddsParts (words_before rest) (only_task task) mid) (files : r ≡ with_files mid (words_behind rest)) where
+    all_asked : r ≡ with_files (with_parts (only_task task) adds.0) (words_behind rest)
+    all_asked = files ∙ ap (λ (m : RequestFields). with_files m (words_behind rest)) adds.2
+
     -- it asks this
     pub asks : Suits r.task r → IsCommandLine r words
-    asks suits = record { first = first; rest = rest; words_are = words_are; task = task; task_is = task_is; parts = adds.0; parts_are = adds.1; asks = adds.2; suits = suits }
+    asks suits = record { first = first; rest = rest; words_are = words_are; task = task; task_is = task_is; parts = adds.0; parts_are = adds.1; asks = all_asked; suits = suits }
 
     -- it asks nothing else
     pub only : (other : RequestFields) → IsCommandLine other words → other ≡ r
     only other h =
         let same = same_words other h in
         let tasks = one_task task h.task first h.first same.0 task_is h.task_is in
-        let parts = one_list adds.0 h.parts rest adds.1 (subst (λ (l : List (List ℕ)). AreParts h.parts l) (sym same.1) h.parts_are) in
-        h.asks ∙ ap (λ (t : Task). with_parts (only_task t) h.parts) tasks ∙ ap (λ (l : List LinePart). with_parts (only_task task) l) parts ∙ sym adds.2
+        let parts = one_list adds.0 h.parts (words_before rest) adds.1 (subst (λ (l : List (List ℕ)). AreParts h.parts (words_before l)) (sym same.1) h.parts_are) in
+        h.asks
+        ∙ ap (λ (t : Task). with_files (with_parts (only_task t) h.parts) (words_behind h.rest)) tasks
+        ∙ ap (λ (l : List LinePart). with_files (with_parts (only_task task) l) (words_behind h.rest)) parts
+        ∙ ap (λ (l : List (List ℕ)). with_files (with_parts (only_task task) adds.0) (words_behind l)) (sym same.1)
+        ∙ sym all_asked
 
     -- the task doesn't suit what it asks
     pub unsuited : (Suits r.task r → ⊥) → (other : RequestFields) → IsCommandLine other words → ⊥

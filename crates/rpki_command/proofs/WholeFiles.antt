@@ -1,12 +1,14 @@
 -- The values of files have no floats.
 use Rattle.std.specs.List.{AllByRecursion}
 use Rattle.std.specs.Option.{option_map}
-use Rattle.std.specs.Prelude.{Option, codes}
+use Rattle.std.specs.Prelude.{Option, Some, None, codes}
 use Rattle.std.proofs.Common.{◌==◌, ℕ, List, ◌++◌, refl}
 use Rattle.serde_json.specs.Data.{Data}
 use Rattle.rpki.specs.AddressBits.{is_prefix, prefix_bits}
 use Rattle.rpki.specs.CertificateExtensions.{ExtensionFields}
 use Rattle.rpki.specs.Certificates.{TbsFields}
+use Rattle.rpki.specs.KeyForm.{KeyForm}
+use Rattle.rpki.specs.KeyForm.TheVariants.{RsaKey, EvenModulus, NoRsaKey, Point, OffCurve, CompressedPoint, NoPoint}
 use Rattle.rpki.specs.Kind.{Kind}
 use Rattle.rpki.specs.Lists.{ListFields}
 use Rattle.rpki.specs.Resources.{Resources, missing, inherit, blocks}
@@ -17,12 +19,17 @@ use Rattle.rpki.specs.Verification.{ResourceFields}
 use Rattle.rpki_cert.proofs.Reordering.{all_append}
 use Rattle.rpki_command.specs.JsonBlocks.{ends_json, block_json, numbers_json, resource_items, listed_items, held_items}
 use Rattle.rpki_command.specs.JsonFiles.{head_members, profiles_json, name_members, key_members, uri_member, uri_members, certificate_json, entry_json, list_json, rejection_json}
+use Rattle.rpki_command.specs.JsonKeys.{exponent_member, form_members, key_json}
+use Rattle.rpki_command.specs.JsonNotes.{note_json, notes_json}
 use Rattle.rpki_command.specs.JsonValues.{Pair}
 use Rattle.rpki_text.specs.Pages.{characters_text}
 use Rattle.rpki_command.specs.declared.as_json.Shown.{Shown}
 use Rattle.rpki_text.specs.declared.blocks.Family.{Family}
 use Rattle.rpki_text.specs.declared.blocks.Family.TheVariants.{V4, V6}
+use Rattle.rpki_notes.specs.declared.note.Note.{Note}
 use Rattle.rpki_text.specs.declared.certificate.Answers.{Answers}
+use Rattle.rpki_text.specs.declared.certificate.Findings.{Findings}
+use Rattle.rpki_text.specs.declared.keys.KeyAnswer.{KeyAnswer}
 use Rattle.rpki_files.specs.declared.places.Place.{Place}
 use Rattle.rpki_files.specs.declared.rules.Rule.{Rule}
 use Rattle.rpki_command.proofs.WholeValues.{IsWhole, AreWhole, none_whole, then_whole, both_whole, object_whole, array_whole, mapped_whole, if_whole, integer_whole, text_if_any_whole, count_if_any_whole}
@@ -46,7 +53,7 @@ resource_whole json whole name missing = tt
 resource_whole json whole name inherit = (object_whole _ (then_whole _ _ _ refl none_whole), tt)
 resource_whole json whole name (blocks bs) = mapped_whole json whole bs
 
-listed_whole : (x : ExtensionFields) → AllByRecursion IsWhole (listed_items x)
+pub listed_whole : (x : ExtensionFields) → AllByRecursion IsWhole (listed_items x)
 listed_whole x =
     all_whole _ _ (resource_whole numbers_json numbers_whole _ x.as_resources)
     (all_whole _ _ (resource_whole (block_json V4) (block_whole V4) _ x.v4_resources)
@@ -93,10 +100,34 @@ uris_whole x =
     (uri_whole (codes "signed_object") x.access.signed_object _
     (uri_whole (codes "notify_url") x.access.rpki_notify _ none_whole)))))
 
-pub certificate_whole : (file : Shown) (kind : Kind) (answers : Answers) (f : TbsFields) → IsWhole (certificate_json file kind answers f)
+exponent_whole : (exponent : Option ℕ) → AreWhole (exponent_member exponent)
+exponent_whole None = none_whole
+exponent_whole (Some e) = then_whole _ _ _ refl none_whole
+
+form_whole : (form : KeyForm) → AreWhole (form_members form)
+form_whole (RsaKey count exponent) = then_whole _ _ _ refl (exponent_whole exponent)
+form_whole EvenModulus = none_whole
+form_whole NoRsaKey = none_whole
+form_whole Point = none_whole
+form_whole OffCurve = none_whole
+form_whole CompressedPoint = none_whole
+form_whole NoPoint = none_whole
+
+pub key_whole : (key : KeyAnswer) → IsWhole (key_json key)
+unfolding key_json
+key_whole key =
+    object_whole _ (then_whole _ _ _ refl (then_whole _ _ _ refl (both_whole _ _ (form_whole key.form) (then_whole _ _ _ refl none_whole))))
+
+note_whole : (note : Note) → IsWhole (note_json note)
+note_whole note = object_whole _ (then_whole _ _ _ refl (then_whole _ _ _ refl (then_whole _ _ _ refl none_whole)))
+
+pub notes_whole : (notes : List Note) → IsWhole (notes_json notes)
+notes_whole notes = array_whole _ (mapped_whole note_json note_whole notes)
+
+pub certificate_whole : (file : Shown) (kind : Kind) (found : Findings) (notes : List Note) (f : TbsFields) → IsWhole (certificate_json file kind found notes f)
 unfolding certificate_json
-certificate_whole file kind answers f =
-    object_whole _ (both_whole _ _ (head_whole file) (then_whole _ _ _ refl (both_whole _ _ (names_whole f) (both_whole _ _ (keys_whole f.extensions) (both_whole _ _ (uris_whole f.extensions) (then_whole _ _ _ (array_whole _ (listed_whole f.extensions)) (then_whole _ _ _ (profiles_whole answers) (then_whole _ _ _ refl none_whole))))))))
+certificate_whole file kind found notes f =
+    object_whole _ (both_whole _ _ (head_whole file) (then_whole _ _ _ refl (both_whole _ _ (names_whole f) (both_whole _ _ (keys_whole f.extensions) (then_whole _ _ _ (key_whole found.key) (both_whole _ _ (uris_whole f.extensions) (then_whole _ _ _ (array_whole _ (listed_whole f.extensions)) (then_whole _ _ _ (profiles_whole found.answers) (then_whole _ _ _ (array_whole _ (mapped_whole note_json note_whole notes)) (then_whole _ _ _ refl none_whole))))))))))
 
 -- ---- a list
 

@@ -1,33 +1,106 @@
 -- The value of a verdict has no floats.
+use Rattle.std.specs.List.{AllByRecursion}
 use Rattle.std.specs.Prelude.{Option, Some, None}
-use Rattle.std.proofs.Common.{List, refl, subst, sym}
+use Rattle.std.proofs.Common.{◌==◌, if◌then◌else◌, ℕ, Bool, true, false, List, [], ◌∷◌, ◌++◌, inl, inr, refl, subst, sym}
 use Rattle.serde_json.specs.Data.{Data, string}
+use Rattle.rpki_cert.proofs.Reordering.{all_append}
 use Rattle.rpki_files.specs.Files.{FileFields}
-use Rattle.rpki_verdicts.specs.GivenPaths.{QuestionFields}
-use Rattle.rpki_command.specs.JsonVerdicts.{names_json, fault_json, answer_members, verdict_json, IsVerdictJson}
+use Rattle.rpki_verdicts.specs.PathFiles.{QuestionFields}
+use Rattle.rpki.specs.Certificates.{CertFields}
+use Rattle.rpki.specs.Verification.{ResourceFields}
+use Rattle.rpki_command.specs.JsonValues.{Pair}
+use Rattle.rpki_command.specs.JsonVerdicts.{AreAcceptedMembers, AreAnswerMembers, IsLeftItem, IsNoteItem, IsOtherItem, left_items, left_json, names_json, note_items, fault_json, no_list_json, router_json, verdict_json, IsVerdictJson}
+use Rattle.rpki_notes.specs.declared.note.Note.{Note}
+use Rattle.rpki_text.specs.declared.keys.KeyAnswer.{KeyAnswer}
+use Rattle.rpki_command.specs.VerdictTexts.{SaysOfEach}
 use Rattle.rpki_verdicts.specs.declared.path.Fault.{Fault}
-use Rattle.rpki_verdicts.specs.declared.path.Verdict.{Verdict}
 use Rattle.rpki_verdicts.specs.declared.path.Verdict.TheVariants.{Accepted, Rejected}
-use Rattle.rpki_command.proofs.WholeFiles.{held_whole}
-use Rattle.rpki_command.proofs.WholeValues.{IsWhole, AreWhole, none_whole, then_whole, both_whole, object_whole, array_whole, mapped_whole, text_if_any_whole}
+use Rattle.rpki_command.specs.declared.verdicts.Finding.{Finding}
+use Rattle.rpki_command.specs.declared.verdicts.Finding.TheVariants.{NotAList, Decided}
+use Rattle.rpki_command.proofs.WholeFiles.{held_whole, key_whole, listed_whole, notes_whole}
+use Rattle.rpki_command.proofs.WholeValues.{IsWhole, AreWhole, none_whole, then_whole, both_whole, object_whole, array_whole, mapped_whole, text_if_any_whole, integer_whole}
 
 names_whole : (files : List FileFields) → IsWhole (names_json files)
 names_whole files = array_whole _ (mapped_whole (λ file. string file.name) (λ file. refl) files)
+
+-- ---- what is said of each file
+
+AllWhole : List Data → Type 0
+AllWhole items = AllByRecursion IsWhole items
+
+each_whole : (Says : FileFields → List Data → Type 0) → ((file : FileFields) (items : List Data) → Says file items → AllWhole items) → (files : List FileFields) (items : List Data) → SaysOfEach Says files items → AllWhole items
+unfolding AllWhole
+each_whole Says whole [] items is = subst (λ (l : List Data). AllByRecursion IsWhole l) (sym is) tt
+each_whole Says whole (file ∷ files) items is =
+    subst (λ (l : List Data). AllByRecursion IsWhole l) (sym is.4) (all_append IsWhole is.0 is.1 (whole file is.0 is.2) (each_whole Says whole files is.1 is.3))
+
+other_whole : (file : FileFields) (items : List Data) → IsOtherItem file items → AllWhole items
+unfolding AllWhole
+other_whole file items (inl (begins, is)) = subst (λ (l : List Data). AllByRecursion IsWhole l) (sym is) tt
+other_whole file items (inr (none, is)) = subst (λ (l : List Data). AllByRecursion IsWhole l) (sym is) (refl, tt)
+
+left_whole : (name : List ℕ) (left : ℕ) → IsWhole (left_json name left)
+left_whole name left = object_whole _ (then_whole _ _ _ refl (then_whole _ _ _ refl none_whole))
+
+counted_whole : (b : Bool) (name : List ℕ) (left : ℕ) → AllWhole (if b then [] else left_json name left ∷ [])
+unfolding AllWhole
+counted_whole true name left = tt
+counted_whole false name left = (left_whole name left, tt)
+
+left_items_whole : (name : List ℕ) (left : Option ℕ) → AllWhole (left_items name left)
+unfolding AllWhole
+left_items_whole name None = tt
+left_items_whole name (Some left) = counted_whole (left == 0) name left
+
+left_item_whole : {V : Type 0} (encodes : V → List ℕ → Type 0) (file : FileFields) (items : List Data) → IsLeftItem encodes file items → AllWhole items
+left_item_whole encodes file items is = subst AllWhole (sym is.2) (left_items_whole file.name is.0)
+
+note_items_whole : (name : List ℕ) (notes : List Note) → AllWhole (note_items name notes)
+unfolding AllWhole
+note_items_whole name [] = tt
+note_items_whole name (note ∷ notes) = (object_whole _ (then_whole _ _ _ refl (then_whole _ _ _ (notes_whole (note ∷ notes)) none_whole)), tt)
+
+note_item_whole : (file : FileFields) (items : List Data) → IsNoteItem file items → AllWhole items
+note_item_whole file items is = subst AllWhole (sym is.2) (note_items_whole file.name is.0)
+
+items_whole : (items : List Data) → AllWhole items → AllByRecursion IsWhole items
+unfolding AllWhole
+items_whole items are = are
+
+-- ---- the answer
 
 fault_whole : (members : List FileFields) (fault : Fault) → IsWhole (fault_json members fault)
 unfolding fault_json
 fault_whole members fault =
     object_whole _ (then_whole _ _ _ refl (both_whole _ _ (text_if_any_whole _ _) (then_whole _ _ _ refl (then_whole _ _ _ refl (then_whole _ _ _ refl (then_whole _ _ _ refl none_whole))))))
 
-answer_whole : (members : List FileFields) (verdict : Option Verdict) → AreWhole (answer_members members verdict)
-answer_whole members None = then_whole _ _ _ refl none_whole
-answer_whole members (Some (Accepted holder)) = then_whole _ _ _ refl (then_whole _ _ _ (array_whole _ (held_whole holder)) none_whole)
-answer_whole members (Some (Rejected fault)) = then_whole _ _ _ refl (then_whole _ _ _ (fault_whole members fault) none_whole)
+no_list_whole : IsWhole no_list_json
+unfolding no_list_json
+no_list_whole = object_whole _ (then_whole _ _ _ refl (then_whole _ _ _ refl (then_whole _ _ _ refl (then_whole _ _ _ refl none_whole))))
 
-whole : (question : QuestionFields) (others : List FileFields) (verdict : Option Verdict) → IsWhole (verdict_json question others verdict)
+router_whole : (c : CertFields) (key : KeyAnswer) → IsWhole (router_json c key)
+unfolding router_json
+router_whole c key = object_whole _ (then_whole _ _ _ (array_whole _ (listed_whole c.fields.extensions)) (then_whole _ _ _ refl (then_whole _ _ _ (key_whole key) none_whole)))
+
+accepted_whole : (holder : ResourceFields) (router : Option CertFields) (pairs : List Pair) → AreAcceptedMembers holder router pairs → AreWhole pairs
+accepted_whole holder None pairs is = subst AreWhole (sym is) (then_whole _ _ _ refl (then_whole _ _ _ (array_whole _ (held_whole holder)) none_whole))
+accepted_whole holder (Some c) pairs is = subst AreWhole (sym is.2) (then_whole _ _ _ refl (then_whole _ _ _ (router_whole c is.0) (then_whole _ _ _ (array_whole _ (held_whole holder)) none_whole)))
+
+answer_whole : (members : List FileFields) (finding : Finding) (pairs : List Pair) → AreAnswerMembers members finding pairs → AreWhole pairs
+answer_whole members NotAList pairs is = subst AreWhole (sym is) (then_whole _ _ _ refl (then_whole _ _ _ no_list_whole none_whole))
+answer_whole members (Decided None) pairs is = subst AreWhole (sym is) (then_whole _ _ _ refl none_whole)
+answer_whole members (Decided (Some (Accepted j))) pairs is = accepted_whole j.holder j.router pairs is
+answer_whole members (Decided (Some (Rejected fault))) pairs is = subst AreWhole (sym is) (then_whole _ _ _ refl (then_whole _ _ _ (fault_whole members fault) none_whole))
+
+whole : (question : QuestionFields) (others left noted : List Data) (answer : List Pair) → AllByRecursion IsWhole others → AllByRecursion IsWhole left → AllByRecursion IsWhole noted → AreWhole answer → IsWhole (verdict_json question others left noted answer)
 unfolding verdict_json
-whole question others verdict =
-    object_whole _ (then_whole _ _ _ (names_whole question.members) (then_whole _ _ _ refl (then_whole _ _ _ (names_whole others) (both_whole _ _ (answer_whole question.members verdict) none_whole))))
+whole question others left noted answer others_are left_are noted_are answer_is =
+    object_whole _ (then_whole _ _ _ (names_whole question.members) (then_whole _ _ _ refl (then_whole _ _ _ (array_whole _ others_are) (then_whole _ _ _ (array_whole _ left_are) (then_whole _ _ _ (array_whole _ noted_are) (then_whole _ _ _ (integer_whole _) (both_whole _ _ answer_is none_whole)))))))
 
-pub verdict_whole : (question : QuestionFields) (verdict : Option Verdict) (value : Data) → IsVerdictJson question verdict value → IsWhole value
-verdict_whole question verdict value is = subst IsWhole (sym is.value_is) (whole question is.others verdict)
+pub verdict_whole : (question : QuestionFields) (finding : Finding) (value : Data) → IsVerdictJson question finding value → IsWhole value
+verdict_whole question finding value is =
+    let others = items_whole _ (each_whole _ other_whole question.lists is.others is.others_are) in
+    let of_members = items_whole _ (each_whole _ (left_item_whole _) question.members is.of_members is.of_members_are) in
+    let of_lists = items_whole _ (each_whole _ (left_item_whole _) question.lists is.of_lists is.of_lists_are) in
+    let noted = items_whole _ (each_whole _ note_item_whole question.members is.noted is.noted_are) in
+    subst IsWhole (sym is.value_is) (whole question is.others (is.of_members ++ is.of_lists) is.noted is.answer others (all_append IsWhole is.of_members is.of_lists of_members of_lists) noted (answer_whole question.members finding is.answer is.answer_is))

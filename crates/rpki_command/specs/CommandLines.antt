@@ -1,7 +1,13 @@
--- Which words behind the program's name are a command line, and what it asks (own).
-use Rattle.std.specs.Prelude.{◌≡◌, ◌≢◌, ◌<◌, ◌⊎◌, ℕ, List, [], ◌∷◌, ◌++◌, length, slice_index, Option, Some, None, Bool, true, false, fold, codes}
+-- Which words behind the program's name are a command line, and what it asks (own). A word is the
+-- octets that the system has.
+use Rattle.std.specs.List.{before_first, after_first}
+use Rattle.std.specs.Prelude.{◌≡◌, ◌≢◌, ◌<◌, ◌^◌, ◌⊎◌, ℕ, List, [], ◌∷◌, ◌++◌, length, slice_index, Option, Some, None, Bool, true, false, fold, codes}
+use Rattle.std.specs.Str.{bytes_eq}
+use Rattle.std.specs.Str.Parse.{IsNumeral, digits_value}
 use Rattle.rpki.specs.Times.{Moment, IsMoment}
 use Rattle.rpki_text.specs.MomentTexts.{IsMomentText}
+use Rattle.rpki_command.specs.declared.arguments.Setting.{Setting}
+use Rattle.rpki_command.specs.declared.arguments.Setting.TheVariants.{Crl, At, MaxSize}
 use Rattle.rpki_command.specs.declared.arguments.Task.{Task}
 use Rattle.rpki_command.specs.declared.arguments.Task.TheVariants.{Show, Validate, Help, Version}
 pub mod Views
@@ -20,17 +26,34 @@ IsTaskName Version word = (word ≡ codes "--version") ⊎ (word ≡ codes "-V")
 abbrev pub IsOption : List ℕ → Type 0
 IsOption word = (slice_index word 0 ≡ 0x2D) × (1 < length word)
 
+-- the name of an option that takes a value
+abbrev pub setting_name : Setting → List ℕ
+setting_name Crl = codes "--crl"
+setting_name At = codes "--at"
+setting_name MaxSize = codes "--max-size"
+
+-- the words give the option this value: as the next word, or behind `=`
+abbrev pub Gives : Setting → List ℕ → List (List ℕ) → Type 0
+Gives setting value words =
+    (words ≡ setting_name setting ∷ value ∷ []) ⊎ (words ≡ (setting_name setting ++ codes "=" ++ value) ∷ [])
+
+-- the text is a number below 2^64 in decimal digits
+abbrev pub IsNumberText : ℕ → List ℕ → Type 0
+IsNumberText n text = IsNumeral 10 text × (digits_value 10 text ≡ n) × (n < 2 ^ 64)
+
 -- what stands behind the task: files, and options, some with a value
 pub data LinePart : Type 0 where
   file list : List ℕ → LinePart
   at_moment : Moment → LinePart
+  max_size : ℕ → LinePart
   lenient json all help : LinePart
 
 -- the words are this part
 abbrev pub IsPart : LinePart → List (List ℕ) → Type 0
 IsPart (file name) words = (words ≡ name ∷ []) × (IsOption name → ⊥)
-IsPart (list name) words = words ≡ codes "--crl" ∷ name ∷ []
-IsPart (at_moment m) words = (text : List ℕ) × (words ≡ codes "--at" ∷ text ∷ []) × IsMoment m × IsMomentText m text
+IsPart (list name) words = Gives Crl name words
+IsPart (at_moment m) words = (text : List ℕ) × Gives At text words × IsMoment m × IsMomentText m text
+IsPart (max_size n) words = (text : List ℕ) × Gives MaxSize text words × IsNumberText n text
 IsPart lenient words = words ≡ codes "--lenient" ∷ []
 IsPart json words = (words ≡ codes "--json" ∷ []) ⊎ (words ≡ codes "-j" ∷ [])
 IsPart all words = words ≡ codes "--all" ∷ []
@@ -41,28 +64,51 @@ abbrev pub AreParts : List LinePart → List (List ℕ) → Type 0
 AreParts [] words = words ≡ []
 AreParts (part ∷ parts) words = (front : List (List ℕ)) × (rest : List (List ℕ)) × IsPart part front × AreParts parts rest × (words ≡ front ++ rest)
 
+-- the word `--`
+abbrev pub is_dashes : List ℕ → Bool
+is_dashes word = bytes_eq word (codes "--")
+
+-- the words before the first `--`
+abbrev pub words_before : List (List ℕ) → List (List ℕ)
+words_before words = before_first is_dashes words
+
+-- those behind it, which are files however they begin
+abbrev pub words_behind : List (List ℕ) → List (List ℕ)
+words_behind words = after_first is_dashes words
+
 -- ---- what they ask
 
 -- the task, the moment if one is given, whether names are read strictly, whether JSON and all
--- entries of a list are printed, the files, and those given as revocation lists
+-- entries of a list are printed, how many octets a file may have, the files, and those given as
+-- revocation lists
 pub record RequestFields : Type 0 where
   pub task : Task
   pub at : Option Moment
   pub strict : Bool
   pub json : Bool
   pub all_entries : Bool
+  pub max_size : ℕ
   pub files : List (List ℕ)
   pub lists : List (List ℕ)
 
+-- how many octets a file may have where no word says it: 64 MiB
+abbrev pub usual_size : ℕ
+usual_size = 67_108_864
+
 -- a task, and nothing more
 abbrev pub only_task : Task → RequestFields
-only_task task = record { task = task; at = None; strict = true; json = false; all_entries = false; files = []; lists = [] }
+only_task task = record { task = task; at = None; strict = true; json = false; all_entries = false; max_size = usual_size; files = []; lists = [] }
 
--- with what a further part says; of several moments the last one counts
+-- with more files
+abbrev pub with_files : RequestFields → List (List ℕ) → RequestFields
+with_files r names = record r { files = r.files ++ names }
+
+-- with what a further part says; of several moments or sizes the last one counts
 abbrev pub with_part : RequestFields → LinePart → RequestFields
 with_part r (file name) = record r { files = r.files ++ name ∷ [] }
 with_part r (list name) = record r { lists = r.lists ++ name ∷ [] }
 with_part r (at_moment m) = record r { at = Some m }
+with_part r (max_size n) = record r { max_size = n }
 with_part r lenient = record r { strict = false }
 with_part r json = record r { json = true }
 with_part r all = record r { all_entries = true }
@@ -78,7 +124,8 @@ Suits Show r = (r.files ≢ []) × (r.lists ≡ [])
 Suits Validate r = (r.files ≢ []) × (r.all_entries ≡ false)
 Suits _ r = Unit {0}
 
--- the words are a command line that asks this: the name of a task, and then parts
+-- the words are a command line that asks this: the name of a task, then parts, and perhaps `--` and
+-- files
 pub record IsCommandLine (r : RequestFields) (words : List (List ℕ)) : Type 0 where
   pub first : List ℕ
   pub rest : List (List ℕ)
@@ -86,6 +133,6 @@ pub record IsCommandLine (r : RequestFields) (words : List (List ℕ)) : Type 0 
   pub task : Task
   pub task_is : IsTaskName task first
   pub parts : List LinePart
-  pub parts_are : AreParts parts rest
-  pub asks : r ≡ with_parts (only_task task) parts
+  pub parts_are : AreParts parts (words_before rest)
+  pub asks : r ≡ with_files (with_parts (only_task task) parts) (words_behind rest)
   pub suits : Suits r.task r

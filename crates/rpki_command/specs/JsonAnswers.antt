@@ -5,6 +5,8 @@ use Rattle.rpki.specs.Certificates.{CertFields, IsCertificate}
 use Rattle.rpki.specs.Lists.{CrlFields, IsCertificateList}
 use Rattle.rpki_files.specs.Contents.{CanBeShown}
 use Rattle.rpki_files.specs.Files.{FileFields}
+use Rattle.rpki_notes.specs.Notes.{AreNotes}
+use Rattle.rpki_notes.specs.declared.note.Note.{Note}
 use Rattle.rpki_command.specs.JsonFiles.{IsCertificateJson, list_json, rejection_json}
 use Rattle.rpki_command.specs.JsonTexts.{json_lines}
 use Rattle.rpki_command.specs.ShownTexts.{BeginsBefore, IsRejection, SaysIf}
@@ -25,8 +27,10 @@ pub record IsCertificateFileJson (options : Options) (file : FileFields) (text :
   pub begins : BeginsBefore IsCertificate file.octets cert left
   pub shown : Shown
   pub shown_is : IsShown file left shown
+  pub notes : List Note
+  pub notes_are : AreNotes file.octets notes
   pub value : Data
-  pub value_is : IsCertificateJson options.strict shown cert value
+  pub value_is : IsCertificateJson options.strict shown cert notes value
   pub text_is : text ≡ json_lines value
 
 -- the file begins with a list, and this is its JSON

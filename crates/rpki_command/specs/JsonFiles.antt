@@ -17,13 +17,17 @@ use Rattle.rpki.specs.Overclaim.{Overclaim}
 use Rattle.rpki.specs.Overclaim.TheVariants.{Refuse, Trim}
 use Rattle.rpki.specs.RevokedEntries.{Entry, Revoked}
 use Rattle.rpki.specs.Texts.{serial_text}
-use Rattle.rpki_text.specs.CertificateTexts.{AreAnswers}
-use Rattle.rpki_verdicts.specs.GivenPaths.{SaysKind}
+use Rattle.rpki_text.specs.CertificateTexts.{AreFindings}
+use Rattle.rpki_verdicts.specs.SaidKinds.{SaysKind}
 use Rattle.rpki_command.specs.JsonBlocks.{listed_items}
+use Rattle.rpki_command.specs.JsonKeys.{key_json}
+use Rattle.rpki_command.specs.JsonNotes.{notes_json}
 use Rattle.rpki_command.specs.JsonValues.{Pair, moment_json, array_of, member_of, text_member, text_member_if_any, count_member_if_any, object_of, rule_members, place_members, flattened}
 use Rattle.rpki_text.specs.Pages.{characters_text, colons_text}
 use Rattle.rpki_files.specs.PemFiles.{base64_of}
+use Rattle.rpki_notes.specs.declared.note.Note.{Note}
 use Rattle.rpki_text.specs.declared.certificate.Answers.{Answers}
+use Rattle.rpki_text.specs.declared.certificate.Findings.{Findings}
 use Rattle.rpki_command.specs.declared.as_json.Shown.{Shown}
 use Rattle.rpki_files.specs.declared.places.Place.{Place}
 use Rattle.rpki_files.specs.declared.rules.Rule.{Rule}
@@ -112,26 +116,28 @@ uri_members x = flattened (
     ∷ uri_member (codes "notify_url") x.access.rpki_notify
     ∷ [])
 
--- a certificate of this kind, with what inspection answers
-unfoldable pub certificate_json : Shown → Kind → Answers → TbsFields → Data
-certificate_json file kind answers f = object_of (flattened (
+-- a certificate of this kind, of which this was found, with these notes
+unfoldable pub certificate_json : Shown → Kind → Findings → List Note → TbsFields → Data
+certificate_json file kind found notes f = object_of (flattened (
     head_members file
     ∷ text_member (codes "type") (type_word kind)
     ∷ name_members f
     ∷ key_members f.extensions
+    ∷ member_of (codes "key") (key_json found.key)
     ∷ uri_members f.extensions
     ∷ member_of (codes "subordinate_resources") (array_of (listed_items f.extensions))
-    ∷ member_of (codes "profiles") (profiles_json answers)
+    ∷ member_of (codes "profiles") (profiles_json found.answers)
+    ∷ member_of (codes "notes") (notes_json notes)
     ∷ signature_member
     ∷ []))
 
--- the value of the certificate that a file begins with
-pub record IsCertificateJson (strict : Bool) (file : Shown) (c : CertFields) (value : Data) : Type 0 where
+-- the value of the certificate that a file begins with, with these notes
+pub record IsCertificateJson (strict : Bool) (file : Shown) (c : CertFields) (notes : List Note) (value : Data) : Type 0 where
   pub kind : Kind
   pub kind_is : SaysKind kind c.fields
-  pub answers : Answers
-  pub answers_are : AreAnswers strict c answers
-  pub value_is : value ≡ certificate_json file kind answers c.fields
+  pub found : Findings
+  pub found_is : AreFindings strict c found
+  pub value_is : value ≡ certificate_json file kind found notes c.fields
 
 -- ---- a list
 

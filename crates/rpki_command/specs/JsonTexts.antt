@@ -1,12 +1,34 @@
 -- The text of a value of JSON.
-use Rattle.std.specs.Prelude.{ℕ, List, ◌++◌}
+use Rattle.std.specs.Char.Escape.{encode_utf16}
+use Rattle.std.specs.List.{flat_map}
+use Rattle.std.specs.Prelude.{ℕ, ◌/◌, ◌%◌, ◌==◌, ◌||◌, if◌then◌else◌, List, [], ◌∷◌, ◌++◌}
+use Rattle.std.specs.Str.{chars}
 use Rattle.json.specs.Layout.{pretty}
 use Rattle.json.specs.Tree.{json_tokens}
+use Rattle.rpki.specs.NameTexts.{is_visible}
+use Rattle.rpki.specs.Texts.{hexadecimal}
 use Rattle.serde_json.specs.Data.{Data}
 use Rattle.serde_json.specs.Written.{outline}
 use Rattle.rpki_text.specs.Pages.{line_feed}
 
+-- ---- in ASCII (RFC 8259 7)
+
+-- a 16-bit unit of a character: `\u` and four hexadecimal digits
+abbrev pub unit_text : ℕ → List ℕ
+unit_text unit = 92 ∷ 117 ∷ hexadecimal (unit / 256 ∷ unit % 256 ∷ [])
+
+-- a character: as it stands where it is visible ASCII, a space or a line feed, else by its units in
+-- UTF-16, so that no terminal is told anything by it
+abbrev pub ascii_character : ℕ → List ℕ
+ascii_character c = if is_visible c || (c == 10) then c ∷ [] else flat_map unit_text (encode_utf16 c)
+
+-- the characters of a text in UTF-8
+abbrev pub in_ascii : List ℕ → List ℕ
+in_ascii text = flat_map ascii_character (chars text)
+
+-- ---- a value
+
 -- a value without floats: each item and member on a line, two spaces deeper for each bracket, and a
 -- line end (own; RFC 8259)
 unfoldable pub json_lines : Data → List ℕ
-json_lines d = pretty (json_tokens (outline d)) ++ line_feed
+json_lines d = in_ascii (pretty (json_tokens (outline d))) ++ line_feed

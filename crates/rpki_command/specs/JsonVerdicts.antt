@@ -1,15 +1,26 @@
 -- The verdict on a path as JSON.
-use Rattle.std.specs.Prelude.{◌≡◌, ◌⊎◌, ℕ, Bool, true, false, List, [], ◌∷◌, map, codes, Option, Some, None, MatchOption}
+use Rattle.std.specs.Prelude.{◌≡◌, ◌⊎◌, ℕ, Bool, true, false, ◌==◌, if◌then◌else◌, List, [], ◌∷◌, ◌++◌, map, codes, Option, Some, None}
 use Rattle.serde_json.specs.Data.{Data, boolean, string}
+use Rattle.serde_json.specs.declared.value.Value.{Value}
+use Rattle.rpki.specs.Certificates.{CertFields, IsCertificate}
+use Rattle.rpki.specs.Lists.{IsCertificateList}
 use Rattle.rpki.specs.Verification.{Context, ResourceFields}
 use Rattle.rpki_files.specs.Contents.{BeginsWithList}
-use Rattle.rpki_files.specs.Files.{FileFields, contents}
-use Rattle.rpki_verdicts.specs.GivenPaths.{QuestionFields}
-use Rattle.rpki_command.specs.JsonBlocks.{held_items}
+use Rattle.rpki_files.specs.Files.{FileFields}
+use Rattle.rpki_verdicts.specs.PathFiles.{QuestionFields}
+use Rattle.rpki_command.specs.JsonBlocks.{held_items, listed_items}
+use Rattle.rpki_command.specs.JsonKeys.{key_json}
+use Rattle.rpki_command.specs.JsonNotes.{notes_json}
 use Rattle.rpki_command.specs.JsonTexts.{json_lines}
-use Rattle.rpki_command.specs.JsonValues.{Pair, flattened, count_json, array_of, member_of, text_member, text_member_if_any, object_of, rule_members}
-use Rattle.rpki_verdicts.specs.PathAnswers.{IsVerdictBy}
-use Rattle.rpki_command.specs.VerdictTexts.{file_name_at}
+use Rattle.rpki_notes.specs.Notes.{AreNotes}
+use Rattle.rpki_notes.specs.declared.note.Note.{Note}
+use Rattle.rpki_text.specs.KeyTexts.{IsKeyAnswer}
+use Rattle.rpki_text.specs.Pages.{colons_text}
+use Rattle.rpki_text.specs.declared.keys.KeyAnswer.{KeyAnswer}
+use Rattle.rpki_command.specs.JsonValues.{Entries, Pair, Puts, Pushes, flattened, count_json, array_of, member_of, moment_json, text_member, text_member_if_any, object_of, rule_members}
+use Rattle.rpki_command.specs.VerdictTexts.{IsFinding, Leaves, SaysOfEach, file_name_at}
+use Rattle.rpki_command.specs.declared.verdicts.Finding.{Finding}
+use Rattle.rpki_command.specs.declared.verdicts.Finding.TheVariants.{NotAList, Decided}
 use Rattle.rpki_verdicts.specs.declared.path.Fault.{Fault}
 use Rattle.rpki_verdicts.specs.declared.path.Verdict.{Verdict}
 use Rattle.rpki_verdicts.specs.declared.path.Verdict.TheVariants.{Accepted, Rejected}
@@ -25,12 +36,37 @@ abbrev pub has_lists : List FileFields → Bool
 has_lists [] = false
 has_lists (list ∷ lists) = true
 
--- of the files given as lists, those that begin with none
-abbrev pub AreNoLists : List FileFields → List FileFields → Type 0
-AreNoLists [] others = others ≡ []
-AreNoLists (file ∷ files) others =
-    (BeginsWithList file.octets × AreNoLists files others)
-    ⊎ ((BeginsWithList file.octets → ⊥) × ((more : List FileFields) × AreNoLists files more × (others ≡ file ∷ more)))
+-- of a file given as a list, its name where it begins with none
+abbrev pub IsOtherItem : FileFields → List Data → Type 0
+IsOtherItem file items =
+    (BeginsWithList file.octets × (items ≡ [])) ⊎ ((BeginsWithList file.octets → ⊥) × (items ≡ string file.name ∷ []))
+
+-- how many octets of a file stand behind what it begins with
+abbrev pub left_json : List ℕ → ℕ → Data
+left_json name left = object_of (flattened (text_member (codes "file") name ∷ member_of (codes "octets") (count_json left) ∷ []))
+
+-- the same where some do
+abbrev pub left_items : List ℕ → Option ℕ → List Data
+left_items name None = []
+left_items name (Some left) = if left == 0 then [] else left_json name left ∷ []
+
+abbrev pub IsLeftItem : {V : Type 0} → (V → List ℕ → Type 0) → FileFields → List Data → Type 0
+IsLeftItem encodes file items = (left : Option ℕ) × Leaves encodes file.octets left × (items ≡ left_items file.name left)
+
+-- the notes of a member, where it has some
+abbrev pub note_items : List ℕ → List Note → List Data
+note_items name [] = []
+note_items name (note ∷ notes) = object_of (flattened (
+    text_member (codes "file") name
+    ∷ member_of (codes "notes") (notes_json (note ∷ notes))
+    ∷ [])) ∷ []
+
+abbrev pub IsNoteItem : FileFields → List Data → Type 0
+IsNoteItem file items = (notes : List Note) × AreNotes file.octets notes × (items ≡ note_items file.name notes)
+
+-- some values of which this holds were pushed
+abbrev pub PushesSome : (List Data → Type 0) → List Value → List Value → Type 0
+PushesSome Holds old new = (items : List Data) × Holds items × Pushes items old new
 
 -- ---- the answer
 
@@ -51,44 +87,94 @@ accepted_members holder = flattened (
     ∷ member_of (codes "holds") (array_of (held_items holder))
     ∷ [])
 
+-- a router: what its certificate lists, and its key, of which this was found
+unfoldable pub router_json : CertFields → KeyAnswer → Data
+router_json c key = object_of (flattened (
+    member_of (codes "subordinate_resources") (array_of (listed_items c.fields.extensions))
+    ∷ text_member (codes "ski") (colons_text c.fields.extensions.subject_key_identifier)
+    ∷ member_of (codes "key") (key_json key)
+    ∷ []))
+
+-- that the path is accepted, the router that stands last, and what the CA above it holds
+abbrev pub router_members : ResourceFields → CertFields → KeyAnswer → List Pair
+router_members holder c key = flattened (
+    member_of (codes "accepted") (boolean true)
+    ∷ member_of (codes "router") (router_json c key)
+    ∷ member_of (codes "issuer_holds") (array_of (held_items holder))
+    ∷ [])
+
+-- what is held, where a router stands last or not
+abbrev pub AreAcceptedMembers : ResourceFields → Option CertFields → List Pair → Type 0
+AreAcceptedMembers holder None pairs = pairs ≡ accepted_members holder
+AreAcceptedMembers holder (Some c) pairs = (key : KeyAnswer) × IsKeyAnswer c.fields.key key × (pairs ≡ router_members holder c key)
+
+-- that some file given as a list is none
+unfoldable pub no_list_json : Data
+no_list_json = object_of (flattened (
+    text_member (codes "step") (codes "lists")
+    ∷ text_member (codes "fault") (codes "NotAList")
+    ∷ text_member (codes "why") (codes "a file given as a revocation list is none")
+    ∷ text_member (codes "standard") (codes "RFC 6487 5")
+    ∷ []))
+
 -- that it is rejected, and why
-abbrev pub rejected_members : List FileFields → Fault → List Pair
-rejected_members members fault = flattened (
+abbrev pub rejected_members : Data → List Pair
+rejected_members why = flattened (
     member_of (codes "accepted") (boolean false)
-    ∷ member_of (codes "rejected") (fault_json members fault)
+    ∷ member_of (codes "rejected") why
     ∷ [])
 
 -- the answer; a path without files isn't accepted
-abbrev pub answer_members : List FileFields → Option Verdict → List Pair
-answer_members members None = member_of (codes "accepted") (boolean false)
-answer_members members (Some (Accepted holder)) = accepted_members holder
-answer_members members (Some (Rejected fault)) = rejected_members members fault
+abbrev pub AreVerdictMembers : List FileFields → Option Verdict → List Pair → Type 0
+AreVerdictMembers members None pairs = pairs ≡ member_of (codes "accepted") (boolean false)
+AreVerdictMembers members (Some (Accepted j)) pairs = AreAcceptedMembers j.holder j.router pairs
+AreVerdictMembers members (Some (Rejected fault)) pairs = pairs ≡ rejected_members (fault_json members fault)
+
+abbrev pub AreAnswerMembers : List FileFields → Finding → List Pair → Type 0
+AreAnswerMembers members NotAList pairs = pairs ≡ rejected_members no_list_json
+AreAnswerMembers members (Decided verdict) pairs = AreVerdictMembers members verdict pairs
+
+-- some members of which this holds were put in
+abbrev pub PutsSome : (List Pair → Type 0) → Entries → Entries → Type 0
+PutsSome Hold old new = (pairs : List Pair) × Hold pairs × Puts pairs old new
 
 -- ---- the whole
 
--- a verdict: the members, whether lists were given, those of these that are none, and the answer
-unfoldable pub verdict_json : QuestionFields → List FileFields → Option Verdict → Data
-verdict_json question others verdict = object_of (flattened (
+-- a verdict: the members, whether lists were given, those of these that are none, the files with
+-- octets behind what they begin with, the members' notes, the moment, and the answer
+unfoldable pub verdict_json : QuestionFields → List Data → List Data → List Data → List Pair → Data
+verdict_json question others left noted answer = object_of (flattened (
     member_of (codes "path") (names_json question.members)
     ∷ member_of (codes "revocation_asked") (boolean (has_lists question.lists))
-    ∷ member_of (codes "not_lists") (names_json others)
-    ∷ answer_members question.members verdict
+    ∷ member_of (codes "not_lists") (array_of others)
+    ∷ member_of (codes "octets_after_end") (array_of left)
+    ∷ member_of (codes "notes") (array_of noted)
+    ∷ member_of (codes "moment") (moment_json question.at)
+    ∷ answer
     ∷ []))
 
 -- the value of a verdict
-pub record IsVerdictJson (question : QuestionFields) (verdict : Option Verdict) (value : Data) : Type 0 where
-  pub others : List FileFields
-  pub others_are : AreNoLists question.lists others
-  pub value_is : value ≡ verdict_json question others verdict
+pub record IsVerdictJson (question : QuestionFields) (finding : Finding) (value : Data) : Type 0 where
+  pub others : List Data
+  pub others_are : SaysOfEach IsOtherItem question.lists others
+  pub of_members : List Data
+  pub of_members_are : SaysOfEach (IsLeftItem IsCertificate) question.members of_members
+  pub of_lists : List Data
+  pub of_lists_are : SaysOfEach (IsLeftItem IsCertificateList) question.lists of_lists
+  pub noted : List Data
+  pub noted_are : SaysOfEach IsNoteItem question.members noted
+  pub answer : List Pair
+  pub answer_is : AreAnswerMembers question.members finding answer
+  pub value_is : value ≡ verdict_json question others (of_members ++ of_lists) noted answer
 
 -- its text
-pub record IsVerdictLines (question : QuestionFields) (verdict : Option Verdict) (text : List ℕ) : Type 0 where
+pub record IsVerdictLines (question : QuestionFields) (finding : Finding) (text : List ℕ) : Type 0 where
   pub value : Data
-  pub value_is : IsVerdictJson question verdict value
+  pub value_is : IsVerdictJson question finding value
   pub text_is : text ≡ json_lines value
 
--- the text of the verdict on the path that the files are; there is none where there is no file
+-- the text of the path that the files are
 pub record IsJsonOfPath (x : Context) (question : QuestionFields) (text : List ℕ) : Type 0 where
-  pub verdict : Option Verdict
-  pub verdict_is : MatchOption verdict (question.members ≡ []) (IsVerdictBy x (contents question.members) (contents question.lists))
-  pub text_is : IsVerdictLines question verdict text
+  pub finding : Finding
+  pub finding_is : IsFinding x question finding
+  pub text_is : IsVerdictLines question finding text

@@ -2,9 +2,12 @@
 pub mod CommandLines
 pub mod Outcomes
 pub mod VerdictTexts
+pub mod NoteLines
 pub mod ShownTexts
 pub mod JsonValues
 pub mod JsonBlocks
+pub mod JsonKeys
+pub mod JsonNotes
 pub mod JsonFiles
 pub mod JsonTexts
 pub mod JsonVerdicts

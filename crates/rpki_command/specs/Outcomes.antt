@@ -1,12 +1,13 @@
 -- How a run of the command ends, and its exit status (own). What a file holds are octets, in DER.
-use Rattle.std.specs.Prelude.{◌≡◌, ◌⊎◌, ℕ, List, [], All, Result, Ok, Err, IfSome}
+use Rattle.std.specs.Prelude.{◌≡◌, ◌⊎◌, ℕ, List, [], ◌∷◌, All, Result, Ok, Err, IfSome}
 use Rattle.rpki.specs.RsaSignatures.{IsSignedByRsa}
 use Rattle.rpki.specs.Times.{Moment}
-use Rattle.rpki.specs.Verification.{Context, ResourceFields, context}
+use Rattle.rpki.specs.Judged.{Judged}
+use Rattle.rpki.specs.Verification.{Context, context}
 use Rattle.rpki_command.specs.declared.arguments.Task.{Task}
 use Rattle.rpki_command.specs.declared.arguments.Task.TheVariants.{Show, Validate}
 use Rattle.rpki_command.specs.declared.outcomes.Outcome.{Outcome}
-use Rattle.rpki_command.specs.declared.outcomes.Outcome.TheVariants.{Success, Rejection, WrongUse}
+use Rattle.rpki_command.specs.declared.outcomes.Outcome.TheVariants.{Success, Rejection, WrongUse, Unread}
 use Rattle.rpki_verdicts.specs.declared.path.Verdict.TheVariants.{Accepted, Rejected}
 use Rattle.rpki_verdicts.specs.declared.path.Fault.{Fault}
 use Rattle.rpki_command.specs.CommandLines.{RequestFields, IsCommandLine}
@@ -16,11 +17,12 @@ use Rattle.rpki_verdicts.specs.PathAnswers.{IsVerdictBy}
 
 -- ---- the exit status
 
--- of a run that ends with this outcome, or fails, since a file, the clock, memory or an output did
+-- of a run that ends with this outcome, or fails, since the clock, memory or an output did
 abbrev pub run_status : {E : Type 0} → Result Outcome E → ℕ
 run_status (Ok Success) = 0
 run_status (Ok Rejection) = 1
 run_status (Ok WrongUse) = 2
+run_status (Ok Unread) = 3
 run_status (Err failure) = 3
 
 -- ---- the outcome
@@ -30,17 +32,17 @@ run_status (Err failure) = 3
 abbrev pub IsOutcomeOfShow : List (List ℕ) → Outcome → Type 0
 IsOutcomeOfShow files Success = All CanBeShown files
 IsOutcomeOfShow files Rejection = All CanBeShown files → ⊥
-IsOutcomeOfShow files WrongUse = ⊥
+IsOutcomeOfShow files _ = ⊥
 
 -- of a path that is to be validated: success where it is accepted, so that by the files given as
 -- lists no member is revoked, and each of these begins with a list; rejection where it is rejected
 -- or has no file, or one of these begins with no list
 abbrev pub IsOutcomeOfValidate : Context → List (List ℕ) → List (List ℕ) → Outcome → Type 0
 IsOutcomeOfValidate x files lists Success =
-    ((r : ResourceFields) × IsVerdictBy x files lists (Accepted r)) × All BeginsWithList lists
+    ((j : Judged) × IsVerdictBy x files lists (Accepted j)) × All BeginsWithList lists
 IsOutcomeOfValidate x files lists Rejection =
     (files ≡ []) ⊎ (((fault : Fault) × IsVerdictBy x files lists (Rejected fault)) ⊎ (All BeginsWithList lists → ⊥))
-IsOutcomeOfValidate x files lists WrongUse = ⊥
+IsOutcomeOfValidate x files lists _ = ⊥
 
 -- something is asked of files
 abbrev pub AsksOfFiles : Task → Type 0
@@ -52,16 +54,36 @@ IsOutcomeOf Show x files lists outcome = IsOutcomeOfShow files outcome
 IsOutcomeOf Validate x files lists outcome = IsOutcomeOfValidate x files lists outcome
 IsOutcomeOf _ x files lists outcome = outcome ≡ Success
 
--- a run that is asked this may end so: at the moment that is named, if one is, and by files and lists
--- of the names that are given; what these hold, no contract can say
+-- ---- a run
+
+-- the files are those of these names that could be read, in their order
+abbrev pub AreReadOf : List (List ℕ) → List FileFields → Type 0
+AreReadOf [] files = files ≡ []
+AreReadOf (name ∷ names) files =
+    ((file : FileFields) × (more : List FileFields) × (file.name ≡ name) × AreReadOf names more × (files ≡ file ∷ more))
+    ⊎ AreReadOf names files
+
+-- of a request, all files and lists could be read
+abbrev pub AreAllRead : RequestFields → List FileFields → List FileFields → Type 0
+AreAllRead r files lists = (file_names files ≡ r.files) × (file_names lists ≡ r.lists)
+
+-- a run that is asked this, of which these files and lists could be read, ends so: as unread exactly
+-- where another couldn't, else by what they hold
+abbrev pub EndsBy : RequestFields → Moment → List FileFields → List FileFields → Outcome → Type 0
+EndsBy r now files lists Unread = AreAllRead r files lists → ⊥
+EndsBy r now files lists outcome =
+    AreAllRead r files lists × IsOutcomeOf r.task (context IsSignedByRsa now r.strict) (contents files) (contents lists) outcome
+
+-- a run that is asked this may end so: at the moment that is named, if one is, and by those of its
+-- files and lists that could be read; which these are and what they hold, no contract can say
 pub record MayEndWith (r : RequestFields) (outcome : Outcome) : Type 0 where
   pub now : Moment
   pub files : List FileFields
   pub lists : List FileFields
   pub now_is : IfSome r.at (λ at. now ≡ at)
-  pub files_named : file_names files ≡ r.files
-  pub lists_named : file_names lists ≡ r.lists
-  pub outcome_is : IsOutcomeOf r.task (context IsSignedByRsa now r.strict) (contents files) (contents lists) outcome
+  pub files_read : AreReadOf r.files files
+  pub lists_read : AreReadOf r.lists lists
+  pub ends : EndsBy r now files lists outcome
 
 -- a run on these words may end so: with wrong use exactly where they are no command line, else as
 -- one that is asked what they ask

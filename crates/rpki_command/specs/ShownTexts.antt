@@ -2,6 +2,7 @@
 use Rattle.std.specs.Fmt.{decimal}
 use Rattle.std.specs.List.{concat}
 use Rattle.std.specs.Prelude.{◌≡◌, ◌≢◌, ◌≤◌, ◌↔◌, ◌⊎◌, ℕ, Bool, IsTrue, ◌==◌, if◌then◌else◌, List, [], ◌∷◌, ◌++◌, length, codes}
+use Rattle.hex.specs.Hex.{encode_lower}
 use Rattle.sha2.specs.Sha256.{sha256}
 use Rattle.rpki.specs.Encoding.{Begins}
 use Rattle.rpki.specs.Certificates.{CertFields, TbsFields, IsCertificate}
@@ -10,24 +11,26 @@ use Rattle.rpki.specs.DecodeError.TheVariants.{Memory}
 use Rattle.rpki.specs.Lists.{CrlFields, ListFields, IsCertificateList}
 use Rattle.rpki.specs.RevokedEntries.{Revoked}
 use Rattle.rpki.specs.Times.{Moment}
-use Rattle.rpki_text.specs.CertificateTexts.{AreAnswers, certificate_text}
+use Rattle.rpki_text.specs.CertificateTexts.{AreFindings, certificate_text}
 use Rattle.rpki_files.specs.Contents.{CanBeShown, LooksLikeList}
 use Rattle.rpki_files.specs.FaultRules.{IsFileRule, rule_of}
 use Rattle.rpki_files.specs.Files.{FileFields}
 use Rattle.rpki_text.specs.ListTexts.{list_text}
-use Rattle.rpki_text.specs.Pages.{line, line_feed, count_text}
-use Rattle.rpki_files.specs.PemFiles.{base64_of}
+use Rattle.rpki_text.specs.Pages.{line, line_feed, count_text, file_name_text}
+use Rattle.rpki_command.specs.NoteLines.{notes_lines}
 use Rattle.rpki_command.specs.VerdictTexts.{SaysOfEach}
-use Rattle.rpki_text.specs.declared.certificate.Answers.{Answers}
+use Rattle.rpki_text.specs.declared.certificate.Findings.{Findings}
+use Rattle.rpki_notes.specs.Notes.{AreNotes}
+use Rattle.rpki_notes.specs.declared.note.Note.{Note}
 use Rattle.rpki_files.specs.declared.places.Place.{Place}
 use Rattle.rpki_files.specs.declared.rules.Rule.{Rule}
 use Rattle.rpki_command.specs.declared.showing.Options.{Options}
 
 -- ---- around an object
 
--- the name of a file, and the SHA-256 hash of its object (FIPS 180-4) in base64
+-- the name of a file, and the SHA-256 hash of its object (FIPS 180-4) in hexadecimal
 unfoldable pub file_lines : FileFields → List ℕ
-file_lines file = line (codes "File") file.name ++ line (codes "SHA-256") (base64_of (sha256 file.octets))
+file_lines file = line (codes "File") (file_name_text file.name) ++ line (codes "SHA-256") (encode_lower (sha256 file.octets))
 
 -- that so many octets aren't read
 abbrev pub left_text : ℕ → List ℕ
@@ -43,9 +46,14 @@ left_line left = if left == 0 then [] else line (codes "After its end") (left_te
 abbrev pub BeginsBefore : {V : Type 0} → (V → List ℕ → Type 0) → List ℕ → V → ℕ → Type 0
 BeginsBefore encodes octets v left = (rest : List ℕ) × Begins encodes octets v rest × (left ≡ length rest)
 
--- a file that begins with a certificate, to which inspection gave these answers
-unfoldable pub certificate_file_text : FileFields → TbsFields → Moment → Answers → ℕ → List ℕ
-certificate_file_text file f now answers left = concat (file_lines file ∷ certificate_text f now answers ∷ left_line left ∷ [])
+-- a file that begins with a certificate, of which this was found, with these notes
+unfoldable pub certificate_file_text : FileFields → TbsFields → Moment → Findings → List Note → ℕ → List ℕ
+certificate_file_text file f now found notes left = concat (
+    file_lines file
+    ∷ certificate_text f now found
+    ∷ notes_lines notes
+    ∷ left_line left
+    ∷ [])
 
 -- a file that begins with a list
 unfoldable pub list_file_text : FileFields → ListFields Revoked → Moment → Bool → ℕ → List ℕ
@@ -61,9 +69,11 @@ pub record IsCertificateFileText (options : Options) (file : FileFields) (text :
   pub cert : CertFields
   pub left : ℕ
   pub begins : BeginsBefore IsCertificate file.octets cert left
-  pub answers : Answers
-  pub answers_are : AreAnswers options.strict cert answers
-  pub text_is : text ≡ certificate_file_text file cert.fields options.at answers left
+  pub found : Findings
+  pub found_is : AreFindings options.strict cert found
+  pub notes : List Note
+  pub notes_are : AreNotes file.octets notes
+  pub text_is : text ≡ certificate_file_text file cert.fields options.at found notes left
 
 -- the file begins with a list, and this is its text
 pub record IsListFileText (options : Options) (file : FileFields) (text : List ℕ) : Type 0 where

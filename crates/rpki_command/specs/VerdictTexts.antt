@@ -2,58 +2,99 @@
 use Rattle.std.specs.Fmt.{decimal}
 use Rattle.std.specs.List.{concat}
 use Rattle.std.specs.Option.{option_map}
-use Rattle.std.specs.Prelude.{◌≡◌, ◌⊎◌, ℕ, Bool, List, [], ◌∷◌, ◌++◌, codes, slice_get, Option, Some, None, MatchOption}
+use Rattle.std.specs.Prelude.{◌≡◌, ℕ, Bool, ◌==◌, if◌then◌else◌, All, ◌⊎◌, List, [], ◌∷◌, ◌++◌, length, codes, slice_get, Option, Some, None, MatchOption}
 use Rattle.rpki.specs.BlockTexts.{v4_block_text, v6_block_text}
 use Rattle.rpki.specs.Certificates.{CertFields, IsCertificate}
-use Rattle.rpki.specs.Texts.{serial_text}
+use Rattle.rpki.specs.Encoding.{Begins, Means}
+use Rattle.rpki.specs.Judged.{Judged}
+use Rattle.rpki.specs.Lists.{IsCertificateList}
+use Rattle.rpki.specs.Texts.{serial_text, time_text}
+use Rattle.rpki.specs.Times.{Moment}
 use Rattle.rpki.specs.Verification.{Context, ResourceFields}
-use Rattle.rpki_text.specs.BlockLines.{as_numbers_text, blocks_lines}
+use Rattle.rpki_command.specs.NoteLines.{notes_lines}
+use Rattle.rpki_notes.specs.Notes.{AreNotes}
+use Rattle.rpki_notes.specs.declared.note.Note.{Note}
+use Rattle.rpki_text.specs.BlockLines.{as_numbers_text, blocks_lines, resources_lines}
 use Rattle.rpki_text.specs.CertificateTexts.{AreAnswers, met_kind_text}
-use Rattle.rpki_files.specs.Contents.{BeginsWithList, FindsBy}
+use Rattle.rpki_files.specs.Contents.{BeginsWithList}
 use Rattle.rpki_files.specs.Files.{FileFields, contents}
-use Rattle.rpki_verdicts.specs.GivenPaths.{QuestionFields}
-use Rattle.rpki_text.specs.Pages.{line}
-use Rattle.rpki_verdicts.specs.PathAnswers.{IsVerdictBy}
+use Rattle.rpki_verdicts.specs.PathFiles.{QuestionFields}
+use Rattle.rpki_text.specs.KeyTexts.{IsKeyAnswer, key_text}
+use Rattle.rpki_text.specs.Pages.{colons_text, line, count_text, file_name_text}
+use Rattle.rpki_verdicts.specs.PathAnswers.{IsAcceptance, IsVerdictBy}
 use Rattle.rpki_text.specs.declared.certificate.Answers.{Answers}
+use Rattle.rpki_text.specs.declared.keys.KeyAnswer.{KeyAnswer}
+use Rattle.rpki_command.specs.declared.verdicts.Finding.{Finding}
+use Rattle.rpki_command.specs.declared.verdicts.Finding.TheVariants.{NotAList, Decided}
 use Rattle.rpki_verdicts.specs.declared.path.Fault.{Fault}
 use Rattle.rpki_verdicts.specs.declared.path.Verdict.{Verdict}
 use Rattle.rpki_verdicts.specs.declared.path.Verdict.TheVariants.{Accepted, Rejected}
 
 -- ---- files
 
+-- what is said of each file, one after the other
+abbrev pub SaysOfEach : {X : Type 0} → (FileFields → List X → Type 0) → List FileFields → List X → Type 0
+SaysOfEach Says [] said = said ≡ []
+SaysOfEach {X} Says (file ∷ files) said =
+    (first : List X) × (more : List X) × Says file first × SaysOfEach Says files more × (said ≡ first ++ more)
+
+-- so many octets stand behind the value that the octets begin with; or they begin with none
+abbrev pub Leaves : {V : Type 0} → (V → List ℕ → Type 0) → List ℕ → Option ℕ → Type 0
+Leaves {V} encodes octets (Some left) = (v : V) × (rest : List ℕ) × Begins encodes octets v rest × (left ≡ length rest)
+Leaves {V} encodes octets None = (v : V) → Means encodes v octets → ⊥
+
+-- the value that the octets begin with, and how many octets stand behind it; or they begin with none
+abbrev pub FindsBefore : {V : Type 0} → (V → List ℕ → Type 0) → List ℕ → Option (V × ℕ) → Type 0
+FindsBefore {V} encodes octets (Some found) = (rest : List ℕ) × Begins encodes octets found.0 rest × (found.1 ≡ length rest)
+FindsBefore {V} encodes octets None = (v : V) → Means encodes v octets → ⊥
+
+-- how many octets of a file stand behind what it begins with
+abbrev pub left_of_text : List ℕ → ℕ → List ℕ
+left_of_text name left = file_name_text name ++ (codes ", " ++ (count_text left (codes " octet") (codes " octets") ++ codes " not read"))
+
+-- the line that says it, where some do
+abbrev pub after_line : List ℕ → ℕ → List ℕ
+after_line name left = if left == 0 then [] else line (codes "After its end") (left_of_text name left)
+
+-- ---- members
+
 -- a member by its certificate: its kind, its serial number and its name
 abbrev pub member_text : List ℕ → ℕ → List ℕ → List ℕ
-member_text kind serial name = kind ++ (codes ", " ++ (serial_text serial ++ (codes ", " ++ name)))
+member_text kind serial name = kind ++ (codes ", " ++ (serial_text serial ++ (codes ", " ++ file_name_text name)))
 
 -- a member that begins with no certificate
 abbrev pub other_text : List ℕ → List ℕ
-other_text name = codes "no certificate, " ++ name
+other_text name = codes "no certificate, " ++ file_name_text name
 
--- what is said of a member of this name by the certificate that it begins with, if it does
-abbrev pub IsMemberText : Bool → Option CertFields → List ℕ → List ℕ → Type 0
-IsMemberText strict None name text = text ≡ other_text name
-IsMemberText strict (Some c) name text =
-    (answers : Answers) × AreAnswers strict c answers × (text ≡ member_text (met_kind_text answers) c.fields.serial name)
+-- a file begins with a certificate, and these are the lines of the member that it is
+pub record IsMemberText (strict : Bool) (file : FileFields) (text : List ℕ) : Type 0 where
+  pub cert : CertFields
+  pub rest : List ℕ
+  pub begins : Begins IsCertificate file.octets cert rest
+  pub answers : Answers
+  pub answers_are : AreAnswers strict cert answers
+  pub notes : List Note
+  pub notes_are : AreNotes file.octets notes
+  pub text_is : text ≡ line (codes "Member") (member_text (met_kind_text answers) cert.fields.serial file.name) ++ (notes_lines notes ++ after_line file.name (length rest))
 
--- the line of a member
-pub record IsMemberLine (strict : Bool) (file : FileFields) (text : List ℕ) : Type 0 where
-  pub found : Option CertFields
-  pub found_is : FindsBy (λ c. c) IsCertificate file.octets found
-  pub member : List ℕ
-  pub member_is : IsMemberText strict found file.name member
-  pub text_is : text ≡ line (codes "Member") member
+-- a file begins with none, and this is its line
+pub record IsOtherText (file : FileFields) (text : List ℕ) : Type 0 where
+  pub none : (cert : CertFields) → Means IsCertificate cert file.octets → ⊥
+  pub text_is : text ≡ line (codes "Member") (other_text file.name)
 
--- what is said of a file that was given as a list: its name where it is none, else nothing
+-- the lines of a member
+abbrev pub IsMemberPart : Bool → FileFields → List ℕ → Type 0
+IsMemberPart strict file text = IsMemberText strict file text ⊎ IsOtherText file text
+
+-- ---- files given as lists
+
+-- its name where it is none, and else how many octets stand behind the list
+abbrev pub list_part : List ℕ → Option ℕ → List ℕ
+list_part name None = line (codes "Not a list") (file_name_text name)
+list_part name (Some left) = after_line name left
+
 abbrev pub IsListPart : FileFields → List ℕ → Type 0
-IsListPart file text =
-    (BeginsWithList file.octets × (text ≡ []))
-    ⊎ ((BeginsWithList file.octets → ⊥) × (text ≡ line (codes "Not a list") file.name))
-
--- what is said of each file, one after the other
-abbrev pub SaysOfEach : (FileFields → List ℕ → Type 0) → List FileFields → List ℕ → Type 0
-SaysOfEach Says [] text = text ≡ []
-SaysOfEach Says (file ∷ files) text =
-    (first : List ℕ) × (more : List ℕ) × Says file first × SaysOfEach Says files more × (text ≡ first ++ more)
+IsListPart file text = (left : Option ℕ) × Leaves IsCertificateList file.octets left × (text ≡ list_part file.name left)
 
 -- ---- an accepted path
 
@@ -62,24 +103,49 @@ abbrev pub revocation_text : List FileFields → List ℕ
 revocation_text [] = codes "not asked, since no list was given"
 revocation_text (list ∷ lists) = codes "no member is revoked, by the lists given"
 
--- that it is accepted, what was asked of it, and what its last member holds
-unfoldable pub acceptance_text : List FileFields → ResourceFields → List ℕ
-acceptance_text lists holder = concat (
+-- that it is accepted, and what was asked of it
+unfoldable pub acceptance_text : List FileFields → List ℕ
+acceptance_text lists = concat (
     line (codes "Path") (codes "accepted")
     ∷ line (codes "Signatures") (codes "checked (RSASSA-PKCS1-v1_5 with SHA-256, RFC 7935)")
     ∷ line (codes "Revocation") (revocation_text lists)
     ∷ line (codes "Not asked") (codes "manifests, and whether names of issuer and subject match")
-    ∷ blocks_lines v4_block_text (codes "Holds IPv4") holder.v4
-    ∷ blocks_lines v6_block_text (codes "Holds IPv6") holder.v6
-    ∷ blocks_lines as_numbers_text (codes "Holds AS numbers") holder.as_numbers
     ∷ [])
+
+-- what a member holds, under these labels
+unfoldable pub holder_text : List ℕ → List ℕ → List ℕ → ResourceFields → List ℕ
+holder_text ipv4 ipv6 numbers holder = concat (
+    blocks_lines v4_block_text ipv4 holder.v4
+    ∷ blocks_lines v6_block_text ipv6 holder.v6
+    ∷ blocks_lines as_numbers_text numbers holder.as_numbers
+    ∷ [])
+
+-- a router's AS numbers and its key, of which this was found (RFC 8209 3.1)
+unfoldable pub router_text : CertFields → KeyAnswer → List ℕ
+router_text c key = concat (
+    resources_lines as_numbers_text (codes "Router AS numbers") c.fields.extensions.as_resources
+    ∷ line (codes "Router key") (key_text key)
+    ∷ line (codes "Router key identifier") (colons_text c.fields.extensions.subject_key_identifier)
+    ∷ [])
+
+-- what is held: by the last member, or, where that is a router, what its certificate lists and what
+-- the CA above it holds
+abbrev pub IsHeldText : ResourceFields → Option CertFields → List ℕ → Type 0
+IsHeldText holder None text = text ≡ holder_text (codes "Holds IPv4") (codes "Holds IPv6") (codes "Holds AS numbers") holder
+IsHeldText holder (Some c) text =
+    (key : KeyAnswer) × IsKeyAnswer c.fields.key key
+    × (text ≡ router_text c key ++ holder_text (codes "Issuer holds IPv4") (codes "Issuer holds IPv6") (codes "Issuer holds AS numbers") holder)
+
+-- the text of an accepted path
+abbrev pub IsAcceptanceText : List FileFields → Judged → List ℕ → Type 0
+IsAcceptanceText lists j text = (held : List ℕ) × IsHeldText j.holder j.router held × (text ≡ acceptance_text lists ++ held)
 
 -- ---- a rejected path
 
 -- the place of a member, and its name, where there is a member
 abbrev pub place_text : ℕ → Option (List ℕ) → List ℕ
 place_text place None = codes "member " ++ decimal place
-place_text place (Some name) = codes "member " ++ (decimal place ++ (codes ", " ++ name))
+place_text place (Some name) = codes "member " ++ (decimal place ++ (codes ", " ++ file_name_text name))
 
 -- what a fault means, and its name
 abbrev pub reason_text : List ℕ → List ℕ → List ℕ
@@ -99,26 +165,58 @@ rejected_text fault name = concat (
 abbrev pub file_name_at : List FileFields → ℕ → Option (List ℕ)
 file_name_at members place = option_map (λ file. file.name) (slice_get members place)
 
--- ---- the whole
+-- ---- what is found
+
+-- some file given as a list is none, and nothing is judged
+unfoldable pub no_list_text : List ℕ
+no_list_text = concat (
+    line (codes "Path") (codes "rejected")
+    ∷ line (codes "Step") (codes "lists")
+    ∷ line (codes "Why") (reason_text (codes "a file given as a revocation list is none") (codes "NotAList"))
+    ∷ line (codes "Standard") (codes "RFC 6487 5")
+    ∷ [])
 
 -- what is said of a verdict, if there is one
 abbrev pub IsOutcomeText : QuestionFields → Option Verdict → List ℕ → Type 0
 IsOutcomeText question None text = text ≡ []
-IsOutcomeText question (Some (Accepted holder)) text = text ≡ acceptance_text question.lists holder
+IsOutcomeText question (Some (Accepted j)) text = IsAcceptanceText question.lists j text
 IsOutcomeText question (Some (Rejected fault)) text = text ≡ rejected_text fault (file_name_at question.members fault.index)
 
--- the members, files given as lists that are none, and the verdict
-pub record IsVerdictText (question : QuestionFields) (verdict : Option Verdict) (text : List ℕ) : Type 0 where
+-- what is found of a path: where a file given as a list is none, that alone; else the verdict, which
+-- there is where there is a file
+abbrev pub IsFinding : Context → QuestionFields → Finding → Type 0
+IsFinding x question NotAList = All BeginsWithList (contents question.lists) → ⊥
+IsFinding x question (Decided verdict) =
+    All BeginsWithList (contents question.lists) × MatchOption verdict (contents question.members ≡ []) (IsVerdictBy x (contents question.members) (contents question.lists))
+
+-- the path is accepted
+abbrev pub IsAccepted : Finding → Type 0
+IsAccepted NotAList = ⊥
+IsAccepted (Decided verdict) = IsAcceptance verdict
+
+-- what is said of it
+abbrev pub IsFindingText : QuestionFields → Finding → List ℕ → Type 0
+IsFindingText question NotAList text = text ≡ no_list_text
+IsFindingText question (Decided verdict) text = IsOutcomeText question verdict text
+
+-- ---- the whole
+
+-- the moment at which a path is judged
+abbrev pub moment_line : Moment → List ℕ
+moment_line at = line (codes "Moment") (time_text at)
+
+-- the members, the files given as lists that are none, the moment, and what is found
+pub record IsVerdictText (question : QuestionFields) (finding : Finding) (text : List ℕ) : Type 0 where
   pub members : List ℕ
-  pub members_are : SaysOfEach (IsMemberLine question.strict) question.members members
+  pub members_are : SaysOfEach (IsMemberPart question.strict) question.members members
   pub lists : List ℕ
   pub lists_are : SaysOfEach IsListPart question.lists lists
-  pub outcome : List ℕ
-  pub outcome_is : IsOutcomeText question verdict outcome
-  pub text_is : text ≡ members ++ (lists ++ outcome)
+  pub found : List ℕ
+  pub found_is : IsFindingText question finding found
+  pub text_is : text ≡ members ++ (lists ++ (moment_line question.at ++ found))
 
--- the text of the verdict on the path that the files are; there is none where there is no file
+-- the text of the path that the files are
 pub record IsTextOfPath (x : Context) (question : QuestionFields) (text : List ℕ) : Type 0 where
-  pub verdict : Option Verdict
-  pub verdict_is : MatchOption verdict (question.members ≡ []) (IsVerdictBy x (contents question.members) (contents question.lists))
-  pub text_is : IsVerdictText question verdict text
+  pub finding : Finding
+  pub finding_is : IsFinding x question finding
+  pub text_is : IsVerdictText question finding text

@@ -1,14 +1,15 @@
 //! What is answered of files.
-ghost use Rattle.std.specs.Prelude.{IfOk, IsFalse, IsTrue, string_bytes};
-ghost use Rattle.rpki.specs.RsaSignatures.{IsSignedByRsa};
-ghost use Rattle.rpki.specs.Verification.{context};
-ghost use Rattle.rpki_command.specs.AnswerTexts.{IsJsonFor, IsTextFor};
+ghost use Rattle.std.specs.Prelude.{◌≡◌, ◌↔◌, [], map, IfOk, IsFalse, IsTrue, string_bytes};
+ghost use Rattle.std.specs.Bool.{MatchBool};
+ghost use Rattle.rpki_command.specs.AnswerTexts.{IsJsonBy, IsTextBy, options_of};
 ghost use Rattle.rpki_command.specs.CommandLines.Views.{fields_of};
-ghost use Rattle.rpki_files.specs.Files.{contents};
-ghost use Rattle.rpki_command.specs.Outcomes.{AsksOfFiles, IsOutcomeOf};
+ghost use Rattle.rpki_command.specs.JsonAnswers.{AreFilesJson};
+ghost use Rattle.rpki_command.specs.Outcomes.{AreAllRead, AreReadOf, AsksOfFiles, EndsBy, IsOutcomeOfShow};
+ghost use Rattle.rpki_command.specs.ShownTexts.{IsTextOfFiles};
+ghost use Rattle.rpki_files.specs.Files.{contents, file_names};
 
 use crate::arguments::{Request, Task};
-use crate::outcomes::Answer;
+use crate::outcomes::{Answer, Outcome};
 use crate::showing::{Options, shown};
 use crate::verdicts::validated;
 use rpki::repository::x509::Time;
@@ -16,7 +17,70 @@ use rpki_files::Object;
 use rpki_verdicts::Question;
 use std::alloc::{AllocError, Global};
 
-/// Answers what the request asks of these files and lists at this moment.
+// Whether all files of these names could be read, of which these could be.
+fn are_read(names: &[&[u8]], files: &[Object<'_>]) -> bool
+    requires { AreReadOf (map (λ name. name.now) names.now) files.now }
+    ensures { IsTrue result ↔ (file_names files.now ≡ map (λ name. name.now) names.now) }
+{
+    files.len() == names.len()
+}
+
+// Whether all files and lists could be read, of which these could be.
+fn are_all_read(request: &Request<'_>, files: &[Object<'_>], lists: &[Object<'_>]) -> bool
+    requires files_read { let request = fields_of request.now in AreReadOf request.files files.now }
+    requires lists_read { let request = fields_of request.now in AreReadOf request.lists lists.now }
+    ensures { IsTrue result ↔ AreAllRead (fields_of request.now) files.now lists.now }
+{
+    are_read(&request.files, files) && are_read(&request.lists, lists)
+}
+
+// Shows the files that could be read. The outcome is theirs, where all could be.
+fn show(
+    alloc: Global,
+    request: &Request<'_>,
+    now: Time,
+    files: &[Object<'_>],
+    are_all_read: bool,
+) -> Result<Answer, AllocError>
+    ensures outcome { IfOk result (λ answer. MatchBool are_all_read
+        (IsOutcomeOfShow (contents files.now) answer.outcome)
+        (answer.outcome ≡ Outcome.Unread)) }
+    ensures text { let options = options_of (fields_of request.now) now in
+        IsFalse request.now.json
+        → IfOk result (λ answer. IsTextOfFiles options files.now (string_bytes answer.text)) }
+    ensures json { let options = options_of (fields_of request.now) now in
+        IsTrue request.now.json
+        → IfOk result (λ answer. AreFilesJson options files.now (string_bytes answer.text)) }
+{
+    let options = Options {
+        at: now,
+        strict: request.strict,
+        json: request.json,
+        all: request.all,
+    };
+    let answer = shown(alloc, files, &options)?;
+    if are_all_read {
+        return Ok(answer);
+    }
+    let Answer { text, outcome: _ } = answer;
+    Ok(Answer {
+        text,
+        outcome: Outcome::Unread,
+    })
+}
+
+// Of a path of which a file can't be read nothing is judged.
+fn unjudged(alloc: Global) -> Answer
+    ensures outcome { result.outcome ≡ Outcome.Unread }
+    ensures text { string_bytes result.text ≡ [] }
+{
+    Answer {
+        text: String::new(alloc),
+        outcome: Outcome::Unread,
+    }
+}
+
+/// Answers what the request asks at this moment, when these of its files and lists could be read.
 pub fn answer_request(
     alloc: Global,
     request: &Request<'_>,
@@ -24,29 +88,25 @@ pub fn answer_request(
     files: &[Object<'_>],
     lists: &[Object<'_>],
 ) -> Result<Answer, AllocError>
-    requires { AsksOfFiles request.now.task }
-    ensures outcome { let x = context IsSignedByRsa now request.now.strict in
-        let task = request.now.task in
-        IfOk result (λ answer.
-        IsOutcomeOf task x (contents files.now) (contents lists.now) answer.outcome) }
+    requires asks { AsksOfFiles request.now.task }
+    requires files_read { let request = fields_of request.now in AreReadOf request.files files.now }
+    requires lists_read { let request = fields_of request.now in AreReadOf request.lists lists.now }
+    ensures ends { let request = fields_of request.now in
+        IfOk result (λ answer. EndsBy request now files.now lists.now answer.outcome) }
     ensures text { let request = fields_of request.now in
-        IsFalse request.json → IfOk result (λ answer.
-        IsTextFor request now files.now lists.now (string_bytes answer.text)) }
+        IsFalse request.json → IfOk result (λ answer. IsTextBy request.task answer.outcome
+        request now files.now lists.now (string_bytes answer.text)) }
     ensures json { let request = fields_of request.now in
-        IsTrue request.json → IfOk result (λ answer.
-        IsJsonFor request now files.now lists.now (string_bytes answer.text)) }
+        IsTrue request.json → IfOk result (λ answer. IsJsonBy request.task answer.outcome
+        request now files.now lists.now (string_bytes answer.text)) }
 {
+    let are_all_read = are_all_read(request, files, lists);
     match request.task {
-        Task::Show => {
-            let options = Options {
-                at: now,
-                strict: request.strict,
-                json: request.json,
-                all: request.all,
-            };
-            shown(alloc, files, &options)
-        }
+        Task::Show => show(alloc, request, now, files, are_all_read),
         Task::Validate => {
+            if !are_all_read {
+                return Ok(unjudged(alloc));
+            }
             let question = Question {
                 members: files,
                 lists,

@@ -5,10 +5,14 @@ ghost use Rattle.rpki_text.specs.Pages.{colons_text};
 ghost use Rattle.rpki_command.specs.JsonFiles.{IsCertificateJson, answer_word, certificate_json, entry_json, head_members, key_members, list_json, name_members, overclaim_word, profiles_json, rejection_json, type_word, uri_member, uri_members, usage_word};
 ghost use Rattle.rpki_command.specs.JsonValues.{Puts, array_of, count_member_if_any, place_members, rule_members, text_member_if_any};
 
+mod ascii;
 mod blocks;
+mod key;
+mod notes;
 mod objects;
 mod verdicts;
 
+use notes::notes_value;
 use objects::Members;
 pub use objects::lines_of;
 use rpki::crypto::KeyIdentifier;
@@ -19,7 +23,8 @@ use rpki::repository::x509::{Serial, Time};
 use rpki::uri::{Https, Rsync};
 use rpki_files::Place;
 use rpki_files::rules::Rule;
-use rpki_text::certificate::{Answers, answers_of};
+use rpki_notes::Note;
+use rpki_text::certificate::{Answers, Findings, findings_of};
 use rpki_verdicts::said_kind;
 use serde_json::Value;
 use std::alloc::{AllocError, Global};
@@ -172,42 +177,49 @@ fn type_word(kind: Kind) -> &'static str
     }
 }
 
-// The value of a certificate of this kind, with what inspection answers.
+// The value of a certificate of this kind, of which this was found.
 fn known_certificate(
     alloc: Global,
     file: &Shown<'_>,
     kind: Kind,
-    answers: &Answers,
+    found: &Findings,
+    notes: &[Note],
     fields: &TbsCert,
 ) -> Result<Value, AllocError>
-    ensures { IfOk result (λ made. view made ≡ certificate_json file.now kind answers.now fields.now) }
+    ensures { IfOk result (λ made.
+        view made ≡ certificate_json file.now kind found.now notes.now fields.now) }
 {
     let mut out = Members::new(alloc);
     head(&mut out, file)?;
     out.text("type", type_word(kind))?;
     names(&mut out, fields)?;
     keys(&mut out, fields)?;
+    let facts = key::facts(alloc, &found.key)?;
+    out.value("key", facts)?;
     uris(&mut out, fields)?;
     let items = blocks::listed(alloc, fields)?;
     out.value("subordinate_resources", Value::from(items))?;
-    let kinds = profiles(alloc, answers)?;
+    let kinds = profiles(alloc, &found.answers)?;
     out.value("profiles", kinds)?;
+    let noted = notes_value(alloc, notes)?;
+    out.value("notes", noted)?;
     out.text("signature", "not checked")?;
     Ok(out.into_value())
 }
 
-/// Makes the value of a certificate.
+/// Makes the value of a certificate with its notes.
 pub fn certificate(
     alloc: Global,
     file: &Shown<'_>,
     cert: &Cert,
+    notes: &[Note],
     strict: bool,
 ) -> Result<Value, AllocError>
-    ensures { IfOk result (λ made. IsCertificateJson strict file.now cert.now (view made)) }
+    ensures { IfOk result (λ made. IsCertificateJson strict file.now cert.now notes.now (view made)) }
 {
     let kind = said_kind(cert.as_tbs());
-    let answers = answers_of(cert, strict);
-    known_certificate(alloc, file, kind, &answers, cert.as_tbs())
+    let found = findings_of(cert, strict);
+    known_certificate(alloc, file, kind, &found, notes, cert.as_tbs())
 }
 
 // A revoked certificate.

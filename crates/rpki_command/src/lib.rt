@@ -2,41 +2,47 @@
 //! files.
 #![tactic(auto)]
 
-ghost use Rattle.std.specs.Prelude.{◌≡◌, ◌≢◌, ◌≤◌, map, IfOk, IfSome, MatchOption, OnOk, string_bytes};
+ghost use Rattle.std.specs.Prelude.{◌≡◌, ◌≢◌, ◌≤◌, IfOk, IfSome, MatchOption, OnOk, string_bytes};
 ghost use Rattle.std.specs.Process.{exit_status};
 ghost use Rattle.rpki_command.specs.AnswerTexts.{MayAnswer};
 ghost use Rattle.rpki_command.specs.CommandLines.Views.{fields_of, word_octets};
-ghost use Rattle.rpki_files.specs.Files.{file_names};
 ghost use Rattle.rpki_command.specs.Outcomes.{AsksOfFiles, MayEndWith, RunMayEndWith};
 
 mod answering;
 mod arguments;
 mod as_json;
+mod leftovers;
+mod notes;
 pub mod outcome_laws;
 mod outcomes;
+mod reading;
 mod showing;
 mod verdict_lines;
 mod verdicts;
+mod words;
 
 use answering::answer_request;
 use anyhow::{Context, Result, anyhow};
-use arguments::{Misuse, Request, Task, read_words};
+use arguments::{Misuse, Request, Setting, Task, read_words};
 use outcomes::{Answer, Outcome, status_of};
+use reading::read_files;
 use rpki::repository::x509::Time;
-use rpki_files::{Object, read_object};
-use rpki_text::moments;
-use std::io::Read;
+use rpki_text::{Characters, moments};
+use std::io;
+use std::io::ErrorKind;
 use std::process::ExitCode;
 use std::rt::Clock;
 use std::time::{SystemTime, UNIX_EPOCH};
-use std::{env, fs};
+use words::words_of;
 
-const USAGE: &str = "usage: rpki show [-j|--json] [--all] [--at MOMENT] [--lenient] FILE..
-       rpki validate [-j|--json] [--crl FILE].. [--at MOMENT] [--lenient] ANCHOR [CA].. [LAST]
+const USAGE: &str = "usage: rpki show [-j|--json] [--all] [OPTION].. FILE..
+       rpki validate [-j|--json] [--crl FILE].. [OPTION].. ANCHOR [CA].. [LAST]
        rpki help | --version
+OPTION: --at MOMENT, --max-size OCTETS (of a file; 67108864 if it is left out), or --lenient
 FILE: a certificate or a revocation list, in DER or PEM; - for standard input
 LAST: a CA, an end entity or a router
 MOMENT: YYYY-MM-DD, YYYY-MM-DDThh:mm:ssZ or YYYYMMDDhhmmss; the clock's, if it is left out
+Behind -- each word is a file.
 ";
 
 const VERSION: &str = "rpki 0.1\n";
@@ -57,32 +63,6 @@ fn moment(rt: &impl Clock, at: Option<Time>) -> Result<Time>
     }
 }
 
-// The octets of a file, or of standard input for `-`.
-fn octets_of(rt: &HostRuntime, name: &str) -> Result<Vec<u8>> {
-    if name == "-" {
-        let mut octets = Vec::new(rt.alloc());
-        let _count = rt
-            .stdin()
-            .read_to_end(&mut octets)
-            .context("standard input")?;
-        return Ok(octets);
-    }
-    Ok(fs::read(rt, name).context(format_args!("{name}"))?)
-}
-
-// What the files of these names hold.
-fn objects<'a>(rt: &HostRuntime, names: &[&'a str]) -> Result<Vec<Object<'a>>>
-    ensures { IfOk result (λ all. file_names all.items ≡ map (λ name. name.now) names.now) }
-{
-    let mut all = Vec::new(rt.alloc());
-    for name in names {
-        let octets = octets_of(rt, name)?;
-        let read = read_object(rt.alloc(), *name, octets)?;
-        all.push(read)?;
-    }
-    Ok(all)
-}
-
 // The text about the command, where that is asked for and nothing of files.
 fn about(task: Task) -> Option<&'static str>
     ensures { MatchOption result (AsksOfFiles task) (λ text. AsksOfFiles task → ⊥) }
@@ -94,20 +74,53 @@ fn about(task: Task) -> Option<&'static str>
     }
 }
 
+// The name of an option that takes a value.
+fn name_of(setting: Setting) -> &'static str {
+    match setting {
+        Setting::Crl => "--crl",
+        Setting::At => "--at",
+        Setting::MaxSize => "--max-size",
+    }
+}
+
+// Says that a word isn't what it should be.
+fn say_word(rt: &impl Eprint, before: &str, word: &[u8], behind: &str) -> io::Result<()> {
+    let word = Characters(word);
+    eprintln!(rt; "rpki: {before}{word}{behind}")
+}
+
 // Says what is wrong of the command line, unless memory ran out.
 fn say(rt: &impl Eprint, misuse: &Misuse<'_>) -> Result<()>
     ensures { OnOk result (misuse.now ≢ Misuse.Memory) }
 {
     match misuse {
         Misuse::NoTask => eprintln!(rt; "rpki: no command")?,
-        Misuse::Unknown(word) => eprintln!(rt; "rpki: unknown: {word}")?,
-        Misuse::NoValue(word) => eprintln!(rt; "rpki: {word} wants a value")?,
-        Misuse::NoMoment(text) => eprintln!(rt; "rpki: --at {text}: no moment")?,
+        Misuse::Unknown(word) => say_word(rt, "unknown: ", *word, "")?,
+        Misuse::NoValue(setting) => {
+            let option = name_of(*setting);
+            eprintln!(rt; "rpki: {option} wants a value")?
+        }
+        Misuse::NoMoment(text) => say_word(rt, "--at ", *text, ": no moment")?,
+        Misuse::NoSize(text) => say_word(rt, "--max-size ", *text, ": no number of octets")?,
         Misuse::NoFile => eprintln!(rt; "rpki: no file")?,
         Misuse::Memory => return Err(anyhow!("out of memory")),
     }
     eprint!(rt; "{USAGE}")?;
     Ok(())
+}
+
+// Prints a text. A reader that has closed its end of a pipe wants no more, and nothing failed.
+fn print(rt: &impl Print, text: &str) -> io::Result<()> {
+    match rt.print(text) {
+        Ok(()) => Ok(()),
+        Err(error) => {
+            if error.kind() == ErrorKind::BrokenPipe {
+                drop(error);
+                return Ok(());
+            }
+            Err(error)
+        }
+    }
 }
 
 // What is answered of the files that the request names.
@@ -117,8 +130,8 @@ fn answered(rt: &HostRuntime, request: &Request<'_>) -> Result<Answer>
         IfOk result (λ answer. MayAnswer request answer.outcome (string_bytes answer.text)) }
 {
     let now = moment(rt, request.at)?;
-    let files = objects(rt, &request.files)?;
-    let lists = objects(rt, &request.lists)?;
+    let files = read_files(rt, &request.files, request.max_size)?;
+    let lists = read_files(rt, &request.lists, request.max_size)?;
     Ok(answer_request(rt.alloc(), request, now, &files, &lists)?)
 }
 
@@ -128,12 +141,12 @@ fn answer(rt: &HostRuntime, request: &Request<'_>) -> Result<Outcome>
     ensures { IfOk result (MayEndWith (fields_of request.now)) }
 {
     let answer = answered(rt, request)?;
-    rt.print(answer.text.as_str())?;
+    print(rt, answer.text.as_str())?;
     Ok(answer.outcome)
 }
 
 // Answers the words of the command line.
-fn run(rt: &HostRuntime, words: &[String]) -> Result<Outcome>
+fn run(rt: &HostRuntime, words: &[Vec<u8>]) -> Result<Outcome>
     ensures { IfOk result (RunMayEndWith (word_octets words.now)) }
 {
     let request = match read_words(rt.alloc(), words) {
@@ -144,22 +157,22 @@ fn run(rt: &HostRuntime, words: &[String]) -> Result<Outcome>
         }
     };
     if let Some(text) = about(request.task) {
-        rt.print(text)?;
+        print(rt, text)?;
         return Ok(Outcome::Success);
     }
     answer(rt, &request)
 }
 
 fn run_with_arguments(rt: &HostRuntime) -> Result<Outcome> {
-    let words: Vec<String> = env::args(rt)?.skip(1).collect(rt.alloc())?;
+    let words = words_of(rt)?;
     run(rt, &words)
 }
 
 /// Runs the command on the words of the command line: reads the files, and prints what they hold,
 /// or the verdict on their path. The exit status is 0 where all files were shown or the path is
 /// accepted; 1 where a file is neither a certificate nor a list, the path is rejected, or a file
-/// given as a list is none; 2 where the command line has another form; and 3 where a file, the
-/// clock, memory or an output failed.
+/// given as a list is none; 2 where the command line has another form; and 3 where a file can't be
+/// read, or the clock, memory or an output failed.
 pub fn command(rt: &HostRuntime) -> ExitCode
     ensures { exit_status result ≤ 3 }
 {

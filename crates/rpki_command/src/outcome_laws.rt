@@ -7,7 +7,7 @@ ghost use Rattle.rpki_command.specs.Outcomes.{IsOutcomeOf};
 ghost use Rattle.rpki_command.specs.declared.arguments.Task.{Task};
 ghost use Rattle.rpki_command.specs.declared.outcomes.Outcome.{Outcome};
 
-use rpki::laws;
+use rpki_verdicts::one_answer;
 
 /// Says that what files hold has at most one outcome at a moment.
 pub fn one_outcome()
@@ -15,6 +15,5 @@ pub fn one_outcome()
         (one other : Outcome) → IsOutcomeOf task (context IsSignedByRsa now strict) files lists one
         → IsOutcomeOf task (context IsSignedByRsa now strict) files lists other → one ≡ other }
 {
-    laws::certificates::unambiguous();
-    laws::lists::unambiguous();
+    one_answer();
 }

@@ -12,6 +12,8 @@ pub enum Outcome {
     Rejection,
     /// The command line has another form.
     WrongUse,
+    /// A file that is named can't be read.
+    Unread,
 }
 
 /// What is printed, and how the run ends.
@@ -35,8 +37,7 @@ impl Outcome {
     }
 }
 
-/// Returns the exit status of a run. An error says that a file, the clock, memory or an output
-/// failed.
+/// Returns the exit status of a run. An error says that the clock, memory or an output failed.
 pub fn status_of<E: Drop>(ended: &Result<Outcome, E>) -> u8
     ensures { result ≡ run_status ended.now }
 {
@@ -44,6 +45,6 @@ pub fn status_of<E: Drop>(ended: &Result<Outcome, E>) -> u8
         Ok(Outcome::Success) => 0,
         Ok(Outcome::Rejection) => 1,
         Ok(Outcome::WrongUse) => 2,
-        Err(_) => 3,
+        Ok(Outcome::Unread) | Err(_) => 3,
     }
 }

@@ -1,5 +1,6 @@
 //! A file for a person or as JSON.
 ghost use Rattle.std.specs.Prelude.{◌≡◌, ◌↔◌, false, All, IfOk, OnOk, IsTrue, IsFalse, MatchResult, Some, None, codes, string_bytes};
+ghost use Rattle.hex.specs.Hex.{encode_lower};
 ghost use Rattle.serde_json.specs.View.{view};
 ghost use Rattle.serde_json.specs.Written.{has_float};
 ghost use Rattle.sha2.specs.Sha256.{sha256};
@@ -7,27 +8,28 @@ ghost use Rattle.rpki.specs.Place.{MeansOrMemoryBy};
 ghost use Rattle.rpki.specs.Encoding.{Means};
 ghost use Rattle.rpki.specs.Certificates.{IsCertificate};
 ghost use Rattle.rpki.specs.Lists.{IsCertificateList};
-ghost use Rattle.rpki_text.specs.CertificateTexts.{AreAnswers};
+ghost use Rattle.rpki_text.specs.CertificateTexts.{AreFindings};
 ghost use Rattle.rpki_files.specs.Contents.{BeginsWithCertificate, BeginsWithList, CanBeShown, LooksLikeList};
 ghost use Rattle.rpki_files.specs.Files.{contents};
+ghost use Rattle.rpki_notes.specs.Notes.{AreNotes};
 ghost use Rattle.rpki_command.specs.JsonAnswers.{AreFilesJson, IsCertificateFileJson, IsFileJson, IsJsonIf, IsListFileJson, IsOtherFileJson, IsShown};
 ghost use Rattle.rpki_command.specs.JsonTexts.{json_lines};
 ghost use Rattle.rpki_command.specs.Outcomes.{IsOutcomeOfShow};
 ghost use Rattle.rpki_text.specs.Pages.{Appends, AppendsSome, line, line_feed};
-ghost use Rattle.rpki_files.specs.PemFiles.{base64_of};
 ghost use Rattle.rpki_command.specs.ShownTexts.{BeginsBefore, IsCertificateFileText, IsFileText, IsFurtherText, IsListFileText, IsOtherFileText, IsRejection, IsTextIf, IsTextOfFiles, certificate_file_text, file_lines, left_line, left_text, list_file_text, stop_text};
 ghost use Rattle.rpki_command.specs.VerdictTexts.{SaysOfEach};
 
 use crate::as_json;
+use crate::notes::print_notes;
 use crate::outcomes::{Answer, Outcome};
-use base64::engine::general_purpose::STANDARD;
 use bytes::Bytes;
 use rpki::der::{Cursor, DecodeError};
 use rpki::repository::x509::Time;
 use rpki::repository::{Cert, Crl};
 use rpki_files::rules::{Rule, of_file};
 use rpki_files::{Form, Object, Place, looks_like, place_of, unless_memory};
-use rpki_text::{Page, certificate, list};
+use rpki_notes::{Note, notes_of};
+use rpki_text::{FileName, Page, certificate, list};
 use serde_json::Value;
 use sha2::{Digest, Sha256};
 use std::alloc::{AllocError, Global};
@@ -42,19 +44,19 @@ pub struct Options {
     pub all: bool,
 }
 
-// The SHA-256 hash of octets, in base64.
-#[tactic(auto, unfolding(rpki_files::specs::PemFiles::base64_of))]
+// The SHA-256 hash of octets, in hexadecimal.
 fn hash(page: &mut Page, octets: &[u8])
-    ensures { Appends page.old (base64_of (sha256 octets.now)) page.new }
+    ensures { Appends page.old (encode_lower (sha256 octets.now)) page.new }
 {
     let digest = Sha256::digest(octets);
-    let made = STANDARD.encode(page.alloc(), digest.as_slice());
+    let made = hex::encode(page.alloc(), digest.as_slice());
     page.formed(made);
 }
 
 #[tactic(auto, unfolding(rpki_text::specs::Pages::line))]
 fn hash_line(page: &mut Page, octets: &[u8])
-    ensures { Appends page.old (line (codes "SHA-256") (base64_of (sha256 octets.now))) page.new }
+    ensures { let hash = encode_lower (sha256 octets.now) in
+        Appends page.old (line (codes "SHA-256") hash) page.new }
 {
     page.label("SHA-256");
     hash(page, octets);
@@ -65,7 +67,7 @@ fn hash_line(page: &mut Page, octets: &[u8])
 fn begun(page: &mut Page, object: &Object<'_>)
     ensures { Appends page.old (file_lines object.now) page.new }
 {
-    page.line("File", object.name);
+    page.line_of("File", &FileName(object.name));
     hash_line(page, object.octets.as_slice());
 }
 
@@ -220,8 +222,8 @@ fn rejected(page: &mut Page, object: &Object<'_>, fault: &DecodeError, options: 
     }
 }
 
-// The certificate that the octets begin with, and how many octets stand behind it.
-fn certificate_in(alloc: Global, octets: &Bytes) -> Result<(Cert, usize), DecodeError>
+/// Reads the certificate that the octets begin with, and counts the octets behind it.
+pub fn certificate_in(alloc: Global, octets: &Bytes) -> Result<(Cert, usize), DecodeError>
     ensures means { MeansOrMemoryBy (λ found. found.0) (Means IsCertificate) result octets.now }
     ensures left { IfOk result (λ found. BeginsBefore IsCertificate octets.now found.0 found.1) }
 {
@@ -235,14 +237,17 @@ fn print_certificate(
     page: &mut Page,
     object: &Object<'_>,
     cert: &Cert,
+    notes: &[Note],
     left: usize,
     options: &Options,
 )
-    ensures { (answers : _) × AreAnswers options.now.strict cert.now answers × Appends page.old
-        (certificate_file_text object.now cert.now.fields options.now.at answers left) page.new }
+    ensures { let f = cert.now.fields in
+        (found : _) × AreFindings options.now.strict cert.now found × Appends page.old
+        (certificate_file_text object.now f options.now.at found notes.now left) page.new }
 {
     begun(page, object);
     certificate::certificate(page, cert, options.at, options.strict);
+    print_notes(page, notes);
     ended(page, left);
 }
 
@@ -250,15 +255,41 @@ fn certificate_json(
     page: &mut Page,
     object: &Object<'_>,
     cert: &Cert,
+    notes: &[Note],
     left: usize,
     options: &Options,
 )
     ensures { BeginsBefore IsCertificate object.now.octets cert.now left
+        → AreNotes object.now.octets notes.now
         → AppendsSome (IsCertificateFileJson options.now object.now) page.old page.new }
 {
     let file = as_shown(object, left);
-    let made = as_json::certificate(page.alloc(), &file, cert, options.strict);
+    let made = as_json::certificate(page.alloc(), &file, cert, notes, options.strict);
     printed(page, made);
+}
+
+fn noted_certificate(
+    page: &mut Page,
+    object: &Object<'_>,
+    cert: &Cert,
+    notes: &[Note],
+    left: usize,
+    options: &Options,
+)
+    ensures text { IsFalse options.now.json
+        → BeginsBefore IsCertificate object.now.octets cert.now left
+        → AreNotes object.now.octets notes.now
+        → AppendsSome (IsCertificateFileText options.now object.now) page.old page.new }
+    ensures json { IsTrue options.now.json
+        → BeginsBefore IsCertificate object.now.octets cert.now left
+        → AreNotes object.now.octets notes.now
+        → AppendsSome (IsCertificateFileJson options.now object.now) page.old page.new }
+{
+    if options.json {
+        certificate_json(page, object, cert, notes, left, options);
+    } else {
+        print_certificate(page, object, cert, notes, left, options);
+    }
 }
 
 fn whole_certificate(
@@ -275,10 +306,12 @@ fn whole_certificate(
         → BeginsBefore IsCertificate object.now.octets cert.now left
         → AppendsSome (IsCertificateFileJson options.now object.now) page.old page.new }
 {
-    if options.json {
-        certificate_json(page, object, cert, left, options);
-    } else {
-        print_certificate(page, object, cert, left, options);
+    match notes_of(page.alloc(), &object.octets) {
+        Ok(notes) => {
+            noted_certificate(page, object, cert, &notes, left, options);
+            drop(notes);
+        }
+        Err(_) => page.fail(),
     }
 }
 
@@ -309,8 +342,8 @@ fn certificate_of(
     }
 }
 
-// The list that the octets begin with, and how many octets stand behind it.
-fn list_in(alloc: Global, octets: &Bytes) -> Result<(Crl, usize), DecodeError>
+/// Reads the revocation list that the octets begin with, and counts the octets behind it.
+pub fn list_in(alloc: Global, octets: &Bytes) -> Result<(Crl, usize), DecodeError>
     ensures means { let encodes = Means IsCertificateList in
         MeansOrMemoryBy (λ found. found.0.list) encodes result octets.now }
     ensures left { IfOk result (λ found.

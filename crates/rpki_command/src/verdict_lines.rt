@@ -1,20 +1,36 @@
 //! The verdict on a path for a person.
-ghost use Rattle.std.specs.Prelude.{◌≡◌, Some, IfOk, option_copied, option_map, codes, string_bytes};
+ghost use Rattle.std.specs.Prelude.{◌≡◌, ◌++◌, Some, IfOk, option_map, codes, string_bytes};
 ghost use Rattle.rpki_text.specs.CertificateTexts.{AreAnswers, met_kind_text};
-ghost use Rattle.rpki_text.specs.Pages.{Appends, AppendsSome, line};
-ghost use Rattle.rpki_command.specs.VerdictTexts.{SaysOfEach, IsMemberLine, IsListPart, IsOutcomeText, IsVerdictText, member_text, other_text, revocation_text, acceptance_text, place_text, reason_text, rejected_text, file_name_at};
+ghost use Rattle.rpki_text.specs.BlockLines.{as_numbers_text, resources_lines};
+ghost use Rattle.rpki_text.specs.KeyTexts.{IsKeyAnswer};
+ghost use Rattle.rpki_text.specs.Pages.{Appends, AppendsSome, colons_text, line};
+ghost use Rattle.rpki.specs.Certificates.{IsCertificate};
+ghost use Rattle.rpki_command.specs.NoteLines.{notes_lines};
+ghost use Rattle.rpki_command.specs.ShownTexts.{BeginsBefore};
+ghost use Rattle.rpki_command.specs.VerdictTexts.{SaysOfEach, IsFindingText, IsMemberPart, IsListPart, IsOutcomeText, IsVerdictText, IsAcceptanceText, IsHeldText, IsMemberText, acceptance_text, after_line, file_name_at, holder_text, left_of_text, member_text, moment_line, no_list_text, other_text, place_text, reason_text, rejected_text, revocation_text, router_text};
 
+use crate::leftovers::{certificate_before, left_of_list};
+use crate::notes::print_notes;
+use crate::verdicts::Finding;
+use rpki::crypto::KeyIdentifier;
 use rpki::repository::cert::{Cert, ResourceCert};
-use rpki::repository::x509::Serial;
-use rpki_files::{Object, as_certificate};
-use rpki_text::Page;
-use rpki_text::blocks::{Family, as_blocks, ip_blocks};
-use rpki_text::certificate::kind_of;
-use rpki_verdicts::{Fault, Question, Verdict, is_list};
+use rpki::repository::path::Judged;
+use rpki::repository::resources::AsResources;
+use rpki::repository::x509::{Serial, Time};
+use rpki_files::Object;
+use rpki_notes::{Note, notes_of};
+use rpki_text::blocks::{Family, as_blocks, ip_blocks, write_as_resources};
+use rpki_text::certificate::{key_identifier, kind_of};
+use rpki_text::keys::answer_of;
+use rpki_text::{FileName, Page};
+use rpki_verdicts::{Fault, Question, Verdict};
 use std::alloc::{AllocError, Global};
 use std::fmt;
 
 const ALGORITHM: &str = "checked (RSASSA-PKCS1-v1_5 with SHA-256, RFC 7935)";
+
+/// What is said where a file given as a list is none.
+pub const NO_LIST: &str = "a file given as a revocation list is none";
 
 const NOT_ASKED: &str = "manifests, and whether names of issuer and subject match";
 
@@ -32,7 +48,7 @@ impl fmt::Display for KnownMember<'_> {
     fn fmt<W: fmt::Write>(&self, f: &mut fmt::Formatter<W>) -> fmt::Result {
         let kind = self.kind;
         let serial = self.serial;
-        let name = self.name;
+        let name = FileName(self.name);
         write!(f, "{kind}, {serial}, {name}")
     }
 }
@@ -45,12 +61,40 @@ impl fmt::Display for OtherMember<'_> {
     ghost output = { λ o. Some (other_text o.0.now) };
 
     fn fmt<W: fmt::Write>(&self, f: &mut fmt::Formatter<W>) -> fmt::Result {
-        let name = self.0;
+        let name = FileName(self.0);
         write!(f, "no certificate, {name}")
     }
 }
 
-fn print_certificate(page: &mut Page, cert: &Cert, strict: bool, name: &str)
+// How many octets of a file stand behind what it begins with.
+fn print_count(page: &mut Page, name: &str, left: usize)
+    ensures { Appends page.old (left_of_text name.now left) page.new }
+{
+    page.value(&FileName(name));
+    page.text(", ");
+    page.count(left as u64, " octet", " octets");
+    page.text(" not read");
+}
+
+#[tactic(auto, unfolding(rpki_text::specs::Pages::line))]
+fn print_count_line(page: &mut Page, name: &str, left: usize)
+    ensures { Appends page.old (line (codes "After its end") (left_of_text name.now left)) page.new }
+{
+    page.label("After its end");
+    print_count(page, name, left);
+    page.end();
+}
+
+// The line that says how many octets stand behind, where some do.
+fn print_left(page: &mut Page, name: &str, left: usize)
+    ensures { Appends page.old (after_line name.now left) page.new }
+{
+    if left > 0 {
+        print_count_line(page, name, left);
+    }
+}
+
+fn print_known(page: &mut Page, cert: &Cert, strict: bool, name: &str)
     ensures { (answers : _) × AreAnswers strict cert.now answers × Appends page.old
         (line (codes "Member") (member_text (met_kind_text answers) cert.now.fields.serial name.now))
         page.new }
@@ -65,13 +109,46 @@ fn print_certificate(page: &mut Page, cert: &Cert, strict: bool, name: &str)
     );
 }
 
-// The line of a member: what it is by its octets, its serial number and its file.
-fn print_member(page: &mut Page, object: &Object<'_>, strict: bool)
-    ensures { AppendsSome (IsMemberLine strict object.now) page.old page.new }
+// The lines of a member by its certificate, with its notes, and with so many octets behind it.
+fn print_certificate(
+    page: &mut Page,
+    cert: &Cert,
+    strict: bool,
+    name: &str,
+    notes: &[Note],
+    left: usize,
+)
+    ensures { (answers : _) × AreAnswers strict cert.now answers × Appends page.old
+        (line (codes "Member") (member_text (met_kind_text answers) cert.now.fields.serial name.now)
+        ++ (notes_lines notes.now ++ after_line name.now left)) page.new }
 {
-    match as_certificate(page.alloc(), object) {
-        Ok(Some(cert)) => {
-            print_certificate(page, &cert, strict, object.name);
+    print_known(page, cert, strict, name);
+    print_notes(page, notes);
+    print_left(page, name, left);
+}
+
+fn print_noted(page: &mut Page, object: &Object<'_>, strict: bool, cert: &Cert, left: usize)
+    ensures { BeginsBefore IsCertificate object.now.octets cert.now left
+        → AppendsSome (IsMemberText strict object.now) page.old page.new }
+{
+    match notes_of(page.alloc(), &object.octets) {
+        Ok(notes) => {
+            print_certificate(page, cert, strict, object.name, &notes, left);
+            drop(notes);
+        }
+        Err(_) => page.fail(),
+    }
+}
+
+// The lines of a member: what it is by its octets, its serial number and its file, its notes, and
+// how many octets stand behind it.
+fn print_member(page: &mut Page, object: &Object<'_>, strict: bool)
+    ensures { AppendsSome (IsMemberPart strict object.now) page.old page.new }
+{
+    match certificate_before(page.alloc(), &object.octets) {
+        Ok(Some(found)) => {
+            let (cert, left) = found;
+            print_noted(page, object, strict, &cert, left);
             drop(cert);
         }
         Ok(None) => page.line_of("Member", &OtherMember(object.name)),
@@ -80,25 +157,24 @@ fn print_member(page: &mut Page, object: &Object<'_>, strict: bool)
 }
 
 fn print_members(page: &mut Page, objects: &[Object<'_>], strict: bool)
-    ensures { AppendsSome (SaysOfEach (IsMemberLine strict) objects.now) page.old page.new }
+    ensures { AppendsSome (SaysOfEach (IsMemberPart strict) objects.now) page.old page.new }
 {
     for object in objects {
         print_member(page, object, strict);
     }
 }
 
-// Names a file given as a list that is none.
+// Names a file given as a list that is none, or says how many octets stand behind the list.
 fn print_list(page: &mut Page, object: &Object<'_>)
     ensures { AppendsSome (IsListPart object.now) page.old page.new }
 {
-    match is_list(page.alloc(), object) {
-        Ok(true) => {}
-        Ok(false) => page.line("Not a list", object.name),
+    match left_of_list(page.alloc(), &object.octets) {
+        Ok(Some(left)) => print_left(page, object.name, left),
+        Ok(None) => page.line_of("Not a list", &FileName(object.name)),
         Err(_) => page.fail(),
     }
 }
 
-// Names the files given as lists that are none.
 fn print_lists(page: &mut Page, objects: &[Object<'_>])
     ensures { AppendsSome (SaysOfEach IsListPart objects.now) page.old page.new }
 {
@@ -117,16 +193,90 @@ fn revocation(lists: &[Object<'_>]) -> &'static str
     }
 }
 
-fn print_accepted(page: &mut Page, lists: &[Object<'_>], holder: &ResourceCert)
-    ensures { Appends page.old (acceptance_text lists.now holder.now) page.new }
+// That a path is accepted, and what was asked of it.
+fn print_checks(page: &mut Page, lists: &[Object<'_>])
+    ensures { Appends page.old (acceptance_text lists.now) page.new }
 {
     page.line("Path", "accepted");
     page.line("Signatures", ALGORITHM);
     page.line("Revocation", revocation(lists));
     page.line("Not asked", NOT_ASKED);
-    ip_blocks(page, "Holds IPv4", Family::V4, holder.v4_resources());
-    ip_blocks(page, "Holds IPv6", Family::V6, holder.v6_resources());
-    as_blocks(page, "Holds AS numbers", holder.as_resources());
+}
+
+// What a member holds, under these labels.
+fn print_holder(page: &mut Page, ipv4: &str, ipv6: &str, numbers: &str, holder: &ResourceCert)
+    ensures { Appends page.old (holder_text ipv4.now ipv6.now numbers.now holder.now) page.new }
+{
+    ip_blocks(page, ipv4, Family::V4, holder.v4_resources());
+    ip_blocks(page, ipv6, Family::V6, holder.v6_resources());
+    as_blocks(page, numbers, holder.as_resources());
+}
+
+// The AS numbers that a router's certificate lists.
+#[derive(Drop)]
+struct Numbers<'a>(&'a AsResources);
+
+impl fmt::Display for Numbers<'_> {
+    ghost output = { λ n. Some (resources_lines as_numbers_text (codes "Router AS numbers") n.0.now) };
+
+    fn fmt<W: fmt::Write>(&self, f: &mut fmt::Formatter<W>) -> fmt::Result {
+        write_as_resources(f, "Router AS numbers", self.0)
+    }
+}
+
+#[tactic(auto, unfolding(rpki_text::specs::Pages::line))]
+fn print_identifier(page: &mut Page, id: &KeyIdentifier)
+    ensures { Appends page.old (line (codes "Router key identifier") (colons_text id.now)) page.new }
+{
+    page.label("Router key identifier");
+    key_identifier(page, id);
+    page.end();
+}
+
+// A router's AS numbers and its key.
+fn print_router(page: &mut Page, cert: &Cert)
+    ensures { (key : _) × IsKeyAnswer cert.now.fields.key key
+        × Appends page.old (router_text cert.now key) page.new }
+{
+    let key = answer_of(cert.as_tbs().subject_public_key_info());
+    page.value(&Numbers(cert.as_tbs().as_resources()));
+    page.line_of("Router key", &key);
+    print_identifier(page, &cert.as_tbs().subject_key_identifier());
+}
+
+fn print_router_below(page: &mut Page, cert: &Cert, holder: &ResourceCert)
+    ensures { AppendsSome (IsHeldText holder.now (Some cert.now)) page.old page.new }
+{
+    print_router(page, cert);
+    print_holder(
+        page,
+        "Issuer holds IPv4",
+        "Issuer holds IPv6",
+        "Issuer holds AS numbers",
+        holder,
+    );
+}
+
+fn print_held(page: &mut Page, judged: &Judged)
+    ensures { AppendsSome (IsHeldText judged.now.holder judged.now.router) page.old page.new }
+{
+    match &judged.router {
+        Some(cert) => print_router_below(page, cert, &judged.holder),
+        None => print_holder(
+            page,
+            "Holds IPv4",
+            "Holds IPv6",
+            "Holds AS numbers",
+            &judged.holder,
+        ),
+    }
+}
+
+fn print_accepted(page: &mut Page, lists: &[Object<'_>], judged: &Judged)
+    ensures { AppendsSome (IsAcceptanceText lists.now judged.now) page.old page.new }
+{
+    print_checks(page, lists);
+    print_held(page, judged);
 }
 
 // The place of a member, and its name, where there is a member.
@@ -143,7 +293,10 @@ impl fmt::Display for Place<'_> {
         let index = self.index;
         match self.name {
             None => write!(f, "member {index}"),
-            Some(name) => write!(f, "member {index}, {name}"),
+            Some(name) => {
+                let name = FileName(name);
+                write!(f, "member {index}, {name}")
+            }
         }
     }
 }
@@ -198,37 +351,67 @@ fn print_rejected(page: &mut Page, members: &[Object<'_>], fault: &Fault)
     }
 }
 
-fn print_outcome(page: &mut Page, question: &Question<'_, '_>, verdict: Option<&Verdict>)
-    ensures { AppendsSome (IsOutcomeText question.now (option_copied verdict.entry))
-        page.old page.new }
+// That a file given as a list is none.
+fn print_no_list(page: &mut Page)
+    ensures { Appends page.old no_list_text page.new }
+{
+    page.line("Path", "rejected");
+    page.line("Step", "lists");
+    page.line_of(
+        "Why",
+        &Reason {
+            says: NO_LIST,
+            name: "NotAList",
+        },
+    );
+    page.line("Standard", "RFC 6487 5");
+}
+
+fn print_outcome(page: &mut Page, question: &Question<'_, '_>, verdict: &Option<Verdict>)
+    ensures { AppendsSome (IsOutcomeText question.now verdict.now) page.old page.new }
 {
     match verdict {
-        Some(Verdict::Accepted(holder)) => print_accepted(page, question.lists, holder),
+        Some(Verdict::Accepted(judged)) => print_accepted(page, question.lists, judged),
         Some(Verdict::Rejected(fault)) => print_rejected(page, question.members, fault),
         None => {}
     }
 }
 
-// The members of a path, the files given as lists that are none, and the verdict.
-fn print_verdict(page: &mut Page, question: &Question<'_, '_>, verdict: Option<&Verdict>)
-    ensures { AppendsSome (IsVerdictText question.now (option_copied verdict.entry))
-        page.old page.new }
+fn print_finding(page: &mut Page, question: &Question<'_, '_>, finding: &Finding)
+    ensures { AppendsSome (IsFindingText question.now finding.now) page.old page.new }
+{
+    match finding {
+        Finding::NotAList => print_no_list(page),
+        Finding::Decided(verdict) => print_outcome(page, question, verdict),
+    }
+}
+
+fn print_moment(page: &mut Page, at: Time)
+    ensures { Appends page.old (moment_line at) page.new }
+{
+    page.line_of("Moment", &at);
+}
+
+// The members of a path, the files given as lists that are none, the moment, and what is found.
+fn print_verdict(page: &mut Page, question: &Question<'_, '_>, finding: &Finding)
+    ensures { AppendsSome (IsVerdictText question.now finding.now) page.old page.new }
 {
     print_members(page, question.members, question.strict);
     print_lists(page, question.lists);
-    print_outcome(page, question, verdict);
+    print_moment(page, question.at);
+    print_finding(page, question, finding);
 }
 
-/// Writes the members of a path, the files given as lists that are none, and the verdict.
+/// Writes the members of a path, the files given as lists that are none, the moment, and what is
+/// found of the path.
 pub fn verdict_text(
     alloc: Global,
     question: &Question<'_, '_>,
-    verdict: Option<&Verdict>,
+    finding: &Finding,
 ) -> Result<String, AllocError>
-    ensures { let verdict = option_copied verdict.entry in
-        IfOk result (λ text. IsVerdictText question.now verdict (string_bytes text)) }
+    ensures { IfOk result (λ text. IsVerdictText question.now finding.now (string_bytes text)) }
 {
     let mut page = Page::new(alloc);
-    print_verdict(&mut page, question, verdict);
+    print_verdict(&mut page, question, finding);
     page.into_text()
 }

@@ -1,13 +1,12 @@
 //! The verdict on a path, for a person or as JSON.
-ghost use Rattle.std.specs.Prelude.{◌↔◌, All, IfOk, IsTrue, IsFalse, option_copied, string_bytes};
+ghost use Rattle.std.specs.Prelude.{◌↔◌, All, IfOk, IsTrue, IsFalse, string_bytes};
 ghost use Rattle.rpki.specs.RsaSignatures.{IsSignedByRsa};
 ghost use Rattle.rpki.specs.Verification.{context};
 ghost use Rattle.rpki_files.specs.Contents.{BeginsWithList};
 ghost use Rattle.rpki_files.specs.Files.{contents};
 ghost use Rattle.rpki_command.specs.JsonVerdicts.{IsJsonOfPath, IsVerdictLines};
 ghost use Rattle.rpki_command.specs.Outcomes.{IsOutcomeOfValidate};
-ghost use Rattle.rpki_verdicts.specs.PathAnswers.{IsAcceptance};
-ghost use Rattle.rpki_command.specs.VerdictTexts.{IsTextOfPath};
+ghost use Rattle.rpki_command.specs.VerdictTexts.{IsAccepted, IsFinding, IsTextOfPath};
 
 use crate::as_json;
 use crate::outcomes::{Answer, Outcome};
@@ -16,16 +15,23 @@ use rpki_files::Object;
 use rpki_verdicts::{Question, Verdict, is_list, judge};
 use std::alloc::{AllocError, Global};
 
-// The verdict as JSON.
+/// What is found of a path: that a file given as a list is none, so that nothing is judged; or the
+/// verdict, which there is where the path has a file.
+#[derive(Drop)]
+pub enum Finding {
+    NotAList,
+    Decided(Option<Verdict>),
+}
+
+// What is found, as JSON.
 fn json_text(
     alloc: Global,
     question: &Question<'_, '_>,
-    verdict: Option<&Verdict>,
+    finding: &Finding,
 ) -> Result<String, AllocError>
-    ensures { let verdict = option_copied verdict.entry in
-        IfOk result (λ text. IsVerdictLines question.now verdict (string_bytes text)) }
+    ensures { IfOk result (λ text. IsVerdictLines question.now finding.now (string_bytes text)) }
 {
-    let value = as_json::path(alloc, question, verdict)?;
+    let value = as_json::path(alloc, question, finding)?;
     let text = as_json::lines_of(alloc, &value);
     drop(value);
     text
@@ -42,18 +48,31 @@ fn are_lists(alloc: Global, lists: &[Object<'_>]) -> Result<bool, AllocError>
     Ok(are_lists)
 }
 
-// Whether the path is accepted; it isn't where it has no file.
-fn is_accepted(verdict: &Option<Verdict>) -> bool
-    ensures { IsTrue result ↔ IsAcceptance verdict.now }
+// What is found of the path.
+fn find(alloc: Global, question: &Question<'_, '_>) -> Result<Finding, AllocError>
+    ensures { let x = context IsSignedByRsa question.now.at question.now.strict in
+        IfOk result (IsFinding x question.now) }
 {
-    match verdict {
-        Some(Verdict::Accepted(_)) => true,
-        Some(Verdict::Rejected(_)) | None => false,
+    let are_lists = are_lists(alloc, question.lists)?;
+    if are_lists {
+        let verdict = judge(alloc, question)?;
+        return Ok(Finding::Decided(verdict));
+    }
+    Ok(Finding::NotAList)
+}
+
+// Whether the path is accepted; it isn't where it has no file.
+fn is_accepted(finding: &Finding) -> bool
+    ensures { IsTrue result ↔ IsAccepted finding.now }
+{
+    match finding {
+        Finding::Decided(Some(Verdict::Accepted(_))) => true,
+        Finding::Decided(_) | Finding::NotAList => false,
     }
 }
 
-/// Validates the path and writes the verdict, as lines for a person or as JSON. The outcome is
-/// success where the path is accepted, and each file given as a list begins with one.
+/// Validates the path and writes what is found, as lines for a person or as JSON. The outcome is
+/// success where each file given as a list begins with one, and the path is accepted.
 pub fn validated(
     alloc: Global,
     question: &Question<'_, '_>,
@@ -70,17 +89,16 @@ pub fn validated(
         IsTrue is_json
         → IfOk result (λ answer. IsJsonOfPath x question.now (string_bytes answer.text)) }
 {
-    let are_lists = are_lists(alloc, question.lists)?;
-    let verdict = judge(alloc, question)?;
-    let is_accepted = is_accepted(&verdict);
+    let finding = find(alloc, question)?;
+    let is_accepted = is_accepted(&finding);
     let text = if is_json {
-        json_text(alloc, question, verdict.as_ref())
+        json_text(alloc, question, &finding)
     } else {
-        verdict_text(alloc, question, verdict.as_ref())
+        verdict_text(alloc, question, &finding)
     };
-    drop(verdict);
+    drop(finding);
     Ok(Answer {
         text: text?,
-        outcome: Outcome::of_answer(are_lists & is_accepted),
+        outcome: Outcome::of_answer(is_accepted),
     })
 }

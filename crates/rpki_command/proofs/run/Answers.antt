@@ -6,10 +6,11 @@ use Rattle.rpki.specs.Verification.{Context, context}
 use Rattle.rpki_command.specs.CommandLines.{RequestFields}
 use Rattle.rpki_command.specs.CommandLines.Views.{fields_of}
 use Rattle.rpki_files.specs.Files.{FileFields, file_names, contents}
-use Rattle.rpki_command.specs.Outcomes.{AsksOfFiles, IsOutcomeOf, MayEndWith}
+use Rattle.rpki_command.specs.Outcomes.{AreReadOf, AsksOfFiles, IsOutcomeOf, MayEndWith}
 use Rattle.rpki_command.specs.declared.arguments.Task.{Task}
 use Rattle.rpki_command.specs.declared.arguments.Task.TheVariants.{Show, Validate, Help, Version}
 use Rattle.rpki_command.specs.declared.outcomes.Outcome.TheVariants.{Success}
+use Rattle.rpki_command.proofs.EndedRuns.{run_ends}
 use Rattle.rpki_command.proofs.run.Goals as goal
 
 -- the moment that is named, or any
@@ -32,6 +33,11 @@ unfolding empty_files
 empty_named [] = refl
 empty_named (name ∷ names) = ap (λ (l : List (List ℕ)). name ∷ l) (empty_named names)
 
+empty_read : (names : List (List ℕ)) → AreReadOf names (empty_files names)
+unfolding empty_files
+empty_read [] = refl
+empty_read (name ∷ names) = inl (record { name = name; octets = [] }, empty_files names, refl, empty_read names, refl)
+
 -- a text about the command is success
 told : (r : RequestFields) → (AsksOfFiles r.task → ⊥) → MayEndWith r Success
 told r none = record {
@@ -39,9 +45,9 @@ told r none = record {
   files = empty_files r.files;
   lists = empty_files r.lists;
   now_is = (some_moment r.at).1;
-  files_named = empty_named r.files;
-  lists_named = empty_named r.lists;
-  outcome_is = success r.task (context IsSignedByRsa (some_moment r.at).0 r.strict) (contents (empty_files r.files)) (contents (empty_files r.lists)) none;
+  files_read = empty_read r.files;
+  lists_read = empty_read r.lists;
+  ends = ((empty_named r.files, empty_named r.lists), success r.task (context IsSignedByRsa (some_moment r.at).0 r.strict) (contents (empty_files r.files)) (contents (empty_files r.lists)) none);
 }
 
 pub returns-in-Err : goal.returns-in-Err
@@ -51,3 +57,6 @@ pub returns-in-Some : goal.returns-in-Some
 returns-in-Some c =
     let r = fields_of c.in-Ok.request in
     (r, c.in-Ok.ensures.command_line, told r c.in-Some.ensures)
+
+pub returns : goal.returns
+returns c = run_ends _ (fields_of c.in-Ok.request) c.answer.result c.in-Ok.ensures.command_line c.answer.ensures

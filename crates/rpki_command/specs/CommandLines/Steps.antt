@@ -1,6 +1,10 @@
 -- What the functions that read a command line say of a word or two, and of those behind the task.
 use Rattle.std.specs.Prelude.{◌≡◌, ◌⊎◌, ℕ, List, ◌++◌, codes}
-use Rattle.rpki_command.specs.CommandLines.{LinePart, IsPart, AreParts, RequestFields, with_part, with_parts}
+use Rattle.rpki.specs.Times.{Moment, IsMoment}
+use Rattle.rpki_text.specs.MomentTexts.{IsMomentText}
+use Rattle.rpki_command.specs.declared.arguments.Setting.{Setting}
+use Rattle.rpki_command.specs.declared.arguments.Setting.TheVariants.{Crl, At, MaxSize}
+use Rattle.rpki_command.specs.CommandLines.{IsNumberText, LinePart, list, at_moment, max_size, lenient, json, all, help, IsPart, AreParts, RequestFields, setting_name, with_part, with_parts}
 
 -- the words are a part, and the new request has what it says too
 abbrev pub AddsPart : List (List ℕ) → RequestFields → RequestFields → Type 0
@@ -14,6 +18,31 @@ AddsParts words old new = (parts : List LinePart) × AreParts parts words × (ne
 abbrev pub BeginsNoPart : List (List ℕ) → Type 0
 BeginsNoPart words = (part : LinePart) (its behind rest : List (List ℕ)) → IsPart part its → words ++ behind ≡ its ++ rest → ⊥
 
--- the word behind the option is its value
-abbrev pub TakesValue : List ℕ → Type 0
-TakesValue option = (option ≡ codes "--crl") ⊎ (option ≡ codes "--at")
+-- ---- options that take a value
+
+-- the word is the option's name, or its name, `=` and a value
+abbrev pub Names : Setting → List ℕ → Type 0
+Names setting word = word ≡ setting_name setting
+
+abbrev pub Joins : Setting → List ℕ → List ℕ → Type 0
+Joins setting value word = word ≡ setting_name setting ++ codes "=" ++ value
+
+-- the option with this value is the part
+abbrev pub IsSet : Setting → List ℕ → LinePart → Type 0
+IsSet Crl value part = part ≡ list value
+IsSet At value part = (m : Moment) × (part ≡ at_moment m) × IsMoment m × IsMomentText m value
+IsSet MaxSize value part = (n : ℕ) × (part ≡ max_size n) × IsNumberText n value
+
+-- the new request has what the option with this value says too
+abbrev pub AddsSet : Setting → List ℕ → RequestFields → RequestFields → Type 0
+AddsSet setting value old new = (part : LinePart) × IsSet setting value part × (new ≡ with_part old part)
+
+-- ---- options that take none
+
+-- the word is this option, which takes no value
+abbrev pub IsSwitch : LinePart → List ℕ → Type 0
+IsSwitch lenient word = word ≡ codes "--lenient"
+IsSwitch json word = (word ≡ codes "--json") ⊎ (word ≡ codes "-j")
+IsSwitch all word = word ≡ codes "--all"
+IsSwitch help word = (word ≡ codes "--help") ⊎ (word ≡ codes "-h")
+IsSwitch _ word = ⊥

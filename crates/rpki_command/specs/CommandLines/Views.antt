@@ -1,12 +1,12 @@
 -- What contracts see of words and of a request.
-use Rattle.std.specs.Prelude.{ℕ, List, map, string_bytes}
-use Rattle.std.specs.declared.string.String.{String}
+use Rattle.std.specs.Prelude.{ℕ, List, map}
+use Rattle.std.specs.declared.vec.Vec.{Vec}
 use Rattle.rpki_command.specs.declared.arguments.Request.{Request}
 use Rattle.rpki_command.specs.CommandLines.{RequestFields}
 
 -- the octets of each word
-abbrev pub word_octets : {Z : Type 0} → List (String Z) → List (List ℕ)
-word_octets words = map string_bytes words
+abbrev pub word_octets : {Z : Type 0} → List (Vec ℕ Z) → List (List ℕ)
+word_octets words = map (λ word. word.items) words
 
 -- what a request asks
 abbrev pub fields_of : Request → RequestFields
@@ -16,6 +16,7 @@ fields_of r = record {
   strict = r.strict;
   json = r.json;
   all_entries = r.all;
+  max_size = r.max_size;
   files = map (λ name. name.now) r.files.items;
   lists = map (λ name. name.now) r.lists.items;
 }

@@ -11,6 +11,7 @@ ghost use Rattle.rpki_command.specs.JsonValues.{Puts, member_of, moment_json, ob
 ghost use Rattle.rpki_text.specs.Pages.{Appends, characters_text, colons_text};
 ghost use Rattle.rpki_files.specs.PemFiles.{base64_of};
 
+use crate::as_json::ascii::ended_ascii;
 use base64::engine::general_purpose::STANDARD;
 use rpki::crypto::KeyIdentifier;
 use rpki::repository::x509::{Name, Serial, Time};
@@ -158,12 +159,11 @@ pub fn object_of(alloc: Global, key: &str, value: Value) -> Result<Value, AllocE
     Ok(out.into_value())
 }
 
-/// Writes a value on lines of its own.
+/// Writes a value on lines of its own, in ASCII.
 pub fn lines_of(alloc: Global, value: &Value) -> Result<String, AllocError>
     ensures { has_float (view value.now) ≡ false
         → IfOk result (λ text. string_bytes text ≡ json_lines (view value.now)) }
 {
-    let mut text = value.to_string_pretty(alloc)?;
-    text.push_str("\n")?;
-    Ok(text)
+    let text = value.to_string_pretty(alloc)?;
+    ended_ascii(alloc, text.as_str())
 }

@@ -1,17 +1,28 @@
 //! The verdict on a path as JSON.
-ghost use Rattle.std.specs.Prelude.{◌≡◌, [], ◌∷◌, List, codes, map, IfOk, OnOk, option_copied};
-ghost use Rattle.serde_json.specs.Data.{string};
+ghost use Rattle.std.specs.Prelude.{◌≡◌, ◌++◌, [], ◌∷◌, List, Some, codes, IfOk, OnOk};
+ghost use Rattle.serde_json.specs.Data.{Data};
 ghost use Rattle.serde_json.specs.View.{view};
-ghost use Rattle.rpki_files.specs.Files.{FileFields};
-ghost use Rattle.rpki_command.specs.JsonValues.{Puts, Pushes, text_member_if_any};
-ghost use Rattle.rpki_command.specs.JsonVerdicts.{AreNoLists, IsVerdictJson, accepted_members, answer_members, fault_json, has_lists, names_json, rejected_members};
-ghost use Rattle.rpki_command.specs.VerdictTexts.{file_name_at};
+ghost use Rattle.rpki.specs.Certificates.{IsCertificate};
+ghost use Rattle.rpki.specs.Lists.{IsCertificateList};
+ghost use Rattle.rpki_text.specs.KeyTexts.{IsKeyAnswer};
+ghost use Rattle.rpki_command.specs.JsonNotes.{notes_json};
+ghost use Rattle.rpki_command.specs.JsonValues.{Puts, Pushes, array_of, flattened, member_of, object_of, text_member, text_member_if_any};
+ghost use Rattle.rpki_command.specs.JsonVerdicts.{AreAcceptedMembers, AreAnswerMembers, AreVerdictMembers, IsLeftItem, IsNoteItem, IsOtherItem, IsVerdictJson, PushesSome, PutsSome, accepted_members, fault_json, has_lists, left_items, left_json, names_json, no_list_json, note_items, rejected_members, router_json};
+ghost use Rattle.rpki_command.specs.VerdictTexts.{SaysOfEach, file_name_at};
 
-use crate::as_json::blocks::held;
+use crate::as_json::blocks::{held, listed};
+use crate::as_json::key::facts;
+use crate::as_json::notes::notes_value;
 use crate::as_json::objects::Members;
 use crate::as_json::put_rule;
-use rpki::repository::cert::ResourceCert;
+use crate::leftovers::{left_of_certificate, left_of_list};
+use crate::verdict_lines::NO_LIST;
+use crate::verdicts::Finding;
+use rpki::repository::cert::{Cert, ResourceCert};
+use rpki::repository::path::Judged;
 use rpki_files::Object;
+use rpki_notes::{Note, notes_of};
+use rpki_text::keys::answer_of;
 use rpki_verdicts::{Fault, Question, Verdict, is_list};
 use serde_json::Value;
 use std::alloc::{AllocError, Global};
@@ -37,8 +48,7 @@ fn has_lists(lists: &[Object<'_>]) -> bool
 
 // Pushes the name of a file given as a list, if it is none.
 fn push_other(alloc: Global, names: &mut Vec<Value>, list: &Object<'_>) -> Result<(), AllocError>
-    ensures { OnOk result ((others : List FileFields) × AreNoLists (list.now ∷ []) others
-        × Pushes (map (λ file. string file.name) others) names.old.items names.new.items) }
+    ensures { OnOk result (PushesSome (IsOtherItem list.now) names.old.items names.new.items) }
 {
     if is_list(alloc, list)? {
         return Ok(());
@@ -50,14 +60,160 @@ fn push_other(alloc: Global, names: &mut Vec<Value>, list: &Object<'_>) -> Resul
 
 // The names of the files given as lists that are none.
 fn not_lists(alloc: Global, lists: &[Object<'_>]) -> Result<Value, AllocError>
-    ensures { IfOk result (λ made. (others : List FileFields) × AreNoLists lists.now others
-        × (view made ≡ names_json others)) }
+    ensures { IfOk result (λ made. (items : List Data) × SaysOfEach IsOtherItem lists.now items
+        × (view made ≡ array_of items)) }
 {
     let mut names = Vec::new(alloc);
     for list in lists {
         push_other(alloc, &mut names, list)?;
     }
     Ok(Value::from(names))
+}
+
+// A file's name, and how many of its octets stand behind what it begins with.
+fn left_of(alloc: Global, name: &str, left: usize) -> Result<Value, AllocError>
+    ensures { IfOk result (λ made. view made ≡ left_json name.now left) }
+{
+    let mut out = Members::new(alloc);
+    out.text("file", name)?;
+    out.value("octets", Value::from(left as u64))?;
+    Ok(out.into_value())
+}
+
+// Pushes it where some do.
+fn push_left(
+    alloc: Global,
+    values: &mut Vec<Value>,
+    name: &str,
+    left: Option<usize>,
+) -> Result<(), AllocError>
+    ensures { OnOk result (Pushes (left_items name.now left) values.old.items values.new.items) }
+{
+    match left {
+        None | Some(0) => Ok(()),
+        Some(left) => {
+            let value = left_of(alloc, name, left)?;
+            values.push(value)?;
+            Ok(())
+        }
+    }
+}
+
+fn push_member(
+    alloc: Global,
+    values: &mut Vec<Value>,
+    member: &Object<'_>,
+) -> Result<(), AllocError>
+    ensures { let IsItem = IsLeftItem IsCertificate in
+        OnOk result (PushesSome (IsItem member.now) values.old.items values.new.items) }
+{
+    let left = left_of_certificate(alloc, &member.octets)?;
+    push_left(alloc, values, member.name, left)
+}
+
+fn push_members(
+    alloc: Global,
+    values: &mut Vec<Value>,
+    members: &[Object<'_>],
+) -> Result<(), AllocError>
+    ensures { let Are = SaysOfEach (IsLeftItem IsCertificate) in
+        OnOk result (PushesSome (Are members.now) values.old.items values.new.items) }
+{
+    for member in members {
+        push_member(alloc, values, member)?;
+    }
+    Ok(())
+}
+
+fn push_list(alloc: Global, values: &mut Vec<Value>, list: &Object<'_>) -> Result<(), AllocError>
+    ensures { let IsItem = IsLeftItem IsCertificateList in
+        OnOk result (PushesSome (IsItem list.now) values.old.items values.new.items) }
+{
+    let left = left_of_list(alloc, &list.octets)?;
+    push_left(alloc, values, list.name, left)
+}
+
+fn push_lists(
+    alloc: Global,
+    values: &mut Vec<Value>,
+    lists: &[Object<'_>],
+) -> Result<(), AllocError>
+    ensures { let Are = SaysOfEach (IsLeftItem IsCertificateList) in
+        OnOk result (PushesSome (Are lists.now) values.old.items values.new.items) }
+{
+    for list in lists {
+        push_list(alloc, values, list)?;
+    }
+    Ok(())
+}
+
+// The files with octets behind what they begin with.
+fn left_over(
+    alloc: Global,
+    members: &[Object<'_>],
+    lists: &[Object<'_>],
+) -> Result<Value, AllocError>
+    ensures { IfOk result (λ made. (a : List Data) × (b : List Data)
+        × SaysOfEach (IsLeftItem IsCertificate) members.now a
+        × SaysOfEach (IsLeftItem IsCertificateList) lists.now b
+        × (view made ≡ array_of (a ++ b))) }
+{
+    let mut values = Vec::new(alloc);
+    push_members(alloc, &mut values, members)?;
+    push_lists(alloc, &mut values, lists)?;
+    Ok(Value::from(values))
+}
+
+// The notes of a member, with its name.
+fn noted(alloc: Global, name: &str, notes: &[Note]) -> Result<Value, AllocError>
+    ensures { let its = flattened (text_member (codes "file") name.now
+        ∷ member_of (codes "notes") (notes_json notes.now) ∷ []) in
+        IfOk result (λ made. view made ≡ object_of its) }
+{
+    let mut out = Members::new(alloc);
+    out.text("file", name)?;
+    let value = notes_value(alloc, notes)?;
+    out.value("notes", value)?;
+    Ok(out.into_value())
+}
+
+// Pushes them where there are some.
+fn push_notes(
+    alloc: Global,
+    values: &mut Vec<Value>,
+    name: &str,
+    notes: &[Note],
+) -> Result<(), AllocError>
+    ensures { OnOk result (Pushes (note_items name.now notes.now) values.old.items values.new.items) }
+{
+    match notes {
+        [] => Ok(()),
+        [_, ..] => {
+            let value = noted(alloc, name, notes)?;
+            values.push(value)?;
+            Ok(())
+        }
+    }
+}
+
+fn push_noted(alloc: Global, values: &mut Vec<Value>, member: &Object<'_>) -> Result<(), AllocError>
+    ensures { OnOk result
+        (PushesSome (IsNoteItem member.now) values.old.items values.new.items) }
+{
+    let notes = notes_of(alloc, &member.octets)?;
+    push_notes(alloc, values, member.name, &notes)
+}
+
+// The members with notes.
+fn all_noted(alloc: Global, members: &[Object<'_>]) -> Result<Value, AllocError>
+    ensures { IfOk result (λ made. (items : List Data) × SaysOfEach IsNoteItem members.now items
+        × (view made ≡ array_of items)) }
+{
+    let mut values = Vec::new(alloc);
+    for member in members {
+        push_noted(alloc, &mut values, member)?;
+    }
+    Ok(Value::from(values))
 }
 
 // The name of the member at a place, where there is one.
@@ -85,7 +241,7 @@ fn fault_of(alloc: Global, members: &[Object<'_>], fault: &Fault) -> Result<Valu
     Ok(out.into_value())
 }
 
-fn put_accepted(out: &mut Members, alloc: Global, holder: &ResourceCert) -> Result<(), AllocError>
+fn put_holder(out: &mut Members, alloc: Global, holder: &ResourceCert) -> Result<(), AllocError>
     ensures { OnOk result (Puts (accepted_members holder.now) out.old out.new) }
 {
     out.value("accepted", Value::from(true))?;
@@ -93,44 +249,117 @@ fn put_accepted(out: &mut Members, alloc: Global, holder: &ResourceCert) -> Resu
     out.value("holds", Value::from(items))
 }
 
-fn put_rejected(
+// What a router's certificate lists, and its key.
+fn router_of(alloc: Global, cert: &Cert) -> Result<Value, AllocError>
+    ensures { IfOk result (λ made. (key : _) × IsKeyAnswer cert.now.fields.key key
+        × (view made ≡ router_json cert.now key)) }
+{
+    let mut out = Members::new(alloc);
+    let items = listed(alloc, cert.as_tbs())?;
+    out.value("subordinate_resources", Value::from(items))?;
+    out.identifier("ski", &cert.as_tbs().subject_key_identifier())?;
+    let key = answer_of(cert.as_tbs().subject_public_key_info());
+    let told = facts(alloc, &key)?;
+    out.value("key", told)?;
+    Ok(out.into_value())
+}
+
+fn put_router(
     out: &mut Members,
     alloc: Global,
-    members: &[Object<'_>],
-    fault: &Fault,
+    holder: &ResourceCert,
+    cert: &Cert,
 ) -> Result<(), AllocError>
-    ensures { OnOk result (Puts (rejected_members members.now fault.now) out.old out.new) }
+    ensures { let Are = AreAcceptedMembers holder.now (Some cert.now) in
+        OnOk result (PutsSome Are out.old out.new) }
 {
-    out.value("accepted", Value::from(false))?;
-    let found = fault_of(alloc, members, fault)?;
-    out.value("rejected", found)
+    out.value("accepted", Value::from(true))?;
+    let router = router_of(alloc, cert)?;
+    out.value("router", router)?;
+    let items = held(alloc, holder)?;
+    out.value("issuer_holds", Value::from(items))?;
+    Ok(())
+}
+
+fn put_accepted(out: &mut Members, alloc: Global, judged: &Judged) -> Result<(), AllocError>
+    ensures { let Are = AreAcceptedMembers judged.now.holder judged.now.router in
+        OnOk result (PutsSome Are out.old out.new) }
+{
+    match &judged.router {
+        Some(cert) => put_router(out, alloc, &judged.holder, cert),
+        None => put_holder(out, alloc, &judged.holder),
+    }
+}
+
+// Why a path is rejected whose lists aren't all lists.
+fn no_list(alloc: Global) -> Result<Value, AllocError>
+    ensures { IfOk result (λ made. view made ≡ no_list_json) }
+{
+    let mut out = Members::new(alloc);
+    out.text("step", "lists")?;
+    out.text("fault", "NotAList")?;
+    out.text("why", NO_LIST)?;
+    out.text("standard", "RFC 6487 5")?;
+    Ok(out.into_value())
+}
+
+fn put_rejected(out: &mut Members, why: Value) -> Result<(), AllocError>
+    ensures { OnOk result (Puts (rejected_members (view why)) out.old out.new) }
+{
+    match out.value("accepted", Value::from(false)) {
+        Ok(()) => out.value("rejected", why),
+        Err(error) => {
+            drop(why);
+            Err(error)
+        }
+    }
 }
 
 // Whether the path is accepted, and what its last member holds or why it is rejected.
-fn put_answer(
+fn put_verdict(
     out: &mut Members,
     alloc: Global,
     members: &[Object<'_>],
-    verdict: Option<&Verdict>,
+    verdict: &Option<Verdict>,
 ) -> Result<(), AllocError>
-    ensures { let verdict = option_copied verdict.entry in
-        OnOk result (Puts (answer_members members.now verdict) out.old out.new) }
+    ensures { let Are = AreVerdictMembers members.now verdict.now in
+        OnOk result (PutsSome Are out.old out.new) }
 {
     match verdict {
-        Some(Verdict::Accepted(holder)) => put_accepted(out, alloc, holder),
-        Some(Verdict::Rejected(fault)) => put_rejected(out, alloc, members, fault),
+        Some(Verdict::Accepted(judged)) => put_accepted(out, alloc, judged),
+        Some(Verdict::Rejected(fault)) => {
+            let why = fault_of(alloc, members, fault)?;
+            put_rejected(out, why)
+        }
         None => out.value("accepted", Value::from(false)),
     }
 }
 
-/// Makes the value of a verdict on a path.
+fn put_answer(
+    out: &mut Members,
+    alloc: Global,
+    members: &[Object<'_>],
+    finding: &Finding,
+) -> Result<(), AllocError>
+    ensures { let Are = AreAnswerMembers members.now finding.now in
+        OnOk result (PutsSome Are out.old out.new) }
+{
+    match finding {
+        Finding::NotAList => {
+            let why = no_list(alloc)?;
+            put_rejected(out, why)
+        }
+        Finding::Decided(verdict) => put_verdict(out, alloc, members, verdict),
+    }
+}
+
+/// Makes the value of what is found of a path.
 pub fn path(
     alloc: Global,
     question: &Question<'_, '_>,
-    verdict: Option<&Verdict>,
+    finding: &Finding,
 ) -> Result<Value, AllocError>
-    ensures { let verdict = option_copied verdict.entry in
-        IfOk result (λ made. IsVerdictJson question.now verdict (view made)) }
+    ensures { IfOk result (λ made. IsVerdictJson question.now finding.now (view made)) }
 {
     let mut out = Members::new(alloc);
     let files = names(alloc, question.members)?;
@@ -138,6 +367,11 @@ pub fn path(
     out.value("revocation_asked", Value::from(has_lists(question.lists)))?;
     let others = not_lists(alloc, question.lists)?;
     out.value("not_lists", others)?;
-    put_answer(&mut out, alloc, question.members, verdict)?;
+    let left = left_over(alloc, question.members, question.lists)?;
+    out.value("octets_after_end", left)?;
+    let noted = all_noted(alloc, question.members)?;
+    out.value("notes", noted)?;
+    out.moment("moment", question.at)?;
+    put_answer(&mut out, alloc, question.members, finding)?;
     Ok(out.into_value())
 }

@@ -2,14 +2,14 @@ use Rattle.std.proofs.Common.{rules, refl}
 use Rattle.rpki_command.specs.CommandLines.{lenient, json, all, help}
 use Rattle.rpki_command.proofs.arguments.switch.Goals as goal
 
-pub returns-then-eq-clause-added : goal.returns-then-eq-clause-added
-returns-then-eq-clause-added c = (lenient, search rules, refl)
+pub returns-then-is-clause-added : goal.returns-then-is-clause-added
+returns-then-is-clause-added c = (lenient, search rules, refl)
 
-pub returns-then-eq-2-clause-added : goal.returns-then-eq-2-clause-added
-returns-then-eq-2-clause-added c = (json, search rules, refl)
+pub returns-then-is-2-clause-added : goal.returns-then-is-2-clause-added
+returns-then-is-2-clause-added c = (json, search rules, refl)
 
-pub returns-then-eq-4-clause-added : goal.returns-then-eq-4-clause-added
-returns-then-eq-4-clause-added c = (all, search rules, refl)
+pub returns-then-is-4-clause-added : goal.returns-then-is-4-clause-added
+returns-then-is-4-clause-added c = (all, search rules, refl)
 
-pub returns-then-eq-5-clause-added : goal.returns-then-eq-5-clause-added
-returns-then-eq-5-clause-added c = (help, search rules, refl)
+pub returns-then-is-5-clause-added : goal.returns-then-is-5-clause-added
+returns-then-is-5-clause-added c = (help, search rules, refl)

@@ -4,4 +4,5 @@ use Rattle.rpki_command.proofs.SingleOutcomes.{one_outcome}
 use Rattle.rpki_command.proofs.outcome_laws.one_outcome.Goals as goal
 
 pub returns : goal.returns
-returns c = λ task now strict files lists one other a b. one_outcome c.unambiguous.ensures.certificate c.unambiguous-2.ensures.list (context IsSignedByRsa now strict) files lists task one other a b
+returns c = λ task now strict files lists one other a b.
+    one_outcome (context IsSignedByRsa now strict) files lists (c.one_answer.ensures now strict files lists) task one other a b

@@ -1,14 +1,13 @@
-use Rattle.rpki_command.specs.VerdictTexts.{acceptance_text}
-use Rattle.rpki_command.proofs.AppendedTexts.{then_appended, last_appended}
+use Rattle.std.proofs.Common.{◌≡◌, ◌++◌, ℕ, List, refl, ap}
+use Rattle.rpki_command.specs.VerdictTexts.{IsAcceptanceText, IsHeldText, acceptance_text}
+use Rattle.rpki_command.proofs.AppendedTexts.{both_appended, such_appended}
 use Rattle.rpki_command.proofs.verdict_lines.print_accepted.Goals as goal
 
 pub returns : goal.returns
-unfolding acceptance_text
 returns c =
-    then_appended _ _ _ _ _ c.line.ensures
-    (then_appended _ _ _ _ _ c.line-2.ensures
-    (then_appended _ _ _ _ _ (rw c.revocation.ensures at c.line-3.ensures)
-    (then_appended _ _ _ _ _ c.line-4.ensures
-    (then_appended _ _ _ _ _ (rw c.v4_resources.ensures at c.ip_blocks.ensures)
-    (then_appended _ _ _ _ _ (rw c.v6_resources.ensures at c.ip_blocks-2.ensures)
-    (last_appended _ _ _ (rw c.as_resources.ensures at c.as_blocks.ensures)))))))
+    let lists = c.args.lists.now in
+    let judged = c.args.judged.now in
+    let one = c.print_checks.new.page in
+    both_appended (λ text. text ≡ acceptance_text lists) (IsHeldText judged.holder judged.router) (IsAcceptanceText lists judged) c.args.page.now one c.print_held.new.page
+    (λ a b is held. (b, held, ap (λ (l : List ℕ). l ++ b) is))
+    (such_appended (λ text. text ≡ acceptance_text lists) c.args.page.now one (acceptance_text lists) refl c.print_checks.ensures) c.print_held.ensures

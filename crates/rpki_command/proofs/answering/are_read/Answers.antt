@@ -1,0 +1,12 @@
+use Rattle.std.proofs.Common.{◌∙◌, sym, eq-eqb}
+use Rattle.std.proofs.lemmas.Bool.{eqb-true}
+use Rattle.std.proofs.lemmas.List.{length-map}
+use Rattle.rpki_command.proofs.ReadFiles.{all_read, as_many}
+use Rattle.rpki_command.proofs.answering.are_read.Goals as goal
+
+pub returns : goal.returns
+returns c =
+    let same = length-map c.args.names.now (λ name. name.now) in (
+      (λ yes. all_read _ c.args.files.now c.requires (eqb-true _ _ yes ∙ sym same)),
+      (λ are. eq-eqb _ _ (as_many _ c.args.files.now are ∙ same)),
+    )

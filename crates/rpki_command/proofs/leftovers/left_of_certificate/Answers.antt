@@ -1,0 +1,15 @@
+use Rattle.std.proofs.Common.{rules, ◌≢◌}
+use Rattle.rpki.specs.DecodeError.TheVariants as decoding
+use Rattle.rpki_files.proofs.NothingRead.{rejected}
+use Rattle.rpki_command.proofs.leftovers.left_of_certificate.Goals as goal
+
+pub returns-in_ok-unless_memory-in-Err : goal.returns-in_ok-unless_memory-in-Err
+returns-in_ok-unless_memory-in-Err c =
+    let not_memory : c.in-Err.fault ≢ decoding.Memory = search rules in
+    rejected c.in-Err.fault c.in-Err.ensures.means not_memory
+
+pub returns-in-Ok : goal.returns-in-Ok
+returns-in-Ok c =
+    let found = c.in-Ok.found in
+    let begins = c.in-Ok.ensures.left in
+    (found.0, begins.0, begins.1, begins.2)
