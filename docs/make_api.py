@@ -4,6 +4,8 @@
     docs/make_api.py            writes the pages
     docs/make_api.py --check    writes nothing, and exits with 1 where a page isn't up to date
 
+Both exit with 1 where a public name has no section.
+
 A page has each public item of its module: the comment, the signature, the clauses of the contract,
 and where the definitions stand that the clauses cite. Plain Python 3, standard library alone.
 """
@@ -103,6 +105,8 @@ class Library:
         self.items, self.calls, self.modules, self.gives, self.promised = {}, {}, {}, {}, {}
         for source in sources(crate):
             self.read(source)
+        root = (CRATES / crate / "src" / "lib.rt").read_text()
+        self.handed = {public: (lower, name) for lower, name, public in uses(root)}
 
     def read(self, source):
         module = source.path.stem
@@ -137,6 +141,13 @@ def library(crate):
     if crate not in LIBRARIES:
         LIBRARIES[crate] = Library(crate)
     return LIBRARIES[crate]
+
+
+def declared(crate, name):
+    """The library that declares what this one hands on under a name, and its name there."""
+    while name not in library(crate).items and name in library(crate).handed:
+        crate, name = library(crate).handed[name]
+    return crate, name
 
 
 def definition(crate, module, name):
@@ -223,7 +234,7 @@ def of_module(page, crate, module, public):
 
 
 def uses(text):
-    """The names that a facade's file hands on: crate, name, public name."""
+    """The names that a file hands on of libraries: crate, name, public name."""
     for crate, rest in re.findall(r"pub use (rpki_\w+|rsa_\w+)::([^;]+);", text):
         for part in re.sub(r"[{}]", "", rest).split(","):
             name, _, public = part.strip().partition(" as ")
@@ -237,7 +248,7 @@ def homes():
     for path in sorted(FACADE.rglob("*.rt"), key=lambda path: (len(path.parts), path)):
         page = page_of(path)
         for crate, name, public in uses(path.read_text()):
-            found[crate, name] = (page, public)
+            found[declared(crate, name)] = (page, public)
     return found
 
 
@@ -246,7 +257,8 @@ def page_of(path):
     return PAGES / ("/".join(["rpki"] if parts == ["lib"] else parts) + ".md")
 
 
-def pages():
+def pages(missing):
+    """The pages; a public name that gets no section is added to what is missing."""
     home = homes()
     for path in sorted(FACADE.rglob("*.rt")):
         parts = list(path.relative_to(FACADE).with_suffix("").parts)
@@ -258,11 +270,15 @@ def pages():
         out += ["Made by `docs/make_api.py` from the sources; edit those.", ""]
         body = []
         for crate, name, public in uses(text):
+            crate, name = declared(crate, name)
             at, there = home[crate, name]
             if at != page:
                 body += [f"- `{public}`: [here]({at.relative_to(page.parent)})"]
                 continue
-            body += of_item(page, crate, name, public) or of_module(page, crate, name, public)
+            sections = of_item(page, crate, name, public) or of_module(page, crate, name, public)
+            if not sections:
+                missing.append(f"{module}::{public}")
+            body += sections
         if body:
             yield page, module, head, "\n".join(out + body).rstrip() + "\n"
 
@@ -289,26 +305,29 @@ def by_name(calls):
 
 
 def main():
-    made, calls = {}, []
+    made, calls, missing = {}, [], []
     index = ["# The public calls", "", "A page for each public module, with the contract of each call."]
     index += ["Made by `docs/make_api.py` from the sources; edit those.", "", "| Module | What it has |", "|---|---|"]
-    for page, module, head, text in pages():
+    for page, module, head, text in pages(missing):
         made[page] = text
         calls += calls_of(page, text)
         index.append(f"| [`{module}`]({page.relative_to(PAGES)}) | {head} |")
     index += ["", "## By name", ""]
     index += by_name(calls)
     made[PAGES / "README.md"] = "\n".join(index) + "\n"
+    for name in missing:
+        print(f"no section: {name}")
     if "--check" in sys.argv[1:]:
         stale = [page for page, text in made.items() if not page.exists() or page.read_text() != text]
         stale += [page for page in PAGES.rglob("*.md") if page not in made]
         for page in stale:
             print(f"not up to date: {page.relative_to(ROOT)}")
-        sys.exit(1 if stale else 0)
+        sys.exit(1 if stale or missing else 0)
     for page, text in made.items():
         page.parent.mkdir(parents=True, exist_ok=True)
         page.write_text(text)
     print(f"{len(made)} pages")
+    sys.exit(1 if missing else 0)
 
 
 if __name__ == "__main__":

@@ -3,6 +3,8 @@
 
     docs/sizes.py            writes the lines of each file of definitions behind its name
     docs/sizes.py --check    writes nothing, and exits with 1 where a size is another
+
+Both tell the names behind which a size stands and that no file has; the check exits with 1 then.
 """
 import re
 import sys
@@ -24,16 +26,20 @@ def main():
     crate, told = None, []
 
     def sized(match):
-        size = lines_of(crate, match.group(1))
-        if size is None or size == int(match.group(3)):
+        name, space, told_size, other, lower = match.groups()
+        size = lines_of(lower or crate, name)
+        if size is None:
+            told.append(f"{crate} {name}: no such file")
             return match.group(0)
-        told.append(f"{crate} {match.group(1)}: {match.group(3)}, has {size}")
-        return f"{match.group(1)}{match.group(2)}{size}"
+        if size == int(told_size):
+            return match.group(0)
+        told.append(f"{crate} {name}: {told_size}, has {size}")
+        return f"{name}{space}{size}{other or ''}"
 
     def of_crate(match):
         nonlocal crate
         crate = match.group(1)
-        return re.sub(r"\b([A-Z]\w+(?:/\w+)?)(\s+)(\d+)", sized, match.group(0))
+        return re.sub(r"\b([A-Z]\w+(?:/\w+)?)(\s+)(\d+)(\s+of\s+`(\w+)`)?", sized, match.group(0))
 
     made = re.sub(r"- `(\w+)`:(?:(?!\n- `).)*", of_crate, text[start:end], flags=re.S)
     for line in told:
