@@ -1,5 +1,5 @@
 #!/bin/sh
-# A line `revoked LIST SERIAL` with 400,000 entries and a serial that none of them has: the
+# A line `revoked LIST SERIAL` with 400,000 entries and a serial that none of them has: the line
 # program's time and memory, and the time of `xxd -r -p` over the same digits. Each is processor
 # time, the least of five runs. Wants xxd, awk and GNU time.
 set -eu

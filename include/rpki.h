@@ -136,7 +136,20 @@ enum rpki_fault {
     RPKI_REVOCATION_WRONG_KEY_ID = 501,
     RPKI_REVOCATION_BAD_SIGNATURE = 502,
     RPKI_REVOCATION_STALE = 503,
-    RPKI_REVOCATION_REVOKED = 504
+    RPKI_REVOCATION_REVOKED = 504,
+
+    /* The issuer isn't the subject of the member above it; of an anchor, its own subject. */
+    RPKI_OTHER_NAME = 600,
+
+    /* The anchor's key isn't the locator's. */
+    RPKI_OTHER_KEY = 601,
+
+    /* The octets aren't a trust anchor locator. */
+    RPKI_LOCATOR_NO_TEXT = 700,
+    RPKI_LOCATOR_BAD_URI = 701,
+    RPKI_LOCATOR_NO_URI = 702,
+    RPKI_LOCATOR_NO_KEY = 703,
+    RPKI_LOCATOR_BAD_KEY = 704
 };
 
 /* Every function with `out`, `room` and `count` writes as many elements as there is
@@ -279,7 +292,8 @@ struct rpki_verdict {
 /* Validates a path. The members' octets stand one behind the other, the anchor first, and `lengths`
  * has the length of each. `last` says what the last one is, by an enum rpki_kind: RPKI_ANCHOR where
  * the anchor stands alone, and RPKI_AUTHORITY also there. Signatures are checked as the RPKI has
- * them (RFC 7935). Doesn't ask whether a member is revoked, nor whether names chain.
+ * them (RFC 7935). Doesn't ask whether a member is revoked, nor whether names chain, which
+ * rpki_path_names does.
  * Writes the ranges that are held, as many as there is room for, and into *out how many there are:
  * where there are more, ask again with more room. *out holds after every fault.
  * Answers RPKI_BAD_CALL also where there are too few members (none, or the anchor alone where the
@@ -311,6 +325,25 @@ uint32_t rpki_path_validate_with(const uint8_t *lists, size_t lists_length,
                                  size_t v4_room, struct rpki_ip_range *v6, size_t v6_room,
                                  struct rpki_as_range *asn, size_t asn_room,
                                  struct rpki_verdict *out);
+
+/* Asks whether the names of a path chain (RFC 6487 7.2, RFC 5280 6.1): whether the anchor's issuer
+ * is its own subject, and that of each later member the subject of the member above it; a router is
+ * asked as any other. The members stand as above. Nothing else is asked of them, so validate the
+ * path too. Names are compared octet by octet: RFC 5280 7.1 takes some for one that differ here, in
+ * the case of letters, in spaces or in the type of a string.
+ * Answers RPKI_OK where all chain. Else *place is the place of the first member that is wrong:
+ * RPKI_OTHER_NAME where its names don't chain, or the fault of reading. Answers RPKI_BAD_CALL where
+ * there are no members. */
+uint32_t rpki_path_names(const uint8_t *octets, size_t length, const size_t *lengths,
+                         size_t members, uint64_t *place);
+
+/* Asks whether an anchor has the key of a trust anchor locator (RFC 8630 3), whose file the octets
+ * behind it are: comments, URIs, an empty line, and the key in base64. `strict` is 1 where the file
+ * has to be UTF-8, and 0 where its comments may be any octets. Nothing else is asked of the anchor,
+ * so validate the path too. Answers RPKI_OK where the keys are one, RPKI_OTHER_KEY where they
+ * aren't, or why the locator, or then the anchor, can't be read. */
+uint32_t rpki_path_locator(const uint8_t *anchor, size_t length, const uint8_t *locator,
+                           size_t locator_length, uint32_t strict);
 
 /* Asks a caller with cryptography of its own: is this a signature of the message by the key, with
  * sha256WithRSAEncryption? All are places in the octets of the path. */

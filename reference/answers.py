@@ -293,6 +293,21 @@ def path(words):
     return path_line(members, words.at(1) == 'strict', now)
 
 
+def names(words):
+    """Whether the names of a path chain, whatever its members are."""
+    members = members_of(words, 1)
+    last = members[-1][0] if members else None
+    stands_alone = last in (ref.TA, ref.CA)
+    if not members or len(members) == 1 and not stands_alone or (
+            len(members) > 1 and last == ref.TA):
+        return 'unfit'
+    try:
+        place = ref.first_unchained([octets for _, octets in members])
+    except ref.PathError as e:
+        return refused(f'{e.index} {e.stage}')
+    return 'chain' if place is None else f'unchained {place}'
+
+
 def real_path(words):
     """A path with real signatures; the moment stands before the mode."""
     now, members = show.moment_of(words.at(1)), members_of(words, 3)
@@ -422,17 +437,43 @@ def key_form(words):
                 ('point', show.yes(keys.is_point(bits))))
 
 
+# ---------------------------------------------------------------- locators ---
+
+def uri_of_locator(octets):
+    scheme = 'rsync' if ref.is_rsync(octets) else 'https'
+    return scheme, show.uri(octets)
+
+
+def locator(words):
+    octets, asked = words.octets(2), words.octets(3)
+    try:
+        found = ref.decode_locator(octets, words.at(1) == 'strict')
+    except ref.LocatorError as fault:
+        return refused(fault)
+    key = ref.take_key(ref.Cursor(asked)) if asked else None
+    return line('ok', *map(uri_of_locator, found.uris),
+                ('key', show.key(found.key)),
+                ('has-key', NO[None if key is None else key == found.key]))
+
+
+def base64_of_line(words):
+    digits = words.characters(1).translate(None, ref.WHITE_SPACE)
+    octets = ref.decode_base64(digits)
+    return 'none' if octets is None else f'ok {show.hexed(octets)}'
+
+
 WORDS = {
     'certificate': certificate, 'data': data, 'make': make,
     'inspect': inspect, 'verify': verify, 'validate': validate,
     'extension': extension, 'compare': compare, 'write': write,
     'list': revocation_list, 'shared': lambda words: 'same', 'cut': cut,
-    'path': path, 'run': run, 'run-unnamed': run_unnamed,
+    'path': path, 'names': names, 'run': run, 'run-unnamed': run_unnamed,
     'rearrange': rearrange, 'revocation': revocation, 'real-path': real_path,
     'real-revocation': lambda w: revocation(w, rsa.verifier),
     'rsa': lambda w: show.yes(rsa.verify(*map(w.octets, (1, 2, 3)))),
     'rsa-key': lambda w: show.yes(rsa.is_rpki_key(w.octets(1))),
-    'key-form': key_form,
+    'key-form': key_form, 'locator': locator,
+    'base64': base64_of_line,
     **PARTS, **URIS, **RESOURCES, **DER,
 }
 

@@ -1,4 +1,4 @@
-"""Random inputs of the program: sound ones, and ones with a single fault.
+"""Random inputs of the line program: sound ones, and ones with a single fault.
 
 Each case depends on its form, a seed and its own index alone.
 """

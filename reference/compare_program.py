@@ -177,7 +177,7 @@ def print_histogram(kinds, form, total):
 
 
 def arguments():
-    parser = argparse.ArgumentParser(description='compares the program')
+    parser = argparse.ArgumentParser(description='compares the line program')
     parser.add_argument('program')
     parser.add_argument('--form', choices=(REVOKED, PATHS), default=PATHS)
     parser.add_argument('--seed', type=int, default=1)

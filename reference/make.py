@@ -24,6 +24,7 @@ from typing import Callable, NamedTuple
 
 import answers
 import questions as q
+import questions_locators
 import questions_parts as p
 import vectors
 
@@ -43,6 +44,8 @@ BLOCKS = {
     'times': Block('serial numbers and times', 220, p.NUMBERS_AND_TIMES),
     'parts': Block('names, keys, algorithms, signed data', 100, p.PARTS),
     'uris': Block('URIs', 520, p.URIS),
+    'locators': Block('trust anchor locators', 60,
+                      questions_locators.locator_question, most=3000),
     'prefixes': Block('prefixes and modes', 70, p.PREFIXES),
     'addresses': Block('two sets of addresses', 110,
                        p.sets_question('addresses')),
@@ -63,7 +66,8 @@ BLOCKS = {
     'validate': Block('validation below issuers', 340, q.validate_question,
                       most=9000),
     'path': Block('whole paths', 240, q.path_question),
-    'runs': Block('inputs of the program', 260, q.run_question),
+    'names': Block('names of paths', 120, q.names_question, most=9000),
+    'runs': Block('inputs of the line program', 260, q.run_question),
     'rearranged': Block('certificates in another order, with extras', 300,
                         q.rearrange_question, most=4000),
     'revocation': Block('paths that ask revocation lists', 300,
@@ -120,6 +124,8 @@ def most_of(name, kind):
     if name in ('inspect', 'written', 'prefixes', 'addresses', 'asns', 'runs',
                 'making'):
         return count
+    if name == 'names':
+        return count // 2
     return count * 3 // 5 if kind == 'ok' else max(count // 4, 4)
 
 

@@ -1,4 +1,4 @@
-"""Whole paths: every member in turn, from the anchor down (RFC 6487 7.2)."""
+"""Whole paths: every member in turn, from the anchor down, and their names (RFC 6487 7.2)."""
 
 from refusals import PathError, Refusal
 from der import DEPTH
@@ -46,3 +46,21 @@ def holds(certs, i, field, number):
     return lists(certs[0]) and all(
         lists(c) or getattr(c.tbs, field) == INHERIT
         for c in certs[1:i + 1])
+
+
+def first_unchained(strings, depth=DEPTH):
+    """The place of the first member whose issuer isn't the subject above it.
+
+    None where names chain. The anchor's issuer is its own subject. The octets
+    of names are compared (RFC 5280 6.1 (a); 7.1 takes more names for one).
+    """
+    above = None
+    for index, octets in enumerate(strings):
+        try:
+            tbs = decode_cert(octets, depth).tbs
+        except Refusal as fault:
+            raise PathError(index, 'decode', fault) from None
+        if tbs.issuer != (tbs.subject if above is None else above):
+            return index
+        above = tbs.subject
+    return None

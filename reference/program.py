@@ -1,4 +1,4 @@
-"""The command-line program: lines of input, lines of output, exit status."""
+"""The line program: lines of input, lines of output, exit status."""
 
 from refusals import DecodeError, PathError
 from der import Cursor, DEPTH

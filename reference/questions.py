@@ -1,4 +1,4 @@
-"""Random questions about certificates, paths, lists and the program's input.
+"""Random questions about certificates, paths, lists and the line program's input.
 
 Each maker takes a `random.Random` and gives a label and a question.
 """
@@ -7,6 +7,7 @@ from dataclasses import replace
 
 import cases
 import faults
+import random_names
 import random_paths as sound
 import reference as ref
 import worked
@@ -184,7 +185,7 @@ def validate_question(rng):
                    f'{octets.hex()}{above}')
 
 
-# --------------------------------------------------- paths and the program ---
+# ---------------------------------------------- paths and the line program ---
 
 def path_question(rng):
     case = rng.random()
@@ -202,8 +203,21 @@ def path_question(rng):
                    + ' '.join(members))
 
 
+def names_question(rng):
+    """A path of names, now and then with a member that is none."""
+    label, path = random_names.random_names(rng, 5)
+    if chance(rng, 0.15):
+        label = rng.choice(list(faults.DRAFT_FAULTS))
+        it = rng.choice(path.drafts)
+        faults.DRAFT_FAULTS[label](rng, it, path.depth)
+    members = [f'{d.kind}:{d.octets().hex()}' for d in path.drafts]
+    if len(members) > 1 and chance(rng, 0.2):
+        members[-1] = f'router:{path.drafts[-1].octets().hex()}'
+    return label, 'names ' + ' '.join(members)
+
+
 def run_question(rng):
-    """An input of the program, the name of a decoder's fault free."""
+    """An input of the line program, the name of a decoder's fault free."""
     form = rng.choice([cases.PATHS, cases.PATHS, cases.PATHS, cases.REVOKED])
     case = cases.make_case(rng.randrange(1 << 20), form,
                            rng.randrange(1 << 20), 4)

@@ -12,4 +12,5 @@ from profiles import *  # noqa: F401,F403
 from verification import *  # noqa: F401,F403
 from lists import *  # noqa: F401,F403
 from paths import *  # noqa: F401,F403
+from locators import *  # noqa: F401,F403
 from program import *  # noqa: F401,F403

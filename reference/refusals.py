@@ -38,6 +38,10 @@ class RearrangeError(Refusal):
     pass
 
 
+class LocatorError(Refusal):
+    pass
+
+
 class PathError(Exception):
     """The index of the refused member, the stage, and the error inside."""
 

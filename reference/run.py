@@ -1,5 +1,5 @@
 #!/usr/bin/env python3
-"""The program as the reference has it: standard input to standard output."""
+"""The line program as the reference has it: standard input to standard output."""
 
 import sys
 

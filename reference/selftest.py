@@ -7,9 +7,11 @@ Prints each check that fails (with --all each check), and `N passed, M failed`;
 exits with 1 where one fails.
 """
 
+import base64
 import random
 import sys
 from dataclasses import replace
+from pathlib import Path
 
 import random_paths as sound
 import reference as ref
@@ -83,6 +85,50 @@ def runs():
     yield 'absent list same value', read(ref.take_revoked, h('3000')), b''
     yield 'absent list absent', read(ref.take_revoked, b''), b''
     yield 'absent list written', ref.put_revoked(b''), b''
+
+
+LOCATORS = {        # of tests/locators, strictly and leniently
+    '04-noempty': ('BadUri', 'BadUri'), '05-nouri': ('NoUri', 'NoUri'),
+    '06-comment-behind': ('BadUri', 'BadUri'), '07-http': ('BadUri', 'BadUri'),
+    '08-badbase64': ('BadKey', 'BadKey'), '09-trailing': ('BadKey', 'BadKey'),
+    '11-empty': ('NoKey', 'NoKey'), '12-latin1': ('NoText', 'Ok'),
+    '13-blank-first': ('NoUri', 'NoUri'), '14-cut': ('BadKey', 'BadKey'),
+    '16-space-line': ('BadUri', 'BadUri'), '17-pad': ('BadKey', 'BadKey')}
+# The key identifiers of the registries' trust anchors, as these have them, by
+# the locators that Debian's rpki-trust-anchors has.
+REGISTRIES = {'afrinic': 'eb680f38f5d6c71bb4b106b8bd06585012da31b6',
+              'apnic': '0b9cca90dd0d7a8a37666b19217fe0d84037b7a2',
+              'lacnic': 'fc8a9cb3ed184e17d30eea1e0fa7615ce4b1af47',
+              'ripe': 'e8552b1fd6d1a4f7e404c6d8e5680d1ebc163fc3'}
+
+
+@checks
+def locators():
+    folder = vectors.DATA.parent.parent.parent / 'tests/locators'
+    for path in sorted(folder.glob('*.tal')):
+        octets = path.read_bytes()
+        wanted = LOCATORS.get(path.stem, ('Ok', 'Ok'))
+        yield path.name, tuple(fault_of(ref.decode_locator, octets, strict)
+                               for strict in (True, False)), wanted
+    for name, identifier in REGISTRIES.items():
+        path = Path(f'/etc/tals/{name}.tal')
+        if path.exists():
+            found = ref.decode_locator(path.read_bytes())
+            yield path.name, found.key.identifier().hex(), identifier
+
+
+@checks
+def locators_by_chance():
+    rng = random.Random(8630)
+    for index in range(200):
+        key = sound.random_key(rng)
+        uris = [sound.random_uri(rng) for _ in range(rng.randint(1, 3))]
+        digits = base64.encodebytes(sound.encoded_key(rng, key))
+        octets = b'\n'.join([b'# %d' % index, *uris, b'', digits])
+        crlf = octets.replace(b'\n', b'\r\n')
+        yield (f'locator {index}', [ref.decode_locator(octets),
+                                    ref.decode_locator(crlf)],
+               [ref.Locator(uris, key)] * 2)
 
 
 @checks

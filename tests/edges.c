@@ -178,10 +178,11 @@ static void members(struct file anchor) {
 /* numbers that no fault has: just before, between and just behind those that are faults */
 static void numbers(void) {
     static const uint32_t none[] = {3,   99,  109, 119, 133, 139, 153, 159, 173, 179,  193,
-                                    199, 213, 219, 220, 299, 327, 399, 412, 499, 505,  600,
-                                    1000, 0x80000000, UINT32_MAX};
+                                    199, 213, 219, 220, 299, 327, 399, 412, 499, 505,  599,
+                                    602, 699, 705, 1000, 0x80000000, UINT32_MAX};
     static const uint32_t some[] = {0,   1,   2,   100, 108, 120, 132, 140, 152, 160, 172,
-                                    180, 192, 200, 212, 300, 326, 400, 411, 500, 504};
+                                    180, 192, 200, 212, 300, 326, 400, 411, 500, 504, 600, 601,
+                                    700, 704};
     uint64_t count;
     uint8_t octet = 7;
     for (size_t i = 0; i < sizeof none / sizeof *none; i++) {
@@ -199,6 +200,12 @@ static void numbers(void) {
               "a fault has a sentence");
     }
     uint8_t name[9];
+    check(rpki_fault_name(RPKI_OTHER_NAME, name, 9, &count) == RPKI_OK && count == 9
+              && memcmp(name, "OtherName", 9) == 0,
+          "the fault of names has a name");
+    check(rpki_fault_name(RPKI_OTHER_KEY, name, 9, &count) == RPKI_OK && count == 8
+              && memcmp(name, "OtherKey", 8) == 0,
+          "the fault of an anchor's key has a name");
     memset(name, 7, sizeof name);
     check(rpki_fault_name(RPKI_VERIFICATION_EXPIRED, name, 8, &count) == RPKI_OK && count == 7
               && memcmp(name, "Expired\7\7", 9) == 0,
@@ -884,6 +891,90 @@ static void no_router(struct file anchor, struct file first, struct file second,
     free(path.octets);
 }
 
+/* the names of two or three files, one behind the other */
+static uint32_t names_of(struct file one, struct file two, struct file three, uint64_t *place) {
+    struct file front = both(one, two), path = both(front, three);
+    const size_t parts[] = {one.length, two.length, three.length};
+    uint32_t fault = rpki_path_names(path.octets, path.length, parts, three.length > 0 ? 3 : 2, place);
+    free(front.octets);
+    free(path.octets);
+    return fault;
+}
+
+/* names that chain, and members whose names don't; the files' names are in tests/files/make.py */
+static void chains(const char *folder, struct file list) {
+    static const char *const wrong[] = {"named/ca_exchanged.cer", "named/ca_cut.cer",
+                                        "named/ca_other_case.cer", "named/below.cer"};
+    struct file ta = contents(folder, "named/ta.cer"), ca = contents(folder, "named/ca.cer");
+    struct file below = contents(folder, "named/below.cer");
+    struct file two = contents(folder, "named/ta_of_two_names.cer"), none = {NULL, 0};
+    uint64_t place = 9;
+    check(rpki_path_names(NULL, 0, NULL, 0, &place) == RPKI_BAD_CALL, "no members have no names");
+    check(rpki_path_names(ta.octets, ta.length, &ta.length, 1, &place) == RPKI_OK,
+          "the anchor's two names are one");
+    check(rpki_path_names(two.octets, two.length, &two.length, 1, &place) == RPKI_OTHER_NAME && place == 0,
+          "an anchor of two names");
+    check(names_of(ta, ca, below, &place) == RPKI_OK, "names that chain");
+    check(names_of(ta, ca, ta, &place) == RPKI_OTHER_NAME && place == 2, "the anchor isn't issued by an authority");
+    for (size_t i = 0; i < sizeof wrong / sizeof *wrong; i++) {
+        struct file other = contents(folder, wrong[i]);
+        place = 9;
+        check(names_of(ta, other, none, &place) == RPKI_OTHER_NAME && place == 1, wrong[i]);
+        place = 9;
+        check(names_of(ta, other, list, &place) == RPKI_OTHER_NAME && place == 1, "the first that is wrong");
+        free(other.octets);
+    }
+    place = 9;
+    check(is_decoding(names_of(ta, ca, list, &place)) && place == 2, "a list is no member");
+    check(is_decoding(names_of(list, ca, below, &place)) && place == 0, "a list is no anchor");
+    size_t parts[] = {ta.length, 1};
+    check(rpki_path_names(ta.octets, ta.length, parts, 2, &place) == RPKI_BAD_CALL, "lengths behind the octets");
+    parts[1] = 0;
+    check(is_decoding(rpki_path_names(ta.octets, ta.length, parts, 2, &place)) && place == 1, "no octets are no member");
+    free(ta.octets);
+    free(ca.octets);
+    free(below.octets);
+    free(two.octets);
+}
+
+static uint32_t locate(struct file anchor, const void *locator, size_t length, uint32_t strict) {
+    return rpki_path_locator(anchor.octets, anchor.length, locator, length, strict);
+}
+
+/* the anchor's own locator, another one, parts of it, and octets that are none */
+static void locators(const char *folder, struct file list) {
+    struct file ta = contents(folder, "named/ta.cer"), ca = contents(folder, "named/ca.cer");
+    struct file own = contents(folder, "named/ta.tal"), other = contents(folder, "named/ca.tal");
+    struct file none = {NULL, 0};
+    static const char odd[] = "# \xff\n", http[] = "http://rpki.example.net/ta.cer\n\nMII=\n";
+    check(locate(ta, own.octets, own.length, 1) == RPKI_OK, "the anchor has the locator's key");
+    check(locate(ca, other.octets, other.length, 1) == RPKI_OK, "an authority has its own key");
+    check(locate(ta, other.octets, other.length, 1) == RPKI_OTHER_KEY && locate(ca, own.octets, own.length, 0) == RPKI_OTHER_KEY,
+          "an anchor has another key");
+    for (size_t length = 0; length + 1 < own.length; length++) {
+        uint32_t fault = locate(ta, own.octets, length, 1);
+        check(fault >= RPKI_LOCATOR_BAD_URI && fault <= RPKI_LOCATOR_BAD_KEY, "a part of a locator is none");
+    }
+    check(locate(ta, own.octets, own.length - 1, 1) == RPKI_OK, "the last line ends with the file");
+    check(locate(ta, NULL, 0, 1) == RPKI_LOCATOR_NO_KEY, "no octets are no locator");
+    check(locate(ta, "\n", 1, 1) == RPKI_LOCATOR_NO_URI, "a locator without a URI");
+    check(locate(ta, http, sizeof http - 1, 1) == RPKI_LOCATOR_BAD_URI, "a locator with another URI");
+    struct file text = {malloc(own.length + 4), own.length + 4};
+    memcpy(text.octets, odd, 4);
+    memcpy(text.octets + 4, own.octets, own.length);
+    check(locate(ta, text.octets, text.length, 1) == RPKI_LOCATOR_NO_TEXT, "a comment that isn't UTF-8");
+    check(locate(ta, text.octets, text.length, 0) == RPKI_OK && locate(ta, text.octets, text.length, 7) == RPKI_LOCATOR_NO_TEXT,
+          "where it needn't be");
+    check(is_decoding(locate(none, own.octets, own.length, 1)) && is_decoding(locate(list, own.octets, own.length, 1)),
+          "no anchor");
+    check(locate(none, NULL, 0, 1) == RPKI_LOCATOR_NO_KEY, "the locator is read first");
+    free(ta.octets);
+    free(ca.octets);
+    free(own.octets);
+    free(other.octets);
+    free(text.octets);
+}
+
 int main(int count, char **words) {
     if (count != 4) return 2;
     struct file anchor = contents(words[1], "anchor.cer"), first = contents(words[1], "first.cer");
@@ -912,6 +1003,8 @@ int main(int count, char **words) {
     orders(words[3]);
     routers(above, router, trimming);
     no_router(anchor, first, second, empty);
+    chains(words[3], list);
+    locators(words[3], list);
     const struct file files[] = {anchor, first, second, object, list, empty, above, router, trimming};
     for (size_t i = 0; i < sizeof files / sizeof *files; i++) free(files[i].octets);
     printf("%u passed, %u failed\n", passed, failed);

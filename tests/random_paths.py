@@ -7,7 +7,8 @@ FOLDER has librpki.so (`./rpki library FOLDER`). Each path is made by
 reference/, from a seed of its own, as those of made-path.vectors are; about half
 of them are no valid paths. Its signatures are the stand-in of the tests, so
 the library is asked for its questions, and handed the answers. Compares the
-whole answer: the fault with its member, or the ranges that are held. Prints
+whole answer: the fault with its member, or the ranges that are held. Of as many
+further paths names are asked, as of those of made-names.vectors. Prints
 each difference and `N passed, M failed`; exits with 1 where anything differs.
 """
 import ctypes
@@ -101,16 +102,32 @@ def answer_of(question):
     return refused(out) if out.fault else held(out, v4, v6, asn)
 
 
+def names_of(question):
+    """What the library answers of names, in the words of a row."""
+    members = [bytes.fromhex(it.split(':')[1]) for it in question.split(' ')[1:]]
+    place = rpki.u64()
+    fault = rpki.lib.rpki_path_names(*rpki.strings(members), ctypes.byref(place))
+    if fault == 0:
+        return 'chain'
+    if rpki.name_of(fault) == 'OtherName':
+        return f'unchained {place.value}'
+    return f'refused {place.value} {STAGES[fault // 100]}'
+
+
+MAKERS = ((questions.path_question, answer_of), (questions.names_question, names_of))
+
+
 def main(count):
     failed = 0
     for index in range(count):
         rng = random.Random(f'header {index}')
-        _, question = questions.path_question(rng)
-        wanted, answer = answers.answer(question), answer_of(question)
-        if answer != wanted:
-            failed += 1
-            print(f'path {index}:\n  wanted   {wanted}\n  answered {answer}')
-    print(f'{count - failed} passed, {failed} failed')
+        for make, ask in MAKERS:
+            _, question = make(rng)
+            wanted, answer = answers.answer(question), ask(question)
+            if answer != wanted:
+                failed += 1
+                print(f'path {index}:\n  wanted   {wanted}\n  answered {answer}')
+    print(f'{len(MAKERS) * count - failed} passed, {failed} failed')
     return 1 if failed else 0
 
 

@@ -3,7 +3,7 @@
  * usage: validate [-l LIST.crl].. YYYY-MM-DD LAST MEMBER.cer..
  *        LAST: authority, ee, detached or router
  *
- * Revocation lists are asked where some are given. Compiled with -DLIBCRYPTO it takes no lists, and
+ * Names have to chain. Revocation lists are asked where some are given. Compiled with -DLIBCRYPTO it takes no lists, and
  * libcrypto checks the signatures that the library asks for, in place of the library's own proved
  * verifier. Ends with 0 where the path is accepted, with 1 where it is rejected, and with 2 where
  * the words or a file are not as above. */
@@ -162,9 +162,20 @@ static struct rpki_verdict verdict_on(struct request *it, struct held *out) {
     return verdict;
 }
 
+/* The verdict on the names of an accepted path. */
+static struct rpki_verdict names_of(struct request *it, struct rpki_verdict verdict) {
+    uint64_t place;
+    verdict.fault = rpki_path_names(it->path.octets, it->path.length, it->path.lengths,
+                                    it->path.count, &place);
+    verdict.index = (uint32_t)place;
+    if (verdict.fault == RPKI_MEMORY) fail("memory", "there is no more");
+    return verdict;
+}
+
 /* A first call counts the ranges that are held, and a second one writes them. */
 static struct rpki_verdict judge(struct request *it, struct held *out) {
     struct rpki_verdict verdict = verdict_on(it, out);
+    if (verdict.fault == RPKI_OK) verdict = names_of(it, verdict);
     if (verdict.fault != RPKI_OK) return verdict;
     out->v4 = room_for(out->v4_room = verdict.v4, sizeof *out->v4);
     out->v6 = room_for(out->v6_room = verdict.v6, sizeof *out->v6);

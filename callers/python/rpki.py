@@ -4,7 +4,7 @@ file, or from the folder RPKI_LIBRARY.
 usage: rpki.py FILE..
            prints what certificates and revocation lists hold, as `./rpki show -j` does
        rpki.py path YYYY-MM-DD LAST MEMBER..
-           validates a path: LAST is authority, ee, detached or router
+           validates a path, whose names have to chain: LAST is authority, ee, detached or router
        rpki.py with LIST[,LIST].. YYYY-MM-DD LAST MEMBER..
            the same, with revocation lists
 
@@ -216,6 +216,8 @@ def path(day, last, members, lists=None):
     for _ in range(2):
         v4, v6, asn = (IpRange * out.v4)(), (IpRange * out.v6)(), (AsRange * out.asn)()
         function(*words, v4, size(out.v4), v6, size(out.v6), asn, size(out.asn), ctypes.byref(out))
+        if not out.fault:
+            ask_names(members, out)
         if out.fault == MEMORY:
             raise MemoryError
         if out.fault == BAD_CALL:
@@ -227,6 +229,13 @@ def path(day, last, members, lists=None):
     holds = [system(it) for it in asn]
     holds += [block(it, 4) for it in v4] + [block(it, 16) for it in v6]
     return {"accepted": True, "holds": holds}
+
+
+def ask_names(members, out):
+    """Whether the names of an accepted path chain."""
+    place = u64()
+    out.fault = lib.rpki_path_names(*strings(members), ctypes.byref(place))
+    out.index = place.value
 
 
 def moment(day):

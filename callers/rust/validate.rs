@@ -4,7 +4,7 @@
 //! usage: validate [-l LIST.crl].. YYYY-MM-DD LAST MEMBER.cer..
 //!        LAST: authority, ee, detached or router
 //!
-//! Revocation lists are asked where some are given.
+//! Names have to chain. Revocation lists are asked where some are given.
 //! Ends with 0 where the path is accepted, with 1 where it is rejected, and with 2 where the words
 //! or a file are not as above.
 use std::env;
@@ -76,6 +76,13 @@ extern "C" {
         asn: *mut AsRange,
         asn_room: usize,
         out: *mut Verdict,
+    ) -> u32;
+    fn rpki_path_names(
+        octets: *const u8,
+        length: usize,
+        lengths: *const usize,
+        members: usize,
+        place: *mut u64,
     ) -> u32;
     fn rpki_path_validate_with(
         lists: *const u8,
@@ -180,11 +187,30 @@ impl Request {
         out
     }
 
+    /// Asks whether the names of an accepted path chain.
+    fn ask_names(&self, mut out: Verdict) -> Verdict {
+        let mut place = 0;
+        out.fault = unsafe {
+            rpki_path_names(
+                self.members.octets.as_ptr(),
+                self.members.octets.len(),
+                self.members.lengths.as_ptr(),
+                self.members.lengths.len(),
+                &mut place,
+            )
+        };
+        out.index = place as u32;
+        out
+    }
+
     /// Gives what the last member holds: a first call counts the ranges, a second one writes them.
     fn judge(&self) -> Result<Held, Verdict> {
         let mut held = Held::default();
         for _ in 0..2 {
-            let out = self.ask(&mut held);
+            let mut out = self.ask(&mut held);
+            if out.fault == 0 {
+                out = self.ask_names(out);
+            }
             if out.fault != 0 {
                 return Err(out);
             }

@@ -12,6 +12,7 @@ lost. tests/verdicts tells of each file what is odd in it, and what is wanted.
 import subprocess
 import sys
 import tempfile
+from base64 import b64encode
 from pathlib import Path
 
 HERE = Path(__file__).resolve().parent
@@ -499,6 +500,35 @@ def keyed(ta, router, compressed, *keys):
     yield 'router_compressed', router_certificate(compressed, ta, 'ta', 0x8f21, [64496])
 
 
+def locator(place, key):
+    """A trust anchor locator (RFC 8630 2.2)."""
+    return f'# for tests\n{place}\n\n{b64encode(key.info).decode()}\n'.encode()
+
+
+def named(ta, ca, below):
+    """Apart from the others: a path whose names chain, and members in place of its first two whose
+    names don't (RFC 6487 7.2), though they are good in all else; and locators of two of its keys."""
+    anchor = changed(
+        ca_extensions('ta', ta, ta, 'ta', ['0.0.0.0/0'], ['::/0'], [(0, 2**32 - 1)]),
+        aki=None, lists=None, issuer=None)
+    yield 'ta.cer', certificate(ta, ta, 1, anchor)
+    yield 'ta_of_two_names.cer', certificate(ta, ta, 1, anchor, issuer_name=ca.name())
+    full = changed(ca_extensions('ca', ca, ta, 'ta', **CA1))
+    yield 'ca.cer', certificate(ca, ta, 0x9f01, full)
+    digits = ta.identifier.hex()
+    for name, names in (
+            ('exchanged', {'issuer_name': ca.name(), 'subject': ta.name()}),
+            ('cut', {'issuer_name': common_name(digits.upper()[:-1])}),
+            ('other_case', {'issuer_name': common_name(digits)})):
+        yield f'ca_{name}.cer', certificate(ca, ta, 0x9f01, full, **names)
+    yield 'below.cer', certificate(below, ca, 0x9f02, changed(
+        ca_extensions('below', below, ca, 'ca', **CA2)))
+    yield 'ta.crl', revocation_list(ta, 7)
+    yield 'ca.crl', revocation_list(ca, 7)
+    for name, key in (('ta', ta), ('ca', ca)):
+        yield f'{name}.tal', locator(f'{SITE}/{name}.cer', key)
+
+
 def wide(ta):
     """Apart from the others: a trust anchor that lists 4,097 ranges of each kind."""
     places = [(2 * at >> 8, 2 * at & 255) for at in range(4097)]
@@ -513,6 +543,7 @@ def wide(ta):
 # The folders, and the keys that the files of each take.
 FOLDERS = {'twins': (twins, ('ta', 'ca')), 'sharing': (sharing, ('ta', 'ca', 'leaf')),
            'noted': (noted, ('ca', 'key')), 'wide': (wide, ('ta',)),
+           'named': (named, ('ta', 'ca', 'below')),
            'keyed': (keyed, ('ta', 'router', 'compressed', '2048', '1024', '3072', 'exponent_3'))}
 RSA = ('-algorithm', 'RSA', '-pkeyopt', 'rsa_keygen_bits:2048')
 CURVE = ('-algorithm', 'EC', '-pkeyopt', 'ec_paramgen_curve:P-256')

@@ -70,6 +70,13 @@ pub use Rattle.rpki_rsa.specs.RsaSignatures
 pub use Rattle.rpki_keys.specs.Curve
 pub use Rattle.rpki_keys.specs.KeyForms
 pub use Rattle.rpki_keys.specs.declared.form.KeyForm
+-- ---- trust anchor locators
+pub use Rattle.rpki_tal.specs.Digits
+pub use Rattle.rpki_tal.specs.Locators
+pub use Rattle.rpki_tal.specs.LocatorFaults
+pub use Rattle.rpki_tal.specs.TalErrors
+pub use Rattle.rpki_tal.specs.declared.tal_error.TalError
+pub use Rattle.rpki_tal.specs.declared.tal_uri.TalUri
 -- ---- extensions
 pub use Rattle.rpki_ext.specs.OnlyElements
 pub use Rattle.rpki_ext.specs.Kinds
@@ -122,24 +129,27 @@ pub use Rattle.rpki_crl.specs.declared.revocation_error.RevocationError
 -- ---- who answers for revocation
 pub use Rattle.rpki_revocation.specs.Asking
 pub use Rattle.rpki_revocation.specs.AskedLists
--- ---- whole paths, and the program
-pub use Rattle.rpki_path.specs.Watching
-pub use Rattle.rpki_path.specs.HexWords
-pub use Rattle.rpki_path.specs.TextLines
-pub use Rattle.rpki_path.specs.InputLines
-pub use Rattle.rpki_path.specs.PrintedSets
-pub use Rattle.rpki_path.specs.Program
-pub use Rattle.rpki_path.specs.Questions
-pub use Rattle.rpki_path.specs.Reports
+-- ---- whole paths
 pub use Rattle.rpki_path.specs.FaultNames
 pub use Rattle.rpki_path.specs.Paths
 pub use Rattle.rpki_path.specs.Routers
 pub use Rattle.rpki_path.specs.GivenPaths
 pub use Rattle.rpki_path.specs.Judging
+pub use Rattle.rpki_path.specs.NameChains
 pub use Rattle.rpki_path.specs.declared.given.Last
 pub use Rattle.rpki_path.specs.declared.judging.Judged
 pub use Rattle.rpki_path.specs.declared.path_fault.PathError
 pub use Rattle.rpki_path.specs.declared.path_fault.PathFault
-pub use Rattle.rpki_path.specs.declared.running.RunFault
-pub use Rattle.rpki_path.specs.declared.running.Status
 pub use Rattle.rpki_path.specs.declared.validating.Leaf
+-- ---- the line program
+pub use Rattle.rpki_lines.specs.Watching
+pub use Rattle.rpki_lines.specs.HexWords
+pub use Rattle.rpki_lines.specs.TextLines
+pub use Rattle.rpki_lines.specs.InputLines
+pub use Rattle.rpki_lines.specs.PrintedSets
+pub use Rattle.rpki_lines.specs.Program
+pub use Rattle.rpki_lines.specs.Questions
+pub use Rattle.rpki_lines.specs.Reports
+pub use Rattle.rpki_lines.specs.RunFaultNames
+pub use Rattle.rpki_lines.specs.declared.running.RunFault
+pub use Rattle.rpki_lines.specs.declared.running.Status

@@ -5,5 +5,5 @@ pub use rpki_cert::comparing as certificates;
 pub use rpki_crl::comparing as lists;
 pub use rpki_der::comparing as der;
 pub use rpki_ext::comparing as extensions;
+pub use rpki_lines::comparing as program;
 pub use rpki_parts::comparing as parts;
-pub use rpki_path::comparing as program;

@@ -10,3 +10,4 @@ pub use rpki_keys::laws as keys;
 pub use rpki_parts::uri_laws as uris;
 pub use rpki_path::laws as paths;
 pub use rpki_revocation::laws as revocation;
+pub use rpki_tal::laws as locators;

@@ -2,6 +2,7 @@
 //! names this crate alone.
 #![tactic(auto)]
 
+pub mod base64;
 pub mod comparing;
 pub mod crypto;
 pub mod der;

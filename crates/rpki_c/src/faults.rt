@@ -1,11 +1,14 @@
 //! Faults as numbers. They are written out, here and in `include/rpki.h`: a number never gets
 //! another meaning.
-ghost use Rattle.std.specs.Prelude.{◌≢◌, ◌<◌};
+ghost use Rattle.std.specs.Prelude.{◌≡◌, ◌≢◌, ◌↔◌, ◌<◌, ◌≤◌};
+ghost use Rattle.rpki_der.specs.declared.error.DecodeError.TheVariants as decoding;
+ghost use Rattle.rpki_tal.specs.declared.tal_error.TalError.TheVariants as tal;
 
 use rpki_cert::{InspectionError, VerificationError};
 use rpki_crl::RevocationError;
 use rpki_der::{DecodeError, Field};
 use rpki_path::PathFault;
+use rpki_tal::TalError;
 
 /// No fault.
 pub(crate) const NONE: u32 = 0;
@@ -13,6 +16,10 @@ pub(crate) const NONE: u32 = 0;
 pub(crate) const MEMORY: u32 = 1;
 /// The caller's lengths or numbers don't fit.
 pub(crate) const BAD_CALL: u32 = 2;
+/// The issuer of a path's member isn't the subject of the one above it.
+pub(crate) const OTHER_NAME: u32 = 600;
+/// The trust anchor's key isn't the locator's.
+pub(crate) const OTHER_KEY: u32 = 601;
 
 fn field(field: Field) -> u32
     ensures { result < 13 }
@@ -36,8 +43,10 @@ fn field(field: Field) -> u32
 
 /// The number of a fault of reading.
 pub(crate) fn of_decoding(error: &DecodeError) -> u32
+    ensures memory { result ≡ MEMORY ↔ error.now ≡ decoding.Memory }
     ensures fault { result ≢ NONE }
     ensures no_bad_call { result ≢ BAD_CALL }
+    ensures small { result < 600 }
 {
     match error {
         DecodeError::Truncated => 100,
@@ -62,6 +71,7 @@ pub(crate) fn of_decoding(error: &DecodeError) -> u32
 pub(crate) fn of_inspection(error: InspectionError) -> u32
     ensures fault { result ≢ NONE }
     ensures no_bad_call { result ≢ BAD_CALL }
+    ensures small { result < 600 }
 {
     match error {
         InspectionError::AlgorithmMismatch => 300,
@@ -98,6 +108,7 @@ pub(crate) fn of_inspection(error: InspectionError) -> u32
 pub(crate) fn of_verification(error: &VerificationError) -> u32
     ensures fault { result ≢ NONE }
     ensures no_bad_call { result ≢ BAD_CALL }
+    ensures small { result < 600 }
 {
     match error {
         VerificationError::NotYetValid => 400,
@@ -120,6 +131,7 @@ pub(crate) fn of_verification(error: &VerificationError) -> u32
 pub(crate) fn of_revocation(error: RevocationError) -> u32
     ensures fault { result ≢ NONE }
     ensures no_bad_call { result ≢ BAD_CALL }
+    ensures small { result < 600 }
 {
     match error {
         RevocationError::NoCrl => 500,
@@ -134,6 +146,7 @@ pub(crate) fn of_revocation(error: RevocationError) -> u32
 pub(crate) fn of_path(fault: &PathFault) -> u32
     ensures fault { result ≢ NONE }
     ensures no_bad_call { result ≢ BAD_CALL }
+    ensures small { result < 600 }
 {
     match fault {
         PathFault::Decode(error) => of_decoding(error),
@@ -141,5 +154,21 @@ pub(crate) fn of_path(fault: &PathFault) -> u32
         PathFault::Verify(error) => of_verification(error),
         PathFault::Revocation(error) => of_revocation(*error),
         PathFault::Memory => MEMORY,
+    }
+}
+
+/// The number of a fault of a locator.
+pub(crate) fn of_locator(error: &TalError) -> u32
+    ensures memory { result ≡ MEMORY ↔ error.now ≡ tal.Memory }
+    ensures fault { result ≢ NONE }
+    ensures no_other { result ≢ OTHER_KEY }
+{
+    match error {
+        TalError::NoText => 700,
+        TalError::BadUri => 701,
+        TalError::NoUri => 702,
+        TalError::NoKey => 703,
+        TalError::BadKey => 704,
+        TalError::Memory => MEMORY,
     }
 }

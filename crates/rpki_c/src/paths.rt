@@ -16,7 +16,7 @@ use bytes::Bytes;
 use rpki_cert::{Kind, ResourceCert};
 use rpki_der::Time;
 use rpki_parts::Verifier;
-use rpki_path::{GivenPath, Judged, PathError, judge};
+use rpki_path::{GivenPath, Judged, Member, PathError, judge};
 use rpki_revocation::{GivenLists, NobodyAsked, RevocationSource};
 use rpki_rsa::RsaVerifier;
 use std::alloc::Global;
@@ -127,7 +127,7 @@ fn terms_of(last: u32, strict: u32, now: &RpkiTime) -> Option<Terms>
 // the last one is to be that.
 fn answer<R: RevocationSource, V: Verifier>(
     alloc: Global,
-    members: &[Bytes],
+    members: &[Member<'_>],
     terms: Terms,
     asked: &R,
     verifier: &V,
@@ -141,6 +141,27 @@ fn answer<R: RevocationSource, V: Verifier>(
 {
     let path = GivenPath::of(members, terms.last)?;
     Some(judge(alloc, &path, asked, terms.strict, terms.now, verifier))
+}
+
+// The verdict on the members' strings, with the ranges that are held.
+fn verdict_on<R: RevocationSource, V: Verifier>(
+    alloc: Global,
+    strings: &[Bytes],
+    terms: Terms,
+    asked: &R,
+    verifier: &V,
+    v4: &mut [RpkiIpRange],
+    v6: &mut [RpkiIpRange],
+    asn: &mut [RpkiAsRange],
+) -> RpkiVerdict {
+    match Member::of_each(alloc, strings) {
+        Ok(members) => {
+            let answer = answer(alloc, &members, terms, asked, verifier);
+            drop(members);
+            verdict(answer, v4, v6, asn)
+        }
+        Err(_) => rejected_as(MEMORY, 0),
+    }
 }
 
 /// Validates the path of the members, which stand one behind the other and have these lengths, the
@@ -168,10 +189,10 @@ pub extern "C" fn rpki_path_validate(
         return BAD_CALL;
     };
     match cut(alloc, octets, lengths) {
-        Ok(Some(members)) => {
-            let answer = answer(alloc, &members, terms, &NobodyAsked, &RsaVerifier);
-            *out = verdict(answer, v4, v6, asn);
-            drop(members);
+        Ok(Some(strings)) => {
+            let (asked, verifier) = (&NobodyAsked, &RsaVerifier);
+            *out = verdict_on(alloc, &strings, terms, asked, verifier, v4, v6, asn);
+            drop(strings);
         }
         Ok(None) => {}
         Err(_) => *out = rejected_as(MEMORY, 0),
@@ -212,11 +233,10 @@ pub extern "C" fn rpki_path_validate_with(
         }
     };
     match cut(alloc, octets, lengths) {
-        Ok(Some(members)) => {
-            let asked = GivenLists::new(&lists);
-            let answer = answer(alloc, &members, terms, &asked, &RsaVerifier);
-            *out = verdict(answer, v4, v6, asn);
-            drop(members);
+        Ok(Some(strings)) => {
+            let (asked, verifier) = (GivenLists::new(&lists), &RsaVerifier);
+            *out = verdict_on(alloc, &strings, terms, &asked, verifier, v4, v6, asn);
+            drop(strings);
         }
         Ok(None) => {}
         Err(_) => *out = rejected_as(MEMORY, 0),
@@ -228,18 +248,19 @@ pub extern "C" fn rpki_path_validate_with(
 // The verdict by signatures that the caller has checked.
 fn verdict_said(
     alloc: Global,
-    members: &[Bytes],
+    strings: &[Bytes],
     terms: Terms,
     yes: &[u8],
     v4: &mut [RpkiIpRange],
     v6: &mut [RpkiIpRange],
     asn: &mut [RpkiAsRange],
 ) -> RpkiVerdict {
-    match answers(alloc, members, yes) {
+    match answers(alloc, strings, yes) {
         Ok(verifier) => {
-            let answer = answer(alloc, members, terms, &NobodyAsked, &verifier);
+            let asked = &NobodyAsked;
+            let out = verdict_on(alloc, strings, terms, asked, &verifier, v4, v6, asn);
             drop(verifier);
-            verdict(answer, v4, v6, asn)
+            out
         }
         Err(_) => rejected_as(MEMORY, 0),
     }
@@ -269,9 +290,9 @@ pub extern "C" fn rpki_path_validate_said(
         return BAD_CALL;
     };
     match cut(alloc, octets, lengths) {
-        Ok(Some(members)) => {
-            *out = verdict_said(alloc, &members, terms, yes, v4, v6, asn);
-            drop(members);
+        Ok(Some(strings)) => {
+            *out = verdict_said(alloc, &strings, terms, yes, v4, v6, asn);
+            drop(strings);
         }
         Ok(None) => {}
         Err(_) => *out = rejected_as(MEMORY, 0),

@@ -2,12 +2,14 @@
 ghost use Rattle.std.specs.Prelude.{◌≡◌, ◌≢◌};
 
 use crate::copying::put_octets;
-use crate::faults::{BAD_CALL, MEMORY, NONE};
+use crate::faults::{BAD_CALL, MEMORY, NONE, OTHER_KEY, OTHER_NAME};
 use rpki_cert::{InspectionError, VerificationError};
 use rpki_crl::RevocationError;
 use rpki_der::{DecodeError, Field};
 use rpki_path::PathFault;
+use rpki_tal::TalError;
 use std::alloc::Global;
+use std::fmt::Display;
 
 fn field(number: u32) -> Option<Field> {
     match number {
@@ -108,6 +110,17 @@ fn revocation(number: u32) -> Option<RevocationError> {
     }
 }
 
+fn locator(number: u32) -> Option<TalError> {
+    match number {
+        700 => Some(TalError::NoText),
+        701 => Some(TalError::BadUri),
+        702 => Some(TalError::NoUri),
+        703 => Some(TalError::NoKey),
+        704 => Some(TalError::BadKey),
+        _ => None,
+    }
+}
+
 fn fault(number: u32) -> Option<PathFault> {
     match number {
         MEMORY => Some(PathFault::Memory),
@@ -124,6 +137,11 @@ fn plain(number: u32) -> Option<(&'static str, &'static str)> {
     match number {
         NONE => Some(("None", "no fault")),
         BAD_CALL => Some(("BadCall", "lengths or numbers of the call don't fit")),
+        OTHER_KEY => Some(("OtherKey", "the trust anchor's key isn't the locator's")),
+        OTHER_NAME => Some((
+            "OtherName",
+            "the issuer isn't the subject of the certificate above",
+        )),
         107 => Some(("UnexpectedCritical", "unexpected critical extension")),
         108 => Some(("InvalidExtension", "invalid extension")),
         _ => None,
@@ -152,6 +170,11 @@ pub extern "C" fn rpki_fault_name(number: u32, out: &mut [u8], count: &mut u64) 
         *count = put_octets(name.as_bytes(), out);
         return NONE;
     }
+    if let Some(fault) = locator(number) {
+        *count = put_octets(fault.name().as_bytes(), out);
+        drop(fault);
+        return NONE;
+    }
     match fault(number) {
         Some(fault) => {
             *count = put_octets(name_of(&fault).as_bytes(), out);
@@ -162,7 +185,7 @@ pub extern "C" fn rpki_fault_name(number: u32, out: &mut [u8], count: &mut u64) 
     }
 }
 
-fn put_sentence(alloc: Global, fault: &PathFault, out: &mut [u8], count: &mut u64) -> u32
+fn put_sentence<F: Display>(alloc: Global, fault: &F, out: &mut [u8], count: &mut u64) -> u32
     ensures at_fault { result ≢ NONE → count.new ≡ count.old }
 {
     match format!(in alloc; "{fault}") {
@@ -190,6 +213,11 @@ pub extern "C" fn rpki_fault_sentence(
     if let Some((_, sentence)) = plain(number) {
         *count = put_octets(sentence.as_bytes(), out);
         return NONE;
+    }
+    if let Some(fault) = locator(number) {
+        let answer = put_sentence(alloc, &fault, out, count);
+        drop(fault);
+        return answer;
     }
     match fault(number) {
         Some(fault) => {

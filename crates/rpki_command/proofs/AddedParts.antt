@@ -5,8 +5,7 @@ use Rattle.std.proofs.Common.{◌≡◌, ℕ, ◌+◌, ◌<◌, ◌≤◌, List,
 use Rattle.std.proofs.lemmas.List.{append_assoc, append-nil, map-append, map_more, take-append-drop, take_all, drop_more}
 use Rattle.std.proofs.lemmas.List.Sums.{fold_push}
 use Rattle.rpki_command.specs.declared.arguments.Setting.{Setting}
-use Rattle.rpki_command.specs.declared.arguments.Setting.TheVariants.{Crl}
-use Rattle.rpki_command.specs.CommandLines.{IsOption, LinePart, file, list, AreParts, RequestFields, setting_name, with_files, with_part}
+use Rattle.rpki_command.specs.CommandLines.{IsOption, LinePart, file, AreParts, RequestFields, setting_name, with_files, with_part}
 use Rattle.rpki_command.specs.CommandLines.Steps.{AddsPart, AddsParts, AddsSet, BeginsNoPart, IsSet, Joins, Names}
 use Rattle.rpki_command.specs.CommandLines.Views.{word_octets}
 use Rattle.rpki_command.proofs.CommandParts.{one_more, none_behind, value_missing, set_is_part, no_value, no_joined}
@@ -18,10 +17,10 @@ pub file_added : {T E : Type 0} (r : Result T E) (old : RequestFields) (names : 
 file_added (Ok x) old names name e not_option = (file name, (refl, not_option), ap (λ (l : List (List ℕ)). record old { files = l }) e)
 file_added (Err x) old names name e not_option = e
 
--- a list is added
-pub list_added : {T E : Type 0} (r : Result T E) (old : RequestFields) (names : List (List ℕ)) (name : List ℕ) → OnOk r (names ≡ old.lists ++ name ∷ []) → OnOk r (AddsSet Crl name old (record old { lists = names }))
-list_added (Ok x) old names name e = (list name, refl, ap (λ (l : List (List ℕ)). record old { lists = l }) e)
-list_added (Err x) old names name e = e
+-- a file that is an option's value is added to those of the request
+pub value_pushed : {T E : Type 0} (r : Result T E) (old : RequestFields) (setting : Setting) (value : List ℕ) (part : LinePart) → IsSet setting value part → (keeping : List (List ℕ) → RequestFields) (pushed all : List (List ℕ)) → keeping all ≡ with_part old part → OnOk r (pushed ≡ all) → OnOk r (AddsSet setting value old (keeping pushed))
+value_pushed (Ok x) old setting value part is keeping pushed all same e = (part, is, ap keeping e ∙ same)
+value_pushed (Err x) old setting value part is keeping pushed all same e = e
 
 -- what an option says is added, whose value stands behind `=`
 pub joined_added : {T E : Type 0} (r : Result T E) (old new : RequestFields) (setting : Setting) (value word : List ℕ) → Joins setting value word → OnOk r (AddsSet setting value old new) → OnOk r (AddsPart (word ∷ []) old new)

@@ -6,8 +6,8 @@ use Rattle.std.proofs.lemmas.Bool.{eqb-true}
 use Rattle.std.proofs.lemmas.Slice.Eq.{bytes_eq-Decides}
 use Rattle.std.proofs.lemmas.List.{append_assoc, append-nil}
 use Rattle.rpki_command.specs.declared.arguments.Setting.{Setting}
-use Rattle.rpki_command.specs.declared.arguments.Setting.TheVariants.{Crl, At, MaxSize}
-use Rattle.rpki_command.specs.CommandLines.{IsOption, LinePart, file, list, at_moment, max_size, lenient, json, all, help, setting_name, Gives, IsPart, AreParts}
+use Rattle.rpki_command.specs.declared.arguments.Setting.TheVariants.{Crl, Tal, At, MaxSize}
+use Rattle.rpki_command.specs.CommandLines.{IsOption, LinePart, file, list, locator, at_moment, max_size, lenient, json, all, no_names, help, setting_name, Gives, IsPart, AreParts}
 use Rattle.rpki_command.specs.CommandLines.Steps.{BeginsNoPart, IsSet, IsSwitch, Joins, Names}
 use Rattle.rpki_text.proofs.OneMoment.{one_moment}
 
@@ -34,29 +34,34 @@ joining_or setting (Some value) sort = joining setting value
 sort_of : List ℕ → Sort
 sort_of word =
     cond (bytes_eq word (codes "--crl")) (before Crl)
+    (cond (bytes_eq word (codes "--tal")) (before Tal)
     (cond (bytes_eq word (codes "--at")) (before At)
     (cond (bytes_eq word (codes "--max-size")) (before MaxSize)
     (cond (bytes_eq word (codes "--lenient")) (single lenient)
     (cond (bytes_eq word (codes "--json")) (single json)
     (cond (bytes_eq word (codes "-j")) (single json)
     (cond (bytes_eq word (codes "--all")) (single all)
+    (cond (bytes_eq word (codes "--no-names")) (single no_names)
     (cond (bytes_eq word (codes "--help")) (single help)
     (cond (bytes_eq word (codes "-h")) (single help)
     (joining_or Crl (stripped (codes "--crl=") word)
+    (joining_or Tal (stripped (codes "--tal=") word)
     (joining_or At (stripped (codes "--at=") word)
     (joining_or MaxSize (stripped (codes "--max-size=") word)
-    (single (file word)))))))))))))
+    (single (file word))))))))))))))))
 
 -- an option that takes a value
 named : (setting : Setting) → sort_of (setting_name setting) ≡ before setting
 unfolding sort_of
 named Crl = refl
+named Tal = refl
 named At = refl
 named MaxSize = refl
 
 joined : (setting : Setting) (value : List ℕ) → sort_of (setting_name setting ++ codes "=" ++ value) ≡ joining setting value
 unfolding sort_of stripped joining_or
 joined Crl value = refl
+joined Tal value = refl
 joined At value = refl
 joined MaxSize value = refl
 
@@ -91,13 +96,14 @@ not_stripped cs (w ∷ v ∷ ws) not_option =
 file_sort : (word : List ℕ) → (IsOption word → ⊥) → sort_of word ≡ single (file word)
 unfolding sort_of joining_or
 file_sort word not_option =
-    rw (unlike word (codes "--crl") not_option (refl, lit< tt), unlike word (codes "--at") not_option (refl, lit< tt), unlike word (codes "--max-size") not_option (refl, lit< tt), unlike word (codes "--lenient") not_option (refl, lit< tt), unlike word (codes "--json") not_option (refl, lit< tt), unlike word (codes "-j") not_option (refl, lit< tt), unlike word (codes "--all") not_option (refl, lit< tt), unlike word (codes "--help") not_option (refl, lit< tt), unlike word (codes "-h") not_option (refl, lit< tt), not_stripped (codes "crl=") word not_option, not_stripped (codes "at=") word not_option, not_stripped (codes "max-size=") word not_option) refl
+    rw (unlike word (codes "--crl") not_option (refl, lit< tt), unlike word (codes "--tal") not_option (refl, lit< tt), unlike word (codes "--at") not_option (refl, lit< tt), unlike word (codes "--max-size") not_option (refl, lit< tt), unlike word (codes "--lenient") not_option (refl, lit< tt), unlike word (codes "--json") not_option (refl, lit< tt), unlike word (codes "-j") not_option (refl, lit< tt), unlike word (codes "--all") not_option (refl, lit< tt), unlike word (codes "--no-names") not_option (refl, lit< tt), unlike word (codes "--help") not_option (refl, lit< tt), unlike word (codes "-h") not_option (refl, lit< tt), not_stripped (codes "crl=") word not_option, not_stripped (codes "tal=") word not_option, not_stripped (codes "at=") word not_option, not_stripped (codes "max-size=") word not_option) refl
 
 -- ---- a part
 
 -- an option with its value is one part
 one_set : (setting : Setting) (value : List ℕ) (p q : LinePart) → IsSet setting value p → IsSet setting value q → p ≡ q
 one_set Crl value p q h k = h ∙ sym k
+one_set Tal value p q h k = h ∙ sym k
 one_set At value p q h k = h.1 ∙ ap at_moment (one_moment h.0 k.0 value h.3 k.3) ∙ sym k.1
 one_set MaxSize value p q h k = h.1 ∙ ap max_size (sym h.2.1 ∙ k.2.1) ∙ sym k.1
 
@@ -123,18 +129,21 @@ shape : (part : LinePart) (words : List (List ℕ)) → IsPart part words → Sh
 unfolding sort_of
 shape (file name) words h = alone_is (file name) words name h.0 (file_sort name h.1)
 shape (list name) words h = given Crl name (list name) words refl h
+shape (locator name) words h = given Tal name (locator name) words refl h
 shape (at_moment m) words h = given At h.0 (at_moment m) words (m, refl, h.2, h.3) h.1
 shape (max_size n) words h = given MaxSize h.0 (max_size n) words (n, refl, h.2) h.1
 shape lenient words h = alone_is lenient words (codes "--lenient") h refl
 shape json words (inl h) = alone_is json words (codes "--json") h refl
 shape json words (inr h) = alone_is json words (codes "-j") h refl
 shape all words h = alone_is all words (codes "--all") h refl
+shape no_names words h = alone_is no_names words (codes "--no-names") h refl
 shape help words (inl h) = alone_is help words (codes "--help") h refl
 shape help words (inr h) = alone_is help words (codes "-h") h refl
 
 -- an option with its value is a part
 pub set_is_part : (setting : Setting) (value : List ℕ) (part : LinePart) (words : List (List ℕ)) → IsSet setting value part → Gives setting value words → IsPart part words
 set_is_part Crl value part words set gives = subst (λ (p : LinePart). IsPart p words) (sym set) gives
+set_is_part Tal value part words set gives = subst (λ (p : LinePart). IsPart p words) (sym set) gives
 set_is_part At value part words set gives = subst (λ (p : LinePart). IsPart p words) (sym set.1) (value, gives, set.2, set.3)
 set_is_part MaxSize value part words set gives = subst (λ (p : LinePart). IsPart p words) (sym set.1) (value, gives, set.2)
 
@@ -251,12 +260,14 @@ module _ (word : List ℕ) (is_option : IsOption word) (unnamed : (setting : Set
   pub no_option : BeginsNoPart (word ∷ [])
   no_option (file name) its behind rest is e = let same : word ≡ name = cc in is.1 (subst IsOption same is_option)
   no_option (list name) its behind rest is e = not_given Crl name its behind rest is e
+  no_option (locator name) its behind rest is e = not_given Tal name its behind rest is e
   no_option (at_moment m) its behind rest is e = not_given At is.0 its behind rest is.1 e
   no_option (max_size n) its behind rest is e = not_given MaxSize is.0 its behind rest is.1 e
   no_option lenient its behind rest is e = no_switch lenient cc
   no_option json its behind rest (inl is) e = no_switch json (inl cc)
   no_option json its behind rest (inr is) e = no_switch json (inr cc)
   no_option all its behind rest is e = no_switch all cc
+  no_option no_names its behind rest is e = no_switch no_names cc
   no_option help its behind rest (inl is) e = no_switch help (inl cc)
   no_option help its behind rest (inr is) e = no_switch help (inr cc)
 

@@ -6,6 +6,7 @@ mod CommandParts
 mod EndedRuns
 mod FlaggedItems
 mod OneRequest
+mod PartsOfEach
 mod PushedItems
 mod PushedValues
 mod PutMembers

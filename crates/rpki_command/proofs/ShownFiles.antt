@@ -6,11 +6,8 @@ use Rattle.std.proofs.lemmas.Bool.{and_from, and_parts}
 use Rattle.std.proofs.lemmas.List.Elements.{All-cons, All-head, All-tail}
 use Rattle.serde_json.specs.Data.{Data}
 use Rattle.serde_json.specs.Written.{has_float}
-use Rattle.rpki_files.specs.Contents.{BeginsWithCertificate, BeginsWithList, CanBeShown}
-use Rattle.rpki_files.specs.Files.{FileFields}
 use Rattle.rpki_command.specs.JsonTexts.{json_lines}
 use Rattle.rpki_text.specs.Pages.{Appends, AppendsSome}
-use Rattle.rpki_command.specs.ShownTexts.{SaysIf}
 use Rattle.rpki_command.proofs.AppendedTexts.{such_appended}
 use Rattle.rpki_command.proofs.WholeValues.{IsWhole}
 
@@ -30,14 +27,3 @@ flag_of_first P x xs has others here behind = (
   (λ both. let parts = and_parts others has both in All-cons P x xs (here.0 parts.1) (behind.0 parts.0)),
   (λ all. and_from others has (behind.1 (All-tail P x xs all)) (here.1 (All-head P x xs all))),
 )
-
-module _ (OfCertificate OfList OfOther : FileFields → List ℕ → Type 0) (file : FileFields) (text : List ℕ) where
-  -- of a file that begins with no certificate, in which a list is looked for
-  pub list_shown : (BeginsWithCertificate file.octets → ⊥) → SaysIf BeginsWithList OfList OfOther file text → SaysIf CanBeShown (λ file text. OfCertificate file text ⊎ OfList file text) OfOther file text
-  list_shown none (inl its) = inl (inr its)
-  list_shown none (inr other) = inr ((λ shown. ⊎_elim none other.0 shown), other.1)
-
-  -- of a file that begins with no list, in which a certificate is looked for
-  pub certificate_shown : (BeginsWithList file.octets → ⊥) → SaysIf BeginsWithCertificate OfCertificate OfOther file text → SaysIf CanBeShown (λ file text. OfCertificate file text ⊎ OfList file text) OfOther file text
-  certificate_shown none (inl its) = inl (inl its)
-  certificate_shown none (inr other) = inr ((λ shown. ⊎_elim other.0 none shown), other.1)

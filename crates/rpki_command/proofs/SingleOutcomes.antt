@@ -11,7 +11,7 @@ use Rattle.rpki_verdicts.specs.declared.path.Verdict.{Verdict}
 use Rattle.rpki_verdicts.specs.declared.path.Verdict.TheVariants.{Accepted, Rejected}
 use Rattle.rpki_verdicts.specs.declared.path.Fault.{Fault}
 use Rattle.rpki_verdicts.specs.PathAnswers.{IsVerdictBy}
-use Rattle.rpki_verdicts.specs.PathFiles.{IsGivenBy}
+use Rattle.rpki_verdicts.specs.PathFiles.{Demands, IsGivenBy}
 use Rattle.rpki_command.specs.Outcomes.{IsOutcomeOf, IsOutcomeOfShow, IsOutcomeOfValidate}
 
 -- no files are no path
@@ -19,17 +19,17 @@ no_path : (g : PathStrings) → IsGivenBy [] g → ⊥
 no_path g (inl p) = let e : [] ≡ p.0 ∷ [] = p.1 in cc
 no_path g (inr p) = let e : [] ≡ p.split.anchor ∷ (p.split.cas ++ p.split.octets ∷ []) = p.split.strings_are in cc
 
-no_verdict : (x : Context) (lists : List (List ℕ)) (verdict : Verdict) → IsVerdictBy x [] lists verdict → ⊥
-no_verdict x [] verdict h = no_path h.0 h.1
-no_verdict x (list ∷ lists) verdict h = no_path h.2.0 h.2.1
+no_verdict : (x : Context) (d : Demands) (lists : List (List ℕ)) (verdict : Verdict) → IsVerdictBy x d [] lists verdict → ⊥
+no_verdict x d [] verdict h = no_path h.0 h.1
+no_verdict x d (list ∷ lists) verdict h = no_path h.2.0 h.2.1
 
-module _ (x : Context) (files lists : List (List ℕ)) (never_both : (j : Judged) (fault : Fault) → IsVerdictBy x files lists (Accepted j) → IsVerdictBy x files lists (Rejected fault) → ⊥) where
-  never_both_validated : IsOutcomeOfValidate x files lists Success → IsOutcomeOfValidate x files lists Rejection → ⊥
-  never_both_validated a (inl empty) = no_verdict x lists (Accepted a.0.0) (subst (λ (l : List (List ℕ)). IsVerdictBy x l lists (Accepted a.0.0)) empty a.0.1)
+module _ (x : Context) (d : Demands) (files lists : List (List ℕ)) (never_both : (j : Judged) (fault : Fault) → IsVerdictBy x d files lists (Accepted j) → IsVerdictBy x d files lists (Rejected fault) → ⊥) where
+  never_both_validated : IsOutcomeOfValidate x d files lists Success → IsOutcomeOfValidate x d files lists Rejection → ⊥
+  never_both_validated a (inl empty) = no_verdict x d lists (Accepted a.0.0) (subst (λ (l : List (List ℕ)). IsVerdictBy x d l lists (Accepted a.0.0)) empty a.0.1)
   never_both_validated a (inr (inl b)) = never_both a.0.0 b.0 a.0.1 b.1
   never_both_validated a (inr (inr none)) = none a.1
 
-  one_validated : (o p : Outcome) → IsOutcomeOfValidate x files lists o → IsOutcomeOfValidate x files lists p → o ≡ p
+  one_validated : (o p : Outcome) → IsOutcomeOfValidate x d files lists o → IsOutcomeOfValidate x d files lists p → o ≡ p
   one_validated Success Success a b = refl
   one_validated Success Rejection a b = absurd (never_both_validated a b)
   one_validated Rejection Success a b = absurd (never_both_validated b a)
@@ -49,7 +49,7 @@ module _ (x : Context) (files lists : List (List ℕ)) (never_both : (j : Judged
   one_shown o WrongUse a b = absurd b
   one_shown o Unread a b = absurd b
 
-  pub one_outcome : (task : Task) (o p : Outcome) → IsOutcomeOf task x files lists o → IsOutcomeOf task x files lists p → o ≡ p
+  pub one_outcome : (task : Task) (o p : Outcome) → IsOutcomeOf task x d files lists o → IsOutcomeOf task x d files lists p → o ≡ p
   one_outcome Show o p a b = one_shown o p a b
   one_outcome Validate o p a b = one_validated o p a b
   one_outcome Help o p a b = a ∙ sym b

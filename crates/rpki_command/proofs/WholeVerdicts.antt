@@ -1,22 +1,25 @@
 -- The value of a verdict has no floats.
-use Rattle.std.specs.List.{AllByRecursion}
-use Rattle.std.specs.Prelude.{Option, Some, None}
+use Rattle.std.specs.List.{AllByRecursion, flat_map}
+use Rattle.std.specs.Prelude.{Option, Some, None, Result, Ok, Err}
 use Rattle.std.proofs.Common.{◌==◌, if◌then◌else◌, ℕ, Bool, true, false, List, [], ◌∷◌, ◌++◌, inl, inr, refl, subst, sym}
 use Rattle.serde_json.specs.Data.{Data, string}
 use Rattle.rpki_cert.proofs.Reordering.{all_append}
 use Rattle.rpki_files.specs.Files.{FileFields}
+use Rattle.rpki_verdicts.specs.GivenLocators.{LocatorFields}
 use Rattle.rpki_verdicts.specs.PathFiles.{QuestionFields}
 use Rattle.rpki.specs.Certificates.{CertFields}
+use Rattle.rpki.specs.Locators.{NamedTal}
+use Rattle.rpki.specs.TalError.{TalError}
 use Rattle.rpki.specs.Verification.{ResourceFields}
 use Rattle.rpki_command.specs.JsonValues.{Pair}
-use Rattle.rpki_command.specs.JsonVerdicts.{AreAcceptedMembers, AreAnswerMembers, IsLeftItem, IsNoteItem, IsOtherItem, left_items, left_json, names_json, note_items, fault_json, no_list_json, router_json, verdict_json, IsVerdictJson}
+use Rattle.rpki_command.specs.JsonVerdicts.{AreAcceptedMembers, AreAnswerMembers, IsLeftItem, IsNoteItem, IsOtherItem, left_items, left_json, names_json, note_items, fault_json, no_list_json, no_locator_items, no_locator_json, router_json, verdict_json, IsVerdictJson}
 use Rattle.rpki_notes.specs.declared.note.Note.{Note}
 use Rattle.rpki_text.specs.declared.keys.KeyAnswer.{KeyAnswer}
 use Rattle.rpki_command.specs.VerdictTexts.{SaysOfEach}
 use Rattle.rpki_verdicts.specs.declared.path.Fault.{Fault}
 use Rattle.rpki_verdicts.specs.declared.path.Verdict.TheVariants.{Accepted, Rejected}
 use Rattle.rpki_command.specs.declared.verdicts.Finding.{Finding}
-use Rattle.rpki_command.specs.declared.verdicts.Finding.TheVariants.{NotAList, Decided}
+use Rattle.rpki_command.specs.declared.verdicts.Finding.TheVariants.{NotALocator, NotAList, Decided}
 use Rattle.rpki_command.proofs.WholeFiles.{held_whole, key_whole, listed_whole, notes_whole}
 use Rattle.rpki_command.proofs.WholeValues.{IsWhole, AreWhole, none_whole, then_whole, both_whole, object_whole, array_whole, mapped_whole, text_if_any_whole, integer_whole}
 
@@ -74,6 +77,11 @@ unfolding fault_json
 fault_whole members fault =
     object_whole _ (then_whole _ _ _ refl (both_whole _ _ (text_if_any_whole _ _) (then_whole _ _ _ refl (then_whole _ _ _ refl (then_whole _ _ _ refl (then_whole _ _ _ refl none_whole))))))
 
+no_locator_whole : (fault : Fault) → IsWhole (no_locator_json fault)
+unfolding no_locator_json
+no_locator_whole fault =
+    object_whole _ (then_whole _ _ _ refl (then_whole _ _ _ refl (then_whole _ _ _ refl (then_whole _ _ _ refl none_whole))))
+
 no_list_whole : IsWhole no_list_json
 unfolding no_list_json
 no_list_whole = object_whole _ (then_whole _ _ _ refl (then_whole _ _ _ refl (then_whole _ _ _ refl (then_whole _ _ _ refl none_whole))))
@@ -86,16 +94,29 @@ accepted_whole : (holder : ResourceFields) (router : Option CertFields) (pairs :
 accepted_whole holder None pairs is = subst AreWhole (sym is) (then_whole _ _ _ refl (then_whole _ _ _ (array_whole _ (held_whole holder)) none_whole))
 accepted_whole holder (Some c) pairs is = subst AreWhole (sym is.2) (then_whole _ _ _ refl (then_whole _ _ _ (router_whole c is.0) (then_whole _ _ _ (array_whole _ (held_whole holder)) none_whole)))
 
-answer_whole : (members : List FileFields) (finding : Finding) (pairs : List Pair) → AreAnswerMembers members finding pairs → AreWhole pairs
-answer_whole members NotAList pairs is = subst AreWhole (sym is) (then_whole _ _ _ refl (then_whole _ _ _ no_list_whole none_whole))
-answer_whole members (Decided None) pairs is = subst AreWhole (sym is) (then_whole _ _ _ refl none_whole)
-answer_whole members (Decided (Some (Accepted j))) pairs is = accepted_whole j.holder j.router pairs is
-answer_whole members (Decided (Some (Rejected fault))) pairs is = subst AreWhole (sym is) (then_whole _ _ _ refl (then_whole _ _ _ (fault_whole members fault) none_whole))
+answer_whole : (question : QuestionFields) (finding : Finding) (pairs : List Pair) → AreAnswerMembers question finding pairs → AreWhole pairs
+answer_whole question (NotALocator fault) pairs is = subst AreWhole (sym is) (then_whole _ _ _ refl (then_whole _ _ _ (no_locator_whole fault) none_whole))
+answer_whole question NotAList pairs is = subst AreWhole (sym is) (then_whole _ _ _ refl (then_whole _ _ _ no_list_whole none_whole))
+answer_whole question (Decided None) pairs is = subst AreWhole (sym is) (then_whole _ _ _ refl none_whole)
+answer_whole question (Decided (Some (Accepted j))) pairs is =
+    subst AreWhole (sym is.pairs_are) (both_whole _ _ (text_if_any_whole _ _) (accepted_whole j.holder j.router is.held is.held_are))
+answer_whole question (Decided (Some (Rejected fault))) pairs is = subst AreWhole (sym is) (then_whole _ _ _ refl (then_whole _ _ _ (fault_whole question.members fault) none_whole))
+
+-- of the locators that are none
+no_locator_names_whole : (name : List ℕ) (read : Result NamedTal TalError) → AllWhole (no_locator_items name read)
+unfolding AllWhole
+no_locator_names_whole name (Ok tal) = tt
+no_locator_names_whole name (Err error) = (refl, tt)
+
+no_locators_whole : (locators : List LocatorFields) → AllWhole (flat_map (λ l. no_locator_items l.file.name l.read) locators)
+unfolding AllWhole
+no_locators_whole [] = tt
+no_locators_whole (l ∷ ls) = all_append IsWhole (no_locator_items l.file.name l.read) (flat_map (λ l. no_locator_items l.file.name l.read) ls) (no_locator_names_whole l.file.name l.read) (no_locators_whole ls)
 
 whole : (question : QuestionFields) (others left noted : List Data) (answer : List Pair) → AllByRecursion IsWhole others → AllByRecursion IsWhole left → AllByRecursion IsWhole noted → AreWhole answer → IsWhole (verdict_json question others left noted answer)
 unfolding verdict_json
 whole question others left noted answer others_are left_are noted_are answer_is =
-    object_whole _ (then_whole _ _ _ (names_whole question.members) (then_whole _ _ _ refl (then_whole _ _ _ (array_whole _ others_are) (then_whole _ _ _ (array_whole _ left_are) (then_whole _ _ _ (array_whole _ noted_are) (then_whole _ _ _ (integer_whole _) (both_whole _ _ answer_is none_whole)))))))
+    object_whole _ (then_whole _ _ _ (names_whole question.members) (then_whole _ _ _ refl (then_whole _ _ _ (array_whole _ (items_whole _ (no_locators_whole question.locators))) (then_whole _ _ _ refl (then_whole _ _ _ refl (then_whole _ _ _ (array_whole _ others_are) (then_whole _ _ _ (array_whole _ left_are) (then_whole _ _ _ (array_whole _ noted_are) (then_whole _ _ _ (integer_whole _) (both_whole _ _ answer_is none_whole))))))))))
 
 pub verdict_whole : (question : QuestionFields) (finding : Finding) (value : Data) → IsVerdictJson question finding value → IsWhole value
 verdict_whole question finding value is =
@@ -103,4 +124,4 @@ verdict_whole question finding value is =
     let of_members = items_whole _ (each_whole _ (left_item_whole _) question.members is.of_members is.of_members_are) in
     let of_lists = items_whole _ (each_whole _ (left_item_whole _) question.lists is.of_lists is.of_lists_are) in
     let noted = items_whole _ (each_whole _ note_item_whole question.members is.noted is.noted_are) in
-    subst IsWhole (sym is.value_is) (whole question is.others (is.of_members ++ is.of_lists) is.noted is.answer others (all_append IsWhole is.of_members is.of_lists of_members of_lists) noted (answer_whole question.members finding is.answer is.answer_is))
+    subst IsWhole (sym is.value_is) (whole question is.others (is.of_members ++ is.of_lists) is.noted is.answer others (all_append IsWhole is.of_members is.of_lists of_members of_lists) noted (answer_whole question finding is.answer is.answer_is))

@@ -1,10 +1,11 @@
 -- What is answered of the files that a request names.
-use Rattle.std.specs.Prelude.{◌≡◌, ℕ, List, [], IfSome, IsFalse, IsTrue}
+use Rattle.std.specs.Prelude.{◌≡◌, ℕ, All, List, [], IfSome, IsFalse, IsTrue}
 use Rattle.rpki.specs.RsaSignatures.{IsSignedByRsa}
 use Rattle.rpki.specs.Times.{Moment}
 use Rattle.rpki.specs.Verification.{context}
 use Rattle.rpki_command.specs.CommandLines.{RequestFields}
 use Rattle.rpki_files.specs.Files.{FileFields}
+use Rattle.rpki_verdicts.specs.GivenLocators.{LocatorFields, IsRead, locator_files}
 use Rattle.rpki_verdicts.specs.PathFiles.{QuestionFields}
 use Rattle.rpki_command.specs.JsonAnswers.{AreFilesJson}
 use Rattle.rpki_command.specs.JsonVerdicts.{IsJsonOfPath}
@@ -21,34 +22,41 @@ use Rattle.rpki_command.specs.declared.showing.Options.{Options}
 abbrev pub options_of : RequestFields → Moment → Options
 options_of r now = record { at = now; strict = r.strict; json = r.json; all = r.all_entries }
 
--- what a request asks of a path of files, and of files that are given as lists, at a moment
-abbrev pub question_of : RequestFields → Moment → List FileFields → List FileFields → QuestionFields
-question_of r now members lists = record { members = members; lists = lists; strict = r.strict; at = now }
+-- what a request asks of a path of files, and of files that are given as lists and as locators, at a
+-- moment
+abbrev pub question_of : RequestFields → Moment → List FileFields → List FileFields → List LocatorFields → QuestionFields
+question_of r now members lists locators =
+    record { members = members; lists = lists; locators = locators; names = r.names; strict = r.strict; at = now }
 
--- the text for a person of a run with this task that ends so, of which these files and lists could be
--- read: `show` shows them, and `validate` judges nothing where another couldn't be read
-abbrev pub IsTextBy : Task → Outcome → RequestFields → Moment → List FileFields → List FileFields → List ℕ → Type 0
-IsTextBy Show outcome r now files lists text = IsTextOfFiles (options_of r now) files text
-IsTextBy Validate Unread r now files lists text = text ≡ []
-IsTextBy Validate outcome r now files lists text = IsTextOfPath (context IsSignedByRsa now r.strict) (question_of r now files lists) text
-IsTextBy _ outcome r now files lists text = ⊥
+-- the text for a person of a run with this task that ends so, of which these files, lists and locators
+-- could be read: `show` shows them, and `validate` judges nothing where another couldn't be read
+abbrev pub IsTextBy : Task → Outcome → RequestFields → Moment → List FileFields → List FileFields → List LocatorFields → List ℕ → Type 0
+IsTextBy Show outcome r now files lists locators text = IsTextOfFiles (options_of r now) files text
+IsTextBy Validate Unread r now files lists locators text = text ≡ []
+IsTextBy Validate outcome r now files lists locators text =
+    IsTextOfPath (context IsSignedByRsa now r.strict) (question_of r now files lists locators) text
+IsTextBy _ outcome r now files lists locators text = ⊥
 
 -- its JSON
-abbrev pub IsJsonBy : Task → Outcome → RequestFields → Moment → List FileFields → List FileFields → List ℕ → Type 0
-IsJsonBy Show outcome r now files lists text = AreFilesJson (options_of r now) files text
-IsJsonBy Validate Unread r now files lists text = text ≡ []
-IsJsonBy Validate outcome r now files lists text = IsJsonOfPath (context IsSignedByRsa now r.strict) (question_of r now files lists) text
-IsJsonBy _ outcome r now files lists text = ⊥
+abbrev pub IsJsonBy : Task → Outcome → RequestFields → Moment → List FileFields → List FileFields → List LocatorFields → List ℕ → Type 0
+IsJsonBy Show outcome r now files lists locators text = AreFilesJson (options_of r now) files text
+IsJsonBy Validate Unread r now files lists locators text = text ≡ []
+IsJsonBy Validate outcome r now files lists locators text =
+    IsJsonOfPath (context IsSignedByRsa now r.strict) (question_of r now files lists locators) text
+IsJsonBy _ outcome r now files lists locators text = ⊥
 
--- what is asked may be answered so: at the moment that is named, if one is, by those of its files and
--- lists that could be read
+-- what is asked may be answered so: at the moment that is named, if one is, by those of its files,
+-- lists and locators that could be read
 pub record MayAnswer (r : RequestFields) (outcome : Outcome) (text : List ℕ) : Type 0 where
   pub now : Moment
   pub files : List FileFields
   pub lists : List FileFields
+  pub locators : List LocatorFields
   pub now_is : IfSome r.at (λ at. now ≡ at)
   pub files_read : AreReadOf r.files files
   pub lists_read : AreReadOf r.lists lists
-  pub ends : EndsBy r now files lists outcome
-  pub text_is : IsFalse r.json → IsTextBy r.task outcome r now files lists text
-  pub json_is : IsTrue r.json → IsJsonBy r.task outcome r now files lists text
+  pub locators_read : AreReadOf r.locators (locator_files locators)
+  pub locators_are : All (IsRead r.strict) locators
+  pub ends : EndsBy r now files lists (locator_files locators) outcome
+  pub text_is : IsFalse r.json → IsTextBy r.task outcome r now files lists locators text
+  pub json_is : IsTrue r.json → IsJsonBy r.task outcome r now files lists locators text

@@ -7,7 +7,7 @@ use Rattle.std.specs.Str.Parse.{IsNumeral, digits_value}
 use Rattle.rpki.specs.Times.{Moment, IsMoment}
 use Rattle.rpki_text.specs.MomentTexts.{IsMomentText}
 use Rattle.rpki_command.specs.declared.arguments.Setting.{Setting}
-use Rattle.rpki_command.specs.declared.arguments.Setting.TheVariants.{Crl, At, MaxSize}
+use Rattle.rpki_command.specs.declared.arguments.Setting.TheVariants.{Crl, Tal, At, MaxSize}
 use Rattle.rpki_command.specs.declared.arguments.Task.{Task}
 use Rattle.rpki_command.specs.declared.arguments.Task.TheVariants.{Show, Validate, Help, Version}
 pub mod Views
@@ -29,6 +29,7 @@ IsOption word = (slice_index word 0 ≡ 0x2D) × (1 < length word)
 -- the name of an option that takes a value
 abbrev pub setting_name : Setting → List ℕ
 setting_name Crl = codes "--crl"
+setting_name Tal = codes "--tal"
 setting_name At = codes "--at"
 setting_name MaxSize = codes "--max-size"
 
@@ -43,20 +44,22 @@ IsNumberText n text = IsNumeral 10 text × (digits_value 10 text ≡ n) × (n < 
 
 -- what stands behind the task: files, and options, some with a value
 pub data LinePart : Type 0 where
-  file list : List ℕ → LinePart
+  file list locator : List ℕ → LinePart
   at_moment : Moment → LinePart
   max_size : ℕ → LinePart
-  lenient json all help : LinePart
+  lenient json all no_names help : LinePart
 
 -- the words are this part
 abbrev pub IsPart : LinePart → List (List ℕ) → Type 0
 IsPart (file name) words = (words ≡ name ∷ []) × (IsOption name → ⊥)
 IsPart (list name) words = Gives Crl name words
+IsPart (locator name) words = Gives Tal name words
 IsPart (at_moment m) words = (text : List ℕ) × Gives At text words × IsMoment m × IsMomentText m text
 IsPart (max_size n) words = (text : List ℕ) × Gives MaxSize text words × IsNumberText n text
 IsPart lenient words = words ≡ codes "--lenient" ∷ []
 IsPart json words = (words ≡ codes "--json" ∷ []) ⊎ (words ≡ codes "-j" ∷ [])
 IsPart all words = words ≡ codes "--all" ∷ []
+IsPart no_names words = words ≡ codes "--no-names" ∷ []
 IsPart help words = (words ≡ codes "--help" ∷ []) ⊎ (words ≡ codes "-h" ∷ [])
 
 -- the words are these parts, one after the other, in any order
@@ -79,8 +82,8 @@ words_behind words = after_first is_dashes words
 -- ---- what they ask
 
 -- the task, the moment if one is given, whether names are read strictly, whether JSON and all
--- entries of a list are printed, how many octets a file may have, the files, and those given as
--- revocation lists
+-- entries of a list are printed, how many octets a file may have, whether names of issuer and subject
+-- have to be the same, the files, and those given as revocation lists and as locators of trust anchors
 pub record RequestFields : Type 0 where
   pub task : Task
   pub at : Option Moment
@@ -88,8 +91,10 @@ pub record RequestFields : Type 0 where
   pub json : Bool
   pub all_entries : Bool
   pub max_size : ℕ
+  pub names : Bool
   pub files : List (List ℕ)
   pub lists : List (List ℕ)
+  pub locators : List (List ℕ)
 
 -- how many octets a file may have where no word says it: 64 MiB
 abbrev pub usual_size : ℕ
@@ -97,30 +102,37 @@ usual_size = 67_108_864
 
 -- a task, and nothing more
 abbrev pub only_task : Task → RequestFields
-only_task task = record { task = task; at = None; strict = true; json = false; all_entries = false; max_size = usual_size; files = []; lists = [] }
+only_task task = record { task = task; at = None; strict = true; json = false; all_entries = false; max_size = usual_size; names = true; files = []; lists = []; locators = [] }
 
 -- with more files
 abbrev pub with_files : RequestFields → List (List ℕ) → RequestFields
-with_files r names = record r { files = r.files ++ names }
+with_files r more = record r { files = r.files ++ more }
 
 -- with what a further part says; of several moments or sizes the last one counts
 abbrev pub with_part : RequestFields → LinePart → RequestFields
 with_part r (file name) = record r { files = r.files ++ name ∷ [] }
 with_part r (list name) = record r { lists = r.lists ++ name ∷ [] }
+with_part r (locator name) = record r { locators = r.locators ++ name ∷ [] }
 with_part r (at_moment m) = record r { at = Some m }
 with_part r (max_size n) = record r { max_size = n }
 with_part r lenient = record r { strict = false }
 with_part r json = record r { json = true }
 with_part r all = record r { all_entries = true }
+with_part r no_names = record r { names = false }
 with_part r help = record r { task = Help }
 
 -- with what these parts say, one after the other
 abbrev pub with_parts : RequestFields → List LinePart → RequestFields
 with_parts r parts = fold with_part r parts
 
+-- nothing is said that only a path is asked about: no lists, no locators, and not that names are left
+-- out
+abbrev pub AsksNoPath : RequestFields → Type 0
+AsksNoPath r = (r.lists ≡ []) × (r.locators ≡ []) × (r.names ≡ true)
+
 -- what the task wants: files, and no option that only the other task takes
 abbrev pub Suits : Task → RequestFields → Type 0
-Suits Show r = (r.files ≢ []) × (r.lists ≡ [])
+Suits Show r = (r.files ≢ []) × AsksNoPath r
 Suits Validate r = (r.files ≢ []) × (r.all_entries ≡ false)
 Suits _ r = Unit {0}
 

@@ -1,15 +1,15 @@
 -- What is shown of files as JSON.
-use Rattle.std.specs.Prelude.{◌≡◌, ◌⊎◌, ℕ, List}
+use Rattle.std.specs.Prelude.{◌≡◌, ℕ, List}
 use Rattle.serde_json.specs.Data.{Data}
 use Rattle.rpki.specs.Certificates.{CertFields, IsCertificate}
 use Rattle.rpki.specs.Lists.{CrlFields, IsCertificateList}
-use Rattle.rpki_files.specs.Contents.{CanBeShown}
+use Rattle.rpki_files.specs.Contents.{BeginsBefore}
 use Rattle.rpki_files.specs.Files.{FileFields}
 use Rattle.rpki_notes.specs.Notes.{AreNotes}
 use Rattle.rpki_notes.specs.declared.note.Note.{Note}
 use Rattle.rpki_command.specs.JsonFiles.{IsCertificateJson, list_json, rejection_json}
 use Rattle.rpki_command.specs.JsonTexts.{json_lines}
-use Rattle.rpki_command.specs.ShownTexts.{BeginsBefore, IsRejection, SaysIf}
+use Rattle.rpki_command.specs.ShownTexts.{IsRejection, SaysOfFile}
 use Rattle.rpki_command.specs.VerdictTexts.{SaysOfEach}
 use Rattle.rpki_command.specs.declared.as_json.Shown.{Shown}
 use Rattle.rpki_files.specs.declared.places.Place.{Place}
@@ -52,13 +52,9 @@ pub record IsOtherFileJson (file : FileFields) (text : List ℕ) : Type 0 where
   pub shown_is : IsShown file 0 shown
   pub text_is : text ≡ json_lines (rejection_json shown why rule place)
 
--- the JSON of a file that begins so, or of one that doesn't
-abbrev pub IsJsonIf : (List ℕ → Type 0) → (FileFields → List ℕ → Type 0) → FileFields → List ℕ → Type 0
-IsJsonIf BeginsSo IsJson = SaysIf BeginsSo IsJson IsOtherFileJson
-
 -- the JSON of a file
 abbrev pub IsFileJson : Options → FileFields → List ℕ → Type 0
-IsFileJson options = IsJsonIf CanBeShown (λ file text. IsCertificateFileJson options file text ⊎ IsListFileJson file text)
+IsFileJson options = SaysOfFile (IsCertificateFileJson options) IsListFileJson IsOtherFileJson
 
 -- the JSON of files, one behind the other
 abbrev pub AreFilesJson : Options → List FileFields → List ℕ → Type 0

@@ -24,7 +24,7 @@ use Rattle.rpki_command.specs.JsonKeys.{key_json}
 use Rattle.rpki_command.specs.JsonNotes.{notes_json}
 use Rattle.rpki_command.specs.JsonValues.{Pair, moment_json, array_of, member_of, text_member, text_member_if_any, count_member_if_any, object_of, rule_members, place_members, flattened}
 use Rattle.rpki_text.specs.Pages.{characters_text, colons_text}
-use Rattle.rpki_files.specs.PemFiles.{base64_of}
+use Rattle.rpki.specs.Digits.{base64_of}
 use Rattle.rpki_notes.specs.declared.note.Note.{Note}
 use Rattle.rpki_text.specs.declared.certificate.Answers.{Answers}
 use Rattle.rpki_text.specs.declared.certificate.Findings.{Findings}

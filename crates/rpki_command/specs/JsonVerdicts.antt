@@ -1,13 +1,19 @@
 -- The verdict on a path as JSON.
-use Rattle.std.specs.Prelude.{◌≡◌, ◌⊎◌, ℕ, Bool, true, false, ◌==◌, if◌then◌else◌, List, [], ◌∷◌, ◌++◌, map, codes, Option, Some, None}
+use Rattle.std.specs.List.{flat_map}
+use Rattle.std.specs.Option.{option_map}
+use Rattle.std.specs.Prelude.{◌≡◌, ◌⊎◌, ℕ, Bool, true, false, ◌==◌, if◌then◌else◌, List, [], ◌∷◌, ◌++◌, map, codes, Option, Some, None, Result, Ok, Err}
 use Rattle.serde_json.specs.Data.{Data, boolean, string}
 use Rattle.serde_json.specs.declared.value.Value.{Value}
 use Rattle.rpki.specs.Certificates.{CertFields, IsCertificate}
 use Rattle.rpki.specs.Lists.{IsCertificateList}
+use Rattle.rpki.specs.Judged.{Judged}
+use Rattle.rpki.specs.Locators.{NamedTal}
+use Rattle.rpki.specs.TalError.{TalError}
 use Rattle.rpki.specs.Verification.{Context, ResourceFields}
 use Rattle.rpki_files.specs.Contents.{BeginsWithList}
 use Rattle.rpki_files.specs.Files.{FileFields}
-use Rattle.rpki_verdicts.specs.PathFiles.{QuestionFields}
+use Rattle.rpki_verdicts.specs.GivenLocators.{LocatorFields}
+use Rattle.rpki_verdicts.specs.PathFiles.{QuestionFields, IsAnchorLocator}
 use Rattle.rpki_command.specs.JsonBlocks.{held_items, listed_items}
 use Rattle.rpki_command.specs.JsonKeys.{key_json}
 use Rattle.rpki_command.specs.JsonNotes.{notes_json}
@@ -20,7 +26,7 @@ use Rattle.rpki_text.specs.declared.keys.KeyAnswer.{KeyAnswer}
 use Rattle.rpki_command.specs.JsonValues.{Entries, Pair, Puts, Pushes, flattened, count_json, array_of, member_of, moment_json, text_member, text_member_if_any, object_of, rule_members}
 use Rattle.rpki_command.specs.VerdictTexts.{IsFinding, Leaves, SaysOfEach, file_name_at}
 use Rattle.rpki_command.specs.declared.verdicts.Finding.{Finding}
-use Rattle.rpki_command.specs.declared.verdicts.Finding.TheVariants.{NotAList, Decided}
+use Rattle.rpki_command.specs.declared.verdicts.Finding.TheVariants.{NotALocator, NotAList, Decided}
 use Rattle.rpki_verdicts.specs.declared.path.Fault.{Fault}
 use Rattle.rpki_verdicts.specs.declared.path.Verdict.{Verdict}
 use Rattle.rpki_verdicts.specs.declared.path.Verdict.TheVariants.{Accepted, Rejected}
@@ -35,6 +41,24 @@ names_json files = array_of (map (λ file. string file.name) files)
 abbrev pub has_lists : List FileFields → Bool
 has_lists [] = false
 has_lists (list ∷ lists) = true
+
+-- whether locators were given
+abbrev pub has_locators : List LocatorFields → Bool
+has_locators [] = false
+has_locators (locator ∷ locators) = true
+
+-- of a file given as a locator, of which this was read, its name where it is none
+abbrev pub no_locator_items : List ℕ → Result NamedTal TalError → List Data
+no_locator_items name (Ok tal) = []
+no_locator_items name (Err error) = string name ∷ []
+
+-- the names of those that are none
+abbrev pub no_locators_json : List LocatorFields → Data
+no_locators_json locators = array_of (flat_map (λ l. no_locator_items l.file.name l.read) locators)
+
+-- the name of the trust anchor's locator, where it is found
+abbrev pub tal_members : Option LocatorFields → List Pair
+tal_members found = text_member_if_any (codes "tal") (option_map (λ l. l.file.name) found)
 
 -- of a file given as a list, its name where it begins with none
 abbrev pub IsOtherItem : FileFields → List Data → Type 0
@@ -117,6 +141,14 @@ no_list_json = object_of (flattened (
     ∷ text_member (codes "standard") (codes "RFC 6487 5")
     ∷ []))
 
+-- that some file given as a locator is none
+unfoldable pub no_locator_json : Fault → Data
+no_locator_json fault = object_of (flattened (
+    text_member (codes "step") fault.step.now
+    ∷ text_member (codes "fault") fault.name.now
+    ∷ rule_members fault.rule
+    ∷ []))
+
 -- that it is rejected, and why
 abbrev pub rejected_members : Data → List Pair
 rejected_members why = flattened (
@@ -124,15 +156,24 @@ rejected_members why = flattened (
     ∷ member_of (codes "rejected") why
     ∷ [])
 
--- the answer; a path without files isn't accepted
-abbrev pub AreVerdictMembers : List FileFields → Option Verdict → List Pair → Type 0
-AreVerdictMembers members None pairs = pairs ≡ member_of (codes "accepted") (boolean false)
-AreVerdictMembers members (Some (Accepted j)) pairs = AreAcceptedMembers j.holder j.router pairs
-AreVerdictMembers members (Some (Rejected fault)) pairs = pairs ≡ rejected_members (fault_json members fault)
+-- the trust anchor's locator, where it is found, and what is held
+pub record AreAcceptance (question : QuestionFields) (j : Judged) (pairs : List Pair) : Type 0 where
+  pub found : Option LocatorFields
+  pub found_is : IsAnchorLocator question found
+  pub held : List Pair
+  pub held_are : AreAcceptedMembers j.holder j.router held
+  pub pairs_are : pairs ≡ tal_members found ++ held
 
-abbrev pub AreAnswerMembers : List FileFields → Finding → List Pair → Type 0
-AreAnswerMembers members NotAList pairs = pairs ≡ rejected_members no_list_json
-AreAnswerMembers members (Decided verdict) pairs = AreVerdictMembers members verdict pairs
+-- the answer; a path without files isn't accepted
+abbrev pub AreVerdictMembers : QuestionFields → Option Verdict → List Pair → Type 0
+AreVerdictMembers question None pairs = pairs ≡ member_of (codes "accepted") (boolean false)
+AreVerdictMembers question (Some (Accepted j)) pairs = AreAcceptance question j pairs
+AreVerdictMembers question (Some (Rejected fault)) pairs = pairs ≡ rejected_members (fault_json question.members fault)
+
+abbrev pub AreAnswerMembers : QuestionFields → Finding → List Pair → Type 0
+AreAnswerMembers question (NotALocator fault) pairs = pairs ≡ rejected_members (no_locator_json fault)
+AreAnswerMembers question NotAList pairs = pairs ≡ rejected_members no_list_json
+AreAnswerMembers question (Decided verdict) pairs = AreVerdictMembers question verdict pairs
 
 -- some members of which this holds were put in
 abbrev pub PutsSome : (List Pair → Type 0) → Entries → Entries → Type 0
@@ -140,11 +181,15 @@ PutsSome Hold old new = (pairs : List Pair) × Hold pairs × Puts pairs old new
 
 -- ---- the whole
 
--- a verdict: the members, whether lists were given, those of these that are none, the files with
--- octets behind what they begin with, the members' notes, the moment, and the answer
+-- a verdict: the members, whether locators and lists were given, those of these that are none, whether
+-- names have to chain, the files with octets behind what they begin with, the members' notes, the
+-- moment, and the answer
 unfoldable pub verdict_json : QuestionFields → List Data → List Data → List Data → List Pair → Data
 verdict_json question others left noted answer = object_of (flattened (
     member_of (codes "path") (names_json question.members)
+    ∷ member_of (codes "locator_asked") (boolean (has_locators question.locators))
+    ∷ member_of (codes "not_locators") (no_locators_json question.locators)
+    ∷ member_of (codes "names_asked") (boolean question.names)
     ∷ member_of (codes "revocation_asked") (boolean (has_lists question.lists))
     ∷ member_of (codes "not_lists") (array_of others)
     ∷ member_of (codes "octets_after_end") (array_of left)
@@ -164,7 +209,7 @@ pub record IsVerdictJson (question : QuestionFields) (finding : Finding) (value 
   pub noted : List Data
   pub noted_are : SaysOfEach IsNoteItem question.members noted
   pub answer : List Pair
-  pub answer_is : AreAnswerMembers question.members finding answer
+  pub answer_is : AreAnswerMembers question finding answer
   pub value_is : value ≡ verdict_json question others (of_members ++ of_lists) noted answer
 
 -- its text

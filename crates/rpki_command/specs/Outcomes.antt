@@ -13,7 +13,9 @@ use Rattle.rpki_verdicts.specs.declared.path.Fault.{Fault}
 use Rattle.rpki_command.specs.CommandLines.{RequestFields, IsCommandLine}
 use Rattle.rpki_files.specs.Contents.{BeginsWithList, CanBeShown}
 use Rattle.rpki_files.specs.Files.{FileFields, file_names, contents}
+use Rattle.rpki_verdicts.specs.GivenLocators.{AreLocator}
 use Rattle.rpki_verdicts.specs.PathAnswers.{IsVerdictBy}
+use Rattle.rpki_verdicts.specs.PathFiles.{Demands}
 
 -- ---- the exit status
 
@@ -34,25 +36,30 @@ IsOutcomeOfShow files Success = All CanBeShown files
 IsOutcomeOfShow files Rejection = All CanBeShown files → ⊥
 IsOutcomeOfShow files _ = ⊥
 
--- of a path that is to be validated: success where it is accepted, so that by the files given as
--- lists no member is revoked, and each of these begins with a list; rejection where it is rejected
--- or has no file, or one of these begins with no list
-abbrev pub IsOutcomeOfValidate : Context → List (List ℕ) → List (List ℕ) → Outcome → Type 0
-IsOutcomeOfValidate x files lists Success =
-    ((j : Judged) × IsVerdictBy x files lists (Accepted j)) × All BeginsWithList lists
-IsOutcomeOfValidate x files lists Rejection =
-    (files ≡ []) ⊎ (((fault : Fault) × IsVerdictBy x files lists (Rejected fault)) ⊎ (All BeginsWithList lists → ⊥))
-IsOutcomeOfValidate x files lists _ = ⊥
+-- each file given as a locator is one, and each given as a list begins with one
+abbrev pub AreAsGiven : Context → Demands → List (List ℕ) → Type 0
+AreAsGiven x d lists = All (AreLocator x.strict) d.locators × All BeginsWithList lists
+
+-- of a path that is to be validated: success where it is accepted, so that its trust anchor is that of
+-- one of the locators, by the files given as lists no member is revoked, and names chain where that is
+-- asked, and the files are what they are given as; rejection where it is rejected or has no file, or
+-- one of these isn't what it is given as
+abbrev pub IsOutcomeOfValidate : Context → Demands → List (List ℕ) → List (List ℕ) → Outcome → Type 0
+IsOutcomeOfValidate x d files lists Success =
+    ((j : Judged) × IsVerdictBy x d files lists (Accepted j)) × AreAsGiven x d lists
+IsOutcomeOfValidate x d files lists Rejection =
+    (files ≡ []) ⊎ (((fault : Fault) × IsVerdictBy x d files lists (Rejected fault)) ⊎ (AreAsGiven x d lists → ⊥))
+IsOutcomeOfValidate x d files lists _ = ⊥
 
 -- something is asked of files
 abbrev pub AsksOfFiles : Task → Type 0
 AsksOfFiles task = (task ≡ Show) ⊎ (task ≡ Validate)
 
 -- of what is asked; always success where that is a text about the command, and nothing of files
-abbrev pub IsOutcomeOf : Task → Context → List (List ℕ) → List (List ℕ) → Outcome → Type 0
-IsOutcomeOf Show x files lists outcome = IsOutcomeOfShow files outcome
-IsOutcomeOf Validate x files lists outcome = IsOutcomeOfValidate x files lists outcome
-IsOutcomeOf _ x files lists outcome = outcome ≡ Success
+abbrev pub IsOutcomeOf : Task → Context → Demands → List (List ℕ) → List (List ℕ) → Outcome → Type 0
+IsOutcomeOf Show x d files lists outcome = IsOutcomeOfShow files outcome
+IsOutcomeOf Validate x d files lists outcome = IsOutcomeOfValidate x d files lists outcome
+IsOutcomeOf _ x d files lists outcome = outcome ≡ Success
 
 -- ---- a run
 
@@ -63,27 +70,35 @@ AreReadOf (name ∷ names) files =
     ((file : FileFields) × (more : List FileFields) × (file.name ≡ name) × AreReadOf names more × (files ≡ file ∷ more))
     ⊎ AreReadOf names files
 
--- of a request, all files and lists could be read
-abbrev pub AreAllRead : RequestFields → List FileFields → List FileFields → Type 0
-AreAllRead r files lists = (file_names files ≡ r.files) × (file_names lists ≡ r.lists)
+-- of a request, all files, lists and locators could be read
+abbrev pub AreAllRead : RequestFields → List FileFields → List FileFields → List FileFields → Type 0
+AreAllRead r files lists locators =
+    (file_names files ≡ r.files) × (file_names lists ≡ r.lists) × (file_names locators ≡ r.locators)
 
--- a run that is asked this, of which these files and lists could be read, ends so: as unread exactly
--- where another couldn't, else by what they hold
-abbrev pub EndsBy : RequestFields → Moment → List FileFields → List FileFields → Outcome → Type 0
-EndsBy r now files lists Unread = AreAllRead r files lists → ⊥
-EndsBy r now files lists outcome =
-    AreAllRead r files lists × IsOutcomeOf r.task (context IsSignedByRsa now r.strict) (contents files) (contents lists) outcome
+-- what a request asks of a path beside its validity, where these files are given as locators
+abbrev pub demands_by : RequestFields → List FileFields → Demands
+demands_by r locators = record { locators = contents locators; names = r.names }
+
+-- a run that is asked this, of which these files, lists and locators could be read, ends so: as unread
+-- exactly where another couldn't, else by what they hold
+abbrev pub EndsBy : RequestFields → Moment → List FileFields → List FileFields → List FileFields → Outcome → Type 0
+EndsBy r now files lists locators Unread = AreAllRead r files lists locators → ⊥
+EndsBy r now files lists locators outcome =
+    AreAllRead r files lists locators
+    × IsOutcomeOf r.task (context IsSignedByRsa now r.strict) (demands_by r locators) (contents files) (contents lists) outcome
 
 -- a run that is asked this may end so: at the moment that is named, if one is, and by those of its
--- files and lists that could be read; which these are and what they hold, no contract can say
+-- files, lists and locators that could be read; which these are and what they hold, no contract can say
 pub record MayEndWith (r : RequestFields) (outcome : Outcome) : Type 0 where
   pub now : Moment
   pub files : List FileFields
   pub lists : List FileFields
+  pub locators : List FileFields
   pub now_is : IfSome r.at (λ at. now ≡ at)
   pub files_read : AreReadOf r.files files
   pub lists_read : AreReadOf r.lists lists
-  pub ends : EndsBy r now files lists outcome
+  pub locators_read : AreReadOf r.locators locators
+  pub ends : EndsBy r now files lists locators outcome
 
 -- a run on these words may end so: with wrong use exactly where they are no command line, else as
 -- one that is asked what they ask

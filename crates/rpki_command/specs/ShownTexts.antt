@@ -4,7 +4,6 @@ use Rattle.std.specs.List.{concat}
 use Rattle.std.specs.Prelude.{◌≡◌, ◌≢◌, ◌≤◌, ◌↔◌, ◌⊎◌, ℕ, Bool, IsTrue, ◌==◌, if◌then◌else◌, List, [], ◌∷◌, ◌++◌, length, codes}
 use Rattle.hex.specs.Hex.{encode_lower}
 use Rattle.sha2.specs.Sha256.{sha256}
-use Rattle.rpki.specs.Encoding.{Begins}
 use Rattle.rpki.specs.Certificates.{CertFields, TbsFields, IsCertificate}
 use Rattle.rpki.specs.DecodeError.{DecodeError}
 use Rattle.rpki.specs.DecodeError.TheVariants.{Memory}
@@ -12,7 +11,7 @@ use Rattle.rpki.specs.Lists.{CrlFields, ListFields, IsCertificateList}
 use Rattle.rpki.specs.RevokedEntries.{Revoked}
 use Rattle.rpki.specs.Times.{Moment}
 use Rattle.rpki_text.specs.CertificateTexts.{AreFindings, certificate_text}
-use Rattle.rpki_files.specs.Contents.{CanBeShown, LooksLikeList}
+use Rattle.rpki_files.specs.Contents.{BeginsBefore, CanBeShown, LooksLikeList}
 use Rattle.rpki_files.specs.FaultRules.{IsFileRule, rule_of}
 use Rattle.rpki_files.specs.Files.{FileFields}
 use Rattle.rpki_text.specs.ListTexts.{list_text}
@@ -41,10 +40,6 @@ abbrev pub left_line : ℕ → List ℕ
 left_line left = if left == 0 then [] else line (codes "After its end") (left_text left)
 
 -- ---- files that begin with an object
-
--- the octets begin with an encoding of the value, behind which so many octets stand
-abbrev pub BeginsBefore : {V : Type 0} → (V → List ℕ → Type 0) → List ℕ → V → ℕ → Type 0
-BeginsBefore encodes octets v left = (rest : List ℕ) × Begins encodes octets v rest × (left ≡ length rest)
 
 -- a file that begins with a certificate, of which this was found, with these notes
 unfoldable pub certificate_file_text : FileFields → TbsFields → Moment → Findings → List Note → ℕ → List ℕ
@@ -117,17 +112,14 @@ pub record IsOtherFileText (file : FileFields) (text : List ℕ) : Type 0 where
 
 -- ---- the whole
 
--- what is said of a file that begins so, or else of another one
-abbrev pub SaysIf : (List ℕ → Type 0) → (FileFields → List ℕ → Type 0) → (FileFields → List ℕ → Type 0) → FileFields → List ℕ → Type 0
-SaysIf BeginsSo Says SaysOfOther file text = Says file text ⊎ ((BeginsSo file.octets → ⊥) × SaysOfOther file text)
-
--- the text of a file that begins so, or of one that doesn't
-abbrev pub IsTextIf : (List ℕ → Type 0) → (FileFields → List ℕ → Type 0) → FileFields → List ℕ → Type 0
-IsTextIf BeginsSo IsText = SaysIf BeginsSo IsText IsOtherFileText
+-- what is said of a file: of its certificate, of its list, or else of neither
+abbrev pub SaysOfFile : (OfCertificate OfList OfOther : FileFields → List ℕ → Type 0) → FileFields → List ℕ → Type 0
+SaysOfFile OfCertificate OfList OfOther file text =
+    OfCertificate file text ⊎ (OfList file text ⊎ ((CanBeShown file.octets → ⊥) × OfOther file text))
 
 -- the text of a file
 abbrev pub IsFileText : Options → FileFields → List ℕ → Type 0
-IsFileText options = IsTextIf CanBeShown (λ file text. IsCertificateFileText options file text ⊎ IsListFileText options file text)
+IsFileText options = SaysOfFile (IsCertificateFileText options) (IsListFileText options) IsOtherFileText
 
 -- the text of a file behind another one: an empty line, and its own
 abbrev pub IsFurtherText : Options → FileFields → List ℕ → Type 0

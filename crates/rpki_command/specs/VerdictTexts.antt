@@ -1,13 +1,16 @@
 -- What is printed of the verdict on a path.
 use Rattle.std.specs.Fmt.{decimal}
-use Rattle.std.specs.List.{concat}
+use Rattle.std.specs.List.{concat, flat_map}
 use Rattle.std.specs.Option.{option_map}
-use Rattle.std.specs.Prelude.{◌≡◌, ℕ, Bool, ◌==◌, if◌then◌else◌, All, ◌⊎◌, List, [], ◌∷◌, ◌++◌, length, codes, slice_get, Option, Some, None, MatchOption}
+use Rattle.std.specs.Prelude.{◌≡◌, ℕ, Bool, ◌==◌, if◌then◌else◌, All, ◌⊎◌, List, [], ◌∷◌, ◌++◌, length, codes, slice_get, Option, Some, None, MatchOption, Result, Ok, Err}
 use Rattle.rpki.specs.BlockTexts.{v4_block_text, v6_block_text}
 use Rattle.rpki.specs.Certificates.{CertFields, IsCertificate}
 use Rattle.rpki.specs.Encoding.{Begins, Means}
 use Rattle.rpki.specs.Judged.{Judged}
 use Rattle.rpki.specs.Lists.{IsCertificateList}
+use Rattle.rpki.specs.Keys.{key_identifier}
+use Rattle.rpki.specs.Locators.{NamedTal, TalFields}
+use Rattle.rpki.specs.TalError.{TalError}
 use Rattle.rpki.specs.Texts.{serial_text, time_text}
 use Rattle.rpki.specs.Times.{Moment}
 use Rattle.rpki.specs.Verification.{Context, ResourceFields}
@@ -18,14 +21,15 @@ use Rattle.rpki_text.specs.BlockLines.{as_numbers_text, blocks_lines, resources_
 use Rattle.rpki_text.specs.CertificateTexts.{AreAnswers, met_kind_text}
 use Rattle.rpki_files.specs.Contents.{BeginsWithList}
 use Rattle.rpki_files.specs.Files.{FileFields, contents}
-use Rattle.rpki_verdicts.specs.PathFiles.{QuestionFields}
+use Rattle.rpki_verdicts.specs.GivenLocators.{LocatorFields, AreLocator, locator_octets}
+use Rattle.rpki_verdicts.specs.PathFiles.{QuestionFields, IsAnchorLocator, demands_of}
 use Rattle.rpki_text.specs.KeyTexts.{IsKeyAnswer, key_text}
 use Rattle.rpki_text.specs.Pages.{colons_text, line, count_text, file_name_text}
-use Rattle.rpki_verdicts.specs.PathAnswers.{IsAcceptance, IsVerdictBy}
+use Rattle.rpki_verdicts.specs.PathAnswers.{IsAcceptance, IsNoLocator, IsVerdictBy}
 use Rattle.rpki_text.specs.declared.certificate.Answers.{Answers}
 use Rattle.rpki_text.specs.declared.keys.KeyAnswer.{KeyAnswer}
 use Rattle.rpki_command.specs.declared.verdicts.Finding.{Finding}
-use Rattle.rpki_command.specs.declared.verdicts.Finding.TheVariants.{NotAList, Decided}
+use Rattle.rpki_command.specs.declared.verdicts.Finding.TheVariants.{NotALocator, NotAList, Decided}
 use Rattle.rpki_verdicts.specs.declared.path.Fault.{Fault}
 use Rattle.rpki_verdicts.specs.declared.path.Verdict.{Verdict}
 use Rattle.rpki_verdicts.specs.declared.path.Verdict.TheVariants.{Accepted, Rejected}
@@ -42,11 +46,6 @@ SaysOfEach {X} Says (file ∷ files) said =
 abbrev pub Leaves : {V : Type 0} → (V → List ℕ → Type 0) → List ℕ → Option ℕ → Type 0
 Leaves {V} encodes octets (Some left) = (v : V) × (rest : List ℕ) × Begins encodes octets v rest × (left ≡ length rest)
 Leaves {V} encodes octets None = (v : V) → Means encodes v octets → ⊥
-
--- the value that the octets begin with, and how many octets stand behind it; or they begin with none
-abbrev pub FindsBefore : {V : Type 0} → (V → List ℕ → Type 0) → List ℕ → Option (V × ℕ) → Type 0
-FindsBefore {V} encodes octets (Some found) = (rest : List ℕ) × Begins encodes octets found.0 rest × (found.1 ≡ length rest)
-FindsBefore {V} encodes octets None = (v : V) → Means encodes v octets → ⊥
 
 -- how many octets of a file stand behind what it begins with
 abbrev pub left_of_text : List ℕ → ℕ → List ℕ
@@ -96,6 +95,36 @@ list_part name (Some left) = after_line name left
 abbrev pub IsListPart : FileFields → List ℕ → Type 0
 IsListPart file text = (left : Option ℕ) × Leaves IsCertificateList file.octets left × (text ≡ list_part file.name left)
 
+-- ---- files given as locators
+
+-- what is said of one of which this was read: its name where it is none
+abbrev pub locator_part : List ℕ → Result NamedTal TalError → List ℕ
+locator_part name (Ok tal) = []
+locator_part name (Err error) = line (codes "Not a locator") (file_name_text name)
+
+-- of each
+abbrev pub locators_text : List LocatorFields → List ℕ
+locators_text locators = flat_map (λ l. locator_part l.file.name l.read) locators
+
+-- a locator: its name, how many URIs it has, and the identifier of its key
+abbrev pub locator_text : List ℕ → TalFields → List ℕ
+locator_text name tal =
+    file_name_text name ++ (codes ", " ++ (count_text (length tal.uris) (codes " URI") (codes " URIs")
+    ++ (codes ", key " ++ colons_text (key_identifier tal.key))))
+
+-- the line of a file of which this was read, where it is a locator
+abbrev pub read_locator_line : List ℕ → Result NamedTal TalError → List ℕ
+read_locator_line name (Ok t) = line (codes "Locator") (locator_text name t.tal)
+read_locator_line name (Err error) = []
+
+-- the line of the trust anchor's locator, where it is found
+abbrev pub found_locator_line : Option LocatorFields → List ℕ
+found_locator_line None = []
+found_locator_line (Some l) = read_locator_line l.file.name l.read
+
+abbrev pub IsLocatorText : QuestionFields → List ℕ → Type 0
+IsLocatorText question text = (found : Option LocatorFields) × IsAnchorLocator question found × (text ≡ found_locator_line found)
+
 -- ---- an accepted path
 
 -- whether the lists were asked
@@ -103,14 +132,28 @@ abbrev pub revocation_text : List FileFields → List ℕ
 revocation_text [] = codes "not asked, since no list was given"
 revocation_text (list ∷ lists) = codes "no member is revoked, by the lists given"
 
--- that it is accepted, and what was asked of it
-unfoldable pub acceptance_text : List FileFields → List ℕ
-acceptance_text lists = concat (
-    line (codes "Path") (codes "accepted")
-    ∷ line (codes "Signatures") (codes "checked (RSASSA-PKCS1-v1_5 with SHA-256, RFC 7935)")
-    ∷ line (codes "Revocation") (revocation_text lists)
-    ∷ line (codes "Not asked") (codes "manifests, and whether names of issuer and subject match")
+-- where no locator was given, that the trust anchor is nobody's
+abbrev pub anchor_line : List LocatorFields → List ℕ
+anchor_line [] = line (codes "Not asked") (codes "whether the trust anchor is a locator's: it is taken as given")
+anchor_line (locator ∷ locators) = []
+
+-- that names needn't chain, where they needn't
+abbrev pub names_line : Bool → List ℕ
+names_line names = if names then [] else line (codes "Not asked") (codes "whether names of issuer and subject match")
+
+-- what was asked of an accepted path, and what wasn't
+unfoldable pub checks_text : QuestionFields → List ℕ
+checks_text question = concat (
+    line (codes "Signatures") (codes "checked (RSASSA-PKCS1-v1_5 with SHA-256, RFC 7935)")
+    ∷ line (codes "Revocation") (revocation_text question.lists)
+    ∷ anchor_line question.locators
+    ∷ names_line question.names
+    ∷ line (codes "Not asked") (codes "manifests")
     ∷ [])
+
+-- that it is accepted
+abbrev pub accepted_line : List ℕ
+accepted_line = line (codes "Path") (codes "accepted")
 
 -- what a member holds, under these labels
 unfoldable pub holder_text : List ℕ → List ℕ → List ℕ → ResourceFields → List ℕ
@@ -137,8 +180,12 @@ IsHeldText holder (Some c) text =
     × (text ≡ router_text c key ++ holder_text (codes "Issuer holds IPv4") (codes "Issuer holds IPv6") (codes "Issuer holds AS numbers") holder)
 
 -- the text of an accepted path
-abbrev pub IsAcceptanceText : List FileFields → Judged → List ℕ → Type 0
-IsAcceptanceText lists j text = (held : List ℕ) × IsHeldText j.holder j.router held × (text ≡ acceptance_text lists ++ held)
+pub record IsAcceptanceText (question : QuestionFields) (j : Judged) (text : List ℕ) : Type 0 where
+  pub locator : List ℕ
+  pub locator_is : IsLocatorText question locator
+  pub held : List ℕ
+  pub held_is : IsHeldText j.holder j.router held
+  pub text_is : text ≡ accepted_line ++ (locator ++ (checks_text question ++ held))
 
 -- ---- a rejected path
 
@@ -176,26 +223,46 @@ no_list_text = concat (
     ∷ line (codes "Standard") (codes "RFC 6487 5")
     ∷ [])
 
+-- some file given as a locator is none, for this reason, and nothing is judged
+unfoldable pub no_locator_text : Fault → List ℕ
+no_locator_text fault = concat (
+    line (codes "Path") (codes "rejected")
+    ∷ line (codes "Step") fault.step.now
+    ∷ line (codes "Why") (reason_text fault.rule.says.now fault.name.now)
+    ∷ line (codes "Standard") fault.rule.section.now
+    ∷ [])
+
 -- what is said of a verdict, if there is one
 abbrev pub IsOutcomeText : QuestionFields → Option Verdict → List ℕ → Type 0
 IsOutcomeText question None text = text ≡ []
-IsOutcomeText question (Some (Accepted j)) text = IsAcceptanceText question.lists j text
+IsOutcomeText question (Some (Accepted j)) text = IsAcceptanceText question j text
 IsOutcomeText question (Some (Rejected fault)) text = text ≡ rejected_text fault (file_name_at question.members fault.index)
 
--- what is found of a path: where a file given as a list is none, that alone; else the verdict, which
--- there is where there is a file
+-- the verdict on the path, which there is where there is a file
+abbrev pub IsDecision : Context → QuestionFields → Option Verdict → Type 0
+IsDecision x question verdict =
+    MatchOption verdict (contents question.members ≡ [])
+    (IsVerdictBy x (demands_of question) (contents question.members) (contents question.lists))
+
+-- what is found of a path: where a file given as a locator or as a list is none, that alone; else the
+-- verdict
 abbrev pub IsFinding : Context → QuestionFields → Finding → Type 0
-IsFinding x question NotAList = All BeginsWithList (contents question.lists) → ⊥
+IsFinding x question (NotALocator fault) = IsNoLocator x.strict (locator_octets question.locators) fault
+IsFinding x question NotAList =
+    All (AreLocator x.strict) (locator_octets question.locators) × (All BeginsWithList (contents question.lists) → ⊥)
 IsFinding x question (Decided verdict) =
-    All BeginsWithList (contents question.lists) × MatchOption verdict (contents question.members ≡ []) (IsVerdictBy x (contents question.members) (contents question.lists))
+    (All (AreLocator x.strict) (locator_octets question.locators) × All BeginsWithList (contents question.lists))
+    × IsDecision x question verdict
 
 -- the path is accepted
 abbrev pub IsAccepted : Finding → Type 0
+IsAccepted (NotALocator fault) = ⊥
 IsAccepted NotAList = ⊥
 IsAccepted (Decided verdict) = IsAcceptance verdict
 
 -- what is said of it
 abbrev pub IsFindingText : QuestionFields → Finding → List ℕ → Type 0
+IsFindingText question (NotALocator fault) text = text ≡ no_locator_text fault
 IsFindingText question NotAList text = text ≡ no_list_text
 IsFindingText question (Decided verdict) text = IsOutcomeText question verdict text
 
@@ -205,7 +272,7 @@ IsFindingText question (Decided verdict) text = IsOutcomeText question verdict t
 abbrev pub moment_line : Moment → List ℕ
 moment_line at = line (codes "Moment") (time_text at)
 
--- the members, the files given as lists that are none, the moment, and what is found
+-- the members, the files given as lists and as locators that are none, the moment, and what is found
 pub record IsVerdictText (question : QuestionFields) (finding : Finding) (text : List ℕ) : Type 0 where
   pub members : List ℕ
   pub members_are : SaysOfEach (IsMemberPart question.strict) question.members members
@@ -213,7 +280,7 @@ pub record IsVerdictText (question : QuestionFields) (finding : Finding) (text :
   pub lists_are : SaysOfEach IsListPart question.lists lists
   pub found : List ℕ
   pub found_is : IsFindingText question finding found
-  pub text_is : text ≡ members ++ (lists ++ (moment_line question.at ++ found))
+  pub text_is : text ≡ members ++ (lists ++ (locators_text question.locators ++ (moment_line question.at ++ found)))
 
 -- the text of the path that the files are
 pub record IsTextOfPath (x : Context) (question : QuestionFields) (text : List ℕ) : Type 0 where

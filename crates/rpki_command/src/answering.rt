@@ -1,5 +1,5 @@
 //! What is answered of files.
-ghost use Rattle.std.specs.Prelude.{◌≡◌, ◌↔◌, [], map, IfOk, IsFalse, IsTrue, string_bytes};
+ghost use Rattle.std.specs.Prelude.{◌≡◌, ◌↔◌, [], All, map, IfOk, IsFalse, IsTrue, string_bytes};
 ghost use Rattle.std.specs.Bool.{MatchBool};
 ghost use Rattle.rpki_command.specs.AnswerTexts.{IsJsonBy, IsTextBy, options_of};
 ghost use Rattle.rpki_command.specs.CommandLines.Views.{fields_of};
@@ -7,6 +7,7 @@ ghost use Rattle.rpki_command.specs.JsonAnswers.{AreFilesJson};
 ghost use Rattle.rpki_command.specs.Outcomes.{AreAllRead, AreReadOf, AsksOfFiles, EndsBy, IsOutcomeOfShow};
 ghost use Rattle.rpki_command.specs.ShownTexts.{IsTextOfFiles};
 ghost use Rattle.rpki_files.specs.Files.{contents, file_names};
+ghost use Rattle.rpki_verdicts.specs.GivenLocators.{IsRead, locator_files};
 
 use crate::arguments::{Request, Task};
 use crate::outcomes::{Answer, Outcome};
@@ -14,7 +15,7 @@ use crate::showing::{Options, shown};
 use crate::verdicts::validated;
 use rpki::repository::x509::Time;
 use rpki_files::Object;
-use rpki_verdicts::Question;
+use rpki_verdicts::{GivenLocator, Question};
 use std::alloc::{AllocError, Global};
 
 // Whether all files of these names could be read, of which these could be.
@@ -25,13 +26,33 @@ fn are_read(names: &[&[u8]], files: &[Object<'_>]) -> bool
     files.len() == names.len()
 }
 
-// Whether all files and lists could be read, of which these could be.
-fn are_all_read(request: &Request<'_>, files: &[Object<'_>], lists: &[Object<'_>]) -> bool
+// Whether all files of these names could be read, which are given as locators, of which these could
+// be.
+fn are_locators_read(names: &[&[u8]], locators: &[GivenLocator<'_>]) -> bool
+    requires { AreReadOf (map (λ name. name.now) names.now) (locator_files locators.now) }
+    ensures { let named = file_names (locator_files locators.now) in
+        IsTrue result ↔ (named ≡ map (λ name. name.now) names.now) }
+{
+    locators.len() == names.len()
+}
+
+// Whether all files, lists and locators could be read, of which these could be.
+fn are_all_read(
+    request: &Request<'_>,
+    files: &[Object<'_>],
+    lists: &[Object<'_>],
+    locators: &[GivenLocator<'_>],
+) -> bool
     requires files_read { let request = fields_of request.now in AreReadOf request.files files.now }
     requires lists_read { let request = fields_of request.now in AreReadOf request.lists lists.now }
-    ensures { IsTrue result ↔ AreAllRead (fields_of request.now) files.now lists.now }
+    requires locators_read { let request = fields_of request.now in
+        AreReadOf request.locators (locator_files locators.now) }
+    ensures { let its = locator_files locators.now in
+        IsTrue result ↔ AreAllRead (fields_of request.now) files.now lists.now its }
 {
-    are_read(&request.files, files) && are_read(&request.lists, lists)
+    are_read(&request.files, files)
+        && are_read(&request.lists, lists)
+        && are_locators_read(&request.locators, locators)
 }
 
 // Shows the files that could be read. The outcome is theirs, where all could be.
@@ -80,27 +101,33 @@ fn unjudged(alloc: Global) -> Answer
     }
 }
 
-/// Answers what the request asks at this moment, when these of its files and lists could be read.
+/// Answers what the request asks at this moment, when these of its files, lists and locators could be
+/// read.
 pub fn answer_request(
     alloc: Global,
     request: &Request<'_>,
     now: Time,
     files: &[Object<'_>],
     lists: &[Object<'_>],
+    locators: &[GivenLocator<'_>],
 ) -> Result<Answer, AllocError>
     requires asks { AsksOfFiles request.now.task }
     requires files_read { let request = fields_of request.now in AreReadOf request.files files.now }
     requires lists_read { let request = fields_of request.now in AreReadOf request.lists lists.now }
+    requires locators_read { let request = fields_of request.now in
+        AreReadOf request.locators (locator_files locators.now) }
+    requires locators_are { All (IsRead request.now.strict) locators.now }
     ensures ends { let request = fields_of request.now in
-        IfOk result (λ answer. EndsBy request now files.now lists.now answer.outcome) }
+        let its = locator_files locators.now in
+        IfOk result (λ answer. EndsBy request now files.now lists.now its answer.outcome) }
     ensures text { let request = fields_of request.now in
         IsFalse request.json → IfOk result (λ answer. IsTextBy request.task answer.outcome
-        request now files.now lists.now (string_bytes answer.text)) }
+        request now files.now lists.now locators.now (string_bytes answer.text)) }
     ensures json { let request = fields_of request.now in
         IsTrue request.json → IfOk result (λ answer. IsJsonBy request.task answer.outcome
-        request now files.now lists.now (string_bytes answer.text)) }
+        request now files.now lists.now locators.now (string_bytes answer.text)) }
 {
-    let are_all_read = are_all_read(request, files, lists);
+    let are_all_read = are_all_read(request, files, lists, locators);
     match request.task {
         Task::Show => show(alloc, request, now, files, are_all_read),
         Task::Validate => {
@@ -110,6 +137,8 @@ pub fn answer_request(
             let question = Question {
                 members: files,
                 lists,
+                locators,
+                names: request.names,
                 strict: request.strict,
                 at: now,
             };

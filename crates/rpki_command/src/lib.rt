@@ -11,7 +11,6 @@ ghost use Rattle.rpki_command.specs.Outcomes.{AsksOfFiles, MayEndWith, RunMayEnd
 mod answering;
 mod arguments;
 mod as_json;
-mod leftovers;
 mod notes;
 pub mod outcome_laws;
 mod outcomes;
@@ -25,7 +24,7 @@ use answering::answer_request;
 use anyhow::{Context, Result, anyhow};
 use arguments::{Misuse, Request, Setting, Task, read_words};
 use outcomes::{Answer, Outcome, status_of};
-use reading::read_files;
+use reading::{read_files, read_locators};
 use rpki::repository::x509::Time;
 use rpki_text::{Characters, moments};
 use std::io;
@@ -36,10 +35,12 @@ use std::time::{SystemTime, UNIX_EPOCH};
 use words::words_of;
 
 const USAGE: &str = "usage: rpki show [-j|--json] [--all] [OPTION].. FILE..
-       rpki validate [-j|--json] [--crl FILE].. [OPTION].. ANCHOR [CA].. [LAST]
+       rpki validate [-j|--json] [--tal FILE].. [--crl FILE].. [--no-names] [OPTION].. ANCHOR
+           [CA].. [LAST]
        rpki help | --version
 OPTION: --at MOMENT, --max-size OCTETS (of a file; 67108864 if it is left out), or --lenient
-FILE: a certificate or a revocation list, in DER or PEM; - for standard input
+FILE: a certificate or a revocation list, in DER or PEM; of --tal a trust anchor's locator;
+- for standard input
 LAST: a CA, an end entity or a router
 MOMENT: YYYY-MM-DD, YYYY-MM-DDThh:mm:ssZ or YYYYMMDDhhmmss; the clock's, if it is left out
 Behind -- each word is a file.
@@ -78,6 +79,7 @@ fn about(task: Task) -> Option<&'static str>
 fn name_of(setting: Setting) -> &'static str {
     match setting {
         Setting::Crl => "--crl",
+        Setting::Tal => "--tal",
         Setting::At => "--at",
         Setting::MaxSize => "--max-size",
     }
@@ -132,7 +134,8 @@ fn answered(rt: &HostRuntime, request: &Request<'_>) -> Result<Answer>
     let now = moment(rt, request.at)?;
     let files = read_files(rt, &request.files, request.max_size)?;
     let lists = read_files(rt, &request.lists, request.max_size)?;
-    Ok(answer_request(rt.alloc(), request, now, &files, &lists)?)
+    let locators = read_locators(rt, &request.locators, request.max_size, request.strict)?;
+    Ok(answer_request(rt.alloc(), request, now, &files, &lists, &locators)?)
 }
 
 // Answers what is asked of files, and prints the answer.

@@ -3,6 +3,7 @@ ghost use Rattle.std.specs.Prelude.{◌≡◌, ℕ, Bool, List};
 ghost use Rattle.rpki.specs.RsaSignatures.{IsSignedByRsa};
 ghost use Rattle.rpki.specs.Times.{Moment};
 ghost use Rattle.rpki.specs.Verification.{context};
+ghost use Rattle.rpki_verdicts.specs.PathFiles.{Demands};
 ghost use Rattle.rpki_command.specs.Outcomes.{IsOutcomeOf};
 ghost use Rattle.rpki_command.specs.declared.arguments.Task.{Task};
 ghost use Rattle.rpki_command.specs.declared.outcomes.Outcome.{Outcome};
@@ -11,9 +12,10 @@ use rpki_verdicts::one_answer;
 
 /// Says that what files hold has at most one outcome at a moment.
 pub fn one_outcome()
-    ensures { (task : Task) (now : Moment) (strict : Bool) (files lists : List (List ℕ))
-        (one other : Outcome) → IsOutcomeOf task (context IsSignedByRsa now strict) files lists one
-        → IsOutcomeOf task (context IsSignedByRsa now strict) files lists other → one ≡ other }
+    ensures { (task : Task) (now : Moment) (strict : Bool) (d : Demands)
+        (files lists : List (List ℕ)) (one other : Outcome)
+        → IsOutcomeOf task (context IsSignedByRsa now strict) d files lists one
+        → IsOutcomeOf task (context IsSignedByRsa now strict) d files lists other → one ≡ other }
 {
     one_answer();
 }

@@ -1,11 +1,13 @@
 //! The octets of files, and what is said of those that can't be read.
-ghost use Rattle.std.specs.Prelude.{◌≡◌, ◌≤◌, [], ◌∷◌, ◌++◌, List, length, map, IfOk, IfSome, OnOk};
+ghost use Rattle.std.specs.Prelude.{◌≡◌, ◌≤◌, [], ◌∷◌, ◌++◌, All, List, length, map, IfOk, IfSome, OnOk};
 ghost use Rattle.rpki_files.specs.Files.{FileFields};
 ghost use Rattle.rpki_command.specs.Outcomes.{AreReadOf};
+ghost use Rattle.rpki_verdicts.specs.GivenLocators.{LocatorFields, IsRead, locator_files};
 
 use crate::arguments::is;
 use rpki_files::{Object, read_object};
 use rpki_text::Characters;
+use rpki_verdicts::GivenLocator;
 use std::alloc::{AllocError, Global};
 use std::fs::File;
 use std::io::{ErrorKind, Read};
@@ -141,6 +143,71 @@ fn push_file<'a>(
         Ok(None) => Ok(()),
         Err(error) => Err(error),
     }
+}
+
+// The locator that a file is given as, or what is wrong of it; where it can't be read, that is said,
+// and there is none.
+fn read_locator<'a>(
+    rt: &HostRuntime,
+    name: &'a [u8],
+    most: u64,
+    strict: bool,
+) -> Result<Option<GivenLocator<'a>>, AllocError>
+    ensures name { IfOk result (λ read. IfSome read (λ l. l.file.name ≡ name.now)) }
+    ensures read { IfOk result (λ read. IfSome read (IsRead strict)) }
+{
+    match octets_by(rt, name, most) {
+        Ok((text, octets)) => match GivenLocator::read(rt.alloc(), text, octets, strict) {
+            Ok(locator) => Ok(Some(locator)),
+            Err(error) => Err(error),
+        },
+        Err(why) => {
+            tell(rt, name, &why);
+            drop(why);
+            Ok(None)
+        }
+    }
+}
+
+// Reads a file and pushes the locator that it is given as, if it can be read.
+fn push_locator<'a>(
+    rt: &HostRuntime,
+    all: &mut Vec<GivenLocator<'a>>,
+    name: &'a [u8],
+    most: u64,
+    strict: bool,
+) -> Result<(), AllocError>
+    ensures { OnOk result ((its : List LocatorFields)
+        × AreReadOf (name.now ∷ []) (locator_files its) × All (IsRead strict) its
+        × (all.new.items ≡ all.old.items ++ its)) }
+{
+    match read_locator(rt, name, most, strict) {
+        Ok(Some(locator)) => {
+            all.push(locator)?;
+            Ok(())
+        }
+        Ok(None) => Ok(()),
+        Err(error) => Err(error),
+    }
+}
+
+/// Reads the files of these names as locators, each of so many octets at most, and says of each that
+/// can't be read why. Errs only where memory runs out.
+pub fn read_locators<'a>(
+    rt: &HostRuntime,
+    names: &[&'a [u8]],
+    most: u64,
+    strict: bool,
+) -> Result<Vec<GivenLocator<'a>>, AllocError>
+    ensures named { IfOk result (λ all.
+        AreReadOf (map (λ name. name.now) names.now) (locator_files all.items)) }
+    ensures read { IfOk result (λ all. All (IsRead strict) all.items) }
+{
+    let mut all = Vec::new(rt.alloc());
+    for name in names {
+        push_locator(rt, &mut all, *name, most, strict)?;
+    }
+    Ok(all)
 }
 
 /// Reads the files of these names, each of so many octets at most, and says of each that can't be

@@ -1,33 +1,32 @@
 //! A file for a person or as JSON.
-ghost use Rattle.std.specs.Prelude.{◌≡◌, ◌↔◌, false, All, IfOk, OnOk, IsTrue, IsFalse, MatchResult, Some, None, codes, string_bytes};
+ghost use Rattle.std.specs.Prelude.{◌≡◌, ◌≢◌, ◌↔◌, false, All, IfOk, IsTrue, IsFalse, MatchResult, Some, None, codes, string_bytes};
 ghost use Rattle.hex.specs.Hex.{encode_lower};
 ghost use Rattle.serde_json.specs.View.{view};
 ghost use Rattle.serde_json.specs.Written.{has_float};
 ghost use Rattle.sha2.specs.Sha256.{sha256};
-ghost use Rattle.rpki.specs.Place.{MeansOrMemoryBy};
-ghost use Rattle.rpki.specs.Encoding.{Means};
 ghost use Rattle.rpki.specs.Certificates.{IsCertificate};
+ghost use Rattle.rpki.specs.DecodeError.TheVariants as decoding;
 ghost use Rattle.rpki.specs.Lists.{IsCertificateList};
 ghost use Rattle.rpki_text.specs.CertificateTexts.{AreFindings};
-ghost use Rattle.rpki_files.specs.Contents.{BeginsWithCertificate, BeginsWithList, CanBeShown, LooksLikeList};
+ghost use Rattle.rpki_files.specs.Contents.{BeginsBefore, CanBeShown, LooksLikeList};
 ghost use Rattle.rpki_files.specs.Files.{contents};
 ghost use Rattle.rpki_notes.specs.Notes.{AreNotes};
-ghost use Rattle.rpki_command.specs.JsonAnswers.{AreFilesJson, IsCertificateFileJson, IsFileJson, IsJsonIf, IsListFileJson, IsOtherFileJson, IsShown};
+ghost use Rattle.rpki_command.specs.JsonAnswers.{AreFilesJson, IsCertificateFileJson, IsFileJson, IsListFileJson, IsOtherFileJson, IsShown};
 ghost use Rattle.rpki_command.specs.JsonTexts.{json_lines};
 ghost use Rattle.rpki_command.specs.Outcomes.{IsOutcomeOfShow};
 ghost use Rattle.rpki_text.specs.Pages.{Appends, AppendsSome, line, line_feed};
-ghost use Rattle.rpki_command.specs.ShownTexts.{BeginsBefore, IsCertificateFileText, IsFileText, IsFurtherText, IsListFileText, IsOtherFileText, IsRejection, IsTextIf, IsTextOfFiles, certificate_file_text, file_lines, left_line, left_text, list_file_text, stop_text};
+ghost use Rattle.rpki_command.specs.ShownTexts.{IsCertificateFileText, IsFileText, IsFurtherText, IsListFileText, IsOtherFileText, IsRejection, IsTextOfFiles, certificate_file_text, file_lines, left_line, left_text, list_file_text, stop_text};
 ghost use Rattle.rpki_command.specs.VerdictTexts.{SaysOfEach};
 
 use crate::as_json;
 use crate::notes::print_notes;
 use crate::outcomes::{Answer, Outcome};
 use bytes::Bytes;
-use rpki::der::{Cursor, DecodeError};
+use rpki::der::DecodeError;
 use rpki::repository::x509::Time;
 use rpki::repository::{Cert, Crl};
 use rpki_files::rules::{Rule, of_file};
-use rpki_files::{Form, Object, Place, looks_like, place_of, unless_memory};
+use rpki_files::{Content, Form, Object, Place, looks_like, place_of};
 use rpki_notes::{Note, notes_of};
 use rpki_text::{FileName, Page, certificate, list};
 use serde_json::Value;
@@ -67,8 +66,8 @@ fn hash_line(page: &mut Page, octets: &[u8])
 fn begun(page: &mut Page, object: &Object<'_>)
     ensures { Appends page.old (file_lines object.now) page.new }
 {
-    page.line_of("File", &FileName(object.name));
-    hash_line(page, object.octets.as_slice());
+    page.line_of("File", &FileName(object.name()));
+    hash_line(page, object.octets().as_slice());
 }
 
 // That so many octets aren't read.
@@ -136,14 +135,13 @@ fn rejection_of(
     object: &Object<'_>,
     fault: &DecodeError,
 ) -> Result<Rejection, AllocError>
+    requires { fault.now ≢ decoding.Memory }
     ensures { IfOk result (λ it. IsRejection object.now.octets it.rule it.place) }
 {
-    if fault.is_memory() {
-        return Err(AllocError);
-    }
-    let is_list = is_like_list(&object.octets);
-    let place = place_of(alloc, &object.octets, is_list)?;
-    let rule = of_file(fault, &object.octets, is_list);
+    let octets = object.octets();
+    let is_list = is_like_list(octets);
+    let place = place_of(alloc, octets, is_list)?;
+    let rule = of_file(fault, octets, is_list);
     let why = format!(in alloc; "{fault}")?;
     Ok(Rejection { why, rule, place })
 }
@@ -177,8 +175,8 @@ fn as_shown<'a>(object: &'a Object<'_>, left: usize) -> as_json::Shown<'a>
     ensures { IsShown object.now left result }
 {
     as_json::Shown {
-        name: object.name,
-        whole: object.octets.as_slice(),
+        name: object.name(),
+        whole: object.octets().as_slice(),
         left,
     }
 }
@@ -208,6 +206,7 @@ fn whole_rejection(page: &mut Page, object: &Object<'_>, it: &Rejection, options
 }
 
 fn rejected(page: &mut Page, object: &Object<'_>, fault: &DecodeError, options: &Options)
+    requires { fault.now ≢ decoding.Memory }
     ensures text { IsFalse options.now.json
         → AppendsSome (IsOtherFileText object.now) page.old page.new }
     ensures json { IsTrue options.now.json
@@ -220,16 +219,6 @@ fn rejected(page: &mut Page, object: &Object<'_>, fault: &DecodeError, options: 
         }
         Err(_) => page.fail(),
     }
-}
-
-/// Reads the certificate that the octets begin with, and counts the octets behind it.
-pub fn certificate_in(alloc: Global, octets: &Bytes) -> Result<(Cert, usize), DecodeError>
-    ensures means { MeansOrMemoryBy (λ found. found.0) (Means IsCertificate) result octets.now }
-    ensures left { IfOk result (λ found. BeginsBefore IsCertificate octets.now found.0 found.1) }
-{
-    let mut cursor = Cursor::new(octets);
-    let cert = Cert::take_from(alloc, &mut cursor)?;
-    Ok((cert, cursor.rest().len()))
 }
 
 #[tactic(auto, unfolding(crate::specs::ShownTexts::certificate_file_text))]
@@ -306,52 +295,13 @@ fn whole_certificate(
         → BeginsBefore IsCertificate object.now.octets cert.now left
         → AppendsSome (IsCertificateFileJson options.now object.now) page.old page.new }
 {
-    match notes_of(page.alloc(), &object.octets) {
+    match notes_of(page.alloc(), object) {
         Ok(notes) => {
             noted_certificate(page, object, cert, &notes, left, options);
             drop(notes);
         }
         Err(_) => page.fail(),
     }
-}
-
-// Shows the certificate that the file begins with, and says whether it begins with one.
-fn certificate_of(
-    page: &mut Page,
-    object: &Object<'_>,
-    options: &Options,
-) -> Result<bool, AllocError>
-    ensures begins { IfOk result (λ yes. IsTrue yes ↔ BeginsWithCertificate object.now.octets) }
-    ensures text { let IsText = IsTextIf BeginsWithCertificate (IsCertificateFileText options.now) in
-        IsFalse options.now.json → OnOk result (AppendsSome (IsText object.now) page.old page.new) }
-    ensures json { let IsJson = IsJsonIf BeginsWithCertificate (IsCertificateFileJson options.now) in
-        IsTrue options.now.json → OnOk result (AppendsSome (IsJson object.now) page.old page.new) }
-{
-    match certificate_in(page.alloc(), &object.octets) {
-        Ok(found) => {
-            let (cert, left) = found;
-            whole_certificate(page, object, &cert, left, options);
-            drop(cert);
-            Ok(true)
-        }
-        Err(fault) => {
-            rejected(page, object, &fault, options);
-            unless_memory(fault)?;
-            Ok(false)
-        }
-    }
-}
-
-/// Reads the revocation list that the octets begin with, and counts the octets behind it.
-pub fn list_in(alloc: Global, octets: &Bytes) -> Result<(Crl, usize), DecodeError>
-    ensures means { let encodes = Means IsCertificateList in
-        MeansOrMemoryBy (λ found. found.0.list) encodes result octets.now }
-    ensures left { IfOk result (λ found.
-        BeginsBefore IsCertificateList octets.now found.0.list found.1) }
-{
-    let mut cursor = Cursor::new(octets);
-    let list = Crl::take_from(alloc, &mut cursor)?;
-    Ok((list, cursor.rest().len()))
 }
 
 fn print_list(page: &mut Page, object: &Object<'_>, it: &Crl, left: usize, options: &Options)
@@ -388,40 +338,27 @@ fn whole_list(page: &mut Page, object: &Object<'_>, it: &Crl, left: usize, optio
     }
 }
 
-// Shows the list that the file begins with, and says whether it begins with one.
-fn list_of(page: &mut Page, object: &Object<'_>, options: &Options) -> Result<bool, AllocError>
-    ensures begins { IfOk result (λ yes. IsTrue yes ↔ BeginsWithList object.now.octets) }
-    ensures text { let IsText = IsTextIf BeginsWithList (IsListFileText options.now) in
-        IsFalse options.now.json → OnOk result (AppendsSome (IsText object.now) page.old page.new) }
-    ensures json { let IsJson = IsJsonIf BeginsWithList IsListFileJson in
-        IsTrue options.now.json → OnOk result (AppendsSome (IsJson object.now) page.old page.new) }
-{
-    match list_in(page.alloc(), &object.octets) {
-        Ok(found) => {
-            let (it, left) = found;
-            whole_list(page, object, &it, left, options);
-            drop(it);
-            Ok(true)
-        }
-        Err(fault) => {
-            rejected(page, object, &fault, options);
-            unless_memory(fault)?;
-            Ok(false)
-        }
-    }
-}
-
 /// Shows a file, and says whether it begins with a certificate or a list.
-pub fn show(page: &mut Page, object: &Object<'_>, options: &Options) -> Result<bool, AllocError>
-    ensures shows { IfOk result (λ yes. IsTrue yes ↔ CanBeShown object.now.octets) }
+pub fn show(page: &mut Page, object: &Object<'_>, options: &Options) -> bool
+    ensures shows { IsTrue result ↔ CanBeShown object.now.octets }
     ensures text { IsFalse options.now.json
-        → OnOk result (AppendsSome (IsFileText options.now object.now) page.old page.new) }
+        → AppendsSome (IsFileText options.now object.now) page.old page.new }
     ensures json { IsTrue options.now.json
-        → OnOk result (AppendsSome (IsFileJson options.now object.now) page.old page.new) }
+        → AppendsSome (IsFileJson options.now object.now) page.old page.new }
 {
-    match looks_like(&object.octets) {
-        Form::List => list_of(page, object, options),
-        Form::Certificate | Form::Other => certificate_of(page, object, options),
+    match object.content() {
+        Content::Certificate(cert, left) => {
+            whole_certificate(page, object, cert, *left, options);
+            true
+        }
+        Content::List(it, left) => {
+            whole_list(page, object, it, *left, options);
+            true
+        }
+        Content::Neither(fault) => {
+            rejected(page, object, fault, options);
+            false
+        }
     }
 }
 
@@ -436,45 +373,45 @@ fn gap(page: &mut Page, options: &Options)
 }
 
 // Shows a file behind another one.
-fn show_further(page: &mut Page, object: &Object<'_>, options: &Options) -> Result<bool, AllocError>
-    ensures shows { IfOk result (λ yes. IsTrue yes ↔ CanBeShown object.now.octets) }
+fn show_further(page: &mut Page, object: &Object<'_>, options: &Options) -> bool
+    ensures shows { IsTrue result ↔ CanBeShown object.now.octets }
     ensures text { IsFalse options.now.json
-        → OnOk result (AppendsSome (IsFurtherText options.now object.now) page.old page.new) }
+        → AppendsSome (IsFurtherText options.now object.now) page.old page.new }
     ensures json { IsTrue options.now.json
-        → OnOk result (AppendsSome (IsFileJson options.now object.now) page.old page.new) }
+        → AppendsSome (IsFileJson options.now object.now) page.old page.new }
 {
     gap(page, options);
     show(page, object, options)
 }
 
 // Shows the files behind the first one.
-fn show_more(page: &mut Page, objects: &[Object<'_>], options: &Options) -> Result<bool, AllocError>
-    ensures shows { IfOk result (λ yes. IsTrue yes ↔ All CanBeShown (contents objects.now)) }
+fn show_more(page: &mut Page, objects: &[Object<'_>], options: &Options) -> bool
+    ensures shows { IsTrue result ↔ All CanBeShown (contents objects.now) }
     ensures text { let IsText = SaysOfEach (IsFurtherText options.now) in
-        IsFalse options.now.json → OnOk result (AppendsSome (IsText objects.now) page.old page.new) }
+        IsFalse options.now.json → AppendsSome (IsText objects.now) page.old page.new }
     ensures json { IsTrue options.now.json
-        → OnOk result (AppendsSome (AreFilesJson options.now objects.now) page.old page.new) }
+        → AppendsSome (AreFilesJson options.now objects.now) page.old page.new }
 {
     let mut can_be_shown = true;
     for object in objects {
-        can_be_shown &= show_further(page, object, options)?;
+        can_be_shown &= show_further(page, object, options);
     }
-    Ok(can_be_shown)
+    can_be_shown
 }
 
 // Appends the text of the objects, and tells whether each begins with a certificate or a list.
-fn show_all(page: &mut Page, objects: &[Object<'_>], options: &Options) -> Result<bool, AllocError>
-    ensures shows { IfOk result (λ yes. IsTrue yes ↔ All CanBeShown (contents objects.now)) }
+fn show_all(page: &mut Page, objects: &[Object<'_>], options: &Options) -> bool
+    ensures shows { IsTrue result ↔ All CanBeShown (contents objects.now) }
     ensures text { IsFalse options.now.json
-        → OnOk result (AppendsSome (IsTextOfFiles options.now objects.now) page.old page.new) }
+        → AppendsSome (IsTextOfFiles options.now objects.now) page.old page.new }
     ensures json { IsTrue options.now.json
-        → OnOk result (AppendsSome (AreFilesJson options.now objects.now) page.old page.new) }
+        → AppendsSome (AreFilesJson options.now objects.now) page.old page.new }
 {
     let Some((first, more)) = objects.split_first() else {
-        return Ok(true);
+        return true;
     };
-    let can_be_shown = show(page, first, options)?;
-    Ok(show_more(page, more, options)? & can_be_shown)
+    let can_be_shown = show(page, first, options);
+    show_more(page, more, options) & can_be_shown
 }
 
 /// Writes the text of the objects, as lines for a person or as JSON. The outcome is success where
@@ -488,7 +425,7 @@ pub fn shown(alloc: Global, objects: &[Object<'_>], options: &Options) -> Result
         AreFilesJson options.now objects.now (string_bytes answer.text)) }
 {
     let mut page = Page::new(alloc);
-    let can_be_shown = show_all(&mut page, objects, options)?;
+    let can_be_shown = show_all(&mut page, objects, options);
     Ok(Answer {
         text: page.into_text()?,
         outcome: Outcome::of_answer(can_be_shown),

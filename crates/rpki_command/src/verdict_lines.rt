@@ -1,21 +1,22 @@
 //! The verdict on a path for a person.
-ghost use Rattle.std.specs.Prelude.{◌≡◌, ◌++◌, Some, IfOk, option_map, codes, string_bytes};
+ghost use Rattle.std.specs.Prelude.{◌≡◌, ◌++◌, All, Some, IfOk, option_map, codes, string_bytes};
 ghost use Rattle.rpki_text.specs.CertificateTexts.{AreAnswers, met_kind_text};
 ghost use Rattle.rpki_text.specs.BlockLines.{as_numbers_text, resources_lines};
 ghost use Rattle.rpki_text.specs.KeyTexts.{IsKeyAnswer};
 ghost use Rattle.rpki_text.specs.Pages.{Appends, AppendsSome, colons_text, line};
 ghost use Rattle.rpki.specs.Certificates.{IsCertificate};
 ghost use Rattle.rpki_command.specs.NoteLines.{notes_lines};
-ghost use Rattle.rpki_command.specs.ShownTexts.{BeginsBefore};
-ghost use Rattle.rpki_command.specs.VerdictTexts.{SaysOfEach, IsFindingText, IsMemberPart, IsListPart, IsOutcomeText, IsVerdictText, IsAcceptanceText, IsHeldText, IsMemberText, acceptance_text, after_line, file_name_at, holder_text, left_of_text, member_text, moment_line, no_list_text, other_text, place_text, reason_text, rejected_text, revocation_text, router_text};
+ghost use Rattle.rpki_files.specs.Contents.{BeginsBefore};
+ghost use Rattle.rpki_verdicts.specs.GivenLocators.{IsRead};
+ghost use Rattle.rpki_command.specs.VerdictTexts.{SaysOfEach, IsFindingText, IsLocatorText, IsMemberPart, IsListPart, IsOutcomeText, IsVerdictText, IsAcceptanceText, IsHeldText, IsMemberText, after_line, anchor_line, checks_text, file_name_at, holder_text, left_of_text, locator_part, locator_text, locators_text, member_text, moment_line, names_line, no_list_text, no_locator_text, other_text, place_text, read_locator_line, reason_text, rejected_text, revocation_text, router_text};
 
-use crate::leftovers::{certificate_before, left_of_list};
 use crate::notes::print_notes;
 use crate::verdicts::Finding;
 use rpki::crypto::KeyIdentifier;
 use rpki::repository::cert::{Cert, ResourceCert};
 use rpki::repository::path::Judged;
 use rpki::repository::resources::AsResources;
+use rpki::repository::tal::Tal;
 use rpki::repository::x509::{Serial, Time};
 use rpki_files::Object;
 use rpki_notes::{Note, notes_of};
@@ -23,7 +24,7 @@ use rpki_text::blocks::{Family, as_blocks, ip_blocks, write_as_resources};
 use rpki_text::certificate::{key_identifier, kind_of};
 use rpki_text::keys::answer_of;
 use rpki_text::{FileName, Page};
-use rpki_verdicts::{Fault, Question, Verdict};
+use rpki_verdicts::{Fault, GivenLocator, Question, Verdict, located};
 use std::alloc::{AllocError, Global};
 use std::fmt;
 
@@ -32,7 +33,9 @@ const ALGORITHM: &str = "checked (RSASSA-PKCS1-v1_5 with SHA-256, RFC 7935)";
 /// What is said where a file given as a list is none.
 pub const NO_LIST: &str = "a file given as a revocation list is none";
 
-const NOT_ASKED: &str = "manifests, and whether names of issuer and subject match";
+const NO_LOCATOR: &str = "whether the trust anchor is a locator's: it is taken as given";
+
+const NO_NAMES: &str = "whether names of issuer and subject match";
 
 // A member by its certificate: its kind, its serial number and its name.
 #[derive(Drop)]
@@ -131,9 +134,9 @@ fn print_noted(page: &mut Page, object: &Object<'_>, strict: bool, cert: &Cert, 
     ensures { BeginsBefore IsCertificate object.now.octets cert.now left
         → AppendsSome (IsMemberText strict object.now) page.old page.new }
 {
-    match notes_of(page.alloc(), &object.octets) {
+    match notes_of(page.alloc(), object) {
         Ok(notes) => {
-            print_certificate(page, cert, strict, object.name, &notes, left);
+            print_certificate(page, cert, strict, object.name(), &notes, left);
             drop(notes);
         }
         Err(_) => page.fail(),
@@ -145,14 +148,9 @@ fn print_noted(page: &mut Page, object: &Object<'_>, strict: bool, cert: &Cert, 
 fn print_member(page: &mut Page, object: &Object<'_>, strict: bool)
     ensures { AppendsSome (IsMemberPart strict object.now) page.old page.new }
 {
-    match certificate_before(page.alloc(), &object.octets) {
-        Ok(Some(found)) => {
-            let (cert, left) = found;
-            print_noted(page, object, strict, &cert, left);
-            drop(cert);
-        }
-        Ok(None) => page.line_of("Member", &OtherMember(object.name)),
-        Err(_) => page.fail(),
+    match object.certificate() {
+        Some((cert, left)) => print_noted(page, object, strict, cert, left),
+        None => page.line_of("Member", &OtherMember(object.name())),
     }
 }
 
@@ -168,10 +166,9 @@ fn print_members(page: &mut Page, objects: &[Object<'_>], strict: bool)
 fn print_list(page: &mut Page, object: &Object<'_>)
     ensures { AppendsSome (IsListPart object.now) page.old page.new }
 {
-    match left_of_list(page.alloc(), &object.octets) {
-        Ok(Some(left)) => print_left(page, object.name, left),
-        Ok(None) => page.line_of("Not a list", &FileName(object.name)),
-        Err(_) => page.fail(),
+    match object.list() {
+        Some((_, left)) => print_left(page, object.name(), left),
+        None => page.line_of("Not a list", &FileName(object.name())),
     }
 }
 
@@ -180,6 +177,83 @@ fn print_lists(page: &mut Page, objects: &[Object<'_>])
 {
     for object in objects {
         print_list(page, object);
+    }
+}
+
+// Names a file given as a locator that is none.
+fn print_other_locator(page: &mut Page, locator: &GivenLocator<'_>)
+    ensures { Appends page.old (locator_part locator.now.file.name locator.now.read) page.new }
+{
+    match locator.tal() {
+        Ok(_) => {}
+        Err(_) => page.line_of("Not a locator", &FileName(locator.name())),
+    }
+}
+
+fn print_other_locators(page: &mut Page, locators: &[GivenLocator<'_>])
+    ensures { Appends page.old (locators_text locators.now) page.new }
+{
+    for locator in locators {
+        print_other_locator(page, locator);
+    }
+}
+
+// A locator: its name, how many URIs it has, and its key's identifier.
+fn print_tal(page: &mut Page, name: &str, tal: &Tal)
+    ensures { Appends page.old (locator_text name.now tal.now.tal) page.new }
+{
+    page.value(&FileName(name));
+    page.text(", ");
+    page.count(tal.uris().len() as u64, " URI", " URIs");
+    page.text(", key ");
+    key_identifier(page, &tal.key_info().key_identifier());
+}
+
+#[tactic(auto, unfolding(rpki_text::specs::Pages::line))]
+fn print_tal_line(page: &mut Page, name: &str, tal: &Tal)
+    ensures { Appends page.old (line (codes "Locator") (locator_text name.now tal.now.tal)) page.new }
+{
+    page.label("Locator");
+    print_tal(page, name, tal);
+    page.end();
+}
+
+// The line of a file given as a locator, where it is one.
+fn print_read_locator(page: &mut Page, locator: &GivenLocator<'_>)
+    ensures { Appends page.old (read_locator_line locator.now.file.name locator.now.read) page.new }
+{
+    match locator.tal() {
+        Ok(tal) => print_tal_line(page, locator.name(), tal),
+        Err(_) => {}
+    }
+}
+
+// The line of the trust anchor's locator, where some are given.
+fn print_locator(page: &mut Page, question: &Question<'_, '_>)
+    requires { All (IsRead question.now.strict) question.now.locators }
+    ensures { AppendsSome (IsLocatorText question.now) page.old page.new }
+{
+    match located(question) {
+        Some(locator) => print_read_locator(page, locator),
+        None => {}
+    }
+}
+
+// That the trust anchor is taken as given, where no locator is.
+fn print_given_anchor(page: &mut Page, locators: &[GivenLocator<'_>])
+    ensures { Appends page.old (anchor_line locators.now) page.new }
+{
+    if locators.is_empty() {
+        page.line("Not asked", NO_LOCATOR);
+    }
+}
+
+// That names needn't chain, where they needn't.
+fn print_left_names(page: &mut Page, names: bool)
+    ensures { Appends page.old (names_line names) page.new }
+{
+    if !names {
+        page.line("Not asked", NO_NAMES);
     }
 }
 
@@ -193,14 +267,15 @@ fn revocation(lists: &[Object<'_>]) -> &'static str
     }
 }
 
-// That a path is accepted, and what was asked of it.
-fn print_checks(page: &mut Page, lists: &[Object<'_>])
-    ensures { Appends page.old (acceptance_text lists.now) page.new }
+// What was asked of an accepted path, and what wasn't.
+fn print_checks(page: &mut Page, question: &Question<'_, '_>)
+    ensures { Appends page.old (checks_text question.now) page.new }
 {
-    page.line("Path", "accepted");
     page.line("Signatures", ALGORITHM);
-    page.line("Revocation", revocation(lists));
-    page.line("Not asked", NOT_ASKED);
+    page.line("Revocation", revocation(question.lists));
+    print_given_anchor(page, question.locators);
+    print_left_names(page, question.names);
+    page.line("Not asked", "manifests");
 }
 
 // What a member holds, under these labels.
@@ -272,10 +347,13 @@ fn print_held(page: &mut Page, judged: &Judged)
     }
 }
 
-fn print_accepted(page: &mut Page, lists: &[Object<'_>], judged: &Judged)
-    ensures { AppendsSome (IsAcceptanceText lists.now judged.now) page.old page.new }
+fn print_accepted(page: &mut Page, question: &Question<'_, '_>, judged: &Judged)
+    requires { All (IsRead question.now.strict) question.now.locators }
+    ensures { AppendsSome (IsAcceptanceText question.now judged.now) page.old page.new }
 {
-    print_checks(page, lists);
+    page.line("Path", "accepted");
+    print_locator(page, question);
+    print_checks(page, question);
     print_held(page, judged);
 }
 
@@ -346,7 +424,7 @@ fn print_rejected(page: &mut Page, members: &[Object<'_>], fault: &Fault)
         Appends page.old (rejected_text fault.now name) page.new }
 {
     match members.get(fault.index) {
-        Some(object) => print_fault(page, fault, Some(object.name)),
+        Some(object) => print_fault(page, fault, Some(object.name())),
         None => print_fault(page, fault, None),
     }
 }
@@ -367,20 +445,39 @@ fn print_no_list(page: &mut Page)
     page.line("Standard", "RFC 6487 5");
 }
 
+// That a file given as a locator is none.
+fn print_no_locator(page: &mut Page, fault: &Fault)
+    ensures { Appends page.old (no_locator_text fault.now) page.new }
+{
+    page.line("Path", "rejected");
+    page.line("Step", fault.step);
+    page.line_of(
+        "Why",
+        &Reason {
+            says: fault.rule.says,
+            name: fault.name,
+        },
+    );
+    page.line("Standard", fault.rule.section);
+}
+
 fn print_outcome(page: &mut Page, question: &Question<'_, '_>, verdict: &Option<Verdict>)
+    requires { All (IsRead question.now.strict) question.now.locators }
     ensures { AppendsSome (IsOutcomeText question.now verdict.now) page.old page.new }
 {
     match verdict {
-        Some(Verdict::Accepted(judged)) => print_accepted(page, question.lists, judged),
+        Some(Verdict::Accepted(judged)) => print_accepted(page, question, judged),
         Some(Verdict::Rejected(fault)) => print_rejected(page, question.members, fault),
         None => {}
     }
 }
 
 fn print_finding(page: &mut Page, question: &Question<'_, '_>, finding: &Finding)
+    requires { All (IsRead question.now.strict) question.now.locators }
     ensures { AppendsSome (IsFindingText question.now finding.now) page.old page.new }
 {
     match finding {
+        Finding::NotALocator(fault) => print_no_locator(page, fault),
         Finding::NotAList => print_no_list(page),
         Finding::Decided(verdict) => print_outcome(page, question, verdict),
     }
@@ -392,23 +489,27 @@ fn print_moment(page: &mut Page, at: Time)
     page.line_of("Moment", &at);
 }
 
-// The members of a path, the files given as lists that are none, the moment, and what is found.
+// The members of a path, the files given as lists and as locators that are none, the moment, and what
+// is found.
 fn print_verdict(page: &mut Page, question: &Question<'_, '_>, finding: &Finding)
+    requires { All (IsRead question.now.strict) question.now.locators }
     ensures { AppendsSome (IsVerdictText question.now finding.now) page.old page.new }
 {
     print_members(page, question.members, question.strict);
     print_lists(page, question.lists);
+    print_other_locators(page, question.locators);
     print_moment(page, question.at);
     print_finding(page, question, finding);
 }
 
-/// Writes the members of a path, the files given as lists that are none, the moment, and what is
-/// found of the path.
+/// Writes the members of a path, the files given as lists and as locators that are none, the moment,
+/// and what is found of the path.
 pub fn verdict_text(
     alloc: Global,
     question: &Question<'_, '_>,
     finding: &Finding,
 ) -> Result<String, AllocError>
+    requires { All (IsRead question.now.strict) question.now.locators }
     ensures { IfOk result (λ text. IsVerdictText question.now finding.now (string_bytes text)) }
 {
     let mut page = Page::new(alloc);

@@ -4,6 +4,8 @@ ghost use Rattle.rpki.specs.RsaSignatures.{IsSignedByRsa};
 ghost use Rattle.rpki.specs.Verification.{context};
 ghost use Rattle.rpki_files.specs.Contents.{BeginsWithList};
 ghost use Rattle.rpki_files.specs.Files.{contents};
+ghost use Rattle.rpki_verdicts.specs.GivenLocators.{IsRead};
+ghost use Rattle.rpki_verdicts.specs.PathFiles.{demands_of};
 ghost use Rattle.rpki_command.specs.JsonVerdicts.{IsJsonOfPath, IsVerdictLines};
 ghost use Rattle.rpki_command.specs.Outcomes.{IsOutcomeOfValidate};
 ghost use Rattle.rpki_command.specs.VerdictTexts.{IsAccepted, IsFinding, IsTextOfPath};
@@ -12,13 +14,14 @@ use crate::as_json;
 use crate::outcomes::{Answer, Outcome};
 use crate::verdict_lines::verdict_text;
 use rpki_files::Object;
-use rpki_verdicts::{Question, Verdict, is_list, judge};
+use rpki_verdicts::{Fault, Question, Verdict, first_no_locator, judge};
 use std::alloc::{AllocError, Global};
 
-/// What is found of a path: that a file given as a list is none, so that nothing is judged; or the
-/// verdict, which there is where the path has a file.
+/// What is found of a path: that a file given as a locator is none, and why, or that one given as a
+/// list is none, so that nothing is judged; or the verdict, which there is where the path has a file.
 #[derive(Drop)]
 pub enum Finding {
+    NotALocator(Fault),
     NotAList,
     Decided(Option<Verdict>),
 }
@@ -29,6 +32,7 @@ fn json_text(
     question: &Question<'_, '_>,
     finding: &Finding,
 ) -> Result<String, AllocError>
+    requires { All (IsRead question.now.strict) question.now.locators }
     ensures { IfOk result (λ text. IsVerdictLines question.now finding.now (string_bytes text)) }
 {
     let value = as_json::path(alloc, question, finding)?;
@@ -38,22 +42,26 @@ fn json_text(
 }
 
 // Whether each file given as a list begins with one.
-fn are_lists(alloc: Global, lists: &[Object<'_>]) -> Result<bool, AllocError>
-    ensures { IfOk result (λ yes. IsTrue yes ↔ All BeginsWithList (contents lists.now)) }
+fn are_lists(lists: &[Object<'_>]) -> bool
+    ensures { IsTrue result ↔ All BeginsWithList (contents lists.now) }
 {
     let mut are_lists = true;
     for object in lists {
-        are_lists &= is_list(alloc, object)?;
+        are_lists &= object.is_list();
     }
-    Ok(are_lists)
+    are_lists
 }
 
 // What is found of the path.
 fn find(alloc: Global, question: &Question<'_, '_>) -> Result<Finding, AllocError>
+    requires { All (IsRead question.now.strict) question.now.locators }
     ensures { let x = context IsSignedByRsa question.now.at question.now.strict in
         IfOk result (IsFinding x question.now) }
 {
-    let are_lists = are_lists(alloc, question.lists)?;
+    if let Some(fault) = first_no_locator(question) {
+        return Ok(Finding::NotALocator(fault));
+    }
+    let are_lists = are_lists(question.lists);
     if are_lists {
         let verdict = judge(alloc, question)?;
         return Ok(Finding::Decided(verdict));
@@ -67,21 +75,24 @@ fn is_accepted(finding: &Finding) -> bool
 {
     match finding {
         Finding::Decided(Some(Verdict::Accepted(_))) => true,
-        Finding::Decided(_) | Finding::NotAList => false,
+        Finding::Decided(_) | Finding::NotAList | Finding::NotALocator(_) => false,
     }
 }
 
 /// Validates the path and writes what is found, as lines for a person or as JSON. The outcome is
-/// success where each file given as a list begins with one, and the path is accepted.
+/// success where each file given as a locator is one, each given as a list begins with one, and the
+/// path is accepted.
 pub fn validated(
     alloc: Global,
     question: &Question<'_, '_>,
     is_json: bool,
 ) -> Result<Answer, AllocError>
+    requires { All (IsRead question.now.strict) question.now.locators }
     ensures outcome { let x = context IsSignedByRsa question.now.at question.now.strict in
+        let d = demands_of question.now in
         let members = contents question.now.members in
         let lists = contents question.now.lists in
-        IfOk result (λ answer. IsOutcomeOfValidate x members lists answer.outcome) }
+        IfOk result (λ answer. IsOutcomeOfValidate x d members lists answer.outcome) }
     ensures text { let x = context IsSignedByRsa question.now.at question.now.strict in
         IsFalse is_json
         → IfOk result (λ answer. IsTextOfPath x question.now (string_bytes answer.text)) }

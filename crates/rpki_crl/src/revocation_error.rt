@@ -15,7 +15,8 @@ pub enum RevocationError {
     /// The issuer's key didn't sign the list.
     #[error("bad signature of the revocation list")]
     BadSignature,
-    /// The list's next update was due before the moment.
+    /// The moment isn't within the list's time: its next update was due before it, or, of lists
+    /// that are given, the list's own time begins after it.
     #[error("stale revocation list")]
     Stale,
     /// The list has the serial number.

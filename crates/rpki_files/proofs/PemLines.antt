@@ -12,7 +12,8 @@ use Rattle.std.proofs.lemmas.Iterator.Consumers.{YieldsList-at}
 use Rattle.std.proofs.lemmas.Iterator.Splits.{YieldsList-from_lines}
 use Rattle.std.proofs.lemmas.List.{drop-drop, flat_map_more}
 use denote.Param.Members.{Mut}
-use Rattle.rpki_files.specs.PemFiles.{HasBase64, is_begin_line, is_end_line, lines_behind_begin, without_white_space}
+use Rattle.rpki.specs.Digits.{without_white_space}
+use Rattle.rpki_files.specs.PemFiles.{HasBase64, is_begin_line, is_end_line, lines_behind_begin}
 
 -- an element that passes, where none before it does, is the first
 first_at : {X : Type 0} (p : X → Bool) (xs : List X) (n : ℕ) (x : X) → list_any p (take n xs) ≡ false → n < length xs → x ≡ get_or xs n x → p x ≡ true

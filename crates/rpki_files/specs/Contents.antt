@@ -1,10 +1,13 @@
 -- What the octets of a file begin with; what follows is ignored.
-use Rattle.std.specs.Prelude.{◌≡◌, ◌⊎◌, ℕ, List, ◌∷◌, Option, Some, None}
-use Rattle.rpki.specs.Encoding.{Means}
+use Rattle.std.specs.Prelude.{◌≡◌, ◌≢◌, ◌⊎◌, ℕ, List, ◌∷◌, length, Option, Some, None}
+use Rattle.rpki.specs.DecodeError.TheVariants as decoding
+use Rattle.rpki.specs.Encoding.{Begins, Means}
 use Rattle.rpki.specs.Tags.{SEQUENCE}
 use Rattle.rpki.specs.Values.{IsEnc}
 use Rattle.rpki.specs.Certificates.{CertFields, IsCertificate}
 use Rattle.rpki.specs.Lists.{CrlFields, IsCertificateList}
+use Rattle.rpki_files.specs.declared.contents.Content.{Content}
+use Rattle.rpki_files.specs.declared.contents.Content.TheVariants as content
 
 -- a certificate
 abbrev pub BeginsWithCertificate : List ℕ → Type 0
@@ -18,10 +21,22 @@ BeginsWithList octets = (l : CrlFields) × Means IsCertificateList l octets
 abbrev pub CanBeShown : List ℕ → Type 0
 CanBeShown octets = BeginsWithCertificate octets ⊎ BeginsWithList octets
 
--- what was looked for, seen by view: it is what the octets begin with; or they begin with none
-abbrev pub FindsBy : {X Y : Type 0} → (X → Y) → (Y → List ℕ → Type 0) → List ℕ → Option X → Type 0
-FindsBy view encodes octets (Some x) = Means encodes (view x) octets
-FindsBy {X} {Y} view encodes octets None = (y : Y) → Means encodes y octets → ⊥
+-- the octets begin with an encoding of the value, behind which so many octets stand
+abbrev pub BeginsBefore : {V : Type 0} → (V → List ℕ → Type 0) → List ℕ → V → ℕ → Type 0
+BeginsBefore encodes octets v left = (rest : List ℕ) × Begins encodes octets v rest × (left ≡ length rest)
+
+-- what octets were read as: the certificate or the list that they begin with, with the count of the
+-- octets behind it; or they begin with neither, and the fault isn't that memory ran out
+abbrev pub IsContent : List ℕ → Content → Type 0
+IsContent octets (content.Certificate c left) = BeginsBefore IsCertificate octets c left × (BeginsWithList octets → ⊥)
+IsContent octets (content.List l left) = BeginsBefore IsCertificateList octets l.list left × (BeginsWithCertificate octets → ⊥)
+IsContent octets (content.Neither fault) = (fault ≢ decoding.Memory) × (CanBeShown octets → ⊥)
+
+-- what was looked for, seen by view: it is what the octets begin with, and so many octets stand
+-- behind it; or they begin with none
+abbrev pub FindsBefore : {X Y : Type 0} → (X → Y) → (Y → List ℕ → Type 0) → List ℕ → Option (X × ℕ) → Type 0
+FindsBefore view encodes octets (Some found) = BeginsBefore encodes octets (view found.0) found.1
+FindsBefore {X} {Y} view encodes octets None = (y : Y) → Means encodes y octets → ⊥
 
 -- the first octet inside a SEQUENCE at the front of a SEQUENCE at the front of the octets
 pub record HasFirstInside (first : ℕ) (octets : List ℕ) : Type 0 where

@@ -1,7 +1,7 @@
 -- What each fault means, and the section of the standard that it breaks: a table for each kind of
 -- fault, in the order in which its type names them.
 use Prim.Native.String.{String}
-use Rattle.std.specs.Prelude.{◌≡◌, ◌↔◌, ℕ, List, Bool, true, false, IsTrue, codes}
+use Rattle.std.specs.Prelude.{◌≡◌, ◌↔◌, ◌==◌, ℕ, List, Bool, true, false, if◌then◌else◌, IsTrue, codes}
 use Rattle.rpki.specs.DecodeError.{DecodeError}
 use Rattle.rpki.specs.DecodeError.TheVariants as decoding
 use Rattle.rpki.specs.ErrorNames.{decode_error_name}
@@ -18,6 +18,9 @@ use Rattle.rpki.specs.PublicKeyFormat.TheVariants.{Rsa, EcdsaP256}
 use Rattle.rpki.specs.Revocation.{revocation_error_name}
 use Rattle.rpki.specs.RevocationError.{RevocationError}
 use Rattle.rpki.specs.RevocationError.TheVariants as revocation
+use Rattle.rpki.specs.TalError.{TalError}
+use Rattle.rpki.specs.TalError.TheVariants as tal
+use Rattle.rpki.specs.TalErrors.{tal_error_name}
 use Rattle.rpki.specs.Verification.{verification_error_name}
 use Rattle.rpki.specs.VerificationError.{VerificationError}
 use Rattle.rpki.specs.VerificationError.TheVariants as verification
@@ -107,6 +110,29 @@ revocation_rule revocation.Revoked = rule "its issuer has revoked it" "RFC 6487 
 abbrev pub key_rule : PublicKeyFormat → RuleFields
 key_rule Rsa = rule "its key isn't RSA of 2048 bits with the exponent 65537" "RFC 7935 3"
 key_rule EcdsaP256 = rule "its key isn't an uncompressed point on the curve P-256" "RFC 8608 3.1"
+
+-- ---- a trust anchor of no locator
+
+-- a trust anchor whose key no locator has that is given
+abbrev pub other_key : RuleFields
+other_key = rule "its key is that of no locator that was given" "RFC 8630 3"
+
+-- of a file that is given as a locator, and is none
+abbrev pub tal_rule : TalError → RuleFields
+tal_rule tal.NoText = rule "the locator isn't UTF-8" "RFC 8630 2.2"
+tal_rule tal.BadUri = rule "a line of the locator's URIs is no rsync or https URI" "RFC 8630 2.2"
+tal_rule tal.NoUri = rule "the locator has no URI" "RFC 8630 2.2"
+tal_rule tal.NoKey = rule "no empty line stands behind the locator's URIs" "RFC 8630 2.2"
+tal_rule tal.BadKey = rule "what stands behind the locator's empty line is no key in base64" "RFC 8630 2.2"
+tal_rule tal.Memory = no_memory
+
+-- ---- names that don't chain
+
+-- of the member at this place; the trust anchor stands at 0
+abbrev pub name_rule : ℕ → RuleFields
+name_rule place =
+    if place == 0 then rule "the trust anchor's issuer isn't its subject" "RFC 8630 2.3"
+    else rule "its issuer isn't the subject of the certificate above" "RFC 6487 7.2"
 
 -- ---- faults of reading
 
@@ -208,6 +234,18 @@ IsReason (path.Inspect e) octets r = r ≡ reason (codes "profile") (inspection_
 IsReason (path.Verify e) octets r = r ≡ reason (codes "verification") (verification_error_name e) (verification_rule e)
 IsReason (path.Revocation e) octets r = r ≡ reason (codes "revocation") (revocation_error_name e) (revocation_rule e)
 IsReason path.Memory octets r = r ≡ reason (codes "memory") (path_fault_name path.Memory) no_memory
+
+-- of a trust anchor whose key no locator has that is given
+abbrev pub locator_reason : ReasonFields
+locator_reason = reason (codes "locator") (codes "OtherKey") other_key
+
+-- of a file that is given as a locator, and is none
+abbrev pub tal_reason : TalError → ReasonFields
+tal_reason e = reason (codes "locator") (tal_error_name e) (tal_rule e)
+
+-- of the member at this place, where the path is valid but its names don't chain
+abbrev pub name_reason : ℕ → ReasonFields
+name_reason place = reason (codes "names") (codes "OtherName") (name_rule place)
 
 -- of the last member's key, where the path is valid but that key can't be used
 abbrev pub key_reason : PublicKeyFormat → ReasonFields

@@ -1,82 +1,85 @@
-//! What a file holds.
-ghost use Rattle.base64.specs.GeneralPurpose.{IsBytes};
-ghost use Rattle.std.specs.Prelude.{◌≡◌, ◌≢◌, ◌↔◌, ◌++◌, false, ℕ, List, IsSomeAnd, OnOk, IfOk, IfSome, MatchOption};
-ghost use Rattle.rpki.specs.Encoding.{Means};
-ghost use Rattle.rpki.specs.Place.{remaining};
-ghost use Rattle.rpki.specs.Tags.{SEQUENCE};
-ghost use Rattle.rpki.specs.Values.{IsEnc};
+//! Files: in DER or in PEM, with what their octets begin with.
+ghost use Rattle.std.specs.Prelude.{◌≡◌, ◌≢◌, ◌↔◌, ℕ, List, IsTrue, IfOk, MatchOption};
 ghost use Rattle.rpki.specs.Certificates.{IsCertificate};
-ghost use Rattle.rpki.specs.DecodeError.TheVariants as decoding;
 ghost use Rattle.rpki.specs.Lists.{IsCertificateList};
-ghost use Rattle.rpki_files.specs.Contents.{BeginsWithCertificate, BeginsWithList, CanBeShown, FindsBy, HasFirstInside, LooksLikeList};
-ghost use Rattle.rpki_files.specs.PemFiles.{HasBase64, IsObjectOf, IsPemOf, base64_of, is_begin_line, is_end_line, without_white_space};
+ghost use Rattle.rpki_files.specs.Contents.{BeginsWithList, CanBeShown, FindsBefore, IsContent};
+ghost use Rattle.rpki_files.specs.PemFiles.{HasBase64, IsObjectOf, IsPemOf, is_begin_line, is_end_line};
 
-use base64::DecodeAllocError;
-use base64::engine::general_purpose::STANDARD;
+use crate::contents::{Content, read_content};
 use bytes::Bytes;
-use rpki::der::{Cursor, DecodeError};
+use rpki::base64::{octets_of, push_digits};
 use rpki::repository::{Cert, Crl};
 use std::alloc::{AllocError, Global};
 use std::marker::Model;
 
-/// A file: its name, and the octets of its object, in DER.
+/// A file: its name, the octets of its object, in DER, and what was read of them.
 #[derive(Drop)]
 pub struct Object<'a> {
-    pub name: &'a str,
-    pub octets: Bytes,
+    name: &'a str,
+    octets: Bytes,
+    content: Content,
 }
 
 impl<'a> Model for Object<'a> {
     ghost use Rattle.rpki_files.specs.Files.{FileFields};
+    ghost use Rattle.rpki_files.specs.Contents.{IsContent};
 
     ghost Value = { FileFields };
 
     ghost view = { λ o. record { name = o.name.now; octets = o.octets } };
+
+    ghost invariant = { λ o. IsContent o.octets o.content };
 }
 
-/// What the octets begin as.
-#[derive(Clone, Copy)]
-pub enum Form {
-    Certificate,
-    List,
-    Other,
-}
+impl<'a> Object<'a> {
+    /// Returns the name.
+    pub fn name(&self) -> &str
+        ensures { result.now ≡ self.now.name }
+    {
+        self.name
+    }
 
-// The inside of the SEQUENCE that stands next, if one does.
-fn inside<'a>(at: Cursor<'a>) -> Option<Cursor<'a>>
-    ensures found { (content : List ℕ) → Means (IsEnc SEQUENCE) content (remaining at.entry)
-        → IsSomeAnd result (λ inside. remaining inside ≡ content) }
-    ensures means { let encodes = IsEnc SEQUENCE in
-        IfSome result (λ inside. Means encodes (remaining inside) (remaining at.entry)) }
-{
-    let mut ahead = at.fork();
-    ahead.take_sequence().ok()
-}
+    /// Returns the octets of the object.
+    pub fn octets(&self) -> &Bytes
+        ensures { result.now ≡ self.now.octets }
+    {
+        &self.octets
+    }
 
-// The first octet inside a SEQUENCE at the front of a SEQUENCE at the front.
-fn first_inside(octets: &Bytes) -> Option<u8>
-    ensures found { (first : ℕ) → HasFirstInside first octets.now → result ≡ Some first }
-    ensures means { IfSome result (λ first. HasFirstInside first octets.now) }
-{
-    let data = inside(inside(Cursor::new(octets))?)?;
-    data.rest().first().copied()
-}
+    /// Returns what the octets begin with.
+    pub fn content(&self) -> &Content
+        ensures { IsContent self.now.octets result.now }
+    {
+        &self.content
+    }
 
-/// Returns what the octets look like: a list where they begin with one, and none where they begin
-/// with a certificate.
-pub fn looks_like(octets: &Bytes) -> Form
-    ensures list { BeginsWithList octets.now → result ≡ Form.List }
-    ensures certificate { BeginsWithCertificate octets.now → result ≢ Form.List }
-    ensures form { result ≡ Form.List ↔ LooksLikeList octets.now }
-{
-    // A certificate's data begin with its version under [0], a list's with an INTEGER.
-    let first = first_inside(octets);
-    if first == Some(0xa0) {
-        Form::Certificate
-    } else if first == Some(0x02) {
-        Form::List
-    } else {
-        Form::Other
+    /// Returns the certificate that the octets begin with, if they begin with one, and how many
+    /// octets stand behind it.
+    pub fn certificate(&self) -> Option<(&Cert, usize)>
+        ensures { FindsBefore (λ c. c.now) IsCertificate self.now.octets result }
+    {
+        match self.content() {
+            Content::Certificate(cert, left) => Some((cert, *left)),
+            Content::List(..) | Content::Neither(_) => None,
+        }
+    }
+
+    /// Returns the revocation list that the octets begin with, if they begin with one, and how many
+    /// octets stand behind it.
+    pub fn list(&self) -> Option<(&Crl, usize)>
+        ensures { FindsBefore (λ l. l.now.list) IsCertificateList self.now.octets result }
+    {
+        match self.content() {
+            Content::List(list, left) => Some((list, *left)),
+            Content::Certificate(..) | Content::Neither(_) => None,
+        }
+    }
+
+    /// Returns whether the octets begin with a revocation list.
+    pub fn is_list(&self) -> bool
+        ensures { IsTrue result ↔ BeginsWithList self.now.octets }
+    {
+        self.list().is_some()
     }
 }
 
@@ -94,18 +97,6 @@ fn is_end_line(line: &str) -> bool
     line.starts_with("-----END ")
 }
 
-// Appends a line without its white space.
-fn push_line(digits: &mut Vec<u8>, line: &str) -> Result<(), AllocError>
-    ensures { OnOk result (digits.new.items ≡ digits.old.items ++ without_white_space line.now) }
-{
-    for octet in line.as_bytes() {
-        if !octet.is_ascii_whitespace() {
-            digits.push(*octet)?;
-        }
-    }
-    Ok(())
-}
-
 // The base64 of the first object of PEM in a text, if it has one.
 fn base64_in(alloc: Global, text: &str) -> Result<Option<Vec<u8>>, AllocError>
     ensures { IfOk result (λ found. MatchOption found
@@ -118,22 +109,9 @@ fn base64_in(alloc: Global, text: &str) -> Result<Option<Vec<u8>>, AllocError>
         if is_end_line(line) {
             return Ok(Some(digits));
         }
-        push_line(&mut digits, line)?;
+        push_digits(&mut digits, line.as_bytes())?;
     }
     Ok(None)
-}
-
-// The octets that these digits of base64 stand for, if they stand for any.
-fn from_base64(alloc: Global, digits: &[u8]) -> Result<Option<Vec<u8>>, AllocError>
-    ensures { IfOk result (λ found. MatchOption found
-        ((octets : List ℕ) → IsBytes octets → digits.now ≢ base64_of octets)
-        (λ octets. IsBytes octets.items × (digits.now ≡ base64_of octets.items))) }
-{
-    match STANDARD.decode(alloc, digits) {
-        Ok(octets) => Ok(Some(octets)),
-        Err(DecodeAllocError::DecodeError(_)) => Ok(None),
-        Err(DecodeAllocError::OutOfMemory) => Err(AllocError),
-    }
 }
 
 // The octets of a file's first object in PEM, if it has one.
@@ -146,12 +124,20 @@ fn from_pem(alloc: Global, file: &[u8]) -> Result<Option<Vec<u8>>, AllocError>
         return Ok(None);
     };
     match base64_in(alloc, text)? {
-        Some(digits) => from_base64(alloc, &digits),
+        Some(digits) => octets_of(alloc, &digits),
         None => Ok(None),
     }
 }
 
-/// Reads the object of a file, in DER or in PEM.
+// The octets of a file's object, in DER or in PEM.
+fn object_octets(alloc: Global, file: Vec<u8>) -> Result<Bytes, AllocError>
+    ensures { IfOk result (IsObjectOf file.items) }
+{
+    let octets = from_pem(alloc, &file)?.unwrap_or(file);
+    Ok(Bytes::from_vec(octets)?)
+}
+
+/// Reads the object of a file, in DER or in PEM, and what it begins with.
 pub fn read_object<'a>(
     alloc: Global,
     name: &'a str,
@@ -162,45 +148,11 @@ pub fn read_object<'a>(
     ensures der { CanBeShown file.items
         → IfOk result (λ object. object.octets ≡ file.items) }
 {
-    let octets = from_pem(alloc, &file)?.unwrap_or(file);
+    let octets = object_octets(alloc, file)?;
+    let content = read_content(alloc, &octets)?;
     Ok(Object {
         name,
-        octets: Bytes::from_vec(octets)?,
+        octets,
+        content,
     })
-}
-
-/// Lets a fault of reading go, unless memory ran out.
-pub fn unless_memory(fault: DecodeError) -> Result<(), AllocError>
-    ensures { OnOk result (fault ≢ decoding.Memory) }
-{
-    let ran_out = fault.is_memory();
-    drop(fault);
-    if ran_out { Err(AllocError) } else { Ok(()) }
-}
-
-/// Reads the certificate that an object begins with, if it begins with one.
-pub fn as_certificate(alloc: Global, object: &Object<'_>) -> Result<Option<Cert>, AllocError>
-    ensures { IfOk result (FindsBy (λ c. c) IsCertificate object.now.octets) }
-{
-    match Cert::decode_shared(alloc, object.octets.clone()?) {
-        Ok(cert) => Ok(Some(cert)),
-        Err(fault) => {
-            unless_memory(fault)?;
-            Ok(None)
-        }
-    }
-}
-
-/// Reads the revocation list that an object begins with, if it begins with one.
-pub fn as_list(alloc: Global, object: &Object<'_>) -> Result<Option<Crl>, AllocError>
-    ensures found { IfOk result (FindsBy (λ l. l.list) IsCertificateList object.now.octets) }
-    ensures uncached { IfOk result (λ o. IfSome o (λ l. l.is_cached ≡ false)) }
-{
-    match Crl::decode_shared(alloc, object.octets.clone()?) {
-        Ok(list) => Ok(Some(list)),
-        Err(fault) => {
-            unless_memory(fault)?;
-            Ok(None)
-        }
-    }
 }

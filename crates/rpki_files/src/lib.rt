@@ -2,12 +2,14 @@
 //! its reading stops, and what a fault means, with the standard's section.
 #![tactic(auto)]
 
+mod contents;
 mod files;
 mod kinds;
 mod places;
 mod policies;
 pub mod rules;
 
-pub use files::{Form, Object, as_certificate, as_list, looks_like, read_object, unless_memory};
+pub use contents::{Content, Form, looks_like};
+pub use files::{Object, read_object};
 pub use places::{Place, place_of};
 pub use policies::extensions_in;

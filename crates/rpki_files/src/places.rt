@@ -2,7 +2,6 @@
 ghost use Rattle.std.specs.Prelude.{◌≡◌, ◌≤◌, length, IfErr, IfOk};
 ghost use Rattle.rpki_files.specs.StopPlaces.{IsStopAt, IsStopWithin};
 
-use crate::files::unless_memory;
 use crate::kinds::Kind;
 use bytes::Bytes;
 use rpki::crypto::{PublicKey, RpkiSignatureAlgorithm};
@@ -37,10 +36,14 @@ fn past(read: Result<(), DecodeError>, field: &'static str, octet: usize) -> Res
 {
     match read {
         Ok(()) => Ok(()),
-        Err(fault) => match unless_memory(fault) {
-            Ok(()) => Err(stopped_at(field, octet)),
-            Err(_) => Err(Stop::Memory),
-        },
+        Err(fault) => {
+            let ran_out = fault.is_memory();
+            drop(fault);
+            if ran_out {
+                return Err(Stop::Memory);
+            }
+            Err(stopped_at(field, octet))
+        }
     }
 }
 

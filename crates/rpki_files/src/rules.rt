@@ -1,6 +1,6 @@
 //! What a fault means for a person, and the section of the standard that it breaks.
 ghost use Rattle.std.specs.Prelude.{◌≡◌};
-ghost use Rattle.rpki_files.specs.FaultRules.{IsFileRule, IsReadingRule, IsReason, field_section, inspection_rule, key_rule, list_rule, no_memory, reading_rule, reason, resources_rule, revocation_rule, rule_of, verification_rule};
+ghost use Rattle.rpki_files.specs.FaultRules.{IsFileRule, IsReadingRule, IsReason, field_section, inspection_rule, key_rule, list_rule, name_rule, no_memory, other_key, reading_rule, reason, resources_rule, revocation_rule, rule_of, tal_rule, verification_rule};
 
 use crate::policies::has_policies;
 use bytes::Bytes;
@@ -9,6 +9,7 @@ use rpki::der::{DecodeError, Field};
 use rpki::repository::crl::RevocationError;
 use rpki::repository::error::{InspectionError, VerificationError};
 use rpki::repository::path::PathFault;
+use rpki::repository::tal::TalError;
 
 /// A sentence, and the section that asks it.
 #[derive(Clone, Copy)]
@@ -155,6 +156,52 @@ pub fn of_verification(fault: &VerificationError) -> Rule
     ensures { rule_of result ≡ verification_rule fault.now }
 {
     meaning(verification_says(fault), verification_section(fault))
+}
+
+/// Tells what it means that no locator that is given has the trust anchor's key.
+pub fn of_other_key() -> Rule
+    ensures { rule_of result ≡ other_key }
+{
+    meaning("its key is that of no locator that was given", "RFC 8630 3")
+}
+
+/// Tells what is wrong of a file that is given as a locator.
+pub fn of_tal(fault: &TalError) -> Rule
+    ensures { rule_of result ≡ tal_rule fault.now }
+{
+    match fault {
+        TalError::NoText => meaning("the locator isn't UTF-8", "RFC 8630 2.2"),
+        TalError::BadUri => meaning(
+            "a line of the locator's URIs is no rsync or https URI",
+            "RFC 8630 2.2",
+        ),
+        TalError::NoUri => meaning("the locator has no URI", "RFC 8630 2.2"),
+        TalError::NoKey => meaning(
+            "no empty line stands behind the locator's URIs",
+            "RFC 8630 2.2",
+        ),
+        TalError::BadKey => meaning(
+            "what stands behind the locator's empty line is no key in base64",
+            "RFC 8630 2.2",
+        ),
+        TalError::Memory => out_of_memory(),
+    }
+}
+
+/// Tells what it means that the names of the member at this place don't chain.
+pub fn of_name(place: usize) -> Rule
+    ensures { rule_of result ≡ name_rule place }
+{
+    if place == 0 {
+        return meaning(
+            "the trust anchor's issuer isn't its subject",
+            "RFC 8630 2.3",
+        );
+    }
+    meaning(
+        "its issuer isn't the subject of the certificate above",
+        "RFC 6487 7.2",
+    )
 }
 
 /// Tells what a fault of revocation means.

@@ -15,7 +15,7 @@ use bytes::Bytes;
 use rpki::repository::Cert;
 use rpki::repository::cert::{KeyUsage, TbsCert};
 use rpki::repository::x509::Serial;
-use rpki_files::unless_memory;
+use rpki_files::Object;
 use std::alloc::{AllocError, Global};
 
 // Every note, in the order in which they are told.
@@ -134,22 +134,15 @@ fn of_certificate(alloc: Global, octets: &Bytes, cert: &Cert) -> Result<Vec<Note
     Ok(notes)
 }
 
-/// Returns what is taken of the certificate that the octets begin with although a standard forbids
-/// it: exactly the notes whose rules it breaks, in the order of [`Note`]. There are none where the
-/// octets begin with no certificate. Takes time linear in the octets. Errs where memory runs out,
-/// which it does too where resources take 2^32 octets or more to write.
-pub fn notes_of(alloc: Global, octets: &Bytes) -> Result<Vec<Note>, AllocError>
-    ensures { IfOk result (λ notes. AreNotes octets.now notes.items) }
+/// Returns what is taken of the certificate that a file begins with although a standard forbids it:
+/// exactly the notes whose rules it breaks, in the order of [`Note`]. There are none where the file
+/// begins with no certificate. Takes time linear in the octets. Errs where memory runs out, which it
+/// does too where resources take 2^32 octets or more to write.
+pub fn notes_of(alloc: Global, object: &Object<'_>) -> Result<Vec<Note>, AllocError>
+    ensures { IfOk result (λ notes. AreNotes object.now.octets notes.items) }
 {
-    match Cert::decode_shared(alloc, octets.clone()?) {
-        Ok(cert) => {
-            let notes = of_certificate(alloc, octets, &cert);
-            drop(cert);
-            notes
-        }
-        Err(fault) => {
-            unless_memory(fault)?;
-            Ok(Vec::new(alloc))
-        }
+    match object.certificate() {
+        Some((cert, _)) => of_certificate(alloc, object.octets(), cert),
+        None => Ok(Vec::new(alloc)),
     }
 }

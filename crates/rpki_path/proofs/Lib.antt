@@ -1,13 +1,3 @@
-pub mod Octets
-pub mod HexDigits
-pub mod Splits
-pub mod RevokedLines
-pub mod InputLines
-pub mod MomentLines
-pub mod MemberLines
-pub mod WholeLists
-pub mod PrintedRanges
-pub mod Reports
 pub mod FoundSteps
 pub mod LongerPaths
 pub mod ValidPaths
@@ -18,3 +8,5 @@ pub mod MoreNumbers
 pub mod Headlines
 pub mod GivenPaths
 pub mod Verdicts
+pub mod ChainedNames
+pub mod UnchainedNames

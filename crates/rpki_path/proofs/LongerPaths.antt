@@ -44,6 +44,44 @@ module _ (p : Path) (m : Member) (more : List Member) where
 pub last_extended : (p : Path) (m : Member) → last (extended p m []) ≡ last p + 1
 last_extended p m = length-append p.below (m ∷ [])
 
+-- ---- members and those above them
+
+module _ (R : CertFields → CertFields → Type 0) (p : Path) (m : Member) where
+  -- each member of a path stands so below the one above it
+  abbrev pub AllBelow : Path → Type 0
+  AllBelow q = (i : ℕ) → i < last q → R (certificate_at q i) (certificate_at q (i + 1))
+
+  at_place : AllBelow p → R (certificate_at p (last p)) m.cert → (i : ℕ) → (i ≡ last p) ⊎ (i < last p) → R (certificate_at (extended p m []) i) (certificate_at (extended p m []) (i + 1))
+  at_place all h i (inl e) =
+      let same : last p ≤ last p = omega arith in
+      subst (λ (j : ℕ). R (certificate_at (extended p m []) j) (certificate_at (extended p m []) (j + 1))) (sym e)
+      (subst (λ (c : CertFields). R (certificate_at (extended p m []) (last p)) c) (sym (there p m []))
+      (subst (λ (c : CertFields). R c m.cert) (sym (above p m [] (last p) same)) h))
+  at_place all h i (inr low) =
+      let here : i ≤ last p = omega arith in
+      let next : i + 1 ≤ last p = omega arith in
+      subst (λ (c : CertFields). R (certificate_at (extended p m []) i) c) (sym (above p m [] (i + 1) next))
+      (subst (λ (c : CertFields). R c (certificate_at p (i + 1))) (sym (above p m [] i here)) (all i low))
+
+  -- each member of the longer path does, where those of the path do, and the one below the last
+  pub all_below_more : AllBelow p → R (certificate_at p (last p)) m.cert → AllBelow (extended p m [])
+  all_below_more all h = λ i low. let here : i ≤ last p = omega (arith, last_extended p m) in at_place all h i (eq-or-lt_of_le here)
+
+  -- where each of the longer path does, those of the path do, and the one below the last
+  pub all_below_fewer : AllBelow (extended p m []) → AllBelow p × R (certificate_at p (last p)) m.cert
+  all_below_fewer all = (
+    (λ i h.
+        let here : i ≤ last p = omega arith in
+        let next : i + 1 ≤ last p = omega arith in
+        let low : i < last (extended p m []) = omega (arith, last_extended p m) in
+        subst (λ (c : CertFields). R (certificate_at p i) c) (above p m [] (i + 1) next)
+        (subst (λ (c : CertFields). R c (certificate_at (extended p m []) (i + 1))) (above p m [] i here) (all i low))),
+    (let same : last p ≤ last p = omega arith in
+        let low : last p < last (extended p m []) = omega (arith, last_extended p m) in
+        subst (λ (c : CertFields). R (certificate_at p (last p)) c) (there p m [])
+        (subst (λ (c : CertFields). R c (certificate_at (extended p m []) (last p + 1))) (above p m [] (last p) same) (all (last p) low))),
+  )
+
 -- ---- numbers
 
 module _ (p : Path) (m : Member) (more : List Member) (k : NumberKind) (n : ℕ) where

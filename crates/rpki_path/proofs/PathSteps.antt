@@ -15,6 +15,24 @@ use Rattle.rpki_path.proofs.Rejections.{fault_there}
 parts : {X : Type 0} (xs : List X) (i : ℕ) (d : X) → i < length xs → xs ≡ take i xs ++ get_or xs i d ∷ drop (i + 1) xs
 parts xs i d h = sym (take-append-drop i xs) ∙ ap (λ (l : List _). take i xs ++ l) (rw add-one (drop-cons xs i d h))
 
+-- the strings of CAs, up to the place of one of them
+module _ (cas : List (List ℕ)) (i : ℕ) (h : i < length cas) (octets : List ℕ) (there : octets ≡ get_or cas i octets) where
+  -- those up to it are those above it, and it
+  pub one_taken : map (candidate Authority) (take (i + 1) cas) ≡ map (candidate Authority) (take i cas) ++ candidate Authority octets ∷ []
+  one_taken =
+      let longer : take (i + 1) cas ≡ take i cas ++ octets ∷ [] = take_more cas i octets h ∙ ap (λ (y : List ℕ). take i cas ++ y ∷ []) (sym there) in
+      ap (λ (l : List (List ℕ)). map (candidate Authority) l) longer ∙ map-append (candidate Authority) (take i cas) (octets ∷ [])
+
+  -- all are those above it, it, and those below it
+  pub cut_there : map (candidate Authority) cas ≡ map (candidate Authority) (take i cas) ++ candidate Authority octets ∷ map (candidate Authority) (drop (i + 1) cas)
+  cut_there =
+      let split : cas ≡ take i cas ++ octets ∷ drop (i + 1) cas = parts cas i octets h ∙ ap (λ (y : List ℕ). take i cas ++ y ∷ drop (i + 1) cas) (sym there) in
+      ap (λ (l : List (List ℕ)). map (candidate Authority) l) split ∙ map-append (candidate Authority) (take i cas) (octets ∷ drop (i + 1) cas)
+
+  -- its place in a path
+  pub place_there : (n : ℕ) → n ≡ i + 1 → n ≡ length (map (candidate Authority) (take i cas)) + 1
+  place_there n at = omega (arith, at, length-map (take i cas) (candidate Authority), length-take i cas)
+
 module _ (x : Context) (asked : RevocationChecks) (anchor tal : List ℕ) where
   -- ---- a CA
 
@@ -22,21 +40,14 @@ module _ (x : Context) (asked : RevocationChecks) (anchor tal : List ℕ) where
     -- an accepted path goes on with a CA that its last member issued
     pub next_authority : (r : ResourceFields) → IsIssuedBy x asked issuer Authority octets r → IsAccepted x asked anchor (map (candidate Authority) (take (i + 1) cas)) tal r
     next_authority r is =
-        let more = one_more x asked anchor (map (candidate Authority) (take i cas)) tal issuer Authority octets r a is in
-        let longer : take (i + 1) cas ≡ take i cas ++ octets ∷ [] = take_more cas i octets h ∙ ap (λ (y : List ℕ). take i cas ++ y ∷ []) (sym there) in
-        let same : map (candidate Authority) (take (i + 1) cas) ≡ map (candidate Authority) (take i cas) ++ candidate Authority octets ∷ [] = ap (λ (l : List (List ℕ)). map (candidate Authority) l) longer ∙ map-append (candidate Authority) (take i cas) (octets ∷ []) in
-        subst (λ (l : List Candidate). IsAccepted x asked anchor l tal r) (sym same) more
+        subst (λ (l : List Candidate). IsAccepted x asked anchor l tal r) (sym (one_taken cas i h octets there))
+        (one_more x asked anchor (map (candidate Authority) (take i cas)) tal issuer Authority octets r a is)
 
     -- a fault of the next CA is one of the path
     pub wrong_authority : (e : PathError) → e.index ≡ i + 1 → Finds x (demand_under x asked issuer Authority) octets e.fault → IsFault x asked anchor (map (candidate Authority) cas) e
     wrong_authority e at found =
-        let before = map (candidate Authority) (take i cas) in
-        let after = map (candidate Authority) (drop (i + 1) cas) in
-        let index : e.index ≡ length before + 1 = omega (arith, at, length-map (take i cas) (candidate Authority), length-take i cas) in
-        let fault = fault_there x asked anchor before Authority octets after tal issuer a e index found in
-        let split : cas ≡ take i cas ++ octets ∷ drop (i + 1) cas = parts cas i octets h ∙ ap (λ (y : List ℕ). take i cas ++ y ∷ drop (i + 1) cas) (sym there) in
-        let same : map (candidate Authority) cas ≡ before ++ candidate Authority octets ∷ after = ap (λ (l : List (List ℕ)). map (candidate Authority) l) split ∙ map-append (candidate Authority) (take i cas) (octets ∷ drop (i + 1) cas) in
-        subst (λ (l : List Candidate). IsFault x asked anchor l e) (sym same) fault
+        subst (λ (l : List Candidate). IsFault x asked anchor l e) (sym (cut_there cas i h octets there))
+        (fault_there x asked anchor (map (candidate Authority) (take i cas)) Authority octets (map (candidate Authority) (drop (i + 1) cas)) tal issuer a e (place_there cas i h octets there e.index at) found)
 
   -- all of them
   pub whole : (cas : List (List ℕ)) (i : ℕ) → length cas ≤ i → (r : ResourceFields) → IsAccepted x asked anchor (map (candidate Authority) (take i cas)) tal r → IsAccepted x asked anchor (map (candidate Authority) cas) tal r

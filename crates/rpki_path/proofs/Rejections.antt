@@ -45,6 +45,28 @@ module _ (law : IsUnambiguous IsCertificate) where
       let first : p ≡ record { anchor = q.anchor; below = p.below } = ap (λ (c : CertFields). let x : Path = record { anchor = c; below = p.below } in x) anchors in
       first ∙ ap (λ (l : List Member). let x : Path = record { anchor = q.anchor; below = l } in x) belows
 
+-- a path goes on from another one, with this member next
+pub record GoesOn (p q : Path) (there : Candidate) : Type 0 where
+  pub item : Member
+  pub more : List Member
+  pub item_is : IsMember item there
+  pub path_is : p ≡ extended q item more
+
+-- the path that strings begin with goes on from the one that those before a string begin with
+pub goes_on : IsUnambiguous IsCertificate → (anchor : List ℕ) (before : List Candidate) (there : Candidate) (after : List Candidate) (q : Path) → IsPathOf anchor before q → (p : Path) → IsPathOf anchor (before ++ there ∷ after) p → GoesOn p q there
+goes_on law anchor before there after q q_of p of =
+    let split : Parted IsMember p.below before there = parted IsMember p.below before there after of.members in
+    let anchors : p.anchor ≡ q.anchor = one_certificate law p.anchor q.anchor anchor of.anchor_begins q_of.anchor_begins in
+    let fronts : split.front ≡ q.below = zip_one IsMember (one_member law) split.front q.below before split.fronts q_of.members in
+    let belows : p.below ≡ q.below ++ split.item ∷ split.more = split.parts ∙ ap (λ (l : List Member). l ++ split.item ∷ split.more) fronts in
+    let first : p ≡ record { anchor = q.anchor; below = p.below } = ap (λ (c : CertFields). let y : Path = record { anchor = c; below = p.below } in y) anchors in
+    record {
+      item = split.item;
+      more = split.more;
+      item_is = split.items;
+      path_is = first ∙ ap (λ (l : List Member). let y : Path = record { anchor = q.anchor; below = l } in y) belows;
+    }
+
 -- ---- what a step finds
 
 -- by equivalent checks the same is found
@@ -159,33 +181,22 @@ module _ (x : Context) (asked : RevocationChecks) where
     no_anchor anchor below e h p of is_valid = found_against x law (trust_anchor_demand x) anchor e.fault h.fault_is p.anchor of.anchor_begins is_valid.anchor_meets is_valid.anchor_verified (unasked_checks revocation_checks)
 
     module _ (anchor : List ℕ) (below : List Candidate) (e : PathError) (h : IsFaultBelow x asked anchor below e) (p : Path) (of : IsPathOf anchor below p) where
-      split : Parted IsMember p.below h.before h.there
-      split = parted IsMember p.below h.before h.there h.after (subst (λ (l : List Candidate). AllZip IsMember p.below l) h.parts of.members)
-
-      -- the path goes on from the one before the error
-      goes_on : p ≡ extended h.path split.item split.more
-      goes_on =
-          let anchors : p.anchor ≡ h.path.anchor = one_certificate law p.anchor h.path.anchor anchor of.anchor_begins h.path_of.anchor_begins in
-          let fronts : split.front ≡ h.path.below = zip_one IsMember (one_member law) split.front h.path.below h.before split.fronts h.path_of.members in
-          let belows : p.below ≡ h.path.below ++ split.item ∷ split.more = split.parts ∙ ap (λ (l : List Member). l ++ split.item ∷ split.more) fronts in
-          let first : p ≡ record { anchor = h.path.anchor; below = p.below } = ap (λ (c : CertFields). let y : Path = record { anchor = c; below = p.below } in y) anchors in
-          first ∙ ap (λ (l : List Member). let y : Path = record { anchor = h.path.anchor; below = l } in y) belows
-
       no_member : IsValidPath x asked p → UnlessMemory e.fault ⊥
       no_member is_valid =
+          let on = goes_on law anchor h.before h.there h.after h.path h.path_of p (subst (λ (l : List Candidate). IsPathOf anchor l p) h.parts of) in
           let q = h.path in
-          let m = split.item in
-          let all = extended q m split.more in
-          let longer : IsValidPath x asked all = subst (λ (y : Path). IsValidPath x asked y) goes_on is_valid in
-          let low : last q < last all = omega (arith, length-append q.below (m ∷ split.more)) in
+          let m = on.item in
+          let all = extended q m on.more in
+          let longer : IsValidPath x asked all = subst (λ (y : Path). IsValidPath x asked y) on.path_is is_valid in
+          let low : last q < last all = omega (arith, length-append q.below (m ∷ on.more)) in
           let same : last q ≤ last q = omega arith in
-          let meets : MeetsProfile m.kind x.strict m.cert = all_at (λ (y : Member). MeetsProfile y.kind x.strict y.cert) q.below m split.more longer.members_meet in
-          let verified : IsVerified (CheckBelow x all (last q) m.cert) issued_checks = subst (λ (c : CertFields). IsVerified (CheckBelow x all (last q) c) issued_checks) (there q m split.more) (longer.members_verified (last q) low) in
-          let checks : IsVerified (CheckBelow x q (last q) m.cert) issued_checks = all_map (CheckBelow x all (last q) m.cert) (CheckBelow x q (last q) m.cert) issued_checks (λ l. (check_above x q m split.more (last q) same m.cert l).1) verified in
-          let unrevoked : IsUnrevokedBy asked (certificate_at all (last q)).fields m.cert = subst (λ (c : CertFields). IsUnrevokedBy asked (certificate_at all (last q)).fields c) (there q m split.more) (longer.members_unrevoked (last q) low) in
-          let free : IsUnrevokedBy asked (certificate_at q (last q)).fields m.cert = subst (λ (c : CertFields). IsUnrevokedBy asked c.fields m.cert) (above q m split.more (last q) same) unrevoked in
-          let kind_is : m.kind ≡ h.there.kind = split.items.kind_is in
-          found_against x law (demand_below x asked q (last q) h.there.kind) h.there.octets e.fault h.fault_is m.cert split.items.begins (subst (λ (k : Kind). MeetsProfile k x.strict m.cert) kind_is meets) checks free
+          let meets : MeetsProfile m.kind x.strict m.cert = all_at (λ (y : Member). MeetsProfile y.kind x.strict y.cert) q.below m on.more longer.members_meet in
+          let verified : IsVerified (CheckBelow x all (last q) m.cert) issued_checks = subst (λ (c : CertFields). IsVerified (CheckBelow x all (last q) c) issued_checks) (there q m on.more) (longer.members_verified (last q) low) in
+          let checks : IsVerified (CheckBelow x q (last q) m.cert) issued_checks = all_map (CheckBelow x all (last q) m.cert) (CheckBelow x q (last q) m.cert) issued_checks (λ l. (check_above x q m on.more (last q) same m.cert l).1) verified in
+          let unrevoked : IsUnrevokedBy asked (certificate_at all (last q)).fields m.cert = subst (λ (c : CertFields). IsUnrevokedBy asked (certificate_at all (last q)).fields c) (there q m on.more) (longer.members_unrevoked (last q) low) in
+          let free : IsUnrevokedBy asked (certificate_at q (last q)).fields m.cert = subst (λ (c : CertFields). IsUnrevokedBy asked c.fields m.cert) (above q m on.more (last q) same) unrevoked in
+          let kind_is : m.kind ≡ h.there.kind = on.item_is.kind_is in
+          found_against x law (demand_below x asked q (last q) h.there.kind) h.there.octets e.fault h.fault_is m.cert on.item_is.begins (subst (λ (k : Kind). MeetsProfile k x.strict m.cert) kind_is meets) checks free
 
     -- a fault says that the strings are no valid path, unless it ran out of memory
     pub no_valid_path : (anchor : List ℕ) (below : List Candidate) (e : PathError) → IsFault x asked anchor below e → UnlessMemory e.fault (IsNoValidPath x asked anchor below)

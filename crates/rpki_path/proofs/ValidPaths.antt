@@ -16,7 +16,7 @@ use Rattle.rpki_revocation.specs.Asking.{RevocationChecks, IsUnrevokedBy}
 use Rattle.rpki_cert.proofs.Checks.{all_map}
 use Rattle.rpki_path.specs.Paths.{Member, Path, member, longer, last, certificate_at, NumberKind, v4_addresses, v6_addresses, system_numbers, kind_resources, Holds, HeldAt, CheckBelow, IsValidPath, Candidate, candidate, IsMember, HasHeld, IsAccepted}
 use Rattle.rpki_path.specs.Paths.Steps.{IsTrustAnchor, IsIssuedBy}
-use Rattle.rpki_path.proofs.LongerPaths.{extended, above, there, last_extended, holds_above, holds_there, gets_passed, zip_more, all_more}
+use Rattle.rpki_path.proofs.LongerPaths.{extended, above, there, last_extended, all_below_more, holds_above, holds_there, gets_passed, zip_more, all_more}
 
 -- ---- revocation
 
@@ -146,30 +146,13 @@ module _ (x : Context) where
             subst (λ (c : CertFields). IsVerified (CheckBelow x more i c) issued_checks) (sym (above p m [] (i + 1) next))
             (all_map (CheckBelow x p i c) (CheckBelow x more i c) issued_checks (λ l. (check_above p m [] i low c l).0) (is_valid.members_verified i h))
 
-        -- a certificate that isn't revoked below another
-        abbrev Free : CertFields → CertFields → Type 0
-        Free above c = IsUnrevokedBy asked above.fields c
-
-        unrevoked : (i : ℕ) → (i ≡ last p) ⊎ (i < last p) → Free (certificate_at more i) (certificate_at more (i + 1))
-        unrevoked i (inl e) =
-            let h : last p ≤ last p = omega arith in
-            let issuer_is : certificate_at more (last p) ≡ issuer.cert = above p m [] (last p) h ∙ sym held.cert_is in
-            subst (λ (j : ℕ). Free (certificate_at more j) (certificate_at more (j + 1))) (sym e)
-            (subst (λ (c : CertFields). Free (certificate_at more (last p)) c) (sym (there p m []))
-            (subst (λ (c : CertFields). Free c r.cert) (sym issuer_is) free))
-        unrevoked i (inr h) =
-            let low : i ≤ last p = omega arith in
-            let next : i + 1 ≤ last p = omega arith in
-            subst (λ (c : CertFields). Free (certificate_at more i) c) (sym (above p m [] (i + 1) next))
-            (subst (λ (c : CertFields). Free c (certificate_at p (i + 1))) (sym (above p m [] i low)) (is_valid.members_unrevoked i h))
-
         pub valid_then : IsValidPath x asked more
         valid_then = record {
           anchor_meets = is_valid.anchor_meets;
           members_meet = all_more (λ (m : Member). MeetsProfile m.kind x.strict m.cert) p.below m is_valid.members_meet is.meets;
           anchor_verified = is_valid.anchor_verified;
           members_verified = λ i h. let low : i ≤ last p = omega (arith, last_extended p m) in verified i (eq-or-lt_of_le low);
-          members_unrevoked = λ i h. let low : i ≤ last p = omega (arith, last_extended p m) in unrevoked i (eq-or-lt_of_le low);
+          members_unrevoked = all_below_more (λ above c. IsUnrevokedBy asked above.fields c) p m is_valid.members_unrevoked (subst (λ (c : CertFields). IsUnrevokedBy asked c.fields r.cert) held.cert_is free);
         }
 
     -- the path with one member more

@@ -1,7 +1,5 @@
 -- The names of faults, and the faults that conversions give.
 use Rattle.std.specs.Prelude.{ℕ, List, codes}
-use Rattle.rpki_path.specs.declared.running.RunFault.{RunFault}
-use Rattle.rpki_path.specs.declared.running.RunFault.TheVariants.{Read, Write, Memory, TooLong}
 use Rattle.rpki_der.specs.declared.error.DecodeError.{DecodeError}
 use Rattle.rpki_der.specs.declared.error.DecodeError.TheVariants as decoding
 use Rattle.rpki_cert.specs.declared.validation_error.ValidationError.{ValidationError}
@@ -10,13 +8,6 @@ use Rattle.rpki_cert.specs.declared.verification_error.VerificationError.{Verifi
 use Rattle.rpki_cert.specs.declared.verification_error.VerificationError.TheVariants as verification
 use Rattle.rpki_path.specs.declared.path_fault.PathFault.{PathFault}
 use Rattle.rpki_path.specs.declared.path_fault.PathFault.TheVariants as path
-
--- the name of the fault
-abbrev pub run_fault_name : RunFault → List ℕ
-run_fault_name Read = codes "Read"
-run_fault_name Write = codes "Write"
-run_fault_name Memory = codes "Memory"
-run_fault_name TooLong = codes "TooLong"
 
 -- the name of the fault
 abbrev pub path_fault_name : PathFault → List ℕ

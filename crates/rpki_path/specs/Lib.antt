@@ -1,13 +1,6 @@
-pub mod Watching
-pub mod HexWords
-pub mod TextLines
-pub mod InputLines
-pub mod PrintedSets
-pub mod Program
-pub mod Questions
-pub mod Reports
 pub mod FaultNames
 pub mod Paths
 pub mod Routers
 pub mod GivenPaths
 pub mod Judging
+pub mod NameChains

@@ -1,6 +1,6 @@
 -- Valid paths: what they are, and which numbers their members hold (RFC 6487 7.2, RFC 8360 4.2.4.4;
 -- own: whoever is asked for revocation is the caller's to choose, and the chaining of names the
--- caller's to ask).
+-- caller's to ask, by NameChains).
 use Rattle.std.specs.Prelude.{◌≡◌, ◌≢◌, ◌↔◌, ◌⊎◌, ◌+◌, ◌-◌, ◌^◌, ◌<◌, ◌≤◌, ℕ, List, [], ◌∷◌, ◌++◌, length, map, slice_index_or, Option, Some, None, Result, Ok, Err}
 use Rattle.std.specs.List.{AllByRecursion, AllZip}
 use Rattle.rpki_der.specs.declared.error.DecodeError.TheVariants as decoding

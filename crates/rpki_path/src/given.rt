@@ -1,32 +1,32 @@
-//! The strings of a path that is asked about.
+//! The members of a path that is asked about.
 ghost use Rattle.std.specs.Prelude.{◌≡◌, ◌↔◌, ℕ, length, IsSome, IfSome};
 ghost use Rattle.rpki_path.specs.GivenPaths.{string_count, CanEndIn, IsSplitAs};
 
-use bytes::Bytes;
+use crate::members::Member;
 use rpki_cert::Kind;
 use std::marker::Model;
 
-/// The string of a path's last certificate, where that isn't a CA's.
+/// The last member of a path, where it isn't a CA.
 #[derive(Clone, Copy, Drop)]
-pub enum Last<'p> {
+pub enum Last<'p, 'm> {
     /// An end entity, which signs an object that its certificate names.
-    Ee(&'p Bytes),
+    Ee(&'p Member<'m>),
     /// An end entity that signs any object.
-    DetachedEe(&'p Bytes),
+    DetachedEe(&'p Member<'m>),
     /// A router (RFC 8209).
-    Router(&'p Bytes),
+    Router(&'p Member<'m>),
 }
 
-/// The strings of a path that is asked about: the trust anchor's, those of the CAs below it from
-/// the top down, and the last, where it isn't a CA's.
+/// The members of a path that is asked about: the trust anchor, the CAs below it from the top down,
+/// and the last, where it isn't a CA.
 #[derive(Drop)]
-pub struct GivenPath<'p> {
-    pub anchor: &'p Bytes,
-    pub cas: &'p [Bytes],
-    pub last: Option<Last<'p>>,
+pub struct GivenPath<'p, 'm> {
+    pub anchor: &'p Member<'m>,
+    pub cas: &'p [Member<'m>],
+    pub last: Option<Last<'p, 'm>>,
 }
 
-impl<'p> Model for GivenPath<'p> {
+impl<'p, 'm> Model for GivenPath<'p, 'm> {
     ghost use Rattle.rpki_path.specs.GivenPaths.{PathStrings, path_strings};
 
     ghost Value = { PathStrings };
@@ -34,16 +34,16 @@ impl<'p> Model for GivenPath<'p> {
     ghost view = { λ p. path_strings p.anchor.now p.cas.now p.last };
 }
 
-impl<'p> GivenPath<'p> {
-    /// Splits strings, the trust anchor's first, as the kind of the last one says. Gives `None`
-    /// where they are too few (none at all; or one alone, which is to be an end entity's or a
-    /// router's), and where others follow one that is to be the trust anchor's.
-    pub fn of(strings: &'p [Bytes], last: Kind) -> Option<GivenPath<'p>>
-        ensures some { IsSome result ↔ CanEndIn last (length strings.now) }
-        ensures split { IfSome result (IsSplitAs strings.now last) }
-        ensures count { IfSome result (λ p. string_count p ≡ length strings.now) }
+impl<'p, 'm> GivenPath<'p, 'm> {
+    /// Splits members, the trust anchor first, as the kind of the last one says. Gives `None` where
+    /// they are too few (none at all; or one alone, which is to be an end entity or a router), and
+    /// where others follow one that is to be the trust anchor.
+    pub fn of(members: &'p [Member<'m>], last: Kind) -> Option<GivenPath<'p, 'm>>
+        ensures some { IsSome result ↔ CanEndIn last (length members.now) }
+        ensures split { IfSome result (IsSplitAs members.now last) }
+        ensures count { IfSome result (λ p. string_count p ≡ length members.now) }
     {
-        let (anchor, below) = strings.split_first()?;
+        let (anchor, below) = members.split_first()?;
         match last {
             Kind::Anchor => {
                 if !below.is_empty() {
@@ -57,18 +57,18 @@ impl<'p> GivenPath<'p> {
                 Some(GivenPath { anchor, cas, last })
             }
             Kind::EndEntity => {
-                let (octets, cas) = below.split_last()?;
-                let last = Some(Last::Ee(octets));
+                let (end, cas) = below.split_last()?;
+                let last = Some(Last::Ee(end));
                 Some(GivenPath { anchor, cas, last })
             }
             Kind::Detached => {
-                let (octets, cas) = below.split_last()?;
-                let last = Some(Last::DetachedEe(octets));
+                let (end, cas) = below.split_last()?;
+                let last = Some(Last::DetachedEe(end));
                 Some(GivenPath { anchor, cas, last })
             }
             Kind::Router => {
-                let (octets, cas) = below.split_last()?;
-                let last = Some(Last::Router(octets));
+                let (end, cas) = below.split_last()?;
+                let last = Some(Last::Router(end));
                 Some(GivenPath { anchor, cas, last })
             }
         }

@@ -35,7 +35,7 @@ fn nameless(alloc: Global) -> Result<Rc<TalInfo>, PathFault>
 
 // The verdict on the path, whose locator has no name.
 fn verdict<R: RevocationSource, V: Verifier>(
-    path: &GivenPath<'_>,
+    path: &GivenPath<'_, '_>,
     tal: Rc<TalInfo>,
     validator: &Validator<'_, '_, R, V>,
 ) -> Result<Judged, PathError>
@@ -48,8 +48,8 @@ fn verdict<R: RevocationSource, V: Verifier>(
     laws::unambiguous();
     let holder = validator.members(path.anchor, path.cas, path.last, tal)?;
     match path.last {
-        Some(Last::Router(octets)) => {
-            let found = placed(path.cas.len() + 1, validator.router(octets, &holder));
+        Some(Last::Router(end)) => {
+            let found = placed(path.cas.len() + 1, validator.router(end, &holder));
             let (holder, cert) = beside(holder, found)?;
             Ok(Judged {
                 holder,
@@ -63,8 +63,8 @@ fn verdict<R: RevocationSource, V: Verifier>(
     }
 }
 
-/// Judges a path, from the trust anchor's string down to that of its last member, which is a CA, an
-/// end entity or a router. Members are validated as [`crate::validate_path`] does, and a router
+/// Judges a path, from the trust anchor down to its last member, which is a CA, an end entity or a
+/// router. What was read of a member already isn't read again. Members are validated as [`crate::validate_path`] does, and a router
 /// below the last CA as [`crate::validate_router`] does; each one below the trust anchor is asked
 /// for at this source, once it is verified and before the next is decoded. Returns what the last
 /// member holds (above a router, the CA), with a locator without a name, and the router's
@@ -73,7 +73,7 @@ fn verdict<R: RevocationSource, V: Verifier>(
 /// Not asked (own): whether names chain, and anything of manifests.
 pub fn judge<R: RevocationSource, V: Verifier>(
     alloc: Global,
-    path: &GivenPath<'_>,
+    path: &GivenPath<'_, '_>,
     asked: &R,
     strict: bool,
     now: Time,

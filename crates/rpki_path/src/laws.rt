@@ -1,6 +1,6 @@
 //! Laws about paths. Each is the contract of a function with no parameters, whose body names at
 //! most the law that it stands on.
-ghost use Rattle.std.specs.Prelude.{◌≡◌, ◌≤◌, ℕ, Bool, List, [], ◌∷◌, ◌++◌};
+ghost use Rattle.std.specs.Prelude.{◌≡◌, ◌≤◌, ◌↔◌, ℕ, Bool, List, [], ◌∷◌, ◌++◌};
 ghost use Rattle.rpki_der.specs.Times.{Moment};
 ghost use Rattle.rpki_cert.specs.Certificates.{CertFields, IsCertificate};
 ghost use Rattle.rpki_cert.specs.Validation.{IsValidBelow};
@@ -8,7 +8,8 @@ ghost use Rattle.rpki_cert.specs.Verification.{HeldCheck, ResourceFields, contex
 ghost use Rattle.rpki_cert.specs.declared.inspect.Kind.{Kind};
 ghost use Rattle.rpki_cert.specs.declared.verification_error.VerificationError.{VerificationError};
 ghost use Rattle.rpki_revocation.specs.Asking.{IsUnrevokedBy};
-ghost use Rattle.rpki_path.specs.Paths.{member, longer, candidate, HasHeld, IsValidPath, IsAccepted};
+ghost use Rattle.rpki_path.specs.NameChains.{IsNamedBelow, IsSelfNamed, NamesChain};
+ghost use Rattle.rpki_path.specs.Paths.{Member, member, longer, certificate_at, candidate, HasHeld, IsValidPath, IsAccepted};
 ghost use Rattle.rpki_path.specs.Paths.{Path, last, NumberKind, greatest_number, Holds, HeldAt, Candidate, IsPathOf, PassesMore};
 
 use rpki_cert::laws;
@@ -56,4 +57,14 @@ pub fn issued_below<R: RevocationSource, V: Verifier>()
         IsAccepted x asked anchor below tal issuer → IsValidBelow x issuer kind r.cert r
         → IsUnrevokedBy asked issuer.cert.fields r.cert → IsCertificate r.cert octets
         → IsAccepted x asked anchor (below ++ candidate kind octets ∷ []) tal r }
+{}
+
+/// Says that the names of a path chain exactly where [`crate::is_self_named`] says so of the trust
+/// anchor, and [`crate::names_chain`] of each later member below the one above it: those of a trust
+/// anchor alone (`anchor`), and those of a path that is longer by one member (`below`). So who
+/// validates a path step by step asks the same as [`crate::first_unchained`].
+pub fn names_step_by_step()
+    ensures anchor { (c : CertFields) → NamesChain (record { anchor = c; below = [] }) ↔ IsSelfNamed c }
+    ensures below { (p : Path) (m : Member) → NamesChain (longer p m)
+        ↔ (NamesChain p × IsNamedBelow (certificate_at p (last p)) m.cert) }
 {}

@@ -5,6 +5,7 @@ ghost use Rattle.rpki_revocation.specs.Asking.{RevocationChecks};
 ghost use Rattle.rpki_path.specs.Paths.{UnlessMemory, Finds, IsUnasked};
 ghost use Rattle.rpki_path.specs.Routers.{BeginsWithRouter, by_uri_if_any, router_demand};
 
+use crate::members::Member;
 use crate::path_fault::PathFault;
 use crate::validator::Validator;
 use bytes::Bytes;
@@ -37,7 +38,7 @@ fn test_router<R: RevocationSource, V: Verifier>(
         at: now,
         verifier,
     };
-    let cert = validator.router(octets, issuer)?;
+    let cert = validator.router(&Member::of(octets), issuer)?;
     drop(cert);
     Ok(())
 }

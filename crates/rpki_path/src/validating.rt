@@ -4,18 +4,19 @@ ghost use Rattle.std.specs.Prelude.{◌≡◌, Ok, Err, IfOk, IfErr};
 ghost use Rattle.std.proofs.Common.{rc_value};
 ghost use Rattle.rpki_cert.specs.Verification.{context};
 ghost use Rattle.rpki_revocation.specs.Asking.{nobody, by_uri};
-ghost use Rattle.rpki_path.specs.GivenPaths.{last_candidates};
-ghost use Rattle.rpki_path.specs.Paths.{candidates, leaf_candidates, IsFault, IsUnasked, Validates};
+ghost use Rattle.rpki_path.specs.declared.path_fault.PathFault.TheVariants.{Memory};
+ghost use Rattle.rpki_path.specs.Paths.{candidates, IsAccepted, IsFault, IsUnasked, Validates};
 
 use crate::given::Last;
-use crate::path_fault::PathError;
-use crate::validator::Validator;
+use crate::members::Member;
+use crate::path_fault::{PathError, PathFault};
+use crate::validator::{Validator, placed};
 use bytes::Bytes;
 use rpki_cert::{ResourceCert, laws};
 use rpki_crl::CrlStore;
 use rpki_der::Time;
 use rpki_parts::{TalInfo, Verifier};
-use rpki_revocation::NobodyAsked;
+use rpki_revocation::{NobodyAsked, RevocationSource};
 use std::alloc::Global;
 use std::rc::Rc;
 
@@ -28,15 +29,67 @@ pub enum Leaf {
     DetachedEe(Bytes),
 }
 
-// The leaf's string, lent.
-fn last_of(leaf: &Option<Leaf>) -> Option<Last<'_>>
-    ensures { last_candidates result ≡ leaf_candidates leaf.now }
+// Members of which nothing was read.
+fn members_of<'p>(alloc: Global, strings: &'p [Bytes]) -> Result<Vec<Member<'p>>, PathFault>
+    ensures ok { IfOk result (λ members. members.items ≡ strings.now) }
+    ensures memory { IfErr result (λ e. e ≡ Memory) }
+{
+    Ok(Member::of_each(alloc, strings)?)
+}
+
+// The answer of the walk down to the leaf, below members of which nothing was read.
+fn to_leaf<R: RevocationSource, V: Verifier>(
+    validator: &Validator<'_, '_, R, V>,
+    anchor: &Member<'_>,
+    cas: &[Member<'_>],
+    leaf: &Option<Leaf>,
+    tal: Rc<TalInfo>,
+) -> Result<ResourceCert, PathError>
+    ensures ok { let v = validator.now in
+        let x = context (V.verifies v.verifier.now) v.at v.strict in
+        let asked = R.asks v.asked.now x in
+        let below = candidates cas.now leaf.now in
+        IfOk result (IsAccepted x asked anchor.now below (rc_value tal)) }
+    ensures named { let v = validator.now in
+        let x = context (V.verifies v.verifier.now) v.at v.strict in
+        let asked = R.asks v.asked.now x in
+        IfErr result (IsFault x asked anchor.now (candidates cas.now leaf.now)) }
 {
     match leaf {
-        None => None,
-        Some(Leaf::Ee(octets)) => Some(Last::Ee(octets)),
-        Some(Leaf::DetachedEe(octets)) => Some(Last::DetachedEe(octets)),
+        None => validator.members(anchor, cas, None, tal),
+        Some(Leaf::Ee(octets)) => {
+            let end = Member::of(octets);
+            validator.members(anchor, cas, Some(Last::Ee(&end)), tal)
+        }
+        Some(Leaf::DetachedEe(octets)) => {
+            let end = Member::of(octets);
+            validator.members(anchor, cas, Some(Last::DetachedEe(&end)), tal)
+        }
     }
+}
+
+// The answer of the walk down these strings.
+fn walked<R: RevocationSource, V: Verifier>(
+    validator: &Validator<'_, '_, R, V>,
+    anchor: &Bytes,
+    cas: &[Bytes],
+    leaf: &Option<Leaf>,
+    tal: Rc<TalInfo>,
+) -> Result<ResourceCert, PathError>
+    ensures ok { let v = validator.now in
+        let x = context (V.verifies v.verifier.now) v.at v.strict in
+        let asked = R.asks v.asked.now x in
+        let below = candidates cas.now leaf.now in
+        IfOk result (IsAccepted x asked anchor.now below (rc_value tal)) }
+    ensures named { let v = validator.now in
+        let x = context (V.verifies v.verifier.now) v.at v.strict in
+        let asked = R.asks v.asked.now x in
+        IfErr result (IsFault x asked anchor.now (candidates cas.now leaf.now)) }
+{
+    let cas = placed(0, members_of(validator.alloc, cas))?;
+    let answer = to_leaf(validator, &Member::of(anchor), &cas, leaf, tal);
+    drop(cas);
+    answer
 }
 
 /// Validates a path: the trust anchor's string, those of the CAs below it from the top down, and
@@ -76,7 +129,7 @@ pub fn validate_path<V: Verifier>(
         at: now,
         verifier,
     };
-    validator.members(anchor, cas, last_of(&leaf), tal)
+    walked(&validator, anchor, cas, &leaf, tal)
 }
 
 /// Validates a path as [`validate_path`] does, and asks the lists of this store whether a member is
@@ -115,5 +168,5 @@ pub fn validate_path_with<V: Verifier>(
         at: now,
         verifier,
     };
-    validator.members(anchor, cas, last_of(&leaf), tal)
+    walked(&validator, anchor, cas, &leaf, tal)
 }

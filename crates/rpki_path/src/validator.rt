@@ -12,8 +12,8 @@ ghost use Rattle.rpki_path.specs.Paths.Steps.{kind_of, IsUnread, IsTrustAnchor, 
 ghost use Rattle.rpki_path.specs.Routers.{IsRouterUnder, router_demand};
 
 use crate::given::Last;
+use crate::members::Member;
 use crate::path_fault::{PathError, PathFault};
-use bytes::Bytes;
 use rpki_cert::{Cert, ResourceCert, ValidationError};
 use rpki_der::Time;
 use rpki_ext::beside;
@@ -61,24 +61,16 @@ pub(crate) struct Validator<'r, 'v, R, V> {
 }
 
 impl<'r, 'v, R: RevocationSource, V: Verifier> Validator<'r, 'v, R, V> {
-    // The certificate that the string begins with.
-    fn decoded(&self, octets: &Bytes) -> Result<Cert, PathFault>
-        ensures ok { IfOk result (λ c. Means IsCertificate c octets.now) }
-        ensures fault { IfErr result (IsUnread octets.now) }
-    {
-        Ok(Cert::decode_shared(self.alloc, octets.clone()?)?)
-    }
-
     // The trust anchor of a path.
-    fn trust_anchor(&self, octets: &Bytes, tal: Rc<TalInfo>) -> Result<ResourceCert, PathFault>
+    fn trust_anchor(&self, anchor: &Member<'_>, tal: Rc<TalInfo>) -> Result<ResourceCert, PathFault>
         ensures ok { let v = self.now in
             let x = context (V.verifies v.verifier.now) v.at v.strict in
-            IfOk result (IsTrustAnchor x octets.now (rc_value tal)) }
+            IfOk result (IsTrustAnchor x anchor.now (rc_value tal)) }
         ensures fault { let v = self.now in
             let x = context (V.verifies v.verifier.now) v.at v.strict in
-            IfErr result (Finds x (trust_anchor_demand x) octets.now) }
+            IfErr result (Finds x (trust_anchor_demand x) anchor.now) }
     {
-        let cert = self.decoded(octets)?;
+        let cert = anchor.decoded(self.alloc)?;
         Ok(cert.validate_ta_at(self.alloc, tal, self.strict, self.at, self.verifier)?)
     }
 
@@ -108,19 +100,19 @@ impl<'r, 'v, R: RevocationSource, V: Verifier> Validator<'r, 'v, R, V> {
     fn member(
         &self,
         issuer: &ResourceCert,
-        octets: &Bytes,
+        given: &Member<'_>,
         role: Role,
     ) -> Result<ResourceCert, PathFault>
         ensures ok { let v = self.now in
             let x = context (V.verifies v.verifier.now) v.at v.strict in
             let asked = R.asks v.asked.now x in
-            IfOk result (IsIssuedBy x asked issuer.now (kind_of role) octets.now) }
+            IfOk result (IsIssuedBy x asked issuer.now (kind_of role) given.now) }
         ensures fault { let v = self.now in
             let x = context (V.verifies v.verifier.now) v.at v.strict in
             let asked = R.asks v.asked.now x in
-            IfErr result (Finds x (demand_under x asked issuer.now (kind_of role)) octets.now) }
+            IfErr result (Finds x (demand_under x asked issuer.now (kind_of role)) given.now) }
     {
-        let cert = self.decoded(octets)?;
+        let cert = given.decoded(self.alloc)?;
         let member = self.valid_below(cert, issuer, role)?;
         let (asked, strict, now, verifier) = (self.asked, self.strict, self.at, self.verifier);
         let test = asked.ask(member.as_cert(), issuer, strict, now, verifier);
@@ -133,29 +125,29 @@ impl<'r, 'v, R: RevocationSource, V: Verifier> Validator<'r, 'v, R, V> {
         &self,
         issuer: ResourceCert,
         index: usize,
-        octets: &Bytes,
+        given: &Member<'_>,
         role: Role,
     ) -> Result<ResourceCert, PathError>
         ensures ok { let v = self.now in
             let x = context (V.verifies v.verifier.now) v.at v.strict in
             let asked = R.asks v.asked.now x in
-            IfOk result (IsIssuedBy x asked issuer (kind_of role) octets.now) }
+            IfOk result (IsIssuedBy x asked issuer (kind_of role) given.now) }
         ensures index { IfErr result (λ e. e.index ≡ index) }
         ensures fault { let v = self.now in
             let x = context (V.verifies v.verifier.now) v.at v.strict in
             let asked = R.asks v.asked.now x in
             let demand = demand_under x asked issuer (kind_of role) in
-            IfErr result (λ e. Finds x demand octets.now e.fault) }
+            IfErr result (λ e. Finds x demand given.now e.fault) }
     {
-        let next = self.member(&issuer, octets, role);
+        let next = self.member(&issuer, given, role);
         placed(index, without(issuer, next))
     }
 
     // The trust anchor and the CAs below it.
     fn authorities(
         &self,
-        anchor: &Bytes,
-        cas: &[Bytes],
+        anchor: &Member<'_>,
+        cas: &[Member<'_>],
         tal: Rc<TalInfo>,
     ) -> Result<ResourceCert, PathError>
         ensures ok { let v = self.now in
@@ -179,9 +171,9 @@ impl<'r, 'v, R: RevocationSource, V: Verifier> Validator<'r, 'v, R, V> {
     /// one.
     pub(crate) fn members(
         &self,
-        anchor: &Bytes,
-        cas: &[Bytes],
-        last: Option<Last<'_>>,
+        anchor: &Member<'_>,
+        cas: &[Member<'_>],
+        last: Option<Last<'_, '_>>,
         tal: Rc<TalInfo>,
     ) -> Result<ResourceCert, PathError>
         ensures ok { let v = self.now in
@@ -199,8 +191,8 @@ impl<'r, 'v, R: RevocationSource, V: Verifier> Validator<'r, 'v, R, V> {
         let below = cas.len() + 1;
         match last {
             None | Some(Last::Router(_)) => Ok(issuer),
-            Some(Last::Ee(octets)) => self.next(issuer, below, octets, Role::EndEntity),
-            Some(Last::DetachedEe(octets)) => self.next(issuer, below, octets, Role::Detached),
+            Some(Last::Ee(end)) => self.next(issuer, below, end, Role::EndEntity),
+            Some(Last::DetachedEe(end)) => self.next(issuer, below, end, Role::Detached),
         }
     }
 
@@ -223,9 +215,13 @@ impl<'r, 'v, R: RevocationSource, V: Verifier> Validator<'r, 'v, R, V> {
         Ok(())
     }
 
-    /// Validates the router's certificate that the octets begin with, below the issuer.
-    pub(crate) fn router(&self, octets: &Bytes, issuer: &ResourceCert) -> Result<Cert, PathFault>
-        ensures begins { IfOk result (λ c. Means IsCertificate c octets.now) }
+    /// Validates the router's certificate that the member's octets begin with, below the issuer.
+    pub(crate) fn router(
+        &self,
+        given: &Member<'_>,
+        issuer: &ResourceCert,
+    ) -> Result<Cert, PathFault>
+        ensures begins { IfOk result (λ c. Means IsCertificate c given.now) }
         ensures under { let v = self.now in
             let x = context (V.verifies v.verifier.now) v.at v.strict in
             let asked = R.asks v.asked.now x in
@@ -233,9 +229,9 @@ impl<'r, 'v, R: RevocationSource, V: Verifier> Validator<'r, 'v, R, V> {
         ensures fault { let v = self.now in
             let x = context (V.verifies v.verifier.now) v.at v.strict in
             let asked = R.asks v.asked.now x in
-            IfErr result (Finds x (router_demand x asked issuer.now) octets.now) }
+            IfErr result (Finds x (router_demand x asked issuer.now) given.now) }
     {
-        let cert = self.decoded(octets)?;
+        let cert = given.decoded(self.alloc)?;
         let test = self.test_router(&cert, issuer);
         let (cert, ()) = beside(cert, test)?;
         Ok(cert)

@@ -2,7 +2,7 @@
 //! path.
 #![tactic(auto)]
 
-use rpki_path::{Watched, program};
+use rpki_lines::{Watched, program};
 use std::process::ExitCode;
 
 fn main(rt: HostRuntime) -> ExitCode {

@@ -3,8 +3,10 @@
 use rpki_blocks::IssueError;
 use rpki_cert::{IssueCaError, RearrangeError, ValidationError, VerificationError};
 use rpki_der::{Cursor, DecodeError, EncodeError};
+use rpki_lines::RunFault;
 use rpki_parts::{SigningError, UriError};
-use rpki_path::{PathError, PathFault, RunFault};
+use rpki_path::{PathError, PathFault};
+use rpki_tal::TalError;
 use std::alloc::{AllocError, Global};
 use std::process::ExitCode;
 
@@ -124,6 +126,12 @@ impl Fault for IssueError {
 }
 
 impl Fault for UriError {
+    fn told(&self) -> &'static str {
+        self.name()
+    }
+}
+
+impl Fault for TalError {
     fn told(&self) -> &'static str {
         self.name()
     }

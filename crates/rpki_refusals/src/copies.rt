@@ -7,8 +7,8 @@ use rpki_cert::Kind;
 use rpki_crl::CrlEntry;
 use rpki_der::{Field, Serial};
 use rpki_ext::{InspectionError, KeyUsage};
+use rpki_lines::Status;
 use rpki_parts::{PublicKeyFormat, RpkiSignatureAlgorithm, Validity};
-use rpki_path::Status;
 use rpki_samples::{day, rsa};
 use std::alloc::Global;
 
@@ -111,7 +111,7 @@ fn kind(alloc: Global) -> Option<Told> {
 
 fn status(alloc: Global) -> Option<Told> {
     begin(alloc);
-    plain(alloc, rpki_path::comparing::copied_status(&Status::Done))
+    plain(alloc, rpki_lines::comparing::copied_status(&Status::Done))
 }
 
 fn of_numbers(alloc: Global, asked: &mut Asked<'_>) -> Option<Told> {
@@ -159,7 +159,7 @@ fn of_judging(alloc: Global, asked: &mut Asked<'_>) -> Option<Told> {
         kind(alloc)
     } else if asked.is("rpki_crl::comparing::copied_entry") {
         entry(alloc)
-    } else if asked.is("rpki_path::comparing::copied_status") {
+    } else if asked.is("rpki_lines::comparing::copied_status") {
         status(alloc)
     } else {
         None

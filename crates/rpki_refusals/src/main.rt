@@ -15,6 +15,7 @@ mod copies;
 mod extensions;
 mod inputs;
 mod lists;
+mod locators;
 mod making;
 mod parts;
 mod paths;
@@ -34,6 +35,7 @@ fn told(alloc: Global, asked: &mut Asked<'_>) -> Option<Told> {
         .or(copies::told(alloc, asked))
         .or(blocks::told(alloc, asked))
         .or(parts::told(alloc, asked))
+        .or(locators::told(alloc, asked))
         .or(extensions::told(alloc, asked))
         .or(certificates::told(alloc, asked))
         .or(making::told(alloc, asked))

@@ -1,4 +1,4 @@
-//! Whole paths, and the program.
+//! Whole paths, and the line program.
 
 use crate::asking::{Asked, Told, begin, end, ended, plain};
 use crate::inputs::{
@@ -9,9 +9,10 @@ use bytes::Bytes;
 use rpki_cert::{Kind, ResourceCert};
 use rpki_crl::CrlStore;
 use rpki_der::Time;
+use rpki_lines::{Watched, program, run};
 use rpki_parts::StandIn;
 use rpki_path::{
-    GivenPath, Leaf, Watched, judge, program, run, validate_path, validate_path_with,
+    GivenPath, Leaf, Member, first_unchained, judge, validate_path, validate_path_with,
     validate_router,
 };
 use rpki_revocation::NobodyAsked;
@@ -26,7 +27,7 @@ const YES: &[u8] = b"yes\n";
 
 const ACCEPTED: &[u8] = b"stand-in signatures\naccepted\nv4 none\nv6 none\nas 3-3\n";
 
-// What the program is asked about the path of the anchor and the two authorities.
+// What the line program is asked about the path of the anchor and the two authorities.
 fn question(alloc: Global) -> Option<Vec<u8>> {
     let mut text = Vec::from_slice(alloc, b"at 20240101000000\nstrict\n").ok()?;
     for (kind, digits) in [("ta ", NUMBERS), ("ca ", FIRST), ("ca ", SECOND)] {
@@ -158,11 +159,25 @@ fn router_validated(alloc: Global) -> Option<Told> {
     told
 }
 
-fn judged_as(alloc: Global, strings: &[Bytes], last: Kind, now: Time) -> Option<Told> {
-    let path = GivenPath::of(strings, last)?;
+fn members_made(alloc: Global) -> Option<Told> {
+    let strings = [octets(alloc, NUMBERS)?, octets(alloc, FIRST)?];
+    begin(alloc);
+    let answer = Member::of_each(alloc, &strings);
+    plain(alloc, answer)
+}
+
+fn judged_of(alloc: Global, members: &[Member<'_>], last: Kind, now: Time) -> Option<Told> {
+    let path = GivenPath::of(members, last)?;
     begin(alloc);
     let answer = judge(alloc, &path, &NobodyAsked, true, now, &StandIn);
     plain(alloc, answer)
+}
+
+fn judged_as(alloc: Global, strings: &[Bytes], last: Kind, now: Time) -> Option<Told> {
+    let members = Member::of_each(alloc, strings).ok()?;
+    let told = judged_of(alloc, &members, last, now);
+    drop(members);
+    told
 }
 
 fn path_judged(alloc: Global) -> Option<Told> {
@@ -182,6 +197,26 @@ fn router_judged(alloc: Global) -> Option<Told> {
     judged_as(alloc, &strings, Kind::Router, now)
 }
 
+fn names_asked_of(alloc: Global, members: &[Member<'_>]) -> Option<Told> {
+    let path = GivenPath::of(members, Kind::Authority)?;
+    begin(alloc);
+    let answer = first_unchained(alloc, &path);
+    plain(alloc, answer)
+}
+
+// The names of the anchor and the two authorities, which chain.
+fn names_asked(alloc: Global) -> Option<Told> {
+    let strings = [
+        octets(alloc, NUMBERS)?,
+        octets(alloc, FIRST)?,
+        octets(alloc, SECOND)?,
+    ];
+    let members = Member::of_each(alloc, &strings).ok()?;
+    let told = names_asked_of(alloc, &members);
+    drop(members);
+    told
+}
+
 fn of_paths(alloc: Global, asked: &mut Asked<'_>) -> Option<Told> {
     if asked.is("rpki_path::validate_path") {
         validated(alloc)
@@ -191,30 +226,34 @@ fn of_paths(alloc: Global, asked: &mut Asked<'_>) -> Option<Told> {
         asked_validated(alloc)
     } else if asked.is("rpki_path::validate_router") {
         router_validated(alloc)
+    } else if asked.is("rpki_path::Member::of_each") {
+        members_made(alloc)
     } else if asked.is("rpki_path::judge") {
         path_judged(alloc)
     } else if asked.is("rpki_path::judge/router") {
         router_judged(alloc)
+    } else if asked.is("rpki_path::first_unchained") {
+        names_asked(alloc)
     } else {
         None
     }
 }
 
 fn of_runs(alloc: Global, asked: &mut Asked<'_>) -> Option<Told> {
-    if asked.is("rpki_path::run") {
+    if asked.is("rpki_lines::run") {
         path_ran(alloc)
-    } else if asked.is("rpki_path::run/revoked") {
+    } else if asked.is("rpki_lines::run/revoked") {
         list_ran(alloc)
-    } else if asked.is("rpki_path::program") {
+    } else if asked.is("rpki_lines::program") {
         path_program(alloc)
-    } else if asked.is("rpki_path::program/revoked") {
+    } else if asked.is("rpki_lines::program/revoked") {
         list_program(alloc)
     } else {
         None
     }
 }
 
-/// The calls of `rpki_path`.
+/// The calls of `rpki_path` and `rpki_lines`.
 pub fn told(alloc: Global, asked: &mut Asked<'_>) -> Option<Told> {
     of_paths(alloc, asked).or(of_runs(alloc, asked))
 }

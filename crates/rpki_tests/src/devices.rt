@@ -1,7 +1,7 @@
 //! Readers and writers that are slow, fail, never end, or count their calls.
 ghost use Rattle.std.specs.Prelude.{◌≡◌, IfOk};
 
-use rpki_path::{MAX_INPUT, RunFault, Status, Watched, program, run};
+use rpki_lines::{MAX_INPUT, RunFault, Status, Watched, program, run};
 use std::alloc::Global;
 use std::io;
 use std::io::{Error, ErrorKind, Read, Write};
@@ -214,7 +214,7 @@ fn a_writer_may_fail_at_each_write(rt: HostRuntime) {
     assert_eq!(rt; fault_behind(rt.alloc(), 4), "ok");
 }
 
-// The status of the program with this reader, and a writer of so much room.
+// The status of the line program with this reader, and a writer of so much room.
 fn status_of(alloc: Global, after: After, room: usize) -> ExitCode {
     let mut reader = Watched::new(OneByOne { octets: YES, after });
     let mut output = Narrow {

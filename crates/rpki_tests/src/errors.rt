@@ -6,10 +6,11 @@ use rpki_cert::{IssueCaError, RearrangeError, ValidationError, VerificationError
 use rpki_crl::{InvalidExtension, RevocationError};
 use rpki_der::{DecodeError, EncodeError, Field, Oid};
 use rpki_ext::InspectionError;
+use rpki_lines::RunFault;
 use rpki_parts::{
     BadUri, InvalidName, SignatureVerificationError, SigningError, UriError, ValidityError,
 };
-use rpki_path::{PathError, PathFault, RunFault};
+use rpki_path::{PathError, PathFault};
 use std::alloc::{AllocError, Global};
 use std::process::Abort;
 

@@ -5,7 +5,7 @@ use rpki_cert::{Cert, InspectionError, KeyUsage, Kind, ResourceCert};
 use rpki_crl::RevocationError;
 use rpki_der::{Serial, Time};
 use rpki_parts::{StandIn, Verifier};
-use rpki_path::{GivenPath, Judged, PathError, PathFault, judge};
+use rpki_path::{GivenPath, Judged, Member, PathError, PathFault, judge};
 use rpki_revocation::{NobodyAsked, RevocationSource};
 use rpki_samples::{day, rsa};
 use std::alloc::Global;
@@ -70,7 +70,8 @@ fn judged<R: RevocationSource>(
 ) -> Result<Judged, PathError> {
     let anchor = rpki_samples::anchor_octets(alloc).expect(rt, "memory");
     let strings = [anchor, authority(rt, alloc), last];
-    let path = GivenPath::of(&strings, kind).expect(rt, "three strings");
+    let members = Member::of_each(alloc, &strings).expect(rt, "memory");
+    let path = GivenPath::of(&members, kind).expect(rt, "three members");
     let now = day(2024).expect(rt, "a day");
     judge(alloc, &path, asked, true, now, &StandIn)
 }
@@ -160,10 +161,10 @@ fn a_source_of_the_callers_own_is_asked_of_the_router(rt: HostRuntime) {
 }
 
 #[test]
-fn strings_are_too_few(rt: HostRuntime) {
-    let none: [Bytes; 0] = [];
-    assert!(rt; GivenPath::of(&none, Kind::Authority).is_none());
-    let alone = [rpki_samples::anchor_octets(rt.alloc()).expect(&rt, "memory")];
+fn members_are_too_few(rt: HostRuntime) {
+    assert!(rt; GivenPath::of(&[], Kind::Authority).is_none());
+    let octets = rpki_samples::anchor_octets(rt.alloc()).expect(&rt, "memory");
+    let alone = [Member::of(&octets)];
     assert!(rt; GivenPath::of(&alone, Kind::Anchor).is_some());
     assert!(rt; GivenPath::of(&alone, Kind::Authority).is_some());
     assert!(rt; GivenPath::of(&alone, Kind::EndEntity).is_none());

@@ -5,6 +5,8 @@
 #![tactic(auto)]
 
 #[cfg(test)]
+mod counting;
+#[cfg(test)]
 mod devices;
 #[cfg(test)]
 mod errors;
@@ -24,6 +26,8 @@ mod lists;
 mod memory;
 #[cfg(test)]
 mod name_texts;
+#[cfg(test)]
+mod names;
 #[cfg(test)]
 mod paths;
 #[cfg(test)]

@@ -4,9 +4,10 @@ use rpki_blocks::IssueError;
 use rpki_cert::{IssueCaError, RearrangeError, ValidationError, VerificationError};
 use rpki_der::{DecodeError, EncodeError};
 use rpki_ext::InspectionError;
+use rpki_lines::comparing::{copied_status, equal_statuses};
+use rpki_lines::{RunFault, Status};
 use rpki_parts::{SigningError, UriError};
-use rpki_path::comparing::{copied_status, equal_statuses};
-use rpki_path::{PathError, PathFault, RunFault, Status};
+use rpki_path::{PathError, PathFault};
 
 #[test]
 fn of_parts(rt: HostRuntime) {

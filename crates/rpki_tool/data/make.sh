@@ -1,6 +1,7 @@
 #!/bin/sh
 # Makes the certificates and revocation lists of this folder anew, with new keys, by OpenSSL 3:
 #   anchor.cer          a trust anchor that lists 10.0.0.0/8, 2001:db8::/32 and AS 64496 to 64511
+#   anchor.tal          its locator (RFC 8630)
 #   first.cer           a CA below it that lists a part of that; first.crl, the anchor's list
 #   second.cer          a CA below first.cer that inherits; second.crl, the list of first.cer
 #   object.cer          an end entity below second.cer; object.crl, the list of second.cer
@@ -117,6 +118,10 @@ extensions anchor '' '' IPv4:10.0.0.0/8,IPv6:2001:db8::/32 AS:64496-64511 | sign
 extensions first anchor anchor IPv4:10.0.0.0/12,IPv4:10.32.0.0-10.40.255.255,IPv6:2001:db8::/40 AS:64500-64503,AS:64510 | sign first anchor 02
 extensions second first first IPv4:inherit,IPv6:inherit AS:inherit | sign second first 03
 object_extensions object second second | sign object second 04
+{
+    printf '# The trust anchor of these examples\n%s\n%s\n\n' https://rpki.example.net/repo/anchor.cer "$site/anchor.cer"
+    openssl x509 -in anchor.pem -noout -pubkey | sed '/^-/d'
+} > "$here/anchor.tal"
 list first.crl anchor 01
 list second.crl first 01
 list object.crl second 01

@@ -24,6 +24,8 @@
 //!   anchor down, which are accepted; MODE is `strict` or `lenient`.
 //! - `path MODE YYYYMMDDhhmmss ta:HEX ca:HEX .. ee:HEX`: a whole path; the leaf may be absent, or
 //!   `detached:HEX`.
+//! - `names ta:HEX ca:HEX .. ee:HEX`: whether the names of a path chain, whatever its members
+//!   are; the leaf may also be `router:HEX`.
 //! - `rearrange HEX ORDER EXTRAS`: a certificate with its extensions in another order and others
 //!   among them; ORDER is places, as `2,0,1`, and EXTRAS are `PLACE:IDENTIFIER:CONTENT`, with
 //!   commas between, each `-` where there are none.
@@ -39,6 +41,11 @@
 //! - `real-path YYYYMMDDhhmmss MODE ta:HEX ca:HEX .. ee:HEX`: a path as above, with RSA signatures.
 //! - `real-revocation YYYYMMDDhhmmss MODE STORE ta:HEX ca:HEX .. ee:HEX`: the same, where the lists
 //!   of a store are asked, as `revocation` does.
+//!
+//! Trust anchor locators:
+//! - `locator MODE HEX KEY`: a file; each of its URIs in their order, its key, and whether the public
+//!   key KEY (all of a SubjectPublicKeyInfo) is that key, `none` where KEY is `-`.
+//! - `base64 TEXT`: the octets that the digits of a line stand for.
 //!
 //! Revocation lists:
 //! - `list HEX SERIALS`: a list, by each of the calls that read one, and of each serial number
@@ -79,7 +86,7 @@
 //! - `overclaim HEX`, `mode Refuse`, `mode Trim`: the mode of an identifier, the identifiers of a
 //!   mode.
 //!
-//! The program:
+//! The line program:
 //! - `run TEXT`: an input, which is all behind the first space, with `|` for LF; what is printed
 //!   has `|` for LF too.
 //! - `run-unnamed TEXT`: the same, with `*` for the name of a decoder's fault.
@@ -101,6 +108,7 @@ mod extensions;
 mod judging;
 mod keys;
 mod lists;
+mod locators;
 mod making;
 mod parts;
 mod paths;
@@ -171,6 +179,8 @@ fn of_several(words: &Words<'_>, out: &mut Answer) -> bool {
         rearranging::rearrange(words, out);
     } else if words.is(0, "path") {
         paths::path(words, out);
+    } else if words.is(0, "names") {
+        paths::names(words, out);
     } else if words.is(0, "revocation") {
         revocation::revocation(words, out);
     } else if words.is(0, "real-path") {
@@ -183,6 +193,10 @@ fn of_several(words: &Words<'_>, out: &mut Answer) -> bool {
         signatures::rsa_key(words, out);
     } else if words.is(0, "key-form") {
         keys::key_form(words, out);
+    } else if words.is(0, "locator") {
+        locators::locator(words, out);
+    } else if words.is(0, "base64") {
+        locators::base64(words, out);
     } else if words.is(0, "run") {
         runs::answer(words, out);
     } else if words.is(0, "run-unnamed") {

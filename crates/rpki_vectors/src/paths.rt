@@ -3,10 +3,10 @@ use crate::answer::Answer;
 use crate::validating::{held, tal};
 use crate::words::{Words, bytes, moment};
 use bytes::Bytes;
-use rpki_cert::ResourceCert;
+use rpki_cert::{Kind, ResourceCert};
 use rpki_der::Time;
 use rpki_parts::{StandIn, Verifier};
-use rpki_path::{Leaf, PathError, PathFault, validate_path};
+use rpki_path::{GivenPath, Leaf, Member, PathError, PathFault, first_unchained, validate_path};
 
 /// Returns the octets behind `NAME:` of a word.
 pub fn named(out: &mut Answer, word: &str, name: &str) -> Option<Bytes> {
@@ -111,4 +111,64 @@ pub fn judged<V: Verifier>(
 /// stand-in.
 pub fn path(words: &Words<'_>, out: &mut Answer) {
     judged(words, out, words.at(1), words.at(2), &StandIn);
+}
+
+// The octets of all members among the words, the first of which is the question's.
+fn strings(out: &mut Answer, words: &Words<'_>) -> Vec<Bytes> {
+    let mut found: Vec<Bytes> = Vec::new(out.alloc());
+    for place in 1..words.count() {
+        if let Some((_, digits)) = words.at(place).split_once(':') {
+            let octets = bytes(out, digits);
+            if found.push(octets).is_err() {
+                out.fail();
+            }
+        }
+    }
+    found
+}
+
+// The kind of the last member.
+fn last_kind(words: &Words<'_>) -> Kind {
+    let last = words.at(words.count().wrapping_sub(1));
+    match last.split_once(':') {
+        Some(("ta", _)) => Kind::Anchor,
+        Some(("ee", _)) => Kind::EndEntity,
+        Some(("detached", _)) => Kind::Detached,
+        Some(("router", _)) => Kind::Router,
+        _ => Kind::Authority,
+    }
+}
+
+fn names_told(out: &mut Answer, answer: Result<Option<usize>, PathError>) {
+    match answer {
+        Ok(None) => out.text("chain"),
+        Ok(Some(place)) => {
+            out.text("unchained ");
+            out.count(place);
+        }
+        Err(error) => refused(out, &error),
+    }
+}
+
+fn names_of(out: &mut Answer, members: &[Member<'_>], last: Kind) {
+    match GivenPath::of(members, last) {
+        Some(path) => {
+            let answer = first_unchained(out.alloc(), &path);
+            names_told(out, answer);
+        }
+        None => out.text("unfit"),
+    }
+}
+
+/// Tells whether the names of a path chain, the place of the first member whose names don't, or
+/// that of the first that isn't read.
+pub fn names(words: &Words<'_>, out: &mut Answer) {
+    let strings = strings(out, words);
+    match Member::of_each(out.alloc(), &strings) {
+        Ok(members) => {
+            names_of(out, &members, last_kind(words));
+            drop(members);
+        }
+        Err(_) => out.fail(),
+    }
 }

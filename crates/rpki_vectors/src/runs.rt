@@ -1,7 +1,7 @@
-//! What the program that the library runs answers to an input.
+//! What the line program answers to an input.
 use crate::answer::Answer;
 use crate::words::{Words, characters};
-use rpki_path::{RunFault, Status, Watched, run};
+use rpki_lines::{RunFault, Status, Watched, run};
 
 // Exchanges one octet for another wherever it stands.
 fn exchange(octets: &mut Vec<u8>, from: u8, to: u8) {
@@ -66,13 +66,13 @@ fn answered(words: &Words<'_>, out: &mut Answer, is_named: bool) {
     show(out, ended, &printed, is_named);
 }
 
-/// Answers a run of the program. The input is the rest of the line, with a bar for each end of a
-/// line, and so is what is printed.
+/// Answers a run of the line program. The input is the rest of the line, with a bar for each end of
+/// a line, and so is what is printed.
 pub fn answer(words: &Words<'_>, out: &mut Answer) {
     answered(words, out, true);
 }
 
-/// Answers a run of the program, with a star for the name of a decoder's fault.
+/// Answers a run of the line program, with a star for the name of a decoder's fault.
 pub fn answer_unnamed(words: &Words<'_>, out: &mut Answer) {
     answered(words, out, false);
 }

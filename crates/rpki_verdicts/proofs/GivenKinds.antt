@@ -3,7 +3,7 @@ use Rattle.std.specs.Prelude.{Option, Some, None, Result, Ok, Err, IfOk, MatchOp
 use Rattle.std.proofs.Common.{◌≡◌, ◌≢◌, ◌+◌, ◌≤◌, ℕ, List, [], ◌∷◌, ◌++◌, length, refl, sym, ap, subst, ◌∙◌, inl, inr, arith}
 use Rattle.std.proofs.lemmas.List.{length-append, length-map, map-append, same_from_push}
 use Rattle.rpki.specs.AskedLists.{by_lists}
-use Rattle.rpki.specs.GivenPaths.{PathStrings, CanEndIn, IsSplitAs}
+use Rattle.rpki.specs.GivenPaths.{PathStrings, CanEndIn, IsSplitAs, path_to}
 use Rattle.rpki.specs.Kind.{Kind}
 use Rattle.rpki.specs.Kind.TheVariants.{Anchor, Authority, EndEntity, Detached, Router}
 use Rattle.rpki.specs.Lists.{CrlState}
@@ -13,7 +13,7 @@ use Rattle.rpki.specs.Paths.{UnlessMemory}
 use Rattle.rpki.specs.Verification.{Context}
 use Rattle.rpki_files.specs.Files.{FileFields, contents}
 use Rattle.rpki_verdicts.specs.SaidKinds.{IsJudgedAs}
-use Rattle.rpki_verdicts.specs.PathFiles.{IsGivenBy, AreListsOf}
+use Rattle.rpki_verdicts.specs.PathFiles.{Demands, IsGivenBy, AreListsOf}
 use Rattle.rpki_verdicts.specs.PathAnswers.{IsPathVerdict, IsVerdictBy}
 use Rattle.rpki_verdicts.specs.PathAnswers.Steps.{IsKindOfLast}
 use Rattle.rpki_verdicts.specs.declared.path.Verdict.{Verdict}
@@ -82,10 +82,24 @@ pub given_by : (files : List (List ℕ)) (kind : Kind) (g : PathStrings) → IsK
 given_by files kind g k (inl h) = inl h
 given_by files kind g k (inr h) = inr (record { kind = kind; split = h; kind_is = k.judged h.anchor h.cas h.octets h.strings_are })
 
+-- the trust anchor's string is the first
+anchor_of_path : (anchor : List ℕ) (cas : List (List ℕ)) (kind : Kind) (octets : List ℕ) → (path_to anchor cas kind octets).anchor ≡ anchor
+anchor_of_path anchor cas Anchor octets = refl
+anchor_of_path anchor cas Authority octets = refl
+anchor_of_path anchor cas EndEntity octets = refl
+anchor_of_path anchor cas Detached octets = refl
+anchor_of_path anchor cas Router octets = refl
+
+pub begins_at : (files : List (List ℕ)) (kind : Kind) (g : PathStrings) → IsSplitAs files kind g → (more : List (List ℕ)) × (files ≡ g.anchor ∷ more)
+begins_at files kind g (inl h) = ([], h.1 ∙ ap (λ (p : PathStrings). p.anchor ∷ []) (sym h.2))
+begins_at files kind g (inr h) =
+    let anchor : g.anchor ≡ h.anchor = ap (λ (p : PathStrings). p.anchor) h.path_is ∙ anchor_of_path h.anchor h.cas kind h.octets in
+    (h.cas ++ h.octets ∷ [], h.strings_are ∙ ap (λ (a : List ℕ). a ∷ (h.cas ++ h.octets ∷ [])) (sym anchor))
+
 -- a verdict by the lists that were read is one by the files that were given
-pub verdict_by : {E : Type 0} (x : Context) (None_given : Type 0) (files lists : List (List ℕ)) (read : List CrlState) → (length lists ≡ 0 → ⊥) → AreListsOf lists read → (r : Result (Option Verdict) E)
-    → IfOk r (λ o. MatchOption o None_given (IsPathVerdict x (by_lists x read) files)) → IfOk r (λ o. MatchOption o None_given (IsVerdictBy x files lists))
-verdict_by x None_given files [] read some are r h = absurd (some refl)
-verdict_by x None_given files (list ∷ lists) read some are (Ok None) h = h
-verdict_by x None_given files (list ∷ lists) read some are (Ok (Some v)) h = (read, are, h)
-verdict_by x None_given files (list ∷ lists) read some are (Err e) h = tt
+pub verdict_by : {E : Type 0} (x : Context) (d : Demands) (None_given : Type 0) (files lists : List (List ℕ)) (read : List CrlState) → (length lists ≡ 0 → ⊥) → AreListsOf lists read → (r : Result (Option Verdict) E)
+    → IfOk r (λ o. MatchOption o None_given (IsPathVerdict x (by_lists x read) d files)) → IfOk r (λ o. MatchOption o None_given (IsVerdictBy x d files lists))
+verdict_by x d None_given files [] read some are r h = absurd (some refl)
+verdict_by x d None_given files (list ∷ lists) read some are (Ok None) h = h
+verdict_by x d None_given files (list ∷ lists) read some are (Ok (Some v)) h = (read, are, h)
+verdict_by x d None_given files (list ∷ lists) read some are (Err e) h = tt

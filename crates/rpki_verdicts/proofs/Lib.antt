@@ -1,6 +1,9 @@
 -- Lemmas of the proofs about verdicts.
+mod FirstItems
+mod FoundLocators
 mod GivenKinds
 pub mod MappedItems
 pub mod OneVerdict
 mod ReadLists
+mod ReadLocators
 mod UnrevokedFiles

@@ -13,15 +13,20 @@ use Rattle.rpki.specs.KeyForms.{IsUsableKey}
 use Rattle.rpki.specs.Kind.{Kind}
 use Rattle.rpki.specs.Kind.TheVariants.{Anchor, Authority, EndEntity, Detached, Router}
 use Rattle.rpki.specs.Lists.{CrlFields, CrlState, IsCertificateList}
+use Rattle.rpki.specs.NameChains.{strings_below}
 use Rattle.rpki.specs.Paths.{Path, Candidate, IsAccepted, certificate_at, last}
 use Rattle.rpki.specs.Values.{IsUnambiguous}
 use Rattle.rpki.specs.Verification.{Context, ResourceFields}
 use Rattle.rpki_der.proofs.Formats.{one_meant}
 use Rattle.rpki_path.proofs.Rejections as paths
+use Rattle.rpki_path.proofs.UnchainedNames.{never_chained}
+use Rattle.rpki_files.specs.Contents.{BeginsWithCertificate}
+use Rattle.rpki_files.specs.FaultRules.{locator_reason}
+use Rattle.rpki_verdicts.specs.GivenLocators.{IsLocated}
 use Rattle.rpki_verdicts.specs.SaidKinds.{SaysKind, BeginsWithKind, IsJudgedAs}
-use Rattle.rpki_verdicts.specs.PathFiles.{HasJudgedLast, IsGivenBy, AreListsOf}
-use Rattle.rpki_verdicts.specs.PathAnswers.{last_certificate, last_key, IsUsablePath, IsVerdictOn, IsVerdictBy}
-use Rattle.rpki_verdicts.specs.PathAnswers.Steps.{IsKeyVerdict}
+use Rattle.rpki_verdicts.specs.PathFiles.{Demands, HasJudgedLast, IsGivenBy, AreListsOf}
+use Rattle.rpki_verdicts.specs.PathAnswers.{last_certificate, last_key, reason_of, IsUsablePath, IsVerdictOn, IsVerdictBy}
+use Rattle.rpki_verdicts.specs.PathAnswers.Steps.{IsNamedVerdict}
 use Rattle.rpki_verdicts.specs.declared.path.Fault.{Fault}
 use Rattle.rpki_verdicts.specs.declared.path.Verdict.{Verdict}
 use Rattle.rpki_verdicts.specs.declared.path.Verdict.TheVariants.{Accepted, Rejected}
@@ -115,16 +120,28 @@ module _ (one_certificate : IsUnambiguous IsCertificate) where
   one_last_certificate x asked g j i h k =
       same_router x asked g.router j.holder i.holder j.router i.router (one_holder x asked g.anchor g.below j.holder i.holder h.accepted k.accepted) h.router k.router
 
-  -- what the last key makes of a valid path
-  pub key_verdict : (x : Context) (asked : RevocationChecks) (files : List (List ℕ)) (g : PathStrings) (judged : Judged) (place : ℕ) (v : Verdict) → IsAcceptedWith x asked g judged → place + 1 ≡ length files → IsKeyVerdict judged place v → IsVerdictOn x asked files g v
-  key_verdict x asked files g judged place (Accepted j) accepted end k = record {
-    accepted = subst (λ (i : Judged). IsAcceptedWith x asked g i) (sym k.0) accepted;
-    usable = subst (λ (i : Judged). IsUsableKey (last_key i)) (sym k.0) k.1;
-  }
-  key_verdict x asked files g judged place (Rejected fault) accepted end k = (
-    (λ j u. k.0 (subst (λ (c : CertFields). IsUsableKey c.fields.key) (one_last_certificate x asked g j judged u.accepted accepted) u.usable)),
-    inr (record { judged = judged; accepted = accepted; unusable = k.0; place_is = omega (arith, end, k.1); reason_is = k.2 }),
-  )
+  module _ (x : Context) (asked : RevocationChecks) (d : Demands) (files : List (List ℕ)) (g : PathStrings) where
+    -- a trust anchor whose key no locator has
+    pub other_key_verdict : (fault : Fault) → BeginsWithCertificate g.anchor → (IsLocated x.strict d.locators g.anchor → ⊥) → fault.index ≡ 0 → reason_of fault ≡ locator_reason → IsVerdictOn x asked d files g (Rejected fault)
+    other_key_verdict fault begins other place reason = ((λ j u. other u.located), inl (record { begins = begins; other = other; place_is = place; reason_is = reason }))
+
+    -- what names and the last key make of a valid path
+    module _ (judged : Judged) (place : ℕ) (located : IsLocated x.strict d.locators g.anchor) (accepted : IsAcceptedWith x asked g judged) (end : place + 1 ≡ length files) where
+      pub named_verdict : (v : Verdict) → IsNamedVerdict g d.names judged place v → IsVerdictOn x asked d files g v
+      named_verdict (Accepted j) (chained, k) = record {
+        located = located;
+        accepted = subst (λ (i : Judged). IsAcceptedWith x asked g i) (sym k.0) accepted;
+        chained = chained;
+        usable = subst (λ (i : Judged). IsUsableKey (last_key i)) (sym k.0) k.1;
+      }
+      named_verdict (Rejected fault) (inl other) = (
+        (λ j u. never_chained one_certificate g.anchor (strings_below g) fault.index other.unchained (u.chained other.names_asked)),
+        inr (inr (inl (record { judged = judged; accepted = accepted; other = other }))),
+      )
+      named_verdict (Rejected fault) (inr (chained, k)) = (
+        (λ j u. k.0 (subst (λ (c : CertFields). IsUsableKey c.fields.key) (one_last_certificate x asked g j judged u.accepted accepted) u.usable)),
+        inr (inr (inr (record { judged = judged; accepted = accepted; chained = chained; unusable = k.0; place_is = omega (arith, end, k.1); reason_is = k.2 }))),
+      )
 
   module _ (one_list : IsUnambiguous IsCertificateList) where
     -- ---- the lists that are asked
@@ -143,10 +160,10 @@ module _ (one_certificate : IsUnambiguous IsCertificate) where
         p.5 ∙ ap (λ (l : CrlState). l ∷ p.1) first ∙ ap (λ (ls : List CrlState). q.0 ∷ ls) more ∙ sym q.5
 
     -- files aren't both accepted and rejected
-    pub never_both : (x : Context) (files lists : List (List ℕ)) (j : Judged) (fault : Fault) → IsVerdictBy x files lists (Accepted j) → IsVerdictBy x files lists (Rejected fault) → ⊥
-    never_both x files [] j fault a b = b.2.0 j (subst (λ (g : PathStrings). IsUsablePath x nobody g j) (one_path files a.0 b.0 a.1 b.1) a.2)
-    never_both x files (list ∷ lists) j fault a b =
+    pub never_both : (x : Context) (d : Demands) (files lists : List (List ℕ)) (j : Judged) (fault : Fault) → IsVerdictBy x d files lists (Accepted j) → IsVerdictBy x d files lists (Rejected fault) → ⊥
+    never_both x d files [] j fault a b = b.2.0 j (subst (λ (g : PathStrings). IsUsablePath x nobody d g j) (one_path files a.0 b.0 a.1 b.1) a.2)
+    never_both x d files (list ∷ lists) j fault a b =
         let read = same_lists (list ∷ lists) a.0 b.0 a.1 b.1 in
         let paths = one_path files a.2.0 b.2.0 a.2.1 b.2.1 in
-        let usable = subst (λ (g : PathStrings). IsUsablePath x (by_lists x a.0) g j) paths a.2.2 in
-        b.2.2.0 j (subst (λ (ls : List CrlState). IsUsablePath x (by_lists x ls) b.2.0 j) read usable)
+        let usable = subst (λ (g : PathStrings). IsUsablePath x (by_lists x a.0) d g j) paths a.2.2 in
+        b.2.2.0 j (subst (λ (ls : List CrlState). IsUsablePath x (by_lists x ls) d b.2.0 j) read usable)

@@ -1,5 +1,6 @@
 -- The definitions that the contracts of judging files cite.
 pub mod SaidKinds
+pub mod GivenLocators
 pub mod PathFiles
 pub mod PathAnswers
 pub mod UnrevokedMembers

@@ -1,5 +1,5 @@
 -- What the command answers of the files of a path.
-use Rattle.std.specs.Prelude.{◌≡◌, ◌≢◌, ◌⊎◌, ◌+◌, ℕ, List, [], ◌∷◌, length, Option, Some, None, slice_get}
+use Rattle.std.specs.Prelude.{◌≡◌, ◌≢◌, ◌⊎◌, ◌+◌, ℕ, Bool, IsTrue, List, [], ◌∷◌, length, Option, Some, None, slice_get}
 use Rattle.rpki.specs.Asking.{RevocationChecks, nobody}
 use Rattle.rpki.specs.AskedLists.{by_lists}
 use Rattle.rpki.specs.Certificates.{CertFields}
@@ -9,12 +9,17 @@ use Rattle.rpki.specs.Judging.{IsAcceptedWith, IsFaultOf}
 use Rattle.rpki.specs.KeyForms.{IsUsableKey}
 use Rattle.rpki.specs.Keys.{KeyFields}
 use Rattle.rpki.specs.Lists.{CrlState}
+use Rattle.rpki.specs.LocatorFaults.{IsTalFault}
 use Rattle.rpki.specs.PathError.{PathError}
 use Rattle.rpki.specs.PathFault.{PathFault}
 use Rattle.rpki.specs.PathFault.TheVariants.{Memory}
+use Rattle.rpki.specs.TalError.{TalError}
 use Rattle.rpki.specs.Verification.{Context, ResourceFields}
-use Rattle.rpki_files.specs.FaultRules.{ReasonFields, reason, rule_of, IsReason, key_reason}
-use Rattle.rpki_verdicts.specs.PathFiles.{IsGivenBy, AreListsOf}
+use Rattle.rpki.specs.NameChains.{BeginChained, IsUnchained, strings_below}
+use Rattle.rpki_files.specs.Contents.{BeginsWithCertificate}
+use Rattle.rpki_files.specs.FaultRules.{ReasonFields, reason, rule_of, IsReason, key_reason, locator_reason, name_reason, tal_reason}
+use Rattle.rpki_verdicts.specs.GivenLocators.{AreLocator, IsLocated}
+use Rattle.rpki_verdicts.specs.PathFiles.{Demands, IsGivenBy, AreListsOf}
 use Rattle.rpki_verdicts.specs.declared.path.Fault.{Fault}
 use Rattle.rpki_verdicts.specs.declared.path.Verdict.{Verdict}
 use Rattle.rpki_verdicts.specs.declared.path.Verdict.TheVariants.{Accepted, Rejected}
@@ -31,15 +36,24 @@ last_certificate holder (Some router) = router
 abbrev pub last_key : Judged → KeyFields
 last_key j = (last_certificate j.holder j.router).fields.key
 
--- the path is valid, with what its last member holds, and the last key is one that the RPKI uses
--- (RFC 7935 3, RFC 8608 3.1); the keys above it have verified what stands below them
-pub record IsUsablePath (x : Context) (asked : RevocationChecks) (g : PathStrings) (j : Judged) : Type 0 where
+-- ---- a path that is accepted
+
+-- where it is asked for, each issuer is the subject above, and that of the trust anchor its own
+abbrev pub AreChained : Bool → PathStrings → Type 0
+AreChained names g = IsTrue names → BeginChained g.anchor (strings_below g)
+
+-- the trust anchor is that of a locator (RFC 8630 3); the path is valid, with what its last member
+-- holds; names chain (RFC 6487 7.2); and the last key is one that the RPKI uses (RFC 7935 3, RFC 8608
+-- 3.1), as those above it are by the signatures that they verify
+pub record IsUsablePath (x : Context) (asked : RevocationChecks) (d : Demands) (g : PathStrings) (j : Judged) : Type 0 where
+  pub located : IsLocated x.strict d.locators g.anchor
   pub accepted : IsAcceptedWith x asked g j
+  pub chained : AreChained d.names g
   pub usable : IsUsableKey (last_key j)
 
 -- it isn't so, whatever answer one thinks of
-abbrev pub IsNotUsable : Context → RevocationChecks → PathStrings → Type 0
-IsNotUsable x asked g = (j : Judged) → IsUsablePath x asked g j → ⊥
+abbrev pub IsNotUsable : Context → RevocationChecks → Demands → PathStrings → Type 0
+IsNotUsable x asked d g = (j : Judged) → IsUsablePath x asked d g j → ⊥
 
 -- ---- why a path is rejected
 
@@ -53,6 +67,22 @@ pub record IsReasonAt (files : List (List ℕ)) (error : PathFault) (fault : Fau
   pub octets_are : slice_get files fault.index ≡ Some octets
   pub reason_is : IsReason error octets (reason_of fault)
 
+-- the file at the fault's place is no locator, and why
+pub record IsNoLocator (strict : Bool) (files : List (List ℕ)) (fault : Fault) : Type 0 where
+  pub octets : List ℕ
+  pub octets_are : slice_get files fault.index ≡ Some octets
+  pub no_locator : AreLocator strict octets → ⊥
+  pub error : TalError
+  pub error_is : IsTalFault strict error octets
+  pub reason_is : reason_of fault ≡ tal_reason error
+
+-- the trust anchor's octets begin with a certificate, whose key no locator has that is given
+pub record HasOtherKey (x : Context) (d : Demands) (g : PathStrings) (fault : Fault) : Type 0 where
+  pub begins : BeginsWithCertificate g.anchor
+  pub other : IsLocated x.strict d.locators g.anchor → ⊥
+  pub place_is : fault.index ≡ 0
+  pub reason_is : reason_of fault ≡ locator_reason
+
 -- the member at the fault's place is wrong, for its reason, and those above it are a valid path
 pub record IsWrong (x : Context) (asked : RevocationChecks) (files : List (List ℕ)) (g : PathStrings) (fault : Fault) : Type 0 where
   pub error : PathError
@@ -61,31 +91,51 @@ pub record IsWrong (x : Context) (asked : RevocationChecks) (files : List (List 
   pub fault_is : IsFaultOf x asked g error
   pub reason_is : IsReasonAt files error.fault fault
 
--- the path is valid, but the key of its last member can't be used
-pub record HasBadKey (x : Context) (asked : RevocationChecks) (files : List (List ℕ)) (g : PathStrings) (fault : Fault) : Type 0 where
+-- names have to chain, and those of the member at the fault's place, the first such, don't
+pub record IsOtherName (g : PathStrings) (names : Bool) (fault : Fault) : Type 0 where
+  pub names_asked : IsTrue names
+  pub unchained : IsUnchained g.anchor (strings_below g) fault.index
+  pub reason_is : reason_of fault ≡ name_reason fault.index
+
+-- the path is valid, but its names don't chain
+pub record HasOtherName (x : Context) (asked : RevocationChecks) (d : Demands) (g : PathStrings) (fault : Fault) : Type 0 where
   pub judged : Judged
   pub accepted : IsAcceptedWith x asked g judged
+  pub other : IsOtherName g d.names fault
+
+-- the path is valid, and names chain, but the key of its last member can't be used
+pub record HasBadKey (x : Context) (asked : RevocationChecks) (d : Demands) (files : List (List ℕ)) (g : PathStrings) (fault : Fault) : Type 0 where
+  pub judged : Judged
+  pub accepted : IsAcceptedWith x asked g judged
+  pub chained : AreChained d.names g
   pub unusable : IsUsableKey (last_key judged) → ⊥
   pub place_is : fault.index + 1 ≡ length files
   pub reason_is : reason_of fault ≡ key_reason (last_key judged).format
 
 -- ---- the verdict
 
+-- why it is rejected, in the order in which it is asked: of the trust anchor's locator, of the path,
+-- of names, and of the last key; what is asked before the fault holds
+abbrev pub IsFaultIn : Context → RevocationChecks → Demands → List (List ℕ) → PathStrings → Fault → Type 0
+IsFaultIn x asked d files g fault =
+    HasOtherKey x d g fault
+    ⊎ (IsWrong x asked files g fault ⊎ (HasOtherName x asked d g fault ⊎ HasBadKey x asked d files g fault))
+
 -- the verdict on the path of these files: what its last member holds, or where and why it is wrong
-abbrev pub IsVerdictOn : Context → RevocationChecks → List (List ℕ) → PathStrings → Verdict → Type 0
-IsVerdictOn x asked files g (Accepted j) = IsUsablePath x asked g j
-IsVerdictOn x asked files g (Rejected fault) = IsNotUsable x asked g × (IsWrong x asked files g fault ⊎ HasBadKey x asked files g fault)
+abbrev pub IsVerdictOn : Context → RevocationChecks → Demands → List (List ℕ) → PathStrings → Verdict → Type 0
+IsVerdictOn x asked d files g (Accepted j) = IsUsablePath x asked d g j
+IsVerdictOn x asked d files g (Rejected fault) = IsNotUsable x asked d g × IsFaultIn x asked d files g fault
 
 -- the verdict on the path that the files are
-abbrev pub IsPathVerdict : Context → RevocationChecks → List (List ℕ) → Verdict → Type 0
-IsPathVerdict x asked files verdict = (g : PathStrings) × IsGivenBy files g × IsVerdictOn x asked files g verdict
+abbrev pub IsPathVerdict : Context → RevocationChecks → Demands → List (List ℕ) → Verdict → Type 0
+IsPathVerdict x asked d files verdict = (g : PathStrings) × IsGivenBy files g × IsVerdictOn x asked d files g verdict
 
 -- the verdict on the path that the files are, by the files that were given as lists: where none was,
 -- nobody is asked for revocation
-abbrev pub IsVerdictBy : Context → List (List ℕ) → List (List ℕ) → Verdict → Type 0
-IsVerdictBy x files [] verdict = IsPathVerdict x nobody files verdict
-IsVerdictBy x files (list ∷ lists) verdict =
-    (read : List CrlState) × AreListsOf (list ∷ lists) read × IsPathVerdict x (by_lists x read) files verdict
+abbrev pub IsVerdictBy : Context → Demands → List (List ℕ) → List (List ℕ) → Verdict → Type 0
+IsVerdictBy x d files [] verdict = IsPathVerdict x nobody d files verdict
+IsVerdictBy x d files (list ∷ lists) verdict =
+    (read : List CrlState) × AreListsOf (list ∷ lists) read × IsPathVerdict x (by_lists x read) d files verdict
 
 -- the path is accepted
 abbrev pub IsAcceptance : Option Verdict → Type 0

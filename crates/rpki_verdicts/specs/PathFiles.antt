@@ -1,21 +1,49 @@
 -- What is asked of files: the path that they are, and the lists that are given (own).
-use Rattle.std.specs.Prelude.{◌≡◌, ◌⊎◌, ℕ, List, [], ◌∷◌, Bool, true}
+use Rattle.std.specs.Prelude.{◌≡◌, ◌⊎◌, ℕ, List, [], ◌∷◌, Bool, true, slice_get, Option, Some, None}
 use Rattle.rpki.specs.Encoding.{Means}
 use Rattle.rpki.specs.Times.{Moment}
 use Rattle.rpki.specs.Kind.{Kind}
 use Rattle.rpki.specs.Lists.{CrlState, IsCertificateList}
 use Rattle.rpki.specs.GivenPaths.{PathStrings, anchor_alone, HasLast}
 use Rattle.rpki_files.specs.Contents.{BeginsWithList}
-use Rattle.rpki_files.specs.Files.{FileFields}
+use Rattle.rpki_files.specs.Files.{FileFields, contents}
+use Rattle.rpki_verdicts.specs.GivenLocators.{LocatorFields, IsFirst, IsLocatorOf, locator_octets}
 use Rattle.rpki_verdicts.specs.SaidKinds.{IsJudgedAs}
 
--- what is asked: the files of the path, those given as lists, whether names are read strictly, and the
--- moment
+-- what is asked: the files of the path, those given as lists and as locators, whether names have to
+-- chain, whether they are read strictly, and the moment
 pub record QuestionFields : Type 0 where
   pub members : List FileFields
   pub lists : List FileFields
+  pub locators : List LocatorFields
+  pub names : Bool
   pub strict : Bool
   pub at : Moment
+
+-- what is asked of a path beside its validity: that the trust anchor is that of one of these files,
+-- which are given as locators, if there are some, and whether names have to chain
+pub record Demands : Type 0 where
+  pub locators : List (List ℕ)
+  pub names : Bool
+
+-- by the question
+abbrev pub demands_of : QuestionFields → Demands
+demands_of question = record { locators = locator_octets question.locators; names = question.names }
+
+-- the first of the locators that is the trust anchor's stands at this place; or none is
+abbrev pub IsPlaceOfLocator : QuestionFields → Option ℕ → Type 0
+IsPlaceOfLocator question o =
+    (anchor : List ℕ) (more : List (List ℕ)) → contents question.members ≡ anchor ∷ more
+    → IsFirst (IsLocatorOf question.strict anchor) (locator_octets question.locators) o
+
+-- the locator at a place
+abbrev pub locator_at : List LocatorFields → Option ℕ → Option LocatorFields
+locator_at locators None = None
+locator_at locators (Some place) = slice_get locators place
+
+-- the first of the locators that is the trust anchor's, if one is
+abbrev pub IsAnchorLocator : QuestionFields → Option LocatorFields → Type 0
+IsAnchorLocator question found = (o : Option ℕ) × IsPlaceOfLocator question o × (found ≡ locator_at question.locators o)
 
 -- the files are a path with a last one below the trust anchor, which is judged as it says
 pub record HasJudgedLast (files : List (List ℕ)) (g : PathStrings) : Type 0 where

@@ -2,8 +2,12 @@
 //! are given, with revocation.
 #![tactic(auto)]
 
+mod locators;
 mod path;
 mod saying;
 
-pub use path::{Fault, Question, Verdict, accepted_are_unrevoked, is_list, judge, one_answer};
+pub use locators::GivenLocator;
+pub use path::{
+    Fault, Question, Verdict, accepted_are_unrevoked, first_no_locator, judge, located, one_answer,
+};
 pub use saying::{is_router, said_kind};

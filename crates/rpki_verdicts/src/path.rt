@@ -1,42 +1,53 @@
 //! A path of files, from a trust anchor down.
-ghost use Rattle.std.specs.Prelude.{◌≡◌, ◌≢◌, ◌<◌, ◌↔◌, ℕ, Bool, true, List, [], ◌∷◌, length, IfOk, OnOk, IsTrue, MatchOption};
+ghost use Rattle.std.specs.Prelude.{◌≡◌, ◌≢◌, ◌<◌, ℕ, Bool, true, All, List, [], ◌∷◌, length, option_map, IfOk, OnOk, IsFalse, IsTrue, MatchOption};
+ghost use Rattle.rpki.specs.Certificates.{IsCertificate};
+ghost use Rattle.rpki.specs.Encoding.{Means};
 ghost use Rattle.rpki.specs.Times.{Moment};
 ghost use Rattle.rpki.specs.RsaSignatures.{IsSignedByRsa};
 ghost use Rattle.rpki.specs.Verification.{context};
 ghost use Rattle.rpki.specs.Judged.{Judged as Holding};
 ghost use Rattle.rpki.specs.Paths.{UnlessMemory};
 ghost use Rattle.rpki.specs.PathFault.TheVariants.{Memory};
-ghost use Rattle.rpki_files.specs.Contents.{BeginsWithList};
+ghost use Rattle.rpki.specs.NameChains.{IsUnchained, strings_below};
+ghost use Rattle.rpki_files.specs.Contents.{BeginsWithCertificate};
+ghost use Rattle.rpki_files.specs.FaultRules.{locator_reason, name_reason, tal_reason};
 ghost use Rattle.rpki_files.specs.Files.{contents};
+ghost use Rattle.rpki_verdicts.specs.GivenLocators.{AreLocator, IsLocated, IsRead, locator_octets};
 ghost use Rattle.rpki_verdicts.specs.SaidKinds.{IsJudgedAs};
-ghost use Rattle.rpki_verdicts.specs.PathFiles.{AreListsOf};
-ghost use Rattle.rpki_verdicts.specs.PathAnswers.{last_key, IsReasonAt, IsPathVerdict, IsVerdictBy};
-ghost use Rattle.rpki_verdicts.specs.PathAnswers.Steps.{IsKindOfLast, IsKeyVerdict};
+ghost use Rattle.rpki_verdicts.specs.PathFiles.{AreListsOf, Demands, IsAnchorLocator, IsPlaceOfLocator, demands_of};
+ghost use Rattle.rpki_verdicts.specs.PathAnswers.{last_key, reason_of, AreChained, IsNoLocator, IsReasonAt, IsPathVerdict, IsVerdictBy};
+ghost use Rattle.rpki_verdicts.specs.PathAnswers.Steps.{IsKindOfLast, IsKeyVerdict, IsNamedVerdict};
 ghost use Rattle.rpki_verdicts.specs.UnrevokedMembers.{AreUnrevoked};
 ghost use Rattle.rpki_verdicts.specs.declared.path.Verdict.TheVariants.{Accepted, Rejected};
 ghost use Rattle.rpki_verdicts.specs.declared.path.Fault.{Fault as Faulty};
 
+use crate::locators::{GivenLocator, place_of_key};
 use crate::saying::said_kind;
-use bytes::Bytes;
 use rpki::crypto::keys::is_usable;
 use rpki::crypto::{PublicKey, RsaVerifier};
 use rpki::laws;
+use rpki::repository::Cert;
 use rpki::repository::cert::Kind;
 use rpki::repository::crl::Crl;
-use rpki::repository::path::{GivenPath, Judged, PathError, judge as judge_path};
+use rpki::repository::path::{
+    GivenPath, Judged, Member, PathError, first_unchained, judge as judge_path,
+};
 use rpki::repository::revocation::{GivenLists, NobodyAsked, RevocationSource};
+use rpki::repository::tal::TalError;
 use rpki::repository::x509::Time;
-use rpki_files::rules::{Rule, of_key, of_path};
-use rpki_files::{Object, as_certificate, as_list};
+use rpki_files::Object;
+use rpki_files::rules::{Rule, of_key, of_name, of_other_key, of_path, of_tal};
 use std::alloc::{AllocError, Global};
 use std::marker::Model;
 
-/// What is asked of a path: its files from the trust anchor down, the revocation lists, the mode
-/// and the moment.
+/// What is asked of a path: its files from the trust anchor down, the revocation lists, the
+/// locators, whether names have to chain, the mode and the moment.
 #[derive(Drop)]
 pub struct Question<'q, 'n> {
     pub members: &'q [Object<'n>],
     pub lists: &'q [Object<'n>],
+    pub locators: &'q [GivenLocator<'n>],
+    pub names: bool,
     pub strict: bool,
     pub at: Time,
 }
@@ -49,6 +60,8 @@ impl<'q, 'n> Model for Question<'q, 'n> {
     ghost view = { λ q. record {
       members = q.members.now;
       lists = q.lists.now;
+      locators = q.locators.now;
+      names = q.names;
       strict = q.strict;
       at = q.at;
     } };
@@ -71,77 +84,72 @@ pub enum Verdict {
     Rejected(Fault),
 }
 
-/// Returns whether a file is a revocation list.
-pub fn is_list(alloc: Global, object: &Object<'_>) -> Result<bool, AllocError>
-    ensures { IfOk result (λ yes. IsTrue yes ↔ BeginsWithList object.now.octets) }
-{
-    match as_list(alloc, object)? {
-        Some(list) => {
-            drop(list);
-            Ok(true)
-        }
-        None => Ok(false),
-    }
-}
-
 // As what the last file is judged.
-fn judged_as(alloc: Global, last: &Object<'_>) -> Result<Kind, AllocError>
-    ensures { IfOk result (λ kind. IsJudgedAs kind last.now.octets) }
+fn judged_as(last: &Object<'_>) -> Kind
+    ensures { IsJudgedAs result last.now.octets }
 {
-    let Some(cert) = as_certificate(alloc, last)? else {
-        return Ok(Kind::Authority);
-    };
-    let kind = said_kind(cert.as_tbs());
-    drop(cert);
-    Ok(kind)
+    match last.certificate() {
+        Some((cert, _)) => said_kind(cert.as_tbs()),
+        None => Kind::Authority,
+    }
 }
 
 // As what the last file below the trust anchor's is judged; a CA where there is none.
-fn kind_of_last(alloc: Global, files: &[Object<'_>]) -> Result<Kind, AllocError>
-    ensures { IfOk result (λ kind. IsKindOfLast (contents files.now) kind) }
+fn kind_of_last(files: &[Object<'_>]) -> Kind
+    ensures { IsKindOfLast (contents files.now) result }
 {
     let Some((_, below)) = files.split_first() else {
-        return Ok(Kind::Authority);
+        return Kind::Authority;
     };
     match below.split_last() {
-        Some((last, _)) => judged_as(alloc, last),
-        None => Ok(Kind::Authority),
+        Some((last, _)) => judged_as(last),
+        None => Kind::Authority,
     }
 }
 
-// The octets of the files, shared.
-fn shared(alloc: Global, files: &[Object<'_>]) -> Result<Vec<Bytes>, AllocError>
+// The member that a file is, with what was read of it.
+fn member_of<'f>(file: &'f Object<'_>) -> Member<'f>
+    ensures { result ≡ file.now.octets }
+{
+    match file.certificate() {
+        Some((cert, _)) => Member::read_as(file.octets(), cert),
+        None => Member::of(file.octets()),
+    }
+}
+
+// The members that the files are.
+fn members_of<'f>(alloc: Global, files: &'f [Object<'_>]) -> Result<Vec<Member<'f>>, AllocError>
     ensures { IfOk result (λ all. all.items ≡ contents files.now) }
 {
     let mut all = Vec::new(alloc);
     for file in files {
-        let octets: Result<Bytes, AllocError> = file.octets.clone();
-        all.push(octets?)?;
+        all.push(member_of(file))?;
     }
     Ok(all)
 }
 
-// A list with a table of its serials, so that none is looked for twice along the list.
-fn with_table(alloc: Global, mut list: Crl) -> Result<Crl, AllocError>
-    ensures same { IfOk result (λ kept. kept.list ≡ list.list) }
+// A copy of the list with a table of its serials, so that none is looked for twice along the list.
+fn with_table(alloc: Global, list: &Crl) -> Result<Crl, AllocError>
+    ensures same { IfOk result (λ kept. kept.list ≡ list.now.list) }
     ensures cached { IfOk result (λ kept. kept.is_cached ≡ true) }
 {
-    match list.cache_serials(alloc) {
-        Ok(()) => Ok(list),
+    let mut kept = list.try_clone(alloc)?;
+    match kept.cache_serials(alloc) {
+        Ok(()) => Ok(kept),
         Err(error) => {
-            drop(list);
+            drop(kept);
             Err(error)
         }
     }
 }
 
 // The lists of the files that are lists.
-fn read_lists(alloc: Global, files: &[Object<'_>]) -> Result<Vec<Crl>, AllocError>
+fn lists_of(alloc: Global, files: &[Object<'_>]) -> Result<Vec<Crl>, AllocError>
     ensures { IfOk result (λ all. AreListsOf (contents files.now) all.items) }
 {
     let mut all = Vec::new(alloc);
     for file in files {
-        let Some(list) = as_list(alloc, file)? else {
+        let Some((list, _)) = file.list() else {
             continue;
         };
         let kept = with_table(alloc, list)?;
@@ -163,7 +171,7 @@ fn rejected(error: PathError, files: &[Object<'_>]) -> Result<Fault, AllocError>
     }
     let index = error.index;
     let file = &files[index];
-    let (step, name, rule) = of_path(&error.fault, &file.octets);
+    let (step, name, rule) = of_path(&error.fault, file.octets());
     drop(error);
     Ok(Fault {
         index,
@@ -202,24 +210,183 @@ fn with_key(judged: Judged, index: usize) -> Verdict
     })
 }
 
-// The verdict on the path that the strings of the files are. `None` where there is none.
+// The certificate that the trust anchor's file begins with, if it begins with one.
+fn anchor_certificate<'q>(question: &Question<'q, '_>) -> Option<&'q Cert>
+    ensures { (anchor : List ℕ) (more : List (List ℕ))
+        → contents question.now.members ≡ anchor ∷ more
+        → MatchOption result (BeginsWithCertificate anchor → ⊥)
+        (λ cert. Means IsCertificate cert.now anchor) }
+{
+    let anchor = question.members.first()?;
+    match anchor.certificate() {
+        Some((cert, _)) => Some(cert),
+        None => None,
+    }
+}
+
+// Finds the place of the first of the locators whose key the trust anchor's certificate has.
+fn place_of_locator(question: &Question<'_, '_>) -> Option<usize>
+    requires { All (IsRead question.now.strict) question.now.locators }
+    ensures { IsPlaceOfLocator question.now result }
+{
+    laws::certificates::unambiguous();
+    laws::locators::unambiguous();
+    match anchor_certificate(question) {
+        Some(cert) => place_of_key(question.locators, cert.as_tbs().subject_public_key_info()),
+        None => None,
+    }
+}
+
+/// Returns the first of the locators whose key the trust anchor's certificate has (RFC 8630 3).
+pub fn located<'q, 'n>(question: &Question<'q, 'n>) -> Option<&'q GivenLocator<'n>>
+    requires { All (IsRead question.now.strict) question.now.locators }
+    ensures { IsAnchorLocator question.now (option_map (λ l. l.now) result) }
+{
+    question.locators.get(place_of_locator(question)?)
+}
+
+// Whether locators are given, and the trust anchor's certificate has the key of none.
+fn has_other_key(question: &Question<'_, '_>) -> bool
+    requires { All (IsRead question.now.strict) question.now.locators }
+    ensures other { IsTrue result → (anchor : List ℕ) (more : List (List ℕ))
+        → contents question.now.members ≡ anchor ∷ more
+        → let files = locator_octets question.now.locators in
+        BeginsWithCertificate anchor × (IsLocated question.now.strict files anchor → ⊥) }
+    ensures located { IsFalse result → (anchor : List ℕ) (more : List (List ℕ))
+        → contents question.now.members ≡ anchor ∷ more → BeginsWithCertificate anchor
+        → IsLocated question.now.strict (locator_octets question.now.locators) anchor }
+{
+    if question.locators.is_empty() {
+        return false;
+    }
+    match anchor_certificate(question) {
+        Some(_) => place_of_locator(question).is_none(),
+        None => false,
+    }
+}
+
+// Why the file at this place, which is given as a locator, is none.
+fn no_locator(index: usize, fault: &TalError) -> Fault
+    ensures place { result.index ≡ index }
+    ensures reason { reason_of result ≡ tal_reason fault.now }
+{
+    Fault {
+        index,
+        step: "locator",
+        name: fault.name(),
+        rule: of_tal(fault),
+    }
+}
+
+/// Finds the first of the files that are given as locators, but are none, and why it is none.
+pub fn first_no_locator(question: &Question<'_, '_>) -> Option<Fault>
+    requires { All (IsRead question.now.strict) question.now.locators }
+    ensures { let files = locator_octets question.now.locators in
+        MatchOption result (All (AreLocator question.now.strict) files)
+        (IsNoLocator question.now.strict files) }
+{
+    for (place, locator) in question.locators.iter().enumerate() {
+        if let Err(fault) = locator.tal() {
+            return Some(no_locator(place, fault));
+        }
+    }
+    None
+}
+
+// That the trust anchor's key is that of no locator.
+fn other_key() -> Fault
+    ensures place { result.index ≡ 0 }
+    ensures reason { reason_of result ≡ locator_reason }
+{
+    Fault {
+        index: 0,
+        step: "locator",
+        name: "OtherKey",
+        rule: of_other_key(),
+    }
+}
+
+// That the names of the member at this place don't chain.
+fn other_name(index: usize) -> Fault
+    ensures place { result.index ≡ index }
+    ensures reason { reason_of result ≡ name_reason index }
+{
+    Fault {
+        index,
+        step: "names",
+        name: "OtherName",
+        rule: of_name(index),
+    }
+}
+
+// The place of the first member whose names don't chain, where that is asked. The strings of a
+// valid path begin with certificates, so this errs only where memory runs out.
+fn unchained(
+    alloc: Global,
+    path: &GivenPath<'_, '_>,
+    names: bool,
+) -> Result<Option<usize>, AllocError>
+    ensures { IfOk result (λ o. MatchOption o (AreChained names path.now)
+        (λ place. IsTrue names × IsUnchained path.now.anchor (strings_below path.now) place)) }
+{
+    if !names {
+        return Ok(None);
+    }
+    match first_unchained(alloc, path) {
+        Ok(place) => Ok(place),
+        Err(error) => {
+            drop(error);
+            Err(AllocError)
+        }
+    }
+}
+
+// The verdict on a valid path, whose last member stands at this place: where it is asked, its names
+// have to chain, and its last key has to be one that the RPKI uses.
+fn with_names(
+    alloc: Global,
+    path: &GivenPath<'_, '_>,
+    names: bool,
+    judged: Judged,
+    index: usize,
+) -> Result<Verdict, AllocError>
+    ensures { IfOk result (IsNamedVerdict path.now names judged index) }
+{
+    match unchained(alloc, path, names) {
+        Ok(None) => Ok(with_key(judged, index)),
+        Ok(Some(place)) => {
+            drop(judged);
+            Ok(Verdict::Rejected(other_name(place)))
+        }
+        Err(error) => {
+            drop(judged);
+            Err(error)
+        }
+    }
+}
+
+// The verdict on the path that the members are. `None` where there is none.
 fn verdict_on<R: RevocationSource>(
     alloc: Global,
-    strings: &[Bytes],
+    members: &[Member<'_>],
     kind: Kind,
     question: &Question<'_, '_>,
     asked: &R,
 ) -> Result<Option<Verdict>, AllocError>
-    requires strings { strings.now ≡ contents question.now.members }
-    requires kind { IsKindOfLast strings.now kind }
+    requires members { members.now ≡ contents question.now.members }
+    requires kind { IsKindOfLast members.now kind }
+    requires read { All (IsRead question.now.strict) question.now.locators }
     ensures { let x = context IsSignedByRsa question.now.at question.now.strict in
-        IfOk result (λ o. MatchOption o (strings.now ≡ [])
-        (IsPathVerdict x (R.asks asked.now x) strings.now)) }
+        IfOk result (λ o. MatchOption o (members.now ≡ [])
+        (IsPathVerdict x (R.asks asked.now x) (demands_of question.now) members.now)) }
 {
     laws::certificates::unambiguous();
-    let Some(path) = GivenPath::of(strings, kind) else {
+    let Some(path) = GivenPath::of(members, kind) else {
         return Ok(None);
     };
+    if has_other_key(question) {
+        return Ok(Some(Verdict::Rejected(other_key())));
+    }
     match judge_path(
         alloc,
         &path,
@@ -228,7 +395,11 @@ fn verdict_on<R: RevocationSource>(
         question.at,
         &RsaVerifier,
     ) {
-        Ok(judged) => Ok(Some(with_key(judged, strings.len() - 1))),
+        Ok(judged) => {
+            let place = members.len() - 1;
+            let verdict = with_names(alloc, &path, question.names, judged, place)?;
+            Ok(Some(verdict))
+        }
         Err(error) => {
             let fault = rejected(error, question.members)?;
             Ok(Some(Verdict::Rejected(fault)))
@@ -242,30 +413,34 @@ fn judged_by<R: RevocationSource>(
     question: &Question<'_, '_>,
     asked: &R,
 ) -> Result<Option<Verdict>, AllocError>
+    requires { All (IsRead question.now.strict) question.now.locators }
     ensures { let x = context IsSignedByRsa question.now.at question.now.strict in
         let members = contents question.now.members in
         IfOk result (λ o. MatchOption o (members ≡ [])
-        (IsPathVerdict x (R.asks asked.now x) members)) }
+        (IsPathVerdict x (R.asks asked.now x) (demands_of question.now) members)) }
 {
-    let kind = kind_of_last(alloc, question.members)?;
-    let strings = shared(alloc, question.members)?;
-    let verdict = verdict_on(alloc, &strings, kind, question, asked);
-    drop(strings);
+    let kind = kind_of_last(question.members);
+    let members = members_of(alloc, question.members)?;
+    let verdict = verdict_on(alloc, &members, kind, question, asked);
+    drop(members);
     verdict
 }
 
-/// Validates a path of files with real signatures, and with the revocation lists where some are
-/// given. Gives `None` where there is no file.
+/// Validates a path of files with real signatures, from the trust anchor of a locator where some are
+/// given (RFC 8630 3), with the revocation lists where some are given, and with names that chain
+/// (RFC 6487 7.2) where that is asked. Gives `None` where there is no file.
 pub fn judge(alloc: Global, question: &Question<'_, '_>) -> Result<Option<Verdict>, AllocError>
+    requires { All (IsRead question.now.strict) question.now.locators }
     ensures { let x = context IsSignedByRsa question.now.at question.now.strict in
+        let d = demands_of question.now in
         let members = contents question.now.members in
         let lists = contents question.now.lists in
-        IfOk result (λ o. MatchOption o (members ≡ []) (IsVerdictBy x members lists)) }
+        IfOk result (λ o. MatchOption o (members ≡ []) (IsVerdictBy x d members lists)) }
 {
     if question.lists.is_empty() {
         return judged_by(alloc, question, &NobodyAsked);
     }
-    let lists = read_lists(alloc, question.lists)?;
+    let lists = lists_of(alloc, question.lists)?;
     let given = GivenLists::new(&lists);
     let verdict = judged_by(alloc, question, &given);
     drop(lists);
@@ -276,16 +451,16 @@ pub fn judge(alloc: Global, question: &Question<'_, '_>) -> Result<Option<Verdic
 /// unrevoked by one of them: the key of the member above signed it, it is current, and it doesn't
 /// have the member's serial number.
 pub fn accepted_are_unrevoked()
-    ensures { (now : Moment) (strict : Bool) (files lists : List (List ℕ)) (list : List ℕ)
-        (j : Holding) → let x = context IsSignedByRsa now strict in
-        IsVerdictBy x files (list ∷ lists) (Accepted j) → AreUnrevoked x (list ∷ lists) files }
+    ensures { (now : Moment) (strict : Bool) (d : Demands) (files lists : List (List ℕ))
+        (list : List ℕ) (j : Holding) → let x = context IsSignedByRsa now strict in
+        IsVerdictBy x d files (list ∷ lists) (Accepted j) → AreUnrevoked x (list ∷ lists) files }
 {}
 
 /// Says that files aren't both accepted and rejected.
 pub fn one_answer()
-    ensures { (now : Moment) (strict : Bool) (files lists : List (List ℕ)) (j : Holding) (f : Faulty)
-        → let x = context IsSignedByRsa now strict in
-        IsVerdictBy x files lists (Accepted j) → IsVerdictBy x files lists (Rejected f) → ⊥ }
+    ensures { (now : Moment) (strict : Bool) (d : Demands) (files lists : List (List ℕ))
+        (j : Holding) (f : Faulty) → let x = context IsSignedByRsa now strict in
+        IsVerdictBy x d files lists (Accepted j) → IsVerdictBy x d files lists (Rejected f) → ⊥ }
 {
     laws::certificates::unambiguous();
     laws::lists::unambiguous();

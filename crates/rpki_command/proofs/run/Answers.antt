@@ -3,10 +3,11 @@ use Rattle.std.proofs.Common.{◌≡◌, ◌∷◌, [], ℕ, List, map, ap, inl,
 use Rattle.rpki.specs.Times.{Moment, moment}
 use Rattle.rpki.specs.RsaSignatures.{IsSignedByRsa}
 use Rattle.rpki.specs.Verification.{Context, context}
+use Rattle.rpki_verdicts.specs.PathFiles.{Demands}
 use Rattle.rpki_command.specs.CommandLines.{RequestFields}
 use Rattle.rpki_command.specs.CommandLines.Views.{fields_of}
 use Rattle.rpki_files.specs.Files.{FileFields, file_names, contents}
-use Rattle.rpki_command.specs.Outcomes.{AreReadOf, AsksOfFiles, IsOutcomeOf, MayEndWith}
+use Rattle.rpki_command.specs.Outcomes.{AreReadOf, AsksOfFiles, IsOutcomeOf, MayEndWith, demands_by}
 use Rattle.rpki_command.specs.declared.arguments.Task.{Task}
 use Rattle.rpki_command.specs.declared.arguments.Task.TheVariants.{Show, Validate, Help, Version}
 use Rattle.rpki_command.specs.declared.outcomes.Outcome.TheVariants.{Success}
@@ -18,11 +19,11 @@ some_moment : (at : Option Moment) → (now : Moment) × IfSome at (λ named. no
 some_moment None = (moment 0 1 1 0 0 0, tt)
 some_moment (Some named) = (named, refl)
 
-success : (task : Task) (x : Context) (files lists : List (List ℕ)) → (AsksOfFiles task → ⊥) → IsOutcomeOf task x files lists Success
-success Show x files lists none = absurd (none (inl refl))
-success Validate x files lists none = absurd (none (inr refl))
-success Help x files lists none = refl
-success Version x files lists none = refl
+success : (task : Task) (x : Context) (d : Demands) (files lists : List (List ℕ)) → (AsksOfFiles task → ⊥) → IsOutcomeOf task x d files lists Success
+success Show x d files lists none = absurd (none (inl refl))
+success Validate x d files lists none = absurd (none (inr refl))
+success Help x d files lists none = refl
+success Version x d files lists none = refl
 
 -- files of these names, that hold nothing
 empty_files : List (List ℕ) → List FileFields
@@ -44,10 +45,12 @@ told r none = record {
   now = (some_moment r.at).0;
   files = empty_files r.files;
   lists = empty_files r.lists;
+  locators = empty_files r.locators;
   now_is = (some_moment r.at).1;
   files_read = empty_read r.files;
   lists_read = empty_read r.lists;
-  ends = ((empty_named r.files, empty_named r.lists), success r.task (context IsSignedByRsa (some_moment r.at).0 r.strict) (contents (empty_files r.files)) (contents (empty_files r.lists)) none);
+  locators_read = empty_read r.locators;
+  ends = ((empty_named r.files, empty_named r.lists, empty_named r.locators), success r.task (context IsSignedByRsa (some_moment r.at).0 r.strict) (demands_by r (empty_files r.locators)) (contents (empty_files r.files)) (contents (empty_files r.lists)) none);
 }
 
 pub returns-in-Err : goal.returns-in-Err

@@ -3,8 +3,8 @@ use Rattle.std.specs.Prelude.{◌≡◌, ◌⊎◌, ℕ, List, ◌++◌, codes}
 use Rattle.rpki.specs.Times.{Moment, IsMoment}
 use Rattle.rpki_text.specs.MomentTexts.{IsMomentText}
 use Rattle.rpki_command.specs.declared.arguments.Setting.{Setting}
-use Rattle.rpki_command.specs.declared.arguments.Setting.TheVariants.{Crl, At, MaxSize}
-use Rattle.rpki_command.specs.CommandLines.{IsNumberText, LinePart, list, at_moment, max_size, lenient, json, all, help, IsPart, AreParts, RequestFields, setting_name, with_part, with_parts}
+use Rattle.rpki_command.specs.declared.arguments.Setting.TheVariants.{Crl, Tal, At, MaxSize}
+use Rattle.rpki_command.specs.CommandLines.{IsNumberText, LinePart, list, locator, at_moment, max_size, lenient, json, all, no_names, help, IsPart, AreParts, RequestFields, setting_name, with_part, with_parts}
 
 -- the words are a part, and the new request has what it says too
 abbrev pub AddsPart : List (List ℕ) → RequestFields → RequestFields → Type 0
@@ -30,6 +30,7 @@ Joins setting value word = word ≡ setting_name setting ++ codes "=" ++ value
 -- the option with this value is the part
 abbrev pub IsSet : Setting → List ℕ → LinePart → Type 0
 IsSet Crl value part = part ≡ list value
+IsSet Tal value part = part ≡ locator value
 IsSet At value part = (m : Moment) × (part ≡ at_moment m) × IsMoment m × IsMomentText m value
 IsSet MaxSize value part = (n : ℕ) × (part ≡ max_size n) × IsNumberText n value
 
@@ -44,5 +45,6 @@ abbrev pub IsSwitch : LinePart → List ℕ → Type 0
 IsSwitch lenient word = word ≡ codes "--lenient"
 IsSwitch json word = (word ≡ codes "--json") ⊎ (word ≡ codes "-j")
 IsSwitch all word = word ≡ codes "--all"
+IsSwitch no_names word = word ≡ codes "--no-names"
 IsSwitch help word = (word ≡ codes "--help") ⊎ (word ≡ codes "-h")
 IsSwitch _ word = ⊥

@@ -17,6 +17,8 @@ fields_of r = record {
   json = r.json;
   all_entries = r.all;
   max_size = r.max_size;
+  names = r.names;
   files = map (λ name. name.now) r.files.items;
   lists = map (λ name. name.now) r.lists.items;
+  locators = map (λ name. name.now) r.locators.items;
 }

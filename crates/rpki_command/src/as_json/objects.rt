@@ -9,7 +9,7 @@ ghost use Rattle.rpki.specs.Texts.{serial_text};
 ghost use Rattle.rpki_command.specs.JsonTexts.{json_lines};
 ghost use Rattle.rpki_command.specs.JsonValues.{Puts, member_of, moment_json, object_with, text_member};
 ghost use Rattle.rpki_text.specs.Pages.{Appends, characters_text, colons_text};
-ghost use Rattle.rpki_files.specs.PemFiles.{base64_of};
+ghost use Rattle.rpki.specs.Digits.{base64_of};
 
 use crate::as_json::ascii::ended_ascii;
 use base64::engine::general_purpose::STANDARD;
@@ -123,7 +123,7 @@ impl Members {
     }
 
     /// Puts in the SHA-256 of octets, in base64.
-    #[tactic(auto, unfolding(rpki_files::specs::PemFiles::base64_of))]
+    #[tactic(auto, unfolding(rpki_tal::specs::Digits::base64_of))]
     pub fn hash(&mut self, key: &str, of: &[u8]) -> Result<(), AllocError>
         ensures { OnOk result
             (Puts (text_member key.now (base64_of (sha256 of.now))) self.old self.new) }

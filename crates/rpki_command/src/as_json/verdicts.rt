@@ -1,5 +1,5 @@
 //! The verdict on a path as JSON.
-ghost use Rattle.std.specs.Prelude.{◌≡◌, ◌++◌, [], ◌∷◌, List, Some, codes, IfOk, OnOk};
+ghost use Rattle.std.specs.Prelude.{◌≡◌, ◌++◌, [], ◌∷◌, All, List, Some, codes, option_map, IfOk, OnOk};
 ghost use Rattle.serde_json.specs.Data.{Data};
 ghost use Rattle.serde_json.specs.View.{view};
 ghost use Rattle.rpki.specs.Certificates.{IsCertificate};
@@ -7,7 +7,8 @@ ghost use Rattle.rpki.specs.Lists.{IsCertificateList};
 ghost use Rattle.rpki_text.specs.KeyTexts.{IsKeyAnswer};
 ghost use Rattle.rpki_command.specs.JsonNotes.{notes_json};
 ghost use Rattle.rpki_command.specs.JsonValues.{Puts, Pushes, array_of, flattened, member_of, object_of, text_member, text_member_if_any};
-ghost use Rattle.rpki_command.specs.JsonVerdicts.{AreAcceptedMembers, AreAnswerMembers, AreVerdictMembers, IsLeftItem, IsNoteItem, IsOtherItem, IsVerdictJson, PushesSome, PutsSome, accepted_members, fault_json, has_lists, left_items, left_json, names_json, no_list_json, note_items, rejected_members, router_json};
+ghost use Rattle.rpki_command.specs.JsonVerdicts.{AreAcceptance, AreAcceptedMembers, AreAnswerMembers, AreVerdictMembers, IsLeftItem, IsNoteItem, IsOtherItem, IsVerdictJson, PushesSome, PutsSome, accepted_members, fault_json, has_lists, has_locators, left_items, left_json, names_json, no_list_json, no_locator_items, no_locator_json, no_locators_json, note_items, rejected_members, router_json, tal_members};
+ghost use Rattle.rpki_verdicts.specs.GivenLocators.{IsRead};
 ghost use Rattle.rpki_command.specs.VerdictTexts.{SaysOfEach, file_name_at};
 
 use crate::as_json::blocks::{held, listed};
@@ -15,7 +16,6 @@ use crate::as_json::key::facts;
 use crate::as_json::notes::notes_value;
 use crate::as_json::objects::Members;
 use crate::as_json::put_rule;
-use crate::leftovers::{left_of_certificate, left_of_list};
 use crate::verdict_lines::NO_LIST;
 use crate::verdicts::Finding;
 use rpki::repository::cert::{Cert, ResourceCert};
@@ -23,7 +23,7 @@ use rpki::repository::path::Judged;
 use rpki_files::Object;
 use rpki_notes::{Note, notes_of};
 use rpki_text::keys::answer_of;
-use rpki_verdicts::{Fault, Question, Verdict, is_list};
+use rpki_verdicts::{Fault, GivenLocator, Question, Verdict, located};
 use serde_json::Value;
 use std::alloc::{AllocError, Global};
 
@@ -33,7 +33,7 @@ fn names(alloc: Global, files: &[Object<'_>]) -> Result<Value, AllocError>
 {
     let mut names = Vec::new(alloc);
     for file in files {
-        let name = Value::try_from_str(alloc, file.name)?;
+        let name = Value::try_from_str(alloc, file.name())?;
         names.push(name)?;
     }
     Ok(Value::from(names))
@@ -46,14 +46,51 @@ fn has_lists(lists: &[Object<'_>]) -> bool
     !lists.is_empty()
 }
 
+// Whether locators were given.
+fn has_locators(locators: &[GivenLocator<'_>]) -> bool
+    ensures { result ≡ has_locators locators.now }
+{
+    !locators.is_empty()
+}
+
+// Pushes the name of a file given as a locator, if it is none.
+fn push_other_locator(
+    alloc: Global,
+    names: &mut Vec<Value>,
+    locator: &GivenLocator<'_>,
+) -> Result<(), AllocError>
+    ensures { let items = no_locator_items locator.now.file.name locator.now.read in
+        OnOk result (Pushes items names.old.items names.new.items) }
+{
+    match locator.tal() {
+        Ok(_) => Ok(()),
+        Err(_) => {
+            let name = Value::try_from_str(alloc, locator.name())?;
+            names.push(name)?;
+            Ok(())
+        }
+    }
+}
+
+// The names of the files given as locators that are none.
+fn not_locators(alloc: Global, locators: &[GivenLocator<'_>]) -> Result<Value, AllocError>
+    ensures { IfOk result (λ made. view made ≡ no_locators_json locators.now) }
+{
+    let mut names = Vec::new(alloc);
+    for locator in locators {
+        push_other_locator(alloc, &mut names, locator)?;
+    }
+    Ok(Value::from(names))
+}
+
 // Pushes the name of a file given as a list, if it is none.
 fn push_other(alloc: Global, names: &mut Vec<Value>, list: &Object<'_>) -> Result<(), AllocError>
     ensures { OnOk result (PushesSome (IsOtherItem list.now) names.old.items names.new.items) }
 {
-    if is_list(alloc, list)? {
+    if list.is_list() {
         return Ok(());
     }
-    let name = Value::try_from_str(alloc, list.name)?;
+    let name = Value::try_from_str(alloc, list.name())?;
     names.push(name)?;
     Ok(())
 }
@@ -85,18 +122,16 @@ fn push_left(
     alloc: Global,
     values: &mut Vec<Value>,
     name: &str,
-    left: Option<usize>,
+    left: usize,
 ) -> Result<(), AllocError>
-    ensures { OnOk result (Pushes (left_items name.now left) values.old.items values.new.items) }
+    ensures { OnOk result
+        (Pushes (left_items name.now (Some left)) values.old.items values.new.items) }
 {
-    match left {
-        None | Some(0) => Ok(()),
-        Some(left) => {
-            let value = left_of(alloc, name, left)?;
-            values.push(value)?;
-            Ok(())
-        }
+    if left > 0 {
+        let value = left_of(alloc, name, left)?;
+        values.push(value)?;
     }
+    Ok(())
 }
 
 fn push_member(
@@ -107,8 +142,10 @@ fn push_member(
     ensures { let IsItem = IsLeftItem IsCertificate in
         OnOk result (PushesSome (IsItem member.now) values.old.items values.new.items) }
 {
-    let left = left_of_certificate(alloc, &member.octets)?;
-    push_left(alloc, values, member.name, left)
+    match member.certificate() {
+        Some((_, left)) => push_left(alloc, values, member.name(), left),
+        None => Ok(()),
+    }
 }
 
 fn push_members(
@@ -129,8 +166,10 @@ fn push_list(alloc: Global, values: &mut Vec<Value>, list: &Object<'_>) -> Resul
     ensures { let IsItem = IsLeftItem IsCertificateList in
         OnOk result (PushesSome (IsItem list.now) values.old.items values.new.items) }
 {
-    let left = left_of_list(alloc, &list.octets)?;
-    push_left(alloc, values, list.name, left)
+    match list.list() {
+        Some((_, left)) => push_left(alloc, values, list.name(), left),
+        None => Ok(()),
+    }
 }
 
 fn push_lists(
@@ -200,8 +239,8 @@ fn push_noted(alloc: Global, values: &mut Vec<Value>, member: &Object<'_>) -> Re
     ensures { OnOk result
         (PushesSome (IsNoteItem member.now) values.old.items values.new.items) }
 {
-    let notes = notes_of(alloc, &member.octets)?;
-    push_notes(alloc, values, member.name, &notes)
+    let notes = notes_of(alloc, member)?;
+    push_notes(alloc, values, member.name(), &notes)
 }
 
 // The members with notes.
@@ -223,7 +262,7 @@ fn file_at(out: &mut Members, members: &[Object<'_>], index: usize) -> Result<()
         (Puts (text_member_if_any (codes "file") (file_name_at members.now index)) out.old out.new) }
 {
     match members.get(index) {
-        Some(object) => out.text("file", object.name),
+        Some(object) => out.text("file", object.name()),
         None => Ok(()),
     }
 }
@@ -291,6 +330,44 @@ fn put_accepted(out: &mut Members, alloc: Global, judged: &Judged) -> Result<(),
     }
 }
 
+// The name of the trust anchor's locator, where some are given.
+#[tactic(auto, unfolding(crate::specs::JsonValues::put_all))]
+fn put_tal(out: &mut Members, found: Option<&GivenLocator<'_>>) -> Result<(), AllocError>
+    ensures { let its = option_map (λ l. l.now) found.entry in
+        OnOk result (Puts (tal_members its) out.old out.new) }
+{
+    match found {
+        Some(locator) => out.text("tal", locator.name()),
+        None => Ok(()),
+    }
+}
+
+// The trust anchor's locator, where some are given, and what the last member holds.
+fn put_acceptance(
+    out: &mut Members,
+    alloc: Global,
+    question: &Question<'_, '_>,
+    judged: &Judged,
+) -> Result<(), AllocError>
+    requires { All (IsRead question.now.strict) question.now.locators }
+    ensures { let Are = AreAcceptance question.now judged.now in
+        OnOk result (PutsSome Are out.old out.new) }
+{
+    put_tal(out, located(question))?;
+    put_accepted(out, alloc, judged)
+}
+
+// Why a path is rejected whose locators aren't all locators.
+fn no_locator(alloc: Global, fault: &Fault) -> Result<Value, AllocError>
+    ensures { IfOk result (λ made. view made ≡ no_locator_json fault.now) }
+{
+    let mut out = Members::new(alloc);
+    out.text("step", fault.step)?;
+    out.text("fault", fault.name)?;
+    put_rule(&mut out, fault.rule)?;
+    Ok(out.into_value())
+}
+
 // Why a path is rejected whose lists aren't all lists.
 fn no_list(alloc: Global) -> Result<Value, AllocError>
     ensures { IfOk result (λ made. view made ≡ no_list_json) }
@@ -319,16 +396,17 @@ fn put_rejected(out: &mut Members, why: Value) -> Result<(), AllocError>
 fn put_verdict(
     out: &mut Members,
     alloc: Global,
-    members: &[Object<'_>],
+    question: &Question<'_, '_>,
     verdict: &Option<Verdict>,
 ) -> Result<(), AllocError>
-    ensures { let Are = AreVerdictMembers members.now verdict.now in
+    requires { All (IsRead question.now.strict) question.now.locators }
+    ensures { let Are = AreVerdictMembers question.now verdict.now in
         OnOk result (PutsSome Are out.old out.new) }
 {
     match verdict {
-        Some(Verdict::Accepted(judged)) => put_accepted(out, alloc, judged),
+        Some(Verdict::Accepted(judged)) => put_acceptance(out, alloc, question, judged),
         Some(Verdict::Rejected(fault)) => {
-            let why = fault_of(alloc, members, fault)?;
+            let why = fault_of(alloc, question.members, fault)?;
             put_rejected(out, why)
         }
         None => out.value("accepted", Value::from(false)),
@@ -338,18 +416,23 @@ fn put_verdict(
 fn put_answer(
     out: &mut Members,
     alloc: Global,
-    members: &[Object<'_>],
+    question: &Question<'_, '_>,
     finding: &Finding,
 ) -> Result<(), AllocError>
-    ensures { let Are = AreAnswerMembers members.now finding.now in
+    requires { All (IsRead question.now.strict) question.now.locators }
+    ensures { let Are = AreAnswerMembers question.now finding.now in
         OnOk result (PutsSome Are out.old out.new) }
 {
     match finding {
+        Finding::NotALocator(fault) => {
+            let why = no_locator(alloc, fault)?;
+            put_rejected(out, why)
+        }
         Finding::NotAList => {
             let why = no_list(alloc)?;
             put_rejected(out, why)
         }
-        Finding::Decided(verdict) => put_verdict(out, alloc, members, verdict),
+        Finding::Decided(verdict) => put_verdict(out, alloc, question, verdict),
     }
 }
 
@@ -359,11 +442,19 @@ pub fn path(
     question: &Question<'_, '_>,
     finding: &Finding,
 ) -> Result<Value, AllocError>
+    requires { All (IsRead question.now.strict) question.now.locators }
     ensures { IfOk result (λ made. IsVerdictJson question.now finding.now (view made)) }
 {
     let mut out = Members::new(alloc);
     let files = names(alloc, question.members)?;
     out.value("path", files)?;
+    out.value(
+        "locator_asked",
+        Value::from(has_locators(question.locators)),
+    )?;
+    let no_locators = not_locators(alloc, question.locators)?;
+    out.value("not_locators", no_locators)?;
+    out.value("names_asked", Value::from(question.names))?;
     out.value("revocation_asked", Value::from(has_lists(question.lists)))?;
     let others = not_lists(alloc, question.lists)?;
     out.value("not_lists", others)?;
@@ -372,6 +463,6 @@ pub fn path(
     let noted = all_noted(alloc, question.members)?;
     out.value("notes", noted)?;
     out.moment("moment", question.at)?;
-    put_answer(&mut out, alloc, question.members, finding)?;
+    put_answer(&mut out, alloc, question, finding)?;
     Ok(out.into_value())
 }

@@ -1,12 +1,13 @@
 -- What one step of judging files gives.
-use Rattle.std.specs.Prelude.{◌≡◌, ◌≤◌, ℕ, List, [], ◌∷◌, ◌++◌, length}
+use Rattle.std.specs.Prelude.{◌≡◌, ◌≤◌, ◌⊎◌, ℕ, Bool, List, [], ◌∷◌, ◌++◌, length}
 use Rattle.rpki.specs.Judged.{Judged}
 use Rattle.rpki.specs.KeyForms.{IsUsableKey}
 use Rattle.rpki.specs.Kind.{Kind}
 use Rattle.rpki.specs.Kind.TheVariants.{Authority}
+use Rattle.rpki.specs.GivenPaths.{PathStrings}
 use Rattle.rpki_files.specs.FaultRules.{key_reason}
 use Rattle.rpki_verdicts.specs.SaidKinds.{IsJudgedAs}
-use Rattle.rpki_verdicts.specs.PathAnswers.{last_key, reason_of}
+use Rattle.rpki_verdicts.specs.PathAnswers.{last_key, reason_of, AreChained, IsOtherName}
 use Rattle.rpki_verdicts.specs.declared.path.Verdict.{Verdict}
 use Rattle.rpki_verdicts.specs.declared.path.Verdict.TheVariants.{Accepted, Rejected}
 
@@ -20,3 +21,9 @@ abbrev pub IsKeyVerdict : Judged → ℕ → Verdict → Type 0
 IsKeyVerdict judged place (Accepted j) = (j ≡ judged) × IsUsableKey (last_key judged)
 IsKeyVerdict judged place (Rejected fault) =
     (IsUsableKey (last_key judged) → ⊥) × (fault.index ≡ place) × (reason_of fault ≡ key_reason (last_key judged).format)
+
+-- what names and the last key make of a valid path, whose last member stands at this place
+abbrev pub IsNamedVerdict : PathStrings → Bool → Judged → ℕ → Verdict → Type 0
+IsNamedVerdict g names judged place (Accepted j) = AreChained names g × IsKeyVerdict judged place (Accepted j)
+IsNamedVerdict g names judged place (Rejected fault) =
+    IsOtherName g names fault ⊎ (AreChained names g × IsKeyVerdict judged place (Rejected fault))

@@ -1,12 +1,21 @@
-use Rattle.std.proofs.Common.{refl}
-use Rattle.rpki_command.specs.CommandLines.{at_moment, max_size}
+use Rattle.std.proofs.Common.{◌++◌, ◌∷◌, [], ℕ, List, refl}
+use Rattle.rpki_command.specs.declared.arguments.Setting.TheVariants.{Crl, Tal}
+use Rattle.rpki_command.specs.CommandLines.{list, locator, at_moment, max_size}
 use Rattle.rpki_command.specs.CommandLines.Views.{fields_of}
-use Rattle.rpki_command.proofs.AddedParts.{list_added}
+use Rattle.rpki_command.proofs.AddedParts.{value_pushed}
 use Rattle.rpki_command.proofs.arguments.add_set.Goals as goal
 
 pub returns-in-Crl-clause-added : goal.returns-in-Crl-clause-added
 returns-in-Crl-clause-added c =
-    rw c.in-Crl.is (list_added c.push_name.result (fields_of c.args.request.now) _ c.args.value.now c.push_name.ensures.added)
+    let old = fields_of c.args.request.now in
+    let value = c.args.value.now in
+    rw c.in-Crl.is (value_pushed c.push_name.result old Crl value (list value) refl (λ (l : List (List ℕ)). record old { lists = l }) _ (old.lists ++ value ∷ []) refl c.push_name.ensures.added)
+
+pub returns-in-Tal-clause-added : goal.returns-in-Tal-clause-added
+returns-in-Tal-clause-added c =
+    let old = fields_of c.args.request.now in
+    let value = c.args.value.now in
+    rw c.in-Tal.is (value_pushed c.push_name-in-Tal.result old Tal value (locator value) refl (λ (l : List (List ℕ)). record old { locators = l }) _ (old.locators ++ value ∷ []) refl c.push_name-in-Tal.ensures.added)
 
 pub returns-in-Some-clause-added : goal.returns-in-Some-clause-added
 returns-in-Some-clause-added c =

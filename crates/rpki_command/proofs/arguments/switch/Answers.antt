@@ -1,5 +1,5 @@
 use Rattle.std.proofs.Common.{rules, refl}
-use Rattle.rpki_command.specs.CommandLines.{lenient, json, all, help}
+use Rattle.rpki_command.specs.CommandLines.{lenient, json, all, no_names, help}
 use Rattle.rpki_command.proofs.arguments.switch.Goals as goal
 
 pub returns-then-is-clause-added : goal.returns-then-is-clause-added
@@ -12,4 +12,7 @@ pub returns-then-is-4-clause-added : goal.returns-then-is-4-clause-added
 returns-then-is-4-clause-added c = (all, search rules, refl)
 
 pub returns-then-is-5-clause-added : goal.returns-then-is-5-clause-added
-returns-then-is-5-clause-added c = (help, search rules, refl)
+returns-then-is-5-clause-added c = (no_names, search rules, refl)
+
+pub returns-then-is-6-clause-added : goal.returns-then-is-6-clause-added
+returns-then-is-6-clause-added c = (help, search rules, refl)

@@ -13,4 +13,4 @@ outcome_is files outcome true success rejection says = rw (success refl) (says.0
 outcome_is files outcome false success rejection says = rw (rejection refl) (λ all. false≢true (says.1 all))
 
 pub returns-clause-outcome : goal.returns-clause-outcome
-returns-clause-outcome c = outcome_is (contents c.args.objects.now) c.of_answer.result c.in_ok-can_be_shown.can_be_shown c.of_answer.ensures.success c.of_answer.ensures.rejection c.in_ok-can_be_shown.ensures.shows
+returns-clause-outcome c = outcome_is (contents c.args.objects.now) c.of_answer.result c.show_all-can_be_shown.result c.of_answer.ensures.success c.of_answer.ensures.rejection c.show_all-can_be_shown.ensures.shows

@@ -1,8 +1,6 @@
 use Rattle.std.specs.Prelude.{codes}
-use Rattle.std.proofs.Common.{◌++◌, ℕ, length, refl, subst}
-use Rattle.rpki_notes.specs.Notes.{AreNotes}
+use Rattle.std.proofs.Common.{◌++◌, ℕ, List, length, refl, subst}
 use Rattle.rpki_text.specs.CertificateTexts.{met_kind_text}
-use Rattle.rpki_files.specs.Files.{FileFields}
 use Rattle.rpki_text.specs.Pages.{Appends, line}
 use Rattle.rpki_command.specs.NoteLines.{notes_lines}
 use Rattle.rpki_command.specs.VerdictTexts.{IsMemberText, after_line, member_text}
@@ -17,9 +15,8 @@ returns-in-Ok c = λ begins.
     let new = c.print_certificate.new.page in
     let said = c.print_certificate.ensures in
     let notes = c.in-Ok.notes.items in
-    let notes_are = subst (λ (f : FileFields). AreNotes f.octets notes) c.object.view_is c.in-Ok.ensures in
-    let of : ℕ → FileFields → _ = λ n f. line (codes "Member") (member_text (met_kind_text said.0) cert.fields.serial f.name) ++ (notes_lines notes ++ after_line f.name n) in
-    such_appended (IsMemberText c.args.strict file) old new (of (length begins.0) file)
-    (record { cert = cert; rest = begins.0; begins = begins.1; answers = said.0; answers_are = said.1; notes = notes; notes_are = notes_are; text_is = refl })
-    (subst (λ (n : ℕ). Appends old (of n file) new) begins.2
-    (subst (λ (f : FileFields). Appends old (of c.args.left f) new) c.object.view_is (rw c.deref.ensures.value at said.2)))
+    let of : ℕ → List ℕ → _ = λ n name. line (codes "Member") (member_text (met_kind_text said.0) cert.fields.serial name) ++ (notes_lines notes ++ after_line name n) in
+    such_appended (IsMemberText c.args.strict file) old new (of (length begins.0) file.name)
+    (record { cert = cert; rest = begins.0; begins = begins.1; answers = said.0; answers_are = said.1; notes = notes; notes_are = c.in-Ok.ensures; text_is = refl })
+    (subst (λ (n : ℕ). Appends old (of n file.name) new) begins.2
+    (subst (λ (name : List ℕ). Appends old (of c.args.left name) new) c.name.ensures (rw c.deref.ensures.value at said.2)))

@@ -10,7 +10,7 @@ loop-object-preserved c =
     let lists = c.args.lists.now in
     let low = c.loop-object-test.true in
     let file = c.object-item.result in
-    flag_of_more BeginsWithList (contents lists) l.object-index file.octets (mapped_low (λ file. file.octets) lists l.object-index low) (mapped_there (λ file. file.octets) lists l.object-index file low c.object-item.is) l.are_lists c.in_ok-are_lists.field-0 l.invariant c.in_ok-are_lists.ensures
+    flag_of_more BeginsWithList (contents lists) l.object-index file.octets (mapped_low (λ file. file.octets) lists l.object-index low) (mapped_there (λ file. file.octets) lists l.object-index file low c.object-item.is) l.are_lists c.is_list-are_lists.result l.invariant c.is_list-are_lists.ensures
 
 pub returns : goal.returns
 returns c =

@@ -14,7 +14,7 @@ returns-then-is_end_line c =
 pub loop-line-preserved : goal.loop-line-preserved
 loop-line-preserved c =
     let fails : is_end_line c.in-Some.line.now ≡ false = search rules in
-    rw map-append (digits_more c.loop-line.digits.items c.push_line.new.digits.items c.in-Some.line.now (map (λ line. line.now) c.loop-line.yielded) c.loop-line.invariant (search rules) fails)
+    rw map-append (digits_more c.loop-line.digits.items c.push_digits.new.digits.items c.in-Some.line.now (map (λ line. line.now) c.loop-line.yielded) c.loop-line.invariant (search rules) fails)
 
 pub returns : goal.returns
 returns c = λ other.

@@ -8,7 +8,7 @@ use Rattle.rpki.specs.Lists.{CrlState}
 use Rattle.rpki.specs.RsaSignatures.{IsSignedByRsa}
 use Rattle.rpki.specs.Verification.{context}
 use Rattle.rpki_files.specs.Files.{contents}
-use Rattle.rpki_verdicts.specs.PathFiles.{QuestionFields, AreListsOf}
+use Rattle.rpki_verdicts.specs.PathFiles.{QuestionFields, AreListsOf, demands_of}
 use Rattle.rpki_verdicts.specs.PathAnswers.{IsPathVerdict}
 use Rattle.rpki_verdicts.proofs.GivenKinds.{verdict_by}
 use Rattle.rpki_verdicts.proofs.path.judge.Goals as goal
@@ -23,5 +23,5 @@ returns c =
     let given : length (contents lists) ≡ 0 → ⊥ = λ none. some (sym (length-map lists (λ file. file.octets)) ∙ none) in
     let are = subst (λ (f : QuestionFields). AreListsOf (contents f.lists) read) c.question.view_is c.in_ok-lists.ensures in
     let any = subst (λ (f : QuestionFields). length (contents f.lists) ≡ 0 → ⊥) c.question.view_is given in
-    let verdict = subst (λ (ls : List CrlState). IfOk c.judged_by-verdict.result (λ o. MatchOption o (contents q.members ≡ []) (IsPathVerdict x (by_lists x ls) (contents q.members)))) (c.new-given.ensures ∙ c.deref.ensures.value) c.judged_by-verdict.ensures in
-    verdict_by x (contents q.members ≡ []) (contents q.members) (contents q.lists) read any are c.judged_by-verdict.result verdict
+    let verdict = subst (λ (ls : List CrlState). IfOk c.judged_by-verdict.result (λ o. MatchOption o (contents q.members ≡ []) (IsPathVerdict x (by_lists x ls) (demands_of q) (contents q.members)))) (c.new-given.ensures ∙ c.deref.ensures.value) c.judged_by-verdict.ensures in
+    verdict_by x (demands_of q) (contents q.members ≡ []) (contents q.members) (contents q.lists) read any are c.judged_by-verdict.result verdict

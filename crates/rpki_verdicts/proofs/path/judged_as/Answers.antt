@@ -1,12 +1,11 @@
 use Rattle.std.proofs.Common.{subst, inl}
-use Rattle.rpki.specs.Certificates.{TbsFields, IsCertificate}
-use Rattle.rpki.specs.Encoding.{Means}
+use Rattle.rpki.specs.Certificates.{TbsFields}
 use Rattle.rpki_verdicts.specs.SaidKinds.{SaysKind}
 use Rattle.rpki_verdicts.proofs.path.judged_as.Goals as goal
 
-pub returns : goal.returns
-returns c =
-    let cert = c.in-Some.cert in
-    let begins : Means IsCertificate cert c.args.last.now.octets = rw c.in-Some.is at c.in_ok-cert.ensures in
-    let says : SaysKind c.said_kind-kind.result cert.fields = subst (λ (f : TbsFields). SaysKind c.said_kind-kind.result f) c.as_tbs.ensures c.said_kind-kind.ensures in
-    inl (cert, begins, says)
+pub returns-in-Some : goal.returns-in-Some
+returns-in-Some c =
+    let cert = c.in-Some.cert.now in
+    let begins = rw c.in-Some.is at c.certificate.ensures in
+    let says : SaysKind c.said_kind.result cert.fields = subst (λ (f : TbsFields). SaysKind c.said_kind.result f) c.as_tbs.ensures c.said_kind.ensures in
+    inl (cert, (begins.0, begins.1), says)

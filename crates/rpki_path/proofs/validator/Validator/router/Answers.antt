@@ -14,7 +14,7 @@ returns-in_err-cert-clause-fault g c =
     let asked = g.R.RevocationSource.asks v.asked.now x in
     let e = c.in_err-cert.field-0.0 in
     let same : c.from_residual.result ≡ Err e = search rules in
-    rw same (unread x (router_demand x asked c.args.issuer.now) c.args.octets.now e c.in_err-cert.ensures.fault)
+    rw same (unread x (router_demand x asked c.args.issuer.now) c.args.given.now e c.in_err-cert.ensures.fault)
 
 pub returns-in_err-cert-2-clause-fault : goal.returns-in_err-cert-2-clause-fault
 returns-in_err-cert-2-clause-fault g c =
@@ -23,5 +23,5 @@ returns-in_err-cert-2-clause-fault g c =
     let asked = g.R.RevocationSource.asks v.asked.now x in
     let e = c.in_err-cert-2.field-0.0 in
     let same : c.from_residual-in_err-cert-2.result ≡ Err e = search rules in
-    let found = c.test_router-test.ensures.fault c.args.octets.now c.in_ok-cert.ensures.ok in
-    rw same (subst (λ (t : Result (Unit {0}) PathFault). IfErr t (Finds x (router_demand x asked c.args.issuer.now) c.args.octets.now)) c.in_err-cert-2.ensures.rejected found)
+    let found = c.test_router-test.ensures.fault c.args.given.now c.in_ok-cert.ensures.ok in
+    rw same (subst (λ (t : Result (Unit {0}) PathFault). IfErr t (Finds x (router_demand x asked c.args.issuer.now) c.args.given.now)) c.in_err-cert-2.ensures.rejected found)

@@ -14,7 +14,7 @@ returns-in_err-cert-clause-fault g c =
     let x = context (g.V.Verifier.verifies v.verifier.now) v.at v.strict in
     let e = c.in_err-cert.field-0.0 in
     let same : c.from_residual.result ≡ Err e = search rules in
-    rw same (unread x (trust_anchor_demand x) c.args.octets.now e c.in_err-cert.ensures.fault)
+    rw same (unread x (trust_anchor_demand x) c.args.anchor.now e c.in_err-cert.ensures.fault)
 
 pub returns-in_err-validate_ta_at-clause-fault : goal.returns-in_err-validate_ta_at-clause-fault
 returns-in_err-validate_ta_at-clause-fault g c =
@@ -22,7 +22,7 @@ returns-in_err-validate_ta_at-clause-fault g c =
     let x = context (g.V.Verifier.verifies v.verifier.now) v.at v.strict in
     let e = c.in_err-validate_ta_at.field-0.0 in
     let same : c.from_residual-in_err-validate_ta_at.result ≡ Err (of_validation e) = search rules in
-    rw same (not_valid x (trust_anchor_demand x) c.args.octets.now c.in_ok-cert.cert c.in_ok-cert.ensures.ok e c.in_err-validate_ta_at.ensures.fault)
+    rw same (not_valid x (trust_anchor_demand x) c.args.anchor.now c.in_ok-cert.cert c.in_ok-cert.ensures.ok e c.in_err-validate_ta_at.ensures.fault)
 
 pub returns-clause-ok : goal.returns-clause-ok
 returns-clause-ok g c =
@@ -32,6 +32,6 @@ returns-clause-ok g c =
     let valid = c.in_ok-validate_ta_at.ensures.ok in
     let same = sym valid.listed.cert_is in
     record {
-      begins = subst (λ (d : CertFields). Means IsCertificate d c.args.octets.now) same c.in_ok-cert.ensures.ok;
+      begins = subst (λ (d : CertFields). Means IsCertificate d c.args.anchor.now) same c.in_ok-cert.ensures.ok;
       valid = subst (λ (d : CertFields). IsValidTrustAnchor x (rc_value c.args.tal) d r) same valid;
     }

@@ -1,0 +1,85 @@
+//! The names of paths for C.
+ghost use Rattle.std.specs.Prelude.{◌≡◌, ◌≢◌, ◌↔◌, ◌<◌, ◌^◌, length, IsNone, IsSome, IfSome, IfOk, IfErr, IfNone};
+ghost use Rattle.rpki_cert.specs.declared.inspect.Kind.TheVariants.{Authority};
+ghost use Rattle.rpki_path.specs.GivenPaths.{PathStrings, CanEndIn, IsSplitAs};
+ghost use Rattle.rpki_path.specs.NameChains.{TellsNames};
+
+use crate::faults::{BAD_CALL, MEMORY, NONE, OTHER_NAME, of_path};
+use crate::strings::cut;
+use bytes::Bytes;
+use rpki_cert::Kind;
+use rpki_path::{GivenPath, Member, PathError, first_unchained};
+use std::alloc::Global;
+
+// What is found of the members' names. `None` where there are none. Names don't depend on what the
+// last one is.
+fn found(alloc: Global, members: &[Member<'_>]) -> Option<Result<Option<usize>, PathError>>
+    ensures some { IsSome result ↔ CanEndIn Authority (length members.now) }
+    // That names chain, the first place where they don't, or the first where no certificate is
+    // read.
+    ensures names { IfSome result (λ it. (path : PathStrings)
+        × IsSplitAs members.now Authority path × TellsNames path it) }
+{
+    let path = GivenPath::of(members, Kind::Authority)?;
+    Some(first_unchained(alloc, &path))
+}
+
+// The fault that it is, and its place.
+fn told(answer: Option<Result<Option<usize>, PathError>>) -> (u32, u64)
+    ensures bad_call { IsNone answer ↔ (result.0 ≡ BAD_CALL) }
+    ensures chain { IfSome answer (λ it. IfOk it (λ found. IsNone found ↔ (result.0 ≡ NONE))) }
+    ensures other { IfSome answer (λ it. IfOk it (λ found. IsSome found ↔ (result.0 ≡ OTHER_NAME))) }
+    ensures unread { IfSome answer (λ it. IfErr it (λ e.
+        (result.0 ≢ NONE) × (result.0 ≢ OTHER_NAME))) }
+    ensures place { IfSome answer (λ it. IfOk it (λ found.
+        IfSome found (λ place. result.1 ≡ place))) }
+    ensures index { IfSome answer (λ it. IfErr it (λ e. result.1 ≡ e.index)) }
+{
+    match answer {
+        Some(Ok(None)) => (NONE, 0),
+        Some(Ok(Some(place))) => (OTHER_NAME, place as u64),
+        Some(Err(error)) => {
+            let answer = (of_path(&error.fault), error.index as u64);
+            drop(error);
+            answer
+        }
+        None => (BAD_CALL, 0),
+    }
+}
+
+// What is answered of the names of the members' strings.
+fn told_of(alloc: Global, strings: &[Bytes]) -> (u32, u64) {
+    match Member::of_each(alloc, strings) {
+        Ok(members) => {
+            let found = found(alloc, &members);
+            drop(members);
+            told(found)
+        }
+        Err(_) => (MEMORY, 0),
+    }
+}
+
+/// Asks whether the names of a path chain: whether the trust anchor's issuer is its own subject,
+/// and that of each later member the subject of the one above it. The members stand one behind the
+/// other and have these lengths, the trust anchor first. Nothing else is asked of them. Answers 0,
+/// or the number of a fault: 600 where names don't chain. Writes the place of the first member of
+/// which that is so.
+#[unsafe(no_mangle)]
+pub extern "C" fn rpki_path_names(
+    alloc: Global,
+    octets: &[u8],
+    lengths: &[usize],
+    place: &mut u64,
+) -> u32 {
+    *place = 0;
+    match cut(alloc, octets, lengths) {
+        Ok(Some(strings)) => {
+            let (fault, at) = told_of(alloc, &strings);
+            drop(strings);
+            *place = at;
+            fault
+        }
+        Ok(None) => BAD_CALL,
+        Err(_) => MEMORY,
+    }
+}

@@ -1,0 +1,136 @@
+//! What octets begin with: a certificate, a revocation list, or neither.
+ghost use Rattle.std.specs.Prelude.{◌≡◌, ◌≢◌, ◌↔◌, ℕ, List, IsSomeAnd, IfOk, IfSome};
+ghost use Rattle.rpki.specs.Encoding.{Means};
+ghost use Rattle.rpki.specs.Place.{MeansOrMemoryBy, remaining};
+ghost use Rattle.rpki.specs.Tags.{SEQUENCE};
+ghost use Rattle.rpki.specs.Values.{IsEnc};
+ghost use Rattle.rpki.specs.Certificates.{IsCertificate};
+ghost use Rattle.rpki.specs.DecodeError.TheVariants as decoding;
+ghost use Rattle.rpki.specs.Lists.{IsCertificateList};
+ghost use Rattle.rpki_files.specs.Contents.{BeginsBefore, BeginsWithCertificate, BeginsWithList, HasFirstInside, IsContent, LooksLikeList};
+
+use bytes::Bytes;
+use rpki::der::{Cursor, DecodeError};
+use rpki::repository::{Cert, Crl};
+use std::alloc::{AllocError, Global};
+
+/// What the octets begin as.
+#[derive(Clone, Copy)]
+pub enum Form {
+    Certificate,
+    List,
+    Other,
+}
+
+// The inside of the SEQUENCE that stands next, if one does.
+fn inside<'a>(at: Cursor<'a>) -> Option<Cursor<'a>>
+    ensures found { (content : List ℕ) → Means (IsEnc SEQUENCE) content (remaining at.entry)
+        → IsSomeAnd result (λ inside. remaining inside ≡ content) }
+    ensures means { let encodes = IsEnc SEQUENCE in
+        IfSome result (λ inside. Means encodes (remaining inside) (remaining at.entry)) }
+{
+    let mut ahead = at.fork();
+    ahead.take_sequence().ok()
+}
+
+// The first octet inside a SEQUENCE at the front of a SEQUENCE at the front.
+fn first_inside(octets: &Bytes) -> Option<u8>
+    ensures found { (first : ℕ) → HasFirstInside first octets.now → result ≡ Some first }
+    ensures means { IfSome result (λ first. HasFirstInside first octets.now) }
+{
+    let data = inside(inside(Cursor::new(octets))?)?;
+    data.rest().first().copied()
+}
+
+/// Returns what the octets look like: a list where they begin with one, and none where they begin
+/// with a certificate.
+pub fn looks_like(octets: &Bytes) -> Form
+    ensures list { BeginsWithList octets.now → result ≡ Form.List }
+    ensures certificate { BeginsWithCertificate octets.now → result ≢ Form.List }
+    ensures form { result ≡ Form.List ↔ LooksLikeList octets.now }
+{
+    // A certificate's data begin with its version under [0], a list's with an INTEGER.
+    let first = first_inside(octets);
+    if first == Some(0xa0) {
+        Form::Certificate
+    } else if first == Some(0x02) {
+        Form::List
+    } else {
+        Form::Other
+    }
+}
+
+/// What octets begin with, and how many octets stand behind it.
+#[derive(Drop)]
+pub enum Content {
+    Certificate(Cert, usize),
+    List(Crl, usize),
+    /// Neither: what they look like can't be read, and this is why.
+    Neither(DecodeError),
+}
+
+// Reads the certificate that the octets begin with, and counts the octets behind it.
+fn certificate_in(alloc: Global, octets: &Bytes) -> Result<(Cert, usize), DecodeError>
+    ensures means { MeansOrMemoryBy (λ found. found.0) (Means IsCertificate) result octets.now }
+    ensures left { IfOk result (λ found. BeginsBefore IsCertificate octets.now found.0 found.1) }
+{
+    let mut cursor = Cursor::new(octets);
+    let cert = Cert::take_from(alloc, &mut cursor)?;
+    Ok((cert, cursor.rest().len()))
+}
+
+// Reads the revocation list that the octets begin with, and counts the octets behind it.
+fn list_in(alloc: Global, octets: &Bytes) -> Result<(Crl, usize), DecodeError>
+    ensures means { let encodes = Means IsCertificateList in
+        MeansOrMemoryBy (λ found. found.0.list) encodes result octets.now }
+    ensures left { IfOk result (λ found.
+        BeginsBefore IsCertificateList octets.now found.0.list found.1) }
+{
+    let mut cursor = Cursor::new(octets);
+    let list = Crl::take_from(alloc, &mut cursor)?;
+    Ok((list, cursor.rest().len()))
+}
+
+// What is read of octets that can't be read for this fault, unless memory ran out.
+fn neither(fault: DecodeError) -> Result<Content, AllocError>
+    ensures { IfOk result (λ content. (content ≡ Content.Neither fault)
+        × (fault ≢ decoding.Memory)) }
+{
+    if fault.is_memory() {
+        drop(fault);
+        return Err(AllocError);
+    }
+    Ok(Content::Neither(fault))
+}
+
+// What octets begin with that begin with no list.
+fn as_certificate(alloc: Global, octets: &Bytes) -> Result<Content, AllocError>
+    requires { BeginsWithList octets.now → ⊥ }
+    ensures { IfOk result (IsContent octets.now) }
+{
+    match certificate_in(alloc, octets) {
+        Ok((cert, left)) => Ok(Content::Certificate(cert, left)),
+        Err(fault) => neither(fault),
+    }
+}
+
+// What octets begin with that begin with no certificate.
+fn as_list(alloc: Global, octets: &Bytes) -> Result<Content, AllocError>
+    requires { BeginsWithCertificate octets.now → ⊥ }
+    ensures { IfOk result (IsContent octets.now) }
+{
+    match list_in(alloc, octets) {
+        Ok((list, left)) => Ok(Content::List(list, left)),
+        Err(fault) => neither(fault),
+    }
+}
+
+/// Reads what octets begin with. Errs only where memory runs out.
+pub fn read_content(alloc: Global, octets: &Bytes) -> Result<Content, AllocError>
+    ensures { IfOk result (IsContent octets.now) }
+{
+    match looks_like(octets) {
+        Form::List => as_list(alloc, octets),
+        Form::Certificate | Form::Other => as_certificate(alloc, octets),
+    }
+}

@@ -1,0 +1,10 @@
+pub mod Octets
+pub mod HexDigits
+pub mod Splits
+pub mod RevokedLines
+pub mod InputLines
+pub mod MomentLines
+pub mod MemberLines
+pub mod WholeLists
+pub mod PrintedRanges
+pub mod Reports

@@ -1,0 +1,15 @@
+use Rattle.std.proofs.Common.{◌≡◌, List, ℕ, ◌++◌, length}
+use Rattle.std.specs.Io.KnownBytes.{Appends}
+use Rattle.rpki_lines.specs.Watching.{device, HasFailed}
+use Rattle.rpki_lines.proofs.running.write_whole.Given as goal
+
+abbrev pub invariant-loop-rest : goal.invariant-loop-rest
+invariant-loop-rest g l = record {
+  front : List ℕ;
+  so_far : Appends (g.W.Write.contents (device l.fn.writer)) (g.W.Write.contents (device l.writer)) front;
+  parts : l.fn.octets ≡ front ++ l.rest;
+  unfailed : HasFailed l.writer → ⊥;
+}
+
+abbrev pub decreases-loop-rest : goal.decreases-loop-rest
+decreases-loop-rest g l = length l.rest

@@ -1,0 +1,9 @@
+pub mod Watching
+pub mod HexWords
+pub mod TextLines
+pub mod InputLines
+pub mod PrintedSets
+pub mod Program
+pub mod Questions
+pub mod Reports
+pub mod RunFaultNames

@@ -1,0 +1,5 @@
+-- Lemmas of the proofs about locators.
+mod KeysRead
+mod LinesRead
+mod OneLocator
+mod SectionsRead

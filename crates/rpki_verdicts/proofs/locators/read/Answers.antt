@@ -1,0 +1,21 @@
+use Rattle.std.proofs.Common.{◌≡◌, ◌≢◌, ℕ, List, Bool, refl, sym, ◌∙◌}
+use Rattle.std.proofs.lemmas.Bool.{false≢true}
+use Rattle.rpki.specs.LocatorFaults.{RejectsTal}
+use Rattle.rpki.specs.TalError.{TalError}
+use Rattle.rpki.specs.TalError.TheVariants.{NoText, BadUri, NoUri, NoKey, BadKey, Memory}
+use Rattle.rpki_verdicts.specs.GivenLocators.{AreLocator}
+use Rattle.rpki_verdicts.proofs.locators.read.Goals as goal
+
+-- octets that are rejected are no locator, unless memory ran out
+no_locator : (strict : Bool) (e : TalError) (octets : List ℕ) → e ≢ Memory → RejectsTal strict e octets → AreLocator strict octets → ⊥
+no_locator strict NoText octets not_memory none it = none it.0 it.1
+no_locator strict BadUri octets not_memory none it = none it.0 it.1
+no_locator strict NoUri octets not_memory none it = none it.0 it.1
+no_locator strict NoKey octets not_memory none it = none it.0 it.1
+no_locator strict BadKey octets not_memory none it = none it.0 it.1
+no_locator strict Memory octets not_memory none it = not_memory refl
+
+pub returns-else-is_memory : goal.returns-else-is_memory
+returns-else-is_memory c =
+    let not_memory : c.in-Err.fault ≢ Memory = λ is. false≢true (sym c.if-is_memory.false ∙ c.is_memory.ensures.1 is) in
+    (not_memory, c.in-Err.ensures.fault, no_locator c.args.strict c.in-Err.fault c.args.octets.now not_memory c.in-Err.ensures.rejected)

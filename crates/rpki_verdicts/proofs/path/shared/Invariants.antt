@@ -1,6 +1,0 @@
-use Rattle.std.proofs.Common.{◌≡◌, take}
-use Rattle.rpki_files.specs.Files.{contents}
-use Rattle.rpki_verdicts.proofs.path.shared.Given as goal
-
-abbrev pub invariant-loop-file : goal.invariant-loop-file
-invariant-loop-file l = l.all.items ≡ take l.file-index (contents l.files)

@@ -1,0 +1,103 @@
+//! Files that are given as locators of the trust anchor.
+ghost use Rattle.std.specs.Prelude.{◌≡◌, ◌↔◌, Ok, Err, IfOk, IfErr, IsOkAnd, IsTrue};
+ghost use Rattle.rpki_verdicts.specs.GivenLocators.{HasKeyRead, IsFirst, IsRead, IsReadOf};
+
+use rpki::crypto::PublicKey;
+use rpki::repository::tal::{Tal, TalError};
+use std::alloc::{AllocError, Global};
+use std::marker::Model;
+
+/// A file that is given as a locator, and what was read of it.
+#[derive(Drop)]
+pub struct GivenLocator<'n> {
+    name: &'n str,
+    octets: Vec<u8>,
+    read: Result<Tal, TalError>,
+}
+
+impl<'n> Model for GivenLocator<'n> {
+    ghost use Rattle.rpki_verdicts.specs.GivenLocators.{LocatorFields};
+
+    ghost Value = { LocatorFields };
+
+    ghost view = { λ l. record {
+      file = record { name = l.name.now; octets = l.octets.items };
+      read = l.read;
+    } };
+}
+
+// Reads octets as a locator of this name, or finds why they are none.
+fn read(
+    alloc: Global,
+    name: &str,
+    octets: &[u8],
+    strict: bool,
+) -> Result<Result<Tal, TalError>, AllocError>
+    ensures { IfOk result (IsReadOf strict octets.now) }
+{
+    let name = String::from_str(alloc, name)?;
+    match Tal::read_named(alloc, name, octets, strict) {
+        Ok(tal) => Ok(Ok(tal)),
+        Err(fault) => {
+            if fault.is_memory() {
+                drop(fault);
+                return Err(AllocError);
+            }
+            Ok(Err(fault))
+        }
+    }
+}
+
+impl<'n> GivenLocator<'n> {
+    /// Reads a file of this name as a locator, strictly or not. Errs where memory runs out.
+    pub fn read(
+        alloc: Global,
+        name: &'n str,
+        octets: Vec<u8>,
+        strict: bool,
+    ) -> Result<GivenLocator<'n>, AllocError>
+        ensures name { IfOk result (λ l. l.file.name ≡ name.now) }
+        ensures octets { IfOk result (λ l. l.file.octets ≡ octets.items) }
+        ensures read { IfOk result (IsRead strict) }
+    {
+        let read = read(alloc, name, &octets, strict)?;
+        Ok(GivenLocator { name, octets, read })
+    }
+
+    /// Returns the file's name.
+    pub fn name(&self) -> &str
+        ensures { result.now ≡ self.now.file.name }
+    {
+        self.name
+    }
+
+    /// Returns what was read of the file.
+    pub fn tal(&self) -> Result<&Tal, &TalError>
+        ensures ok { IfOk result (λ tal. self.now.read ≡ Ok tal.now) }
+        ensures err { IfErr result (λ fault. self.now.read ≡ Err fault.now) }
+    {
+        self.read.as_ref()
+    }
+
+    // Whether it was read as a locator of this key.
+    fn has_key(&self, key: &PublicKey) -> bool
+        ensures { IsTrue result ↔ HasKeyRead key.now self.now }
+    {
+        match &self.read {
+            Ok(tal) => tal.has_key(key),
+            Err(_) => false,
+        }
+    }
+}
+
+/// Finds the first locator of this key.
+pub fn place_of_key(locators: &[GivenLocator<'_>], key: &PublicKey) -> Option<usize>
+    ensures { IsFirst (HasKeyRead key.now) locators.now result }
+{
+    for (place, locator) in locators.iter().enumerate() {
+        if locator.has_key(key) {
+            return Some(place);
+        }
+    }
+    None
+}
