@@ -136,8 +136,10 @@ pub use Rattle.rpki_path.specs.Routers
 pub use Rattle.rpki_path.specs.GivenPaths
 pub use Rattle.rpki_path.specs.Judging
 pub use Rattle.rpki_path.specs.NameChains
+pub use Rattle.rpki_path.specs.LocatedPaths
 pub use Rattle.rpki_path.specs.declared.given.Last
 pub use Rattle.rpki_path.specs.declared.judging.Judged
+pub use Rattle.rpki_path.specs.declared.located.LocatedError
 pub use Rattle.rpki_path.specs.declared.path_fault.PathError
 pub use Rattle.rpki_path.specs.declared.path_fault.PathFault
 pub use Rattle.rpki_path.specs.declared.validating.Leaf

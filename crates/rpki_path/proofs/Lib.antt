@@ -10,3 +10,4 @@ pub mod GivenPaths
 pub mod Verdicts
 pub mod ChainedNames
 pub mod UnchainedNames
+pub mod LocatedPaths

@@ -31,7 +31,11 @@ members_below cas end = map (candidate Authority) cas ++ last_candidates end
 
 -- the strings of a trust anchor, of CAs below it, and of the last, where it isn't a CA
 abbrev pub path_strings : List ℕ → List (List ℕ) → Option Last → PathStrings
-path_strings anchor cas end = record { anchor = anchor; below = members_below cas end; router = last_router end }
+path_strings anchor cas end = record {
+  anchor = anchor;
+  below = members_below cas end;
+  router = last_router end;
+}
 
 -- how many a router adds
 abbrev pub router_count : Option (List ℕ) → ℕ
@@ -57,8 +61,16 @@ anchor_alone anchor = record { anchor = anchor; below = []; router = None }
 
 -- the trust anchor, CAs below it, and at the end one of this kind
 abbrev pub path_to : List ℕ → List (List ℕ) → Kind → List ℕ → PathStrings
-path_to anchor cas Router octets = record { anchor = anchor; below = map (candidate Authority) cas; router = Some octets }
-path_to anchor cas kind octets = record { anchor = anchor; below = map (candidate Authority) cas ++ candidate kind octets ∷ []; router = None }
+path_to anchor cas Router octets = record {
+  anchor = anchor;
+  below = map (candidate Authority) cas;
+  router = Some octets;
+}
+path_to anchor cas kind octets = record {
+  anchor = anchor;
+  below = map (candidate Authority) cas ++ candidate kind octets ∷ [];
+  router = None;
+}
 
 -- there is a last string below the trust anchor's, and it is judged as this kind
 pub record HasLast (strings : List (List ℕ)) (kind : Kind) (g : PathStrings) : Type 0 where
@@ -70,4 +82,6 @@ pub record HasLast (strings : List (List ℕ)) (kind : Kind) (g : PathStrings) :
 
 -- the path that the strings are, the trust anchor's first, where the last is of this kind
 abbrev pub IsSplitAs : List (List ℕ) → Kind → PathStrings → Type 0
-IsSplitAs strings kind g = ((anchor : List ℕ) × (strings ≡ anchor ∷ []) × (g ≡ anchor_alone anchor)) ⊎ HasLast strings kind g
+IsSplitAs strings kind g =
+    ((anchor : List ℕ) × (strings ≡ anchor ∷ []) × (g ≡ anchor_alone anchor))
+    ⊎ HasLast strings kind g

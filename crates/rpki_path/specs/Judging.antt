@@ -1,5 +1,5 @@
--- The verdict on a path, below whose CAs an end entity or a router may stand (RFC 6487 7.2, RFC 8209
--- 3.3).
+-- The verdict on a path, below whose CAs an end entity or a router may stand (RFC 6487 7.2, RFC
+-- 8209 3.3).
 use Rattle.std.specs.Prelude.{◌≡◌, ◌⊎◌, ◌+◌, ℕ, List, [], length, Option, Some, None, Result, Ok, Err}
 use Rattle.rpki_ext.specs.Kinds.{Means}
 use Rattle.rpki_cert.specs.Certificates.{CertFields, IsCertificate}
@@ -13,24 +13,28 @@ use Rattle.rpki_path.specs.Routers.{IsRouterUnder, router_demand}
 
 -- the certificate is that of a router, which is valid below the holder; where no router is asked
 -- about, there is none
-abbrev pub IsRouterIfAny : Context → RevocationChecks → ResourceFields → Option (List ℕ) → Option CertFields → Type 0
+abbrev pub IsRouterIfAny : Context → RevocationChecks → ResourceFields
+    → Option (List ℕ) → Option CertFields → Type 0
 IsRouterIfAny x asked holder None None = Unit {0}
-IsRouterIfAny x asked holder (Some octets) (Some c) = Means IsCertificate c octets × IsRouterUnder x asked holder c
+IsRouterIfAny x asked holder (Some octets) (Some c) =
+    Means IsCertificate c octets × IsRouterUnder x asked holder c
 IsRouterIfAny x asked holder _ _ = ⊥
 
 -- the members are a valid path of which the last holds these numbers, and the router, where there
 -- is one, is valid below it
-pub record IsAcceptedWith (x : Context) (asked : RevocationChecks) (g : PathStrings) (j : Judged) : Type 0 where
+pub record IsAcceptedWith (x : Context) (asked : RevocationChecks)
+    (g : PathStrings) (j : Judged) : Type 0 where
   pub accepted : IsAccepted x asked g.anchor g.below [] j.holder
   pub router : IsRouterIfAny x asked j.holder g.router j.router
 
--- they aren't, whatever answer one thinks of
+-- there is no answer with which they are accepted
 abbrev pub IsNotAccepted : Context → RevocationChecks → PathStrings → Type 0
 IsNotAccepted x asked g = (j : Judged) → IsAcceptedWith x asked g j → ⊥
 
 -- the members are a valid path, and this is what is wrong of the router, which stands below the
 -- last
-pub record IsFaultOfRouter (x : Context) (asked : RevocationChecks) (g : PathStrings) (e : PathError) : Type 0 where
+pub record IsFaultOfRouter (x : Context) (asked : RevocationChecks)
+    (g : PathStrings) (e : PathError) : Type 0 where
   pub octets : List ℕ
   pub router_is : g.router ≡ Some octets
   pub issuer : ResourceFields

@@ -4,3 +4,4 @@ pub mod Routers
 pub mod GivenPaths
 pub mod Judging
 pub mod NameChains
+pub mod LocatedPaths

@@ -1,5 +1,5 @@
--- Names that chain down a path (RFC 6487 7.2, the first condition; RFC 5280 6.1 (a), 6.1.3 (a) (4)).
--- Names are compared octet by octet (own). Equal octets are equal names by RFC 5280 7.1; the
+-- Names that chain down a path (RFC 6487 7.2, the first condition; RFC 5280 6.1 (a), 6.1.3 (a)
+-- (4)). Names are compared octet by octet (own). Equal octets are equal names by RFC 5280 7.1; the
 -- converse isn't so, since letters of either case are one there, and spaces at the ends and of
 -- several one beside the other don't count.
 use Rattle.std.specs.Prelude.{◌≡◌, ◌⊎◌, ◌+◌, ◌<◌, ℕ, List, [], ◌∷◌, ◌++◌, length, Option, Some, None, Result, Ok, Err}
@@ -25,7 +25,8 @@ IsSelfNamed c = IsNamedBelow c c
 -- above it
 pub record NamesChain (p : Path) : Type 0 where
   pub anchor_named : IsSelfNamed p.anchor
-  pub members_named : (i : ℕ) → i < last p → IsNamedBelow (certificate_at p i) (certificate_at p (i + 1))
+  pub members_named : (i : ℕ) → i < last p
+      → IsNamedBelow (certificate_at p i) (certificate_at p (i + 1))
 
 -- ---- strings
 
@@ -38,6 +39,10 @@ router_candidates (Some octets) = candidate Router octets ∷ []
 abbrev pub strings_below : PathStrings → List Candidate
 strings_below g = g.below ++ router_candidates g.router
 
+-- each of the strings begins with the member of a path at its place
+abbrev pub BeginPath : PathStrings → Type 0
+BeginPath g = (p : Path) × IsPathOf g.anchor (strings_below g) p
+
 -- the strings begin with a path whose names chain
 pub record BeginChained (anchor : List ℕ) (below : List Candidate) : Type 0 where
   pub path : Path
@@ -46,7 +51,8 @@ pub record BeginChained (anchor : List ℕ) (below : List Candidate) : Type 0 wh
 
 -- the strings above this place begin with a path whose names chain, and this is found of the string
 -- there below the last member of that path
-pub record IsFoundBelow (Found : CertFields → List ℕ → Type 0) (anchor : List ℕ) (below : List Candidate) (place : ℕ) : Type 0 where
+pub record IsFoundBelow (Found : CertFields → List ℕ → Type 0)
+    (anchor : List ℕ) (below : List Candidate) (place : ℕ) : Type 0 where
   pub before : List Candidate
   pub there : Candidate
   pub after : List Candidate
@@ -61,16 +67,20 @@ BeginsTwoNamed anchor = (c : CertFields) × Means IsCertificate c anchor × (IsS
 
 -- the string begins with a certificate whose issuer isn't the subject of the one above it
 abbrev pub BeginsForeign : CertFields → List ℕ → Type 0
-BeginsForeign above octets = (c : CertFields) × Means IsCertificate c octets × (IsNamedBelow above c → ⊥)
+BeginsForeign above octets =
+    (c : CertFields) × Means IsCertificate c octets × (IsNamedBelow above c → ⊥)
 
 -- the member at this place is the first whose names don't chain
 abbrev pub IsUnchained : List ℕ → List Candidate → ℕ → Type 0
-IsUnchained anchor below place = ((place ≡ 0) × BeginsTwoNamed anchor) ⊎ IsFoundBelow BeginsForeign anchor below place
+IsUnchained anchor below place =
+    ((place ≡ 0) × BeginsTwoNamed anchor) ⊎ IsFoundBelow BeginsForeign anchor below place
 
 -- the names of the strings above the error's index chain, and this is why no certificate is read
 -- there
 abbrev pub IsUnreadBelow : List ℕ → List Candidate → PathError → Type 0
-IsUnreadBelow anchor below e = ((e.index ≡ 0) × IsUnread anchor e.fault) ⊎ IsFoundBelow (λ above octets. IsUnread octets e.fault) anchor below e.index
+IsUnreadBelow anchor below e =
+    ((e.index ≡ 0) × IsUnread anchor e.fault)
+    ⊎ IsFoundBelow (λ above octets. IsUnread octets e.fault) anchor below e.index
 
 -- what is answered of the names of these strings: that they chain, the first place where they
 -- don't, or the first one where no certificate is read

@@ -86,7 +86,11 @@ pub record Holds (p : Path) (i : ℕ) (k : NumberKind) (n : ℕ) : Type 0 where
 
 -- the numbers that the member at place i holds
 abbrev pub HeldAt : Path → ℕ → Held
-HeldAt p i = record { v4 = Holds p i v4_addresses; v6 = Holds p i v6_addresses; as_numbers = Holds p i system_numbers }
+HeldAt p i = record {
+  v4 = Holds p i v4_addresses;
+  v6 = Holds p i v6_addresses;
+  as_numbers = Holds p i system_numbers;
+}
 
 -- ---- valid paths
 
@@ -105,8 +109,10 @@ pub record IsValidPath (x : Context) (asked : RevocationChecks) (p : Path) : Typ
   pub anchor_meets : MeetsProfile Anchor x.strict p.anchor
   pub members_meet : AllByRecursion (λ m. MeetsProfile m.kind x.strict m.cert) p.below
   pub anchor_verified : IsVerified (TrustAnchorCheck x p.anchor) trust_anchor_checks
-  pub members_verified : (i : ℕ) → i < last p → IsVerified (CheckBelow x p i (certificate_at p (i + 1))) issued_checks
-  pub members_unrevoked : (i : ℕ) → i < last p → IsUnrevokedBy asked (certificate_at p i).fields (certificate_at p (i + 1))
+  pub members_verified : (i : ℕ) → i < last p
+      → IsVerified (CheckBelow x p i (certificate_at p (i + 1))) issued_checks
+  pub members_unrevoked : (i : ℕ) → i < last p
+      → IsUnrevokedBy asked (certificate_at p i).fields (certificate_at p (i + 1))
 
 -- ---- strings
 
@@ -151,7 +157,8 @@ pub record HasHeld (p : Path) (tal : List ℕ) (r : ResourceFields) : Type 0 whe
   pub tal_is : r.tal ≡ tal
 
 -- the strings are a valid path, and the result is what its last member holds
-pub record IsAccepted (x : Context) (asked : RevocationChecks) (anchor : List ℕ) (below : List Candidate) (tal : List ℕ) (r : ResourceFields) : Type 0 where
+pub record IsAccepted (x : Context) (asked : RevocationChecks) (anchor : List ℕ)
+    (below : List Candidate) (tal : List ℕ) (r : ResourceFields) : Type 0 where
   pub path : Path
   pub path_of : IsPathOf anchor below path
   pub is_valid : IsValidPath x asked path
@@ -159,7 +166,8 @@ pub record IsAccepted (x : Context) (asked : RevocationChecks) (anchor : List �
 
 -- the strings are not a valid path
 abbrev pub IsNoValidPath : Context → RevocationChecks → List ℕ → List Candidate → Type 0
-IsNoValidPath x asked anchor below = (p : Path) → IsPathOf anchor below p → IsValidPath x asked p → ⊥
+IsNoValidPath x asked anchor below =
+    (p : Path) → IsPathOf anchor below p → IsValidPath x asked p → ⊥
 
 -- what `out of memory` may stand in place of
 abbrev pub UnlessMemory : PathFault → Type 0 → Type 0
@@ -168,9 +176,11 @@ UnlessMemory _ P = P
 
 -- Ok exactly where the strings are a valid path, with what its last member holds, unless it runs
 -- out of memory
-abbrev pub Validates : Context → RevocationChecks → List ℕ → List Candidate → List ℕ → Result ResourceFields PathError → Type 0
+abbrev pub Validates : Context → RevocationChecks → List ℕ → List Candidate → List ℕ
+    → Result ResourceFields PathError → Type 0
 Validates x asked anchor below tal (Ok r) = IsAccepted x asked anchor below tal r
-Validates x asked anchor below tal (Err e) = UnlessMemory e.fault (IsNoValidPath x asked anchor below)
+Validates x asked anchor below tal (Err e) =
+    UnlessMemory e.fault (IsNoValidPath x asked anchor below)
 
 -- what is asked of a certificate: its kind, with the profile, the checks that are verified, and
 -- then those of revocation
@@ -182,20 +192,32 @@ pub record Demand : Type 1 where
 
 -- of a trust anchor, for which nobody is asked
 abbrev pub trust_anchor_demand : Context → Demand
-trust_anchor_demand x = record { kind = Anchor; check = TrustAnchorCheck x; checks = trust_anchor_checks; asked_check = λ c e. Unit {0} }
+trust_anchor_demand x = record {
+  kind = Anchor;
+  check = TrustAnchorCheck x;
+  checks = trust_anchor_checks;
+  asked_check = λ c e. Unit {0};
+}
 
 -- of a member of this kind below the member at place i
 abbrev pub demand_below : Context → RevocationChecks → Path → ℕ → Kind → Demand
-demand_below x asked p i kind = record { kind = kind; check = CheckBelow x p i; checks = issued_checks; asked_check = AskedBelow asked p i }
+demand_below x asked p i kind = record {
+  kind = kind;
+  check = CheckBelow x p i;
+  checks = issued_checks;
+  asked_check = AskedBelow asked p i;
+}
 
 -- the string begins with a certificate, which isn't valid as one of the kind, and this is why
 abbrev pub BeginsInvalid : Context → Demand → List ℕ → ValidationError → Type 0
 BeginsInvalid x d octets e =
-    (c : CertFields) × Means IsCertificate c octets × IsInvalid d.kind x.strict c (IsFirstFalse (d.check c) d.checks) e
+    (c : CertFields) × Means IsCertificate c octets
+    × IsInvalid d.kind x.strict c (IsFirstFalse (d.check c) d.checks) e
 
 -- the string begins with a certificate, which is valid, and this is the first of its checks of
 -- revocation that isn't true
-pub record BeginsRevoked (x : Context) (d : Demand) (octets : List ℕ) (e : RevocationError) : Type 0 where
+pub record BeginsRevoked (x : Context) (d : Demand)
+    (octets : List ℕ) (e : RevocationError) : Type 0 where
   pub cert : CertFields
   pub begins : Means IsCertificate cert octets
   pub meets : MeetsProfile d.kind x.strict cert
@@ -204,7 +226,8 @@ pub record BeginsRevoked (x : Context) (d : Demand) (octets : List ℕ) (e : Rev
 
 -- what a fault says of a string of which this is asked
 abbrev pub Finds : Context → Demand → List ℕ → PathFault → Type 0
-Finds x d octets (Decode e) = (e ≢ decoding.Memory) × ((c : CertFields) → Means IsCertificate c octets → ⊥)
+Finds x d octets (Decode e) =
+    (e ≢ decoding.Memory) × ((c : CertFields) → Means IsCertificate c octets → ⊥)
 Finds x d octets (Inspect e) = BeginsInvalid x d octets (Inspection e)
 Finds x d octets (Verify e) = BeginsInvalid x d octets (Verification e)
 Finds x d octets (Revocation e) = BeginsRevoked x d octets e
@@ -216,7 +239,8 @@ pub record IsFaultOfTrustAnchor (x : Context) (anchor : List ℕ) (e : PathError
   pub fault_is : Finds x (trust_anchor_demand x) anchor e.fault
 
 -- the members before the index are a valid path, and the error is one of the string there
-pub record IsFaultBelow (x : Context) (asked : RevocationChecks) (anchor : List ℕ) (below : List Candidate) (e : PathError) : Type 0 where
+pub record IsFaultBelow (x : Context) (asked : RevocationChecks)
+    (anchor : List ℕ) (below : List Candidate) (e : PathError) : Type 0 where
   pub before : List Candidate
   pub there : Candidate
   pub after : List Candidate
@@ -229,7 +253,8 @@ pub record IsFaultBelow (x : Context) (asked : RevocationChecks) (anchor : List 
 
 -- the error says what is wrong of the string at its index
 abbrev pub IsFault : Context → RevocationChecks → List ℕ → List Candidate → PathError → Type 0
-IsFault x asked anchor below e = IsFaultOfTrustAnchor x anchor e ⊎ IsFaultBelow x asked anchor below e
+IsFault x asked anchor below e =
+    IsFaultOfTrustAnchor x anchor e ⊎ IsFaultBelow x asked anchor below e
 
 -- the fault isn't one of revocation
 abbrev pub IsUnasked : PathFault → Type 0
@@ -249,6 +274,7 @@ greatest_number system_numbers = 2 ^ 32 - 1
 -- inherits
 pub record PassesMore (p q : Path) : Type 0 where
   pub same_length : last p ≡ last q
-  pub anchor_lists : (k : NumberKind) (n : ℕ) → n ≤ greatest_number k → Lists p.anchor k n → Lists q.anchor k n
+  pub anchor_lists : (k : NumberKind) (n : ℕ)
+      → n ≤ greatest_number k → Lists p.anchor k n → Lists q.anchor k n
   pub later_pass : (j : ℕ) → 1 ≤ j → j ≤ last p → (k : NumberKind) (n : ℕ) → n ≤ greatest_number k
       → PassesOn (certificate_at p j) k n → PassesOn (certificate_at q j) k n

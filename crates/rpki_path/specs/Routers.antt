@@ -10,13 +10,15 @@ use Rattle.rpki_revocation.specs.Asking.{RevocationChecks, nobody, by_uri, IsUnr
 use Rattle.rpki_path.specs.Paths.{Demand}
 
 -- a router's certificate that is valid below the issuer, and unrevoked there by who is asked
-pub record IsRouterUnder (x : Context) (asked : RevocationChecks) (issuer : ResourceFields) (c : CertFields) : Type 0 where
+pub record IsRouterUnder (x : Context) (asked : RevocationChecks)
+    (issuer : ResourceFields) (c : CertFields) : Type 0 where
   pub meets : MeetsProfile Router x.strict c
   pub checks : IsVerified (CheckUnder x issuer c) router_checks
   pub unrevoked : IsUnrevokedBy asked issuer.cert.fields c
 
 -- the octets begin with one; what follows it is ignored
-pub record BeginsWithRouter (x : Context) (asked : RevocationChecks) (issuer : ResourceFields) (octets : List ℕ) : Type 0 where
+pub record BeginsWithRouter (x : Context) (asked : RevocationChecks)
+    (issuer : ResourceFields) (octets : List ℕ) : Type 0 where
   pub cert : CertFields
   pub begins : Means IsCertificate cert octets
   pub under : IsRouterUnder x asked issuer cert

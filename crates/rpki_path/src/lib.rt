@@ -5,6 +5,7 @@ mod given;
 pub mod issuing;
 mod judging;
 pub mod laws;
+mod located;
 mod members;
 mod names;
 mod path_fault;
@@ -14,6 +15,7 @@ mod validator;
 
 pub use given::{GivenPath, Last};
 pub use judging::{Judged, judge};
+pub use located::{LocatedError, has_locator_key, validate_located};
 pub use members::Member;
 pub use names::{first_unchained, is_self_named, names_chain};
 pub use path_fault::{PathError, PathFault};

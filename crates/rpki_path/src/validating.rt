@@ -68,10 +68,10 @@ fn to_leaf<R: RevocationSource, V: Verifier>(
     }
 }
 
-// The answer of the walk down these strings.
-fn walked<R: RevocationSource, V: Verifier>(
+// The answer of the walk down these strings, below a trust anchor that may have been read.
+pub(crate) fn walked<R: RevocationSource, V: Verifier>(
     validator: &Validator<'_, '_, R, V>,
-    anchor: &Bytes,
+    anchor: &Member<'_>,
     cas: &[Bytes],
     leaf: &Option<Leaf>,
     tal: Rc<TalInfo>,
@@ -87,7 +87,7 @@ fn walked<R: RevocationSource, V: Verifier>(
         IfErr result (IsFault x asked anchor.now (candidates cas.now leaf.now)) }
 {
     let cas = placed(0, members_of(validator.alloc, cas))?;
-    let answer = to_leaf(validator, &Member::of(anchor), &cas, leaf, tal);
+    let answer = to_leaf(validator, anchor, &cas, leaf, tal);
     drop(cas);
     answer
 }
@@ -129,7 +129,7 @@ pub fn validate_path<V: Verifier>(
         at: now,
         verifier,
     };
-    walked(&validator, anchor, cas, &leaf, tal)
+    walked(&validator, &Member::of(anchor), cas, &leaf, tal)
 }
 
 /// Validates a path as [`validate_path`] does, and asks the lists of this store whether a member is
@@ -168,5 +168,5 @@ pub fn validate_path_with<V: Verifier>(
         at: now,
         verifier,
     };
-    walked(&validator, anchor, cas, &leaf, tal)
+    walked(&validator, &Member::of(anchor), cas, &leaf, tal)
 }

@@ -23,6 +23,8 @@ mod list_parts;
 #[cfg(test)]
 mod lists;
 #[cfg(test)]
+mod located;
+#[cfg(test)]
 mod memory;
 #[cfg(test)]
 mod name_texts;

@@ -5,13 +5,14 @@ use Rattle.std.proofs.lemmas.Bool.{true≢false, false≢true}
 use Rattle.rpki.specs.Certificates.{CertFields, IsCertificate}
 use Rattle.rpki.specs.Encoding.{Means}
 use Rattle.rpki.specs.Keys.{KeyFields}
+use Rattle.rpki.specs.LocatedPaths.{IsLocatorOf}
 use Rattle.rpki.specs.Locators.{IsLocator, NamedTal, TalFields}
 use Rattle.rpki.specs.TalError.{TalError}
 use Rattle.rpki.specs.Values.{IsUnambiguous}
 use Rattle.rpki_files.specs.Contents.{BeginsWithCertificate}
 use Rattle.rpki_files.specs.Files.{FileFields}
 use Rattle.rpki_der.proofs.Formats.{one_meant}
-use Rattle.rpki_verdicts.specs.GivenLocators.{LocatorFields, locator_files, locator_octets, IsReadOf, IsRead, HasKeyRead, IsLocatorOf, IsLocated, IsFirst}
+use Rattle.rpki_verdicts.specs.GivenLocators.{LocatorFields, locator_files, locator_octets, IsReadAs, IsRead, HasKeyRead, IsLocated, IsFirst}
 use Rattle.rpki_verdicts.proofs.FirstItems.{any_there, first_image}
 use Rattle.rpki_verdicts.proofs.ReadLocators.{read_at}
 
@@ -21,15 +22,16 @@ IsOneLocator = (strict other : Bool) (t u : TalFields) (file : List ℕ) → IsL
 
 module _ (one_certificate : IsUnambiguous IsCertificate) (one_locator : IsOneLocator) (strict : Bool) (anchor : List ℕ) (cert : CertFields) (begins : Means IsCertificate cert anchor) where
   -- what was read of a file has the certificate's key exactly where the file is the locator of it
-  read_key : (octets : List ℕ) (r : Result NamedTal TalError) → IsReadOf strict octets r → IsOkAnd r (λ t. cert.fields.key ≡ t.tal.key) ↔ IsLocatorOf strict anchor octets
+  read_key : (octets : List ℕ) (r : Result NamedTal TalError) → IsReadAs strict octets r → IsOkAnd r (λ t. cert.fields.key ≡ t.tal.key) ↔ IsLocatorOf strict anchor octets
   read_key octets (Ok t) is = (
-    (λ key. record { tal = t.tal; is_locator = is; cert = cert; begins = begins; key_is = key }),
+    (λ key. record { locator = t.tal; locator_is = is; begins = record { cert = cert; begins = begins; key_is = key } }),
     (λ h.
-        let certs : h.cert ≡ cert = one_meant IsCertificate one_certificate h.cert cert anchor h.begins begins in
-        let tals : h.tal ≡ t.tal = one_locator strict strict h.tal t.tal octets h.is_locator is in
-        sym (ap (λ (c : CertFields). c.fields.key) certs) ∙ h.key_is ∙ ap (λ (u : TalFields). u.key) tals),
+        let b = h.begins in
+        let certs : b.cert ≡ cert = one_meant IsCertificate one_certificate b.cert cert anchor b.begins begins in
+        let tals : h.locator ≡ t.tal = one_locator strict strict h.locator t.tal octets h.locator_is is in
+        sym (ap (λ (c : CertFields). c.fields.key) certs) ∙ b.key_is ∙ ap (λ (u : TalFields). u.key) tals),
   )
-  read_key octets (Err e) is = ((λ key. absurd key), (λ h. absurd (is.2 (h.tal, h.is_locator))))
+  read_key octets (Err e) is = ((λ key. absurd key), (λ h. absurd (is.2 (h.locator, h.locator_is))))
 
   module _ (locators : List LocatorFields) (read : All (IsRead strict) locators) where
     -- the first that was read with its key is the first that is the trust anchor's locator
@@ -41,7 +43,7 @@ module _ (one_certificate : IsUnambiguous IsCertificate) (one_locator : IsOneLoc
 
 -- of octets that begin with no certificate there is no locator
 pub none_of_other : (strict : Bool) (anchor : List ℕ) (files : List (List ℕ)) → (BeginsWithCertificate anchor → ⊥) → IsFirst (IsLocatorOf strict anchor) files None
-none_of_other strict anchor files none = λ any. let h = any.4 in none (h.cert, h.begins)
+none_of_other strict anchor files none = λ any. let h = any.4 in none (h.begins.cert, h.begins.begins)
 
 -- a locator that is found is one of the files
 located : (strict : Bool) (anchor : List ℕ) (files : List (List ℕ)) (place : ℕ) → IsFirst (IsLocatorOf strict anchor) files (Some place) → IsLocated strict files anchor

@@ -8,7 +8,7 @@ use Rattle.rpki.specs.Locators.{NamedTal}
 use Rattle.rpki.specs.TalError.{TalError}
 use Rattle.rpki_files.specs.FaultRules.{tal_reason}
 use Rattle.rpki_files.specs.Files.{FileFields}
-use Rattle.rpki_verdicts.specs.GivenLocators.{LocatorFields, locator_files, locator_octets, AreLocator, IsReadOf, IsRead}
+use Rattle.rpki_verdicts.specs.GivenLocators.{LocatorFields, locator_files, locator_octets, AreLocator, IsReadAs, IsRead}
 use Rattle.rpki_verdicts.specs.PathAnswers.{reason_of, IsNoLocator}
 use Rattle.rpki_verdicts.specs.declared.path.Fault.{Fault}
 use Rattle.rpki_verdicts.proofs.FirstItems.{imaged}
@@ -35,17 +35,17 @@ module _ (strict : Bool) (locators : List LocatorFields) where
       subst (AreLocator strict) there.2 (each i (omega (arith, within, high)) there.0 there.1))
 
   module _ (read : All (IsRead strict) locators) (k : ℕ) (l : LocatorFields) (is : slice_get locators k ≡ Some l) where
-    pub read_at : IsReadOf strict l.file.octets l.read
+    pub read_at : IsReadAs strict l.file.octets l.read
     read_at = subst (IsRead strict) (get_or_from_slice_get locators k l l is) (All-get_or (IsRead strict) locators k l (slice_get_within locators k l is) read)
 
     -- one that was read is a locator
     pub is_locator : (t : NamedTal) → l.read ≡ Ok t → AreLocator strict l.file.octets
-    is_locator t was = (t.tal, subst (λ (r : Result NamedTal TalError). IsReadOf strict l.file.octets r) was read_at)
+    is_locator t was = (t.tal, subst (λ (r : Result NamedTal TalError). IsReadAs strict l.file.octets r) was read_at)
 
     -- one that wasn't is none, and the fault says why
     pub no_locator : (e : TalError) (fault : Fault) → l.read ≡ Err e → fault.index ≡ k → reason_of fault ≡ tal_reason e → IsNoLocator strict (locator_octets locators) fault
     no_locator e fault was place reason =
-        let why = subst (λ (r : Result NamedTal TalError). IsReadOf strict l.file.octets r) was read_at in
+        let why = subst (λ (r : Result NamedTal TalError). IsReadAs strict l.file.octets r) was read_at in
         record {
           octets = l.file.octets;
           octets_are = ap (slice_get (locator_octets locators)) place ∙ octets_at locators k l is;

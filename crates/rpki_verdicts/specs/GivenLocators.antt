@@ -1,9 +1,8 @@
 -- Files that are given as locators, and whether a trust anchor is one's (RFC 8630 3).
 use Rattle.std.specs.Prelude.{◌≡◌, ◌≢◌, ◌<◌, ℕ, Bool, Any, IsOkAnd, List, [], ◌∷◌, map, slice_get, Option, Some, None, Result, Ok, Err}
-use Rattle.rpki.specs.Certificates.{CertFields, IsCertificate}
-use Rattle.rpki.specs.Encoding.{Means}
 use Rattle.rpki.specs.Keys.{KeyFields}
 use Rattle.rpki.specs.LocatorFaults.{IsTalFault}
+use Rattle.rpki.specs.LocatedPaths.{IsLocatorOf}
 use Rattle.rpki.specs.Locators.{IsLocator, NamedTal, TalFields}
 use Rattle.rpki.specs.TalError.{TalError}
 use Rattle.rpki.specs.TalError.TheVariants.{Memory}
@@ -29,27 +28,20 @@ abbrev pub AreLocator : Bool → List ℕ → Type 0
 AreLocator strict octets = (t : TalFields) × IsLocator strict t octets
 
 -- the locator that the octets are was read of them; or they are none, and this is why
-abbrev pub IsReadOf : Bool → List ℕ → Result NamedTal TalError → Type 0
-IsReadOf strict octets (Ok t) = IsLocator strict t.tal octets
-IsReadOf strict octets (Err e) = (e ≢ Memory) × IsTalFault strict e octets × (AreLocator strict octets → ⊥)
+abbrev pub IsReadAs : Bool → List ℕ → Result NamedTal TalError → Type 0
+IsReadAs strict octets (Ok t) = IsLocator strict t.tal octets
+IsReadAs strict octets (Err e) =
+    (e ≢ Memory) × IsTalFault strict e octets × (AreLocator strict octets → ⊥)
 
 -- this was read of the file
 abbrev pub IsRead : Bool → LocatorFields → Type 0
-IsRead strict l = IsReadOf strict l.file.octets l.read
+IsRead strict l = IsReadAs strict l.file.octets l.read
 
 -- the file was read as a locator of this key
 abbrev pub HasKeyRead : KeyFields → LocatorFields → Type 0
 HasKeyRead key l = IsOkAnd l.read (λ t. key ≡ t.tal.key)
 
 -- ---- the trust anchor
-
--- the octets of a file are a locator, and the trust anchor's begin with a certificate of its key
-pub record IsLocatorOf (strict : Bool) (anchor file : List ℕ) : Type 0 where
-  pub tal : TalFields
-  pub is_locator : IsLocator strict tal file
-  pub cert : CertFields
-  pub begins : Means IsCertificate cert anchor
-  pub key_is : cert.fields.key ≡ tal.key
 
 -- one of the files is the trust anchor's locator; where none is given, that isn't asked
 abbrev pub IsLocated : Bool → List (List ℕ) → List ℕ → Type 0
@@ -60,4 +52,5 @@ IsLocated strict (file ∷ files) anchor = Any (IsLocatorOf strict anchor) (file
 abbrev pub IsFirst : {X : Type 0} → (X → Type 0) → List X → Option ℕ → Type 0
 IsFirst Holds xs None = Any Holds xs → ⊥
 IsFirst {X} Holds xs (Some place) =
-    (x : X) × (slice_get xs place ≡ Some x) × Holds x × ((k : ℕ) → k < place → (earlier : X) → slice_get xs k ≡ Some earlier → Holds earlier → ⊥)
+    (x : X) × (slice_get xs place ≡ Some x) × Holds x
+    × ((k : ℕ) → k < place → (earlier : X) → slice_get xs k ≡ Some earlier → Holds earlier → ⊥)

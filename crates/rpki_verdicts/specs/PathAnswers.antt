@@ -45,13 +45,14 @@ AreChained names g = IsTrue names → BeginChained g.anchor (strings_below g)
 -- the trust anchor is that of a locator (RFC 8630 3); the path is valid, with what its last member
 -- holds; names chain (RFC 6487 7.2); and the last key is one that the RPKI uses (RFC 7935 3, RFC 8608
 -- 3.1), as those above it are by the signatures that they verify
-pub record IsUsablePath (x : Context) (asked : RevocationChecks) (d : Demands) (g : PathStrings) (j : Judged) : Type 0 where
+pub record IsUsablePath (x : Context) (asked : RevocationChecks) (d : Demands)
+    (g : PathStrings) (j : Judged) : Type 0 where
   pub located : IsLocated x.strict d.locators g.anchor
   pub accepted : IsAcceptedWith x asked g j
   pub chained : AreChained d.names g
   pub usable : IsUsableKey (last_key j)
 
--- it isn't so, whatever answer one thinks of
+-- there is no answer of which that is so
 abbrev pub IsNotUsable : Context → RevocationChecks → Demands → PathStrings → Type 0
 IsNotUsable x asked d g = (j : Judged) → IsUsablePath x asked d g j → ⊥
 
@@ -84,7 +85,8 @@ pub record HasOtherKey (x : Context) (d : Demands) (g : PathStrings) (fault : Fa
   pub reason_is : reason_of fault ≡ locator_reason
 
 -- the member at the fault's place is wrong, for its reason, and those above it are a valid path
-pub record IsWrong (x : Context) (asked : RevocationChecks) (files : List (List ℕ)) (g : PathStrings) (fault : Fault) : Type 0 where
+pub record IsWrong (x : Context) (asked : RevocationChecks) (files : List (List ℕ))
+    (g : PathStrings) (fault : Fault) : Type 0 where
   pub error : PathError
   pub place_is : error.index ≡ fault.index
   pub no_memory : error.fault ≢ Memory
@@ -98,13 +100,15 @@ pub record IsOtherName (g : PathStrings) (names : Bool) (fault : Fault) : Type 0
   pub reason_is : reason_of fault ≡ name_reason fault.index
 
 -- the path is valid, but its names don't chain
-pub record HasOtherName (x : Context) (asked : RevocationChecks) (d : Demands) (g : PathStrings) (fault : Fault) : Type 0 where
+pub record HasOtherName (x : Context) (asked : RevocationChecks) (d : Demands)
+    (g : PathStrings) (fault : Fault) : Type 0 where
   pub judged : Judged
   pub accepted : IsAcceptedWith x asked g judged
   pub other : IsOtherName g d.names fault
 
 -- the path is valid, and names chain, but the key of its last member can't be used
-pub record HasBadKey (x : Context) (asked : RevocationChecks) (d : Demands) (files : List (List ℕ)) (g : PathStrings) (fault : Fault) : Type 0 where
+pub record EndsInBadKey (x : Context) (asked : RevocationChecks) (d : Demands)
+    (files : List (List ℕ)) (g : PathStrings) (fault : Fault) : Type 0 where
   pub judged : Judged
   pub accepted : IsAcceptedWith x asked g judged
   pub chained : AreChained d.names g
@@ -116,26 +120,32 @@ pub record HasBadKey (x : Context) (asked : RevocationChecks) (d : Demands) (fil
 
 -- why it is rejected, in the order in which it is asked: of the trust anchor's locator, of the path,
 -- of names, and of the last key; what is asked before the fault holds
-abbrev pub IsFaultIn : Context → RevocationChecks → Demands → List (List ℕ) → PathStrings → Fault → Type 0
+abbrev pub IsFaultIn : Context → RevocationChecks → Demands → List (List ℕ) → PathStrings
+    → Fault → Type 0
 IsFaultIn x asked d files g fault =
     HasOtherKey x d g fault
-    ⊎ (IsWrong x asked files g fault ⊎ (HasOtherName x asked d g fault ⊎ HasBadKey x asked d files g fault))
+    ⊎ (IsWrong x asked files g fault
+    ⊎ (HasOtherName x asked d g fault ⊎ EndsInBadKey x asked d files g fault))
 
 -- the verdict on the path of these files: what its last member holds, or where and why it is wrong
-abbrev pub IsVerdictOn : Context → RevocationChecks → Demands → List (List ℕ) → PathStrings → Verdict → Type 0
+abbrev pub IsVerdictOn : Context → RevocationChecks → Demands → List (List ℕ) → PathStrings
+    → Verdict → Type 0
 IsVerdictOn x asked d files g (Accepted j) = IsUsablePath x asked d g j
-IsVerdictOn x asked d files g (Rejected fault) = IsNotUsable x asked d g × IsFaultIn x asked d files g fault
+IsVerdictOn x asked d files g (Rejected fault) =
+    IsNotUsable x asked d g × IsFaultIn x asked d files g fault
 
 -- the verdict on the path that the files are
 abbrev pub IsPathVerdict : Context → RevocationChecks → Demands → List (List ℕ) → Verdict → Type 0
-IsPathVerdict x asked d files verdict = (g : PathStrings) × IsGivenBy files g × IsVerdictOn x asked d files g verdict
+IsPathVerdict x asked d files verdict =
+    (g : PathStrings) × IsGivenBy files g × IsVerdictOn x asked d files g verdict
 
 -- the verdict on the path that the files are, by the files that were given as lists: where none was,
 -- nobody is asked for revocation
 abbrev pub IsVerdictBy : Context → Demands → List (List ℕ) → List (List ℕ) → Verdict → Type 0
 IsVerdictBy x d files [] verdict = IsPathVerdict x nobody d files verdict
 IsVerdictBy x d files (list ∷ lists) verdict =
-    (read : List CrlState) × AreListsOf (list ∷ lists) read × IsPathVerdict x (by_lists x read) d files verdict
+    (read : List CrlState) × AreListsOf (list ∷ lists) read
+    × IsPathVerdict x (by_lists x read) d files verdict
 
 -- the path is accepted
 abbrev pub IsAcceptance : Option Verdict → Type 0

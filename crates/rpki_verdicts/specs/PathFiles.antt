@@ -7,7 +7,7 @@ use Rattle.rpki.specs.Lists.{CrlState, IsCertificateList}
 use Rattle.rpki.specs.GivenPaths.{PathStrings, anchor_alone, HasLast}
 use Rattle.rpki_files.specs.Contents.{BeginsWithList}
 use Rattle.rpki_files.specs.Files.{FileFields, contents}
-use Rattle.rpki_verdicts.specs.GivenLocators.{LocatorFields, IsFirst, IsLocatorOf, locator_octets}
+use Rattle.rpki_verdicts.specs.GivenLocators.{LocatorFields, IsFirst, locator_octets}
 use Rattle.rpki_verdicts.specs.SaidKinds.{IsJudgedAs}
 
 -- what is asked: the files of the path, those given as lists and as locators, whether names have to
@@ -43,7 +43,8 @@ locator_at locators (Some place) = slice_get locators place
 
 -- the first of the locators that is the trust anchor's, if one is
 abbrev pub IsAnchorLocator : QuestionFields → Option LocatorFields → Type 0
-IsAnchorLocator question found = (o : Option ℕ) × IsPlaceOfLocator question o × (found ≡ locator_at question.locators o)
+IsAnchorLocator question found =
+    (o : Option ℕ) × IsPlaceOfLocator question o × (found ≡ locator_at question.locators o)
 
 -- the files are a path with a last one below the trust anchor, which is judged as it says
 pub record HasJudgedLast (files : List (List ℕ)) (g : PathStrings) : Type 0 where
@@ -53,11 +54,14 @@ pub record HasJudgedLast (files : List (List ℕ)) (g : PathStrings) : Type 0 wh
 
 -- the path that these files are, from the trust anchor's down: that one alone, or with those below it
 abbrev pub IsGivenBy : List (List ℕ) → PathStrings → Type 0
-IsGivenBy files g = ((anchor : List ℕ) × (files ≡ anchor ∷ []) × (g ≡ anchor_alone anchor)) ⊎ HasJudgedLast files g
+IsGivenBy files g =
+    ((anchor : List ℕ) × (files ≡ anchor ∷ []) × (g ≡ anchor_alone anchor))
+    ⊎ HasJudgedLast files g
 
 -- the lists of those files that begin with one, as they were read, with a table of their serials
 abbrev pub AreListsOf : List (List ℕ) → List CrlState → Type 0
 AreListsOf [] lists = lists ≡ []
 AreListsOf (octets ∷ files) lists =
     ((BeginsWithList octets → ⊥) × AreListsOf files lists)
-    ⊎ ((l : CrlState) × (rest : List CrlState) × Means IsCertificateList l.list octets × (l.is_cached ≡ true) × AreListsOf files rest × (lists ≡ l ∷ rest))
+    ⊎ ((l : CrlState) × (rest : List CrlState) × Means IsCertificateList l.list octets
+    × (l.is_cached ≡ true) × AreListsOf files rest × (lists ≡ l ∷ rest))

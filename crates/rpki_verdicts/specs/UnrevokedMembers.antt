@@ -12,7 +12,8 @@ IsGivenAmong files l = Any (λ octets. Means IsCertificateList l octets) files
 
 -- Of the octets of a member, below those of its issuer: a list that was given names the issuer's
 -- key and is signed by it, is current, and doesn't have the member's serial number.
-pub record IsUnrevokedBelow (x : Context) (lists : List (List ℕ)) (above octets : List ℕ) : Type 0 where
+pub record IsUnrevokedBelow (x : Context) (lists : List (List ℕ))
+    (above octets : List ℕ) : Type 0 where
   pub issuer : CertFields
   pub issuer_begins : Means IsCertificate issuer above
   pub member : CertFields
@@ -24,7 +25,8 @@ pub record IsUnrevokedBelow (x : Context) (lists : List (List ℕ)) (above octet
 -- of each of these, below the one before it, and of the first below these octets
 abbrev pub AreUnrevokedBelow : Context → List (List ℕ) → List ℕ → List (List ℕ) → Type 0
 AreUnrevokedBelow x lists above [] = Unit {0}
-AreUnrevokedBelow x lists above (octets ∷ more) = IsUnrevokedBelow x lists above octets × AreUnrevokedBelow x lists octets more
+AreUnrevokedBelow x lists above (octets ∷ more) =
+    IsUnrevokedBelow x lists above octets × AreUnrevokedBelow x lists octets more
 
 -- of each file of a path but that of the trust anchor
 abbrev pub AreUnrevoked : Context → List (List ℕ) → List (List ℕ) → Type 0

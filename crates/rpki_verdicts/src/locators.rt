@@ -1,6 +1,6 @@
 //! Files that are given as locators of the trust anchor.
 ghost use Rattle.std.specs.Prelude.{◌≡◌, ◌↔◌, Ok, Err, IfOk, IfErr, IsOkAnd, IsTrue};
-ghost use Rattle.rpki_verdicts.specs.GivenLocators.{HasKeyRead, IsFirst, IsRead, IsReadOf};
+ghost use Rattle.rpki_verdicts.specs.GivenLocators.{HasKeyRead, IsFirst, IsRead, IsReadAs};
 
 use rpki::crypto::PublicKey;
 use rpki::repository::tal::{Tal, TalError};
@@ -33,7 +33,7 @@ fn read(
     octets: &[u8],
     strict: bool,
 ) -> Result<Result<Tal, TalError>, AllocError>
-    ensures { IfOk result (IsReadOf strict octets.now) }
+    ensures { IfOk result (IsReadAs strict octets.now) }
 {
     let name = String::from_str(alloc, name)?;
     match Tal::read_named(alloc, name, octets, strict) {

@@ -8,7 +8,7 @@ ghost use Rattle.rpki.specs.Verification.{context};
 ghost use Rattle.rpki.specs.Judged.{Judged as Holding};
 ghost use Rattle.rpki.specs.Paths.{UnlessMemory};
 ghost use Rattle.rpki.specs.PathFault.TheVariants.{Memory};
-ghost use Rattle.rpki.specs.NameChains.{IsUnchained, strings_below};
+ghost use Rattle.rpki.specs.NameChains.{BeginPath, IsUnchained, strings_below};
 ghost use Rattle.rpki_files.specs.Contents.{BeginsWithCertificate};
 ghost use Rattle.rpki_files.specs.FaultRules.{locator_reason, name_reason, tal_reason};
 ghost use Rattle.rpki_files.specs.Files.{contents};
@@ -319,13 +319,14 @@ fn other_name(index: usize) -> Fault
     }
 }
 
-// The place of the first member whose names don't chain, where that is asked. The strings of a
-// valid path begin with certificates, so this errs only where memory runs out.
+// The place of the first member whose names don't chain, where that is asked. All strings begin with
+// certificates, so this errs only where memory runs out.
 fn unchained(
     alloc: Global,
     path: &GivenPath<'_, '_>,
     names: bool,
 ) -> Result<Option<usize>, AllocError>
+    requires { BeginPath path.now }
     ensures { IfOk result (λ o. MatchOption o (AreChained names path.now)
         (λ place. IsTrue names × IsUnchained path.now.anchor (strings_below path.now) place)) }
 {
@@ -335,6 +336,9 @@ fn unchained(
     match first_unchained(alloc, path) {
         Ok(place) => Ok(place),
         Err(error) => {
+            if !error.is_memory() {
+                unreachable!();
+            }
             drop(error);
             Err(AllocError)
         }
@@ -350,6 +354,7 @@ fn with_names(
     judged: Judged,
     index: usize,
 ) -> Result<Verdict, AllocError>
+    requires { BeginPath path.now }
     ensures { IfOk result (IsNamedVerdict path.now names judged index) }
 {
     match unchained(alloc, path, names) {

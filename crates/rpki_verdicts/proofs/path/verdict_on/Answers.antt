@@ -6,6 +6,7 @@ use Rattle.rpki.specs.RsaSignatures.{IsSignedByRsa}
 use Rattle.rpki.specs.Verification.{context}
 use Rattle.rpki_files.specs.Contents.{BeginsWithCertificate}
 use Rattle.rpki_files.specs.Files.{contents}
+use Rattle.rpki_path.proofs.UnchainedNames.{accepted_begin}
 use Rattle.rpki_verdicts.specs.PathFiles.{QuestionFields, IsGivenBy, demands_of}
 use Rattle.rpki_verdicts.specs.PathAnswers.{IsReasonAt, IsVerdictOn}
 use Rattle.rpki_verdicts.specs.PathAnswers.Steps.{IsNamedVerdict}
@@ -46,6 +47,13 @@ returns-in_ok-verdict-in-Ok g c =
     let place : length strings - 1 + 1 ≡ length strings = omega (arith, c.in-Some.ensures.count) in
     let named = subst (λ (f : QuestionFields). IsNamedVerdict path f.names judged (length strings - 1) verdict) c.question.view_is c.in_ok-verdict-in-Ok.ensures in
     (path, given, named_verdict c.unambiguous.ensures.certificate x (asks x) (demands_of q) strings path judged (length strings - 1) located accepted place verdict named)
+
+pub with_names-requires-in-Ok : goal.with_names-requires-in-Ok
+with_names-requires-in-Ok g c =
+    let asks = g.R.RevocationSource.asks c.args.asked.now in
+    let x = λ (f : QuestionFields). context IsSignedByRsa f.at f.strict in
+    let f = c.question.inside in
+    accepted_begin (x f) (asks (x f)) c.in-Some.path c.in-Ok.judged c.in-Ok.ensures.judges
 
 pub returns-in_ok-fault-in-Err : goal.returns-in_ok-fault-in-Err
 returns-in_ok-fault-in-Err g c =

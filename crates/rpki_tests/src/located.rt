@@ -1,0 +1,126 @@
+//! Paths below the trust anchor of a locator.
+
+use bytes::Bytes;
+use rpki_cert::{Cert, KeyUsage, ResourceCert};
+use rpki_crl::{CrlStore, RevocationError};
+use rpki_parts::StandIn;
+use rpki_path::{LocatedError, Member, PathError, PathFault, has_locator_key, validate_located};
+use rpki_samples::{anchor_octets, bare, day, rsa, set_issuer, set_places, signed};
+use rpki_tal::Tal;
+use std::alloc::Global;
+use std::process::Abort;
+
+// A locator of the key with the bits `abc`, which is the anchor's, and one of `abd`: in base64 a
+// SubjectPublicKeyInfo of rsaEncryption with NULL.
+const OF_ANCHOR: &[u8] = b"rsync://example.com/ta.cer\n\nMBUwDQYJKoZIhvcNAQEBBQADBABhYmM=\n";
+
+const OF_OTHER: &[u8] = b"rsync://example.com/ta.cer\n\nMBUwDQYJKoZIhvcNAQEBBQADBABhYmQ=\n";
+
+fn locator(rt: &impl Abort, alloc: Global, file: &[u8]) -> Tal {
+    let name = String::from_str(alloc, "example").expect(rt, "memory");
+    Tal::read_named(alloc, name, file, true).expect(rt, "a locator")
+}
+
+fn anchor(rt: &impl Abort, alloc: Global) -> Bytes {
+    anchor_octets(alloc).expect(rt, "memory")
+}
+
+// An authority with the anchor's key, which inherits all.
+fn authority(rt: &impl Abort, alloc: Global) -> Bytes {
+    let mut tbs = bare(alloc, 13, rsa(b"abc"), KeyUsage::Ca).expect(rt, "memory");
+    tbs.set_basic_ca(Some(true));
+    set_issuer(alloc, &mut tbs).expect(rt, "memory");
+    set_places(alloc, &mut tbs).expect(rt, "memory");
+    tbs.set_v4_resources_inherit();
+    tbs.set_v6_resources_inherit();
+    tbs.set_as_resources_inherit();
+    signed(alloc, tbs).expect(rt, "memory")
+}
+
+type Located = Result<ResourceCert, LocatedError>;
+
+// The path of an anchor and these authorities, below the locator, with no list at all.
+fn validated(
+    rt: &impl Abort,
+    alloc: Global,
+    file: &[u8],
+    anchor: &Bytes,
+    cas: &[Bytes],
+) -> Located {
+    let tal = locator(rt, alloc, file);
+    let store = CrlStore::new(alloc);
+    let now = day(2024).expect(rt, "a day");
+    let answer = validate_located(alloc, &tal, &store, anchor, cas, None, true, now, &StandIn);
+    drop(store);
+    drop(tal);
+    answer
+}
+
+#[test]
+fn an_anchor_of_the_locators_key_is_accepted(rt: HostRuntime) {
+    let anchor = anchor(&rt, rt.alloc());
+    let answer = validated(&rt, rt.alloc(), OF_ANCHOR, &anchor, &[]);
+    let last = answer.expect(&rt, "a path");
+    assert_eq!(rt; last.tal().name(), "example");
+    drop(last);
+}
+
+#[test]
+fn an_anchor_of_another_key_is_rejected(rt: HostRuntime) {
+    let anchor = anchor(&rt, rt.alloc());
+    let Err(error) = validated(&rt, rt.alloc(), OF_OTHER, &anchor, &[]) else {
+        rt.abort()
+    };
+    assert_eq!(rt; error.name(), "OtherKey");
+    assert!(rt; !error.is_memory());
+    drop(error);
+}
+
+// The place and the fault of a path that is rejected below the anchor's locator.
+fn rejected(rt: &impl Abort, alloc: Global, anchor: &Bytes, cas: &[Bytes]) -> PathError {
+    match validated(rt, alloc, OF_ANCHOR, anchor, cas) {
+        Err(LocatedError::Path(error)) => error,
+        _ => rt.abort(),
+    }
+}
+
+#[test]
+fn what_is_wrong_below_it_is_told(rt: HostRuntime) {
+    let anchor = anchor(&rt, rt.alloc());
+    let cas = [authority(&rt, rt.alloc())];
+    let error = rejected(&rt, rt.alloc(), &anchor, &cas);
+    assert_eq!(rt; error.index, 1);
+    assert!(rt; matches!(error.fault, PathFault::Revocation(RevocationError::NoCrl)));
+    drop(error);
+}
+
+#[test]
+fn octets_without_a_certificate_have_no_key(rt: HostRuntime) {
+    let none = Bytes::from_static(b"\x30\x00");
+    let error = rejected(&rt, rt.alloc(), &none, &[]);
+    assert_eq!(rt; error.index, 0);
+    assert_eq!(rt; error.fault.name(), "Decode");
+    drop(error);
+    let tal = locator(&rt, rt.alloc(), OF_ANCHOR);
+    let answer = has_locator_key(rt.alloc(), &Member::of(&none), &tal);
+    let Err(fault) = answer else { rt.abort() };
+    assert_eq!(rt; fault.name(), "Decode");
+    drop(fault);
+    drop(tal);
+}
+
+#[test]
+fn a_key_is_asked_of_what_was_read_too(rt: HostRuntime) {
+    let octets = anchor(&rt, rt.alloc());
+    let shared = octets.clone().expect(&rt, "memory");
+    let cert = Cert::decode_shared(rt.alloc(), shared).expect(&rt, "a certificate");
+    for (file, wanted) in [(OF_ANCHOR, true), (OF_OTHER, false)] {
+        let tal = locator(&rt, rt.alloc(), file);
+        for member in [Member::of(&octets), Member::read_as(&octets, &cert)] {
+            let answer = has_locator_key(rt.alloc(), &member, &tal);
+            assert_eq!(rt; answer.expect(&rt, "a key"), wanted);
+        }
+        drop(tal);
+    }
+    drop(cert);
+}
