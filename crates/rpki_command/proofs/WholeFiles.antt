@@ -9,7 +9,6 @@ use Rattle.rpki.specs.CertificateExtensions.{ExtensionFields}
 use Rattle.rpki.specs.Certificates.{TbsFields}
 use Rattle.rpki.specs.KeyForm.{KeyForm}
 use Rattle.rpki.specs.KeyForm.TheVariants.{RsaKey, EvenModulus, NoRsaKey, Point, OffCurve, CompressedPoint, NoPoint}
-use Rattle.rpki.specs.Kind.{Kind}
 use Rattle.rpki.specs.Lists.{ListFields}
 use Rattle.rpki.specs.Resources.{Resources, missing, inherit, blocks}
 use Rattle.rpki.specs.RevokedEntries.{Entry, Revoked}
@@ -124,9 +123,9 @@ note_whole note = object_whole _ (then_whole _ _ _ refl (then_whole _ _ _ refl (
 pub notes_whole : (notes : List Note) → IsWhole (notes_json notes)
 notes_whole notes = array_whole _ (mapped_whole note_json note_whole notes)
 
-pub certificate_whole : (file : Shown) (kind : Kind) (found : Findings) (notes : List Note) (f : TbsFields) → IsWhole (certificate_json file kind found notes f)
+pub certificate_whole : (file : Shown) (found : Findings) (notes : List Note) (f : TbsFields) → IsWhole (certificate_json file found notes f)
 unfolding certificate_json
-certificate_whole file kind found notes f =
+certificate_whole file found notes f =
     object_whole _ (both_whole _ _ (head_whole file) (then_whole _ _ _ refl (both_whole _ _ (names_whole f) (both_whole _ _ (keys_whole f.extensions) (then_whole _ _ _ (key_whole found.key) (both_whole _ _ (uris_whole f.extensions) (then_whole _ _ _ (array_whole _ (listed_whole f.extensions)) (then_whole _ _ _ (profiles_whole found.answers) (then_whole _ _ _ (array_whole _ (mapped_whole note_json note_whole notes)) (then_whole _ _ _ refl none_whole))))))))))
 
 -- ---- a list

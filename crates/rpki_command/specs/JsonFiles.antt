@@ -10,7 +10,7 @@ use Rattle.rpki.specs.InspectionError.{InspectionError}
 use Rattle.rpki.specs.KeyUsage.{KeyUsage}
 use Rattle.rpki.specs.KeyUsage.TheVariants.{Ca, Ee}
 use Rattle.rpki.specs.Kind.{Kind}
-use Rattle.rpki.specs.Kind.TheVariants.{Authority, Router}
+use Rattle.rpki.specs.Kind.TheVariants.{Anchor, Authority, EndEntity, Detached, Router}
 use Rattle.rpki.specs.Lists.{ListFields}
 use Rattle.rpki.specs.NameTexts.{name_text}
 use Rattle.rpki.specs.Overclaim.{Overclaim}
@@ -18,7 +18,6 @@ use Rattle.rpki.specs.Overclaim.TheVariants.{Refuse, Trim}
 use Rattle.rpki.specs.RevokedEntries.{Entry, Revoked}
 use Rattle.rpki.specs.Texts.{serial_text}
 use Rattle.rpki_text.specs.CertificateTexts.{AreFindings}
-use Rattle.rpki_verdicts.specs.SaidKinds.{SaysKind}
 use Rattle.rpki_command.specs.JsonBlocks.{listed_items}
 use Rattle.rpki_command.specs.JsonKeys.{key_json}
 use Rattle.rpki_command.specs.JsonNotes.{notes_json}
@@ -49,11 +48,13 @@ signature_member = text_member (codes "signature") (codes "not checked")
 
 -- ---- values of a certificate
 
--- the kind that a certificate says that it is of
+-- what a certificate is
 abbrev pub type_word : Kind → List ℕ
-type_word Router = codes "router_key"
+type_word Anchor = codes "ca_cert"
 type_word Authority = codes "ca_cert"
-type_word _ = codes "ee_cert"
+type_word EndEntity = codes "ee_cert"
+type_word Detached = codes "ee_cert"
+type_word Router = codes "router_key"
 
 -- what a key may be used for
 abbrev pub usage_word : KeyUsage → List ℕ
@@ -116,11 +117,11 @@ uri_members x = flattened (
     ∷ uri_member (codes "notify_url") x.access.rpki_notify
     ∷ [])
 
--- a certificate of this kind, of which this was found, with these notes
-unfoldable pub certificate_json : Shown → Kind → Findings → List Note → TbsFields → Data
-certificate_json file kind found notes f = object_of (flattened (
+-- a certificate of which this was found, with these notes
+unfoldable pub certificate_json : Shown → Findings → List Note → TbsFields → Data
+certificate_json file found notes f = object_of (flattened (
     head_members file
-    ∷ text_member (codes "type") (type_word kind)
+    ∷ text_member (codes "type") (type_word found.kind)
     ∷ name_members f
     ∷ key_members f.extensions
     ∷ member_of (codes "key") (key_json found.key)
@@ -133,11 +134,9 @@ certificate_json file kind found notes f = object_of (flattened (
 
 -- the value of the certificate that a file begins with, with these notes
 pub record IsCertificateJson (strict : Bool) (file : Shown) (c : CertFields) (notes : List Note) (value : Data) : Type 0 where
-  pub kind : Kind
-  pub kind_is : SaysKind kind c.fields
   pub found : Findings
   pub found_is : AreFindings strict c found
-  pub value_is : value ≡ certificate_json file kind found notes c.fields
+  pub value_is : value ≡ certificate_json file found notes c.fields
 
 -- ---- a list
 

@@ -7,6 +7,7 @@ use Rattle.rpki.specs.BlockTexts.{v4_block_text, v6_block_text}
 use Rattle.rpki.specs.Certificates.{CertFields, IsCertificate}
 use Rattle.rpki.specs.Encoding.{Begins, Means}
 use Rattle.rpki.specs.Judged.{Judged}
+use Rattle.rpki.specs.Kind.{Kind}
 use Rattle.rpki.specs.Lists.{IsCertificateList}
 use Rattle.rpki.specs.Keys.{key_identifier}
 use Rattle.rpki.specs.Locators.{NamedTal, TalFields}
@@ -18,15 +19,15 @@ use Rattle.rpki_command.specs.NoteLines.{notes_lines}
 use Rattle.rpki_notes.specs.Notes.{AreNotes}
 use Rattle.rpki_notes.specs.declared.note.Note.{Note}
 use Rattle.rpki_text.specs.BlockLines.{as_numbers_text, blocks_lines, resources_lines}
-use Rattle.rpki_text.specs.CertificateTexts.{AreAnswers, met_kind_text}
+use Rattle.rpki_text.specs.CertificateTexts.{certificate_kind_text}
 use Rattle.rpki_files.specs.Contents.{BeginsWithList}
 use Rattle.rpki_files.specs.Files.{FileFields, contents}
+use Rattle.rpki_files.specs.SaidKinds.{IsKindOf}
 use Rattle.rpki_verdicts.specs.GivenLocators.{LocatorFields, AreLocator, locator_octets}
 use Rattle.rpki_verdicts.specs.PathFiles.{QuestionFields, IsAnchorLocator, demands_of}
 use Rattle.rpki_text.specs.KeyTexts.{IsKeyAnswer, key_text}
 use Rattle.rpki_text.specs.Pages.{colons_text, line, count_text, file_name_text}
 use Rattle.rpki_verdicts.specs.PathAnswers.{IsAcceptance, IsNoLocator, IsVerdictBy}
-use Rattle.rpki_text.specs.declared.certificate.Answers.{Answers}
 use Rattle.rpki_text.specs.declared.keys.KeyAnswer.{KeyAnswer}
 use Rattle.rpki_command.specs.declared.verdicts.Finding.{Finding}
 use Rattle.rpki_command.specs.declared.verdicts.Finding.TheVariants.{NotALocator, NotAList, Decided}
@@ -70,11 +71,12 @@ pub record IsMemberText (strict : Bool) (file : FileFields) (text : List ℕ) : 
   pub cert : CertFields
   pub rest : List ℕ
   pub begins : Begins IsCertificate file.octets cert rest
-  pub answers : Answers
-  pub answers_are : AreAnswers strict cert answers
+  pub kind : Kind
+  pub kind_is : IsKindOf kind strict cert
   pub notes : List Note
   pub notes_are : AreNotes file.octets notes
-  pub text_is : text ≡ line (codes "Member") (member_text (met_kind_text answers) cert.fields.serial file.name) ++ (notes_lines notes ++ after_line file.name (length rest))
+  pub text_is : text ≡ line (codes "Member") (member_text (certificate_kind_text kind) cert.fields.serial file.name)
+      ++ (notes_lines notes ++ after_line file.name (length rest))
 
 -- a file begins with none, and this is its line
 pub record IsOtherText (file : FileFields) (text : List ℕ) : Type 0 where

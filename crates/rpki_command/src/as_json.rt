@@ -25,7 +25,6 @@ use rpki_files::Place;
 use rpki_files::rules::Rule;
 use rpki_notes::Note;
 use rpki_text::certificate::{Answers, Findings, findings_of};
-use rpki_verdicts::said_kind;
 use serde_json::Value;
 use std::alloc::{AllocError, Global};
 pub use verdicts::path;
@@ -171,27 +170,26 @@ fn type_word(kind: Kind) -> &'static str
     ensures { result.now ≡ type_word kind }
 {
     match kind {
+        Kind::Anchor | Kind::Authority => "ca_cert",
+        Kind::EndEntity | Kind::Detached => "ee_cert",
         Kind::Router => "router_key",
-        Kind::Authority => "ca_cert",
-        Kind::EndEntity | Kind::Detached | Kind::Anchor => "ee_cert",
     }
 }
 
-// The value of a certificate of this kind, of which this was found.
+// The value of a certificate of which this was found.
 fn known_certificate(
     alloc: Global,
     file: &Shown<'_>,
-    kind: Kind,
     found: &Findings,
     notes: &[Note],
     fields: &TbsCert,
 ) -> Result<Value, AllocError>
     ensures { IfOk result (λ made.
-        view made ≡ certificate_json file.now kind found.now notes.now fields.now) }
+        view made ≡ certificate_json file.now found.now notes.now fields.now) }
 {
     let mut out = Members::new(alloc);
     head(&mut out, file)?;
-    out.text("type", type_word(kind))?;
+    out.text("type", type_word(found.kind))?;
     names(&mut out, fields)?;
     keys(&mut out, fields)?;
     let facts = key::facts(alloc, &found.key)?;
@@ -217,9 +215,8 @@ pub fn certificate(
 ) -> Result<Value, AllocError>
     ensures { IfOk result (λ made. IsCertificateJson strict file.now cert.now notes.now (view made)) }
 {
-    let kind = said_kind(cert.as_tbs());
     let found = findings_of(cert, strict);
-    known_certificate(alloc, file, kind, &found, notes, cert.as_tbs())
+    known_certificate(alloc, file, &found, notes, cert.as_tbs())
 }
 
 // A revoked certificate.

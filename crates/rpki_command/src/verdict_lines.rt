@@ -1,12 +1,13 @@
 //! The verdict on a path for a person.
 ghost use Rattle.std.specs.Prelude.{◌≡◌, ◌++◌, All, Some, IfOk, option_map, codes, string_bytes};
-ghost use Rattle.rpki_text.specs.CertificateTexts.{AreAnswers, met_kind_text};
+ghost use Rattle.rpki_text.specs.CertificateTexts.{certificate_kind_text};
 ghost use Rattle.rpki_text.specs.BlockLines.{as_numbers_text, resources_lines};
 ghost use Rattle.rpki_text.specs.KeyTexts.{IsKeyAnswer};
 ghost use Rattle.rpki_text.specs.Pages.{Appends, AppendsSome, colons_text, line};
 ghost use Rattle.rpki.specs.Certificates.{IsCertificate};
 ghost use Rattle.rpki_command.specs.NoteLines.{notes_lines};
 ghost use Rattle.rpki_files.specs.Contents.{BeginsBefore};
+ghost use Rattle.rpki_files.specs.SaidKinds.{IsKindOf};
 ghost use Rattle.rpki_verdicts.specs.GivenLocators.{IsRead};
 ghost use Rattle.rpki_command.specs.VerdictTexts.{SaysOfEach, IsFindingText, IsLocatorText, IsMemberPart, IsListPart, IsOutcomeText, IsVerdictText, IsAcceptanceText, IsHeldText, IsMemberText, after_line, anchor_line, checks_text, file_name_at, holder_text, left_of_text, locator_part, locator_text, locators_text, member_text, moment_line, names_line, no_list_text, no_locator_text, other_text, place_text, read_locator_line, reason_text, rejected_text, revocation_text, router_text};
 
@@ -18,10 +19,10 @@ use rpki::repository::path::Judged;
 use rpki::repository::resources::AsResources;
 use rpki::repository::tal::Tal;
 use rpki::repository::x509::{Serial, Time};
-use rpki_files::Object;
+use rpki_files::{Object, kind_of};
 use rpki_notes::{Note, notes_of};
 use rpki_text::blocks::{Family, as_blocks, ip_blocks, write_as_resources};
-use rpki_text::certificate::{key_identifier, kind_of};
+use rpki_text::certificate::{key_identifier, kind_name};
 use rpki_text::keys::answer_of;
 use rpki_text::{FileName, Page};
 use rpki_verdicts::{Fault, GivenLocator, Question, Verdict, located};
@@ -98,14 +99,14 @@ fn print_left(page: &mut Page, name: &str, left: usize)
 }
 
 fn print_known(page: &mut Page, cert: &Cert, strict: bool, name: &str)
-    ensures { (answers : _) × AreAnswers strict cert.now answers × Appends page.old
-        (line (codes "Member") (member_text (met_kind_text answers) cert.now.fields.serial name.now))
+    ensures { (kind : _) × IsKindOf kind strict cert.now × Appends page.old
+        (line (codes "Member") (member_text (certificate_kind_text kind) cert.now.fields.serial name.now))
         page.new }
 {
     page.line_of(
         "Member",
         &KnownMember {
-            kind: kind_of(cert, strict),
+            kind: kind_name(kind_of(cert, strict)),
             serial: cert.as_tbs().serial_number(),
             name,
         },
@@ -121,8 +122,8 @@ fn print_certificate(
     notes: &[Note],
     left: usize,
 )
-    ensures { (answers : _) × AreAnswers strict cert.now answers × Appends page.old
-        (line (codes "Member") (member_text (met_kind_text answers) cert.now.fields.serial name.now)
+    ensures { (kind : _) × IsKindOf kind strict cert.now × Appends page.old
+        (line (codes "Member") (member_text (certificate_kind_text kind) cert.now.fields.serial name.now)
         ++ (notes_lines notes.now ++ after_line name.now left)) page.new }
 {
     print_known(page, cert, strict, name);

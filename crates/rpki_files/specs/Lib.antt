@@ -2,6 +2,7 @@
 pub mod PemFiles
 pub mod Files
 pub mod Contents
+pub mod SaidKinds
 pub mod StopPlaces
 pub mod PolicyPresence
 pub mod FaultRules

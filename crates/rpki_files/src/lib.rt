@@ -1,5 +1,5 @@
-//! Files of certificates and revocation lists: the object that a file holds, in DER or PEM, where
-//! its reading stops, and what a fault means, with the standard's section.
+//! Files of certificates and revocation lists: the object that a file holds, in DER or PEM, what a
+//! certificate is, where its reading stops, and what a fault means, with the standard's section.
 #![tactic(auto)]
 
 mod contents;
@@ -8,8 +8,10 @@ mod kinds;
 mod places;
 mod policies;
 pub mod rules;
+mod saying;
 
 pub use contents::{Content, Form, looks_like};
 pub use files::{Object, read_object};
 pub use places::{Place, place_of};
 pub use policies::extensions_in;
+pub use saying::{is_router, kind_of, said_kind};

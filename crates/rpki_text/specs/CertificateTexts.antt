@@ -1,7 +1,7 @@
 -- What is shown of a certificate.
 use Rattle.std.specs.List.{concat}
 use Rattle.std.specs.Option.{option_map}
-use Rattle.std.specs.Prelude.{ℕ, Bool, if◌then◌else◌, is_none, List, [], ◌∷◌, ◌++◌, codes, Option, Some, None}
+use Rattle.std.specs.Prelude.{ℕ, Bool, List, [], ◌∷◌, ◌++◌, codes, Option, Some, None}
 use Rattle.rpki.specs.BlockTexts.{v4_block_text, v6_block_text}
 use Rattle.rpki.specs.CertificateExtensions.{ExtensionFields}
 use Rattle.rpki.specs.Certificates.{CertFields, TbsFields}
@@ -18,6 +18,7 @@ use Rattle.rpki.specs.Profiles.{MeetsProfile, IsFirstFault}
 use Rattle.rpki.specs.Texts.{serial_text, time_text}
 use Rattle.rpki.specs.Times.{Moment}
 use Rattle.rpki.specs.Validities.{ValidityFields}
+use Rattle.rpki_files.specs.SaidKinds.{IsKindOf}
 use Rattle.rpki_text.specs.BlockLines.{as_numbers_text, resources_lines}
 use Rattle.rpki_text.specs.KeyTexts.{IsKeyAnswer, key_text}
 use Rattle.rpki_text.specs.ListTexts.{signature_line}
@@ -42,20 +43,40 @@ pub record AreAnswers (strict : Bool) (c : CertFields) (a : Answers) : Type 0 wh
   pub detached : IsAnswer Detached strict c a.detached
   pub router : IsAnswer Router strict c a.router
 
--- what is found of a certificate beyond its fields: what inspection answers, and what its key is
+-- the answer of a kind's profile
+abbrev pub answer_for : Kind → Answers → Option InspectionError
+answer_for Anchor a = a.anchor
+answer_for Authority a = a.authority
+answer_for EndEntity a = a.end_entity
+answer_for Detached a = a.detached
+answer_for Router a = a.router
+
+-- what is found of a certificate beyond its fields: what it is, what inspection answers, and what
+-- its key is
 pub record AreFindings (strict : Bool) (c : CertFields) (found : Findings) : Type 0 where
+  pub kind_is : IsKindOf found.kind strict c
   pub answers_are : AreAnswers strict c found.answers
   pub key_is : IsKeyAnswer c.fields.key found.key
 
--- the kind whose profile is met; of an end entity that names its object that one of the two
-unfoldable pub met_kind_text : Answers → List ℕ
-met_kind_text a =
-    if is_none a.anchor then codes "trust anchor"
-    else (if is_none a.authority then codes "authority (CA)"
-    else (if is_none a.end_entity then codes "end entity"
-    else (if is_none a.detached then codes "detached end entity"
-    else (if is_none a.router then codes "BGPsec router"
-    else codes "none: it meets no profile"))))
+-- the name of a kind
+abbrev pub certificate_kind_text : Kind → List ℕ
+certificate_kind_text Anchor = codes "trust anchor"
+certificate_kind_text Authority = codes "authority (CA)"
+certificate_kind_text EndEntity = codes "end entity"
+certificate_kind_text Detached = codes "detached end entity"
+certificate_kind_text Router = codes "BGPsec router"
+
+-- a kind, and the first fault of a certificate that doesn't meet its profile
+abbrev pub profiled_kind_text : Kind → Option InspectionError → List ℕ
+profiled_kind_text kind None = certificate_kind_text kind
+profiled_kind_text kind (Some fault) =
+    certificate_kind_text kind
+    ++ (codes ", whose profile it doesn't meet: " ++ inspection_error_name fault)
+
+-- what a certificate is, of which this was found
+abbrev pub kind_line : Findings → List ℕ
+kind_line found =
+    line (codes "Kind") (profiled_kind_text found.kind (answer_for found.kind found.answers))
 
 -- what is said of a profile
 abbrev pub answer_text : Option InspectionError → List ℕ
@@ -145,7 +166,7 @@ profiles_text a = concat (
 -- a certificate with these fields at a moment, of which this was found
 unfoldable pub certificate_text : TbsFields → Moment → Findings → List ℕ
 certificate_text f now found = concat (
-    line (codes "Kind") (met_kind_text found.answers)
+    kind_line found
     ∷ names_text f
     ∷ validity_text f.validity now
     ∷ details_text f found.key

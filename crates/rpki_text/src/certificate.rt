@@ -1,11 +1,10 @@
 //! A certificate for a person.
 ghost use Rattle.std.specs.Prelude.{◌≡◌, ◌++◌, Some, codes, option_map};
 ghost use Rattle.std.specs.Fmt.{WritesOnOk};
-ghost use Rattle.rpki.specs.Kind.{Kind as Profile};
 ghost use Rattle.rpki.specs.Kind.TheVariants.{Anchor, Authority, EndEntity, Detached, Router};
 ghost use Rattle.rpki.specs.Texts.{serial_text};
 ghost use Rattle.rpki_text.specs.Pages.{Appends, line, line_if_any, colons_text};
-ghost use Rattle.rpki_text.specs.CertificateTexts.{IsAnswer, AreAnswers, AreFindings, met_kind_text, answer_text, profile_line, usage_text, policy_text, uri_line, names_text, validity_text, keys_text, places_text, resources_text, details_text, profiles_text, certificate_text};
+ghost use Rattle.rpki_text.specs.CertificateTexts.{IsAnswer, AreAnswers, AreFindings, answer_for, answer_text, certificate_kind_text, kind_line, profiled_kind_text, profile_line, usage_text, policy_text, uri_line, names_text, validity_text, keys_text, places_text, resources_text, details_text, profiles_text, certificate_text};
 
 use crate::blocks::{Family, write_as_resources, write_ip_resources};
 use crate::keys::{self, KeyAnswer};
@@ -14,10 +13,11 @@ use crate::list::write_signature;
 use crate::moments::Period;
 use crate::page::Page;
 use rpki::crypto::KeyIdentifier;
-use rpki::repository::cert::{Cert, KeyUsage, Overclaim, TbsCert};
+use rpki::repository::cert::{Cert, KeyUsage, Kind, Overclaim, TbsCert};
 use rpki::repository::error::InspectionError;
 use rpki::repository::x509::{Serial, Time, Validity};
 use rpki::uri::{Https, Rsync};
+use rpki_files::kind_of;
 use std::fmt;
 
 /// Prints the serial number in hexadecimal, without zeros before it but in whole octets.
@@ -102,29 +102,39 @@ pub fn answers_of(cert: &Cert, strict: bool) -> Answers
     }
 }
 
-#[tactic(auto, unfolding(crate::specs::CertificateTexts::met_kind_text))]
-fn kind_name(answers: &Answers) -> &'static str
-    ensures { result.now ≡ met_kind_text answers.now }
-{
-    if answers.anchor.is_none() {
-        "trust anchor"
-    } else if answers.authority.is_none() {
-        "authority (CA)"
-    } else if answers.end_entity.is_none() {
-        "end entity"
-    } else if answers.detached.is_none() {
-        "detached end entity"
-    } else if answers.router.is_none() {
-        "BGPsec router"
-    } else {
-        "none: it meets no profile"
+impl Answers {
+    /// Returns the answer of a kind's profile.
+    pub fn of(&self, kind: Kind) -> Option<InspectionError>
+        ensures { result ≡ answer_for kind self.now }
+    {
+        match kind {
+            Kind::Anchor => self.anchor,
+            Kind::Authority => self.authority,
+            Kind::EndEntity => self.end_entity,
+            Kind::Detached => self.detached,
+            Kind::Router => self.router,
+        }
     }
 }
 
-/// What is found of a certificate beyond its fields: what inspection answers for each kind, and
-/// what its key is.
+/// Returns the name of a kind.
+pub fn kind_name(kind: Kind) -> &'static str
+    ensures { result.now ≡ certificate_kind_text kind }
+{
+    match kind {
+        Kind::Anchor => "trust anchor",
+        Kind::Authority => "authority (CA)",
+        Kind::EndEntity => "end entity",
+        Kind::Detached => "detached end entity",
+        Kind::Router => "BGPsec router",
+    }
+}
+
+/// What is found of a certificate beyond its fields: what it is, what inspection answers for each
+/// kind, and what its key is.
 #[derive(Clone, Copy)]
 pub struct Findings {
+    pub kind: Kind,
     pub answers: Answers,
     pub key: KeyAnswer,
 }
@@ -134,17 +144,41 @@ pub fn findings_of(cert: &Cert, strict: bool) -> Findings
     ensures { AreFindings strict cert.now result }
 {
     Findings {
+        kind: kind_of(cert, strict),
         answers: answers_of(cert, strict),
         key: keys::answer_of(cert.as_tbs().subject_public_key_info()),
     }
 }
 
-/// Returns the kind whose profile the certificate meets; no two are met at once but the two of end
-/// entities.
-pub fn kind_of(cert: &Cert, strict: bool) -> &'static str
-    ensures { (answers : _) × AreAnswers strict cert.now answers × (result.now ≡ met_kind_text answers) }
+// What a certificate is, and what the profile of that kind answers.
+#[derive(Drop)]
+struct Profiled {
+    kind: Kind,
+    answer: Option<InspectionError>,
+}
+
+impl fmt::Display for Profiled {
+    ghost output = { λ it. Some (profiled_kind_text it.kind it.answer) };
+
+    fn fmt<W: fmt::Write>(&self, f: &mut fmt::Formatter<W>) -> fmt::Result {
+        f.write_str(kind_name(self.kind))?;
+        match self.answer {
+            None => Ok(()),
+            Some(fault) => {
+                f.write_str(", whose profile it doesn't meet: ")?;
+                f.write_str(fault.name())
+            }
+        }
+    }
+}
+
+// The line of what the certificate is.
+fn write_kind<W: fmt::Write>(f: &mut fmt::Formatter<W>, found: &Findings) -> fmt::Result
+    ensures { WritesOnOk W.write_str_gives f.old result (kind_line found.now) f.new }
 {
-    kind_name(&answers_of(cert, strict))
+    let kind = found.kind;
+    let answer = found.answers.of(kind);
+    write_line(f, "Kind", &Profiled { kind, answer })
 }
 
 #[tactic(auto, unfolding(crate::specs::CertificateTexts::names_text))]
@@ -358,7 +392,7 @@ impl fmt::Display for ShownCertificate<'_> {
 
     #[tactic(auto, unfolding(crate::specs::CertificateTexts::certificate_text))]
     fn fmt<W: fmt::Write>(&self, f: &mut fmt::Formatter<W>) -> fmt::Result {
-        write_line(f, "Kind", &kind_name(&self.found.answers))?;
+        write_kind(f, &self.found)?;
         write_names(f, self.fields)?;
         write_validity(f, self.fields.validity(), self.at)?;
         write_parts(f, self.fields, &self.found.key)?;

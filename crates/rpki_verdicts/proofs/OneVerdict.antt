@@ -23,7 +23,7 @@ use Rattle.rpki_path.proofs.UnchainedNames.{never_chained}
 use Rattle.rpki_files.specs.Contents.{BeginsWithCertificate}
 use Rattle.rpki_files.specs.FaultRules.{locator_reason}
 use Rattle.rpki_verdicts.specs.GivenLocators.{IsLocated}
-use Rattle.rpki_verdicts.specs.SaidKinds.{SaysKind, BeginsWithKind, IsJudgedAs}
+use Rattle.rpki_files.specs.SaidKinds.{SaysKind, BeginsWithKind, IsJudgedAs}
 use Rattle.rpki_verdicts.specs.PathFiles.{Demands, HasJudgedLast, IsGivenBy, AreListsOf}
 use Rattle.rpki_verdicts.specs.PathAnswers.{last_certificate, last_key, reason_of, IsUsablePath, IsVerdictOn, IsVerdictBy}
 use Rattle.rpki_verdicts.specs.PathAnswers.Steps.{IsNamedVerdict}

@@ -1,5 +1,4 @@
 -- The definitions that the contracts of judging files cite.
-pub mod SaidKinds
 pub mod GivenLocators
 pub mod PathFiles
 pub mod PathAnswers

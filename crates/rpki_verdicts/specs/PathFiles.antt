@@ -7,8 +7,8 @@ use Rattle.rpki.specs.Lists.{CrlState, IsCertificateList}
 use Rattle.rpki.specs.GivenPaths.{PathStrings, anchor_alone, HasLast}
 use Rattle.rpki_files.specs.Contents.{BeginsWithList}
 use Rattle.rpki_files.specs.Files.{FileFields, contents}
+use Rattle.rpki_files.specs.SaidKinds.{IsJudgedAs}
 use Rattle.rpki_verdicts.specs.GivenLocators.{LocatorFields, IsFirst, locator_octets}
-use Rattle.rpki_verdicts.specs.SaidKinds.{IsJudgedAs}
 
 -- what is asked: the files of the path, those given as lists and as locators, whether names have to
 -- chain, whether they are read strictly, and the moment

@@ -4,10 +4,8 @@
 
 mod locators;
 mod path;
-mod saying;
 
 pub use locators::GivenLocator;
 pub use path::{
     Fault, Question, Verdict, accepted_are_unrevoked, first_no_locator, judge, located, one_answer,
 };
-pub use saying::{is_router, said_kind};

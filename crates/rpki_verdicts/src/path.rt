@@ -13,7 +13,7 @@ ghost use Rattle.rpki_files.specs.Contents.{BeginsWithCertificate};
 ghost use Rattle.rpki_files.specs.FaultRules.{locator_reason, name_reason, tal_reason};
 ghost use Rattle.rpki_files.specs.Files.{contents};
 ghost use Rattle.rpki_verdicts.specs.GivenLocators.{AreLocator, IsLocated, IsRead, locator_octets};
-ghost use Rattle.rpki_verdicts.specs.SaidKinds.{IsJudgedAs};
+ghost use Rattle.rpki_files.specs.SaidKinds.{IsJudgedAs};
 ghost use Rattle.rpki_verdicts.specs.PathFiles.{AreListsOf, Demands, IsAnchorLocator, IsPlaceOfLocator, demands_of};
 ghost use Rattle.rpki_verdicts.specs.PathAnswers.{last_key, reason_of, AreChained, IsNoLocator, IsReasonAt, IsPathVerdict, IsVerdictBy};
 ghost use Rattle.rpki_verdicts.specs.PathAnswers.Steps.{IsKindOfLast, IsKeyVerdict, IsNamedVerdict};
@@ -22,7 +22,6 @@ ghost use Rattle.rpki_verdicts.specs.declared.path.Verdict.TheVariants.{Accepted
 ghost use Rattle.rpki_verdicts.specs.declared.path.Fault.{Fault as Faulty};
 
 use crate::locators::{GivenLocator, place_of_key};
-use crate::saying::said_kind;
 use rpki::crypto::keys::is_usable;
 use rpki::crypto::{PublicKey, RsaVerifier};
 use rpki::laws;
@@ -35,8 +34,8 @@ use rpki::repository::path::{
 use rpki::repository::revocation::{GivenLists, NobodyAsked, RevocationSource};
 use rpki::repository::tal::TalError;
 use rpki::repository::x509::Time;
-use rpki_files::Object;
 use rpki_files::rules::{Rule, of_key, of_name, of_other_key, of_path, of_tal};
+use rpki_files::{Object, said_kind};
 use std::alloc::{AllocError, Global};
 use std::marker::Model;
 

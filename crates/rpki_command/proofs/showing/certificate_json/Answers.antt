@@ -15,7 +15,7 @@ returns c = λ begins notes_are.
     let notes = c.args.notes.now in
     let shown = c.as_shown-file.result in
     made_appended view (IsCertificateJson o.strict shown cert notes) (IsCertificateFileJson o file) c.args.page.now c.printed.new.page c.certificate-made.result
-    (λ value is. subst IsWhole (sym is.value_is) (certificate_whole shown is.kind is.found notes cert.fields))
+    (λ value is. subst IsWhole (sym is.value_is) (certificate_whole shown is.found notes cert.fields))
     (λ value is. record {
       cert = cert;
       left = c.args.left;

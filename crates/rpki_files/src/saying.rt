@@ -1,9 +1,10 @@
-//! What a certificate says that it is.
+//! What a certificate says that it is, and what it is.
 ghost use Rattle.std.specs.Prelude.{◌↔◌, IsTrue, IsSomeAnd};
 ghost use Rattle.rpki.specs.RouterPurposes.{HasRouterPurpose};
-ghost use Rattle.rpki_verdicts.specs.SaidKinds.{SaysRouter, SaysKind};
+ghost use Rattle.rpki_files.specs.SaidKinds.{SaysRouter, SaysKind, IsKindOf};
 
 use rpki::crypto::PublicKeyFormat;
+use rpki::repository::Cert;
 use rpki::repository::cert::{Kind, TbsCert};
 
 // Whether a further purpose of the key is that of routers (RFC 8209 3.1.3.2).
@@ -43,5 +44,16 @@ pub fn said_kind(tbs: &TbsCert) -> Kind
         Kind::EndEntity
     } else {
         Kind::Detached
+    }
+}
+
+/// Returns what the certificate is: a trust anchor where it meets the profile of one, and else what
+/// it says that it is.
+pub fn kind_of(cert: &Cert, strict: bool) -> Kind
+    ensures { IsKindOf result strict cert.now }
+{
+    match cert.inspect_ta(strict) {
+        Ok(()) => Kind::Anchor,
+        Err(_) => said_kind(cert.as_tbs()),
     }
 }

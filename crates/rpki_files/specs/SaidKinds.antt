@@ -1,11 +1,13 @@
--- What a certificate says that it is, and as what the last file of a path is judged (own).
-use Rattle.std.specs.Prelude.{◌≡◌, ◌⊎◌, ℕ, List, Some, true, IsSome, IsNone, IsSomeAnd}
+-- What a certificate says that it is, what it is, and as what the last file of a path is judged
+-- (own).
+use Rattle.std.specs.Prelude.{◌≡◌, ◌⊎◌, ℕ, Bool, List, Some, true, IsSome, IsNone, IsSomeAnd}
 use Rattle.rpki.specs.Encoding.{Means}
 use Rattle.rpki.specs.RouterPurposes.{HasRouterPurpose}
 use Rattle.rpki.specs.PublicKeyFormat.TheVariants.{EcdsaP256}
 use Rattle.rpki.specs.Certificates.{TbsFields, CertFields, IsCertificate}
 use Rattle.rpki.specs.Kind.{Kind}
 use Rattle.rpki.specs.Kind.TheVariants.{Anchor, Authority, EndEntity, Detached, Router}
+use Rattle.rpki.specs.Profiles.{MeetsProfile}
 
 -- a CA's
 abbrev pub SaysAuthority : TbsFields → Type 0
@@ -30,6 +32,12 @@ SaysKind Authority f = (SaysRouter f → ⊥) × SaysAuthority f
 SaysKind EndEntity f = SaysLeaf f × IsSome f.extensions.access.signed_object
 SaysKind Detached f = SaysLeaf f × IsNone f.extensions.access.signed_object
 SaysKind Anchor f = ⊥
+
+-- what a certificate is: a trust anchor where it meets the profile of one, and else what it says
+abbrev pub IsKindOf : Kind → Bool → CertFields → Type 0
+IsKindOf kind strict c =
+    ((kind ≡ Anchor) × MeetsProfile Anchor strict c)
+    ⊎ ((MeetsProfile Anchor strict c → ⊥) × SaysKind kind c.fields)
 
 -- the octets begin with a certificate that says that it is one of this kind
 abbrev pub BeginsWithKind : Kind → List ℕ → Type 0
