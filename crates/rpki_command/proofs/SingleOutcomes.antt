@@ -39,7 +39,7 @@ module _ (x : Context) (d : Demands) (files lists : List (List ℕ)) (never_both
   one_validated o WrongUse a b = absurd b
   one_validated o Unread a b = absurd b
 
-  one_shown : (o p : Outcome) → IsOutcomeOfShow files o → IsOutcomeOfShow files p → o ≡ p
+  one_shown : (o p : Outcome) → IsOutcomeOfShow x.strict files o → IsOutcomeOfShow x.strict files p → o ≡ p
   one_shown Success Success a b = refl
   one_shown Success Rejection a b = absurd (b a)
   one_shown Rejection Success a b = absurd (a b)

@@ -10,14 +10,16 @@ use Rattle.rpki.specs.Certificates.{TbsFields}
 use Rattle.rpki.specs.KeyForm.{KeyForm}
 use Rattle.rpki.specs.KeyForm.TheVariants.{RsaKey, EvenModulus, NoRsaKey, Point, OffCurve, CompressedPoint, NoPoint}
 use Rattle.rpki.specs.Lists.{ListFields}
+use Rattle.rpki.specs.Locators.{TalFields}
 use Rattle.rpki.specs.Resources.{Resources, missing, inherit, blocks}
 use Rattle.rpki.specs.RevokedEntries.{Entry, Revoked}
 use Rattle.rpki.specs.Sets.{Block}
+use Rattle.rpki.specs.TalError.{TalError}
 use Rattle.rpki.specs.Timestamps.{timestamp}
 use Rattle.rpki.specs.Verification.{ResourceFields}
 use Rattle.rpki_cert.proofs.Reordering.{all_append}
 use Rattle.rpki_command.specs.JsonBlocks.{ends_json, block_json, numbers_json, resource_items, listed_items, held_items}
-use Rattle.rpki_command.specs.JsonFiles.{head_members, profiles_json, name_members, key_members, uri_member, uri_members, certificate_json, entry_json, list_json, rejection_json}
+use Rattle.rpki_command.specs.JsonFiles.{head_members, profiles_json, name_members, key_members, uri_member, uri_members, certificate_json, entry_json, list_json, location_json, locator_json, no_locator_file_json, rejection_json}
 use Rattle.rpki_command.specs.JsonKeys.{exponent_member, form_members, key_json}
 use Rattle.rpki_command.specs.JsonNotes.{note_json, notes_json}
 use Rattle.rpki_command.specs.JsonValues.{Pair}
@@ -138,6 +140,21 @@ pub list_whole : (file : Shown) (l : ListFields Revoked) → IsWhole (list_json 
 unfolding list_json
 list_whole file l =
     object_whole _ (both_whole _ _ (head_whole file) (then_whole _ _ _ refl (then_whole _ _ _ refl (then_whole _ _ _ refl (then_whole _ _ _ refl (then_whole _ _ _ (integer_whole (timestamp l.this_update)) (then_whole _ _ _ (integer_whole (timestamp l.next_update)) (then_whole _ _ _ (array_whole _ (mapped_whole entry_json entry_whole l.revoked.entries)) (then_whole _ _ _ refl none_whole)))))))))
+
+-- ---- a locator
+
+location_whole : (uri : List ℕ) → IsWhole (location_json uri)
+location_whole uri = refl
+
+pub locator_whole : (file : Shown) (tal : TalFields) (key : KeyAnswer) → IsWhole (locator_json file tal key)
+unfolding locator_json
+locator_whole file tal key =
+    object_whole _ (both_whole _ _ (head_whole file) (then_whole _ _ _ refl (then_whole _ _ _ refl (then_whole _ _ _ refl (then_whole _ _ _ (array_whole _ (mapped_whole location_json location_whole tal.uris)) (then_whole _ _ _ (key_whole key) none_whole))))))
+
+pub no_locator_whole : (file : Shown) (error : TalError) (rule : Rule) → IsWhole (no_locator_file_json file error rule)
+unfolding no_locator_file_json
+no_locator_whole file error rule =
+    object_whole _ (both_whole _ _ (head_whole file) (then_whole _ _ _ refl (then_whole _ _ _ refl (then_whole _ _ _ refl none_whole))))
 
 -- ---- a file that is neither
 

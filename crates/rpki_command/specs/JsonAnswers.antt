@@ -1,15 +1,19 @@
 -- What is shown of files as JSON.
-use Rattle.std.specs.Prelude.{◌≡◌, ℕ, List}
+use Rattle.std.specs.Prelude.{◌≡◌, ℕ, Bool, List}
 use Rattle.serde_json.specs.Data.{Data}
 use Rattle.rpki.specs.Certificates.{CertFields, IsCertificate}
 use Rattle.rpki.specs.Lists.{CrlFields, IsCertificateList}
-use Rattle.rpki_files.specs.Contents.{BeginsBefore}
+use Rattle.rpki.specs.Locators.{IsLocator, TalFields}
+use Rattle.rpki.specs.TalError.{TalError}
+use Rattle.rpki_files.specs.Contents.{BeginsBefore, BeginsWithEither}
+use Rattle.rpki_files.specs.FaultRules.{rule_of, tal_rule}
 use Rattle.rpki_files.specs.Files.{FileFields}
+use Rattle.rpki_files.specs.LocatorFiles.{IsWhyNoLocator}
 use Rattle.rpki_notes.specs.Notes.{AreNotes}
 use Rattle.rpki_notes.specs.declared.note.Note.{Note}
-use Rattle.rpki_command.specs.JsonFiles.{IsCertificateJson, list_json, rejection_json}
+use Rattle.rpki_command.specs.JsonFiles.{IsCertificateJson, IsLocatorJson, list_json, no_locator_file_json, rejection_json}
 use Rattle.rpki_command.specs.JsonTexts.{json_lines}
-use Rattle.rpki_command.specs.ShownTexts.{IsRejection, SaysOfFile}
+use Rattle.rpki_command.specs.ShownTexts.{IsRejection, SaysOfFile, SaysOfOther}
 use Rattle.rpki_command.specs.VerdictTexts.{SaysOfEach}
 use Rattle.rpki_command.specs.declared.as_json.Shown.{Shown}
 use Rattle.rpki_files.specs.declared.places.Place.{Place}
@@ -42,8 +46,30 @@ pub record IsListFileJson (file : FileFields) (text : List ℕ) : Type 0 where
   pub shown_is : IsShown file left shown
   pub text_is : text ≡ json_lines (list_json shown list.fields)
 
--- the JSON of a file that begins with neither; how a fault is named, no definition says
-pub record IsOtherFileJson (file : FileFields) (text : List ℕ) : Type 0 where
+-- the file begins with neither a certificate nor a list, but is a locator, and this is its JSON
+pub record IsLocatorFileJson (strict : Bool) (file : FileFields) (text : List ℕ) : Type 0 where
+  pub neither : BeginsWithEither file.octets → ⊥
+  pub tal : TalFields
+  pub is_locator : IsLocator strict tal file.octets
+  pub shown : Shown
+  pub shown_is : IsShown file 0 shown
+  pub value : Data
+  pub value_is : IsLocatorJson shown tal value
+  pub text_is : text ≡ json_lines value
+
+-- the JSON of a file that looks like a locator and is none
+pub record IsNoLocatorFileJson (strict : Bool) (file : FileFields) (text : List ℕ) : Type 0 where
+  pub error : TalError
+  pub error_is : IsWhyNoLocator strict file.octets error
+  pub rule : Rule
+  pub rule_is : rule_of rule ≡ tal_rule error
+  pub shown : Shown
+  pub shown_is : IsShown file 0 shown
+  pub text_is : text ≡ json_lines (no_locator_file_json shown error rule)
+
+-- the JSON of a file that begins with neither, and doesn't look like a locator; how a fault is named,
+-- no definition says
+pub record IsUnreadFileJson (file : FileFields) (text : List ℕ) : Type 0 where
   pub why : List ℕ
   pub rule : Rule
   pub place : Place
@@ -52,9 +78,15 @@ pub record IsOtherFileJson (file : FileFields) (text : List ℕ) : Type 0 where
   pub shown_is : IsShown file 0 shown
   pub text_is : text ≡ json_lines (rejection_json shown why rule place)
 
+-- the JSON of a file that can't be shown
+abbrev pub IsOtherFileJson : Bool → FileFields → List ℕ → Type 0
+IsOtherFileJson strict = SaysOfOther (IsNoLocatorFileJson strict) IsUnreadFileJson
+
 -- the JSON of a file
 abbrev pub IsFileJson : Options → FileFields → List ℕ → Type 0
-IsFileJson options = SaysOfFile (IsCertificateFileJson options) IsListFileJson IsOtherFileJson
+IsFileJson options =
+    SaysOfFile options.strict (IsCertificateFileJson options) IsListFileJson
+    (IsLocatorFileJson options.strict) (IsOtherFileJson options.strict)
 
 -- the JSON of files, one behind the other
 abbrev pub AreFilesJson : Options → List FileFields → List ℕ → Type 0

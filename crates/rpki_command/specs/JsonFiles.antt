@@ -1,8 +1,8 @@
--- Certificates, lists and other files as JSON.
+-- Certificates, lists, locators and other files as JSON.
 use Rattle.std.specs.Option.{option_map}
 use Rattle.std.specs.Prelude.{◌≡◌, ℕ, Bool, List, [], ◌∷◌, map, codes, Option, Some, None}
 use Rattle.sha2.specs.Sha256.{sha256}
-use Rattle.serde_json.specs.Data.{Data}
+use Rattle.serde_json.specs.Data.{Data, string}
 use Rattle.rpki.specs.CertificateExtensions.{ExtensionFields}
 use Rattle.rpki.specs.Certificates.{CertFields, TbsFields}
 use Rattle.rpki.specs.Inspection.{inspection_error_name}
@@ -11,13 +11,18 @@ use Rattle.rpki.specs.KeyUsage.{KeyUsage}
 use Rattle.rpki.specs.KeyUsage.TheVariants.{Ca, Ee}
 use Rattle.rpki.specs.Kind.{Kind}
 use Rattle.rpki.specs.Kind.TheVariants.{Anchor, Authority, EndEntity, Detached, Router}
+use Rattle.rpki.specs.Keys.{key_identifier}
 use Rattle.rpki.specs.Lists.{ListFields}
+use Rattle.rpki.specs.Locators.{TalFields}
 use Rattle.rpki.specs.NameTexts.{name_text}
 use Rattle.rpki.specs.Overclaim.{Overclaim}
 use Rattle.rpki.specs.Overclaim.TheVariants.{Refuse, Trim}
 use Rattle.rpki.specs.RevokedEntries.{Entry, Revoked}
+use Rattle.rpki.specs.TalError.{TalError}
+use Rattle.rpki.specs.TalErrors.{tal_error_name}
 use Rattle.rpki.specs.Texts.{serial_text}
 use Rattle.rpki_text.specs.CertificateTexts.{AreFindings}
+use Rattle.rpki_text.specs.KeyTexts.{IsLocatorKey}
 use Rattle.rpki_command.specs.JsonBlocks.{listed_items}
 use Rattle.rpki_command.specs.JsonKeys.{key_json}
 use Rattle.rpki_command.specs.JsonNotes.{notes_json}
@@ -27,6 +32,7 @@ use Rattle.rpki.specs.Digits.{base64_of}
 use Rattle.rpki_notes.specs.declared.note.Note.{Note}
 use Rattle.rpki_text.specs.declared.certificate.Answers.{Answers}
 use Rattle.rpki_text.specs.declared.certificate.Findings.{Findings}
+use Rattle.rpki_text.specs.declared.keys.KeyAnswer.{KeyAnswer}
 use Rattle.rpki_command.specs.declared.as_json.Shown.{Shown}
 use Rattle.rpki_files.specs.declared.places.Place.{Place}
 use Rattle.rpki_files.specs.declared.rules.Rule.{Rule}
@@ -159,6 +165,37 @@ list_json file l = object_of (flattened (
     ∷ member_of (codes "valid_until") (moment_json l.next_update)
     ∷ member_of (codes "revoked_certs") (array_of (map entry_json l.revoked.entries))
     ∷ signature_member
+    ∷ []))
+
+-- ---- a locator
+
+-- a URI
+abbrev pub location_json : List ℕ → Data
+location_json uri = string (characters_text uri)
+
+-- a locator of whose key this was found
+unfoldable pub locator_json : Shown → TalFields → KeyAnswer → Data
+locator_json file tal key = object_of (flattened (
+    head_members file
+    ∷ text_member (codes "type") (codes "tal")
+    ∷ text_member (codes "name") file.name.now
+    ∷ text_member (codes "ski") (colons_text (key_identifier tal.key))
+    ∷ member_of (codes "trust_anchor_locations") (array_of (map location_json tal.uris))
+    ∷ member_of (codes "key") (key_json key)
+    ∷ []))
+
+-- the value of the locator that a file is
+pub record IsLocatorJson (file : Shown) (tal : TalFields) (value : Data) : Type 0 where
+  pub key : KeyAnswer
+  pub key_is : IsLocatorKey tal.key key
+  pub value_is : value ≡ locator_json file tal key
+
+-- a file that looks like a locator and is none: what is wrong first, what that means, and what asks it
+unfoldable pub no_locator_file_json : Shown → TalError → Rule → Data
+no_locator_file_json file error rule = object_of (flattened (
+    head_members file
+    ∷ text_member (codes "fault") (tal_error_name error)
+    ∷ rule_members rule
     ∷ []))
 
 -- ---- a file that is neither

@@ -1,5 +1,5 @@
 -- How a run of the command ends, and its exit status (own). What a file holds are octets, in DER.
-use Rattle.std.specs.Prelude.{◌≡◌, ◌⊎◌, ℕ, List, [], ◌∷◌, All, Result, Ok, Err, IfSome}
+use Rattle.std.specs.Prelude.{◌≡◌, ◌⊎◌, ℕ, Bool, List, [], ◌∷◌, All, Result, Ok, Err, IfSome}
 use Rattle.rpki.specs.RsaSignatures.{IsSignedByRsa}
 use Rattle.rpki.specs.Times.{Moment}
 use Rattle.rpki.specs.Judged.{Judged}
@@ -13,7 +13,7 @@ use Rattle.rpki_verdicts.specs.declared.path.Fault.{Fault}
 use Rattle.rpki_command.specs.CommandLines.{RequestFields, IsCommandLine}
 use Rattle.rpki_files.specs.Contents.{BeginsWithList, CanBeShown}
 use Rattle.rpki_files.specs.Files.{FileFields, file_names, contents}
-use Rattle.rpki_verdicts.specs.GivenLocators.{AreLocator}
+use Rattle.rpki_files.specs.LocatorFiles.{AreLocator}
 use Rattle.rpki_verdicts.specs.PathAnswers.{IsVerdictBy}
 use Rattle.rpki_verdicts.specs.PathFiles.{Demands}
 
@@ -29,12 +29,12 @@ run_status (Err failure) = 3
 
 -- ---- the outcome
 
--- of files that are to be shown: success where each begins with a certificate or a list, else
--- rejection
-abbrev pub IsOutcomeOfShow : List (List ℕ) → Outcome → Type 0
-IsOutcomeOfShow files Success = All CanBeShown files
-IsOutcomeOfShow files Rejection = All CanBeShown files → ⊥
-IsOutcomeOfShow files _ = ⊥
+-- of files that are to be shown: success where each begins with a certificate or a list, or is a
+-- locator, else rejection
+abbrev pub IsOutcomeOfShow : Bool → List (List ℕ) → Outcome → Type 0
+IsOutcomeOfShow strict files Success = All (CanBeShown strict) files
+IsOutcomeOfShow strict files Rejection = All (CanBeShown strict) files → ⊥
+IsOutcomeOfShow strict files _ = ⊥
 
 -- each file given as a locator is one, and each given as a list begins with one
 abbrev pub AreAsGiven : Context → Demands → List (List ℕ) → Type 0
@@ -57,7 +57,7 @@ AsksOfFiles task = (task ≡ Show) ⊎ (task ≡ Validate)
 
 -- of what is asked; always success where that is a text about the command, and nothing of files
 abbrev pub IsOutcomeOf : Task → Context → Demands → List (List ℕ) → List (List ℕ) → Outcome → Type 0
-IsOutcomeOf Show x d files lists outcome = IsOutcomeOfShow files outcome
+IsOutcomeOf Show x d files lists outcome = IsOutcomeOfShow x.strict files outcome
 IsOutcomeOf Validate x d files lists outcome = IsOutcomeOfValidate x d files lists outcome
 IsOutcomeOf _ x d files lists outcome = outcome ≡ Success
 

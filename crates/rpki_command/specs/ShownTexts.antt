@@ -1,24 +1,31 @@
 -- What is shown of files.
 use Rattle.std.specs.Fmt.{decimal}
-use Rattle.std.specs.List.{concat}
-use Rattle.std.specs.Prelude.{◌≡◌, ◌≢◌, ◌≤◌, ◌↔◌, ◌⊎◌, ℕ, Bool, IsTrue, ◌==◌, if◌then◌else◌, List, [], ◌∷◌, ◌++◌, length, codes}
+use Rattle.std.specs.List.{concat, flat_map}
+use Rattle.std.specs.Prelude.{◌≡◌, ◌≢◌, ◌≤◌, ◌↔◌, ◌⊎◌, ℕ, Bool, IsTrue, IsFalse, ◌==◌, if◌then◌else◌, List, [], ◌∷◌, ◌++◌, length, codes}
 use Rattle.hex.specs.Hex.{encode_lower}
 use Rattle.sha2.specs.Sha256.{sha256}
 use Rattle.rpki.specs.Certificates.{CertFields, TbsFields, IsCertificate}
 use Rattle.rpki.specs.DecodeError.{DecodeError}
 use Rattle.rpki.specs.DecodeError.TheVariants.{Memory}
+use Rattle.rpki.specs.Keys.{key_identifier}
 use Rattle.rpki.specs.Lists.{CrlFields, ListFields, IsCertificateList}
+use Rattle.rpki.specs.Locators.{IsLocator, TalFields}
 use Rattle.rpki.specs.RevokedEntries.{Revoked}
+use Rattle.rpki.specs.TalError.{TalError}
+use Rattle.rpki.specs.TalErrors.{tal_error_name}
 use Rattle.rpki.specs.Times.{Moment}
 use Rattle.rpki_text.specs.CertificateTexts.{AreFindings, certificate_text}
-use Rattle.rpki_files.specs.Contents.{BeginsBefore, CanBeShown, LooksLikeList}
-use Rattle.rpki_files.specs.FaultRules.{IsFileRule, rule_of}
+use Rattle.rpki_files.specs.Contents.{BeginsBefore, BeginsWithEither, CanBeShown, LooksLikeList}
+use Rattle.rpki_files.specs.FaultRules.{IsFileRule, rule_of, tal_rule}
 use Rattle.rpki_files.specs.Files.{FileFields}
+use Rattle.rpki_files.specs.LocatorFiles.{IsWhyNoLocator, looks_like_locator}
+use Rattle.rpki_text.specs.KeyTexts.{IsLocatorKey, locator_key_text}
 use Rattle.rpki_text.specs.ListTexts.{list_text}
-use Rattle.rpki_text.specs.Pages.{line, line_feed, count_text, file_name_text}
+use Rattle.rpki_text.specs.Pages.{line, line_feed, characters_text, colons_text, count_text, file_name_text}
 use Rattle.rpki_command.specs.NoteLines.{notes_lines}
 use Rattle.rpki_command.specs.VerdictTexts.{SaysOfEach}
 use Rattle.rpki_text.specs.declared.certificate.Findings.{Findings}
+use Rattle.rpki_text.specs.declared.keys.KeyAnswer.{KeyAnswer}
 use Rattle.rpki_notes.specs.Notes.{AreNotes}
 use Rattle.rpki_notes.specs.declared.note.Note.{Note}
 use Rattle.rpki_files.specs.declared.places.Place.{Place}
@@ -77,6 +84,55 @@ pub record IsListFileText (options : Options) (file : FileFields) (text : List �
   pub begins : BeginsBefore IsCertificateList file.octets list left
   pub text_is : text ≡ list_file_text file list.fields options.at options.all left
 
+-- ---- locators
+
+-- the line of a URI
+abbrev pub location_line : List ℕ → List ℕ
+location_line uri = line (codes "URI") (characters_text uri)
+
+-- what is shown of a locator, of whose key this was found: its URIs in their order, its key, and the
+-- identifier of that
+abbrev pub tal_text : TalFields → KeyAnswer → List ℕ
+tal_text tal key = concat (
+    flat_map location_line tal.uris
+    ∷ line (codes "Key") (locator_key_text key)
+    ∷ line (codes "Subject key identifier") (colons_text (key_identifier tal.key))
+    ∷ [])
+
+-- a file that is a locator
+unfoldable pub locator_file_text : FileFields → TalFields → KeyAnswer → List ℕ
+locator_file_text file tal key = concat (
+    file_lines file
+    ∷ line (codes "Kind") (codes "trust anchor locator")
+    ∷ tal_text tal key
+    ∷ [])
+
+-- the file begins with neither a certificate nor a list, but is a locator, and this is its text
+pub record IsLocatorFileText (strict : Bool) (file : FileFields) (text : List ℕ) : Type 0 where
+  pub neither : BeginsWithEither file.octets → ⊥
+  pub tal : TalFields
+  pub is_locator : IsLocator strict tal file.octets
+  pub key : KeyAnswer
+  pub key_is : IsLocatorKey tal.key key
+  pub text_is : text ≡ locator_file_text file tal key
+
+-- a file that looks like a locator and is none: what is wrong first, what that means, and what asks it
+unfoldable pub no_locator_file_text : FileFields → TalError → Rule → List ℕ
+no_locator_file_text file error rule = concat (
+    file_lines file
+    ∷ line (codes "Fault") (tal_error_name error)
+    ∷ line (codes "Why") rule.says.now
+    ∷ line (codes "Standard") rule.section.now
+    ∷ [])
+
+-- the text of such a file
+pub record IsNoLocatorFileText (strict : Bool) (file : FileFields) (text : List ℕ) : Type 0 where
+  pub error : TalError
+  pub error_is : IsWhyNoLocator strict file.octets error
+  pub rule : Rule
+  pub rule_is : rule_of rule ≡ tal_rule error
+  pub text_is : text ≡ no_locator_file_text file error rule
+
 -- ---- other files
 
 -- where reading stops: at this field, which begins at this octet
@@ -102,24 +158,40 @@ pub record IsRejection (octets : List ℕ) (rule : Rule) (place : Place) : Type 
   pub rule_is : IsFileRule is_list fault octets (rule_of rule)
   pub octet_within : place.octet ≤ length octets
 
--- the text of a file that begins with neither; how a fault is named, no definition says
-pub record IsOtherFileText (file : FileFields) (text : List ℕ) : Type 0 where
+-- the text of a file that begins with neither, and doesn't look like a locator; how a fault is named,
+-- no definition says
+pub record IsUnreadFileText (file : FileFields) (text : List ℕ) : Type 0 where
   pub why : List ℕ
   pub rule : Rule
   pub place : Place
   pub rejection : IsRejection file.octets rule place
   pub text_is : text ≡ other_file_text file why (stop_text place.field.now place.octet) rule.says.now rule.section.now
 
+-- what is said of a file that can't be shown: as of a locator that is none where it looks like one
+abbrev pub SaysOfOther : (OfNoLocator OfUnread : FileFields → List ℕ → Type 0) → FileFields → List ℕ → Type 0
+SaysOfOther OfNoLocator OfUnread file text =
+    (IsTrue (looks_like_locator file.octets) × OfNoLocator file text)
+    ⊎ (IsFalse (looks_like_locator file.octets) × OfUnread file text)
+
+-- the text of a file that can't be shown
+abbrev pub IsOtherFileText : Bool → FileFields → List ℕ → Type 0
+IsOtherFileText strict = SaysOfOther (IsNoLocatorFileText strict) IsUnreadFileText
+
 -- ---- the whole
 
--- what is said of a file: of its certificate, of its list, or else of neither
-abbrev pub SaysOfFile : (OfCertificate OfList OfOther : FileFields → List ℕ → Type 0) → FileFields → List ℕ → Type 0
-SaysOfFile OfCertificate OfList OfOther file text =
-    OfCertificate file text ⊎ (OfList file text ⊎ ((CanBeShown file.octets → ⊥) × OfOther file text))
+-- what is said of a file: of its certificate, of its list, of the locator that it is, or else of none
+abbrev pub SaysOfFile : Bool → (OfCertificate OfList OfLocator OfOther : FileFields → List ℕ → Type 0) → FileFields → List ℕ → Type 0
+SaysOfFile strict OfCertificate OfList OfLocator OfOther file text =
+    OfCertificate file text
+    ⊎ (OfList file text
+    ⊎ (OfLocator file text
+    ⊎ ((CanBeShown strict file.octets → ⊥) × OfOther file text)))
 
 -- the text of a file
 abbrev pub IsFileText : Options → FileFields → List ℕ → Type 0
-IsFileText options = SaysOfFile (IsCertificateFileText options) (IsListFileText options) IsOtherFileText
+IsFileText options =
+    SaysOfFile options.strict (IsCertificateFileText options) (IsListFileText options)
+    (IsLocatorFileText options.strict) (IsOtherFileText options.strict)
 
 -- the text of a file behind another one: an empty line, and its own
 abbrev pub IsFurtherText : Options → FileFields → List ℕ → Type 0

@@ -23,7 +23,8 @@ use Rattle.rpki_text.specs.CertificateTexts.{certificate_kind_text}
 use Rattle.rpki_files.specs.Contents.{BeginsWithList}
 use Rattle.rpki_files.specs.Files.{FileFields, contents}
 use Rattle.rpki_files.specs.SaidKinds.{IsKindOf}
-use Rattle.rpki_verdicts.specs.GivenLocators.{LocatorFields, AreLocator, locator_octets}
+use Rattle.rpki_files.specs.LocatorFiles.{AreLocator}
+use Rattle.rpki_verdicts.specs.GivenLocators.{LocatorFields, locator_octets}
 use Rattle.rpki_verdicts.specs.PathFiles.{QuestionFields, IsAnchorLocator, demands_of}
 use Rattle.rpki_text.specs.KeyTexts.{IsKeyAnswer, key_text}
 use Rattle.rpki_text.specs.Pages.{colons_text, line, count_text, file_name_text}

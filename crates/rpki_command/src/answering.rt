@@ -64,7 +64,7 @@ fn show(
     are_all_read: bool,
 ) -> Result<Answer, AllocError>
     ensures outcome { IfOk result (λ answer. MatchBool are_all_read
-        (IsOutcomeOfShow (contents files.now) answer.outcome)
+        (IsOutcomeOfShow request.now.strict (contents files.now) answer.outcome)
         (answer.outcome ≡ Outcome.Unread)) }
     ensures text { let options = options_of (fields_of request.now) now in
         IsFalse request.now.json

@@ -1,8 +1,9 @@
-//! Certificates and lists as JSON, with the names that rpki-client gives to what it shows too.
+//! Certificates, lists and locators as JSON, with the names that rpki-client gives to what it shows too.
 ghost use Rattle.std.specs.Prelude.{◌≡◌, codes, map, option_map, IfOk, OnOk};
 ghost use Rattle.serde_json.specs.View.{view};
+ghost use Rattle.rpki.specs.Locators.{uri_text};
 ghost use Rattle.rpki_text.specs.Pages.{colons_text};
-ghost use Rattle.rpki_command.specs.JsonFiles.{IsCertificateJson, answer_word, certificate_json, entry_json, head_members, key_members, list_json, name_members, overclaim_word, profiles_json, rejection_json, type_word, uri_member, uri_members, usage_word};
+ghost use Rattle.rpki_command.specs.JsonFiles.{IsCertificateJson, IsLocatorJson, answer_word, certificate_json, entry_json, head_members, key_members, list_json, location_json, locator_json, name_members, no_locator_file_json, overclaim_word, profiles_json, rejection_json, type_word, uri_member, uri_members, usage_word};
 ghost use Rattle.rpki_command.specs.JsonValues.{Puts, array_of, count_member_if_any, place_members, rule_members, text_member_if_any};
 
 mod ascii;
@@ -13,18 +14,21 @@ mod objects;
 mod verdicts;
 
 use notes::notes_value;
-use objects::Members;
 pub use objects::lines_of;
+use objects::{Members, value_of};
 use rpki::crypto::KeyIdentifier;
 use rpki::repository::cert::{Cert, KeyUsage, Kind, Overclaim, TbsCert};
 use rpki::repository::crl::{Crl, RevokedCertificates};
 use rpki::repository::error::InspectionError;
+use rpki::repository::tal::{Tal, TalError, TalUri};
 use rpki::repository::x509::{Serial, Time};
 use rpki::uri::{Https, Rsync};
 use rpki_files::Place;
 use rpki_files::rules::Rule;
 use rpki_notes::Note;
+use rpki_text::Page;
 use rpki_text::certificate::{Answers, Findings, findings_of};
+use rpki_text::keys::{KeyAnswer, answer_of_locator};
 use serde_json::Value;
 use std::alloc::{AllocError, Global};
 pub use verdicts::path;
@@ -257,6 +261,73 @@ pub fn list(alloc: Global, file: &Shown<'_>, it: &Crl) -> Result<Value, AllocErr
     let items = entries(alloc, fields.revoked_certs())?;
     out.value("revoked_certs", items)?;
     out.text("signature", "not checked")?;
+    Ok(out.into_value())
+}
+
+// The URI that a locator names.
+fn location(alloc: Global, uri: &TalUri) -> Result<Value, AllocError>
+    ensures { IfOk result (λ made. view made ≡ location_json (uri_text uri.now)) }
+{
+    let mut page = Page::new(alloc);
+    page.characters(uri.as_str().as_bytes());
+    value_of(page)
+}
+
+// The URIs that a locator names, in their order.
+fn locations(alloc: Global, uris: &[TalUri]) -> Result<Value, AllocError>
+    ensures { let values = map (λ uri. location_json (uri_text uri)) uris.now in
+        IfOk result (λ made. view made ≡ array_of values) }
+{
+    let mut items = Vec::new(alloc);
+    for uri in uris {
+        let item = location(alloc, uri)?;
+        items.push(item)?;
+    }
+    Ok(Value::from(items))
+}
+
+// The value of a locator of whose key this was found.
+fn known_locator(
+    alloc: Global,
+    file: &Shown<'_>,
+    tal: &Tal,
+    answer: &KeyAnswer,
+) -> Result<Value, AllocError>
+    ensures { IfOk result (λ made. view made ≡ locator_json file.now tal.now.tal answer.now) }
+{
+    let mut out = Members::new(alloc);
+    head(&mut out, file)?;
+    out.text("type", "tal")?;
+    out.text("name", file.name)?;
+    out.identifier("ski", &tal.key_info().key_identifier())?;
+    let items = locations(alloc, tal.uris())?;
+    out.value("trust_anchor_locations", items)?;
+    let facts = key::facts(alloc, answer)?;
+    out.value("key", facts)?;
+    Ok(out.into_value())
+}
+
+/// Makes the value of a locator.
+pub fn locator(alloc: Global, file: &Shown<'_>, tal: &Tal) -> Result<Value, AllocError>
+    ensures { IfOk result (λ made. IsLocatorJson file.now tal.now.tal (view made)) }
+{
+    let answer = answer_of_locator(tal.key_info());
+    known_locator(alloc, file, tal, &answer)
+}
+
+/// Makes the value of a file that looks like a locator and is none, for this reason.
+pub fn no_locator(
+    alloc: Global,
+    file: &Shown<'_>,
+    error: &TalError,
+    rule: Rule,
+) -> Result<Value, AllocError>
+    ensures { IfOk result (λ made. view made ≡ no_locator_file_json file.now error.now rule) }
+{
+    let mut out = Members::new(alloc);
+    head(&mut out, file)?;
+    out.text("fault", error.name())?;
+    put_rule(&mut out, rule)?;
     Ok(out.into_value())
 }
 

@@ -1,5 +1,5 @@
-//! The command for people: shows certificates and revocation lists of files, and validates paths of
-//! files.
+//! The command for people: shows certificates, revocation lists and locators of files, and validates
+//! paths of files.
 #![tactic(auto)]
 
 ghost use Rattle.std.specs.Prelude.{◌≡◌, ◌≢◌, ◌≤◌, IfOk, IfSome, MatchOption, OnOk, string_bytes};
@@ -39,8 +39,8 @@ const USAGE: &str = "usage: rpki show [-j|--json] [--all] [OPTION].. FILE..
            [CA].. [LAST]
        rpki help | --version
 OPTION: --at MOMENT, --max-size OCTETS (of a file; 67108864 if it is left out), or --lenient
-FILE: a certificate or a revocation list, in DER or PEM; of --tal a trust anchor's locator;
-- for standard input
+FILE: a certificate or a revocation list, in DER or PEM; of show and --tal also a trust anchor's
+locator; - for standard input
 LAST: a CA, an end entity or a router
 MOMENT: YYYY-MM-DD, YYYY-MM-DDThh:mm:ssZ or YYYYMMDDhhmmss; the clock's, if it is left out
 Behind -- each word is a file.
@@ -173,8 +173,8 @@ fn run_with_arguments(rt: &HostRuntime) -> Result<Outcome> {
 
 /// Runs the command on the words of the command line: reads the files, and prints what they hold,
 /// or the verdict on their path. The exit status is 0 where all files were shown or the path is
-/// accepted; 1 where a file is neither a certificate nor a list, the path is rejected, or a file
-/// given as a list is none; 2 where the command line has another form; and 3 where a file can't be
+/// accepted; 1 where a file is no certificate, list or locator, the path is rejected, or a file given
+/// as a list or a locator is none; 2 where the command line has another form; and 3 where a file can't be
 /// read, or the clock, memory or an output failed.
 pub fn command(rt: &HostRuntime) -> ExitCode
     ensures { exit_status result ≤ 3 }

@@ -7,8 +7,8 @@ ghost use Rattle.rpki_command.specs.Outcomes.{run_status};
 pub enum Outcome {
     /// All files are shown, or the path is accepted; or a text about the command was asked for.
     Success,
-    /// A file is neither a certificate nor a list; the path is rejected; a file given as a list is
-    /// none.
+    /// A file is no certificate, list or locator; the path is rejected; a file given as a list or a
+    /// locator is none.
     Rejection,
     /// The command line has another form.
     WrongUse,

@@ -1,5 +1,5 @@
 //! A file for a person or as JSON.
-ghost use Rattle.std.specs.Prelude.{◌≡◌, ◌≢◌, ◌↔◌, false, All, IfOk, IsTrue, IsFalse, MatchResult, Some, None, codes, string_bytes};
+ghost use Rattle.std.specs.Prelude.{◌≡◌, ◌≢◌, ◌↔◌, false, All, IfOk, IsTrue, IsFalse, MatchResult, OnOk, Some, None, codes, string_bytes};
 ghost use Rattle.hex.specs.Hex.{encode_lower};
 ghost use Rattle.serde_json.specs.View.{view};
 ghost use Rattle.serde_json.specs.Written.{has_float};
@@ -8,25 +8,32 @@ ghost use Rattle.rpki.specs.Certificates.{IsCertificate};
 ghost use Rattle.rpki.specs.DecodeError.TheVariants as decoding;
 ghost use Rattle.rpki.specs.Lists.{IsCertificateList};
 ghost use Rattle.rpki_text.specs.CertificateTexts.{AreFindings};
-ghost use Rattle.rpki_files.specs.Contents.{BeginsBefore, CanBeShown, LooksLikeList};
+ghost use Rattle.rpki_files.specs.Contents.{BeginsBefore, BeginsWithEither, CanBeShown, LooksLikeList};
 ghost use Rattle.rpki_files.specs.Files.{contents};
+ghost use Rattle.rpki_files.specs.LocatorFiles.{IsWhyNoLocator};
 ghost use Rattle.rpki_notes.specs.Notes.{AreNotes};
-ghost use Rattle.rpki_command.specs.JsonAnswers.{AreFilesJson, IsCertificateFileJson, IsFileJson, IsListFileJson, IsOtherFileJson, IsShown};
+ghost use Rattle.rpki_command.specs.JsonAnswers.{AreFilesJson, IsCertificateFileJson, IsFileJson, IsListFileJson, IsOtherFileJson, IsShown, IsUnreadFileJson};
 ghost use Rattle.rpki_command.specs.JsonTexts.{json_lines};
 ghost use Rattle.rpki_command.specs.Outcomes.{IsOutcomeOfShow};
 ghost use Rattle.rpki_text.specs.Pages.{Appends, AppendsSome, line, line_feed};
-ghost use Rattle.rpki_command.specs.ShownTexts.{IsCertificateFileText, IsFileText, IsFurtherText, IsListFileText, IsOtherFileText, IsRejection, IsTextOfFiles, certificate_file_text, file_lines, left_line, left_text, list_file_text, stop_text};
+ghost use Rattle.rpki_command.specs.ShownTexts.{IsCertificateFileText, IsFileText, IsFurtherText, IsListFileText, IsOtherFileText, IsRejection, IsTextOfFiles, IsUnreadFileText, certificate_file_text, file_lines, left_line, left_text, list_file_text, stop_text};
 ghost use Rattle.rpki_command.specs.VerdictTexts.{SaysOfEach};
+
+mod locators;
 
 use crate::as_json;
 use crate::notes::print_notes;
 use crate::outcomes::{Answer, Outcome};
 use bytes::Bytes;
+use locators::{whole_locator, whole_no_locator};
 use rpki::der::DecodeError;
+use rpki::repository::tal::TalError;
 use rpki::repository::x509::Time;
 use rpki::repository::{Cert, Crl};
 use rpki_files::rules::{Rule, of_file};
-use rpki_files::{Content, Form, Object, Place, looks_like, place_of};
+use rpki_files::{
+    Content, Form, Object, Place, looks_like, looks_like_locator, place_of, read_locator,
+};
 use rpki_notes::{Note, notes_of};
 use rpki_text::{FileName, Page, certificate, list};
 use serde_json::Value;
@@ -162,7 +169,7 @@ impl fmt::Display for Stop {
 
 fn print_rejection(page: &mut Page, object: &Object<'_>, it: &Rejection)
     ensures { IsRejection object.now.octets it.now.rule it.now.place
-        → AppendsSome (IsOtherFileText object.now) page.old page.new }
+        → AppendsSome (IsUnreadFileText object.now) page.old page.new }
 {
     begun(page, object);
     page.line("Fault", it.why.as_str());
@@ -183,7 +190,7 @@ fn as_shown<'a>(object: &'a Object<'_>, left: usize) -> as_json::Shown<'a>
 
 fn rejection_json(page: &mut Page, object: &Object<'_>, it: &Rejection)
     ensures { IsRejection object.now.octets it.now.rule it.now.place
-        → AppendsSome (IsOtherFileJson object.now) page.old page.new }
+        → AppendsSome (IsUnreadFileJson object.now) page.old page.new }
 {
     let file = as_shown(object, 0);
     let made = as_json::rejected(page.alloc(), &file, it.why.as_str(), it.rule, it.place);
@@ -193,10 +200,10 @@ fn rejection_json(page: &mut Page, object: &Object<'_>, it: &Rejection)
 fn whole_rejection(page: &mut Page, object: &Object<'_>, it: &Rejection, options: &Options)
     ensures text { IsFalse options.now.json
         → IsRejection object.now.octets it.now.rule it.now.place
-        → AppendsSome (IsOtherFileText object.now) page.old page.new }
+        → AppendsSome (IsUnreadFileText object.now) page.old page.new }
     ensures json { IsTrue options.now.json
         → IsRejection object.now.octets it.now.rule it.now.place
-        → AppendsSome (IsOtherFileJson object.now) page.old page.new }
+        → AppendsSome (IsUnreadFileJson object.now) page.old page.new }
 {
     if options.json {
         rejection_json(page, object, it);
@@ -208,9 +215,9 @@ fn whole_rejection(page: &mut Page, object: &Object<'_>, it: &Rejection, options
 fn rejected(page: &mut Page, object: &Object<'_>, fault: &DecodeError, options: &Options)
     requires { fault.now ≢ decoding.Memory }
     ensures text { IsFalse options.now.json
-        → AppendsSome (IsOtherFileText object.now) page.old page.new }
+        → AppendsSome (IsUnreadFileText object.now) page.old page.new }
     ensures json { IsTrue options.now.json
-        → AppendsSome (IsOtherFileJson object.now) page.old page.new }
+        → AppendsSome (IsUnreadFileJson object.now) page.old page.new }
 {
     match rejection_of(page.alloc(), object, fault) {
         Ok(it) => {
@@ -338,27 +345,82 @@ fn whole_list(page: &mut Page, object: &Object<'_>, it: &Crl, left: usize, optio
     }
 }
 
-/// Shows a file, and says whether it begins with a certificate or a list.
-pub fn show(page: &mut Page, object: &Object<'_>, options: &Options) -> bool
-    ensures shows { IsTrue result ↔ CanBeShown object.now.octets }
+// Shows a file that can't be shown for these reasons: why it begins with neither a certificate nor a
+// list, and why it is no locator.
+fn whole_other(
+    page: &mut Page,
+    object: &Object<'_>,
+    fault: &DecodeError,
+    error: &TalError,
+    options: &Options,
+)
+    requires { fault.now ≢ decoding.Memory }
     ensures text { IsFalse options.now.json
-        → AppendsSome (IsFileText options.now object.now) page.old page.new }
+        → IsWhyNoLocator options.now.strict object.now.octets error.now
+        → AppendsSome (IsOtherFileText options.now.strict object.now) page.old page.new }
     ensures json { IsTrue options.now.json
-        → AppendsSome (IsFileJson options.now object.now) page.old page.new }
+        → IsWhyNoLocator options.now.strict object.now.octets error.now
+        → AppendsSome (IsOtherFileJson options.now.strict object.now) page.old page.new }
+{
+    if looks_like_locator(object.octets().as_slice()) {
+        whole_no_locator(page, object, error, options);
+    } else {
+        rejected(page, object, fault, options);
+    }
+}
+
+// Shows a file that begins with neither a certificate nor a list, and says whether it is a locator.
+// Errs only where memory runs out.
+fn show_other(
+    page: &mut Page,
+    object: &Object<'_>,
+    fault: &DecodeError,
+    options: &Options,
+) -> Result<bool, AllocError>
+    requires fault { fault.now ≢ decoding.Memory }
+    requires neither { BeginsWithEither object.now.octets → ⊥ }
+    ensures shows { IfOk result (λ shows.
+        IsTrue shows ↔ CanBeShown options.now.strict object.now.octets) }
+    ensures text { IsFalse options.now.json → OnOk result
+        (AppendsSome (IsFileText options.now object.now) page.old page.new) }
+    ensures json { IsTrue options.now.json → OnOk result
+        (AppendsSome (IsFileJson options.now object.now) page.old page.new) }
+{
+    let octets = object.octets().as_slice();
+    match read_locator(page.alloc(), object.name(), octets, options.strict)? {
+        Ok(tal) => {
+            whole_locator(page, object, &tal, options);
+            drop(tal);
+            Ok(true)
+        }
+        Err(error) => {
+            whole_other(page, object, fault, &error, options);
+            drop(error);
+            Ok(false)
+        }
+    }
+}
+
+/// Shows a file, and says whether it begins with a certificate or a list, or is a locator. Errs only
+/// where memory runs out.
+pub fn show(page: &mut Page, object: &Object<'_>, options: &Options) -> Result<bool, AllocError>
+    ensures shows { IfOk result (λ shows.
+        IsTrue shows ↔ CanBeShown options.now.strict object.now.octets) }
+    ensures text { IsFalse options.now.json → OnOk result
+        (AppendsSome (IsFileText options.now object.now) page.old page.new) }
+    ensures json { IsTrue options.now.json → OnOk result
+        (AppendsSome (IsFileJson options.now object.now) page.old page.new) }
 {
     match object.content() {
         Content::Certificate(cert, left) => {
             whole_certificate(page, object, cert, *left, options);
-            true
+            Ok(true)
         }
         Content::List(it, left) => {
             whole_list(page, object, it, *left, options);
-            true
+            Ok(true)
         }
-        Content::Neither(fault) => {
-            rejected(page, object, fault, options);
-            false
-        }
+        Content::Neither(fault) => show_other(page, object, fault, options),
     }
 }
 
@@ -373,59 +435,65 @@ fn gap(page: &mut Page, options: &Options)
 }
 
 // Shows a file behind another one.
-fn show_further(page: &mut Page, object: &Object<'_>, options: &Options) -> bool
-    ensures shows { IsTrue result ↔ CanBeShown object.now.octets }
-    ensures text { IsFalse options.now.json
-        → AppendsSome (IsFurtherText options.now object.now) page.old page.new }
-    ensures json { IsTrue options.now.json
-        → AppendsSome (IsFileJson options.now object.now) page.old page.new }
+fn show_further(page: &mut Page, object: &Object<'_>, options: &Options) -> Result<bool, AllocError>
+    ensures shows { IfOk result (λ shows.
+        IsTrue shows ↔ CanBeShown options.now.strict object.now.octets) }
+    ensures text { IsFalse options.now.json → OnOk result
+        (AppendsSome (IsFurtherText options.now object.now) page.old page.new) }
+    ensures json { IsTrue options.now.json → OnOk result
+        (AppendsSome (IsFileJson options.now object.now) page.old page.new) }
 {
     gap(page, options);
     show(page, object, options)
 }
 
 // Shows the files behind the first one.
-fn show_more(page: &mut Page, objects: &[Object<'_>], options: &Options) -> bool
-    ensures shows { IsTrue result ↔ All CanBeShown (contents objects.now) }
+fn show_more(page: &mut Page, objects: &[Object<'_>], options: &Options) -> Result<bool, AllocError>
+    ensures shows { IfOk result (λ shows.
+        IsTrue shows ↔ All (CanBeShown options.now.strict) (contents objects.now)) }
     ensures text { let IsText = SaysOfEach (IsFurtherText options.now) in
-        IsFalse options.now.json → AppendsSome (IsText objects.now) page.old page.new }
-    ensures json { IsTrue options.now.json
-        → AppendsSome (AreFilesJson options.now objects.now) page.old page.new }
+        IsFalse options.now.json → OnOk result
+        (AppendsSome (IsText objects.now) page.old page.new) }
+    ensures json { IsTrue options.now.json → OnOk result
+        (AppendsSome (AreFilesJson options.now objects.now) page.old page.new) }
 {
     let mut can_be_shown = true;
     for object in objects {
-        can_be_shown &= show_further(page, object, options);
+        let shows = show_further(page, object, options)?;
+        can_be_shown &= shows;
     }
-    can_be_shown
+    Ok(can_be_shown)
 }
 
-// Appends the text of the objects, and tells whether each begins with a certificate or a list.
-fn show_all(page: &mut Page, objects: &[Object<'_>], options: &Options) -> bool
-    ensures shows { IsTrue result ↔ All CanBeShown (contents objects.now) }
-    ensures text { IsFalse options.now.json
-        → AppendsSome (IsTextOfFiles options.now objects.now) page.old page.new }
-    ensures json { IsTrue options.now.json
-        → AppendsSome (AreFilesJson options.now objects.now) page.old page.new }
+// Appends the text of the objects, and tells whether each can be shown.
+fn show_all(page: &mut Page, objects: &[Object<'_>], options: &Options) -> Result<bool, AllocError>
+    ensures shows { IfOk result (λ shows.
+        IsTrue shows ↔ All (CanBeShown options.now.strict) (contents objects.now)) }
+    ensures text { IsFalse options.now.json → OnOk result
+        (AppendsSome (IsTextOfFiles options.now objects.now) page.old page.new) }
+    ensures json { IsTrue options.now.json → OnOk result
+        (AppendsSome (AreFilesJson options.now objects.now) page.old page.new) }
 {
     let Some((first, more)) = objects.split_first() else {
-        return true;
+        return Ok(true);
     };
-    let can_be_shown = show(page, first, options);
-    show_more(page, more, options) & can_be_shown
+    let is_first = show(page, first, options)?;
+    let are_more = show_more(page, more, options)?;
+    Ok(are_more & is_first)
 }
 
 /// Writes the text of the objects, as lines for a person or as JSON. The outcome is success where
-/// each begins with a certificate or a list.
+/// each begins with a certificate or a list, or is a locator.
 pub fn shown(alloc: Global, objects: &[Object<'_>], options: &Options) -> Result<Answer, AllocError>
     ensures outcome { IfOk result (λ answer.
-        IsOutcomeOfShow (contents objects.now) answer.outcome) }
+        IsOutcomeOfShow options.now.strict (contents objects.now) answer.outcome) }
     ensures text { IsFalse options.now.json → IfOk result (λ answer.
         IsTextOfFiles options.now objects.now (string_bytes answer.text)) }
     ensures json { IsTrue options.now.json → IfOk result (λ answer.
         AreFilesJson options.now objects.now (string_bytes answer.text)) }
 {
     let mut page = Page::new(alloc);
-    let can_be_shown = show_all(&mut page, objects, options);
+    let can_be_shown = show_all(&mut page, objects, options)?;
     Ok(Answer {
         text: page.into_text()?,
         outcome: Outcome::of_answer(can_be_shown),

@@ -7,7 +7,7 @@ use Rattle.rpki.specs.Tags.{OBJECT_IDENTIFIER, SEQUENCE}
 use Rattle.rpki.specs.Values.{IsEnc, enc, length_octets}
 use Rattle.rpki.specs.Algorithms.{Algorithm, IsSignatureAlgorithm, parameters, sha256_with_rsa}
 use Rattle.rpki.specs.SignedDatas.{SignedFields, IsSignedDataContent}
-use Rattle.rpki_files.specs.Contents.{CanBeShown}
+use Rattle.rpki_files.specs.Contents.{BeginsWithEither}
 use Rattle.rpki_files.specs.PemFiles.{IsObjectOf}
 
 -- these octets have 0x2A and, right behind it, 0x86
@@ -66,7 +66,7 @@ in_signed s content h =
     same content _ h.is (around s.message h.algorithm (h.signature ++ []) (in_algorithm s.signature.algorithm h.algorithm h.algorithm_is))
 
 -- a certificate and a list are no texts
-pub no_text_shown : (octets : List ℕ) → CanBeShown octets → ¬ IsUtf8 octets
+pub no_text_shown : (octets : List ℕ) → BeginsWithEither octets → ¬ IsUtf8 octets
 no_text_shown octets shown =
     elim shown [
       | inl certificate ↦
@@ -78,7 +78,7 @@ no_text_shown octets shown =
     ]
 
 -- a file of a certificate or a list is taken as it is
-pub taken_as_is : (file octets : List ℕ) → IsObjectOf file octets → CanBeShown file → octets ≡ file
+pub taken_as_is : (file octets : List ℕ) → IsObjectOf file octets → BeginsWithEither file → octets ≡ file
 taken_as_is file octets object shown =
     elim object [
       | inl pem ↦ absurd (no_text_shown file shown pem.is_text)

@@ -1,11 +1,12 @@
 -- What the octets of a file begin with; what follows is ignored.
-use Rattle.std.specs.Prelude.{◌≡◌, ◌≢◌, ◌⊎◌, ℕ, List, ◌∷◌, length, Option, Some, None}
+use Rattle.std.specs.Prelude.{◌≡◌, ◌≢◌, ◌⊎◌, ℕ, Bool, List, ◌∷◌, length, Option, Some, None}
 use Rattle.rpki.specs.DecodeError.TheVariants as decoding
 use Rattle.rpki.specs.Encoding.{Begins, Means}
 use Rattle.rpki.specs.Tags.{SEQUENCE}
 use Rattle.rpki.specs.Values.{IsEnc}
 use Rattle.rpki.specs.Certificates.{CertFields, IsCertificate}
 use Rattle.rpki.specs.Lists.{CrlFields, IsCertificateList}
+use Rattle.rpki_files.specs.LocatorFiles.{AreLocator}
 use Rattle.rpki_files.specs.declared.contents.Content.{Content}
 use Rattle.rpki_files.specs.declared.contents.Content.TheVariants as content
 
@@ -17,9 +18,13 @@ BeginsWithCertificate octets = (c : CertFields) × Means IsCertificate c octets
 abbrev pub BeginsWithList : List ℕ → Type 0
 BeginsWithList octets = (l : CrlFields) × Means IsCertificateList l octets
 
--- what `rpki show` shows: a certificate or a list
-abbrev pub CanBeShown : List ℕ → Type 0
-CanBeShown octets = BeginsWithCertificate octets ⊎ BeginsWithList octets
+-- one of the two
+abbrev pub BeginsWithEither : List ℕ → Type 0
+BeginsWithEither octets = BeginsWithCertificate octets ⊎ BeginsWithList octets
+
+-- what `rpki show` shows: a certificate or a list, or the locator that the octets are
+abbrev pub CanBeShown : Bool → List ℕ → Type 0
+CanBeShown strict octets = BeginsWithEither octets ⊎ AreLocator strict octets
 
 -- the octets begin with an encoding of the value, behind which so many octets stand
 abbrev pub BeginsBefore : {V : Type 0} → (V → List ℕ → Type 0) → List ℕ → V → ℕ → Type 0
@@ -30,7 +35,7 @@ BeginsBefore encodes octets v left = (rest : List ℕ) × Begins encodes octets 
 abbrev pub IsContent : List ℕ → Content → Type 0
 IsContent octets (content.Certificate c left) = BeginsBefore IsCertificate octets c left × (BeginsWithList octets → ⊥)
 IsContent octets (content.List l left) = BeginsBefore IsCertificateList octets l.list left × (BeginsWithCertificate octets → ⊥)
-IsContent octets (content.Neither fault) = (fault ≢ decoding.Memory) × (CanBeShown octets → ⊥)
+IsContent octets (content.Neither fault) = (fault ≢ decoding.Memory) × (BeginsWithEither octets → ⊥)
 
 -- what was looked for, seen by view: it is what the octets begin with, and so many octets stand
 -- behind it; or they begin with none

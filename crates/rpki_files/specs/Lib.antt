@@ -3,6 +3,7 @@ pub mod PemFiles
 pub mod Files
 pub mod Contents
 pub mod SaidKinds
+pub mod LocatorFiles
 pub mod StopPlaces
 pub mod PolicyPresence
 pub mod FaultRules

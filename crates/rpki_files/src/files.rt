@@ -2,7 +2,7 @@
 ghost use Rattle.std.specs.Prelude.{◌≡◌, ◌≢◌, ◌↔◌, ℕ, List, IsTrue, IfOk, MatchOption};
 ghost use Rattle.rpki.specs.Certificates.{IsCertificate};
 ghost use Rattle.rpki.specs.Lists.{IsCertificateList};
-ghost use Rattle.rpki_files.specs.Contents.{BeginsWithList, CanBeShown, FindsBefore, IsContent};
+ghost use Rattle.rpki_files.specs.Contents.{BeginsWithEither, BeginsWithList, FindsBefore, IsContent};
 ghost use Rattle.rpki_files.specs.PemFiles.{HasBase64, IsObjectOf, IsPemOf, is_begin_line, is_end_line};
 
 use crate::contents::{Content, read_content};
@@ -145,7 +145,7 @@ pub fn read_object<'a>(
 ) -> Result<Object<'a>, AllocError>
     ensures name { IfOk result (λ object. object.name ≡ name.now) }
     ensures object { IfOk result (λ object. IsObjectOf file.items object.octets) }
-    ensures der { CanBeShown file.items
+    ensures der { BeginsWithEither file.items
         → IfOk result (λ object. object.octets ≡ file.items) }
 {
     let octets = object_octets(alloc, file)?;

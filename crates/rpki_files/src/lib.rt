@@ -1,10 +1,12 @@
-//! Files of certificates and revocation lists: the object that a file holds, in DER or PEM, what a
-//! certificate is, where its reading stops, and what a fault means, with the standard's section.
+//! Files of certificates, revocation lists and locators: the object that a file holds, in DER or
+//! PEM, what a certificate is, where reading stops, and what a fault means, with the standard's
+//! section.
 #![tactic(auto)]
 
 mod contents;
 mod files;
 mod kinds;
+mod locators;
 mod places;
 mod policies;
 pub mod rules;
@@ -12,6 +14,7 @@ mod saying;
 
 pub use contents::{Content, Form, looks_like};
 pub use files::{Object, read_object};
+pub use locators::{looks_like_locator, read_locator};
 pub use places::{Place, place_of};
 pub use policies::extensions_in;
 pub use saying::{is_router, kind_of, said_kind};

@@ -1,16 +1,23 @@
 -- What is said of a key.
 use Rattle.std.specs.Fmt.{decimal}
-use Rattle.std.specs.Prelude.{◌↔◌, ℕ, Bool, IsTrue, if◌then◌else◌, List, [], ◌++◌, codes, Option, Some, None}
+use Rattle.std.specs.Prelude.{◌≡◌, ◌↔◌, ℕ, Bool, IsTrue, if◌then◌else◌, List, [], ◌++◌, codes, Option, Some, None}
 use Rattle.rpki.specs.KeyForm.{KeyForm}
 use Rattle.rpki.specs.KeyForm.TheVariants.{RsaKey, EvenModulus, NoRsaKey, Point, OffCurve, CompressedPoint, NoPoint}
 use Rattle.rpki.specs.KeyForms.{IsKeyForm, IsUsableKey}
 use Rattle.rpki.specs.Keys.{KeyFields}
+use Rattle.rpki.specs.PublicKeyFormat.TheVariants.{Rsa}
 use Rattle.rpki_text.specs.declared.keys.KeyAnswer.{KeyAnswer}
 
 -- what is found of a key: its form, and whether the RPKI uses it
 pub record IsKeyAnswer (key : KeyFields) (answer : KeyAnswer) : Type 0 where
   pub form_is : IsKeyForm answer.form key
   pub usable_is : IsTrue answer.is_usable ↔ IsUsableKey key
+
+-- what is found of a locator's key: its form, and whether signatures of the RPKI are verified with
+-- it, as those of its trust anchor and below have to be (RFC 7935 3)
+pub record IsLocatorKey (key : KeyFields) (answer : KeyAnswer) : Type 0 where
+  pub form_is : IsKeyForm answer.form key
+  pub usable_is : IsTrue answer.is_usable ↔ ((key.format ≡ Rsa) × IsUsableKey key)
 
 -- the exponent of an RSA key, where it is below 2^64
 abbrev pub exponent_text : Option ℕ → List ℕ
@@ -39,3 +46,9 @@ abbrev pub key_text : KeyAnswer → List ℕ
 key_text key =
     if key.is_usable then form_text key.form
     else form_text key.form ++ (codes " (not usable: " ++ (asked_text key.form ++ codes ")"))
+
+-- a locator's key, and what is asked of it where every path below it is rejected
+abbrev pub locator_key_text : KeyAnswer → List ℕ
+locator_key_text key =
+    if key.is_usable then form_text key.form
+    else form_text key.form ++ codes " (every path is rejected: RFC 7935 3 asks RSA, 2048 bits, exponent 65537)"

@@ -1,9 +1,10 @@
 //! What is said of a key.
-ghost use Rattle.std.specs.Prelude.{Some};
-ghost use Rattle.rpki_text.specs.KeyTexts.{IsKeyAnswer, exponent_text, form_text, asked_text, key_text};
+ghost use Rattle.std.specs.Prelude.{◌≡◌, ◌↔◌, IsTrue, Some};
+ghost use Rattle.rpki.specs.KeyForms.{IsUsableKey};
+ghost use Rattle.rpki_text.specs.KeyTexts.{IsKeyAnswer, IsLocatorKey, exponent_text, form_text, asked_text, key_text, locator_key_text};
 
-use rpki::crypto::PublicKey;
 use rpki::crypto::keys::{KeyForm, form_of, is_usable};
+use rpki::crypto::{PublicKey, PublicKeyFormat};
 use std::fmt;
 
 /// What a key is, and whether the RPKI uses it. It is printed as that, and where it can't be used
@@ -21,6 +22,26 @@ pub fn answer_of(key: &PublicKey) -> KeyAnswer
     KeyAnswer {
         form: form_of(key),
         is_usable: is_usable(key),
+    }
+}
+
+// Whether signatures of the RPKI are verified with the key: one of routers is none.
+fn can_verify(key: &PublicKey) -> bool
+    ensures { IsTrue result ↔ ((key.now.format ≡ PublicKeyFormat.Rsa) × IsUsableKey key.now) }
+{
+    match key.algorithm() {
+        PublicKeyFormat::Rsa => is_usable(key),
+        PublicKeyFormat::EcdsaP256 => false,
+    }
+}
+
+/// Returns what the key of a locator is, and whether signatures of the RPKI are verified with it.
+pub fn answer_of_locator(key: &PublicKey) -> KeyAnswer
+    ensures { IsLocatorKey key.now result }
+{
+    KeyAnswer {
+        form: form_of(key),
+        is_usable: can_verify(key),
     }
 }
 
@@ -91,5 +112,23 @@ impl fmt::Display for KeyAnswer {
         }
         let asked = Asked(self.form);
         write!(f, "{form} (not usable: {asked})")
+    }
+}
+
+/// The key of a locator. It is printed as what it is, and where no signature is verified with it with
+/// what is asked of it.
+#[derive(Clone, Copy)]
+pub struct LocatorKey(pub KeyAnswer);
+
+impl fmt::Display for LocatorKey {
+    ghost output = { λ key. Some (locator_key_text key.0) };
+
+    fn fmt<W: fmt::Write>(&self, f: &mut fmt::Formatter<W>) -> fmt::Result {
+        let form = Form(self.0.form);
+        write!(f, "{form}")?;
+        if self.0.is_usable {
+            return Ok(());
+        }
+        f.write_str(" (every path is rejected: RFC 7935 3 asks RSA, 2048 bits, exponent 65537)")
     }
 }

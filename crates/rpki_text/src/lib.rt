@@ -11,5 +11,5 @@ pub mod moments;
 pub mod names;
 mod page;
 
-pub use lines::{Characters, FileName, write_line};
+pub use lines::{Characters, Colons, FileName, write_line};
 pub use page::Page;

@@ -12,7 +12,8 @@ use Rattle.rpki.specs.Values.{IsUnambiguous}
 use Rattle.rpki_files.specs.Contents.{BeginsWithCertificate}
 use Rattle.rpki_files.specs.Files.{FileFields}
 use Rattle.rpki_der.proofs.Formats.{one_meant}
-use Rattle.rpki_verdicts.specs.GivenLocators.{LocatorFields, locator_files, locator_octets, IsReadAs, IsRead, HasKeyRead, IsLocated, IsFirst}
+use Rattle.rpki_files.specs.LocatorFiles.{IsReadAs}
+use Rattle.rpki_verdicts.specs.GivenLocators.{LocatorFields, locator_files, locator_octets, IsRead, HasKeyRead, IsLocated, IsFirst}
 use Rattle.rpki_verdicts.proofs.FirstItems.{any_there, first_image}
 use Rattle.rpki_verdicts.proofs.ReadLocators.{read_at}
 

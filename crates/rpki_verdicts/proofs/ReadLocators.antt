@@ -8,7 +8,8 @@ use Rattle.rpki.specs.Locators.{NamedTal}
 use Rattle.rpki.specs.TalError.{TalError}
 use Rattle.rpki_files.specs.FaultRules.{tal_reason}
 use Rattle.rpki_files.specs.Files.{FileFields}
-use Rattle.rpki_verdicts.specs.GivenLocators.{LocatorFields, locator_files, locator_octets, AreLocator, IsReadAs, IsRead}
+use Rattle.rpki_files.specs.LocatorFiles.{AreLocator, IsReadAs}
+use Rattle.rpki_verdicts.specs.GivenLocators.{LocatorFields, locator_files, locator_octets, IsRead}
 use Rattle.rpki_verdicts.specs.PathAnswers.{reason_of, IsNoLocator}
 use Rattle.rpki_verdicts.specs.declared.path.Fault.{Fault}
 use Rattle.rpki_verdicts.proofs.FirstItems.{imaged}

@@ -1,12 +1,11 @@
 -- Files that are given as locators, and whether a trust anchor is one's (RFC 8630 3).
-use Rattle.std.specs.Prelude.{◌≡◌, ◌≢◌, ◌<◌, ℕ, Bool, Any, IsOkAnd, List, [], ◌∷◌, map, slice_get, Option, Some, None, Result, Ok, Err}
+use Rattle.std.specs.Prelude.{◌≡◌, ◌<◌, ℕ, Bool, Any, IsOkAnd, List, [], ◌∷◌, map, slice_get, Option, Some, None, Result}
 use Rattle.rpki.specs.Keys.{KeyFields}
-use Rattle.rpki.specs.LocatorFaults.{IsTalFault}
 use Rattle.rpki.specs.LocatedPaths.{IsLocatorOf}
-use Rattle.rpki.specs.Locators.{IsLocator, NamedTal, TalFields}
+use Rattle.rpki.specs.Locators.{NamedTal}
 use Rattle.rpki.specs.TalError.{TalError}
-use Rattle.rpki.specs.TalError.TheVariants.{Memory}
 use Rattle.rpki_files.specs.Files.{FileFields, contents}
+use Rattle.rpki_files.specs.LocatorFiles.{IsReadAs}
 
 -- ---- files
 
@@ -22,16 +21,6 @@ locator_files locators = map (λ l. l.file) locators
 -- the octets of each
 abbrev pub locator_octets : List LocatorFields → List (List ℕ)
 locator_octets locators = contents (locator_files locators)
-
--- the octets are a locator, as strictly as is asked
-abbrev pub AreLocator : Bool → List ℕ → Type 0
-AreLocator strict octets = (t : TalFields) × IsLocator strict t octets
-
--- the locator that the octets are was read of them; or they are none, and this is why
-abbrev pub IsReadAs : Bool → List ℕ → Result NamedTal TalError → Type 0
-IsReadAs strict octets (Ok t) = IsLocator strict t.tal octets
-IsReadAs strict octets (Err e) =
-    (e ≢ Memory) × IsTalFault strict e octets × (AreLocator strict octets → ⊥)
 
 -- this was read of the file
 abbrev pub IsRead : Bool → LocatorFields → Type 0

@@ -1,9 +1,10 @@
 //! Files that are given as locators of the trust anchor.
 ghost use Rattle.std.specs.Prelude.{◌≡◌, ◌↔◌, Ok, Err, IfOk, IfErr, IsOkAnd, IsTrue};
-ghost use Rattle.rpki_verdicts.specs.GivenLocators.{HasKeyRead, IsFirst, IsRead, IsReadAs};
+ghost use Rattle.rpki_verdicts.specs.GivenLocators.{HasKeyRead, IsFirst, IsRead};
 
 use rpki::crypto::PublicKey;
 use rpki::repository::tal::{Tal, TalError};
+use rpki_files::read_locator;
 use std::alloc::{AllocError, Global};
 use std::marker::Model;
 
@@ -26,28 +27,6 @@ impl<'n> Model for GivenLocator<'n> {
     } };
 }
 
-// Reads octets as a locator of this name, or finds why they are none.
-fn read(
-    alloc: Global,
-    name: &str,
-    octets: &[u8],
-    strict: bool,
-) -> Result<Result<Tal, TalError>, AllocError>
-    ensures { IfOk result (IsReadAs strict octets.now) }
-{
-    let name = String::from_str(alloc, name)?;
-    match Tal::read_named(alloc, name, octets, strict) {
-        Ok(tal) => Ok(Ok(tal)),
-        Err(fault) => {
-            if fault.is_memory() {
-                drop(fault);
-                return Err(AllocError);
-            }
-            Ok(Err(fault))
-        }
-    }
-}
-
 impl<'n> GivenLocator<'n> {
     /// Reads a file of this name as a locator, strictly or not. Errs where memory runs out.
     pub fn read(
@@ -60,7 +39,7 @@ impl<'n> GivenLocator<'n> {
         ensures octets { IfOk result (λ l. l.file.octets ≡ octets.items) }
         ensures read { IfOk result (IsRead strict) }
     {
-        let read = read(alloc, name, &octets, strict)?;
+        let read = read_locator(alloc, name, &octets, strict)?;
         Ok(GivenLocator { name, octets, read })
     }
 

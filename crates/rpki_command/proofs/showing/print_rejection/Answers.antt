@@ -1,6 +1,6 @@
 use Rattle.std.proofs.Common.{refl}
 use Rattle.rpki_text.specs.Pages.{Appends}
-use Rattle.rpki_command.specs.ShownTexts.{IsOtherFileText, other_file_text, stop_text}
+use Rattle.rpki_command.specs.ShownTexts.{IsUnreadFileText, other_file_text, stop_text}
 use Rattle.rpki_command.proofs.AppendedTexts.{then_appended, last_appended, such_appended}
 use Rattle.rpki_command.proofs.showing.print_rejection.Goals as goal
 
@@ -18,4 +18,4 @@ returns c = λ rejection.
     (then_appended _ _ _ _ _ c.line_of.ensures
     (then_appended _ _ _ _ _ c.line-2.ensures
     (last_appended _ _ _ c.line-3.ensures)))) in
-    such_appended (IsOtherFileText file) old new text (record { why = c.as_str.result.now; rule = it.rule; place = it.place; rejection = rejection; text_is = refl }) appended
+    such_appended (IsUnreadFileText file) old new text (record { why = c.as_str.result.now; rule = it.rule; place = it.place; rejection = rejection; text_is = refl }) appended

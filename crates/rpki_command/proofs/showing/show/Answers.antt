@@ -1,7 +1,6 @@
 use Rattle.std.proofs.Common.{inl, inr, refl}
-use Rattle.std.proofs.lemmas.Bool.{false≢true}
-use Rattle.rpki_command.specs.JsonAnswers.{IsCertificateFileJson, IsFileJson, IsListFileJson, IsOtherFileJson}
-use Rattle.rpki_command.specs.ShownTexts.{IsCertificateFileText, IsListFileText, IsOtherFileText, IsFileText}
+use Rattle.rpki_command.specs.JsonAnswers.{IsCertificateFileJson, IsFileJson, IsListFileJson}
+use Rattle.rpki_command.specs.ShownTexts.{IsCertificateFileText, IsListFileText, IsFileText}
 use Rattle.rpki_command.proofs.ShownFiles.{some_weaker}
 use Rattle.rpki_command.proofs.showing.show.Goals as goal
 
@@ -13,7 +12,7 @@ returns-in-Certificate c =
     let new = c.whole_certificate.new.page in
     let is = rw c.in-Certificate.is at c.content.ensures in
     record {
-      shows = ((λ yes. inl (c.in-Certificate.cert, (is.0.0, is.0.1))), (λ shown. refl));
+      shows = ((λ yes. inl (inl (c.in-Certificate.cert, (is.0.0, is.0.1)))), (λ shown. refl));
       text = λ lines. some_weaker (IsCertificateFileText o file) (IsFileText o file) old new (λ text its. inl its) (c.whole_certificate.ensures.text lines is.0);
       json = λ json. some_weaker (IsCertificateFileJson o file) (IsFileJson o file) old new (λ text its. inl its) (c.whole_certificate.ensures.json json is.0);
     }
@@ -26,23 +25,13 @@ returns-in-List c =
     let new = c.whole_list.new.page in
     let is = rw c.in-List.is at c.content.ensures in
     record {
-      shows = ((λ yes. inr (c.in-List.it.list, (is.0.0, is.0.1))), (λ shown. refl));
+      shows = ((λ yes. inl (inr (c.in-List.it.list, (is.0.0, is.0.1)))), (λ shown. refl));
       text = λ lines. some_weaker (IsListFileText o file) (IsFileText o file) old new (λ text its. inr (inl its)) (c.whole_list.ensures.text lines is.0);
       json = λ json. some_weaker (IsListFileJson file) (IsFileJson o file) old new (λ text its. inr (inl its)) (c.whole_list.ensures.json json is.0);
     }
 
-pub rejected-requires : goal.rejected-requires
-rejected-requires c = (rw c.in-Neither.is at c.content.ensures).0
+pub show_other-requires-clause-fault : goal.show_other-requires-clause-fault
+show_other-requires-clause-fault c = (rw c.in-Neither.is at c.content.ensures).0
 
-pub returns-in-Neither : goal.returns-in-Neither
-returns-in-Neither c =
-    let o = c.args.options.now in
-    let file = c.args.object.now in
-    let old = c.args.page.now in
-    let new = c.rejected.new.page in
-    let is = rw c.in-Neither.is at c.content.ensures in
-    record {
-      shows = ((λ no. absurd (false≢true no)), (λ shown. absurd (is.1 shown)));
-      text = λ lines. some_weaker (IsOtherFileText file) (IsFileText o file) old new (λ text its. inr (inr (is.1, its))) (c.rejected.ensures.text lines);
-      json = λ json. some_weaker (IsOtherFileJson file) (IsFileJson o file) old new (λ text its. inr (inr (is.1, its))) (c.rejected.ensures.json json);
-    }
+pub show_other-requires-clause-neither : goal.show_other-requires-clause-neither
+show_other-requires-clause-neither c = (rw c.in-Neither.is at c.content.ensures).1

@@ -15,9 +15,10 @@ returns-clause-shows c =
     let first = c.in-Some.first.now in
     let more = c.in-Some.more.now in
     let parts : c.args.objects.now ≡ first ∷ more = search rules in
-    let is_first = c.show-can_be_shown.result in
-    let are_more = c.show_more.result in
-    subst (λ (files : List FileFields). IsTrue (are_more && is_first) ↔ All CanBeShown (contents files)) (sym parts) (flag_of_first CanBeShown first.octets (contents more) is_first are_more c.show-can_be_shown.ensures.shows c.show_more.ensures.shows)
+    let is_first = c.in_ok-is_first.is_first in
+    let are_more = c.in_ok-are_more.are_more in
+    let Shows = CanBeShown c.args.options.now.strict in
+    subst (λ (files : List FileFields). IsTrue (are_more && is_first) ↔ All Shows (contents files)) (sym parts) (flag_of_first Shows first.octets (contents more) is_first are_more c.in_ok-is_first.ensures.shows c.in_ok-are_more.ensures.shows)
 
 pub returns-clause-text : goal.returns-clause-text
 returns-clause-text c = λ lines.
@@ -26,10 +27,10 @@ returns-clause-text c = λ lines.
     let more = c.in-Some.more.now in
     let parts : c.args.objects.now ≡ first ∷ more = search rules in
     let old = c.args.page.now in
-    let mid = c.show-can_be_shown.new.page in
+    let mid = c.show.new.page in
     let new = c.show_more.new.page in
     subst (λ (files : List FileFields). AppendsSome (IsTextOfFiles o files) old new) (sym parts)
-    (both_appended (IsFileText o first) (SaysOfEach (IsFurtherText o) more) (IsTextOfFiles o (first ∷ more)) old mid new (λ a b its others. (a, b, its, others, refl)) (c.show-can_be_shown.ensures.text lines) (c.show_more.ensures.text lines))
+    (both_appended (IsFileText o first) (SaysOfEach (IsFurtherText o) more) (IsTextOfFiles o (first ∷ more)) old mid new (λ a b its others. (a, b, its, others, refl)) (c.in_ok-is_first.ensures.text lines) (c.in_ok-are_more.ensures.text lines))
 
 pub returns-clause-json : goal.returns-clause-json
 returns-clause-json c = λ json.
@@ -38,7 +39,7 @@ returns-clause-json c = λ json.
     let more = c.in-Some.more.now in
     let parts : c.args.objects.now ≡ first ∷ more = search rules in
     let old = c.args.page.now in
-    let mid = c.show-can_be_shown.new.page in
+    let mid = c.show.new.page in
     let new = c.show_more.new.page in
     subst (λ (files : List FileFields). AppendsSome (AreFilesJson o files) old new) (sym parts)
-    (both_appended (IsFileJson o first) (SaysOfEach (IsFileJson o) more) (AreFilesJson o (first ∷ more)) old mid new (λ a b its others. (a, b, its, others, refl)) (c.show-can_be_shown.ensures.json json) (c.show_more.ensures.json json))
+    (both_appended (IsFileJson o first) (SaysOfEach (IsFileJson o) more) (AreFilesJson o (first ∷ more)) old mid new (λ a b its others. (a, b, its, others, refl)) (c.in_ok-is_first.ensures.json json) (c.in_ok-are_more.ensures.json json))

@@ -14,20 +14,21 @@ loop-object-preserved c =
     let objects = c.args.objects.now in
     let low = c.loop-object-test.true in
     let file = c.object-item.result in
-    let here = c.show_further-can_be_shown.ensures in
+    let here = c.in_ok-shows.ensures in
+    let Shows = CanBeShown c.args.options.now.strict in
     record {
-      shows = flag_of_more CanBeShown (contents objects) i file.octets (mapped_low (λ file. file.octets) objects i low) (mapped_there (λ file. file.octets) objects i file low c.object-item.is) l.can_be_shown c.show_further-can_be_shown.result l.invariant.shows here.shows;
+      shows = flag_of_more Shows (contents objects) i file.octets (mapped_low (λ file. file.octets) objects i low) (mapped_there (λ file. file.octets) objects i file low c.object-item.is) l.can_be_shown c.in_ok-shows.shows l.invariant.shows here.shows;
       text = λ lines.
-          each_more (IsFurtherText c.args.options.now) objects i file c.args.page.now l.page c.show_further-can_be_shown.new.page low c.object-item.is (l.invariant.text lines) (here.text lines);
+          each_more (IsFurtherText c.args.options.now) objects i file c.args.page.now l.page c.show_further.new.page low c.object-item.is (l.invariant.text lines) (here.text lines);
       json = λ json.
-          each_more (IsFileJson c.args.options.now) objects i file c.args.page.now l.page c.show_further-can_be_shown.new.page low c.object-item.is (l.invariant.json json) (here.json json);
+          each_more (IsFileJson c.args.options.now) objects i file c.args.page.now l.page c.show_further.new.page low c.object-item.is (l.invariant.json json) (here.json json);
     }
 
 pub returns-clause-shows : goal.returns-clause-shows
 returns-clause-shows c =
     let l = c.loop-object in
     let objects = c.args.objects.now in
-    flag_of_all CanBeShown (contents objects) l.object-index (mapped_high (λ file. file.octets) objects l.object-index c.loop-object-test.false) l.can_be_shown l.invariant.shows
+    flag_of_all (CanBeShown c.args.options.now.strict) (contents objects) l.object-index (mapped_high (λ file. file.octets) objects l.object-index c.loop-object-test.false) l.can_be_shown l.invariant.shows
 
 pub returns-clause-text : goal.returns-clause-text
 returns-clause-text c = λ lines.

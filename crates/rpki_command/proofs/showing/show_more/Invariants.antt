@@ -10,7 +10,7 @@ use Rattle.rpki_command.proofs.showing.show_more.Given as goal
 
 abbrev pub invariant-loop-object : goal.invariant-loop-object
 invariant-loop-object l = record {
-  shows : IsTrue l.can_be_shown ↔ All CanBeShown (take l.object-index (contents l.objects));
+  shows : IsTrue l.can_be_shown ↔ All (CanBeShown l.options.strict) (take l.object-index (contents l.objects));
   text : IsFalse l.options.json → AppendsSome (SaysOfEach (IsFurtherText l.options) (take l.object-index l.objects)) l.fn.page l.page;
   json : IsTrue l.options.json → AppendsSome (SaysOfEach (IsFileJson l.options) (take l.object-index l.objects)) l.fn.page l.page;
 }

@@ -8,9 +8,9 @@ use Rattle.rpki_command.specs.declared.outcomes.Outcome.{Outcome}
 use Rattle.rpki_command.specs.declared.outcomes.Outcome.TheVariants.{Success, Rejection}
 use Rattle.rpki_command.proofs.showing.shown.Goals as goal
 
-outcome_is : (files : List (List ℕ)) (outcome : Outcome) (yes : Bool) → (IsTrue yes → outcome ≡ Success) → (IsFalse yes → outcome ≡ Rejection) → (IsTrue yes ↔ All CanBeShown files) → IsOutcomeOfShow files outcome
-outcome_is files outcome true success rejection says = rw (success refl) (says.0 refl)
-outcome_is files outcome false success rejection says = rw (rejection refl) (λ all. false≢true (says.1 all))
+outcome_is : (strict : Bool) (files : List (List ℕ)) (outcome : Outcome) (yes : Bool) → (IsTrue yes → outcome ≡ Success) → (IsFalse yes → outcome ≡ Rejection) → (IsTrue yes ↔ All (CanBeShown strict) files) → IsOutcomeOfShow strict files outcome
+outcome_is strict files outcome true success rejection says = rw (success refl) (says.0 refl)
+outcome_is strict files outcome false success rejection says = rw (rejection refl) (λ all. false≢true (says.1 all))
 
 pub returns-clause-outcome : goal.returns-clause-outcome
-returns-clause-outcome c = outcome_is (contents c.args.objects.now) c.of_answer.result c.show_all-can_be_shown.result c.of_answer.ensures.success c.of_answer.ensures.rejection c.show_all-can_be_shown.ensures.shows
+returns-clause-outcome c = outcome_is c.args.options.now.strict (contents c.args.objects.now) c.of_answer.result c.in_ok-can_be_shown.can_be_shown c.of_answer.ensures.success c.of_answer.ensures.rejection c.in_ok-can_be_shown.ensures.shows

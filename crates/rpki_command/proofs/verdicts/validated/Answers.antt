@@ -13,7 +13,8 @@ use Rattle.rpki_command.specs.declared.outcomes.Outcome.{Outcome}
 use Rattle.rpki_command.specs.declared.outcomes.Outcome.TheVariants.{Success, Rejection}
 use Rattle.rpki_command.specs.declared.verdicts.Finding.{Finding}
 use Rattle.rpki_command.specs.declared.verdicts.Finding.TheVariants.{NotALocator, NotAList, Decided}
-use Rattle.rpki_verdicts.specs.GivenLocators.{AreLocator, locator_octets}
+use Rattle.rpki_files.specs.LocatorFiles.{AreLocator}
+use Rattle.rpki_verdicts.specs.GivenLocators.{locator_octets}
 use Rattle.rpki_verdicts.specs.PathFiles.{QuestionFields, demands_of}
 use Rattle.rpki_command.proofs.verdicts.validated.Goals as goal
 

@@ -1,7 +1,8 @@
 use Rattle.std.specs.Prelude.{Some, slice_get}
 use Rattle.std.proofs.Common.{◌≡◌, ◌<◌, ◌≤◌, length, refl, sym, subst, ◌∙◌, arith, below_more}
 use Rattle.std.proofs.lemmas.Option.{slice_get_read}
-use Rattle.rpki_verdicts.specs.GivenLocators.{LocatorFields, AreLocator}
+use Rattle.rpki_files.specs.LocatorFiles.{AreLocator}
+use Rattle.rpki_verdicts.specs.GivenLocators.{LocatorFields}
 use Rattle.rpki_verdicts.specs.PathFiles.{QuestionFields}
 use Rattle.rpki_verdicts.proofs.ReadLocators.{all_locators, is_locator, no_locator}
 use Rattle.rpki_verdicts.proofs.path.first_no_locator.Goals as goal

@@ -1,6 +1,7 @@
 use Rattle.std.specs.Prelude.{slice_get, Some}
 use Rattle.std.proofs.Common.{◌≡◌, ◌<◌, ℕ}
-use Rattle.rpki_verdicts.specs.GivenLocators.{LocatorFields, AreLocator}
+use Rattle.rpki_files.specs.LocatorFiles.{AreLocator}
+use Rattle.rpki_verdicts.specs.GivenLocators.{LocatorFields}
 use Rattle.rpki_verdicts.proofs.path.first_no_locator.Given as goal
 
 -- the earlier files are locators

@@ -3,8 +3,8 @@ use Rattle.std.proofs.lemmas.Bool.{false≢true}
 use Rattle.rpki.specs.LocatorFaults.{RejectsTal}
 use Rattle.rpki.specs.TalError.{TalError}
 use Rattle.rpki.specs.TalError.TheVariants.{NoText, BadUri, NoUri, NoKey, BadKey, Memory}
-use Rattle.rpki_verdicts.specs.GivenLocators.{AreLocator}
-use Rattle.rpki_verdicts.proofs.locators.read.Goals as goal
+use Rattle.rpki_files.specs.LocatorFiles.{AreLocator}
+use Rattle.rpki_files.proofs.locators.read_locator.Goals as goal
 
 -- octets that are rejected are no locator, unless memory ran out
 no_locator : (strict : Bool) (e : TalError) (octets : List ℕ) → e ≢ Memory → RejectsTal strict e octets → AreLocator strict octets → ⊥
