@@ -6,7 +6,7 @@ use Rattle.std.proofs.lemmas.List.{append_assoc, append-nil, map-append, map_mor
 use Rattle.std.proofs.lemmas.List.Sums.{fold_push}
 use Rattle.rpki_command.specs.declared.arguments.Setting.{Setting}
 use Rattle.rpki_command.specs.CommandLines.{IsOption, LinePart, file, AreParts, RequestFields, setting_name, with_files, with_part}
-use Rattle.rpki_command.specs.CommandLines.Steps.{AddsPart, AddsParts, AddsSet, BeginsNoPart, IsSet, Joins, Names}
+use Rattle.rpki_command.specs.CommandLines.Steps.{AddsPart, AddsParts, AddsSet, BeginsNoPart, IsSetPart, Joins, IsOptionName}
 use Rattle.rpki_command.specs.CommandLines.Views.{word_octets}
 use Rattle.rpki_command.proofs.CommandParts.{one_more, none_behind, value_missing, set_is_part, no_value, no_joined}
 
@@ -18,7 +18,7 @@ file_added (Ok x) old names name e not_option = (file name, (refl, not_option), 
 file_added (Err x) old names name e not_option = e
 
 -- a file that is an option's value is added to those of the request
-pub value_pushed : {T E : Type 0} (r : Result T E) (old : RequestFields) (setting : Setting) (value : List ℕ) (part : LinePart) → IsSet setting value part → (keeping : List (List ℕ) → RequestFields) (pushed all : List (List ℕ)) → keeping all ≡ with_part old part → OnOk r (pushed ≡ all) → OnOk r (AddsSet setting value old (keeping pushed))
+pub value_pushed : {T E : Type 0} (r : Result T E) (old : RequestFields) (setting : Setting) (value : List ℕ) (part : LinePart) → IsSetPart setting value part → (keeping : List (List ℕ) → RequestFields) (pushed all : List (List ℕ)) → keeping all ≡ with_part old part → OnOk r (pushed ≡ all) → OnOk r (AddsSet setting value old (keeping pushed))
 value_pushed (Ok x) old setting value part is keeping pushed all same e = (part, is, ap keeping e ∙ same)
 value_pushed (Err x) old setting value part is keeping pushed all same e = e
 
@@ -28,7 +28,7 @@ joined_added (Ok x) old new setting value word joins adds = (adds.0, set_is_part
 joined_added (Err x) old new setting value word joins adds = adds
 
 -- and isn't where that says nothing
-pub joined_rejected : {T E : Type 0} (r : Result T E) (memory : E) (setting : Setting) (value word : List ℕ) → Joins setting value word → IfErr r (λ e. e ≢ memory → (part : LinePart) → IsSet setting value part → ⊥) → IfErr r (λ e. e ≢ memory → BeginsNoPart (word ∷ []))
+pub joined_rejected : {T E : Type 0} (r : Result T E) (memory : E) (setting : Setting) (value word : List ℕ) → Joins setting value word → IfErr r (λ e. e ≢ memory → (part : LinePart) → IsSetPart setting value part → ⊥) → IfErr r (λ e. e ≢ memory → BeginsNoPart (word ∷ []))
 joined_rejected (Ok x) memory setting value word joins none = tt
 joined_rejected (Err e) memory setting value word joins none = λ not_memory. no_joined setting value (none not_memory) word joins
 
@@ -82,7 +82,7 @@ module _ {Z : Type 0} (words : List (Vec ℕ Z)) (i : ℕ) (word : Vec ℕ Z) (l
           (words_more ∙ ap (λ (l : List (List ℕ)). l ++ word.items ∷ []) so_far.words_are ∙ append_assoc so_far.front (setting_name setting ∷ []) (word.items ∷ []) ∙ ap (λ (w : List ℕ). so_far.front ++ setting_name setting ∷ w ∷ []) (sym text_is)) so_far.added (adds.0, set_is_part setting text adds.0 (setting_name setting ∷ text ∷ []) adds.1 (inl refl), adds.2)
 
       -- the word is no value of the option
-      pub value_rejected : ((part : LinePart) → IsSet setting text part → ⊥) → (parts : List LinePart) → AreParts parts (word_octets words) → ⊥
+      pub value_rejected : ((part : LinePart) → IsSetPart setting text part → ⊥) → (parts : List LinePart) → AreParts parts (word_octets words) → ⊥
       value_rejected none parts =
           none_behind so_far.added.0 parts so_far.front (text ∷ []) (word_octets (drop (i + 1) words)) (word_octets words) (setting_name setting) so_far.added.1 (no_value setting text none)
           (words_split ∙ ap (λ (l : List (List ℕ)). l ++ word.items ∷ word_octets (drop (i + 1) words)) so_far.words_are ∙ append_assoc so_far.front (setting_name setting ∷ []) (word.items ∷ word_octets (drop (i + 1) words)) ∙ ap (λ (w : List ℕ). so_far.front ++ setting_name setting ∷ w ∷ word_octets (drop (i + 1) words)) (sym text_is))
@@ -104,7 +104,7 @@ module _ {Z : Type 0} (words : List (Vec ℕ Z)) (i : ℕ) (word : Vec ℕ Z) (l
           (words_split ∙ ap (λ (l : List (List ℕ)). l ++ word.items ∷ word_octets (drop (i + 1) words)) front_is ∙ ap (λ (w : List ℕ). so_far.front ++ w ∷ word_octets (drop (i + 1) words)) (sym text_is))
 
       -- the word is an option whose value comes next
-      pub option_awaits : (setting : Setting) → Names setting text → AreAdded (word_octets (take (i + 1) words)) old new (Some setting)
+      pub option_awaits : (setting : Setting) → IsOptionName setting text → AreAdded (word_octets (take (i + 1) words)) old new (Some setting)
       option_awaits setting names = record {
         front = so_far.front;
         added = so_far.added;

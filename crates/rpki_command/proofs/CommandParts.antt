@@ -7,8 +7,8 @@ use Rattle.std.proofs.lemmas.Slice.Eq.{bytes_eq-Decides}
 use Rattle.std.proofs.lemmas.List.{append_assoc, append-nil}
 use Rattle.rpki_command.specs.declared.arguments.Setting.{Setting}
 use Rattle.rpki_command.specs.declared.arguments.Setting.TheVariants.{Crl, Tal, At, MaxSize}
-use Rattle.rpki_command.specs.CommandLines.{IsOption, LinePart, file, list, locator, at_moment, max_size, lenient, json, all, no_names, help, setting_name, Gives, IsPart, AreParts}
-use Rattle.rpki_command.specs.CommandLines.Steps.{BeginsNoPart, IsSet, IsSwitch, Joins, Names}
+use Rattle.rpki_command.specs.CommandLines.{IsOption, LinePart, file, list, locator, at_moment, max_size, lenient, json, all, no_names, help, setting_name, GivesValue, IsPart, AreParts}
+use Rattle.rpki_command.specs.CommandLines.Steps.{BeginsNoPart, IsSetPart, IsSwitch, Joins, IsOptionName}
 use Rattle.rpki_text.proofs.OneMoment.{one_moment}
 
 -- ---- the first word
@@ -101,7 +101,7 @@ file_sort word not_option =
 -- ---- a part
 
 -- an option with its value is one part
-one_set : (setting : Setting) (value : List ℕ) (p q : LinePart) → IsSet setting value p → IsSet setting value q → p ≡ q
+one_set : (setting : Setting) (value : List ℕ) (p q : LinePart) → IsSetPart setting value p → IsSetPart setting value q → p ≡ q
 one_set Crl value p q h k = h ∙ sym k
 one_set Tal value p q h k = h ∙ sym k
 one_set At value p q h k = h.1 ∙ ap at_moment (one_moment h.0 k.0 value h.3 k.3) ∙ sym k.1
@@ -110,15 +110,15 @@ one_set MaxSize value p q h k = h.1 ∙ ap max_size (sym h.2.1 ∙ k.2.1) ∙ sy
 -- a part is one word of its own sort, or an option with a value, in two words or one
 data Shape : LinePart → List (List ℕ) → Type 0 where
   alone : (part : LinePart) (word : List ℕ) → sort_of word ≡ single part → Shape part (word ∷ [])
-  apart : (setting : Setting) (option value : List ℕ) (part : LinePart) → sort_of option ≡ before setting → IsSet setting value part → Shape part (option ∷ value ∷ [])
-  in_one : (setting : Setting) (word value : List ℕ) (part : LinePart) → sort_of word ≡ joining setting value → IsSet setting value part → Shape part (word ∷ [])
+  apart : (setting : Setting) (option value : List ℕ) (part : LinePart) → sort_of option ≡ before setting → IsSetPart setting value part → Shape part (option ∷ value ∷ [])
+  in_one : (setting : Setting) (word value : List ℕ) (part : LinePart) → sort_of word ≡ joining setting value → IsSetPart setting value part → Shape part (word ∷ [])
 
 -- one word of the part's sort
 alone_is : (part : LinePart) (words : List (List ℕ)) (word : List ℕ) → words ≡ word ∷ [] → sort_of word ≡ single part → Shape part words
 alone_is part words word is sort = subst (λ (l : List (List ℕ)). Shape part l) (sym is) (alone part word sort)
 
 -- an option with its value
-given : (setting : Setting) (value : List ℕ) (part : LinePart) (words : List (List ℕ)) → IsSet setting value part → Gives setting value words → Shape part words
+given : (setting : Setting) (value : List ℕ) (part : LinePart) (words : List (List ℕ)) → IsSetPart setting value part → GivesValue setting value words → Shape part words
 given setting value part words set (inl is) =
     subst (λ (l : List (List ℕ)). Shape part l) (sym is) (apart setting (setting_name setting) value part (named setting) set)
 given setting value part words set (inr is) =
@@ -141,7 +141,7 @@ shape help words (inl h) = alone_is help words (codes "--help") h refl
 shape help words (inr h) = alone_is help words (codes "-h") h refl
 
 -- an option with its value is a part
-pub set_is_part : (setting : Setting) (value : List ℕ) (part : LinePart) (words : List (List ℕ)) → IsSet setting value part → Gives setting value words → IsPart part words
+pub set_is_part : (setting : Setting) (value : List ℕ) (part : LinePart) (words : List (List ℕ)) → IsSetPart setting value part → GivesValue setting value words → IsPart part words
 set_is_part Crl value part words set gives = subst (λ (p : LinePart). IsPart p words) (sym set) gives
 set_is_part Tal value part words set gives = subst (λ (p : LinePart). IsPart p words) (sym set) gives
 set_is_part At value part words set gives = subst (λ (p : LinePart). IsPart p words) (sym set.1) (value, gives, set.2, set.3)
@@ -170,7 +170,7 @@ same_front _ _ _ _ x y (apart set v value p s is) (apart other w another q t is_
     let sorts : before set ≡ before other = sym s ∙ ap sort_of words ∙ t in
     let settings : set ≡ other = cc in
     let values : value ≡ another = cc in
-    (one_set other another p q (subst (λ (l : List ℕ). IsSet other l p) values (subst (λ (o : Setting). IsSet o value p) settings is)) is_too, cc)
+    (one_set other another p q (subst (λ (l : List ℕ). IsSetPart other l p) values (subst (λ (o : Setting). IsSetPart o value p) settings is)) is_too, cc)
 same_front _ _ _ _ x y (apart set v value p s is) (in_one other w another q t is_too) e =
     let words : v ≡ w = cc in
     let sorts : before set ≡ joining other another = sym s ∙ ap sort_of words ∙ t in
@@ -188,7 +188,7 @@ same_front _ _ _ _ x y (in_one set v value p s is) (in_one other w another q t i
     let sorts : joining set value ≡ joining other another = sym s ∙ ap sort_of words ∙ t in
     let settings : set ≡ other = cc in
     let values : value ≡ another = cc in
-    (one_set other another p q (subst (λ (l : List ℕ). IsSet other l p) values (subst (λ (o : Setting). IsSet o value p) settings is)) is_too, cc)
+    (one_set other another p q (subst (λ (l : List ℕ). IsSetPart other l p) values (subst (λ (o : Setting). IsSetPart o value p) settings is)) is_too, cc)
 
 -- a part has words
 some_words : (part : LinePart) (words rest : List (List ℕ)) → Shape part words → words ++ rest ≡ [] → ⊥
@@ -210,7 +210,7 @@ value_first setting _ _ rest (in_one other word value part s is) e =
 
 -- ---- words that begin no part
 
-module _ (setting : Setting) (value : List ℕ) (none : (part : LinePart) → IsSet setting value part → ⊥) where
+module _ (setting : Setting) (value : List ℕ) (none : (part : LinePart) → IsSetPart setting value part → ⊥) where
   no_apart : (part : LinePart) (its behind rest : List (List ℕ)) → Shape part its → (setting_name setting ∷ value ∷ []) ++ behind ≡ its ++ rest → ⊥
   no_apart _ _ behind rest (alone part word s) e =
       let words : setting_name setting ≡ word = cc in
@@ -221,7 +221,7 @@ module _ (setting : Setting) (value : List ℕ) (none : (part : LinePart) → Is
       let sorts : before setting ≡ before other = sym (named setting) ∙ ap sort_of words ∙ s in
       let settings : other ≡ setting = cc in
       let values : another ≡ value = cc in
-      none part (subst (λ (l : List ℕ). IsSet setting l part) values (subst (λ (o : Setting). IsSet o another part) settings is))
+      none part (subst (λ (l : List ℕ). IsSetPart setting l part) values (subst (λ (o : Setting). IsSetPart o another part) settings is))
   no_apart _ _ behind rest (in_one other word another part s is) e =
       let words : setting_name setting ≡ word = cc in
       let sorts : before setting ≡ joining other another = sym (named setting) ∙ ap sort_of words ∙ s in
@@ -245,15 +245,15 @@ module _ (setting : Setting) (value : List ℕ) (none : (part : LinePart) → Is
       let sorts : joining setting value ≡ joining other another = sym (joined setting value) ∙ ap sort_of words ∙ s in
       let settings : other ≡ setting = cc in
       let values : another ≡ value = cc in
-      none part (subst (λ (l : List ℕ). IsSet setting l part) values (subst (λ (o : Setting). IsSet o another part) settings is))
+      none part (subst (λ (l : List ℕ). IsSetPart setting l part) values (subst (λ (o : Setting). IsSetPart o another part) settings is))
 
   -- an option and, in the same word, what isn't its value
   pub no_joined : (word : List ℕ) → Joins setting value word → BeginsNoPart (word ∷ [])
   no_joined word joins part its behind rest is e = no_in_one word joins part its behind rest (shape part its is) e
 
 -- a word that is an option and none of those that there are
-module _ (word : List ℕ) (is_option : IsOption word) (unnamed : (setting : Setting) → Names setting word → ⊥) (unjoined : (setting : Setting) (value : List ℕ) → Joins setting value word → ⊥) (no_switch : (part : LinePart) → IsSwitch part word → ⊥) where
-  not_given : (setting : Setting) (value : List ℕ) (its behind rest : List (List ℕ)) → Gives setting value its → (word ∷ []) ++ behind ≡ its ++ rest → ⊥
+module _ (word : List ℕ) (is_option : IsOption word) (unnamed : (setting : Setting) → IsOptionName setting word → ⊥) (unjoined : (setting : Setting) (value : List ℕ) → Joins setting value word → ⊥) (no_switch : (part : LinePart) → IsSwitch part word → ⊥) where
+  not_given : (setting : Setting) (value : List ℕ) (its behind rest : List (List ℕ)) → GivesValue setting value its → (word ∷ []) ++ behind ≡ its ++ rest → ⊥
   not_given setting value its behind rest (inl is) e = unnamed setting cc
   not_given setting value its behind rest (inr is) e = unjoined setting value cc
 

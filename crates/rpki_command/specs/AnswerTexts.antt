@@ -24,13 +24,15 @@ options_of r now = record { at = now; strict = r.strict; json = r.json; all = r.
 
 -- what a request asks of a path of files, and of files that are given as lists and as locators, at a
 -- moment
-abbrev pub question_of : RequestFields → Moment → List FileFields → List FileFields → List LocatorFields → QuestionFields
+abbrev pub question_of : RequestFields → Moment → List FileFields → List FileFields
+    → List LocatorFields → QuestionFields
 question_of r now members lists locators =
     record { members = members; lists = lists; locators = locators; names = r.names; strict = r.strict; at = now }
 
 -- the text for a person of a run with this task that ends so, of which these files, lists and locators
 -- could be read: `show` shows them, and `validate` judges nothing where another couldn't be read
-abbrev pub IsTextBy : Task → Outcome → RequestFields → Moment → List FileFields → List FileFields → List LocatorFields → List ℕ → Type 0
+abbrev pub IsTextBy : Task → Outcome → RequestFields → Moment → List FileFields → List FileFields
+    → List LocatorFields → List ℕ → Type 0
 IsTextBy Show outcome r now files lists locators text = IsTextOfFiles (options_of r now) files text
 IsTextBy Validate Unread r now files lists locators text = text ≡ []
 IsTextBy Validate outcome r now files lists locators text =
@@ -38,7 +40,8 @@ IsTextBy Validate outcome r now files lists locators text =
 IsTextBy _ outcome r now files lists locators text = ⊥
 
 -- its JSON
-abbrev pub IsJsonBy : Task → Outcome → RequestFields → Moment → List FileFields → List FileFields → List LocatorFields → List ℕ → Type 0
+abbrev pub IsJsonBy : Task → Outcome → RequestFields → Moment → List FileFields → List FileFields
+    → List LocatorFields → List ℕ → Type 0
 IsJsonBy Show outcome r now files lists locators text = AreFilesJson (options_of r now) files text
 IsJsonBy Validate Unread r now files lists locators text = text ≡ []
 IsJsonBy Validate outcome r now files lists locators text =

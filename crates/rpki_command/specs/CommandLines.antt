@@ -34,8 +34,8 @@ setting_name At = codes "--at"
 setting_name MaxSize = codes "--max-size"
 
 -- the words give the option this value: as the next word, or behind `=`
-abbrev pub Gives : Setting → List ℕ → List (List ℕ) → Type 0
-Gives setting value words =
+abbrev pub GivesValue : Setting → List ℕ → List (List ℕ) → Type 0
+GivesValue setting value words =
     (words ≡ setting_name setting ∷ value ∷ []) ⊎ (words ≡ (setting_name setting ++ codes "=" ++ value) ∷ [])
 
 -- the text is a number below 2^64 in decimal digits
@@ -52,10 +52,10 @@ pub data LinePart : Type 0 where
 -- the words are this part
 abbrev pub IsPart : LinePart → List (List ℕ) → Type 0
 IsPart (file name) words = (words ≡ name ∷ []) × (IsOption name → ⊥)
-IsPart (list name) words = Gives Crl name words
-IsPart (locator name) words = Gives Tal name words
-IsPart (at_moment m) words = (text : List ℕ) × Gives At text words × IsMoment m × IsMomentText m text
-IsPart (max_size n) words = (text : List ℕ) × Gives MaxSize text words × IsNumberText n text
+IsPart (list name) words = GivesValue Crl name words
+IsPart (locator name) words = GivesValue Tal name words
+IsPart (at_moment m) words = (text : List ℕ) × GivesValue At text words × IsMoment m × IsMomentText m text
+IsPart (max_size n) words = (text : List ℕ) × GivesValue MaxSize text words × IsNumberText n text
 IsPart lenient words = words ≡ codes "--lenient" ∷ []
 IsPart json words = (words ≡ codes "--json" ∷ []) ⊎ (words ≡ codes "-j" ∷ [])
 IsPart all words = words ≡ codes "--all" ∷ []
@@ -65,7 +65,9 @@ IsPart help words = (words ≡ codes "--help" ∷ []) ⊎ (words ≡ codes "-h" 
 -- the words are these parts, one after the other, in any order
 abbrev pub AreParts : List LinePart → List (List ℕ) → Type 0
 AreParts [] words = words ≡ []
-AreParts (part ∷ parts) words = (front : List (List ℕ)) × (rest : List (List ℕ)) × IsPart part front × AreParts parts rest × (words ≡ front ++ rest)
+AreParts (part ∷ parts) words =
+    (front : List (List ℕ)) × (rest : List (List ℕ)) × IsPart part front × AreParts parts rest
+    × (words ≡ front ++ rest)
 
 -- the word `--`
 abbrev pub is_dashes : List ℕ → Bool
@@ -102,7 +104,19 @@ usual_size = 67_108_864
 
 -- a task, and nothing more
 abbrev pub only_task : Task → RequestFields
-only_task task = record { task = task; at = None; strict = true; json = false; all_entries = false; max_size = usual_size; names = true; files = []; lists = []; locators = [] }
+only_task task =
+    record {
+      task = task;
+      at = None;
+      strict = true;
+      json = false;
+      all_entries = false;
+      max_size = usual_size;
+      names = true;
+      files = [];
+      lists = [];
+      locators = [];
+    }
 
 -- with more files
 abbrev pub with_files : RequestFields → List (List ℕ) → RequestFields

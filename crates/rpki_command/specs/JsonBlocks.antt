@@ -21,7 +21,8 @@ ends_json min max = object_of (flattened (member_of (codes "min") min ∷ member
 abbrev pub block_json : Family → Block → Data
 block_json family b =
     if is_prefix b (prefix_bits b) then object_with (codes "ip_prefix") (string (family_text family b))
-    else object_with (codes "ip_range") (ends_json (string (family_address_text family b.min)) (string (family_address_text family b.max)))
+    else object_with (codes "ip_range")
+    (ends_json (string (family_address_text family b.min)) (string (family_address_text family b.max)))
 
 -- AS numbers: the one, or the two ends
 abbrev pub numbers_json : Block → Data

@@ -139,7 +139,8 @@ certificate_json file found notes f = object_of (flattened (
     ∷ []))
 
 -- the value of the certificate that a file begins with, with these notes
-pub record IsCertificateJson (strict : Bool) (file : Shown) (c : CertFields) (notes : List Note) (value : Data) : Type 0 where
+pub record IsCertificateJson (strict : Bool) (file : Shown) (c : CertFields) (notes : List Note) (value : Data)
+    : Type 0 where
   pub found : Findings
   pub found_is : AreFindings strict c found
   pub value_is : value ≡ certificate_json file found notes c.fields

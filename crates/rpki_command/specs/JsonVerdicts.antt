@@ -67,7 +67,11 @@ IsOtherItem file items =
 
 -- how many octets of a file stand behind what it begins with
 abbrev pub left_json : List ℕ → ℕ → Data
-left_json name left = object_of (flattened (text_member (codes "file") name ∷ member_of (codes "octets") (count_json left) ∷ []))
+left_json name left =
+    object_of (flattened (
+    text_member (codes "file") name
+    ∷ member_of (codes "octets") (count_json left)
+    ∷ []))
 
 -- the same where some do
 abbrev pub left_items : List ℕ → Option ℕ → List Data
@@ -75,7 +79,8 @@ left_items name None = []
 left_items name (Some left) = if left == 0 then [] else left_json name left ∷ []
 
 abbrev pub IsLeftItem : {V : Type 0} → (V → List ℕ → Type 0) → FileFields → List Data → Type 0
-IsLeftItem encodes file items = (left : Option ℕ) × Leaves encodes file.octets left × (items ≡ left_items file.name left)
+IsLeftItem encodes file items =
+    (left : Option ℕ) × Leaves encodes file.octets left × (items ≡ left_items file.name left)
 
 -- the notes of a member, where it has some
 abbrev pub note_items : List ℕ → List Note → List Data
@@ -130,7 +135,8 @@ router_members holder c key = flattened (
 -- what is held, where a router stands last or not
 abbrev pub AreAcceptedMembers : ResourceFields → Option CertFields → List Pair → Type 0
 AreAcceptedMembers holder None pairs = pairs ≡ accepted_members holder
-AreAcceptedMembers holder (Some c) pairs = (key : KeyAnswer) × IsKeyAnswer c.fields.key key × (pairs ≡ router_members holder c key)
+AreAcceptedMembers holder (Some c) pairs =
+    (key : KeyAnswer) × IsKeyAnswer c.fields.key key × (pairs ≡ router_members holder c key)
 
 -- that some file given as a list is none
 unfoldable pub no_list_json : Data

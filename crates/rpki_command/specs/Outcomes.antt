@@ -85,7 +85,8 @@ abbrev pub EndsBy : RequestFields → Moment → List FileFields → List FileFi
 EndsBy r now files lists locators Unread = AreAllRead r files lists locators → ⊥
 EndsBy r now files lists locators outcome =
     AreAllRead r files lists locators
-    × IsOutcomeOf r.task (context IsSignedByRsa now r.strict) (demands_by r locators) (contents files) (contents lists) outcome
+    × IsOutcomeOf r.task (context IsSignedByRsa now r.strict) (demands_by r locators)
+    (contents files) (contents lists) outcome
 
 -- a run that is asked this may end so: at the moment that is named, if one is, and by those of its
 -- files, lists and locators that could be read; which these are and what they hold, no contract can say

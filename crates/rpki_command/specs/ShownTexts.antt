@@ -36,7 +36,9 @@ use Rattle.rpki_command.specs.declared.showing.Options.{Options}
 
 -- the name of a file, and the SHA-256 hash of its object (FIPS 180-4) in hexadecimal
 unfoldable pub file_lines : FileFields → List ℕ
-file_lines file = line (codes "File") (file_name_text file.name) ++ line (codes "SHA-256") (encode_lower (sha256 file.octets))
+file_lines file =
+    line (codes "File") (file_name_text file.name)
+    ++ line (codes "SHA-256") (encode_lower (sha256 file.octets))
 
 -- that so many octets aren't read
 abbrev pub left_text : ℕ → List ℕ
@@ -180,7 +182,9 @@ IsOtherFileText strict = SaysOfOther (IsNoLocatorFileText strict) IsUnreadFileTe
 -- ---- the whole
 
 -- what is said of a file: of its certificate, of its list, of the locator that it is, or else of none
-abbrev pub SaysOfFile : Bool → (OfCertificate OfList OfLocator OfOther : FileFields → List ℕ → Type 0) → FileFields → List ℕ → Type 0
+abbrev pub SaysOfFile : Bool
+    → (OfCertificate OfList OfLocator OfOther : FileFields → List ℕ → Type 0) → FileFields → List ℕ
+    → Type 0
 SaysOfFile strict OfCertificate OfList OfLocator OfOther file text =
     OfCertificate file text
     ⊎ (OfList file text
@@ -201,4 +205,5 @@ IsFurtherText options file text = (its : List ℕ) × IsFileText options file it
 abbrev pub IsTextOfFiles : Options → List FileFields → List ℕ → Type 0
 IsTextOfFiles options [] text = text ≡ []
 IsTextOfFiles options (file ∷ files) text =
-    (first : List ℕ) × (more : List ℕ) × IsFileText options file first × SaysOfEach (IsFurtherText options) files more × (text ≡ first ++ more)
+    (first : List ℕ) × (more : List ℕ) × IsFileText options file first
+    × SaysOfEach (IsFurtherText options) files more × (text ≡ first ++ more)

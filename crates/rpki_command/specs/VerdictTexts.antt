@@ -51,7 +51,9 @@ Leaves {V} encodes octets None = (v : V) → Means encodes v octets → ⊥
 
 -- how many octets of a file stand behind what it begins with
 abbrev pub left_of_text : List ℕ → ℕ → List ℕ
-left_of_text name left = file_name_text name ++ (codes ", " ++ (count_text left (codes " octet") (codes " octets") ++ codes " not read"))
+left_of_text name left =
+    file_name_text name
+    ++ (codes ", " ++ (count_text left (codes " octet") (codes " octets") ++ codes " not read"))
 
 -- the line that says it, where some do
 abbrev pub after_line : List ℕ → ℕ → List ℕ
@@ -126,7 +128,9 @@ found_locator_line None = []
 found_locator_line (Some l) = read_locator_line l.file.name l.read
 
 abbrev pub IsLocatorText : QuestionFields → List ℕ → Type 0
-IsLocatorText question text = (found : Option LocatorFields) × IsAnchorLocator question found × (text ≡ found_locator_line found)
+IsLocatorText question text =
+    (found : Option LocatorFields) × IsAnchorLocator question found
+    × (text ≡ found_locator_line found)
 
 -- ---- an accepted path
 
@@ -177,10 +181,12 @@ router_text c key = concat (
 -- what is held: by the last member, or, where that is a router, what its certificate lists and what
 -- the CA above it holds
 abbrev pub IsHeldText : ResourceFields → Option CertFields → List ℕ → Type 0
-IsHeldText holder None text = text ≡ holder_text (codes "Holds IPv4") (codes "Holds IPv6") (codes "Holds AS numbers") holder
+IsHeldText holder None text =
+    text ≡ holder_text (codes "Holds IPv4") (codes "Holds IPv6") (codes "Holds AS numbers") holder
 IsHeldText holder (Some c) text =
     (key : KeyAnswer) × IsKeyAnswer c.fields.key key
-    × (text ≡ router_text c key ++ holder_text (codes "Issuer holds IPv4") (codes "Issuer holds IPv6") (codes "Issuer holds AS numbers") holder)
+    × (text ≡ router_text c key
+    ++ holder_text (codes "Issuer holds IPv4") (codes "Issuer holds IPv6") (codes "Issuer holds AS numbers") holder)
 
 -- the text of an accepted path
 pub record IsAcceptanceText (question : QuestionFields) (j : Judged) (text : List ℕ) : Type 0 where
@@ -239,7 +245,8 @@ no_locator_text fault = concat (
 abbrev pub IsOutcomeText : QuestionFields → Option Verdict → List ℕ → Type 0
 IsOutcomeText question None text = text ≡ []
 IsOutcomeText question (Some (Accepted j)) text = IsAcceptanceText question j text
-IsOutcomeText question (Some (Rejected fault)) text = text ≡ rejected_text fault (file_name_at question.members fault.index)
+IsOutcomeText question (Some (Rejected fault)) text =
+    text ≡ rejected_text fault (file_name_at question.members fault.index)
 
 -- the verdict on the path, which there is where there is a file
 abbrev pub IsDecision : Context → QuestionFields → Option Verdict → Type 0
@@ -258,10 +265,10 @@ IsFinding x question (Decided verdict) =
     × IsDecision x question verdict
 
 -- the path is accepted
-abbrev pub IsAccepted : Finding → Type 0
-IsAccepted (NotALocator fault) = ⊥
-IsAccepted NotAList = ⊥
-IsAccepted (Decided verdict) = IsAcceptance verdict
+abbrev pub IsAcceptedFinding : Finding → Type 0
+IsAcceptedFinding (NotALocator fault) = ⊥
+IsAcceptedFinding NotAList = ⊥
+IsAcceptedFinding (Decided verdict) = IsAcceptance verdict
 
 -- what is said of it
 abbrev pub IsFindingText : QuestionFields → Finding → List ℕ → Type 0

@@ -8,7 +8,7 @@ ghost use Rattle.rpki_verdicts.specs.GivenLocators.{IsRead};
 ghost use Rattle.rpki_verdicts.specs.PathFiles.{demands_of};
 ghost use Rattle.rpki_command.specs.JsonVerdicts.{IsJsonOfPath, IsVerdictLines};
 ghost use Rattle.rpki_command.specs.Outcomes.{IsOutcomeOfValidate};
-ghost use Rattle.rpki_command.specs.VerdictTexts.{IsAccepted, IsFinding, IsTextOfPath};
+ghost use Rattle.rpki_command.specs.VerdictTexts.{IsAcceptedFinding, IsFinding, IsTextOfPath};
 
 use crate::as_json;
 use crate::outcomes::{Answer, Outcome};
@@ -71,7 +71,7 @@ fn find(alloc: Global, question: &Question<'_, '_>) -> Result<Finding, AllocErro
 
 // Whether the path is accepted; it isn't where it has no file.
 fn is_accepted(finding: &Finding) -> bool
-    ensures { IsTrue result ↔ IsAccepted finding.now }
+    ensures { IsTrue result ↔ IsAcceptedFinding finding.now }
 {
     match finding {
         Finding::Decided(Some(Verdict::Accepted(_))) => true,

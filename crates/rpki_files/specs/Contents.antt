@@ -34,7 +34,8 @@ BeginsBefore encodes octets v left = (rest : List ℕ) × Begins encodes octets 
 -- octets behind it; or they begin with neither, and the fault isn't that memory ran out
 abbrev pub IsContent : List ℕ → Content → Type 0
 IsContent octets (content.Certificate c left) = BeginsBefore IsCertificate octets c left × (BeginsWithList octets → ⊥)
-IsContent octets (content.List l left) = BeginsBefore IsCertificateList octets l.list left × (BeginsWithCertificate octets → ⊥)
+IsContent octets (content.List l left) =
+    BeginsBefore IsCertificateList octets l.list left × (BeginsWithCertificate octets → ⊥)
 IsContent octets (content.Neither fault) = (fault ≢ decoding.Memory) × (BeginsWithEither octets → ⊥)
 
 -- what was looked for, seen by view: it is what the octets begin with, and so many octets stand

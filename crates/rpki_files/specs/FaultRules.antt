@@ -48,11 +48,14 @@ no_memory = rule "out of memory" "no section"
 
 -- of a certificate of any kind, of a CA, an end entity or a router
 abbrev pub inspection_rule : InspectionError → RuleFields
-inspection_rule inspection.AlgorithmMismatch = rule "the signature algorithm inside what is signed isn't that of the signature" "RFC 5280 4.1.1.2"
+inspection_rule inspection.AlgorithmMismatch =
+    rule "the signature algorithm inside what is signed isn't that of the signature"
+    "RFC 5280 4.1.1.2"
 inspection_rule inspection.Issuer = rule "the issuer's name has another form" "RFC 6487 4.4"
 inspection_rule inspection.Subject = rule "the subject's name has another form" "RFC 6487 4.5"
 inspection_rule inspection.KeyAlgorithm = rule "the key has another algorithm" "RFC 6487 4.7"
-inspection_rule inspection.SubjectKeyIdentifier = rule "the subject key identifier isn't the SHA-1 hash of the key" "RFC 6487 4.8.2"
+inspection_rule inspection.SubjectKeyIdentifier =
+    rule "the subject key identifier isn't the SHA-1 hash of the key" "RFC 6487 4.8.2"
 inspection_rule inspection.ExtendedKeyUsagePresent = rule "Extended Key Usage must be absent" "RFC 6487 4.8.5"
 inspection_rule inspection.CaFlagFalse = rule "Basic Constraints don't say that it is a CA" "RFC 6487 4.8.1"
 inspection_rule inspection.MissingBasicConstraints = rule "Basic Constraints are missing" "RFC 6487 4.8.1"
@@ -61,7 +64,8 @@ inspection_rule inspection.MissingCaRepository = rule "the URI of the repository
 inspection_rule inspection.MissingManifest = rule "the URI of the manifest is missing" "RFC 6487 4.8.8.1"
 inspection_rule inspection.ManifestNotChild = rule "the manifest stands outside the repository" "RFC 6487 4.8.8.1"
 inspection_rule inspection.SignedObjectPresent = rule "the URI of a signed object must be absent" "RFC 6487 4.8.8.1"
-inspection_rule inspection.AuthorityKeyIdentifier = rule "the authority key identifier of a trust anchor is another key's" "RFC 6487 4.8.3"
+inspection_rule inspection.AuthorityKeyIdentifier =
+    rule "the authority key identifier of a trust anchor is another key's" "RFC 6487 4.8.3"
 inspection_rule inspection.CrlUriPresent = rule "the URI of a revocation list must be absent" "RFC 6487 4.8.6"
 inspection_rule inspection.CaIssuerPresent = rule "the URI of the issuer's certificate must be absent" "RFC 6487 4.8.7"
 inspection_rule inspection.MissingCrlUri = rule "the URI of the issuer's revocation list is missing" "RFC 6487 4.8.6"
@@ -70,8 +74,10 @@ inspection_rule inspection.CaRepositoryPresent = rule "the URI of a repository m
 inspection_rule inspection.ManifestPresent = rule "the URI of a manifest must be absent" "RFC 6487 4.8.8.2"
 inspection_rule inspection.MissingSignedObject = rule "the URI of the signed object is missing" "RFC 6487 4.8.8.2"
 inspection_rule inspection.MissingExtendedKeyUsage = rule "Extended Key Usage is missing" "RFC 8209 3.1.3.2"
-inspection_rule inspection.MissingRouterPurpose = rule "Extended Key Usage doesn't name the purpose of routers" "RFC 8209 3.1.3.2"
-inspection_rule inspection.SubjectInformationPresent = rule "Subject Information Access must be absent" "RFC 8209 3.1.3.3"
+inspection_rule inspection.MissingRouterPurpose =
+    rule "Extended Key Usage doesn't name the purpose of routers" "RFC 8209 3.1.3.2"
+inspection_rule inspection.SubjectInformationPresent =
+    rule "Subject Information Access must be absent" "RFC 8209 3.1.3.3"
 inspection_rule inspection.IpResourcesPresent = rule "IP resources must be absent" "RFC 8209 3.1.3.4"
 inspection_rule inspection.MissingAsResources = rule "AS resources are missing" "RFC 8209 3.1.3.5"
 inspection_rule inspection.InheritedAsResources = rule "AS resources must not be inherited" "RFC 8209 3.1.3.5"
@@ -86,7 +92,8 @@ verification_rule verification.InheritedV4 = rule "a trust anchor inherits IPv4 
 verification_rule verification.InheritedV6 = rule "a trust anchor inherits IPv6 addresses" "RFC 8630 2.3"
 verification_rule verification.InheritedAs = rule "a trust anchor inherits AS numbers" "RFC 8630 2.3"
 verification_rule verification.MissingKeyId = rule "the authority key identifier is missing" "RFC 6487 4.8.3"
-verification_rule verification.WrongKeyId = rule "the authority key identifier isn't that of the certificate above" "RFC 6487 4.8.3"
+verification_rule verification.WrongKeyId =
+    rule "the authority key identifier isn't that of the certificate above" "RFC 6487 4.8.3"
 verification_rule verification.MissingIssuerUri = rule "the URI of the issuer's certificate is missing" "RFC 6487 4.8.7"
 verification_rule verification.BadSignature = rule "the signature isn't that of the key above" "RFC 6487 7.2"
 verification_rule verification.OverclaimV4 = rule "it lists IPv4 addresses that its issuer doesn't hold" "RFC 6487 7.2"
@@ -100,7 +107,8 @@ verification_rule verification.Memory = no_memory
 abbrev pub revocation_rule : RevocationError → RuleFields
 revocation_rule revocation.NoCrl = rule "its issuer's list isn't among those given" "RFC 6487 7.2"
 revocation_rule revocation.WrongKeyId = rule "the list that is asked names another key than its issuer's" "RFC 6487 5"
-revocation_rule revocation.BadSignature = rule "the signature of its issuer's list isn't that of the issuer's key" "RFC 6487 5"
+revocation_rule revocation.BadSignature =
+    rule "the signature of its issuer's list isn't that of the issuer's key" "RFC 6487 5"
 revocation_rule revocation.Stale = rule "its issuer's list isn't current" "RFC 5280 5.1.2.4, 5.1.2.5"
 revocation_rule revocation.Revoked = rule "its issuer has revoked it" "RFC 6487 7.2"
 
@@ -229,7 +237,8 @@ reason step name its_rule = record { step = step; name = name; rule = its_rule }
 -- of a fault of the member with these octets
 abbrev pub IsReason : PathFault → List ℕ → ReasonFields → Type 0
 IsReason (path.Decode e) octets r =
-    (its_rule : RuleFields) × IsReadingRule e octets its_rule × (r ≡ reason (codes "reading") (decode_error_name e) its_rule)
+    (its_rule : RuleFields) × IsReadingRule e octets its_rule
+    × (r ≡ reason (codes "reading") (decode_error_name e) its_rule)
 IsReason (path.Inspect e) octets r = r ≡ reason (codes "profile") (inspection_error_name e) (inspection_rule e)
 IsReason (path.Verify e) octets r = r ≡ reason (codes "verification") (verification_error_name e) (verification_rule e)
 IsReason (path.Revocation e) octets r = r ≡ reason (codes "revocation") (revocation_error_name e) (revocation_rule e)

@@ -57,7 +57,9 @@ known_in_lists =
 
 -- the kind that an identifier names, in a list or in a certificate
 abbrev pub known_kind : Bool → List ℕ → Kind
-known_kind is_list id = if is_list then kind_among known_in_lists known.NoList id else kind_among known_in_certificates known.Unknown id
+known_kind is_list id =
+    if is_list then kind_among known_in_lists known.NoList id
+    else kind_among known_in_certificates known.Unknown id
 
 -- the flag that extensions of a kind have in a certificate; an unknown one may not be critical
 abbrev pub certificate_flag : Kind → Flag

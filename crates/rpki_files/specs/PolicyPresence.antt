@@ -43,4 +43,6 @@ pub record HasExtensions (elements octets : List ℕ) : Type 0 where
 
 -- one of its extensions has the identifier of Certificate Policies (RFC 6487 4.8.9)
 abbrev pub HasPolicies : List ℕ → Type 0
-HasPolicies octets = (elements : List ℕ) × HasExtensions elements octets × BeginsWithOne certificate_policies.identifier elements
+HasPolicies octets =
+    (elements : List ℕ) × HasExtensions elements octets
+    × BeginsWithOne certificate_policies.identifier elements

@@ -11,14 +11,14 @@ use Rattle.rpki_notes.specs.declared.finding.Fault.{Fault}
 use Rattle.rpki_notes.specs.declared.finding.Fault.TheVariants.{NotCritical, OtherContent, NotOneValue}
 
 -- the identifiers of the kinds
-abbrev pub identifiers_of : Kinds → List (List ℕ)
-identifiers_of Addresses = identifiers_by_mode ip_resources
-identifiers_of Systems = identifiers_by_mode as_resources
-identifiers_of Known = known
+abbrev pub sought_names : Kinds → List (List ℕ)
+sought_names Addresses = identifiers_by_mode ip_resources
+sought_names Systems = identifiers_by_mode as_resources
+sought_names Known = known
 
 -- whether this is one of them
 abbrev pub is_named : Kinds → List ℕ → Bool
-is_named kinds identifier = list_any (λ id. bytes_eq identifier id) (identifiers_of kinds)
+is_named kinds identifier = list_any (λ id. bytes_eq identifier id) (sought_names kinds)
 
 -- an extension has the fault, where this content is written of it
 abbrev pub HasFault : Fault → List ℕ → Extension → Type 0

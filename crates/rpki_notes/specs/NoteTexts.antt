@@ -20,8 +20,10 @@ note_name note.OctetsBehind = codes "OctetsBehind"
 abbrev pub note_text : Note → List ℕ
 note_text note.SerialZero = codes "the serial number is 0"
 note_text note.SerialLong = codes "the serial number takes more than 20 octets"
-note_text note.IssuerForm = codes "the issuer's name isn't a CommonName, with a serialNumber at most, in PrintableStrings"
-note_text note.SubjectForm = codes "the subject's name isn't a CommonName, with a serialNumber at most, in PrintableStrings"
+note_text note.IssuerForm =
+    codes "the issuer's name isn't a CommonName, with a serialNumber at most, in PrintableStrings"
+note_text note.SubjectForm =
+    codes "the subject's name isn't a CommonName, with a serialNumber at most, in PrintableStrings"
 note_text note.EndEntityNotify = codes "an end entity names a notification file"
 note_text note.IpNotCritical = codes "IP resources aren't critical"
 note_text note.AsNotCritical = codes "AS resources aren't critical"

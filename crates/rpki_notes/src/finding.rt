@@ -7,7 +7,7 @@ ghost use Rattle.rpki.specs.Kinds.{is_of};
 ghost use Rattle.rpki.specs.Place.{remaining};
 ghost use Rattle.rpki.specs.Sequences.{AreEncodings};
 ghost use Rattle.rpki.specs.Values.{IsValue};
-ghost use Rattle.rpki_notes.specs.FaultSearch.{HasFault, identifiers_of, is_named};
+ghost use Rattle.rpki_notes.specs.FaultSearch.{HasFault, sought_names, is_named};
 ghost use Rattle.rpki_notes.specs.Notes.{HaveExtensions, HaveOne};
 
 use bytes::Bytes;
@@ -114,7 +114,7 @@ fn is_found(
     extension: (&[u8], bool, Cursor<'_>),
 ) -> bool
     ensures { let x = extension_view extension.entry in
-        IsTrue result ↔ ((is_of (identifiers_of kinds) x ≡ true) × HasFault fault written.now x) }
+        IsTrue result ↔ ((is_of (sought_names kinds) x ≡ true) × HasFault fault written.now x) }
 {
     let (identifier, critical, content) = extension;
     kinds.have(identifier) && fault.is_in(written, critical, &content)
@@ -123,7 +123,7 @@ fn is_found(
 // Whether one of the extensions in the sequence is of these kinds and has the fault.
 fn is_among(elements: &Cursor<'_>, kinds: Kinds, fault: Fault, written: &[u8]) -> bool
     ensures { (xs : List Extension) → AreEncodings IsExtension xs (remaining elements.now)
-        → (IsTrue result ↔ HaveOne (identifiers_of kinds) (HasFault fault written.now) xs) }
+        → (IsTrue result ↔ HaveOne (sought_names kinds) (HasFault fault written.now) xs) }
 {
     let mut rest = elements.fork();
     while !rest.is_empty() {
@@ -145,7 +145,7 @@ fn is_among(elements: &Cursor<'_>, kinds: Kinds, fault: Fault, written: &[u8]) -
 /// this content is written of it. The octets begin with the certificate.
 pub(crate) fn has_one(octets: &Bytes, kinds: Kinds, fault: Fault, written: &[u8]) -> bool
     ensures { (xs : List Extension) → HaveExtensions xs octets.now
-        → (IsTrue result ↔ HaveOne (identifiers_of kinds) (HasFault fault written.now) xs) }
+        → (IsTrue result ↔ HaveOne (sought_names kinds) (HasFault fault written.now) xs) }
 {
     match extensions_in(octets) {
         Some(elements) => is_among(&elements, kinds, fault, written),

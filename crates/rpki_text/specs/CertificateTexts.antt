@@ -117,7 +117,8 @@ names_text f = concat (
 unfoldable pub validity_text : ValidityFields → Moment → List ℕ
 validity_text validity now = concat (
     line (codes "Valid from") (time_text validity.not_before)
-    ∷ line (codes "Valid until") (end_text (codes "expires") (codes "expired") validity.not_before validity.not_after now)
+    ∷ line (codes "Valid until")
+    (end_text (codes "expires") (codes "expired") validity.not_before validity.not_after now)
     ∷ [])
 
 -- its key

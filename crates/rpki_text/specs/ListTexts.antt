@@ -44,7 +44,8 @@ list_head list now = concat (
     ∷ line (codes "Authority key identifier") (colons_text list.extensions.authority_key_identifier)
     ∷ line (codes "Number") (serial_text list.extensions.crl_number)
     ∷ line (codes "This update") (time_text list.this_update)
-    ∷ line (codes "Next update") (end_text (codes "goes stale") (codes "went stale") list.this_update list.next_update now)
+    ∷ line (codes "Next update")
+    (end_text (codes "goes stale") (codes "went stale") list.this_update list.next_update now)
     ∷ [])
 
 -- what is said of the signature of an object that is shown

@@ -49,7 +49,8 @@ count_text n one others = decimal n ++ (if n == 1 then one else others)
 -- octets in two hexadecimal digits each, with colons between them
 abbrev pub colons_text : List ℕ → List ℕ
 colons_text [] = []
-colons_text (octet ∷ octets) = hexadecimal (octet ∷ []) ++ flat_map (λ more. codes ":" ++ hexadecimal (more ∷ [])) octets
+colons_text (octet ∷ octets) =
+    hexadecimal (octet ∷ []) ++ flat_map (λ more. codes ":" ++ hexadecimal (more ∷ [])) octets
 
 -- a visible character of ASCII, or a space, as it stands; a backslash, and any other octet, as `\x`
 -- and two hexadecimal digits

@@ -31,4 +31,5 @@ state_text ends ended from until now =
 
 -- the end of a period, and its state in parentheses
 unfoldable pub end_text : List ℕ → List ℕ → Moment → Moment → Moment → List ℕ
-end_text ends ended from until now = time_text until ++ (codes " (" ++ (state_text ends ended from until now ++ codes ")"))
+end_text ends ended from until now =
+    time_text until ++ (codes " (" ++ (state_text ends ended from until now ++ codes ")"))

@@ -16,27 +16,29 @@ AddsParts words old new = (parts : List LinePart) × AreParts parts words × (ne
 
 -- no part begins with these words, whatever stands behind them
 abbrev pub BeginsNoPart : List (List ℕ) → Type 0
-BeginsNoPart words = (part : LinePart) (its behind rest : List (List ℕ)) → IsPart part its → words ++ behind ≡ its ++ rest → ⊥
+BeginsNoPart words =
+    (part : LinePart) (its behind rest : List (List ℕ)) → IsPart part its
+    → words ++ behind ≡ its ++ rest → ⊥
 
 -- ---- options that take a value
 
 -- the word is the option's name, or its name, `=` and a value
-abbrev pub Names : Setting → List ℕ → Type 0
-Names setting word = word ≡ setting_name setting
+abbrev pub IsOptionName : Setting → List ℕ → Type 0
+IsOptionName setting word = word ≡ setting_name setting
 
 abbrev pub Joins : Setting → List ℕ → List ℕ → Type 0
 Joins setting value word = word ≡ setting_name setting ++ codes "=" ++ value
 
 -- the option with this value is the part
-abbrev pub IsSet : Setting → List ℕ → LinePart → Type 0
-IsSet Crl value part = part ≡ list value
-IsSet Tal value part = part ≡ locator value
-IsSet At value part = (m : Moment) × (part ≡ at_moment m) × IsMoment m × IsMomentText m value
-IsSet MaxSize value part = (n : ℕ) × (part ≡ max_size n) × IsNumberText n value
+abbrev pub IsSetPart : Setting → List ℕ → LinePart → Type 0
+IsSetPart Crl value part = part ≡ list value
+IsSetPart Tal value part = part ≡ locator value
+IsSetPart At value part = (m : Moment) × (part ≡ at_moment m) × IsMoment m × IsMomentText m value
+IsSetPart MaxSize value part = (n : ℕ) × (part ≡ max_size n) × IsNumberText n value
 
 -- the new request has what the option with this value says too
 abbrev pub AddsSet : Setting → List ℕ → RequestFields → RequestFields → Type 0
-AddsSet setting value old new = (part : LinePart) × IsSet setting value part × (new ≡ with_part old part)
+AddsSet setting value old new = (part : LinePart) × IsSetPart setting value part × (new ≡ with_part old part)
 
 -- ---- options that take none
 

@@ -7,7 +7,7 @@ use Rattle.rpki.specs.RsaSignatures.{IsSignedByRsa}
 use Rattle.rpki.specs.Verification.{Context, context}
 use Rattle.rpki_files.specs.Files.{contents}
 use Rattle.rpki_command.specs.Outcomes.{IsOutcomeOfValidate}
-use Rattle.rpki_command.specs.VerdictTexts.{IsAccepted, IsFinding}
+use Rattle.rpki_command.specs.VerdictTexts.{IsAcceptedFinding, IsFinding}
 use Rattle.rpki_verdicts.specs.declared.path.Verdict.TheVariants.{Accepted, Rejected}
 use Rattle.rpki_command.specs.declared.outcomes.Outcome.{Outcome}
 use Rattle.rpki_command.specs.declared.outcomes.Outcome.TheVariants.{Success, Rejection}
@@ -19,14 +19,14 @@ use Rattle.rpki_verdicts.specs.PathFiles.{QuestionFields, demands_of}
 use Rattle.rpki_command.proofs.verdicts.validated.Goals as goal
 
 module _ (x : Context) (q : QuestionFields) where
-  success : (finding : Finding) → IsAccepted finding → IsFinding x q finding → IsOutcomeOfValidate x (demands_of q) (contents q.members) (contents q.lists) Success
+  success : (finding : Finding) → IsAcceptedFinding finding → IsFinding x q finding → IsOutcomeOfValidate x (demands_of q) (contents q.members) (contents q.lists) Success
   success (NotALocator fault) accepted is = absurd accepted
   success NotAList accepted is = absurd accepted
   success (Decided None) accepted is = absurd accepted
   success (Decided (Some (Accepted r))) accepted is = ((r, is.1), is.0)
   success (Decided (Some (Rejected fault))) accepted is = absurd accepted
 
-  rejection : (finding : Finding) → (IsAccepted finding → ⊥) → IsFinding x q finding → IsOutcomeOfValidate x (demands_of q) (contents q.members) (contents q.lists) Rejection
+  rejection : (finding : Finding) → (IsAcceptedFinding finding → ⊥) → IsFinding x q finding → IsOutcomeOfValidate x (demands_of q) (contents q.members) (contents q.lists) Rejection
   rejection (NotALocator fault) not_accepted is =
       let files = locator_octets q.locators in
       inr (inr (λ given. is.no_locator (subst (AreLocator x.strict) (get_or_from_slice_get files fault.index is.octets is.octets is.octets_are) (All-get_or (AreLocator x.strict) files fault.index is.octets (slice_get_within files fault.index is.octets is.octets_are) given.0))))
@@ -35,7 +35,7 @@ module _ (x : Context) (q : QuestionFields) where
   rejection (Decided (Some (Accepted r))) not_accepted is = absurd (not_accepted tt)
   rejection (Decided (Some (Rejected fault))) not_accepted is = inr (inl (fault, is.1))
 
-  outcome_is : (outcome : Outcome) (yes : Bool) (finding : Finding) → (IsTrue yes → outcome ≡ Success) → (IsFalse yes → outcome ≡ Rejection) → (IsTrue yes ↔ IsAccepted finding) → IsFinding x q finding → IsOutcomeOfValidate x (demands_of q) (contents q.members) (contents q.lists) outcome
+  outcome_is : (outcome : Outcome) (yes : Bool) (finding : Finding) → (IsTrue yes → outcome ≡ Success) → (IsFalse yes → outcome ≡ Rejection) → (IsTrue yes ↔ IsAcceptedFinding finding) → IsFinding x q finding → IsOutcomeOfValidate x (demands_of q) (contents q.members) (contents q.lists) outcome
   outcome_is outcome true finding succeeds rejects says is = rw (succeeds refl) (success finding (says.0 refl) is)
   outcome_is outcome false finding succeeds rejects says is = rw (rejects refl) (rejection finding (λ accepted. false≢true (says.1 accepted)) is)
 

@@ -1,11 +1,11 @@
 use Rattle.std.proofs.Common.{length}
 use Rattle.rpki.specs.Place.{remaining}
-use Rattle.rpki_notes.specs.FaultSearch.{HasFault, identifiers_of}
+use Rattle.rpki_notes.specs.FaultSearch.{HasFault, sought_names}
 use Rattle.rpki_notes.proofs.Walks.{IsLookedFor}
 use Rattle.rpki_notes.proofs.finding.is_among.Given as goal
 
 abbrev pub invariant-loop-rest : goal.invariant-loop-rest
-invariant-loop-rest l = IsLookedFor (identifiers_of l.kinds) (HasFault l.fault l.written) (remaining l.elements) (remaining l.rest)
+invariant-loop-rest l = IsLookedFor (sought_names l.kinds) (HasFault l.fault l.written) (remaining l.elements) (remaining l.rest)
 
 abbrev pub decreases-loop-rest : goal.decreases-loop-rest
 decreases-loop-rest l = length (remaining l.rest)
