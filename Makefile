@@ -1,0 +1,69 @@
+# Builds, checks and installs the command `rpki` and the library for C.
+#
+#   make                   proves and builds both: some 100 processor minutes, once
+#   make program           proves and builds the command alone
+#   make library           proves and builds the library alone
+#   make check             runs every check (tests/all)
+#   make install           installs both; proves and builds nothing
+#   make install-program   installs the command
+#   make install-lib       installs the libraries, the header and rpki.pc
+#   make uninstall         removes what these have installed
+#
+# Files go below PREFIX, and all that below DESTDIR:
+#   make install PREFIX=$HOME/.local
+#   make install PREFIX=/usr LIBDIR=/usr/lib/x86_64-linux-gnu DESTDIR=/tmp/package
+# What isn't built as the sources are now is said, and then nothing is installed.
+
+PREFIX ?= /usr/local
+BINDIR ?= $(PREFIX)/bin
+LIBDIR ?= $(PREFIX)/lib
+INCLUDEDIR ?= $(PREFIX)/include
+PKGCONFIGDIR ?= $(LIBDIR)/pkgconfig
+INSTALL ?= install
+
+# what `./rpki prove` and `./rpki library` build
+tool = crates/rpki_tool/out/rpki_tool
+library = callers/out
+# the number of the library's interface, which stands in its name
+abi = sed -n 's/^.define RPKI_ABI //p' include/rpki.h
+
+all: program library
+
+program:
+	./rpki prove
+
+library:
+	./rpki library $(library)
+
+check:
+	tests/all
+
+# both are asked for before anything is installed
+install:
+	@./rpki built
+	@$(MAKE) install-program install-lib
+
+install-program:
+	@./rpki built program
+	$(INSTALL) -d "$(DESTDIR)$(BINDIR)"
+	$(INSTALL) -m 755 $(tool) "$(DESTDIR)$(BINDIR)/rpki"
+
+install-lib:
+	@./rpki built library
+	$(INSTALL) -d "$(DESTDIR)$(LIBDIR)" "$(DESTDIR)$(INCLUDEDIR)" "$(DESTDIR)$(PKGCONFIGDIR)"
+	$(INSTALL) -m 644 $(library)/rpki.h "$(DESTDIR)$(INCLUDEDIR)/rpki.h"
+	$(INSTALL) -m 644 $(library)/librpki.a "$(DESTDIR)$(LIBDIR)/librpki.a"
+	$(INSTALL) -m 755 $(library)/librpki.so "$(DESTDIR)$(LIBDIR)/librpki.so.$$($(abi))"
+	ln -sf "librpki.so.$$($(abi))" "$(DESTDIR)$(LIBDIR)/librpki.so"
+	version=$$(./rpki --version) && sed -e 's|@prefix@|$(PREFIX)|' -e 's|@libdir@|$(LIBDIR)|' \
+	    -e 's|@includedir@|$(INCLUDEDIR)|' -e "s|@version@|$${version#rpki }|" \
+	    callers/c/rpki.pc.in > "$(DESTDIR)$(PKGCONFIGDIR)/rpki.pc"
+
+# a library of another interface has another name, and stays
+uninstall:
+	rm -f "$(DESTDIR)$(BINDIR)/rpki"
+	rm -f "$(DESTDIR)$(INCLUDEDIR)/rpki.h" "$(DESTDIR)$(PKGCONFIGDIR)/rpki.pc"
+	rm -f "$(DESTDIR)$(LIBDIR)/librpki.a" "$(DESTDIR)$(LIBDIR)/librpki.so" \
+	    "$(DESTDIR)$(LIBDIR)/librpki.so.$$($(abi))"
+
+.PHONY: all program library check install install-program install-lib uninstall
