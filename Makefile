@@ -5,7 +5,7 @@
 #   make library           proves and builds the library alone
 #   make check             runs every check (tests/all)
 #   make install           installs both; proves and builds nothing
-#   make install-program   installs the command
+#   make install-program   installs the command and its page
 #   make install-lib       installs the libraries, the header and rpki.pc
 #   make uninstall         removes what these have installed
 #
@@ -18,6 +18,8 @@ PREFIX ?= /usr/local
 BINDIR ?= $(PREFIX)/bin
 LIBDIR ?= $(PREFIX)/lib
 INCLUDEDIR ?= $(PREFIX)/include
+DATADIR ?= $(PREFIX)/share
+MANDIR ?= $(DATADIR)/man
 PKGCONFIGDIR ?= $(LIBDIR)/pkgconfig
 INSTALL ?= install
 
@@ -45,8 +47,9 @@ install:
 
 install-program:
 	@./rpki built program
-	$(INSTALL) -d "$(DESTDIR)$(BINDIR)"
+	$(INSTALL) -d "$(DESTDIR)$(BINDIR)" "$(DESTDIR)$(MANDIR)/man1"
 	$(INSTALL) -m 755 $(tool) "$(DESTDIR)$(BINDIR)/rpki"
+	$(INSTALL) -m 644 docs/rpki.1 "$(DESTDIR)$(MANDIR)/man1/rpki.1"
 
 install-lib:
 	@./rpki built library
@@ -61,7 +64,7 @@ install-lib:
 
 # a library of another interface has another name, and stays
 uninstall:
-	rm -f "$(DESTDIR)$(BINDIR)/rpki"
+	rm -f "$(DESTDIR)$(BINDIR)/rpki" "$(DESTDIR)$(MANDIR)/man1/rpki.1"
 	rm -f "$(DESTDIR)$(INCLUDEDIR)/rpki.h" "$(DESTDIR)$(PKGCONFIGDIR)/rpki.pc"
 	rm -f "$(DESTDIR)$(LIBDIR)/librpki.a" "$(DESTDIR)$(LIBDIR)/librpki.so" \
 	    "$(DESTDIR)$(LIBDIR)/librpki.so.$$($(abi))"
