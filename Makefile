@@ -5,7 +5,7 @@
 #   make library           proves and builds the library alone
 #   make check             runs every check (tests/all)
 #   make install           installs both; proves and builds nothing
-#   make install-program   installs the command and its page
+#   make install-program   installs the command, its page and its completions
 #   make install-lib       installs the libraries, the header and rpki.pc
 #   make uninstall         removes what these have installed
 #
@@ -21,6 +21,9 @@ INCLUDEDIR ?= $(PREFIX)/include
 DATADIR ?= $(PREFIX)/share
 MANDIR ?= $(DATADIR)/man
 PKGCONFIGDIR ?= $(LIBDIR)/pkgconfig
+BASHDIR ?= $(DATADIR)/bash-completion/completions
+ZSHDIR ?= $(DATADIR)/zsh/site-functions
+FISHDIR ?= $(DATADIR)/fish/vendor_completions.d
 INSTALL ?= install
 
 # what `./rpki prove` and `./rpki library` build
@@ -50,6 +53,10 @@ install-program:
 	$(INSTALL) -d "$(DESTDIR)$(BINDIR)" "$(DESTDIR)$(MANDIR)/man1"
 	$(INSTALL) -m 755 $(tool) "$(DESTDIR)$(BINDIR)/rpki"
 	$(INSTALL) -m 644 docs/rpki.1 "$(DESTDIR)$(MANDIR)/man1/rpki.1"
+	$(INSTALL) -d "$(DESTDIR)$(BASHDIR)" "$(DESTDIR)$(ZSHDIR)" "$(DESTDIR)$(FISHDIR)"
+	$(INSTALL) -m 644 completions/rpki.bash "$(DESTDIR)$(BASHDIR)/rpki"
+	$(INSTALL) -m 644 completions/_rpki "$(DESTDIR)$(ZSHDIR)/_rpki"
+	$(INSTALL) -m 644 completions/rpki.fish "$(DESTDIR)$(FISHDIR)/rpki.fish"
 
 install-lib:
 	@./rpki built library
@@ -61,10 +68,12 @@ install-lib:
 	version=$$(./rpki --version) && sed -e 's|@prefix@|$(PREFIX)|' -e 's|@libdir@|$(LIBDIR)|' \
 	    -e 's|@includedir@|$(INCLUDEDIR)|' -e "s|@version@|$${version#rpki }|" \
 	    callers/c/rpki.pc.in > "$(DESTDIR)$(PKGCONFIGDIR)/rpki.pc"
+	chmod 644 "$(DESTDIR)$(PKGCONFIGDIR)/rpki.pc"
 
 # a library of another interface has another name, and stays
 uninstall:
 	rm -f "$(DESTDIR)$(BINDIR)/rpki" "$(DESTDIR)$(MANDIR)/man1/rpki.1"
+	rm -f "$(DESTDIR)$(BASHDIR)/rpki" "$(DESTDIR)$(ZSHDIR)/_rpki" "$(DESTDIR)$(FISHDIR)/rpki.fish"
 	rm -f "$(DESTDIR)$(INCLUDEDIR)/rpki.h" "$(DESTDIR)$(PKGCONFIGDIR)/rpki.pc"
 	rm -f "$(DESTDIR)$(LIBDIR)/librpki.a" "$(DESTDIR)$(LIBDIR)/librpki.so" \
 	    "$(DESTDIR)$(LIBDIR)/librpki.so.$$($(abi))"

@@ -1,0 +1,32 @@
+# Completes the words of rpki(1) in bash.
+_rpki() {
+    local word=$2 before=$3 options at
+    COMPREPLY=()
+    case ${COMP_WORDS[1]} in
+        show) options='--json --all --at --lenient --max-size --help' ;;
+        validate) options='--json --tal --crl --no-names --at --lenient --max-size --help' ;;
+    esac
+    if ((COMP_CWORD == 1)); then
+        mapfile -t COMPREPLY < <(compgen -W 'show validate help --version --help' -- "$word")
+        return
+    fi
+    [[ -n $options ]] || return
+    # `--crl=FILE` is three words here
+    [[ $before != = ]] || before=${COMP_WORDS[COMP_CWORD - 2]}
+    [[ $word != = ]] || word=''
+    case $before in
+        --at | --max-size) return ;;
+        --tal | --crl) options='' ;;
+    esac
+    # behind -- each word is a file
+    for ((at = 2; at < COMP_CWORD; at++)); do
+        [[ ${COMP_WORDS[at]} != -- ]] || options=''
+    done
+    if [[ $word == -* && -n $options ]]; then
+        mapfile -t COMPREPLY < <(compgen -W "$options" -- "$word")
+    else
+        compopt -o filenames 2> /dev/null
+        mapfile -t COMPREPLY < <(compgen -f -- "$word")
+    fi
+}
+complete -F _rpki rpki

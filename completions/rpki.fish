@@ -1,0 +1,23 @@
+# Completes the words of rpki(1) in fish.
+set -l first 'not __fish_seen_subcommand_from show validate help'
+set -l show '__fish_seen_subcommand_from show'
+set -l validate '__fish_seen_subcommand_from validate'
+set -l both '__fish_seen_subcommand_from show validate'
+
+complete -c rpki -n $first -f
+complete -c rpki -n $first -a show -d 'Print what certificates and lists hold'
+complete -c rpki -n $first -a validate -d 'Validate a path of certificates'
+complete -c rpki -n $first -a help -d 'Print the commands'
+complete -c rpki -n $first -s V -l version -d 'Print the version'
+complete -c rpki -s h -l help -d 'Print the commands'
+
+complete -c rpki -n $both -s j -l json -d 'Print JSON'
+complete -c rpki -n $both -l at -x -d 'Judge at this moment (YYYY-MM-DD)'
+complete -c rpki -n $both -l lenient -d 'Let any string type stand in names'
+complete -c rpki -n $both -l max-size -x -d 'Refuse a file with more octets'
+
+complete -c rpki -n $show -l all -d 'Print every entry of a list'
+
+complete -c rpki -n $validate -l tal -r -F -d 'Add a locator of the trust anchor'
+complete -c rpki -n $validate -l crl -r -F -d 'Add a revocation list'
+complete -c rpki -n $validate -l no-names -d 'Do not ask that names chain'
