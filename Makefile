@@ -6,7 +6,7 @@
 #   make check             runs every check (tests/all)
 #   make install           installs both; proves and builds nothing
 #   make install-program   installs the command, its page and its completions
-#   make install-lib       installs the libraries, the header and rpki.pc
+#   make install-lib       installs the libraries, the header, its pages and rpki.pc
 #   make uninstall         removes what these have installed
 #
 # Files go below PREFIX, and all that below DESTDIR:
@@ -31,6 +31,8 @@ tool = crates/rpki_tool/out/rpki_tool
 library = callers/out
 # the number of the library's interface, which stands in its name
 abi = sed -n 's/^.define RPKI_ABI //p' include/rpki.h
+# its calls, each with a page of its name that is the library's
+calls = sed -n 's/^uint32_t \(rpki_[a-z_]*\)(.*/\1/p' include/rpki.h
 
 all: program library
 
@@ -69,6 +71,10 @@ install-lib:
 	    -e 's|@includedir@|$(INCLUDEDIR)|' -e "s|@version@|$${version#rpki }|" \
 	    callers/c/rpki.pc.in > "$(DESTDIR)$(PKGCONFIGDIR)/rpki.pc"
 	chmod 644 "$(DESTDIR)$(PKGCONFIGDIR)/rpki.pc"
+	$(INSTALL) -d "$(DESTDIR)$(MANDIR)/man3"
+	awk -f callers/c/page.awk include/rpki.h > "$(DESTDIR)$(MANDIR)/man3/librpki.3"
+	chmod 644 "$(DESTDIR)$(MANDIR)/man3/librpki.3"
+	for name in $$($(calls)); do ln -sf librpki.3 "$(DESTDIR)$(MANDIR)/man3/$$name.3"; done
 
 # a library of another interface has another name, and stays
 uninstall:
@@ -77,5 +83,6 @@ uninstall:
 	rm -f "$(DESTDIR)$(INCLUDEDIR)/rpki.h" "$(DESTDIR)$(PKGCONFIGDIR)/rpki.pc"
 	rm -f "$(DESTDIR)$(LIBDIR)/librpki.a" "$(DESTDIR)$(LIBDIR)/librpki.so" \
 	    "$(DESTDIR)$(LIBDIR)/librpki.so.$$($(abi))"
+	for name in librpki $$($(calls)); do rm -f "$(DESTDIR)$(MANDIR)/man3/$$name.3"; done
 
 .PHONY: all program library check install install-program install-lib uninstall
