@@ -1,6 +1,6 @@
 # Builds, checks and installs the command `rpki` and the library for C.
 #
-#   make                   proves and builds both: some 100 processor minutes, once
+#   make                   proves and builds both: two hours of a processor or more, once
 #   make program           proves and builds the command alone
 #   make library           proves and builds the library alone
 #   make check             runs every check (tests/all)
