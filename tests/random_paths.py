@@ -23,19 +23,20 @@ sys.path[:0] = [os.path.join(here, '..', 'reference'),
 import answers
 import questions
 import reference as ref
-import rpki
+from rpki import Kind
+from rpki import _library as raw
 from der import Cursor
 from parts import take_key
 
-LAST = {'ta': 'authority', 'ca': 'authority', 'ee': 'ee',
-        'detached': 'detached'}
+LAST = {'ta': Kind.AUTHORITY, 'ca': Kind.AUTHORITY, 'ee': Kind.END_ENTITY,
+        'detached': Kind.DETACHED}
 STAGES = {1: 'decode', 2: 'decode', 3: 'inspect', 4: 'verify'}
 ROOM = 4096
 
 
 class Question(ctypes.Structure):
     """A question of a path: where its key, message and signature stand."""
-    _fields_ = [(f'{part}_{end}', rpki.u64)
+    _fields_ = [(f'{part}_{end}', ctypes.c_uint64)
                 for part in ('key', 'message', 'signature')
                 for end in ('at', 'length')]
 
@@ -48,8 +49,8 @@ def asked_of(members):
     """The questions of the members up to the first that can't be read."""
     for count in range(len(members), 0, -1):
         out = (Question * count)()
-        if not rpki.lib.rpki_path_questions(*rpki.strings(members), out,
-                                            rpki.size(count)):
+        if not raw.lib.rpki_path_questions(*raw.strings_of(members), out,
+                                           ctypes.c_size_t(count)):
             return list(out)
     return []
 
@@ -80,7 +81,7 @@ def held(out, v4, v6, asn):
 
 def refused(out):
     stage = STAGES[out.fault // 100]
-    name = '' if stage == 'decode' else f' {rpki.name_of(out.fault)}'
+    name = '' if stage == 'decode' else f' {raw.fault_name(out.fault)}'
     return f'refused {out.index} {stage}{name}'
 
 
@@ -91,13 +92,13 @@ def answer_of(question):
     members = [bytes.fromhex(it) for it in members]
     octets = b''.join(members)
     yes = bytes(is_signed(it, octets) for it in asked_of(members))
-    now = rpki.Time(int(at[:4]), *(int(at[i:i + 2]) for i in range(4, 14, 2)))
-    out, room = rpki.Verdict(), rpki.size(ROOM)
-    v4, v6 = (rpki.IpRange * ROOM)(), (rpki.IpRange * ROOM)()
-    asn = (rpki.AsRange * ROOM)()
-    rpki.lib.rpki_path_validate_said(
-        *rpki.strings(members), rpki.u32(rpki.LAST[LAST[kinds[-1]]]),
-        *rpki.octets(yes), rpki.u32(mode == 'strict'), ctypes.byref(now),
+    now = raw.Time(int(at[:4]), *(int(at[i:i + 2]) for i in range(4, 14, 2)))
+    out, room = raw.Verdict(), ctypes.c_size_t(ROOM)
+    v4, v6 = (raw.IpRange * ROOM)(), (raw.IpRange * ROOM)()
+    asn = (raw.AsRange * ROOM)()
+    raw.lib.rpki_path_validate_said(
+        *raw.strings_of(members), ctypes.c_uint32(LAST[kinds[-1]].value),
+        *raw.octets_of(yes), ctypes.c_uint32(mode == 'strict'), ctypes.byref(now),
         v4, room, v6, room, asn, room, ctypes.byref(out))
     return refused(out) if out.fault else held(out, v4, v6, asn)
 
@@ -105,11 +106,11 @@ def answer_of(question):
 def names_of(question):
     """What the library answers of names, in the words of a row."""
     members = [bytes.fromhex(it.split(':')[1]) for it in question.split(' ')[1:]]
-    place = rpki.u64()
-    fault = rpki.lib.rpki_path_names(*rpki.strings(members), ctypes.byref(place))
+    place = ctypes.c_uint64()
+    fault = raw.lib.rpki_path_names(*raw.strings_of(members), ctypes.byref(place))
     if fault == 0:
         return 'chain'
-    if rpki.name_of(fault) == 'OtherName':
+    if raw.fault_name(fault) == 'OtherName':
         return f'unchained {place.value}'
     return f'refused {place.value} {STAGES[fault // 100]}'
 

@@ -1,0 +1,471 @@
+"""Reads and judges resource certificates and revocation lists of the RPKI (RFC 6487).
+
+    from rpki import Kind, validate
+
+    members = [open(name, "rb").read() for name in ("anchor.cer", "ca.cer", "object.cer")]
+    lists = [open(name, "rb").read() for name in ("anchor.crl", "ca.crl")]
+    held = validate(members, last=Kind.END_ENTITY, lists=lists)
+    for network in held.ipv4:
+        print(network)
+
+What is judged is proved: the library below, librpki.so, accepts a path exactly where it is valid by
+the standards' definitions. This package only moves values into it and out of it, and is tested.
+"""
+
+from __future__ import annotations
+
+import enum
+import ipaddress
+from collections.abc import Iterator, Sequence
+from dataclasses import dataclass
+from datetime import datetime, timezone
+from functools import cached_property
+from typing import Generic, TypeVar, Union, cast
+
+from . import _library as raw
+
+__all__ = [
+    "Addresses",
+    "AsNumbers",
+    "Certificate",
+    "DecodeFault",
+    "Entry",
+    "Fault",
+    "INHERIT",
+    "Inherit",
+    "InspectionFault",
+    "Kind",
+    "LocatorFault",
+    "NamesFault",
+    "Resources",
+    "RevocationFault",
+    "RevocationList",
+    "VerificationFault",
+    "validate",
+]
+
+
+# ---- faults
+
+
+class Fault(Exception):
+    """Why something is rejected. Each fault has a number that never gets another meaning."""
+
+    number: int
+    """The number, of `enum rpki_fault` of rpki.h."""
+    name: str
+    """The name, such as `BadSignature`."""
+    sentence: str
+    """What it means, such as `certificate revoked`."""
+    member: int | None
+    """The place of the member of a path that has it, the trust anchor at 0."""
+    revocation_list: int | None
+    """The place of the list that can't be read, among those that were given."""
+
+    def __init__(
+        self, number: int, member: int | None = None, revocation_list: int | None = None
+    ) -> None:
+        self.number = number
+        self.name = raw.fault_name(number)
+        self.sentence = raw.fault_sentence(number)
+        self.member = member
+        self.revocation_list = revocation_list
+        places = [("member", member), ("list", revocation_list)]
+        place = "".join(f"{what} {at}: " for what, at in places if at is not None)
+        super().__init__(f"{place}{self.sentence} ({self.name})")
+
+
+class DecodeFault(Fault):
+    """The octets begin with no certificate, or with no revocation list."""
+
+
+class InspectionFault(Fault):
+    """The certificate doesn't meet the profile of its kind."""
+
+
+class VerificationFault(Fault):
+    """The certificate isn't valid at the moment, or not issued by the member above it."""
+
+
+class RevocationFault(Fault):
+    """The lists don't show that the certificate isn't revoked."""
+
+
+class NamesFault(Fault):
+    """The issuer isn't the subject of the member above it."""
+
+
+class LocatorFault(Fault):
+    """The file is no trust anchor locator, or the trust anchor has another key."""
+
+
+# by the number, or by its hundreds
+_FAULTS: dict[int, type[Fault]] = {
+    1: DecodeFault,
+    2: DecodeFault,
+    3: InspectionFault,
+    4: VerificationFault,
+    5: RevocationFault,
+    600: NamesFault,
+    601: LocatorFault,
+    7: LocatorFault,
+}
+
+
+def _raise(fault: int, member: int | None = None, revocation_list: int | None = None) -> None:
+    """Raises the exception of a fault, where there is one."""
+    if fault == raw.OK:
+        return
+    if fault == raw.MEMORY:
+        raise MemoryError
+    if fault == raw.BAD_CALL:
+        raise ValueError("there are too few members, or there is no such moment")
+    kind = _FAULTS.get(fault, _FAULTS.get(fault // 100, Fault))
+    raise kind(fault, member, revocation_list)
+
+
+# ---- sets
+
+Address = TypeVar("Address", ipaddress.IPv4Address, ipaddress.IPv6Address)
+Network = Union[ipaddress.IPv4Network, ipaddress.IPv6Network]
+
+
+@dataclass(frozen=True)
+class Addresses(Generic[Address]):
+    """A set of addresses of one family. Iterating gives the fewest networks that make it up."""
+
+    ranges: tuple[tuple[Address, Address], ...]
+    """The first and the last address of each range. They ascend, and neither overlap nor touch."""
+
+    def __iter__(self) -> Iterator[Network]:
+        for first, last in self.ranges:
+            yield from ipaddress.summarize_address_range(first, last)
+
+    def __contains__(self, what: Address | Network) -> bool:
+        """Tells whether an address, or all of a network, is in the set."""
+        first, last = (what[0], what[-1]) if isinstance(what, _NETWORKS) else (what, what)
+        return any(
+            first.version == low.version and int(low) <= int(first) and int(last) <= int(high)
+            for low, high in self.ranges
+        )
+
+    def __bool__(self) -> bool:
+        return bool(self.ranges)
+
+    def __str__(self) -> str:
+        return ", ".join(map(str, self)) or "none"
+
+
+_NETWORKS = (ipaddress.IPv4Network, ipaddress.IPv6Network)
+
+
+@dataclass(frozen=True)
+class AsNumbers:
+    """A set of AS numbers. Iterating gives its ranges, which ascend, and neither overlap nor
+    touch."""
+
+    ranges: tuple[range, ...]
+
+    def __iter__(self) -> Iterator[range]:
+        return iter(self.ranges)
+
+    def __contains__(self, number: int) -> bool:
+        """Tells whether an AS number is in the set."""
+        return any(number in numbers for numbers in self.ranges)
+
+    def __bool__(self) -> bool:
+        return bool(self.ranges)
+
+    def __str__(self) -> str:
+        texts = (f"AS{it[0]}" + (f"-AS{it[-1]}" if len(it) > 1 else "") for it in self.ranges)
+        return ", ".join(texts) or "none"
+
+
+@dataclass(frozen=True)
+class Resources:
+    """The numbers that a path holds."""
+
+    ipv4: Addresses[ipaddress.IPv4Address]
+    ipv6: Addresses[ipaddress.IPv6Address]
+    as_numbers: AsNumbers
+
+
+def _ipv4(ranges: Sequence[raw.IpRange]) -> Addresses[ipaddress.IPv4Address]:
+    of = ipaddress.IPv4Address
+    return Addresses(tuple((of(bytes(it.min)[:4]), of(bytes(it.max)[:4])) for it in ranges))
+
+
+def _ipv6(ranges: Sequence[raw.IpRange]) -> Addresses[ipaddress.IPv6Address]:
+    of = ipaddress.IPv6Address
+    return Addresses(tuple((of(bytes(it.min)), of(bytes(it.max))) for it in ranges))
+
+
+def _as_numbers(ranges: Sequence[raw.AsRange]) -> AsNumbers:
+    return AsNumbers(tuple(range(it.min, it.max + 1) for it in ranges))
+
+
+# ---- certificates
+
+
+class Kind(enum.Enum):
+    """What a certificate is judged as."""
+
+    TRUST_ANCHOR = 0
+    AUTHORITY = 1
+    END_ENTITY = 2
+    DETACHED = 3
+    """An end entity that signs any object."""
+    ROUTER = 4
+
+
+class Inherit(enum.Enum):
+    """Says that a certificate has the resources of its issuer."""
+
+    INHERIT = "inherit"
+
+    def __str__(self) -> str:
+        return self.value
+
+
+INHERIT = Inherit.INHERIT
+
+
+def _moment(it: raw.Time) -> datetime:
+    """A moment of UTC. Python has none of the year 0: of that this raises ValueError."""
+    parts = (it.year, it.month, it.day, it.hour, it.minute, it.second)
+    return datetime(*parts, tzinfo=timezone.utc)
+
+
+def _time(moment: datetime) -> raw.Time:
+    if moment.tzinfo is None:
+        raise ValueError("the moment has no time zone: datetime.now(timezone.utc) has")
+    it = moment.astimezone(timezone.utc)
+    return raw.Time(it.year, it.month, it.day, it.hour, it.minute, it.second)
+
+
+class Certificate:
+    """A resource certificate, read from DER. What follows it in the octets is ignored.
+
+    Raises DecodeFault where the octets begin with none.
+    """
+
+    def __init__(self, octets: bytes) -> None:
+        self.octets = bytes(octets)
+        """The octets that were given."""
+        try:
+            self._read = raw.certificate(self.octets)
+        except raw.Called as error:
+            _raise(error.fault)
+
+    def __repr__(self) -> str:
+        return f"<rpki.Certificate {self.serial_number:X}>"
+
+    def __eq__(self, other: object) -> bool:
+        return isinstance(other, Certificate) and self.octets == other.octets
+
+    def __hash__(self) -> int:
+        return hash(self.octets)
+
+    @property
+    def serial_number(self) -> int:
+        return int.from_bytes(bytes(self._read.serial), "big")
+
+    @property
+    def not_before(self) -> datetime:
+        return _moment(self._read.not_before)
+
+    @property
+    def not_after(self) -> datetime:
+        return _moment(self._read.not_after)
+
+    @property
+    def subject_key_identifier(self) -> bytes:
+        return bytes(self._read.subject_key)
+
+    @property
+    def authority_key_identifier(self) -> bytes | None:
+        return bytes(self._read.authority_key) if self._read.has_authority_key else None
+
+    @property
+    def is_authority(self) -> bool:
+        """Whether it says that it is a CA."""
+        return bool(self._read.is_authority)
+
+    @property
+    def signs_certificates(self) -> bool:
+        """Whether its key usage is a CA's, and not an end entity's."""
+        return not self._read.key_usage
+
+    @property
+    def trims_resources(self) -> bool:
+        """Whether what it lists beyond its issuer is cut off (RFC 8360), and not rejected."""
+        return bool(self._read.overclaim)
+
+    @cached_property
+    def issuer(self) -> bytes:
+        """The issuer's Name in DER."""
+        return raw.certificate_name(self.octets, 0)
+
+    @cached_property
+    def subject(self) -> bytes:
+        """The subject's Name in DER."""
+        return raw.certificate_name(self.octets, 1)
+
+    @cached_property
+    def ipv4(self) -> Addresses[ipaddress.IPv4Address] | Inherit | None:
+        """The IPv4 addresses that it lists; INHERIT; or None, where it has none."""
+        if self._read.v4 != raw.LISTED:
+            return INHERIT if self._read.v4 == raw.INHERITED else None
+        return _ipv4(raw.addresses(self.octets, 4))
+
+    @cached_property
+    def ipv6(self) -> Addresses[ipaddress.IPv6Address] | Inherit | None:
+        """The IPv6 addresses that it lists; INHERIT; or None, where it has none."""
+        if self._read.v6 != raw.LISTED:
+            return INHERIT if self._read.v6 == raw.INHERITED else None
+        return _ipv6(raw.addresses(self.octets, 6))
+
+    @cached_property
+    def as_numbers(self) -> AsNumbers | Inherit | None:
+        """The AS numbers that it lists; INHERIT; or None, where it has none."""
+        if self._read.asn != raw.LISTED:
+            return INHERIT if self._read.asn == raw.INHERITED else None
+        return _as_numbers(raw.as_numbers(self.octets))
+
+    @cached_property
+    def uris(self) -> dict[str, str]:
+        """The URIs that it has, by these names: ca_issuer (of its issuer's certificate), crl,
+        repository, manifest, signed_object, notify."""
+        found = ((name, raw.certificate_uri(self.octets, at)) for at, name in enumerate(raw.URIS))
+        return {name: uri.decode("ascii") for name, uri in found if uri}
+
+    def inspect(self, kind: Kind, strict: bool = True) -> None:
+        """Checks that it meets the profile of a kind, and raises InspectionFault where it doesn't.
+        Leniently, names may have other strings than RFC 6487 4.4 asks."""
+        _raise(raw.inspect(self.octets, kind.value, strict))
+
+    def meets(self, kind: Kind, strict: bool = True) -> bool:
+        """Tells whether it meets the profile of a kind."""
+        try:
+            self.inspect(kind, strict)
+        except InspectionFault:
+            return False
+        return True
+
+
+# ---- revocation lists
+
+
+@dataclass(frozen=True)
+class Entry:
+    """A revoked certificate."""
+
+    serial_number: int
+    revoked_at: datetime
+
+
+class RevocationList:
+    """A revocation list, read from DER. What follows it in the octets is ignored.
+
+    Raises DecodeFault where the octets begin with none.
+    """
+
+    def __init__(self, octets: bytes) -> None:
+        self.octets = bytes(octets)
+        """The octets that were given."""
+        try:
+            self._read = raw.revocation_list(self.octets)
+        except raw.Called as error:
+            _raise(error.fault)
+
+    def __repr__(self) -> str:
+        return f"<rpki.RevocationList {self.number:X}>"
+
+    @property
+    def number(self) -> int:
+        return int.from_bytes(bytes(self._read.number), "big")
+
+    @property
+    def this_update(self) -> datetime:
+        return _moment(self._read.this_update)
+
+    @property
+    def next_update(self) -> datetime:
+        return _moment(self._read.next_update)
+
+    @property
+    def authority_key_identifier(self) -> bytes:
+        return bytes(self._read.authority_key)
+
+    @cached_property
+    def issuer(self) -> bytes:
+        """The issuer's Name in DER."""
+        return raw.list_issuer(self.octets)
+
+    def __len__(self) -> int:
+        return cast(int, self._read.entries)
+
+    def __iter__(self) -> Iterator[Entry]:
+        """Gives the entries, in the list's order."""
+        for it in raw.entries(self.octets):
+            yield Entry(int.from_bytes(bytes(it.serial), "big"), _moment(it.date))
+
+    def __contains__(self, what: int | Certificate) -> bool:
+        """Tells whether a serial number, or a certificate's, is on the list. Whose list it is isn't
+        asked."""
+        number = what.serial_number if isinstance(what, Certificate) else what
+        if not 0 <= number < 1 << 160:
+            return False
+        return raw.is_revoked(self.octets, number.to_bytes(20, "big"))
+
+
+# ---- paths
+
+
+def _octets(what: bytes | Certificate | RevocationList) -> bytes:
+    return what if isinstance(what, bytes) else what.octets
+
+
+def validate(
+    members: Sequence[bytes | Certificate],
+    *,
+    last: Kind,
+    lists: Sequence[bytes | RevocationList] | None = None,
+    locator: bytes | None = None,
+    at: datetime | None = None,
+    strict: bool = True,
+    chain_names: bool = True,
+) -> Resources:
+    """Validates a path of certificates, and gives what its last member holds.
+
+    `members` are in order, the trust anchor first; `last` is what the last one is judged as. Of a
+    router's certificate the answer is what the member above it holds. Signatures are checked (RFC
+    7935).
+
+    `lists` are revocation lists, in any order: then each member below the trust anchor has to be
+    unrevoked by the latest list of its issuer that has begun. With None, nothing of revocation is
+    asked.
+
+    `locator` is the file of a trust anchor locator (RFC 8630): then the trust anchor has to have its
+    key. With None, the trust anchor is taken as given.
+
+    `at` is the moment of the question, with its time zone; now, where it isn't given. `strict` asks
+    names for the strings of RFC 6487 4.4, and the locator for UTF-8. `chain_names` asks that each
+    issuer is the subject of the member above it (RFC 6487 7.2).
+
+    Raises the Fault of the first wrong member, and ValueError where there are too few members.
+    """
+    all_members = [_octets(it) for it in members]
+    if locator is not None and all_members:
+        fault = raw.locator(all_members[0], locator, strict)
+        _raise(fault, None if fault // 100 == 7 else 0)
+    now = _time(datetime.now(timezone.utc) if at is None else at)
+    all_lists = None if lists is None else [_octets(it) for it in lists]
+    fault, index, held = raw.judge(all_members, last.value, strict, now, all_lists)
+    if index < len(all_members):
+        _raise(fault, index)
+    else:
+        _raise(fault, None, index - len(all_members))
+    if chain_names:
+        _raise(*raw.names(all_members))
+    return Resources(_ipv4(held[0]), _ipv6(held[1]), _as_numbers(held[2]))

@@ -1,0 +1,236 @@
+"""The calls of librpki.so as rpki.h declares them, by ctypes. All that knows the library's
+interface stands here."""
+
+import ctypes
+import os
+from collections.abc import Sequence
+from ctypes import c_size_t, c_uint8, c_uint16, c_uint32, c_uint64
+from typing import Any, TypeVar
+
+ABI = 2  # RPKI_ABI of rpki.h
+
+OK, MEMORY, BAD_CALL = 0, 1, 2
+# enum rpki_state
+MISSING, INHERITED, LISTED = 0, 1, 2
+# enum rpki_uri
+URIS = ("ca_issuer", "crl", "repository", "manifest", "signed_object", "notify")
+
+
+class Time(ctypes.Structure):
+    """struct rpki_time"""
+
+    _fields_ = [
+        ("year", c_uint16),
+        *((name, c_uint8) for name in ("month", "day", "hour", "minute", "second", "unused")),
+    ]
+
+
+class Certificate(ctypes.Structure):
+    """struct rpki_certificate"""
+
+    _fields_ = [
+        *((name, Time) for name in ("not_before", "not_after")),
+        *((name, c_uint8 * 20) for name in ("serial", "subject_key", "authority_key")),
+        *((name, c_uint8) for name in ("has_authority_key", "is_authority", "key_usage")),
+        *((name, c_uint8) for name in ("overclaim", "v4", "v6", "asn")),
+    ]
+
+
+class IpRange(ctypes.Structure):
+    """struct rpki_ip_range"""
+
+    _fields_ = [("min", c_uint8 * 16), ("max", c_uint8 * 16)]
+
+
+class AsRange(ctypes.Structure):
+    """struct rpki_as_range"""
+
+    _fields_ = [("min", c_uint32), ("max", c_uint32)]
+
+
+class List(ctypes.Structure):
+    """struct rpki_list"""
+
+    _fields_ = [
+        *((name, Time) for name in ("this_update", "next_update")),
+        ("entries", c_uint64),
+        *((name, c_uint8 * 20) for name in ("number", "authority_key")),
+    ]
+
+
+class Entry(ctypes.Structure):
+    """struct rpki_entry"""
+
+    _fields_ = [("date", Time), ("serial", c_uint8 * 20)]
+
+
+class Verdict(ctypes.Structure):
+    """struct rpki_verdict"""
+
+    _fields_ = [
+        *((name, c_uint32) for name in ("fault", "index")),
+        *((name, c_uint64) for name in ("v4", "v6", "asn")),
+    ]
+
+
+def _load() -> ctypes.CDLL:
+    """The library: of the folder RPKI_LIBRARY, or where the system looks for libraries."""
+    folder = os.environ.get("RPKI_LIBRARY")
+    path = os.path.join(folder, "librpki.so") if folder else f"librpki.so.{ABI}"
+    try:
+        library = ctypes.CDLL(path)
+    except OSError as error:
+        raise ImportError(
+            f"{path} can't be loaded ({error}): install the library (make install-lib), "
+            "or name its folder in RPKI_LIBRARY"
+        ) from error
+    try:
+        number = library.rpki_abi_version()
+    except AttributeError as error:
+        raise ImportError(f"{path} isn't librpki") from error
+    if number != ABI:
+        raise ImportError(f"{path} isn't of the version of this package: {number}, and not {ABI}")
+    return library
+
+
+lib = _load()
+
+Element = TypeVar("Element", bound=ctypes.Structure)
+
+
+class Called(Exception):
+    """A call answered the number of a fault."""
+
+    def __init__(self, fault: int) -> None:
+        super().__init__(fault)
+        self.fault = fault
+
+
+def octets_of(data: bytes) -> tuple[Any, c_size_t]:
+    """A pointer and a length."""
+    return (c_uint8 * len(data)).from_buffer_copy(data), c_size_t(len(data))
+
+
+def strings_of(parts: Sequence[bytes]) -> tuple[Any, c_size_t, Any, c_size_t]:
+    """Octets that stand one behind the other, and their lengths."""
+    lengths = (c_size_t * len(parts))(*map(len, parts))
+    return *octets_of(b"".join(parts)), lengths, c_size_t(len(parts))
+
+
+def call(function: Any, *words: Any) -> None:
+    fault = function(*words)
+    if fault != OK:
+        raise Called(fault)
+
+
+def all_of(element: type[Element], function: Any, *words: Any) -> list[Element]:
+    """All elements that a call writes: a first call counts them."""
+    count = c_uint64()
+    call(function, *words, (element * 0)(), c_size_t(0), ctypes.byref(count))
+    room = (element * count.value)()
+    call(function, *words, room, c_size_t(count.value), ctypes.byref(count))
+    return list(room)
+
+
+def bytes_of(function: Any, *words: Any) -> bytes:
+    """All octets that a call writes."""
+    count = c_uint64()
+    call(function, *words, (c_uint8 * 0)(), c_size_t(0), ctypes.byref(count))
+    room = (c_uint8 * count.value)()
+    call(function, *words, room, c_size_t(count.value), ctypes.byref(count))
+    return bytes(room)
+
+
+def fault_name(fault: int) -> str:
+    return bytes_of(lib.rpki_fault_name, c_uint32(fault)).decode("ascii")
+
+
+def fault_sentence(fault: int) -> str:
+    return bytes_of(lib.rpki_fault_sentence, c_uint32(fault)).decode("ascii")
+
+
+def certificate(octets: bytes) -> Certificate:
+    out = Certificate()
+    call(lib.rpki_certificate_read, *octets_of(octets), ctypes.byref(out))
+    return out
+
+
+def inspect(octets: bytes, kind: int, strict: bool) -> int:
+    """The fault of the certificate as one of the kind, or OK."""
+    fault: int = lib.rpki_certificate_inspect(*octets_of(octets), c_uint32(kind), c_uint32(strict))
+    return fault
+
+
+def addresses(octets: bytes, family: int) -> list[IpRange]:
+    function = lib.rpki_certificate_addresses
+    return all_of(IpRange, function, *octets_of(octets), c_uint32(family))
+
+
+def as_numbers(octets: bytes) -> list[AsRange]:
+    return all_of(AsRange, lib.rpki_certificate_as_numbers, *octets_of(octets))
+
+
+def certificate_uri(octets: bytes, which: int) -> bytes:
+    return bytes_of(lib.rpki_certificate_uri, *octets_of(octets), c_uint32(which))
+
+
+def certificate_name(octets: bytes, which: int) -> bytes:
+    return bytes_of(lib.rpki_certificate_name, *octets_of(octets), c_uint32(which))
+
+
+def revocation_list(octets: bytes) -> List:
+    out = List()
+    call(lib.rpki_list_read, *octets_of(octets), ctypes.byref(out))
+    return out
+
+
+def entries(octets: bytes) -> list[Entry]:
+    return all_of(Entry, lib.rpki_list_entries, *octets_of(octets))
+
+
+def list_issuer(octets: bytes) -> bytes:
+    return bytes_of(lib.rpki_list_issuer, *octets_of(octets))
+
+
+def is_revoked(octets: bytes, serial: bytes) -> bool:
+    """Whether the list has a serial number of 20 octets."""
+    answer = (c_uint8 * 1)()
+    call(lib.rpki_list_ask, *octets_of(octets), *octets_of(serial), answer, c_size_t(1))
+    return bool(answer[0])
+
+
+Held = tuple[list[IpRange], list[IpRange], list[AsRange]]
+
+
+def judge(
+    members: Sequence[bytes], last: int, strict: bool, now: Time, lists: Sequence[bytes] | None
+) -> tuple[int, int, Held]:
+    """The fault of a path, the place of the member that has it, and the ranges that are held. A
+    first call counts the ranges, and a second one writes them."""
+    words = [*strings_of(members), c_uint32(last), c_uint32(strict), ctypes.byref(now)]
+    function = lib.rpki_path_validate
+    if lists is not None:
+        words = [*strings_of(lists), *words]
+        function = lib.rpki_path_validate_with
+    out = Verdict()
+    held: Held = ([], [], [])
+    for _ in range(2):
+        v4, v6, asn = (IpRange * out.v4)(), (IpRange * out.v6)(), (AsRange * out.asn)()
+        rooms = (v4, c_size_t(len(v4)), v6, c_size_t(len(v6)), asn, c_size_t(len(asn)))
+        if function(*words, *rooms, ctypes.byref(out)) != OK:
+            return out.fault, out.index, ([], [], [])
+        held = (list(v4), list(v6), list(asn))
+    return OK, 0, held
+
+
+def names(members: Sequence[bytes]) -> tuple[int, int]:
+    """The fault of a path's names, and the place of the member that has it."""
+    place = c_uint64()
+    fault: int = lib.rpki_path_names(*strings_of(members), ctypes.byref(place))
+    return fault, place.value
+
+
+def locator(anchor: bytes, file: bytes, strict: bool) -> int:
+    """The fault of a locator or of the trust anchor's key, or OK."""
+    fault: int = lib.rpki_path_locator(*octets_of(anchor), *octets_of(file), c_uint32(strict))
+    return fault

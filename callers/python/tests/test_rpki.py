@@ -1,0 +1,206 @@
+"""Tests the package over the files of examples/, whose contents examples/make.sh says, and of
+tests/files.
+
+    PYTHONPATH=callers/python RPKI_LIBRARY=FOLDER python3 -m unittest discover -s callers/python/tests
+"""
+
+import ipaddress
+import threading
+import unittest
+from datetime import datetime, timedelta, timezone
+from pathlib import Path
+from typing import Any
+
+import rpki
+from rpki import INHERIT, AsNumbers, Certificate, Entry, Kind, RevocationList, validate
+
+TOP = Path(__file__).resolve().parents[3]
+BEGIN, END = datetime(2026, 1, 1, tzinfo=timezone.utc), datetime(2036, 1, 1, tzinfo=timezone.utc)
+SITE = "rsync://rpki.example.net/repo"
+
+
+def octets(name: str) -> bytes:
+    return (TOP / "examples" / name).read_bytes()
+
+
+def certificates(*names: str) -> list[bytes]:
+    return [octets(f"{name}.cer") for name in names]
+
+
+class Certificates(unittest.TestCase):
+    def test_fields(self) -> None:
+        it, anchor = Certificate(octets("first.cer")), Certificate(octets("anchor.cer"))
+        self.assertEqual(it.serial_number, 2)
+        self.assertEqual((it.not_before, it.not_after), (BEGIN, END))
+        self.assertEqual(it.issuer, anchor.subject)
+        self.assertEqual(it.authority_key_identifier, anchor.subject_key_identifier)
+        self.assertTrue(it.is_authority and it.signs_certificates)
+        self.assertFalse(it.trims_resources)
+        self.assertEqual(
+            it.uris,
+            {
+                "ca_issuer": f"{SITE}/anchor.cer",
+                "crl": f"{SITE}/anchor/anchor.crl",
+                "repository": f"{SITE}/first/",
+                "manifest": f"{SITE}/first/first.mft",
+                "notify": "https://rpki.example.net/notification.xml",
+            },
+        )
+
+    def test_listed_resources(self) -> None:
+        it = Certificate(octets("first.cer"))
+        assert isinstance(it.ipv4, rpki.Addresses) and isinstance(it.ipv6, rpki.Addresses)
+        networks = ["10.0.0.0/12", "10.32.0.0/13", "10.40.0.0/16"]
+        self.assertEqual(list(it.ipv4), list(map(ipaddress.ip_network, networks)))
+        self.assertEqual(str(it.ipv6), "2001:db8::/40")
+        self.assertEqual(it.as_numbers, AsNumbers((range(64500, 64504), range(64510, 64511))))
+        self.assertEqual(str(it.as_numbers), "AS64500-AS64503, AS64510")
+
+    def test_membership(self) -> None:
+        it = Certificate(octets("first.cer"))
+        assert isinstance(it.ipv4, rpki.Addresses) and isinstance(it.as_numbers, AsNumbers)
+        for inside in ("10.0.0.0", "10.15.255.255", "10.32.0.0", "10.40.255.255"):
+            self.assertIn(ipaddress.ip_address(inside), it.ipv4)
+        for outside in ("9.255.255.255", "10.16.0.0", "10.41.0.0", "::a00:0"):
+            self.assertNotIn(ipaddress.ip_address(outside), it.ipv4)
+        self.assertIn(ipaddress.ip_network("10.32.0.0/13"), it.ipv4)
+        self.assertNotIn(ipaddress.ip_network("10.0.0.0/8"), it.ipv4)
+        self.assertTrue(64503 in it.as_numbers and 64504 not in it.as_numbers)
+
+    def test_inherited_and_missing_resources(self) -> None:
+        inherits, misses = Certificate(octets("second.cer")), Certificate(octets("object.cer"))
+        self.assertEqual([inherits.ipv4, inherits.ipv6, inherits.as_numbers], [INHERIT] * 3)
+        self.assertEqual([misses.ipv6, misses.as_numbers], [None, None])
+
+    def test_profiles(self) -> None:
+        it = Certificate(octets("object.cer"))
+        self.assertTrue(it.meets(Kind.END_ENTITY))
+        with self.assertRaises(rpki.InspectionFault) as caught:
+            it.inspect(Kind.AUTHORITY)
+        self.assertTrue(300 <= caught.exception.number < 400)
+
+    def test_other_octets(self) -> None:
+        for other in (b"", b"\x30\x00", octets("first.crl"), octets("first.cer")[:-1]):
+            with self.assertRaises(rpki.DecodeFault):
+                Certificate(other)
+        self.assertEqual(Certificate(octets("first.cer") + b"more").serial_number, 2)
+
+
+class Lists(unittest.TestCase):
+    def test_fields(self) -> None:
+        it, signer = RevocationList(octets("revoked.crl")), Certificate(octets("first.cer"))
+        self.assertEqual((it.number, it.this_update, it.next_update), (2, BEGIN, END))
+        self.assertEqual(it.issuer, signer.subject)
+        self.assertEqual(it.authority_key_identifier, signer.subject_key_identifier)
+
+    def test_entries(self) -> None:
+        it = RevocationList(octets("revoked.crl"))
+        self.assertEqual(list(it), [Entry(3, datetime(2026, 2, 1, tzinfo=timezone.utc))])
+        self.assertEqual(len(it), 1)
+        self.assertTrue(3 in it and Certificate(octets("second.cer")) in it)
+        for other in (2, -3, 3 + (1 << 160)):
+            self.assertNotIn(other, it)
+        self.assertEqual(len(RevocationList(octets("first.crl"))), 0)
+
+    def test_other_octets(self) -> None:
+        with self.assertRaises(rpki.DecodeFault):
+            RevocationList(octets("first.cer"))
+
+
+class Paths(unittest.TestCase):
+    members = certificates("anchor", "first", "second", "object")
+    lists = [octets(name) for name in ("first.crl", "second.crl", "object.crl")]
+    noon = datetime(2026, 6, 1, 12, tzinfo=timezone.utc)
+
+    def test_accepted(self) -> None:
+        locator = octets("anchor.tal")
+        held = validate(
+            self.members, last=Kind.END_ENTITY, lists=self.lists, locator=locator, at=self.noon
+        )
+        self.assertEqual(list(held.ipv4), [ipaddress.ip_network("10.1.2.0/24")])
+        self.assertFalse(held.ipv6 or held.as_numbers)
+
+    def test_inherited(self) -> None:
+        held = validate(self.members[:3], last=Kind.AUTHORITY, at=self.noon)
+        listed = Certificate(self.members[1])
+        self.assertEqual((held.ipv4, held.ipv6), (listed.ipv4, listed.ipv6))
+        self.assertEqual(held.as_numbers, listed.as_numbers)
+
+    def test_read_members(self) -> None:
+        members = [Certificate(it) for it in self.members]
+        lists = [RevocationList(it) for it in self.lists]
+        self.assertTrue(validate(members, last=Kind.DETACHED, lists=lists, at=self.noon).ipv4)
+
+    def rejects(
+        self,
+        name: str,
+        kind: type[rpki.Fault],
+        member: int | None,
+        members: list[bytes],
+        **asked: Any,
+    ) -> None:
+        given: dict[str, Any] = {"last": Kind.AUTHORITY, "at": self.noon, **asked}
+        with self.assertRaises(kind) as caught:
+            validate(members, **given)
+        self.assertEqual((caught.exception.name, caught.exception.member), (name, member))
+        self.assertIn(caught.exception.sentence, str(caught.exception))
+
+    def test_rejected(self) -> None:
+        path = self.members[:3]
+        tampered = [*path[:2], octets("tampered.cer")]
+        self.rejects("BadSignature", rpki.VerificationFault, 2, tampered)
+        self.rejects("Expired", rpki.VerificationFault, 0, path, at=END + timedelta(seconds=1))
+        self.rejects("NotYetValid", rpki.VerificationFault, 0, path, at=BEGIN - timedelta(1))
+        revoking = [self.lists[0], octets("revoked.crl")]
+        self.rejects("Revoked", rpki.RevocationFault, 2, path, lists=revoking)
+        self.rejects("NoCrl", rpki.RevocationFault, 1, path, lists=[])
+        folder = TOP / "tests" / "files" / "named"
+        named = [(folder / it).read_bytes() for it in ("ta.cer", "ca_other_case.cer")]
+        self.rejects("OtherName", rpki.NamesFault, 1, named)
+        self.assertTrue(validate(named, last=Kind.AUTHORITY, at=self.noon, chain_names=False))
+
+    def test_locators(self) -> None:
+        path = self.members[1:3]
+        self.rejects("OtherKey", rpki.LocatorFault, 0, path, locator=octets("anchor.tal"))
+        self.rejects("NoUri", rpki.LocatorFault, None, self.members[:1], locator=b"\n")
+
+    def test_lists_that_are_none(self) -> None:
+        with self.assertRaises(rpki.DecodeFault) as caught:
+            lists = [self.lists[0], self.members[0]]
+            validate(self.members[:2], last=Kind.AUTHORITY, lists=lists, at=self.noon)
+        self.assertEqual((caught.exception.member, caught.exception.revocation_list), (None, 1))
+
+    def test_wrong_calls(self) -> None:
+        too_few: list[tuple[list[bytes], Kind]] = [
+            ([], Kind.AUTHORITY),
+            (self.members[:1], Kind.END_ENTITY),
+        ]
+        for members, last in too_few:
+            with self.assertRaises(ValueError):
+                validate(members, last=last, at=self.noon)
+        with self.assertRaises(ValueError):
+            validate(self.members, last=Kind.END_ENTITY, at=datetime(2026, 6, 1))
+
+    def test_other_time_zones(self) -> None:
+        west = timezone(timedelta(hours=-12))
+        last_moment = END.astimezone(west)
+        self.assertTrue(validate(self.members, last=Kind.END_ENTITY, at=last_moment).ipv4)
+
+    def test_threads(self) -> None:
+        found: list[bool] = []
+
+        def ask() -> None:
+            for _ in range(10):
+                held = validate(self.members, last=Kind.END_ENTITY, lists=self.lists, at=self.noon)
+                found.append(bool(held.ipv4))
+
+        threads = [threading.Thread(target=ask) for _ in range(4)]
+        for thread in threads:
+            thread.start()
+        for thread in threads:
+            thread.join()
+        self.assertEqual(found, [True] * 40)
+
+
+if __name__ == "__main__":
+    unittest.main()

@@ -1,0 +1,129 @@
+//! Validates a path of files, from the trust anchor down, with signatures by the library.
+//!
+//! usage: validate [-l LIST.crl].. YYYY-MM-DD LAST MEMBER.cer..
+//!        LAST: authority, ee, detached or router
+//!
+//! Names have to chain. Revocation lists are asked where some are given.
+//! Ends with 0 where the path is accepted, with 1 where it is rejected, and with 2 where the words
+//! or a file are not as above.
+use gonxebhula::{Fault, FaultKind, Holdings, Kind, Moment, Path, Place};
+use std::env;
+use std::fs::File;
+use std::io::Read;
+use std::process::ExitCode;
+
+/// Octets of a file, at most: 64 MiB.
+const MOST: u64 = 64 << 20;
+
+fn print(held: &Holdings) {
+    println!("accepted; held are");
+    for (min, max) in &held.ipv4 {
+        println!("  {min}-{max}");
+    }
+    for (min, max) in &held.ipv6 {
+        println!("  {min}-{max}");
+    }
+    for numbers in &held.as_numbers {
+        println!("  AS{}-AS{}", numbers.start(), numbers.end());
+    }
+}
+
+fn print_fault(fault: &Fault, members: usize) {
+    let member = match fault.place() {
+        Some(Place::Member(at)) => at,
+        Some(Place::List(at)) => members + at,
+        _ => 0,
+    };
+    let (number, name, sentence) = (fault.number(), fault.name(), fault.sentence());
+    println!("refused: member {member}, fault {number}, {name}: {sentence}");
+}
+
+/// The beginning of a day that is written YYYY-MM-DD. Whether the calendar has it is left to the
+/// library.
+fn moment(day: &str) -> Result<Moment, String> {
+    let octets = day.as_bytes();
+    let is_in_place = |(at, octet): (usize, &u8)| match at {
+        4 | 7 => *octet == b'-',
+        _ => octet.is_ascii_digit(),
+    };
+    if octets.len() != 10 || !octets.iter().enumerate().all(is_in_place) {
+        return Err(format!("{day}: the day isn't YYYY-MM-DD"));
+    }
+    let number = |digits: &[u8]| digits.iter().fold(0, |n, it| n * 10 + u16::from(it - b'0'));
+    let (month, day) = (number(&octets[5..7]) as u8, number(&octets[8..]) as u8);
+    Ok(Moment::new(number(&octets[..4]), month, day, 0, 0, 0))
+}
+
+/// The kind of the last member.
+fn kind(word: &str) -> Result<Kind, String> {
+    match word {
+        "authority" => Ok(Kind::Authority),
+        "ee" => Ok(Kind::EndEntity),
+        "detached" => Ok(Kind::Detached),
+        "router" => Ok(Kind::Router),
+        _ => Err(format!(
+            "{word}: the last member is authority, ee, detached or router"
+        )),
+    }
+}
+
+/// The octets of a file, which has some, and at most `MOST`.
+fn contents(name: &String) -> Result<Vec<u8>, String> {
+    let mut octets = Vec::new();
+    File::open(name)
+        .and_then(|file| file.take(MOST + 1).read_to_end(&mut octets))
+        .map_err(|error| format!("{name}: {error}"))?;
+    match octets.len() as u64 {
+        0 => Err(format!("{name}: the file is empty")),
+        length if length > MOST => Err(format!("{name}: the file has more than 64 MiB")),
+        _ => Ok(octets),
+    }
+}
+
+/// Prints the verdict. Errs with what isn't as it has to be.
+fn run(mut words: &[String]) -> Result<ExitCode, String> {
+    let mut lists = Vec::new();
+    while let [option, list, rest @ ..] = words {
+        if option != "-l" {
+            break;
+        }
+        lists.push(contents(list)?);
+        words = rest;
+    }
+    let [day, last, files @ ..] = words else {
+        return Err("usage: validate [-l LIST.crl].. YYYY-MM-DD LAST MEMBER.cer..".to_owned());
+    };
+    if files.is_empty() {
+        return Err("usage: validate [-l LIST.crl].. YYYY-MM-DD LAST MEMBER.cer..".to_owned());
+    }
+    let (last, now) = (kind(last)?, moment(day)?);
+    let members: Vec<Vec<u8>> = files.iter().map(contents).collect::<Result<_, _>>()?;
+    let members: Vec<&[u8]> = members.iter().map(Vec::as_slice).collect();
+    let lists: Vec<&[u8]> = lists.iter().map(Vec::as_slice).collect();
+    let mut path = Path::new(&members, last);
+    if !lists.is_empty() {
+        path = path.lists(&lists);
+    }
+    match path.validate(now) {
+        Ok(held) => {
+            print(&held);
+            Ok(ExitCode::SUCCESS)
+        }
+        Err(fault) => match fault.kind() {
+            FaultKind::Memory => Err("there is no more memory".to_owned()),
+            FaultKind::BadCall => Err("no such day, or too few members".to_owned()),
+            _ => {
+                print_fault(&fault, members.len());
+                Ok(ExitCode::from(1))
+            }
+        },
+    }
+}
+
+fn main() -> ExitCode {
+    let words: Vec<String> = env::args().skip(1).collect();
+    run(&words).unwrap_or_else(|error| {
+        eprintln!("validate: {error}");
+        ExitCode::from(2)
+    })
+}

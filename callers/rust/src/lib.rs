@@ -1,0 +1,383 @@
+//! Reads and judges resource certificates and revocation lists of the RPKI (RFC 6487), by the proved
+//! library librpki.
+//!
+//! ```no_run
+//! use gonxebhula::{Kind, Moment, Path};
+//!
+//! # fn main() -> Result<(), Box<dyn std::error::Error>> {
+//! let anchor = std::fs::read("anchor.cer")?;
+//! let first = std::fs::read("first.cer")?;
+//! let list = std::fs::read("first.crl")?;
+//! let held = Path::new(&[&anchor, &first], Kind::Authority)
+//!     .lists(&[&list])
+//!     .validate(Moment::now())?;
+//! for (min, max) in held.ipv4 {
+//!     println!("{min} to {max}");
+//! }
+//! # Ok(())
+//! # }
+//! ```
+//!
+//! What is judged is proved: the library accepts a path exactly where it is valid by the standards'
+//! definitions. This crate only moves values into it and out of it, and is tested. All types are plain
+//! data, and so `Send` and `Sync`; the library has no state, and threads may call side by side.
+//!
+//! Each call checks first that the library is of this crate's interface, and panics where it isn't.
+mod fault;
+mod moment;
+mod sys;
+
+pub use fault::{Fault, FaultKind, Place};
+pub use moment::Moment;
+
+use std::net::{Ipv4Addr, Ipv6Addr};
+use std::ops::RangeInclusive;
+use std::sync::Once;
+
+/// Panics where the library is of another interface than this crate.
+fn check_library() {
+    static CHECK: Once = Once::new();
+    CHECK.call_once(|| {
+        let version = sys::abi_version();
+        assert_eq!(
+            version,
+            sys::ABI,
+            "librpki isn't of the version of this crate"
+        );
+    });
+}
+
+/// What a certificate is judged as.
+#[derive(Clone, Copy, Debug, PartialEq, Eq, Hash)]
+pub enum Kind {
+    /// A trust anchor.
+    TrustAnchor = 0,
+    /// A CA.
+    Authority = 1,
+    /// An end entity.
+    EndEntity = 2,
+    /// An end entity that signs any object.
+    Detached = 3,
+    /// A BGPsec router (RFC 8209).
+    Router = 4,
+}
+
+/// A URI of a certificate.
+#[derive(Clone, Copy, Debug, PartialEq, Eq, Hash)]
+pub enum Uri {
+    /// Where its issuer's certificate is.
+    CaIssuer = 0,
+    /// Where its issuer's revocation list is.
+    Crl = 1,
+    /// Where it publishes.
+    Repository = 2,
+    /// Where its manifest is.
+    Manifest = 3,
+    /// Where the object is that it signs.
+    SignedObject = 4,
+    /// Where the notification file of RRDP is.
+    Notify = 5,
+}
+
+/// The ranges of a set. They ascend, and neither overlap nor touch.
+pub type Ipv4Ranges = Vec<(Ipv4Addr, Ipv4Addr)>;
+/// The ranges of a set. They ascend, and neither overlap nor touch.
+pub type Ipv6Ranges = Vec<(Ipv6Addr, Ipv6Addr)>;
+/// The ranges of a set. They ascend, and neither overlap nor touch.
+pub type AsRanges = Vec<RangeInclusive<u32>>;
+
+/// How a certificate has its resources of one kind.
+#[derive(Clone, Debug, PartialEq, Eq, Hash)]
+pub enum Resources<T> {
+    /// It has none.
+    Missing,
+    /// It has those of its issuer.
+    Inherited,
+    /// It lists these.
+    Listed(T),
+}
+
+impl<T> Resources<T> {
+    fn of(state: u8, listed: impl FnOnce() -> Result<T, u32>) -> Result<Resources<T>, Fault> {
+        match state {
+            0 => Ok(Resources::Missing),
+            1 => Ok(Resources::Inherited),
+            _ => Ok(Resources::Listed(listed().map_err(Fault::new)?)),
+        }
+    }
+}
+
+/// The numbers that a path holds.
+#[derive(Clone, Debug, Default, PartialEq, Eq, Hash)]
+pub struct Holdings {
+    /// IPv4 addresses.
+    pub ipv4: Ipv4Ranges,
+    /// IPv6 addresses.
+    pub ipv6: Ipv6Ranges,
+    /// AS numbers.
+    pub as_numbers: AsRanges,
+}
+
+fn ipv4(ranges: Vec<sys::IpRange>) -> Ipv4Ranges {
+    let first_four = |it: [u8; 16]| Ipv4Addr::new(it[0], it[1], it[2], it[3]);
+    let both = |it: sys::IpRange| (first_four(it.min), first_four(it.max));
+    ranges.into_iter().map(both).collect()
+}
+
+fn ipv6(ranges: Vec<sys::IpRange>) -> Ipv6Ranges {
+    let both = |it: sys::IpRange| (it.min.into(), it.max.into());
+    ranges.into_iter().map(both).collect()
+}
+
+fn as_numbers(ranges: Vec<sys::AsRange>) -> AsRanges {
+    ranges.into_iter().map(|it| it.min..=it.max).collect()
+}
+
+/// A resource certificate, read from DER.
+#[derive(Clone, Debug)]
+pub struct Certificate {
+    octets: Vec<u8>,
+    read: sys::Certificate,
+}
+
+impl Certificate {
+    /// Reads the certificate that the octets begin with. What follows it is ignored.
+    pub fn read(octets: &[u8]) -> Result<Certificate, Fault> {
+        check_library();
+        let read = sys::certificate(octets).map_err(Fault::new)?;
+        Ok(Certificate {
+            octets: octets.to_vec(),
+            read,
+        })
+    }
+
+    /// Returns the octets that it was read from.
+    pub fn as_bytes(&self) -> &[u8] {
+        &self.octets
+    }
+
+    /// Returns the serial number, its greatest octet first.
+    pub fn serial_number(&self) -> [u8; 20] {
+        self.read.serial
+    }
+
+    /// Returns the first moment at which it is valid.
+    pub fn not_before(&self) -> Moment {
+        Moment(self.read.not_before)
+    }
+
+    /// Returns the last moment at which it is valid.
+    pub fn not_after(&self) -> Moment {
+        Moment(self.read.not_after)
+    }
+
+    /// Returns the identifier of its key.
+    pub fn subject_key_identifier(&self) -> [u8; 20] {
+        self.read.subject_key
+    }
+
+    /// Returns the identifier of its issuer's key, if it has one.
+    pub fn authority_key_identifier(&self) -> Option<[u8; 20]> {
+        (self.read.has_authority_key != 0).then_some(self.read.authority_key)
+    }
+
+    /// Tells whether it says that it is a CA.
+    pub fn is_authority(&self) -> bool {
+        self.read.is_authority != 0
+    }
+
+    /// Tells whether what it lists beyond its issuer is cut off (RFC 8360), and not rejected.
+    pub fn trims_resources(&self) -> bool {
+        self.read.overclaim != 0
+    }
+
+    /// Returns its IPv4 addresses.
+    pub fn ipv4(&self) -> Result<Resources<Ipv4Ranges>, Fault> {
+        Resources::of(self.read.v4, || sys::addresses(&self.octets, 4).map(ipv4))
+    }
+
+    /// Returns its IPv6 addresses.
+    pub fn ipv6(&self) -> Result<Resources<Ipv6Ranges>, Fault> {
+        Resources::of(self.read.v6, || sys::addresses(&self.octets, 6).map(ipv6))
+    }
+
+    /// Returns its AS numbers.
+    pub fn as_numbers(&self) -> Result<Resources<AsRanges>, Fault> {
+        Resources::of(self.read.asn, || {
+            sys::as_numbers(&self.octets).map(as_numbers)
+        })
+    }
+
+    /// Returns one of its URIs, if it has it.
+    pub fn uri(&self, which: Uri) -> Result<Option<String>, Fault> {
+        let uri = sys::certificate_uri(&self.octets, which as u32).map_err(Fault::new)?;
+        Ok((!uri.is_empty()).then(|| String::from_utf8_lossy(&uri).into_owned()))
+    }
+
+    /// Returns the issuer's Name in DER.
+    pub fn issuer(&self) -> Result<Vec<u8>, Fault> {
+        sys::certificate_name(&self.octets, 0).map_err(Fault::new)
+    }
+
+    /// Returns the subject's Name in DER.
+    pub fn subject(&self) -> Result<Vec<u8>, Fault> {
+        sys::certificate_name(&self.octets, 1).map_err(Fault::new)
+    }
+
+    /// Checks that it meets the profile of a kind. Strictly, names have to have the strings of RFC
+    /// 6487 4.4.
+    pub fn inspect(&self, kind: Kind, strict: bool) -> Result<(), Fault> {
+        sys::inspect(&self.octets, kind as u32, strict).map_err(Fault::new)
+    }
+}
+
+/// A revoked certificate's serial number, its greatest octet first, and since when it is revoked.
+#[derive(Clone, Copy, Debug, PartialEq, Eq, Hash)]
+pub struct Entry {
+    /// The serial number.
+    pub serial_number: [u8; 20],
+    /// Since when it is revoked.
+    pub revoked_at: Moment,
+}
+
+/// A revocation list, read from DER.
+#[derive(Clone, Debug)]
+pub struct RevocationList {
+    octets: Vec<u8>,
+    read: sys::List,
+}
+
+impl RevocationList {
+    /// Reads the list that the octets begin with. What follows it is ignored.
+    pub fn read(octets: &[u8]) -> Result<RevocationList, Fault> {
+        check_library();
+        let read = sys::list(octets).map_err(Fault::new)?;
+        Ok(RevocationList {
+            octets: octets.to_vec(),
+            read,
+        })
+    }
+
+    /// Returns the octets that it was read from.
+    pub fn as_bytes(&self) -> &[u8] {
+        &self.octets
+    }
+
+    /// Returns the CRL number, its greatest octet first.
+    pub fn number(&self) -> [u8; 20] {
+        self.read.number
+    }
+
+    /// Returns when it was issued.
+    pub fn this_update(&self) -> Moment {
+        Moment(self.read.this_update)
+    }
+
+    /// Returns until when the next one is issued.
+    pub fn next_update(&self) -> Moment {
+        Moment(self.read.next_update)
+    }
+
+    /// Returns the identifier of its issuer's key.
+    pub fn authority_key_identifier(&self) -> [u8; 20] {
+        self.read.authority_key
+    }
+
+    /// Returns the issuer's Name in DER.
+    pub fn issuer(&self) -> Result<Vec<u8>, Fault> {
+        sys::list_issuer(&self.octets).map_err(Fault::new)
+    }
+
+    /// Returns the entries, in the list's order.
+    pub fn entries(&self) -> Result<Vec<Entry>, Fault> {
+        let entry = |it: sys::Entry| Entry {
+            serial_number: it.serial,
+            revoked_at: Moment(it.date),
+        };
+        let entries = sys::entries(&self.octets).map_err(Fault::new)?;
+        Ok(entries.into_iter().map(entry).collect())
+    }
+
+    /// Tells whether the serial number is on the list. Whose list it is isn't asked.
+    pub fn contains(&self, serial_number: &[u8; 20]) -> Result<bool, Fault> {
+        sys::is_revoked(&self.octets, serial_number).map_err(Fault::new)
+    }
+}
+
+/// A path of certificates, and what is asked of it.
+#[derive(Clone, Debug)]
+pub struct Path<'a> {
+    members: &'a [&'a [u8]],
+    last: Kind,
+    lists: Option<&'a [&'a [u8]]>,
+    locator: Option<&'a [u8]>,
+    strict: bool,
+    chain_names: bool,
+}
+
+impl<'a> Path<'a> {
+    /// Makes a path of these certificates, in order, the trust anchor first. The last one is judged as
+    /// of this kind.
+    pub fn new(members: &'a [&'a [u8]], last: Kind) -> Path<'a> {
+        Path {
+            members,
+            last,
+            lists: None,
+            locator: None,
+            strict: true,
+            chain_names: true,
+        }
+    }
+
+    /// Asks these revocation lists, in any order: each member below the trust anchor has to be
+    /// unrevoked by the latest list of its issuer that has begun.
+    pub fn lists(mut self, lists: &'a [&'a [u8]]) -> Path<'a> {
+        self.lists = Some(lists);
+        self
+    }
+
+    /// Asks that the trust anchor has the key of this file of a locator (RFC 8630).
+    pub fn locator(mut self, file: &'a [u8]) -> Path<'a> {
+        self.locator = Some(file);
+        self
+    }
+
+    /// Lets names have other strings than RFC 6487 4.4 asks, and a locator's comments any octets.
+    pub fn lenient(mut self) -> Path<'a> {
+        self.strict = false;
+        self
+    }
+
+    /// Doesn't ask that each issuer is the subject of the member above it (RFC 6487 7.2).
+    pub fn without_names(mut self) -> Path<'a> {
+        self.chain_names = false;
+        self
+    }
+
+    /// Validates the path, with signatures (RFC 7935), and returns what its last member holds; of a
+    /// router's certificate, what the member above it holds. Errs with the fault of the first wrong
+    /// member.
+    pub fn validate(&self, now: Moment) -> Result<Holdings, Fault> {
+        check_library();
+        if let (Some(file), Some(anchor)) = (self.locator, self.members.first()) {
+            sys::locator(anchor, file, self.strict).map_err(Fault::of_anchor)?;
+        }
+        let question = sys::Question {
+            members: self.members,
+            last: self.last as u32,
+            lists: self.lists,
+            strict: self.strict,
+            now: now.0,
+        };
+        let of_path = |(number, index)| Fault::of_path(number, index, self.members.len());
+        let held = sys::judge(&question).map_err(of_path)?;
+        if self.chain_names {
+            sys::names(self.members).map_err(of_path)?;
+        }
+        Ok(Holdings {
+            ipv4: ipv4(held.v4),
+            ipv6: ipv6(held.v6),
+            as_numbers: as_numbers(held.asn),
+        })
+    }
+}

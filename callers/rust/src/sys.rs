@@ -1,0 +1,421 @@
+//! The calls of librpki as rpki.h declares them. All that knows the library's interface, and all that
+//! is unsafe, stands here: each function below hands over pointers with the lengths of their own
+//! slices, and what is written overlaps nothing else of the call.
+use std::ptr;
+
+/// RPKI_ABI of rpki.h.
+pub const ABI: u32 = 2;
+pub const OK: u32 = 0;
+pub const MEMORY: u32 = 1;
+pub const BAD_CALL: u32 = 2;
+
+#[repr(C)]
+#[derive(Clone, Copy, Debug, Default, PartialEq, Eq)]
+pub struct Time {
+    pub year: u16,
+    pub month: u8,
+    pub day: u8,
+    pub hour: u8,
+    pub minute: u8,
+    pub second: u8,
+    pub unused: u8,
+}
+
+#[repr(C)]
+#[derive(Clone, Debug, Default)]
+pub struct Certificate {
+    pub not_before: Time,
+    pub not_after: Time,
+    pub serial: [u8; 20],
+    pub subject_key: [u8; 20],
+    pub authority_key: [u8; 20],
+    pub has_authority_key: u8,
+    pub is_authority: u8,
+    pub key_usage: u8,
+    pub overclaim: u8,
+    pub v4: u8,
+    pub v6: u8,
+    pub asn: u8,
+}
+
+#[repr(C)]
+#[derive(Clone, Copy, Default)]
+pub struct IpRange {
+    pub min: [u8; 16],
+    pub max: [u8; 16],
+}
+
+#[repr(C)]
+#[derive(Clone, Copy, Default)]
+pub struct AsRange {
+    pub min: u32,
+    pub max: u32,
+}
+
+#[repr(C)]
+#[derive(Clone, Debug, Default)]
+pub struct List {
+    pub this_update: Time,
+    pub next_update: Time,
+    pub entries: u64,
+    pub number: [u8; 20],
+    pub authority_key: [u8; 20],
+}
+
+#[repr(C)]
+#[derive(Clone, Copy, Default)]
+pub struct Entry {
+    pub date: Time,
+    pub serial: [u8; 20],
+}
+
+#[repr(C)]
+#[derive(Default)]
+struct Verdict {
+    fault: u32,
+    index: u32,
+    v4: u64,
+    v6: u64,
+    asn: u64,
+}
+
+extern "C" {
+    fn rpki_abi_version() -> u32;
+    fn rpki_fault_name(fault: u32, out: *mut u8, room: usize, count: *mut u64) -> u32;
+    fn rpki_fault_sentence(fault: u32, out: *mut u8, room: usize, count: *mut u64) -> u32;
+    fn rpki_certificate_read(octets: *const u8, length: usize, out: *mut Certificate) -> u32;
+    fn rpki_certificate_inspect(octets: *const u8, length: usize, kind: u32, strict: u32) -> u32;
+    fn rpki_certificate_addresses(
+        octets: *const u8,
+        length: usize,
+        family: u32,
+        out: *mut IpRange,
+        room: usize,
+        count: *mut u64,
+    ) -> u32;
+    fn rpki_certificate_as_numbers(
+        octets: *const u8,
+        length: usize,
+        out: *mut AsRange,
+        room: usize,
+        count: *mut u64,
+    ) -> u32;
+    fn rpki_certificate_uri(
+        octets: *const u8,
+        length: usize,
+        which: u32,
+        out: *mut u8,
+        room: usize,
+        count: *mut u64,
+    ) -> u32;
+    fn rpki_certificate_name(
+        octets: *const u8,
+        length: usize,
+        which: u32,
+        out: *mut u8,
+        room: usize,
+        count: *mut u64,
+    ) -> u32;
+    fn rpki_list_read(octets: *const u8, length: usize, out: *mut List) -> u32;
+    fn rpki_list_entries(
+        octets: *const u8,
+        length: usize,
+        out: *mut Entry,
+        room: usize,
+        count: *mut u64,
+    ) -> u32;
+    fn rpki_list_issuer(
+        octets: *const u8,
+        length: usize,
+        out: *mut u8,
+        room: usize,
+        count: *mut u64,
+    ) -> u32;
+    fn rpki_list_ask(
+        octets: *const u8,
+        length: usize,
+        serials: *const u8,
+        serials_length: usize,
+        answers: *mut u8,
+        count: usize,
+    ) -> u32;
+    fn rpki_path_validate(
+        octets: *const u8,
+        length: usize,
+        lengths: *const usize,
+        members: usize,
+        last: u32,
+        strict: u32,
+        now: *const Time,
+        v4: *mut IpRange,
+        v4_room: usize,
+        v6: *mut IpRange,
+        v6_room: usize,
+        asn: *mut AsRange,
+        asn_room: usize,
+        out: *mut Verdict,
+    ) -> u32;
+    fn rpki_path_validate_with(
+        lists: *const u8,
+        lists_length: usize,
+        list_lengths: *const usize,
+        list_count: usize,
+        octets: *const u8,
+        length: usize,
+        lengths: *const usize,
+        members: usize,
+        last: u32,
+        strict: u32,
+        now: *const Time,
+        v4: *mut IpRange,
+        v4_room: usize,
+        v6: *mut IpRange,
+        v6_room: usize,
+        asn: *mut AsRange,
+        asn_room: usize,
+        out: *mut Verdict,
+    ) -> u32;
+    fn rpki_path_names(
+        octets: *const u8,
+        length: usize,
+        lengths: *const usize,
+        members: usize,
+        place: *mut u64,
+    ) -> u32;
+    fn rpki_path_locator(
+        anchor: *const u8,
+        length: usize,
+        locator: *const u8,
+        locator_length: usize,
+        strict: u32,
+    ) -> u32;
+}
+
+/// The number of a fault, where a call answers one.
+type Called<T> = Result<T, u32>;
+
+fn answered<T>(fault: u32, value: T) -> Called<T> {
+    match fault {
+        OK => Ok(value),
+        _ => Err(fault),
+    }
+}
+
+/// All elements that a call writes: a first call counts them, and a second one writes them.
+fn all_of<T: Clone + Default>(write: impl Fn(*mut T, usize, *mut u64) -> u32) -> Called<Vec<T>> {
+    let mut count = 0;
+    answered(write(ptr::null_mut(), 0, &mut count), ())?;
+    let mut room = vec![T::default(); count as usize];
+    let fault = write(room.as_mut_ptr(), room.len(), &mut count);
+    answered(fault, room)
+}
+
+pub fn abi_version() -> u32 {
+    unsafe { rpki_abi_version() }
+}
+
+pub fn fault_name(fault: u32) -> Called<Vec<u8>> {
+    all_of(|out, room, count| unsafe { rpki_fault_name(fault, out, room, count) })
+}
+
+pub fn fault_sentence(fault: u32) -> Called<Vec<u8>> {
+    all_of(|out, room, count| unsafe { rpki_fault_sentence(fault, out, room, count) })
+}
+
+pub fn certificate(octets: &[u8]) -> Called<Certificate> {
+    let mut out = Certificate::default();
+    let fault = unsafe { rpki_certificate_read(octets.as_ptr(), octets.len(), &mut out) };
+    answered(fault, out)
+}
+
+pub fn inspect(octets: &[u8], kind: u32, strict: bool) -> Called<()> {
+    let (at, length) = (octets.as_ptr(), octets.len());
+    answered(
+        unsafe { rpki_certificate_inspect(at, length, kind, strict.into()) },
+        (),
+    )
+}
+
+pub fn addresses(octets: &[u8], family: u32) -> Called<Vec<IpRange>> {
+    let (at, length) = (octets.as_ptr(), octets.len());
+    all_of(|out, room, count| unsafe {
+        rpki_certificate_addresses(at, length, family, out, room, count)
+    })
+}
+
+pub fn as_numbers(octets: &[u8]) -> Called<Vec<AsRange>> {
+    let (at, length) = (octets.as_ptr(), octets.len());
+    all_of(|out, room, count| unsafe { rpki_certificate_as_numbers(at, length, out, room, count) })
+}
+
+pub fn certificate_uri(octets: &[u8], which: u32) -> Called<Vec<u8>> {
+    let (at, length) = (octets.as_ptr(), octets.len());
+    all_of(|out, room, count| unsafe { rpki_certificate_uri(at, length, which, out, room, count) })
+}
+
+pub fn certificate_name(octets: &[u8], which: u32) -> Called<Vec<u8>> {
+    let (at, length) = (octets.as_ptr(), octets.len());
+    all_of(|out, room, count| unsafe { rpki_certificate_name(at, length, which, out, room, count) })
+}
+
+pub fn list(octets: &[u8]) -> Called<List> {
+    let mut out = List::default();
+    let fault = unsafe { rpki_list_read(octets.as_ptr(), octets.len(), &mut out) };
+    answered(fault, out)
+}
+
+pub fn entries(octets: &[u8]) -> Called<Vec<Entry>> {
+    let (at, length) = (octets.as_ptr(), octets.len());
+    all_of(|out, room, count| unsafe { rpki_list_entries(at, length, out, room, count) })
+}
+
+pub fn list_issuer(octets: &[u8]) -> Called<Vec<u8>> {
+    let (at, length) = (octets.as_ptr(), octets.len());
+    all_of(|out, room, count| unsafe { rpki_list_issuer(at, length, out, room, count) })
+}
+
+/// Whether the list has the serial number.
+pub fn is_revoked(octets: &[u8], serial: &[u8; 20]) -> Called<bool> {
+    let mut answer = 0;
+    let (at, length) = (octets.as_ptr(), octets.len());
+    let fault = unsafe { rpki_list_ask(at, length, serial.as_ptr(), 20, &mut answer, 1) };
+    answered(fault, answer != 0)
+}
+
+/// Octets that stand one behind the other, and their lengths.
+struct Strings {
+    octets: Vec<u8>,
+    lengths: Vec<usize>,
+}
+
+impl Strings {
+    fn of(parts: &[&[u8]]) -> Strings {
+        Strings {
+            octets: parts.concat(),
+            lengths: parts.iter().map(|part| part.len()).collect(),
+        }
+    }
+}
+
+/// What is asked of a path.
+pub struct Question<'a> {
+    pub members: &'a [&'a [u8]],
+    pub last: u32,
+    pub lists: Option<&'a [&'a [u8]]>,
+    pub strict: bool,
+    pub now: Time,
+}
+
+/// The ranges that a path holds.
+#[derive(Default)]
+pub struct Held {
+    pub v4: Vec<IpRange>,
+    pub v6: Vec<IpRange>,
+    pub asn: Vec<AsRange>,
+}
+
+/// Calls the library, which writes as many ranges as there is room for.
+fn ask(
+    question: &Question<'_>,
+    members: &Strings,
+    lists: Option<&Strings>,
+    held: &mut Held,
+) -> Verdict {
+    let mut out = Verdict::default();
+    let (strict, now) = (question.strict.into(), &question.now);
+    let (octets, length) = (members.octets.as_ptr(), members.octets.len());
+    let (lengths, count) = (members.lengths.as_ptr(), members.lengths.len());
+    let (v4, v4_room) = (held.v4.as_mut_ptr(), held.v4.len());
+    let (v6, v6_room) = (held.v6.as_mut_ptr(), held.v6.len());
+    let (asn, asn_room) = (held.asn.as_mut_ptr(), held.asn.len());
+    match lists {
+        None => unsafe {
+            rpki_path_validate(
+                octets,
+                length,
+                lengths,
+                count,
+                question.last,
+                strict,
+                now,
+                v4,
+                v4_room,
+                v6,
+                v6_room,
+                asn,
+                asn_room,
+                &mut out,
+            )
+        },
+        Some(lists) => unsafe {
+            rpki_path_validate_with(
+                lists.octets.as_ptr(),
+                lists.octets.len(),
+                lists.lengths.as_ptr(),
+                lists.lengths.len(),
+                octets,
+                length,
+                lengths,
+                count,
+                question.last,
+                strict,
+                now,
+                v4,
+                v4_room,
+                v6,
+                v6_room,
+                asn,
+                asn_room,
+                &mut out,
+            )
+        },
+    };
+    out
+}
+
+/// What the last member holds, or a fault and its place: a first call counts the ranges, and a second
+/// one writes them.
+pub fn judge(question: &Question<'_>) -> Result<Held, (u32, usize)> {
+    let members = Strings::of(question.members);
+    let lists = question.lists.map(Strings::of);
+    let mut held = Held::default();
+    for _ in 0..2 {
+        let out = ask(question, &members, lists.as_ref(), &mut held);
+        if out.fault != OK {
+            return Err((out.fault, out.index as usize));
+        }
+        held.v4.resize(out.v4 as usize, IpRange::default());
+        held.v6.resize(out.v6 as usize, IpRange::default());
+        held.asn.resize(out.asn as usize, AsRange::default());
+    }
+    Ok(held)
+}
+
+/// Whether names chain: else a fault and its place.
+pub fn names(members: &[&[u8]]) -> Result<(), (u32, usize)> {
+    let members = Strings::of(members);
+    let mut place = 0;
+    let fault = unsafe {
+        rpki_path_names(
+            members.octets.as_ptr(),
+            members.octets.len(),
+            members.lengths.as_ptr(),
+            members.lengths.len(),
+            &mut place,
+        )
+    };
+    answered(fault, ()).map_err(|fault| (fault, place as usize))
+}
+
+pub fn locator(anchor: &[u8], locator: &[u8], strict: bool) -> Called<()> {
+    let fault = unsafe {
+        rpki_path_locator(
+            anchor.as_ptr(),
+            anchor.len(),
+            locator.as_ptr(),
+            locator.len(),
+            strict.into(),
+        )
+    };
+    answered(fault, ())
+}

@@ -1,0 +1,211 @@
+//! Tests the crate over the files of examples/, whose contents examples/make.sh says.
+use gonxebhula::{
+    Certificate, Fault, FaultKind, Kind, Moment, Path, Place, Resources, RevocationList, Uri,
+};
+use std::net::{Ipv4Addr, Ipv6Addr};
+
+const NOON: [u16; 6] = [2026, 6, 1, 12, 0, 0];
+
+fn at(parts: [u16; 6]) -> Moment {
+    let [year, month, day, hour, minute, second] = parts;
+    let parts = [month, day, hour, minute, second].map(|part| part as u8);
+    Moment::new(year, parts[0], parts[1], parts[2], parts[3], parts[4])
+}
+
+fn octets(name: &str) -> Vec<u8> {
+    let folder = concat!(env!("CARGO_MANIFEST_DIR"), "/../../examples");
+    std::fs::read(format!("{folder}/{name}")).unwrap()
+}
+
+fn number(last: u8) -> [u8; 20] {
+    let mut octets = [0; 20];
+    octets[19] = last;
+    octets
+}
+
+/// The octets of the path of examples/ and of its lists.
+fn example() -> (Vec<Vec<u8>>, Vec<Vec<u8>>) {
+    let members = ["anchor.cer", "first.cer", "second.cer", "object.cer"];
+    let lists = ["first.crl", "second.crl", "object.crl"];
+    (members.map(octets).to_vec(), lists.map(octets).to_vec())
+}
+
+fn slices(owned: &[Vec<u8>]) -> Vec<&[u8]> {
+    owned.iter().map(Vec::as_slice).collect()
+}
+
+#[test]
+fn certificates_are_read() {
+    let it = Certificate::read(&octets("first.cer")).unwrap();
+    let anchor = Certificate::read(&octets("anchor.cer")).unwrap();
+    assert_eq!(it.serial_number(), number(2));
+    assert_eq!(it.not_before().to_string(), "2026-01-01T00:00:00Z");
+    assert_eq!(it.not_after().to_string(), "2036-01-01T00:00:00Z");
+    assert!(it.is_authority() && !it.trims_resources());
+    let key = anchor.subject_key_identifier();
+    assert_eq!(it.authority_key_identifier(), Some(key));
+    assert_eq!(it.issuer().unwrap(), anchor.subject().unwrap());
+    let uri = it.uri(Uri::Manifest).unwrap();
+    assert_eq!(
+        uri.unwrap(),
+        "rsync://rpki.example.net/repo/first/first.mft"
+    );
+    assert_eq!(it.uri(Uri::SignedObject).unwrap(), None);
+}
+
+#[test]
+fn resources_are_listed_inherited_or_missing() {
+    let it = Certificate::read(&octets("first.cer")).unwrap();
+    let v4 = |a, b, c, d| Ipv4Addr::new(a, b, c, d);
+    let listed = vec![
+        (v4(10, 0, 0, 0), v4(10, 15, 255, 255)),
+        (v4(10, 32, 0, 0), v4(10, 40, 255, 255)),
+    ];
+    assert_eq!(it.ipv4().unwrap(), Resources::Listed(listed));
+    let ends = ["2001:db8::", "2001:db8:ff:ffff:ffff:ffff:ffff:ffff"];
+    let ends = ends.map(|end| end.parse::<Ipv6Addr>().unwrap());
+    assert_eq!(
+        it.ipv6().unwrap(),
+        Resources::Listed(vec![(ends[0], ends[1])])
+    );
+    let systems = vec![64500..=64503, 64510..=64510];
+    assert_eq!(it.as_numbers().unwrap(), Resources::Listed(systems));
+
+    let inherits = Certificate::read(&octets("second.cer")).unwrap();
+    assert_eq!(inherits.ipv4().unwrap(), Resources::Inherited);
+    let misses = Certificate::read(&octets("object.cer")).unwrap();
+    assert_eq!(misses.as_numbers().unwrap(), Resources::Missing);
+}
+
+#[test]
+fn lists_are_read() {
+    let it = RevocationList::read(&octets("revoked.crl")).unwrap();
+    assert_eq!(it.number(), number(2));
+    let entries = it.entries().unwrap();
+    assert_eq!(entries.len(), 1);
+    assert_eq!(entries[0].serial_number, number(3));
+    assert_eq!(entries[0].revoked_at.to_string(), "2026-02-01T00:00:00Z");
+    assert!(it.contains(&number(3)).unwrap() && !it.contains(&number(2)).unwrap());
+}
+
+#[test]
+fn other_octets_are_rejected() {
+    let fault = Certificate::read(&octets("first.crl")).unwrap_err();
+    assert_eq!((fault.kind(), fault.place()), (FaultKind::Decode, None));
+    let fault = RevocationList::read(b"").unwrap_err();
+    assert_eq!(fault.name(), "Truncated");
+    let ee = Certificate::read(&octets("object.cer")).unwrap();
+    assert!(ee.inspect(Kind::EndEntity, true).is_ok());
+    let fault = ee.inspect(Kind::Authority, true).unwrap_err();
+    assert_eq!(fault.kind(), FaultKind::Inspection);
+}
+
+#[test]
+fn a_path_is_accepted() {
+    let (members, lists) = example();
+    let (members, lists, locator) = (slices(&members), slices(&lists), octets("anchor.tal"));
+    let path = Path::new(&members, Kind::EndEntity)
+        .lists(&lists)
+        .locator(&locator);
+    let held = path.validate(at(NOON)).unwrap();
+    let (min, max) = (Ipv4Addr::new(10, 1, 2, 0), Ipv4Addr::new(10, 1, 2, 255));
+    assert_eq!(held.ipv4, [(min, max)]);
+    assert!(held.ipv6.is_empty() && held.as_numbers.is_empty());
+}
+
+fn rejected(path: &Path<'_>, now: [u16; 6], name: &str, place: Option<Place>) -> Fault {
+    let fault = path.validate(at(now)).unwrap_err();
+    assert_eq!((fault.name().as_str(), fault.place()), (name, place));
+    fault
+}
+
+#[test]
+fn paths_are_rejected() {
+    let (members, lists) = example();
+    let (members, lists) = (slices(&members), slices(&lists));
+    let (revoked, tampered) = (octets("revoked.crl"), octets("tampered.cer"));
+    let path = Path::new(&members[..3], Kind::Authority);
+    let late = [2036, 1, 1, 0, 0, 1];
+    let anchors = Some(Place::Member(0));
+    rejected(&path, late, "Expired", anchors);
+    assert!(path.validate(at([2036, 1, 1, 0, 0, 0])).is_ok());
+    let revoking = [lists[0], revoked.as_slice()];
+    let fault = rejected(
+        &path.clone().lists(&revoking),
+        NOON,
+        "Revoked",
+        Some(Place::Member(2)),
+    );
+    assert_eq!(fault.to_string(), "member 2: certificate revoked (Revoked)");
+    rejected(
+        &path.clone().lists(&[]),
+        NOON,
+        "NoCrl",
+        Some(Place::Member(1)),
+    );
+    let others = [lists[0], members[0]];
+    let fault = path.clone().lists(&others).validate(at(NOON)).unwrap_err();
+    assert_eq!(
+        (fault.kind(), fault.place()),
+        (FaultKind::Decode, Some(Place::List(1)))
+    );
+    let other = [members[0], members[1], tampered.as_slice()];
+    let path = Path::new(&other, Kind::Authority);
+    let fault = rejected(&path, NOON, "BadSignature", Some(Place::Member(2)));
+    assert_eq!(fault.kind(), FaultKind::Verification);
+}
+
+#[test]
+fn locators_are_asked() {
+    let (members, _) = example();
+    let (members, locator) = (slices(&members), octets("anchor.tal"));
+    let path = Path::new(&members[1..3], Kind::Authority).locator(&locator);
+    let fault = rejected(&path, NOON, "OtherKey", Some(Place::Member(0)));
+    assert_eq!(fault.kind(), FaultKind::Locator);
+    let path = Path::new(&members[..1], Kind::Authority).locator(b"\n");
+    rejected(&path, NOON, "NoUri", None);
+}
+
+#[test]
+fn wrong_calls_are_told() {
+    let anchor = octets("anchor.cer");
+    let members = [anchor.as_slice()];
+    let too_few = Path::new(&members, Kind::EndEntity).validate(at(NOON));
+    assert_eq!(too_few.unwrap_err().kind(), FaultKind::BadCall);
+    let no_day = Path::new(&members, Kind::Authority).validate(at([2026, 2, 29, 0, 0, 0]));
+    assert_eq!(no_day.unwrap_err().kind(), FaultKind::BadCall);
+    assert!(Path::new(&[], Kind::Authority).validate(at(NOON)).is_err());
+}
+
+#[test]
+fn moments_are_those_of_the_calendar() {
+    for (seconds, text) in [
+        (0, "1970-01-01T00:00:00Z"),
+        (951_782_400, "2000-02-29T00:00:00Z"),
+        (1_000_000_000, "2001-09-09T01:46:40Z"),
+        (4_107_542_399, "2100-02-28T23:59:59Z"),
+        (4_107_542_400, "2100-03-01T00:00:00Z"),
+        (253_402_300_799, "9999-12-31T23:59:59Z"),
+    ] {
+        assert_eq!(Moment::from_timestamp(seconds).to_string(), text);
+    }
+    assert!(Moment::now() > at([2024, 1, 1, 0, 0, 0]));
+}
+
+#[test]
+fn values_go_between_threads() {
+    fn is<T: Send + Sync + 'static>() {}
+    is::<Certificate>();
+    is::<RevocationList>();
+    is::<Fault>();
+    let (members, lists) = example();
+    std::thread::scope(|scope| {
+        for _ in 0..4 {
+            scope.spawn(|| {
+                let (members, lists) = (slices(&members), slices(&lists));
+                let path = Path::new(&members, Kind::EndEntity).lists(&lists);
+                assert!((0..10).all(|_| path.validate(at(NOON)).is_ok()));
+            });
+        }
+    });
+}
