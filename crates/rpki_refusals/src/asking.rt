@@ -1,12 +1,9 @@
 //! Which call is asked for, where it begins and ends, and what it answered.
 
-use rpki_blocks::IssueError;
-use rpki_cert::{IssueCaError, RearrangeError, ValidationError, VerificationError};
+use rpki_cert::{IssueCaError, ValidationError, VerificationError};
 use rpki_der::{Cursor, DecodeError, EncodeError};
-use rpki_lines::RunFault;
-use rpki_parts::{SigningError, UriError};
+use rpki_parts::SigningError;
 use rpki_path::{PathError, PathFault};
-use rpki_tal::TalError;
 use std::alloc::{AllocError, Global};
 use std::process::ExitCode;
 
@@ -119,37 +116,7 @@ impl Fault for EncodeError {
     }
 }
 
-impl Fault for IssueError {
-    fn told(&self) -> &'static str {
-        self.name()
-    }
-}
-
-impl Fault for UriError {
-    fn told(&self) -> &'static str {
-        self.name()
-    }
-}
-
-impl Fault for TalError {
-    fn told(&self) -> &'static str {
-        self.name()
-    }
-}
-
 impl Fault for VerificationError {
-    fn told(&self) -> &'static str {
-        self.name()
-    }
-}
-
-impl Fault for RearrangeError {
-    fn told(&self) -> &'static str {
-        self.name()
-    }
-}
-
-impl Fault for RunFault {
     fn told(&self) -> &'static str {
         self.name()
     }
@@ -194,12 +161,17 @@ impl Fault for IssueCaError<()> {
     }
 }
 
-/// Lets the answer go, marks the end and tells the name of the answer.
-pub fn ended<T: Drop, E: Fault>(alloc: Global, answer: Result<T, E>) -> &'static str {
-    let name = match &answer {
+/// The name of an answer.
+pub fn name_of<T: Drop, E: Fault>(answer: &Result<T, E>) -> &'static str {
+    match answer {
         Ok(_) => "ok",
         Err(error) => error.told(),
-    };
+    }
+}
+
+/// Lets the answer go, marks the end and tells the name of the answer.
+pub fn ended<T: Drop, E: Fault>(alloc: Global, answer: Result<T, E>) -> &'static str {
+    let name = name_of(&answer);
     drop(answer);
     end(alloc);
     name
@@ -217,22 +189,12 @@ pub fn read<T: Drop, E: Fault>(
     answer: Result<T, E>,
     cursor: &Cursor<'_>,
 ) -> Option<Told> {
-    read_from(alloc, answer, cursor, 0)
-}
-
-/// What a reader answered whose cursor stood at this place.
-pub fn read_from<T: Drop, E: Fault>(
-    alloc: Global,
-    answer: Result<T, E>,
-    cursor: &Cursor<'_>,
-    place: usize,
-) -> Option<Told> {
     let answer = ended(alloc, answer);
     let (from, _) = cursor.span();
     let stands = if answer == "ok" {
         cursor.is_empty()
     } else {
-        from == place
+        from == 0
     };
     Some(Told::standing(answer, stands))
 }

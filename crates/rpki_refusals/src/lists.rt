@@ -1,77 +1,12 @@
-//! Revocation lists that are read, written and copied.
+//! The data of revocation lists, and lists that are copied or read again.
 
-use crate::asking::{Asked, Told, begin, ended, plain, read, read_from, written};
-use crate::inputs::{LIST, list, octets};
-use crate::stores;
+use crate::asking::{Asked, Told, begin, ended, read, written};
+use crate::inputs::list;
+use crate::stores::read_again;
 use bytes::Bytes;
-use rpki_crl::{Crl, TbsCertList};
+use rpki_crl::TbsCertList;
 use rpki_der::Cursor;
 use std::alloc::Global;
-
-fn decoded(alloc: Global) -> Option<Told> {
-    let octets = octets(alloc, LIST)?;
-    begin(alloc);
-    let answer = Crl::decode(alloc, octets.as_slice());
-    plain(alloc, answer)
-}
-
-fn decoded_shared(alloc: Global) -> Option<Told> {
-    let octets = octets(alloc, LIST)?;
-    begin(alloc);
-    let answer = Crl::decode_shared(alloc, octets);
-    plain(alloc, answer)
-}
-
-fn taken(alloc: Global) -> Option<Told> {
-    let octets = octets(alloc, LIST)?;
-    let mut cursor = Cursor::new(&octets);
-    begin(alloc);
-    let answer = Crl::take_from(alloc, &mut cursor);
-    read(alloc, answer, &cursor)
-}
-
-fn taken_optional(alloc: Global) -> Option<Told> {
-    let octets = octets(alloc, LIST)?;
-    let mut cursor = Cursor::new(&octets);
-    begin(alloc);
-    let answer = Crl::take_opt_from(alloc, &mut cursor);
-    read(alloc, answer, &cursor)
-}
-
-fn content(alloc: Global) -> Option<Told> {
-    let octets = octets(alloc, LIST)?;
-    let mut cursor = Cursor::new(&octets).take_sequence().ok()?;
-    let (from, _) = cursor.span();
-    begin(alloc);
-    let answer = Crl::from_constructed(alloc, &mut cursor);
-    read_from(alloc, answer, &cursor, from)
-}
-
-fn encoded(alloc: Global) -> Option<Told> {
-    let octets = octets(alloc, LIST)?;
-    let mut out = Vec::from_slice(alloc, b"\xaa").ok()?;
-    let list = list(alloc)?;
-    begin(alloc);
-    let answer = list.encode_ref(alloc, &mut out);
-    drop(list);
-    written(alloc, answer, &out, octets.as_slice())
-}
-
-fn captured(alloc: Global) -> Option<Told> {
-    let list = list(alloc)?;
-    begin(alloc);
-    let answer = ended(alloc, list.to_captured(alloc));
-    drop(list);
-    Some(Told::of(answer))
-}
-
-fn copied(alloc: Global) -> Option<Told> {
-    let list = list(alloc)?;
-    begin(alloc);
-    let answer = ended(alloc, list.try_clone(alloc));
-    drop(list);
-    Some(Told::of(answer))
-}
 
 // With the table of its serials, which is copied too.
 fn cached_copied(alloc: Global) -> Option<Told> {
@@ -118,45 +53,19 @@ fn data_copied(alloc: Global) -> Option<Told> {
     Some(Told::of(answer))
 }
 
-fn reading(alloc: Global, asked: &mut Asked<'_>) -> Option<Told> {
-    if asked.is("rpki_crl::Crl::decode") {
-        decoded(alloc)
-    } else if asked.is("rpki_crl::Crl::decode_shared") {
-        decoded_shared(alloc)
-    } else if asked.is("rpki_crl::Crl::take_from") {
-        taken(alloc)
-    } else if asked.is("rpki_crl::Crl::take_opt_from") {
-        taken_optional(alloc)
-    } else if asked.is("rpki_crl::Crl::from_constructed") {
-        content(alloc)
-    } else if asked.is("rpki_crl::TbsCertList::take_from") {
+/// The calls of lists and of their data.
+pub fn told(alloc: Global, asked: &mut Asked<'_>) -> Option<Told> {
+    if asked.is("rpki_crl::TbsCertList::take_from") {
         data_read(alloc)
-    } else if asked.is("rpki_crl::round_trip::read_again") {
-        stores::read_again(alloc)
-    } else {
-        None
-    }
-}
-
-fn writing(alloc: Global, asked: &mut Asked<'_>) -> Option<Told> {
-    if asked.is("rpki_crl::Crl::encode_ref") {
-        encoded(alloc)
-    } else if asked.is("rpki_crl::Crl::to_captured") {
-        captured(alloc)
-    } else if asked.is("rpki_crl::Crl::try_clone") {
-        copied(alloc)
-    } else if asked.is("rpki_crl::Crl::try_clone/cached") {
-        cached_copied(alloc)
     } else if asked.is("rpki_crl::TbsCertList::encode_ref") {
         data_written(alloc)
     } else if asked.is("rpki_crl::TbsCertList::try_clone") {
         data_copied(alloc)
+    } else if asked.is("rpki_crl::Crl::try_clone/cached") {
+        cached_copied(alloc)
+    } else if asked.is("rpki_crl::round_trip::read_again") {
+        read_again(alloc)
     } else {
         None
     }
-}
-
-/// The calls of lists and of their data.
-pub fn told(alloc: Global, asked: &mut Asked<'_>) -> Option<Told> {
-    reading(alloc, asked).or(writing(alloc, asked))
 }

@@ -10,19 +10,16 @@
 
 mod asking;
 mod blocks;
-mod certificates;
 mod copies;
 mod extensions;
 mod inputs;
 mod lists;
-mod locators;
 mod making;
 mod parts;
 mod paths;
 mod setting;
 mod stores;
 mod validating;
-mod values;
 
 use asking::{Asked, Told};
 use std::alloc::Global;
@@ -31,13 +28,10 @@ use std::{env, io};
 
 // What the call answered that is asked for; the list is filled where that is asked for.
 fn told(alloc: Global, asked: &mut Asked<'_>) -> Option<Told> {
-    values::told(alloc, asked)
-        .or(copies::told(alloc, asked))
+    copies::told(alloc, asked)
         .or(blocks::told(alloc, asked))
         .or(parts::told(alloc, asked))
-        .or(locators::told(alloc, asked))
         .or(extensions::told(alloc, asked))
-        .or(certificates::told(alloc, asked))
         .or(making::told(alloc, asked))
         .or(setting::told(alloc, asked))
         .or(validating::told(alloc, asked))

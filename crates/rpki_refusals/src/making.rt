@@ -1,41 +1,13 @@
 //! Certificates that are made.
 
-use crate::asking::{Asked, Told, begin, plain};
+use crate::asking::{Asked, Told, begin, ended, plain};
 use crate::inputs::{NUMBERS, anchor, new_year};
 use rpki_blocks::{AsBlock, Asn};
-use rpki_cert::{KeyUsage, Overclaim, ResourceCert, TbsCert, issue_ca};
-use rpki_der::{Serial, Time};
-use rpki_parts::{PublicKey, StandIn, Validity};
-use rpki_samples::{day, rsa};
+use rpki_cert::{KeyUsage, ResourceCert, TbsCert, issue_ca, round_trip};
+use rpki_der::Time;
+use rpki_parts::{PublicKey, StandIn};
+use rpki_samples::rsa;
 use std::alloc::Global;
-
-fn begun(alloc: Global) -> Option<Told> {
-    let validity = Validity::new(day(2019)?, day(2029)?);
-    let serial = Serial::from(12u64);
-    let issuer = rsa(b"abc").to_subject_name(alloc).ok()?;
-    let key = rsa(b"abc");
-    let usage = KeyUsage::Ca;
-    begin(alloc);
-    let answer = TbsCert::new(
-        alloc,
-        serial,
-        issuer,
-        validity,
-        None,
-        key,
-        usage,
-        Overclaim::Trim,
-    );
-    plain(alloc, answer)
-}
-
-fn made(alloc: Global) -> Option<Told> {
-    let key = rsa(b"abc");
-    let tbs = rpki_samples::anchor(alloc)?;
-    begin(alloc);
-    let answer = tbs.into_cert(alloc, &StandIn, &key);
-    plain(alloc, answer)
-}
 
 // The data of an authority under the anchor with AS1 to AS10, which lists AS5 to AS20.
 fn authority(alloc: Global) -> Option<TbsCert> {
@@ -68,19 +40,27 @@ fn issued_under(alloc: Global, issuer: &ResourceCert, key: &PublicKey, now: Time
     plain(alloc, answer)
 }
 
-fn making(alloc: Global, asked: &mut Asked<'_>) -> Option<Told> {
-    if asked.is("rpki_cert::TbsCert::new") {
-        begun(alloc)
-    } else if asked.is("rpki_cert::TbsCert::into_cert") {
-        made(alloc)
-    } else if asked.is("rpki_cert::issue_ca") {
-        issued(alloc)
-    } else {
-        None
-    }
+// A trust anchor's certificate that was made, and is read from its own octets.
+fn read_again(alloc: Global) -> Option<Told> {
+    let key = rsa(b"abc");
+    let mut tbs = rpki_samples::anchor(alloc)?;
+    tbs.set_v4_resources_inherit();
+    let Ok(made) = tbs.into_cert(alloc, &StandIn, &key) else {
+        return None;
+    };
+    begin(alloc);
+    let answer = ended(alloc, round_trip::read_again(alloc, &made));
+    drop(made);
+    Some(Told::of(answer))
 }
 
 /// The calls of `rpki_cert` that make certificates.
 pub fn told(alloc: Global, asked: &mut Asked<'_>) -> Option<Told> {
-    making(alloc, asked)
+    if asked.is("rpki_cert::issue_ca") {
+        issued(alloc)
+    } else if asked.is("rpki_cert::round_trip::read_again") {
+        read_again(alloc)
+    } else {
+        None
+    }
 }

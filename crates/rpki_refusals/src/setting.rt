@@ -108,7 +108,8 @@ fn numbers_built(alloc: Global) -> Option<Told> {
     judged(alloc, answer, tbs)
 }
 
-fn setting(alloc: Global, asked: &mut Asked<'_>) -> Option<Told> {
+/// The calls of `rpki_cert` that set resources.
+pub fn told(alloc: Global, asked: &mut Asked<'_>) -> Option<Told> {
     if asked.is("rpki_cert::TbsCert::v4_resources_from_iter") {
         v4(alloc)
     } else if asked.is("rpki_cert::TbsCert::v6_resources_from_iter") {
@@ -124,9 +125,4 @@ fn setting(alloc: Global, asked: &mut Asked<'_>) -> Option<Told> {
     } else {
         None
     }
-}
-
-/// The calls of `rpki_cert` that set resources.
-pub fn told(alloc: Global, asked: &mut Asked<'_>) -> Option<Told> {
-    setting(alloc, asked)
 }

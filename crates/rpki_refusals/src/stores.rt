@@ -141,13 +141,6 @@ fn cached(alloc: Global) -> Option<Told> {
     Some(Told::standing(answer, stands))
 }
 
-fn store(alloc: Global) -> Option<Told> {
-    begin(alloc);
-    drop(CrlStore::new(alloc));
-    end(alloc);
-    Some(Told::of("ok"))
-}
-
 const UNDER: &str = "rsync://example.com/m/x.crl";
 
 // The answer to a push, and whether the pair that was handed back is the one that was pushed.
@@ -244,8 +237,6 @@ fn of_entries(alloc: Global, asked: &mut Asked<'_>) -> Option<Told> {
 fn of_stores(alloc: Global, asked: &mut Asked<'_>) -> Option<Told> {
     if asked.is("rpki_crl::Crl::cache_serials") {
         cached(alloc)
-    } else if asked.is("rpki_crl::CrlStore::new") {
-        store(alloc)
     } else if asked.is("rpki_crl::CrlStore::push") {
         pushed_plain(alloc)
     } else if asked.is("rpki_crl::CrlStore::push/cached") {

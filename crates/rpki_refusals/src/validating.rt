@@ -1,23 +1,13 @@
-//! Certificates that are verified and validated.
+//! Certificates that are verified, and copies of what was verified.
 
 use crate::asking::{Asked, Told, begin, ended, plain};
 use crate::inputs::{
-    ANCHOR, DETACHED, FIRST, NUMBERS, OTHER, SIGNING, anchor, certificate, december, locator,
-    new_year,
+    ANCHOR, FIRST, NUMBERS, OTHER, SIGNING, anchor, certificate, december, locator, new_year,
 };
 use rpki_cert::ResourceCert;
 use rpki_der::Time;
 use rpki_parts::StandIn;
 use std::alloc::Global;
-
-fn anchor_validated(alloc: Global) -> Option<Told> {
-    let now = new_year()?;
-    let tal = locator(alloc)?;
-    let cert = certificate(alloc, ANCHOR)?;
-    begin(alloc);
-    let answer = cert.validate_ta_at(alloc, tal, true, now, &StandIn);
-    plain(alloc, answer)
-}
 
 fn anchor_verified(alloc: Global) -> Option<Told> {
     let now = new_year()?;
@@ -26,21 +16,6 @@ fn anchor_verified(alloc: Global) -> Option<Told> {
     begin(alloc);
     let answer = cert.verify_ta_at(alloc, tal, true, now, &StandIn);
     plain(alloc, answer)
-}
-
-fn authority_validated_under(alloc: Global, issuer: &ResourceCert, now: Time) -> Option<Told> {
-    let cert = certificate(alloc, FIRST)?;
-    begin(alloc);
-    let answer = cert.validate_ca_at(alloc, issuer, true, now, &StandIn);
-    plain(alloc, answer)
-}
-
-fn authority_validated(alloc: Global) -> Option<Told> {
-    let now = new_year()?;
-    let issuer = anchor(alloc, NUMBERS, now)?;
-    let told = authority_validated_under(alloc, &issuer, now);
-    drop(issuer);
-    told
 }
 
 fn authority_verified_under(alloc: Global, issuer: &ResourceCert, now: Time) -> Option<Told> {
@@ -54,21 +29,6 @@ fn authority_verified(alloc: Global) -> Option<Told> {
     let now = new_year()?;
     let issuer = anchor(alloc, NUMBERS, now)?;
     let told = authority_verified_under(alloc, &issuer, now);
-    drop(issuer);
-    told
-}
-
-fn signing_validated_under(alloc: Global, issuer: &ResourceCert, now: Time) -> Option<Told> {
-    let cert = certificate(alloc, SIGNING)?;
-    begin(alloc);
-    let answer = cert.validate_ee_at(alloc, issuer, true, now, &StandIn);
-    plain(alloc, answer)
-}
-
-fn signing_validated(alloc: Global) -> Option<Told> {
-    let now = december()?;
-    let issuer = anchor(alloc, OTHER, now)?;
-    let told = signing_validated_under(alloc, &issuer, now);
     drop(issuer);
     told
 }
@@ -88,21 +48,6 @@ fn signing_verified(alloc: Global) -> Option<Told> {
     told
 }
 
-fn detached_validated_under(alloc: Global, issuer: &ResourceCert, now: Time) -> Option<Told> {
-    let cert = certificate(alloc, DETACHED)?;
-    begin(alloc);
-    let answer = cert.validate_detached_ee_at(alloc, issuer, true, now, &StandIn);
-    plain(alloc, answer)
-}
-
-fn detached_validated(alloc: Global) -> Option<Told> {
-    let now = new_year()?;
-    let issuer = anchor(alloc, ANCHOR, now)?;
-    let told = detached_validated_under(alloc, &issuer, now);
-    drop(issuer);
-    told
-}
-
 fn copied(alloc: Global) -> Option<Told> {
     let now = new_year()?;
     let cert = anchor(alloc, ANCHOR, now)?;
@@ -112,21 +57,8 @@ fn copied(alloc: Global) -> Option<Told> {
     Some(Told::of(answer))
 }
 
-fn validating(alloc: Global, asked: &mut Asked<'_>) -> Option<Told> {
-    if asked.is("rpki_cert::Cert::validate_ta_at") {
-        anchor_validated(alloc)
-    } else if asked.is("rpki_cert::Cert::validate_ca_at") {
-        authority_validated(alloc)
-    } else if asked.is("rpki_cert::Cert::validate_ee_at") {
-        signing_validated(alloc)
-    } else if asked.is("rpki_cert::Cert::validate_detached_ee_at") {
-        detached_validated(alloc)
-    } else {
-        None
-    }
-}
-
-fn verifying(alloc: Global, asked: &mut Asked<'_>) -> Option<Told> {
+/// The calls of `rpki_cert` that verify.
+pub fn told(alloc: Global, asked: &mut Asked<'_>) -> Option<Told> {
     if asked.is("rpki_cert::Cert::verify_ta_at") {
         anchor_verified(alloc)
     } else if asked.is("rpki_cert::Cert::verify_ca_at") {
@@ -138,9 +70,4 @@ fn verifying(alloc: Global, asked: &mut Asked<'_>) -> Option<Told> {
     } else {
         None
     }
-}
-
-/// The calls of `rpki_cert` that verify and validate.
-pub fn told(alloc: Global, asked: &mut Asked<'_>) -> Option<Told> {
-    validating(alloc, asked).or(verifying(alloc, asked))
 }

@@ -6,23 +6,31 @@ const DIGITS: [&str; 16] = [
     "0", "1", "2", "3", "4", "5", "6", "7", "8", "9", "a", "b", "c", "d", "e", "f",
 ];
 
-/// A line of answers. It remembers that memory ran out, so that printing needs no exit.
+// How many octets a line has room for from the beginning, so that few requests are made for it.
+const ROOM: usize = 4096;
+
+/// A line of answers. It remembers that memory ran out, so that printing needs no exit, and that a
+/// call that failed left something else behind than what it was lent.
 #[derive(Drop)]
 pub struct Answer {
     alloc: Global,
     asked: Vec<u8>,
     line: String,
     has_failed: bool,
+    is_clobbered: bool,
 }
 
 impl Answer {
-    /// Returns an empty line.
+    /// Returns an empty line, with room for most answers.
     pub fn new(alloc: Global) -> Answer {
+        let room = String::with_capacity(alloc, ROOM);
+        let has_failed = room.is_err();
         Answer {
             alloc,
             asked: Vec::new(alloc),
-            line: String::new(alloc),
-            has_failed: false,
+            line: room.unwrap_or(String::new(alloc)),
+            has_failed,
+            is_clobbered: false,
         }
     }
 
@@ -51,9 +59,9 @@ impl Answer {
         self.line.as_str()
     }
 
-    /// Returns whether memory ran out.
+    /// Returns whether memory ran out, and each call that failed left what it was lent as it was.
     pub fn has_failed(&self) -> bool {
-        self.has_failed
+        self.has_failed && !self.is_clobbered
     }
 
     /// Remembers that memory ran out.
@@ -61,11 +69,37 @@ impl Answer {
         self.has_failed = true;
     }
 
+    /// Remembers that a call that failed left something else behind, and says so.
+    pub fn clobber(&mut self) {
+        self.is_clobbered = true;
+        self.text("clobbered");
+    }
+
+    /// Remembers what another answer to the same question remembers.
+    pub fn follow(&mut self, other: &Answer) {
+        self.has_failed = self.has_failed || other.has_failed;
+        self.is_clobbered = self.is_clobbered || other.is_clobbered;
+    }
+
+    /// Appends another answer to the same question.
+    pub fn add(&mut self, other: &Answer) {
+        self.text(other.line());
+        self.follow(other);
+    }
+
     /// Appends the text as it stands.
     pub fn text(&mut self, text: &str) {
         if self.line.push_str(text).is_err() {
             self.has_failed = true;
         }
+    }
+
+    /// Appends the name of a fault. `Memory` is the one of memory that ran out.
+    pub fn name(&mut self, name: &str) {
+        if name == "Memory" {
+            self.fail();
+        }
+        self.text(name);
     }
 
     /// Appends ` NAME=`, before a value.
@@ -150,7 +184,7 @@ impl Answer {
 
     /// Appends why octets were rejected, and what that speaks of.
     pub fn fault(&mut self, error: &DecodeError) {
-        self.text(error.name());
+        self.name(error.name());
         match error {
             DecodeError::Missing(field)
             | DecodeError::Duplicate(field)
@@ -186,11 +220,19 @@ impl Answer {
         self.count(to);
     }
 
+    /// Appends why nothing was written, where nothing stands then.
+    pub fn unwritten(&mut self, error: &EncodeError, octets: &[u8]) {
+        self.name(error.name());
+        if !octets.is_empty() {
+            self.clobber();
+        }
+    }
+
     /// Appends what was written, or why it was not.
     pub fn written(&mut self, answer: Result<(), EncodeError>, octets: &[u8]) {
         match answer {
             Ok(()) => self.octets(octets),
-            Err(error) => self.text(error.name()),
+            Err(error) => self.unwritten(&error, octets),
         }
     }
 
@@ -199,7 +241,7 @@ impl Answer {
         self.field("written");
         match answer {
             Ok(()) => self.known(octets),
-            Err(error) => self.text(error.name()),
+            Err(error) => self.unwritten(&error, octets),
         }
     }
 
@@ -217,9 +259,8 @@ impl Answer {
 
     /// Appends `same` where another answer is the one that was given first, else that answer.
     pub fn compared(&mut self, first: &Answer, other: &Answer) {
-        if other.has_failed {
-            self.fail();
-        }
+        self.follow(first);
+        self.follow(other);
         if other.line() == first.line() {
             self.text("same");
         } else {

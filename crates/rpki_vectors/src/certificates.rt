@@ -3,7 +3,7 @@ use crate::answer::Answer;
 use crate::extensions::{purposes, usage};
 use crate::parts::{algorithm, key_identifier, public_key, serial, time};
 use crate::sets::{listed, mode};
-use crate::show::{Show, Twin, read, read_optional};
+use crate::show::{Show, Twin, read, read_optional, stays};
 use crate::uris::{https, rsync};
 use crate::words::Words;
 use bytes::Bytes;
@@ -124,7 +124,7 @@ fn data_written(out: &mut Answer, cert: &Cert) {
     let mut octets: Vec<u8> = Vec::new(out.alloc());
     match cert.as_tbs().encode_ref(out.alloc(), &mut octets) {
         Ok(()) => or_same(out, cert.signed_data().data(), &octets),
-        Err(error) => out.text(error.name()),
+        Err(error) => out.unwritten(&error, &octets),
     }
 }
 
@@ -171,7 +171,7 @@ pub fn captured(out: &mut Answer, found: Result<Bytes, EncodeError>, octets: &[u
     out.field("captured");
     match found {
         Ok(captured) => or_same(out, octets, captured.as_slice()),
-        Err(error) => out.text(error.name()),
+        Err(error) => out.name(error.name()),
     }
 }
 
@@ -210,6 +210,7 @@ fn taken(out: &mut Answer, first: &Answer, octets: &Bytes) {
     let mut other = out.beside();
     let mut cursor = Cursor::new(octets);
     let found = Cert::take_from(out.alloc(), &mut cursor);
+    stays(out, &found, &cursor, 0);
     read(&mut other, found);
     out.field("take");
     out.compared(first, &other);
@@ -220,6 +221,7 @@ fn taken_optional(out: &mut Answer, first: &Answer, octets: &Bytes) {
     let mut other = out.beside();
     let mut cursor = Cursor::new(octets);
     let found = Cert::take_opt_from(out.alloc(), &mut cursor);
+    stays(out, &found, &cursor, 0);
     read_optional(&mut other, found);
     out.field("take-optional");
     out.compared(first, &other);
@@ -228,11 +230,11 @@ fn taken_optional(out: &mut Answer, first: &Answer, octets: &Bytes) {
 
 fn inside(out: &mut Answer, first: &Answer, content: Cursor<'_>) {
     let mut content = content;
+    let (from, _) = content.span();
     let mut other = out.beside();
-    read(
-        &mut other,
-        Cert::from_constructed(out.alloc(), &mut content),
-    );
+    let found = Cert::from_constructed(out.alloc(), &mut content);
+    stays(out, &found, &content, from);
+    read(&mut other, found);
     out.field("content");
     out.compared(first, &other);
     out.left(&content);
@@ -253,10 +255,7 @@ pub fn certificate(words: &Words<'_>, out: &mut Answer) {
     let octets = words.asked(out, 1);
     let mut first = out.beside();
     read(&mut first, Cert::decode(out.alloc(), octets.as_slice()));
-    out.text(first.line());
-    if first.has_failed() {
-        out.fail();
-    }
+    out.add(&first);
     taken(out, &first, &octets);
     taken_optional(out, &first, &octets);
     taken_inside(out, &first, Cursor::new(&octets).take_sequence());
@@ -267,6 +266,7 @@ pub fn data(words: &Words<'_>, out: &mut Answer) {
     let octets = words.asked(out, 1);
     let mut cursor = Cursor::new(&octets);
     let found = TbsCert::from_constructed(out.alloc(), &mut cursor);
+    stays(out, &found, &cursor, 0);
     read(out, found);
     out.left(&cursor);
 }

@@ -43,7 +43,7 @@ fn inspection(cert: &Cert, kind: Role, strict: bool) -> Result<(), InspectionErr
 fn inspected(out: &mut Answer, answer: Result<(), InspectionError>) {
     match answer {
         Ok(()) => out.text("Ok"),
-        Err(error) => out.text(error.name()),
+        Err(error) => out.name(error.name()),
     }
 }
 
@@ -71,7 +71,11 @@ fn inspected_as_all(out: &mut Answer, cert: &Cert) {
 /// Returns the certificate of a word in hexadecimal.
 pub fn decoded(out: &mut Answer, words: &Words<'_>, place: usize) -> Result<Cert, DecodeError> {
     let octets = bytes(out, words.at(place));
-    Cert::decode(out.alloc(), octets.as_slice())
+    let found = Cert::decode(out.alloc(), octets.as_slice());
+    if let Err(DecodeError::Memory) = &found {
+        out.fail();
+    }
+    found
 }
 
 /// Appends the first fault of a certificate, strictly and leniently: as a kind, or as each of the

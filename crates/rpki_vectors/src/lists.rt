@@ -171,7 +171,7 @@ fn inside(out: &mut Answer, first: &Answer, content: Cursor<'_>) {
 fn found(out: &mut Answer, crl: &Crl, words: &Words<'_>, octets: &Bytes) {
     let mut first = out.beside();
     crate::show::found(&mut first, crl);
-    out.text(first.line());
+    out.add(&first);
     questions(out, crl, words);
     taken(out, &first, octets);
     taken_optional(out, &first, octets);
@@ -226,7 +226,7 @@ pub fn cut(words: &Words<'_>, out: &mut Answer) {
             None => name,
         };
         if next != name {
-            out.text(name);
+            out.name(name);
             out.text(":");
             out.range(from, length.wrapping_sub(1));
             out.text(" ");
@@ -234,7 +234,7 @@ pub fn cut(words: &Words<'_>, out: &mut Answer) {
             name = next;
         }
     }
-    out.text(name);
+    out.name(name);
     out.text(":");
     out.range(from, octets.len().wrapping_sub(1));
 }

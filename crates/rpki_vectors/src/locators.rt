@@ -2,7 +2,7 @@
 use crate::answer::Answer;
 use crate::parts::public_key;
 use crate::words::Words;
-use rpki_der::DecodeError;
+use rpki_der::{DecodeError, EncodeError};
 use rpki_parts::PublicKey;
 use rpki_tal::{Tal, TalError, TalUri, octets_of, push_digits};
 
@@ -49,7 +49,7 @@ fn told(words: &Words<'_>, out: &mut Answer, answer: Result<Tal, TalError>) {
         }
         Err(error) => {
             out.text("refused ");
-            out.text(error.name());
+            out.name(error.name());
             if error.is_memory() {
                 out.fail();
             }
@@ -73,7 +73,7 @@ pub fn base64(words: &Words<'_>, out: &mut Answer) {
     let line = words.characters(out, 1);
     let mut found = Vec::new(out.alloc());
     if push_digits(&mut found, &line).is_err() {
-        out.fail();
+        out.unwritten(&EncodeError::Memory, &found);
     }
     match octets_of(out.alloc(), &found) {
         Ok(Some(octets)) => {

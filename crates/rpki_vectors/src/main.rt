@@ -4,6 +4,11 @@
 //! file pass, the name and both answers of each that doesn't, and ends with status 1 where one
 //! doesn't.
 //!
+//! It interprets the questions, since a question that is data needs no proof where a test would be
+//! a function that is proved; the reference program answers the same lines; and each can be asked
+//! again with memory refused, as `tests/refusals` has it done (`refusing`). Then a test vector passes
+//! where each of those answers is the one that is wanted, or out of memory.
+//!
 //! An empty line, or one that begins with `#`, stands between vectors. A question is some words
 //! with one space between. HEX is octets in hexadecimal digits, `-` for none, or `@NAME` for those
 //! of the file `NAME.der`; TEXT stands as it is, or is `octets:HEX`.
@@ -113,6 +118,7 @@ mod making;
 mod parts;
 mod paths;
 mod rearranging;
+mod refusing;
 mod revocation;
 mod running;
 mod runs;
@@ -238,7 +244,7 @@ fn main(rt: HostRuntime) -> io::Result<ExitCode> {
             all.add(run_file(&rt, file.as_str())?);
         }
     }
-    all.print(&rt, "all")?;
+    all.print_all(&rt)?;
     Ok(if all.is_clean() {
         ExitCode::SUCCESS
     } else {

@@ -311,7 +311,7 @@ fn finished<T: Form>(out: &mut Answer, made: Result<T, SigningError<()>>) {
         Ok(it) => it.form(out),
         Err(error) => {
             out.field("certificate");
-            out.text(error.name());
+            out.name(error.name());
         }
     }
 }

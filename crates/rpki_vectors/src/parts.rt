@@ -30,7 +30,7 @@ pub fn time(out: &mut Answer, it: Time) {
     let mut octets: Vec<u8> = Vec::new(out.alloc());
     match it.encode_varied(out.alloc(), &mut octets) {
         Ok(()) => characters(out, &octets),
-        Err(error) => out.text(error.name()),
+        Err(error) => out.unwritten(&error, &octets),
     }
 }
 
@@ -131,7 +131,7 @@ impl Twin for Name {
 fn subject_name(out: &mut Answer, found: Result<Name, EncodeError>) {
     match found {
         Ok(name) => out.octets(name.as_bytes()),
-        Err(error) => out.text(error.name()),
+        Err(error) => out.name(error.name()),
     }
 }
 

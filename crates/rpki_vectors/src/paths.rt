@@ -47,15 +47,15 @@ fn refused(out: &mut Answer, error: &PathError) {
         PathFault::Decode(_) => out.text(" decode"),
         PathFault::Inspect(fault) => {
             out.text(" inspect ");
-            out.text(fault.name());
+            out.name(fault.name());
         }
         PathFault::Verify(fault) => {
             out.text(" verify ");
-            out.text(fault.name());
+            out.name(fault.name());
         }
         PathFault::Revocation(fault) => {
             out.text(" revocation ");
-            out.text(fault.name());
+            out.name(fault.name());
         }
         PathFault::Memory => out.fail(),
     }
@@ -82,7 +82,7 @@ fn answered<V: Verifier>(
     let anchor = named(out, words.at(3), "ta")?;
     let cas = authorities(out, words, 4);
     let leaf = leaf(out, words);
-    let tal = tal(out.alloc()).ok()?;
+    let tal = tal(out)?;
     let strict = mode == "strict";
     let answer = validate_path(out.alloc(), &anchor, &cas, leaf, tal, strict, now, verifier);
     validated(out, answer);

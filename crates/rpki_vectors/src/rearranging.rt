@@ -69,7 +69,7 @@ pub fn rearrange(words: &Words<'_>, out: &mut Answer) {
         }
         Err(error) => {
             out.text("refused ");
-            out.text(error.name());
+            out.name(error.name());
         }
     }
     drop(extras);

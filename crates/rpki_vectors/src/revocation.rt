@@ -17,6 +17,9 @@ fn store_pair(out: &mut Answer, store: &mut CrlStore, pair: &str) -> Option<()> 
     let pushed = match Crl::decode(out.alloc(), &list) {
         Ok(crl) => store.push(uri, crl),
         Err(error) => {
+            if error.is_memory() {
+                out.fail();
+            }
             drop(error);
             drop(uri);
             return None;
@@ -61,7 +64,7 @@ fn asked<V: Verifier>(
     let alloc = out.alloc();
     let cas = authorities(out, words, 5);
     let leaf = leaf(out, words);
-    let tal = tal(alloc).ok()?;
+    let tal = tal(out)?;
     let strict = words.is(2, "strict");
     let store = store_of(out, words.at(3), is_cached)?;
     let answer = validate_path_with(
@@ -76,12 +79,13 @@ fn answered<V: Verifier>(out: &mut Answer, words: &Words<'_>, verifier: &V) -> O
     let now = moment(words.at(1))?;
     let anchor = named(out, words.at(4), "ta")?;
     let mut plain = out.beside();
-    asked(&mut plain, words, &anchor, now, false, verifier)?;
+    let is_fit = asked(&mut plain, words, &anchor, now, false, verifier);
+    out.follow(&plain);
+    is_fit?;
     let mut cached = out.beside();
-    asked(&mut cached, words, &anchor, now, true, verifier)?;
-    if plain.has_failed() {
-        out.fail();
-    }
+    let is_fit = asked(&mut cached, words, &anchor, now, true, verifier);
+    out.follow(&cached);
+    is_fit?;
     out.text(plain.line());
     out.field("cached");
     out.compared(&plain, &cached);

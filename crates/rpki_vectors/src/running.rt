@@ -1,16 +1,17 @@
 //! Files of vectors that are run, and what is told of each.
-use crate::answer::Answer;
 use crate::line_for;
+use crate::refusing::{Refusals, ask_again};
 use crate::vectors::{Block, blocks_of, folder_of, with_octets};
-use std::alloc::AllocError;
 use std::rt::Files;
 use std::{fs, io};
 
-/// How many vectors there are, and how many were answered as they say.
+/// How many vectors there are, how many were answered as they say, and what came of them where
+/// memory was refused.
 #[derive(Clone, Copy)]
 pub struct Tally {
     vectors: u64,
     passed: u64,
+    refusals: Refusals,
 }
 
 impl Tally {
@@ -19,6 +20,7 @@ impl Tally {
         Tally {
             vectors: 0,
             passed: 0,
+            refusals: Refusals::none(),
         }
     }
 
@@ -34,6 +36,7 @@ impl Tally {
     pub fn add(&mut self, other: Tally) {
         self.vectors = self.vectors.saturating_add(other.vectors);
         self.passed = self.passed.saturating_add(other.passed);
+        self.refusals.add(other.refusals);
     }
 
     /// Returns whether there are vectors, and each was answered as it says.
@@ -47,44 +50,70 @@ impl Tally {
         let passed = self.passed;
         println!(rt; "{name}: {vectors} vectors, {passed} passed")
     }
-}
 
-fn answer_to(
-    rt: &(impl Files + AllocGlobal),
-    file: &str,
-    question: &str,
-) -> Result<Answer, AllocError> {
-    let whole = with_octets(rt, folder_of(file), question)?;
-    if whole.has_failed() {
-        return Err(AllocError);
+    /// Prints what came of all vectors, also where memory was refused.
+    pub fn print_all(&self, rt: &impl Print) -> io::Result<()> {
+        self.print(rt, "all")?;
+        self.refusals.print(rt)
     }
-    line_for(rt.alloc(), whole.line())
 }
 
-// Whether a vector is answered as it says; where it isn't, prints its name and both answers.
-fn passes<R: Files + AllocGlobal + Print>(
+// Whether a question is answered as is wanted; where it isn't, prints both answers.
+fn is_answered<R: AllocGlobal + Print>(
     rt: &R,
-    file: &str,
-    block: Block<'_>,
+    place: (&str, &str),
+    question: &str,
+    answer: &str,
 ) -> io::Result<bool> {
+    let given = line_for(rt.alloc(), question)?;
+    if given.line() == answer {
+        return Ok(true);
+    }
+    let (file, name) = place;
+    println!(rt; "{file}: {name}")?;
+    println!(rt; "  wanted   {answer}")?;
+    println!(rt; "  answered {}", given.line())?;
+    Ok(false)
+}
+
+// Asks a question, and again with memory refused where that is to be.
+fn asked<R: AllocGlobal + Print>(
+    rt: &R,
+    place: (&str, &str),
+    question: &str,
+    answer: &str,
+) -> io::Result<Tally> {
+    let mut tally = Tally::new();
+    if !is_answered(rt, place, question, answer)? {
+        tally.count(false);
+        return Ok(tally);
+    }
+    tally.refusals = ask_again(rt, question, answer)?;
+    let is_clean = tally.refusals.is_clean();
+    if !is_clean {
+        let (file, name) = place;
+        println!(rt; "{file}: {name}: fails with memory refused")?;
+    }
+    tally.count(is_clean);
+    Ok(tally)
+}
+
+// Runs the vector, and prints its name and what differs where something does.
+fn ran<R: Files + AllocGlobal + Print>(rt: &R, file: &str, block: Block<'_>) -> io::Result<Tally> {
     match block {
         Block::Malformed(first) => {
             println!(rt; "{file}: no vector of three lines: {first}")?;
-            Ok(false)
+            let mut none = Tally::new();
+            none.count(false);
+            Ok(none)
         }
         Block::Vector {
             name,
             question,
             answer,
         } => {
-            let given = answer_to(rt, file, question)?;
-            if given.line() == answer {
-                return Ok(true);
-            }
-            println!(rt; "{file}: {name}")?;
-            println!(rt; "  wanted   {answer}")?;
-            println!(rt; "  answered {}", given.line())?;
-            Ok(false)
+            let whole = with_octets(rt, folder_of(file), question)?;
+            asked(rt, (file, name), whole.line(), answer)
         }
     }
 }
@@ -97,7 +126,7 @@ fn text_passes<R: Files + AllocGlobal + Print>(
     let mut tally = Tally::new();
     let blocks = blocks_of(rt.alloc(), text)?;
     for block in blocks.iter() {
-        tally.count(passes(rt, file, *block)?);
+        tally.add(ran(rt, file, *block)?);
     }
     Ok(tally)
 }

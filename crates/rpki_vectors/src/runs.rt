@@ -50,7 +50,18 @@ fn show(out: &mut Answer, ended: Result<Status, RunFault>, printed: &[u8], is_na
         }
         Err(fault) => {
             out.text("refused ");
-            out.text(fault.name());
+            out.name(fault.name());
+        }
+    }
+}
+
+// Room for what is printed, so that the writer asks for nothing.
+fn room(out: &mut Answer) -> Vec<u8> {
+    match Vec::with_capacity(out.alloc(), 1 << 16) {
+        Ok(room) => room,
+        Err(_) => {
+            out.fail();
+            Vec::new(out.alloc())
         }
     }
 }
@@ -58,7 +69,7 @@ fn show(out: &mut Answer, ended: Result<Status, RunFault>, printed: &[u8], is_na
 fn answered(words: &Words<'_>, out: &mut Answer, is_named: bool) {
     let mut input = characters(out, words.rest());
     exchange(&mut input, b'|', b'\n');
-    let mut printed = Vec::new(out.alloc());
+    let mut printed = room(out);
     let mut reader = Watched::new(input.as_slice());
     let mut writer = Watched::new(&mut printed);
     let ended = run(out.alloc(), &mut reader, &mut writer);

@@ -1,6 +1,7 @@
 //! Sets of addresses and of AS numbers.
 use crate::answer::Answer;
 use crate::extensions::written;
+use crate::show::stays;
 use crate::words::{Words, decimal, hexadecimal};
 use crate::writing::{behind, started};
 use rpki_blocks::{
@@ -186,7 +187,7 @@ fn contains<B: Kind>(out: &mut Answer, blocks: &Chain<B>, points: &str) {
 fn given<B: Kind>(out: &mut Answer, found: Result<Chain<B>, IssueError>) {
     match found {
         Ok(blocks) => set(out, &blocks),
-        Err(error) => out.text(error.name()),
+        Err(error) => out.name(error.name()),
     }
 }
 
@@ -242,7 +243,7 @@ fn beside<B: Kind>(out: &mut Answer, one: &Chain<B>, found: Result<Chain<B>, Inh
             set(out, &other);
             both(out, one, &other);
         }
-        Err(error) => out.text(error.name()),
+        Err(error) => out.name(error.name()),
     }
 }
 
@@ -387,6 +388,7 @@ fn read_addresses(words: &Words<'_>, out: &mut Answer) {
     let octets = words.bytes(out, 1);
     let mut cursor = Cursor::new(&octets);
     let found = IpResources::take_families_from(out.alloc(), &mut cursor);
+    stays(out, &found, &cursor, 0);
     families(out, found);
     out.left(&cursor);
 }
@@ -395,6 +397,7 @@ fn read_asns(words: &Words<'_>, out: &mut Answer) {
     let octets = words.bytes(out, 1);
     let mut cursor = Cursor::new(&octets);
     let found = AsResources::take_from(out.alloc(), &mut cursor);
+    stays(out, &found, &cursor, 0);
     numbers(out, found);
     out.left(&cursor);
 }

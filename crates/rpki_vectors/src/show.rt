@@ -1,6 +1,6 @@
 //! Values that are shown: each is read, shown and copied in one way.
 use crate::answer::Answer;
-use rpki_der::DecodeError;
+use rpki_der::{Cursor, DecodeError};
 use std::alloc::{AllocError, Global};
 
 /// A value of which an answer shows what its getters give.
@@ -21,24 +21,52 @@ fn line_of<T: Show>(out: &Answer, value: &T) -> Answer {
     line
 }
 
-// Whether the copy shows the same.
-fn copied<T: Twin>(out: &mut Answer, value: &T) {
+// Whether the copy shows what the value does.
+fn copied<T: Twin>(out: &mut Answer, value: &T, first: &Answer) {
     out.field("copy");
     match value.twin(out.alloc()) {
         Ok(copy) => {
-            let first = line_of(out, value);
             let other = line_of(out, &copy);
-            out.compared(&first, &other);
+            out.compared(first, &other);
         }
         Err(_) => out.fail(),
     }
 }
 
-/// Appends a value that was found, and its copy.
+fn shown<T: Twin>(out: &Answer, value: &T) -> Answer {
+    let first = line_of(out, value);
+    let mut line = out.beside();
+    line.text("ok");
+    line.add(&first);
+    copied(&mut line, value, &first);
+    line
+}
+
+/// Appends a value that was found, and its copy. Where memory runs out in between, the value is
+/// asked once more, and has to answer as it would have.
 pub fn found<T: Twin>(out: &mut Answer, value: &T) {
-    out.text("ok");
-    value.show(out);
-    copied(out, value);
+    let first = shown(out, value);
+    if first.has_failed() {
+        let again = shown(out, value);
+        out.add(&again);
+    } else {
+        out.add(&first);
+    }
+}
+
+/// Says so where a reader that ran out of memory moved its cursor from where it stood.
+pub fn stays<T>(
+    out: &mut Answer,
+    answer: &Result<T, DecodeError>,
+    cursor: &Cursor<'_>,
+    from: usize,
+) {
+    if let Err(DecodeError::Memory) = answer {
+        let (now, _) = cursor.span();
+        if now != from {
+            out.clobber();
+        }
+    }
 }
 
 /// Appends what was read, or why it was rejected.

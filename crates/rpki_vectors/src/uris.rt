@@ -75,7 +75,7 @@ fn of_text<T: Twin>(out: &mut Answer, answer: Result<T, UriError>) {
         Ok(uri) => found(out, &uri),
         Err(error) => {
             out.text("refused ");
-            out.text(error.name());
+            out.name(error.name());
         }
     }
 }
@@ -116,20 +116,13 @@ fn https_piece(words: &Words<'_>, out: &mut Answer, first: &Answer) {
     out.compared(first, &other);
 }
 
-fn first_of(out: &mut Answer, first: &Answer) {
-    out.text(first.line());
-    if first.has_failed() {
-        out.fail();
-    }
-}
-
 fn rsync_read(words: &Words<'_>, out: &mut Answer) {
     let mut first = out.beside();
     of_octets(
         &mut first,
         Rsync::from_bytes(shared_characters(out, words.at(1))),
     );
-    first_of(out, &first);
+    out.add(&first);
     rsync_piece(words, out, &first);
     let octets = words.characters(out, 1);
     rsync_text(out, &first, &octets);
@@ -141,7 +134,7 @@ fn https_read(words: &Words<'_>, out: &mut Answer) {
         &mut first,
         Https::from_bytes(shared_characters(out, words.at(1))),
     );
-    first_of(out, &first);
+    out.add(&first);
     https_piece(words, out, &first);
     let octets = words.characters(out, 1);
     https_text(out, &first, &octets);

@@ -9,7 +9,6 @@ use rpki_cert::{Cert, ResourceCert, ValidationError, VerificationError};
 use rpki_der::{DecodeError, Time};
 use rpki_parts::{StandIn, TalInfo};
 use rpki_path::validate_path;
-use std::alloc::{AllocError, Global};
 use std::rc::Rc;
 
 // How certificates are judged.
@@ -29,11 +28,11 @@ fn refused(out: &mut Answer, error: &ValidationError) {
     match error {
         ValidationError::Inspection(fault) => {
             out.text("inspect ");
-            out.text(fault.name());
+            out.name(fault.name());
         }
         ValidationError::Verification(fault) => {
             out.text("verify ");
-            out.text(fault.name());
+            out.name(fault.name());
         }
     }
 }
@@ -67,8 +66,12 @@ fn verdict_of_router(out: &mut Answer, answer: Result<(), ValidationError>) {
 }
 
 /// Returns a locator without a name.
-pub fn tal(alloc: Global) -> Result<Rc<TalInfo>, AllocError> {
-    TalInfo::from_name(String::new(alloc)).into_rc(alloc)
+pub fn tal(out: &mut Answer) -> Option<Rc<TalInfo>> {
+    let made = TalInfo::from_name(String::new(out.alloc())).into_rc(out.alloc());
+    if made.is_err() {
+        out.fail();
+    }
+    made.ok()
 }
 
 // A certificate that is asked about.
@@ -120,7 +123,7 @@ fn verified(out: &mut Answer, answer: Result<(), VerificationError>) {
         Ok(()) => out.text("ok"),
         Err(error) => {
             out.text("refused ");
-            out.text(error.name());
+            out.name(error.name());
         }
     }
 }
@@ -175,11 +178,17 @@ fn authorities(out: &mut Answer, words: &Words<'_>) -> Vec<Bytes> {
 
 // The last of the certificates above, each of which is accepted.
 fn issuer(out: &mut Answer, words: &Words<'_>, terms: &Terms) -> Option<ResourceCert> {
-    let tal = tal(out.alloc()).ok()?;
+    let tal = tal(out)?;
     let anchor = bytes(out, words.at(5));
     let cas = authorities(out, words);
     let (alloc, strict, now) = (out.alloc(), terms.strict, terms.now);
-    validate_path(alloc, &anchor, &cas, None, tal, strict, now, &StandIn).ok()
+    let answer = validate_path(alloc, &anchor, &cas, None, tal, strict, now, &StandIn);
+    if let Err(error) = &answer {
+        if error.is_memory() {
+            out.fail();
+        }
+    }
+    answer.ok()
 }
 
 fn judged_below<T: Above>(
@@ -200,7 +209,7 @@ fn anchor(
     terms: &Terms,
 ) -> Option<Result<ResourceCert, ValidationError>> {
     let cert = decoded(out, words, 4).ok()?;
-    let tal = tal(out.alloc()).ok()?;
+    let tal = tal(out)?;
     Some(cert.validate_ta_at(out.alloc(), tal, terms.strict, terms.now, &StandIn))
 }
 

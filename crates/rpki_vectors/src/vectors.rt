@@ -134,5 +134,9 @@ pub fn with_octets(
             }
         }
     }
-    Ok(out)
+    if out.has_failed() {
+        Err(AllocError)
+    } else {
+        Ok(out)
+    }
 }

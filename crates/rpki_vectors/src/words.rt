@@ -185,7 +185,7 @@ fn digit(c: u8) -> u8 {
 }
 
 fn octets_of(alloc: Global, word: &str) -> Result<Vec<u8>, AllocError> {
-    let mut found: Vec<u8> = Vec::new(alloc);
+    let mut found: Vec<u8> = Vec::with_capacity(alloc, word.len() / 2)?;
     let mut high: Option<u8> = None;
     for c in word.as_bytes() {
         match high {
