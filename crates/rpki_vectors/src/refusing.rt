@@ -9,14 +9,16 @@ use crate::line_for;
 use std::alloc::{AllocError, Global};
 use std::io;
 
-// The marks: once more; the answer that is wanted; out of memory.
+// Once more.
 const AGAIN: usize = 7_340_037;
 
+// The answer was the one that is wanted.
 const AS_WANTED: usize = 7_340_039;
 
+// The answer was out of memory.
 const OUT_OF_MEMORY: usize = 7_340_041;
 
-// No question makes half as many requests.
+// A question isn't asked more often; none makes half as many requests.
 const MOST: u32 = 100_000;
 
 /// What came of questions that were asked with requests refused.
@@ -64,41 +66,28 @@ fn is_refused(alloc: Global, octets: usize) -> bool {
     asked.is_err()
 }
 
-// The counts of one answer, whose mark has to be granted.
-fn counted(alloc: Global, is_out_of_memory: bool) -> Refusals {
-    let mut counts = Refusals::none();
-    if is_out_of_memory {
-        counts.out_of_memory = 1;
-    } else {
-        counts.as_wanted = 1;
-    }
-    let mark = if is_out_of_memory {
-        OUT_OF_MEMORY
-    } else {
-        AS_WANTED
-    };
-    if is_refused(alloc, mark) {
-        counts.faults = 1;
-    }
-    counts
-}
-
 // Asks the question once, which the first mark was refused for.
 fn asked<R: AllocGlobal + Print>(rt: &R, question: &str, answer: &str) -> io::Result<Refusals> {
+    let mut counts = Refusals::none();
     let given = line_for(rt.alloc(), question);
-    let is_wanted = match &given {
-        Ok(given) => given.line() == answer,
-        Err(_) => true,
-    };
-    let is_out_of_memory = given.is_err();
-    if is_wanted {
-        drop(given);
-        return Ok(counted(rt.alloc(), is_out_of_memory));
+    if let Ok(other) = &given {
+        if other.line() != answer {
+            let _is_held = is_refused(rt.alloc(), AS_WANTED);
+            println!(rt; "  with memory refused, answered {}", other.line())?;
+            counts.faults = 1;
+            return Ok(counts);
+        }
     }
-    let mut counts = counted(rt.alloc(), is_out_of_memory);
-    counts.faults = 1;
-    if let Ok(given) = &given {
-        println!(rt; "  with memory refused, answered {}", given.line())?;
+    let mark = if given.is_ok() {
+        counts.as_wanted = 1;
+        AS_WANTED
+    } else {
+        counts.out_of_memory = 1;
+        OUT_OF_MEMORY
+    };
+    drop(given);
+    if is_refused(rt.alloc(), mark) {
+        counts.faults = 1;
     }
     Ok(counts)
 }

@@ -236,12 +236,41 @@ fn both<B: Kind>(out: &mut Answer, one: &Chain<B>, other: &Chain<B>) {
     shown(out, found);
 }
 
+// The answers of two sets. Where memory runs out in between, they are asked once more, and have to
+// answer as they would have; so are a set and what is listed.
+fn compared<B: Kind>(out: &mut Answer, one: &Chain<B>, other: &Chain<B>) {
+    let mut line = out.beside();
+    both(&mut line, one, other);
+    if line.has_failed() {
+        line = out.beside();
+        both(&mut line, one, other);
+    }
+    out.add(&line);
+}
+
+fn listed_under<B: Kind>(
+    words: &Words<'_>,
+    out: &mut Answer,
+    one: &Chain<B>,
+    resources: &Resources<B>,
+) {
+    let mut line = out.beside();
+    alone(words, &mut line, one);
+    under(&mut line, one, resources);
+    if line.has_failed() {
+        line = out.beside();
+        alone(words, &mut line, one);
+        under(&mut line, one, resources);
+    }
+    out.add(&line);
+}
+
 fn beside<B: Kind>(out: &mut Answer, one: &Chain<B>, found: Result<Chain<B>, Inherited>) {
     out.field("other");
     match found {
         Ok(other) => {
             set(out, &other);
-            both(out, one, &other);
+            compared(out, one, &other);
         }
         Err(error) => out.name(error.name()),
     }
@@ -250,9 +279,8 @@ fn beside<B: Kind>(out: &mut Answer, one: &Chain<B>, found: Result<Chain<B>, Inh
 // Two sets, and what is asked of them.
 fn pair<B: Kind>(words: &Words<'_>, out: &mut Answer) {
     let one = known::<B>(out, words.at(2));
-    alone(words, out, &one);
     let resources = resources_of::<B>(out, words.at(3));
-    under(out, &one, &resources);
+    listed_under(words, out, &one, &resources);
     let found = Chain::from_resources(out.alloc(), resources);
     beside(out, &one, found);
 }
