@@ -5,6 +5,7 @@ use Rattle.rpki.specs.Times.{Moment}
 use Rattle.rpki.specs.Kind.{Kind}
 use Rattle.rpki.specs.Lists.{CrlState, IsCertificateList}
 use Rattle.rpki.specs.GivenPaths.{PathStrings, anchor_alone, HasLast}
+use Rattle.rpki.specs.LocatedPaths.{IsLocatorOf}
 use Rattle.rpki_files.specs.Contents.{BeginsWithList}
 use Rattle.rpki_files.specs.Files.{FileFields, contents}
 use Rattle.rpki_files.specs.SaidKinds.{IsJudgedAs}

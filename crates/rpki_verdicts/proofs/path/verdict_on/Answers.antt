@@ -48,12 +48,15 @@ returns-in_ok-verdict-in-Ok g c =
     let named = subst (λ (f : QuestionFields). IsNamedVerdict path f.names judged (length strings - 1) verdict) c.question.view_is c.in_ok-verdict-in-Ok.ensures in
     (path, given, named_verdict c.unambiguous.ensures.certificate x (asks x) (demands_of q) strings path judged (length strings - 1) located accepted place verdict named)
 
-pub with_names-requires-in-Ok : goal.with_names-requires-in-Ok
-with_names-requires-in-Ok g c =
+pub with_names-requires : goal.with_names-requires
+with_names-requires g c =
+    let q = c.args.question.now in
+    let x = context IsSignedByRsa q.at q.strict in
     let asks = g.R.RevocationSource.asks c.args.asked.now in
-    let x = λ (f : QuestionFields). context IsSignedByRsa f.at f.strict in
-    let f = c.question.inside in
-    accepted_begin (x f) (asks (x f)) c.in-Some.path c.in-Ok.judged c.in-Ok.ensures.judges
+    let path = c.in-Some.path in
+    let judged = c.in-Ok.judged in
+    let accepted : IsAcceptedWith x (asks x) path judged = subst (λ (f : QuestionFields). IsAcceptedWith (context IsSignedByRsa f.at f.strict) (asks (context IsSignedByRsa f.at f.strict)) path judged) c.question.view_is c.in-Ok.ensures.judges in
+    accepted_begin x (asks x) path judged accepted
 
 pub returns-in_ok-fault-in-Err : goal.returns-in_ok-fault-in-Err
 returns-in_ok-fault-in-Err g c =
