@@ -50,6 +50,8 @@
 //! Trust anchor locators:
 //! - `locator MODE HEX KEY`: a file; each of its URIs in their order, its key, and whether the public
 //!   key KEY (all of a SubjectPublicKeyInfo) is that key, `none` where KEY is `-`.
+//! - `located YYYYMMDDhhmmss MODE STORE LOCATOR ta:HEX ca:HEX .. ee:HEX`: as `revocation`, where the
+//!   path is that of the locator's trust anchor; and whether that has the locator's key.
 //! - `base64 TEXT`: the octets that the digits of a line stand for.
 //!
 //! Revocation lists:
@@ -113,6 +115,7 @@ mod extensions;
 mod judging;
 mod keys;
 mod lists;
+mod located;
 mod locators;
 mod making;
 mod parts;
@@ -199,6 +202,8 @@ fn of_several(words: &Words<'_>, out: &mut Answer) -> bool {
         signatures::rsa_key(words, out);
     } else if words.is(0, "key-form") {
         keys::key_form(words, out);
+    } else if words.is(0, "located") {
+        located::located(words, out);
     } else if words.is(0, "locator") {
         locators::locator(words, out);
     } else if words.is(0, "base64") {

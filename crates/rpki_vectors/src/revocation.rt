@@ -32,8 +32,8 @@ fn store_pair(out: &mut Answer, store: &mut CrlStore, pair: &str) -> Option<()> 
     Some(())
 }
 
-// The store of a word; `-` for one without lists.
-fn store_of(out: &mut Answer, word: &str, is_cached: bool) -> Option<CrlStore> {
+/// Returns the store of a word; `-` for one without lists.
+pub fn store_of(out: &mut Answer, word: &str, is_cached: bool) -> Option<CrlStore> {
     let mut store = CrlStore::new(out.alloc());
     if is_cached {
         store.enable_serial_caching();

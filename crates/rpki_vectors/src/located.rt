@@ -1,0 +1,78 @@
+//! Whole paths from the trust anchor of a locator down.
+use crate::answer::Answer;
+use crate::paths::{authorities, leaf, named, validated};
+use crate::revocation::store_of;
+use crate::words::{Words, moment};
+use bytes::Bytes;
+use rpki_cert::ResourceCert;
+use rpki_der::Time;
+use rpki_parts::StandIn;
+use rpki_path::{LocatedError, Member, has_locator_key, validate_located};
+use rpki_tal::Tal;
+
+// Whether the trust anchor has the locator's key; `none` where no certificate is read.
+fn has_key(out: &mut Answer, tal: &Tal, anchor: &Bytes) {
+    out.field("has-key");
+    match has_locator_key(out.alloc(), &Member::of(anchor), tal) {
+        Ok(has) => out.yes(has),
+        Err(fault) => {
+            if fault.is_memory() {
+                out.fail();
+            }
+            drop(fault);
+            out.text("none");
+        }
+    }
+}
+
+fn told(out: &mut Answer, answer: Result<ResourceCert, LocatedError>) {
+    match answer {
+        Ok(last) => validated(out, Ok(last)),
+        Err(LocatedError::Path(error)) => validated(out, Err(error)),
+        Err(LocatedError::OtherKey) => out.text("refused locator OtherKey"),
+    }
+}
+
+fn below(words: &Words<'_>, out: &mut Answer, tal: &Tal, anchor: &Bytes, now: Time) -> Option<()> {
+    let alloc = out.alloc();
+    let cas = authorities(out, words, 6);
+    let leaf = leaf(out, words);
+    let strict = words.is(2, "strict");
+    let store = store_of(out, words.at(3), false)?;
+    let answer = validate_located(
+        alloc, tal, &store, anchor, &cas, leaf, strict, now, &StandIn,
+    );
+    drop(store);
+    told(out, answer);
+    has_key(out, tal, anchor);
+    Some(())
+}
+
+fn answered(words: &Words<'_>, out: &mut Answer) -> Option<()> {
+    let now = moment(words.at(1))?;
+    let anchor = named(out, words.at(5), "ta")?;
+    let file = words.octets(out, 4);
+    let name = String::new(out.alloc());
+    match Tal::read_named(out.alloc(), name, &file, true) {
+        Ok(tal) => {
+            let is_fit = below(words, out, &tal, &anchor, now);
+            drop(tal);
+            is_fit
+        }
+        Err(error) => {
+            if error.is_memory() {
+                out.fail();
+            }
+            drop(error);
+            None
+        }
+    }
+}
+
+/// Tells what the last member of a path below a locator holds, or which member is refused, and why,
+/// under the stand-in; and whether the trust anchor has the locator's key.
+pub fn located(words: &Words<'_>, out: &mut Answer) {
+    if answered(words, out).is_none() {
+        out.text("unfit");
+    }
+}
