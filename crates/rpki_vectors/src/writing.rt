@@ -6,13 +6,16 @@ use rpki_der::{
     put_value,
 };
 
-/// Returns a vector with an octet in it, behind which something is written.
+/// Returns a vector with an octet in it, behind which something is written. It has no room, so that
+/// who writes asks for it.
 pub fn started(out: &mut Answer) -> Vec<u8> {
-    let mut octets: Vec<u8> = Vec::new(out.alloc());
-    if octets.push(0x55).is_err() {
-        out.fail();
+    match Vec::from_slice(out.alloc(), b"\x55") {
+        Ok(octets) => octets,
+        Err(_) => {
+            out.fail();
+            Vec::new(out.alloc())
+        }
     }
-    octets
 }
 
 /// Appends what was written behind that octet, or why nothing was.
