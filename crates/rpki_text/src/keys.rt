@@ -115,8 +115,8 @@ impl fmt::Display for KeyAnswer {
     }
 }
 
-/// The key of a locator. It is printed as what it is, and where no signature is verified with it with
-/// what is asked of it.
+/// The key of a locator. It is printed as what it is, and where no signature is verified with it
+/// with what is asked of it.
 #[derive(Clone, Copy)]
 pub struct LocatorKey(pub KeyAnswer);
 
@@ -125,10 +125,12 @@ impl fmt::Display for LocatorKey {
 
     fn fmt<W: fmt::Write>(&self, f: &mut fmt::Formatter<W>) -> fmt::Result {
         let form = Form(self.0.form);
-        write!(f, "{form}")?;
         if self.0.is_usable {
-            return Ok(());
+            return write!(f, "{form}");
         }
-        f.write_str(" (every path is rejected: RFC 7935 3 asks RSA, 2048 bits, exponent 65537)")
+        write!(
+            f,
+            "{form} (every path is rejected: RFC 7935 3 asks RSA, 2048 bits, exponent 65537)"
+        )
     }
 }
