@@ -1,4 +1,5 @@
-//! Certificates, lists and locators as JSON, with the names that rpki-client gives to what it shows too.
+//! Certificates, lists and locators as JSON, with the names that rpki-client gives to what it shows
+//! too.
 ghost use Rattle.std.specs.Prelude.{◌≡◌, codes, map, option_map, IfOk, OnOk};
 ghost use Rattle.serde_json.specs.View.{view};
 ghost use Rattle.rpki.specs.Locators.{uri_text};

@@ -1,5 +1,5 @@
-//! The command for people: shows certificates, revocation lists and locators of files, and validates
-//! paths of files.
+//! The command for people: shows certificates, revocation lists and locators of files, and
+//! validates paths of files.
 #![tactic(auto)]
 
 ghost use Rattle.std.specs.Prelude.{◌≡◌, ◌≢◌, ◌≤◌, IfOk, IfSome, MatchOption, OnOk, string_bytes};
@@ -173,9 +173,9 @@ fn run_with_arguments(rt: &HostRuntime) -> Result<Outcome> {
 
 /// Runs the command on the words of the command line: reads the files, and prints what they hold,
 /// or the verdict on their path. The exit status is 0 where all files were shown or the path is
-/// accepted; 1 where a file is no certificate, list or locator, the path is rejected, or a file given
-/// as a list or a locator is none; 2 where the command line has another form; and 3 where a file can't be
-/// read, or the clock, memory or an output failed.
+/// accepted; 1 where a file is no certificate, list or locator, the path is rejected, or a file
+/// given as a list or a locator is none; 2 where the command line has another form; and 3 where a
+/// file can't be read, or the clock, memory or an output failed.
 pub fn command(rt: &HostRuntime) -> ExitCode
     ensures { exit_status result ≤ 3 }
 {

@@ -345,8 +345,8 @@ fn whole_list(page: &mut Page, object: &Object<'_>, it: &Crl, left: usize, optio
     }
 }
 
-// Shows a file that can't be shown for these reasons: why it begins with neither a certificate nor a
-// list, and why it is no locator.
+// Says of a file why it can't be shown: why it begins with neither a certificate nor a list, and
+// why it is no locator.
 fn whole_other(
     page: &mut Page,
     object: &Object<'_>,
@@ -401,8 +401,8 @@ fn show_other(
     }
 }
 
-/// Shows a file, and says whether it begins with a certificate or a list, or is a locator. Errs only
-/// where memory runs out.
+/// Shows a file, and says whether it begins with a certificate or a list, or is a locator. Errs
+/// only where memory runs out.
 pub fn show(page: &mut Page, object: &Object<'_>, options: &Options) -> Result<bool, AllocError>
     ensures shows { IfOk result (λ shows.
         IsTrue shows ↔ CanBeShown options.now.strict object.now.octets) }

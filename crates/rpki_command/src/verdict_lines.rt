@@ -100,8 +100,8 @@ fn print_left(page: &mut Page, name: &str, left: usize)
 
 fn print_known(page: &mut Page, cert: &Cert, strict: bool, name: &str)
     ensures { (kind : _) × IsKindOf kind strict cert.now × Appends page.old
-        (line (codes "Member") (member_text (certificate_kind_text kind) cert.now.fields.serial name.now))
-        page.new }
+        (line (codes "Member")
+        (member_text (certificate_kind_text kind) cert.now.fields.serial name.now)) page.new }
 {
     page.line_of(
         "Member",
@@ -123,7 +123,8 @@ fn print_certificate(
     left: usize,
 )
     ensures { (kind : _) × IsKindOf kind strict cert.now × Appends page.old
-        (line (codes "Member") (member_text (certificate_kind_text kind) cert.now.fields.serial name.now)
+        (line (codes "Member")
+        (member_text (certificate_kind_text kind) cert.now.fields.serial name.now)
         ++ (notes_lines notes.now ++ after_line name.now left)) page.new }
 {
     print_known(page, cert, strict, name);
