@@ -1,4 +1,4 @@
-use Rattle.std.proofs.Common.{List, ℕ, sym, subst}
+use Rattle.std.proofs.Common.{rules, ◌≡◌, List, ℕ, sym, subst}
 use Rattle.rpki.specs.Locators.{uri_text}
 use Rattle.rpki.specs.TalUri.{TalUri}
 use Rattle.rpki_text.specs.Pages.{Appends}
@@ -13,7 +13,8 @@ part uri = location_line (uri_text uri)
 pub loop-uri-preserved : goal.loop-uri-preserved
 loop-uri-preserved c =
     let l = c.loop-uri in
-    let line = rw (c.as_bytes.ensures, c.as_str.ensures) at c.line_of.ensures in
+    let octets : c.as_bytes.result.now ≡ uri_text c.uri-item.result = search rules in
+    let line = rw octets at c.line_of.ensures in
     subst (λ (text : List ℕ). Appends c.args.page.now text c.line_of.new.self) (sym (parts_more part c.args.uris.now l.uri-index c.uri-item.result c.loop-uri-test.true c.uri-item.is))
     (then_appended c.args.page.now l.page c.line_of.new.self _ _ l.invariant line)
 
