@@ -25,11 +25,19 @@ static void decode_all(const unsigned char *from, size_t length, uint32_t rounds
 }
 
 static void path_said(uint32_t rounds) {
-    struct rpki_time now = {.year = 2027, .month = 1, .day = 1};
+    const struct rpki_question question = {
+        .size = sizeof question,
+        .members = {octets, len, lengths, count},
+        .moment = {.year = 2027, .month = 1, .day = 1},
+        .last = RPKI_END_ENTITY,
+        .strict = 1,
+        .revocation = RPKI_ASK_NOBODY,
+        .anchor = RPKI_AS_GIVEN,
+    };
+    struct rpki_room room = {v4, 64, v6, 64, asn, 64};
     struct rpki_verdict out;
     for (uint32_t i = 0; i < rounds; i++)
-        if (rpki_path_validate_said(octets, len, lengths, count, RPKI_END_ENTITY, yes, count, 1, &now, v4, 64, v6, 64, asn, 64, &out) != RPKI_OK)
-            exit(1);
+        if (rpki_path_validate_said(&question, yes, count, &room, &out) != RPKI_OK) exit(1);
 }
 
 static void path_alone(uint32_t rounds) {

@@ -6,11 +6,13 @@
  *   - Octets are read as a certificate or list exactly where they begin with one, unless memory
  *     runs out.
  *   - A path is accepted exactly where its members are a valid path, by the definitions of
- *     crates/rpki_path/specs (Judging.antt, Paths.antt), unless memory runs out.
+ *     crates/rpki_path/specs (Judging.antt, Paths.antt), and its anchor has the locator's key where
+ *     that is asked, unless memory runs out.
  *   - The list that is asked of a member is that of crates/rpki_revocation/specs/AskedLists.antt,
  *     whatever the order of the lists.
  *   - The fault of a rejected path is that of the first wrong member, whose place is the index.
- * Only tested is that the caller's memory then holds those fields and ranges.
+ *   - What is written of a certificate's or list's fields is theirs.
+ * Only tested is that the caller's memory then holds those ranges, entries and places.
  *
  * What the caller has to keep:
  *   - Each pointer points to as many elements as the length beside it says, aligned as C asks.
@@ -41,7 +43,7 @@ extern "C" {
 #endif
 
 /* What rpki_abi_version answers where this header fits the library. */
-#define RPKI_ABI 2
+#define RPKI_ABI 3
 
 /* Tells the number of the library's interface. */
 uint32_t rpki_abi_version(void);
@@ -70,7 +72,7 @@ enum rpki_field {
 enum rpki_fault {
     RPKI_OK = 0,
     RPKI_MEMORY = 1,   /* memory ran out */
-    RPKI_BAD_CALL = 2, /* lengths don't add up, or no such moment, kind, family, URI or name */
+    RPKI_BAD_CALL = 2, /* lengths or a size don't fit, or no such moment, kind, family, URI .. */
 
     /* The octets begin with no certificate, or no list. */
     RPKI_DECODE_TRUNCATED = 100,
@@ -280,93 +282,111 @@ uint32_t rpki_list_ask(const uint8_t *octets, size_t length, const uint8_t *seri
 
 /* ---- paths */
 
+/* Holds strings of octets, which stand one behind the other, and the length of each. */
+struct rpki_strings {
+    const uint8_t *octets;
+    size_t length;
+    const size_t *lengths;
+    size_t count;
+};
+
+/* Numbers who is asked whether members are revoked: the lists of the question, or nobody. */
+enum rpki_revocation { RPKI_ASK_LISTS = 0, RPKI_ASK_NOBODY = 1 };
+
+/* Numbers what the anchor's key has to be: that of the question's locator (RFC 8630 3), or any. */
+enum rpki_trust { RPKI_ASK_LOCATOR = 0, RPKI_AS_GIVEN = 1 };
+
+/* Asks about a path. What a question leaves out it has to say: one of zeros, with members, asks
+ * lists and a locator, and is rejected where there are none.
+ *
+ * Lists are of any issuers and in any order; where they were found isn't asked. Of a member below
+ * the anchor, and of a router, the latest list of its issuer is asked:
+ *   - It names the key that signed the member, and is signed by that key.
+ *   - It has begun: it is neither from after the moment nor from after its own next update. A list
+ *     from the future, or one whose two times are exchanged, supersedes none.
+ *   - Of these it is the one with the greatest number (RFC 6487 5). Of several with one number,
+ *     which RFC 5280 5.2.3 forbids, one that revokes the member goes first, then the later one,
+ *     then the one that was given first.
+ * That list has to be current (its next update isn't before the moment), and not to have the
+ * member's serial number. Where no list is such, the first that names the key rejects the member;
+ * where none names it, the fault is RPKI_REVOCATION_NO_CRL. */
+struct rpki_question {
+    size_t size;                 /* is sizeof(struct rpki_question) */
+    struct rpki_strings members; /* are certificates, the anchor first */
+    struct rpki_strings lists;   /* are revocation lists; nobody reads them with RPKI_ASK_NOBODY */
+    const uint8_t *locator;      /* is a locator's file; nobody reads it with RPKI_AS_GIVEN */
+    size_t locator_length;
+    struct rpki_time moment;
+    uint32_t last;       /* says what the last member is, by an enum rpki_kind: RPKI_ANCHOR where
+                          * the anchor stands alone, and RPKI_AUTHORITY also there */
+    uint32_t strict;     /* is as for rpki_certificate_inspect; where it is 0, the comments of a
+                          * locator may be any octets, and else they are UTF-8 */
+    uint32_t revocation; /* is an enum rpki_revocation */
+    uint32_t anchor;     /* is an enum rpki_trust */
+};
+
+/* Has room for the ranges that are held. */
+struct rpki_room {
+    struct rpki_ip_range *v4;
+    size_t v4_room;
+    struct rpki_ip_range *v6;
+    size_t v6_room;
+    struct rpki_as_range *asn;
+    size_t asn_room;
+};
+
 /* Says what became of a path. A path that ends in a router's certificate holds the ranges of the
  * member above it; the router's own AS numbers are those that rpki_certificate_as_numbers writes of
  * its certificate. */
 struct rpki_verdict {
-    uint32_t fault;       /* is what the function answers */
-    uint32_t index;       /* is the place of the first wrong member; the anchor's is 0 */
+    uint32_t fault; /* is what the function answers */
+    uint32_t index; /* is the place of the first wrong member; the anchor's is 0, and that of a list
+                     * which can't be read is the number of members and its own. A place behind
+                     * UINT32_MAX is told as that */
     uint64_t v4, v6, asn; /* count the ranges that the last member holds, where the fault is 0 */
 };
 
-/* Validates a path. The members' octets stand one behind the other, the anchor first, and `lengths`
- * has the length of each. `last` says what the last one is, by an enum rpki_kind: RPKI_ANCHOR where
- * the anchor stands alone, and RPKI_AUTHORITY also there. Signatures are checked as the RPKI has
- * them (RFC 7935). Doesn't ask whether a member is revoked, nor whether names chain, which
- * rpki_path_names does.
+/* Answers a question about a path. Signatures are checked as the RPKI has them (RFC 7935). Doesn't
+ * ask whether names chain, which rpki_path_names does.
  * Writes the ranges that are held, as many as there is room for, and into *out how many there are:
  * where there are more, ask again with more room. *out holds after every fault.
- * Answers RPKI_BAD_CALL also where there are too few members (none, or the anchor alone where the
- * last one is to be an end entity or a router), or members below an RPKI_ANCHOR. */
-uint32_t rpki_path_validate(const uint8_t *octets, size_t length, const size_t *lengths,
-                            size_t members, uint32_t last, uint32_t strict,
-                            const struct rpki_time *now, struct rpki_ip_range *v4, size_t v4_room,
-                            struct rpki_ip_range *v6, size_t v6_room, struct rpki_as_range *asn,
-                            size_t asn_room, struct rpki_verdict *out);
-
-/* Validates a path as above, and asks revocation lists of each member below the anchor, and of a
- * router. The lists stand one behind the other, in any order, of any issuers; where they were found
- * isn't asked. Of a member the latest list of its issuer is asked:
- *   - It names the key that signed the member, and is signed by that key.
- *   - It has begun: it is neither from after `now` nor from after its own next update. A list from
- *     the future, or one whose two times are exchanged, supersedes none.
- *   - Of these it is the one with the greatest number (RFC 6487 5). Of several with one number,
- *     which RFC 5280 5.2.3 forbids, one that revokes the member goes first, then the later one,
- *     then the one that was given first.
- * That list has to be current (its next update isn't before `now`), and not to have the member's
- * serial number. Where no list is such, the first that names the key rejects the member; where none
- * names it, the fault is RPKI_REVOCATION_NO_CRL. Where a list can't be read, the verdict's index is
- * the number of members and the list's place. */
-uint32_t rpki_path_validate_with(const uint8_t *lists, size_t lists_length,
-                                 const size_t *list_lengths, size_t list_count,
-                                 const uint8_t *octets, size_t length, const size_t *lengths,
-                                 size_t members, uint32_t last, uint32_t strict,
-                                 const struct rpki_time *now, struct rpki_ip_range *v4,
-                                 size_t v4_room, struct rpki_ip_range *v6, size_t v6_room,
-                                 struct rpki_as_range *asn, size_t asn_room,
-                                 struct rpki_verdict *out);
+ * Answers RPKI_BAD_CALL where `size` is another, lengths don't add up, a number of the question is
+ * of none of its enums, or no moment is such; and where there are too few members (none, or the
+ * anchor alone where the last one is to be an end entity or a router), or members below an
+ * RPKI_ANCHOR. Where the locator is asked, that comes first: its fault, or that of the anchor's
+ * octets, or RPKI_OTHER_KEY, each with the index 0. A list that can't be read comes next. */
+uint32_t rpki_path_validate(const struct rpki_question *question, struct rpki_room *room,
+                            struct rpki_verdict *out);
 
 /* Asks whether the names of a path chain (RFC 6487 7.2, RFC 5280 6.1): whether the anchor's issuer
  * is its own subject, and that of each later member the subject of the member above it; a router is
- * asked as any other. The members stand as above. Nothing else is asked of them, so validate the
- * path too. Names are compared octet by octet: RFC 5280 7.1 takes some for one that differ here, in
- * the case of letters, in spaces or in the type of a string.
+ * asked as any other. Nothing else is asked of them, so validate the path too. Names are compared
+ * octet by octet: RFC 5280 7.1 takes some for one that differ here, in the case of letters, in
+ * spaces or in the type of a string.
  * Answers RPKI_OK where all chain. Else *place is the place of the first member that is wrong:
  * RPKI_OTHER_NAME where its names don't chain, or the fault of reading. Answers RPKI_BAD_CALL where
- * there are no members. */
-uint32_t rpki_path_names(const uint8_t *octets, size_t length, const size_t *lengths,
-                         size_t members, uint64_t *place);
+ * there are no members, or lengths don't add up. */
+uint32_t rpki_path_names(const struct rpki_strings *members, uint64_t *place);
 
-/* Asks whether an anchor has the key of a trust anchor locator (RFC 8630 3), whose file the octets
- * behind it are: comments, URIs, an empty line, and the key in base64. `strict` is 1 where the file
- * has to be UTF-8, and 0 where its comments may be any octets. Nothing else is asked of the anchor,
- * so validate the path too. Answers RPKI_OK where the keys are one, RPKI_OTHER_KEY where they
- * aren't, or why the locator, or then the anchor, can't be read. */
-uint32_t rpki_path_locator(const uint8_t *anchor, size_t length, const uint8_t *locator,
-                           size_t locator_length, uint32_t strict);
-
-/* Asks a caller with cryptography of its own: is this a signature of the message by the key, with
- * sha256WithRSAEncryption? All are places in the octets of the path. */
-struct rpki_question {
+/* Holds a signature for a caller with cryptography of its own to check: is it one of the message by
+ * the key, with sha256WithRSAEncryption? All are places in the octets of the path. */
+struct rpki_signature {
     uint64_t key_at, key_length; /* are those of a SubjectPublicKeyInfo */
     uint64_t message_at, message_length;
     uint64_t signature_at, signature_length;
 };
 
-/* Writes the questions, one a member, as many as there is room for. The anchor is signed by its
+/* Writes the signatures, one a member, as many as there is room for. The anchor is signed by its
  * own key, each later member by that of the one above it. */
-uint32_t rpki_path_questions(const uint8_t *octets, size_t length, const size_t *lengths,
-                             size_t members, struct rpki_question *out, size_t room);
+uint32_t rpki_path_signatures(const struct rpki_strings *members, struct rpki_signature *out,
+                              size_t room);
 
-/* Validates a path as rpki_path_validate does, with the caller's answers: yes[i] is 1 where the
- * caller has found the i-th signature good. A signature without an answer isn't good. */
-uint32_t rpki_path_validate_said(const uint8_t *octets, size_t length, const size_t *lengths,
-                                 size_t members, uint32_t last, const uint8_t *yes, size_t answers,
-                                 uint32_t strict, const struct rpki_time *now,
-                                 struct rpki_ip_range *v4, size_t v4_room,
-                                 struct rpki_ip_range *v6, size_t v6_room,
-                                 struct rpki_as_range *asn, size_t asn_room,
-                                 struct rpki_verdict *out);
+/* Answers a question about a path as rpki_path_validate does, with the caller's answers: yes[i] is
+ * 1 where the caller has found the i-th signature good. A signature without an answer isn't good.
+ * The lists' signatures are none of these, so it answers RPKI_BAD_CALL unless the question has
+ * RPKI_ASK_NOBODY. */
+uint32_t rpki_path_validate_said(const struct rpki_question *question, const uint8_t *yes,
+                                 size_t answers, struct rpki_room *room, struct rpki_verdict *out);
 
 #ifdef __cplusplus
 }

@@ -125,30 +125,67 @@ static void rooms(struct file cert, struct file list) {
     check(rpki_fault_sentence(RPKI_OK, NULL, 0, &count) == RPKI_OK && count > 0, "0 has a sentence");
 }
 
+static struct rpki_strings strings(const uint8_t *octets, size_t length, const size_t *lengths, size_t count) {
+    return (struct rpki_strings){octets, length, lengths, count};
+}
+
+/* a question that asks no lists and no locator */
+static struct rpki_question about(struct rpki_strings members, uint32_t last, const struct rpki_time *at) {
+    return (struct rpki_question){.size = sizeof(struct rpki_question), .members = members, .moment = *at,
+                                  .last = last, .strict = 1, .revocation = RPKI_ASK_NOBODY, .anchor = RPKI_AS_GIVEN};
+}
+
+static uint32_t answer(const struct rpki_question *question, struct rpki_verdict *out) {
+    struct rpki_room room = {0};
+    return rpki_path_validate(question, &room, out);
+}
+
 static uint32_t judge(const uint8_t *octets, size_t length, const size_t *lengths, size_t members, uint32_t last,
                       const struct rpki_time *at, struct rpki_verdict *out) {
-    return rpki_path_validate(octets, length, lengths, members, last, 1, at, NULL, 0, NULL, 0, NULL, 0, out);
+    const struct rpki_question question = about(strings(octets, length, lengths, members), last, at);
+    return answer(&question, out);
+}
+
+/* the same, with lists */
+static uint32_t judge_with(struct rpki_strings lists, struct rpki_strings members, uint32_t last,
+                           const struct rpki_time *at, struct rpki_verdict *out) {
+    struct rpki_question question = about(members, last, at);
+    question.lists = lists;
+    question.revocation = RPKI_ASK_LISTS;
+    return answer(&question, out);
+}
+
+/* the same, with answers of the caller's */
+static uint32_t judge_said(struct rpki_strings members, uint32_t last, const uint8_t *yes, size_t answers,
+                           const struct rpki_time *at, struct rpki_verdict *out) {
+    const struct rpki_question question = about(members, last, at);
+    struct rpki_room room = {0};
+    return rpki_path_validate_said(&question, yes, answers, &room, out);
+}
+
+static uint32_t signatures_of(struct rpki_strings members, struct rpki_signature *out, size_t room) {
+    return rpki_path_signatures(&members, out, room);
 }
 
 /* no members, one, and 4,000 */
 static void members(struct file anchor) {
     struct rpki_verdict out;
-    struct rpki_question question;
+    struct rpki_signature signature;
     size_t length = anchor.length;
     const struct rpki_time none = {2026, 2, 30, 0, 0, 0, 0};
     check(judge(NULL, 0, NULL, 0, RPKI_AUTHORITY, &now, &out) == RPKI_BAD_CALL && out.fault == RPKI_BAD_CALL, "no members are no path");
-    check(rpki_path_questions(NULL, 0, NULL, 0, NULL, 0) == RPKI_BAD_CALL, "no members have no questions");
+    check(signatures_of(strings(NULL, 0, NULL, 0), NULL, 0) == RPKI_BAD_CALL, "no members have no signatures");
     check(judge(anchor.octets, length, &length, 1, RPKI_AUTHORITY, &now, &out) == RPKI_OK && out.v4 == 1 && out.v6 == 1 && out.asn == 1,
           "the anchor alone is a path");
     check(judge(anchor.octets, length, &length, 1, RPKI_END_ENTITY, &now, &out) == RPKI_BAD_CALL, "the anchor alone is no end entity");
     check(judge(anchor.octets, length, &length, 1, 9, &now, &out) == RPKI_BAD_CALL, "9 is no kind");
     check(judge(anchor.octets, length, &length, 1, RPKI_AUTHORITY, &none, &out) == RPKI_BAD_CALL, "there is no 30th of February");
-    check(rpki_path_questions(anchor.octets, length, &length, 1, NULL, 0) == RPKI_OK, "room for no question");
-    check(rpki_path_questions(anchor.octets, length, &length, 1, &question, 1) == RPKI_OK && question.key_at > 0
-              && question.key_at + question.key_length < length && question.signature_at + question.signature_length == length,
-          "the question lies in the octets");
-    check(rpki_path_validate_said(anchor.octets, length, &length, 1, RPKI_AUTHORITY, NULL, 0, 1, &now, NULL, 0, NULL, 0, NULL, 0, &out)
-              == RPKI_VERIFICATION_BAD_SIGNATURE,
+    const struct rpki_strings alone = strings(anchor.octets, length, &length, 1);
+    check(signatures_of(alone, NULL, 0) == RPKI_OK, "room for no signature");
+    check(signatures_of(alone, &signature, 1) == RPKI_OK && signature.key_at > 0
+              && signature.key_at + signature.key_length < length && signature.signature_at + signature.signature_length == length,
+          "the signature lies in the octets");
+    check(judge_said(alone, RPKI_AUTHORITY, NULL, 0, &now, &out) == RPKI_VERIFICATION_BAD_SIGNATURE,
           "without an answer the signature isn't good");
     size_t wrong = length + 1;
     check(judge(anchor.octets, length, &wrong, 1, RPKI_AUTHORITY, &now, &out) == RPKI_BAD_CALL, "a length behind the octets");
@@ -164,11 +201,11 @@ static void members(struct file anchor) {
     }
     check(judge(octets, 4000 * length, lengths, 4000, RPKI_AUTHORITY, &now, &out) == RPKI_INSPECTION_MISSING_CRL_URI && out.index == 1,
           "of 4,000 anchors the second is no authority");
-    struct rpki_question *questions = malloc(4000 * sizeof *questions);
-    check(rpki_path_questions(octets, 4000 * length, lengths, 4000, questions, 4000) == RPKI_OK
-              && questions[3999].signature_at + questions[3999].signature_length == 4000 * length,
-          "4,000 questions");
-    free(questions);
+    struct rpki_signature *signatures = malloc(4000 * sizeof *signatures);
+    check(signatures_of(strings(octets, 4000 * length, lengths, 4000), signatures, 4000) == RPKI_OK
+              && signatures[3999].signature_at + signatures[3999].signature_length == 4000 * length,
+          "4,000 signatures");
+    free(signatures);
     free(octets);
     free(lengths);
 }
@@ -518,12 +555,10 @@ static void moments(struct file anchor) {
                   && out.fault == cases[i].wanted && out.index == 0
                   && out.v4 == (cases[i].wanted == RPKI_OK),
               "a moment at an end");
-        check(rpki_path_validate_said(anchor.octets, length, &length, 1, RPKI_AUTHORITY, &yes, 1, 0,
-                                      at, NULL, 0, NULL, 0, NULL, 0, &out)
-                  == cases[i].wanted,
+        const struct rpki_strings alone = strings(anchor.octets, length, &length, 1);
+        check(judge_said(alone, RPKI_AUTHORITY, &yes, 1, at, &out) == cases[i].wanted,
               "a moment at an end, with the caller's answer");
-        check(rpki_path_validate_with(NULL, 0, NULL, 0, anchor.octets, length, &length, 1,
-                                      RPKI_AUTHORITY, 1, at, NULL, 0, NULL, 0, NULL, 0, &out)
+        check(judge_with(strings(NULL, 0, NULL, 0), alone, RPKI_AUTHORITY, at, &out)
                   == cases[i].wanted,
               "a moment at an end, with lists");
     }
@@ -531,11 +566,16 @@ static void moments(struct file anchor) {
 
 /* ---- paths */
 
+/* a file's octets, of which there may be none at NULL */
+static void put(uint8_t *to, struct file from) {
+    if (from.length > 0) memcpy(to, from.octets, from.length);
+}
+
 /* two files, one behind the other */
 static struct file both(struct file one, struct file two) {
     struct file it = {malloc(one.length + two.length), one.length + two.length};
-    memcpy(it.octets, one.octets, one.length);
-    memcpy(it.octets + one.length, two.octets, two.length);
+    put(it.octets, one);
+    put(it.octets + one.length, two);
     return it;
 }
 
@@ -603,56 +643,97 @@ static void held(struct file anchor, struct file first) {
     memset(v4, 0xa5, sizeof v4);
     memset(v6, 0xa5, sizeof v6);
     memset(asn, 0xa5, sizeof asn);
-    check(rpki_path_validate(path.octets, path.length, parts, 2, RPKI_AUTHORITY, 1, &now, v4, 3, v6,
-                             0, asn, 1, &out)
-                  == RPKI_OK
+    const struct rpki_question question =
+        about(strings(path.octets, path.length, parts, 2), RPKI_AUTHORITY, &now);
+    struct rpki_room room = {v4, 3, v6, 0, asn, 1};
+    check(rpki_path_validate(&question, &room, &out) == RPKI_OK
               && out.v4 == 2 && out.v6 == 1 && out.asn == 2,
           "the counts don't depend on the room");
     check(v4[1].min[0] == 10 && v4[1].min[1] == 32 && v4[1].max[1] == 40 && v4[2].min[0] == 0xa5,
           "two ranges of IPv4, and nothing behind them");
     check(v6[0].min[0] == 0xa5, "nothing is written without room");
     check(asn[0].min == 64500 && asn[0].max == 64503, "the first range of AS numbers");
+    check(room.v4 == v4 && room.v4_room == 3 && room.v6 == v6 && room.v6_room == 0 && room.asn == asn
+              && room.asn_room == 1,
+          "the room is where it was");
     free(path.octets);
 }
 
-/* questions: fewer and more than there are members, and of a member that is none */
-static void questions(struct file anchor, struct file first) {
+/* signatures: fewer and more than there are members, and of a member that is none */
+static void signatures(struct file anchor, struct file first) {
     struct file path = both(anchor, first);
     const size_t a = anchor.length, f = first.length, all = path.length;
-    struct rpki_question out[3];
+    const struct rpki_strings members = strings(path.octets, all, (size_t[]){a, f}, 2);
+    struct rpki_signature out[3];
     struct rpki_verdict verdict;
     uint8_t yes[2] = {1, 1};
     memset(out, 0xa5, sizeof out);
-    check(rpki_path_questions(path.octets, all, (size_t[]){a, f}, 2, out, 1) == RPKI_OK
+    check(signatures_of(members, out, 1) == RPKI_OK
               && out[0].signature_at + out[0].signature_length == a
               && out[1].key_at == 0xa5a5a5a5a5a5a5a5,
-          "room for one question");
-    check(rpki_path_questions(path.octets, all, (size_t[]){a, f}, 2, out, 3) == RPKI_OK
+          "room for one signature");
+    check(signatures_of(members, out, 3) == RPKI_OK
               && out[1].signature_at + out[1].signature_length == all && out[1].message_at > a
               && out[1].key_at == out[0].key_at && out[1].key_length == out[0].key_length
               && out[2].key_at == 0xa5a5a5a5a5a5a5a5,
-          "the anchor's key signs both, and nothing is written behind the last question");
-    check(is_decoding(rpki_path_questions(path.octets, a, (size_t[]){a, 0}, 2, out, 2)),
-          "an empty member asks nothing");
-    check(rpki_path_questions(path.octets, all, (size_t[]){a, f + 1}, 2, out, 2) == RPKI_BAD_CALL
-              && rpki_path_questions(path.octets, all, (size_t[]){a}, 1, out, 2) == RPKI_BAD_CALL
-              && rpki_path_questions(path.octets, all, NULL, 0, out, 2) == RPKI_BAD_CALL,
-          "lengths of questions that don't add up");
+          "the anchor's key signs both, and nothing is written behind the last signature");
+    check(is_decoding(signatures_of(strings(path.octets, a, (size_t[]){a, 0}, 2), out, 2)),
+          "an empty member has no signature");
+    check(signatures_of(strings(path.octets, all, (size_t[]){a, f + 1}, 2), out, 2) == RPKI_BAD_CALL
+              && signatures_of(strings(path.octets, all, (size_t[]){a}, 1), out, 2) == RPKI_BAD_CALL
+              && signatures_of(strings(path.octets, all, NULL, 0), out, 2) == RPKI_BAD_CALL,
+          "lengths of signatures that don't add up");
     for (size_t count = 0; count < 3; count++)
-        check(rpki_path_validate_said(path.octets, all, (size_t[]){a, f}, 2, RPKI_AUTHORITY, yes,
-                                      count, 1, &now, NULL, 0, NULL, 0, NULL, 0, &verdict)
+        check(judge_said(members, RPKI_AUTHORITY, yes, count, &now, &verdict)
                       == (count < 2 ? RPKI_VERIFICATION_BAD_SIGNATURE : RPKI_OK)
                   && verdict.index == (count == 1),
               "a signature without an answer isn't good");
-    for (uint32_t answer = 0; answer < 256; answer++) {
-        yes[1] = (uint8_t)answer;
-        check((rpki_path_validate_said(path.octets, all, (size_t[]){a, f}, 2, RPKI_AUTHORITY, yes, 2,
-                                       1, &now, NULL, 0, NULL, 0, NULL, 0, &verdict)
-               == RPKI_OK)
-                  == (answer == 1),
+    for (uint32_t octet = 0; octet < 256; octet++) {
+        yes[1] = (uint8_t)octet;
+        check((judge_said(members, RPKI_AUTHORITY, yes, 2, &now, &verdict) == RPKI_OK) == (octet == 1),
               "1 alone is yes");
     }
     free(path.octets);
+}
+
+/* numbers of a question that say nothing, and another size */
+static void choices(struct file anchor, struct file list) {
+    const size_t length = anchor.length, l = list.length;
+    const struct rpki_strings alone = strings(anchor.octets, length, &length, 1);
+    static const uint32_t none[] = {2, 3, 255, 256, 0x80000000, UINT32_MAX};
+    struct rpki_room room = {0};
+    struct rpki_verdict out;
+    struct rpki_question question = about(alone, RPKI_AUTHORITY, &now);
+    check(answer(&question, &out) == RPKI_OK, "the question is answered");
+    for (size_t i = 0; i < sizeof none / sizeof *none; i++) {
+        question.revocation = none[i];
+        check(answer(&question, &out) == RPKI_BAD_CALL, "lists are asked, or nobody is");
+        question.revocation = RPKI_ASK_NOBODY, question.anchor = none[i];
+        check(answer(&question, &out) == RPKI_BAD_CALL, "a locator is asked, or the anchor is as given");
+        question.anchor = RPKI_AS_GIVEN;
+    }
+    static const size_t sizes[] = {0, 1, sizeof question - 8, sizeof question - 1, sizeof question + 1,
+                                   sizeof question + 8, SIZE_MAX};
+    for (size_t i = 0; i < sizeof sizes / sizeof *sizes; i++) {
+        question.size = sizes[i];
+        check(answer(&question, &out) == RPKI_BAD_CALL && out.fault == RPKI_BAD_CALL && out.index == 0,
+              "a question of another size");
+        check(rpki_path_validate_said(&question, NULL, 0, &room, &out) == RPKI_BAD_CALL,
+              "a question of another size, with answers");
+    }
+    question.size = sizeof question;
+    question.lists = strings(list.octets, l, (size_t[]){l - 1}, 1);
+    question.locator = list.octets, question.locator_length = l;
+    check(answer(&question, &out) == RPKI_OK, "what isn't asked isn't read");
+    question.revocation = RPKI_ASK_LISTS;
+    check(rpki_path_validate_said(&question, (const uint8_t[]){1}, 1, &room, &out) == RPKI_BAD_CALL,
+          "the caller answers of no list's signature");
+    memset(&question, 0, sizeof question);
+    check(answer(&question, &out) == RPKI_BAD_CALL, "a question of zeros");
+    question.size = sizeof question, question.members = alone, question.moment = now, question.last = RPKI_ANCHOR;
+    check(answer(&question, &out) == RPKI_LOCATOR_NO_KEY && out.index == 0, "a locator is asked, and there is none");
+    question.anchor = RPKI_AS_GIVEN;
+    check(answer(&question, &out) == RPKI_OK, "an anchor has no list to ask");
 }
 
 /* files one behind the other, and their lengths */
@@ -660,7 +741,7 @@ static struct file joined(const struct file *files, size_t count, size_t *length
     struct file it = {malloc(1), 0};
     for (size_t i = 0; i < count; i++) {
         it.octets = realloc(it.octets, it.length + files[i].length + 1);
-        memcpy(it.octets + it.length, files[i].octets, files[i].length);
+        put(it.octets + it.length, files[i]);
         lengths[i] = files[i].length;
         it.length += files[i].length;
     }
@@ -673,12 +754,11 @@ static uint32_t listed(const struct file *lists, size_t list_count, const struct
                        struct rpki_verdict *out) {
     size_t list_lengths[8], lengths[8];
     struct file all = joined(lists, list_count, list_lengths), path = joined(members, count, lengths);
-    uint32_t answer = rpki_path_validate_with(all.octets, all.length, list_lengths, list_count,
-                                              path.octets, path.length, lengths, count, last, 1,
-                                              at, NULL, 0, NULL, 0, NULL, 0, out);
+    uint32_t fault = judge_with(strings(all.octets, all.length, list_lengths, list_count),
+                                strings(path.octets, path.length, lengths, count), last, at, out);
     free(all.octets);
     free(path.octets);
-    return answer;
+    return fault;
 }
 
 /* lists that are none, that nobody asks, and whose lengths don't add up */
@@ -708,18 +788,14 @@ static void asked(struct file anchor, struct file first, struct file own, struct
           "the second list is empty");
     check(is_decoding(listed(&first, 1, path, 2, RPKI_AUTHORITY, &now, &out)) && out.index == 2,
           "a certificate in place of a list");
-    check(rpki_path_validate_with(own.octets, l, (size_t[]){l - 1}, 1, anchor.octets, a, &a, 1,
-                                  RPKI_AUTHORITY, 1, &now, NULL, 0, NULL, 0, NULL, 0, &out)
+    const struct rpki_strings alone = strings(anchor.octets, a, &a, 1);
+    check(judge_with(strings(own.octets, l, (size_t[]){l - 1}, 1), alone, RPKI_AUTHORITY, &now, &out)
                   == RPKI_BAD_CALL
-              && rpki_path_validate_with(own.octets, l, (size_t[]){l + 1}, 1, anchor.octets, a, &a,
-                                         1, RPKI_AUTHORITY, 1, &now, NULL, 0, NULL, 0, NULL, 0,
-                                         &out)
+              && judge_with(strings(own.octets, l, (size_t[]){l + 1}, 1), alone, RPKI_AUTHORITY, &now, &out)
                   == RPKI_BAD_CALL
-              && rpki_path_validate_with(own.octets, l, NULL, 0, anchor.octets, a, &a, 1,
-                                         RPKI_AUTHORITY, 1, &now, NULL, 0, NULL, 0, NULL, 0, &out)
+              && judge_with(strings(own.octets, l, NULL, 0), alone, RPKI_AUTHORITY, &now, &out)
                   == RPKI_BAD_CALL
-              && rpki_path_validate_with(NULL, 0, (size_t[]){1}, 1, anchor.octets, a, &a, 1,
-                                         RPKI_AUTHORITY, 1, &now, NULL, 0, NULL, 0, NULL, 0, &out)
+              && judge_with(strings(NULL, 0, (size_t[]){1}, 1), alone, RPKI_AUTHORITY, &now, &out)
                   == RPKI_BAD_CALL,
           "lengths of lists that don't add up");
 }
@@ -814,8 +890,7 @@ static const struct rpki_time then = {2024, 1, 1, 0, 0, 0, 0};
 static uint32_t said(struct file path, const size_t *parts, size_t members, uint32_t last,
                      const uint8_t *yes, size_t answers, const struct rpki_time *at,
                      struct rpki_verdict *out) {
-    return rpki_path_validate_said(path.octets, path.length, parts, members, last, yes, answers, 1,
-                                   at, NULL, 0, NULL, 0, NULL, 0, out);
+    return judge_said(strings(path.octets, path.length, parts, members), last, yes, answers, at, out);
 }
 
 /* a router below an anchor of AS1 to AS10: validation.vectors says what is valid there */
@@ -828,9 +903,10 @@ static void routers(struct file anchor, struct file router, struct file trimming
     struct rpki_as_range asn[2];
     struct rpki_verdict out;
     memset(asn, 0xa5, sizeof asn);
-    check(rpki_path_validate_said(path.octets, path.length, parts, 2, RPKI_ROUTER, yes, 2, 1, &then,
-                                  NULL, 0, NULL, 0, asn, 2, &out)
-                  == RPKI_OK
+    const struct rpki_question question =
+        about(strings(path.octets, path.length, parts, 2), RPKI_ROUTER, &then);
+    struct rpki_room room = {NULL, 0, NULL, 0, asn, 2};
+    check(rpki_path_validate_said(&question, yes, 2, &room, &out) == RPKI_OK
               && out.v4 == 0 && out.v6 == 0 && out.asn == 1 && asn[0].min == 1 && asn[0].max == 10
               && asn[1].min == 0xa5a5a5a5,
           "a router is valid, and the member above it holds AS1 to AS10");
@@ -876,14 +952,12 @@ static void no_router(struct file anchor, struct file first, struct file second,
                   == RPKI_INSPECTION_KEY_ALGORITHM
               && out.index == 2,
           "an authority is no router");
-    check(rpki_path_validate_with(list.octets, list.length, &list.length, 1, path.octets,
-                                  path.length, parts, 3, RPKI_ROUTER, 1, &now, NULL, 0, NULL, 0,
-                                  NULL, 0, &out)
+    const struct rpki_strings members = strings(path.octets, path.length, parts, 3);
+    check(judge_with(strings(list.octets, list.length, &list.length, 1), members, RPKI_ROUTER, &now, &out)
                   == RPKI_INSPECTION_KEY_ALGORITHM
               && out.index == 2,
           "an authority is no router, where lists are asked");
-    check(rpki_path_validate_with(NULL, 0, NULL, 0, path.octets, path.length, parts, 3, RPKI_ROUTER,
-                                  1, &now, NULL, 0, NULL, 0, NULL, 0, &out)
+    check(judge_with(strings(NULL, 0, NULL, 0), members, RPKI_ROUTER, &now, &out)
                   == RPKI_REVOCATION_NO_CRL
               && out.index == 1,
           "a member above the router has no list");
@@ -891,11 +965,16 @@ static void no_router(struct file anchor, struct file first, struct file second,
     free(path.octets);
 }
 
+static uint32_t names_in(const uint8_t *octets, size_t length, const size_t *lengths, size_t count, uint64_t *place) {
+    const struct rpki_strings members = strings(octets, length, lengths, count);
+    return rpki_path_names(&members, place);
+}
+
 /* the names of two or three files, one behind the other */
 static uint32_t names_of(struct file one, struct file two, struct file three, uint64_t *place) {
     struct file front = both(one, two), path = both(front, three);
     const size_t parts[] = {one.length, two.length, three.length};
-    uint32_t fault = rpki_path_names(path.octets, path.length, parts, three.length > 0 ? 3 : 2, place);
+    uint32_t fault = names_in(path.octets, path.length, parts, three.length > 0 ? 3 : 2, place);
     free(front.octets);
     free(path.octets);
     return fault;
@@ -909,10 +988,10 @@ static void chains(const char *folder, struct file list) {
     struct file below = contents(folder, "named/below.cer");
     struct file two = contents(folder, "named/ta_of_two_names.cer"), none = {NULL, 0};
     uint64_t place = 9;
-    check(rpki_path_names(NULL, 0, NULL, 0, &place) == RPKI_BAD_CALL, "no members have no names");
-    check(rpki_path_names(ta.octets, ta.length, &ta.length, 1, &place) == RPKI_OK,
+    check(names_in(NULL, 0, NULL, 0, &place) == RPKI_BAD_CALL, "no members have no names");
+    check(names_in(ta.octets, ta.length, &ta.length, 1, &place) == RPKI_OK,
           "the anchor's two names are one");
-    check(rpki_path_names(two.octets, two.length, &two.length, 1, &place) == RPKI_OTHER_NAME && place == 0,
+    check(names_in(two.octets, two.length, &two.length, 1, &place) == RPKI_OTHER_NAME && place == 0,
           "an anchor of two names");
     check(names_of(ta, ca, below, &place) == RPKI_OK, "names that chain");
     check(names_of(ta, ca, ta, &place) == RPKI_OTHER_NAME && place == 2, "the anchor isn't issued by an authority");
@@ -928,17 +1007,25 @@ static void chains(const char *folder, struct file list) {
     check(is_decoding(names_of(ta, ca, list, &place)) && place == 2, "a list is no member");
     check(is_decoding(names_of(list, ca, below, &place)) && place == 0, "a list is no anchor");
     size_t parts[] = {ta.length, 1};
-    check(rpki_path_names(ta.octets, ta.length, parts, 2, &place) == RPKI_BAD_CALL, "lengths behind the octets");
+    check(names_in(ta.octets, ta.length, parts, 2, &place) == RPKI_BAD_CALL, "lengths behind the octets");
     parts[1] = 0;
-    check(is_decoding(rpki_path_names(ta.octets, ta.length, parts, 2, &place)) && place == 1, "no octets are no member");
+    check(is_decoding(names_in(ta.octets, ta.length, parts, 2, &place)) && place == 1, "no octets are no member");
     free(ta.octets);
     free(ca.octets);
     free(below.octets);
     free(two.octets);
 }
 
+/* an anchor that stands alone and has to have a locator's key, at a moment when it is valid */
 static uint32_t locate(struct file anchor, const void *locator, size_t length, uint32_t strict) {
-    return rpki_path_locator(anchor.octets, anchor.length, locator, length, strict);
+    static const struct rpki_time at = {2025, 6, 1, 0, 0, 0, 0};
+    struct rpki_question question = about(strings(anchor.octets, anchor.length, &anchor.length, 1), RPKI_ANCHOR, &at);
+    struct rpki_verdict out;
+    question.locator = locator, question.locator_length = length;
+    question.anchor = RPKI_ASK_LOCATOR, question.strict = strict;
+    uint32_t fault = answer(&question, &out);
+    check(out.fault == fault && out.index == 0, "what is wrong of a locator is wrong of the anchor");
+    return fault;
 }
 
 /* the anchor's own locator, another one, parts of it, and octets that are none */
@@ -948,7 +1035,9 @@ static void locators(const char *folder, struct file list) {
     struct file none = {NULL, 0};
     static const char odd[] = "# \xff\n", http[] = "http://rpki.example.net/ta.cer\n\nMII=\n";
     check(locate(ta, own.octets, own.length, 1) == RPKI_OK, "the anchor has the locator's key");
-    check(locate(ca, other.octets, other.length, 1) == RPKI_OK, "an authority has its own key");
+    check(locate(ca, other.octets, other.length, 1) >= RPKI_INSPECTION_ALGORITHM_MISMATCH
+              && locate(ca, other.octets, other.length, 1) < RPKI_OTHER_NAME,
+          "an authority has its own key, and is no anchor");
     check(locate(ta, other.octets, other.length, 1) == RPKI_OTHER_KEY && locate(ca, own.octets, own.length, 0) == RPKI_OTHER_KEY,
           "an anchor has another key");
     for (size_t length = 0; length + 1 < own.length; length++) {
@@ -998,7 +1087,8 @@ int main(int count, char **words) {
     moments(anchor);
     lengths(anchor, first);
     held(anchor, first);
-    questions(anchor, first);
+    signatures(anchor, first);
+    choices(anchor, empty);
     asked(anchor, first, empty, list);
     orders(words[3]);
     routers(above, router, trimming);

@@ -34,8 +34,8 @@ STAGES = {1: 'decode', 2: 'decode', 3: 'inspect', 4: 'verify'}
 ROOM = 4096
 
 
-class Question(ctypes.Structure):
-    """A question of a path: where its key, message and signature stand."""
+class Signature(ctypes.Structure):
+    """A signature of a path: where its key, message and octets stand."""
     _fields_ = [(f'{part}_{end}', ctypes.c_uint64)
                 for part in ('key', 'message', 'signature')
                 for end in ('at', 'length')]
@@ -45,24 +45,25 @@ class Question(ctypes.Structure):
         return octets[start:start + getattr(self, f'{name}_length')]
 
 
-def asked_of(members):
-    """The questions of the members up to the first that can't be read."""
+def signatures_of(members):
+    """The signatures of the members up to the first that can't be read."""
+    strings = raw.strings_of(members)
     for count in range(len(members), 0, -1):
-        out = (Question * count)()
-        if not raw.lib.rpki_path_questions(*raw.strings_of(members), out,
-                                           ctypes.c_size_t(count)):
+        out = (Signature * count)()
+        if not raw.lib.rpki_path_signatures(ctypes.byref(strings), out,
+                                            ctypes.c_size_t(count)):
             return list(out)
     return []
 
 
-def is_signed(question, octets):
+def is_signed(signature, octets):
     """Whether the signature is the stand-in of the key and the message."""
     try:
-        key = take_key(Cursor(question.part(octets, 'key')))
+        key = take_key(Cursor(signature.part(octets, 'key')))
     except ref.DecodeError:
         return False
-    return ref.stand_in(key, None, question.part(octets, 'message'),
-                        question.part(octets, 'signature'))
+    return ref.stand_in(key, None, signature.part(octets, 'message'),
+                        signature.part(octets, 'signature'))
 
 
 def ranges(form, found, number):
@@ -91,23 +92,22 @@ def answer_of(question):
     kinds, members = zip(*(pair.split(':') for pair in pairs))
     members = [bytes.fromhex(it) for it in members]
     octets = b''.join(members)
-    yes = bytes(is_signed(it, octets) for it in asked_of(members))
+    yes = bytes(is_signed(it, octets) for it in signatures_of(members))
     now = raw.Time(int(at[:4]), *(int(at[i:i + 2]) for i in range(4, 14, 2)))
-    out, room = raw.Verdict(), ctypes.c_size_t(ROOM)
-    v4, v6 = (raw.IpRange * ROOM)(), (raw.IpRange * ROOM)()
-    asn = (raw.AsRange * ROOM)()
+    asked = raw.question(members, LAST[kinds[-1]].value, now, mode == 'strict')
+    room = raw.room_for(raw.Verdict(v4=ROOM, v6=ROOM, asn=ROOM))
+    out = raw.Verdict()
     raw.lib.rpki_path_validate_said(
-        *raw.strings_of(members), ctypes.c_uint32(LAST[kinds[-1]].value),
-        *raw.octets_of(yes), ctypes.c_uint32(mode == 'strict'), ctypes.byref(now),
-        v4, room, v6, room, asn, room, ctypes.byref(out))
-    return refused(out) if out.fault else held(out, v4, v6, asn)
+        ctypes.byref(asked), *raw.octets_of(yes), ctypes.byref(room),
+        ctypes.byref(out))
+    return refused(out) if out.fault else held(out, room.v4, room.v6, room.asn)
 
 
 def names_of(question):
     """What the library answers of names, in the words of a row."""
     members = [bytes.fromhex(it.split(':')[1]) for it in question.split(' ')[1:]]
-    place = ctypes.c_uint64()
-    fault = raw.lib.rpki_path_names(*raw.strings_of(members), ctypes.byref(place))
+    strings, place = raw.strings_of(members), ctypes.c_uint64()
+    fault = raw.lib.rpki_path_names(ctypes.byref(strings), ctypes.byref(place))
     if fault == 0:
         return 'chain'
     if raw.fault_name(fault) == 'OtherName':

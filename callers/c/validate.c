@@ -1,9 +1,10 @@
 /* Validates a path of files, from the trust anchor down.
  *
- * usage: validate [-l LIST.crl].. YYYY-MM-DD LAST MEMBER.cer..
+ * usage: validate [-l LIST.crl].. [-t LOCATOR.tal] YYYY-MM-DD LAST MEMBER.cer..
  *        LAST: authority, ee, detached or router
  *
- * Names have to chain. Revocation lists are asked where some are given. Compiled with -DLIBCRYPTO it takes no lists, and
+ * Names have to chain. Revocation lists are asked where some are given, and the anchor's key is
+ * compared with a locator's where one is. Compiled with -DLIBCRYPTO it takes no lists, and
  * libcrypto checks the signatures that the library asks for, in place of the library's own proved
  * verifier. Ends with 0 where the path is accepted, with 1 where it is rejected, and with 2 where
  * the words or a file are not as above. */
@@ -25,17 +26,10 @@ struct strings {
 
 /* What is asked. */
 struct request {
-    struct strings path, lists;
+    struct strings path, lists, locator;
     uint32_t last;
     struct rpki_time now;
     uint8_t *yes; /* what libcrypto says of each signature */
-};
-
-/* The ranges that are held, and how many there is room for. */
-struct held {
-    struct rpki_ip_range *v4, *v6;
-    struct rpki_as_range *asn;
-    size_t v4_room, v6_room, asn_room;
 };
 
 static void fail(const char *of, const char *why) {
@@ -100,11 +94,32 @@ static struct rpki_time moment(const char *text) {
 
 /* ---- the library */
 
+static struct rpki_strings strings_of(const struct strings *it) {
+    return (struct rpki_strings){it->octets, it->length, it->lengths, it->count};
+}
+
+/* What a request asks: lists and a locator where there are some. */
+static struct rpki_question question_of(const struct request *it) {
+    struct rpki_question question = {
+        .size = sizeof question,
+        .members = strings_of(&it->path),
+        .lists = strings_of(&it->lists),
+        .locator = it->locator.octets,
+        .locator_length = it->locator.length,
+        .moment = it->now,
+        .last = it->last,
+        .strict = 1,
+        .revocation = it->lists.count > 0 ? RPKI_ASK_LISTS : RPKI_ASK_NOBODY,
+        .anchor = it->locator.count > 0 ? RPKI_ASK_LOCATOR : RPKI_AS_GIVEN,
+    };
+    return question;
+}
+
 #ifdef LIBCRYPTO
 #include <openssl/evp.h>
 #include <openssl/x509.h>
 
-static int is_good(const uint8_t *octets, const struct rpki_question *it) {
+static int is_good(const uint8_t *octets, const struct rpki_signature *it) {
     const uint8_t *key_at = octets + it->key_at;
     EVP_PKEY *key = d2i_PUBKEY(NULL, &key_at, (long)it->key_length);
     EVP_MD_CTX *context = EVP_MD_CTX_new();
@@ -119,42 +134,34 @@ static int is_good(const uint8_t *octets, const struct rpki_question *it) {
 
 /* Asks libcrypto about each signature, up to the first member that can't be read. */
 static uint8_t *answers(const struct strings *path) {
-    size_t count = path->count, length = path->length;
-    struct rpki_question *questions = room_for(count, sizeof *questions);
-    uint8_t *yes = room_for(count, 1);
-    memset(yes, 0, count);
-    while (count > 0
-           && rpki_path_questions(path->octets, length, path->lengths, count, questions, count)
-               != RPKI_OK)
-        length -= path->lengths[--count];
-    for (size_t i = 0; i < count; i++) yes[i] = (uint8_t)is_good(path->octets, &questions[i]);
-    free(questions);
+    struct rpki_strings members = strings_of(path);
+    struct rpki_signature *signatures = room_for(path->count, sizeof *signatures);
+    uint8_t *yes = room_for(path->count, 1);
+    memset(yes, 0, path->count);
+    while (members.count > 0
+           && rpki_path_signatures(&members, signatures, members.count) != RPKI_OK)
+        members.length -= path->lengths[--members.count];
+    for (size_t i = 0; i < members.count; i++)
+        yes[i] = (uint8_t)is_good(path->octets, &signatures[i]);
+    free(signatures);
     return yes;
 }
 
-static void ask(struct request *it, struct held *out, struct rpki_verdict *verdict) {
+static void ask(struct request *it, struct rpki_room *out, struct rpki_verdict *verdict) {
+    const struct rpki_question question = question_of(it);
     if (it->lists.count > 0) fail("lists", "none are taken with -DLIBCRYPTO");
     if (it->yes == NULL) it->yes = answers(&it->path);
-    rpki_path_validate_said(it->path.octets, it->path.length, it->path.lengths, it->path.count,
-                            it->last, it->yes, it->path.count, 1, &it->now, out->v4, out->v4_room,
-                            out->v6, out->v6_room, out->asn, out->asn_room, verdict);
+    rpki_path_validate_said(&question, it->yes, it->path.count, out, verdict);
 }
 #else
-static void ask(struct request *it, struct held *out, struct rpki_verdict *verdict) {
-    if (it->lists.count == 0)
-        rpki_path_validate(it->path.octets, it->path.length, it->path.lengths, it->path.count,
-                           it->last, 1, &it->now, out->v4, out->v4_room, out->v6, out->v6_room,
-                           out->asn, out->asn_room, verdict);
-    else
-        rpki_path_validate_with(it->lists.octets, it->lists.length, it->lists.lengths,
-                                it->lists.count, it->path.octets, it->path.length, it->path.lengths,
-                                it->path.count, it->last, 1, &it->now, out->v4, out->v4_room,
-                                out->v6, out->v6_room, out->asn, out->asn_room, verdict);
+static void ask(struct request *it, struct rpki_room *out, struct rpki_verdict *verdict) {
+    const struct rpki_question question = question_of(it);
+    rpki_path_validate(&question, out, verdict);
 }
 #endif
 
 /* The verdict, which accepts or rejects the path. */
-static struct rpki_verdict verdict_on(struct request *it, struct held *out) {
+static struct rpki_verdict verdict_on(struct request *it, struct rpki_room *out) {
     struct rpki_verdict verdict;
     ask(it, out, &verdict);
     if (verdict.fault == RPKI_MEMORY) fail("memory", "there is no more");
@@ -164,16 +171,16 @@ static struct rpki_verdict verdict_on(struct request *it, struct held *out) {
 
 /* The verdict on the names of an accepted path. */
 static struct rpki_verdict names_of(struct request *it, struct rpki_verdict verdict) {
+    const struct rpki_strings members = strings_of(&it->path);
     uint64_t place;
-    verdict.fault = rpki_path_names(it->path.octets, it->path.length, it->path.lengths,
-                                    it->path.count, &place);
+    verdict.fault = rpki_path_names(&members, &place);
     verdict.index = (uint32_t)place;
     if (verdict.fault == RPKI_MEMORY) fail("memory", "there is no more");
     return verdict;
 }
 
 /* A first call counts the ranges that are held, and a second one writes them. */
-static struct rpki_verdict judge(struct request *it, struct held *out) {
+static struct rpki_verdict judge(struct request *it, struct rpki_room *out) {
     struct rpki_verdict verdict = verdict_on(it, out);
     if (verdict.fault == RPKI_OK) verdict = names_of(it, verdict);
     if (verdict.fault != RPKI_OK) return verdict;
@@ -192,7 +199,7 @@ static void print_addresses(int family, const struct rpki_ip_range *ranges, size
                inet_ntop(family, ranges[i].max, max, sizeof max));
 }
 
-static void print_held(const struct held *it) {
+static void print_held(const struct rpki_room *it) {
     printf("accepted; held are\n");
     print_addresses(AF_INET, it->v4, it->v4_room);
     print_addresses(AF_INET6, it->v6, it->v6_room);
@@ -216,12 +223,17 @@ static void let_go(struct strings *it) {
 
 int main(int count, char **words) {
     struct request it = {0};
-    struct held held = {0};
+    struct rpki_room held = {0};
     int first = 1;
     if (rpki_abi_version() != RPKI_ABI) fail("librpki", "isn't of the version of rpki.h");
     for (; first + 1 < count && strcmp(words[first], "-l") == 0; first += 2)
         append_file(&it.lists, words[first + 1]);
-    if (count < first + 3) fail("usage", "validate [-l LIST.crl].. YYYY-MM-DD LAST MEMBER.cer..");
+    if (first + 1 < count && strcmp(words[first], "-t") == 0) {
+        append_file(&it.locator, words[first + 1]);
+        first += 2;
+    }
+    if (count < first + 3)
+        fail("usage", "validate [-l LIST.crl].. [-t LOCATOR.tal] YYYY-MM-DD LAST MEMBER.cer..");
     it.now = moment(words[first]);
     it.last = kind(words[first + 1]);
     for (int i = first + 2; i < count; i++) append_file(&it.path, words[i]);
@@ -232,6 +244,7 @@ int main(int count, char **words) {
         print_fault(&verdict);
     let_go(&it.path);
     let_go(&it.lists);
+    let_go(&it.locator);
     free(it.yes);
     free(held.v4);
     free(held.v6);

@@ -456,13 +456,13 @@ def validate(
     Raises the Fault of the first wrong member, and ValueError where there are too few members.
     """
     all_members = [_octets(it) for it in members]
-    if locator is not None and all_members:
-        fault = raw.locator(all_members[0], locator, strict)
-        _raise(fault, None if fault // 100 == 7 else 0)
     now = _time(datetime.now(timezone.utc) if at is None else at)
     all_lists = None if lists is None else [_octets(it) for it in lists]
-    fault, index, held = raw.judge(all_members, last.value, strict, now, all_lists)
-    if index < len(all_members):
+    asked = raw.question(all_members, last.value, now, strict, all_lists, locator)
+    fault, index, held = raw.judge(asked)
+    if fault // 100 == 7:
+        _raise(fault)
+    elif index < len(all_members):
         _raise(fault, index)
     else:
         _raise(fault, None, index - len(all_members))

@@ -6,6 +6,8 @@ usage: python3 -m rpki FILE..
            validates a path, whose names have to chain: LAST is authority, ee, detached or router
        python3 -m rpki with LIST[,LIST].. YYYY-MM-DD LAST MEMBER..
            the same, with revocation lists
+       python3 -m rpki locator LOCATOR YYYY-MM-DD LAST MEMBER..
+           the same, with a trust anchor locator, whose key the anchor has to have
 
 Ends with 0, or with 2 where the words or a file are not as above.
 """
@@ -176,14 +178,21 @@ def show(file: str) -> Item:
             return out | {"fault": fault.name}
 
 
-def path(day: str, last: str, files: Sequence[str], lists: Sequence[str] | None = None) -> Item:
+def path(
+    day: str,
+    last: str,
+    files: Sequence[str],
+    lists: Sequence[str] | None = None,
+    locator: str | None = None,
+) -> Item:
     if last not in LAST:
         raise ValueError(f"{last}: the last member is authority, ee, detached or router")
     at = moment(day)
     members = [contents(file) for file in files]
     given = None if lists is None else [contents(file) for file in lists]
+    key = None if locator is None else contents(locator)
     try:
-        held = validate(members, last=LAST[last], lists=given, at=at)
+        held = validate(members, last=LAST[last], lists=given, locator=key, at=at)
     except Fault as fault:
         why = {"member": fault.member, "fault": fault.name, "sentence": fault.sentence}
         return {"accepted": False, "rejected": why}
@@ -219,6 +228,9 @@ def run(words: Sequence[str]) -> None:
     elif words[0] == "with":
         lists, day, last, *members = words[1:]
         print(json.dumps(path(day, last, members, lists.split(","))))
+    elif words[0] == "locator":
+        locator, day, last, *members = words[1:]
+        print(json.dumps(path(day, last, members, locator=locator)))
     else:
         for file in words:
             print(json.dumps(show(file), indent=2, sort_keys=True))
@@ -226,7 +238,7 @@ def run(words: Sequence[str]) -> None:
 
 def main(words: Sequence[str]) -> int:
     """Does what the words ask, and gives the exit status."""
-    if not words or len(words) < {"path": 4, "with": 5}.get(words[0], 1):
+    if not words or len(words) < {"path": 4, "with": 5, "locator": 5}.get(words[0], 1):
         print(__doc__, file=sys.stderr)
         return 2
     try:

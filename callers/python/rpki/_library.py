@@ -7,7 +7,7 @@ from collections.abc import Sequence
 from ctypes import c_size_t, c_uint8, c_uint16, c_uint32, c_uint64
 from typing import Any, TypeVar
 
-ABI = 2  # RPKI_ABI of rpki.h
+ABI = 3  # RPKI_ABI of rpki.h
 
 OK, MEMORY, BAD_CALL = 0, 1, 2
 # enum rpki_state
@@ -64,6 +64,43 @@ class Entry(ctypes.Structure):
     _fields_ = [("date", Time), ("serial", c_uint8 * 20)]
 
 
+class Strings(ctypes.Structure):
+    """struct rpki_strings"""
+
+    _fields_ = [
+        ("octets", ctypes.POINTER(c_uint8)),
+        ("length", c_size_t),
+        ("lengths", ctypes.POINTER(c_size_t)),
+        ("count", c_size_t),
+    ]
+
+
+class Question(ctypes.Structure):
+    """struct rpki_question"""
+
+    _fields_ = [
+        ("size", c_size_t),
+        *((name, Strings) for name in ("members", "lists")),
+        ("locator", ctypes.POINTER(c_uint8)),
+        ("locator_length", c_size_t),
+        ("moment", Time),
+        *((name, c_uint32) for name in ("last", "strict", "revocation", "anchor")),
+    ]
+
+
+class Room(ctypes.Structure):
+    """struct rpki_room"""
+
+    _fields_ = [
+        ("v4", ctypes.POINTER(IpRange)),
+        ("v4_room", c_size_t),
+        ("v6", ctypes.POINTER(IpRange)),
+        ("v6_room", c_size_t),
+        ("asn", ctypes.POINTER(AsRange)),
+        ("asn_room", c_size_t),
+    ]
+
+
 class Verdict(ctypes.Structure):
     """struct rpki_verdict"""
 
@@ -111,10 +148,38 @@ def octets_of(data: bytes) -> tuple[Any, c_size_t]:
     return (c_uint8 * len(data)).from_buffer_copy(data), c_size_t(len(data))
 
 
-def strings_of(parts: Sequence[bytes]) -> tuple[Any, c_size_t, Any, c_size_t]:
+def strings_of(parts: Sequence[bytes]) -> Strings:
     """Octets that stand one behind the other, and their lengths."""
     lengths = (c_size_t * len(parts))(*map(len, parts))
-    return *octets_of(b"".join(parts)), lengths, c_size_t(len(parts))
+    return Strings(*octets_of(b"".join(parts)), lengths, len(parts))
+
+
+def question(
+    members: Sequence[bytes],
+    last: int,
+    now: Time,
+    strict: bool,
+    lists: Sequence[bytes] | None = None,
+    locator: bytes | None = None,
+) -> Question:
+    """A question about a path: lists and a locator are asked where they are given."""
+    return Question(
+        ctypes.sizeof(Question),
+        strings_of(members),
+        strings_of(lists or ()),
+        *octets_of(locator or b""),
+        now,
+        last,
+        strict,
+        lists is None,
+        locator is None,
+    )
+
+
+def room_for(out: Verdict) -> Room:
+    """Room for all ranges that a verdict counts."""
+    v4, v6, asn = (IpRange * out.v4)(), (IpRange * out.v6)(), (AsRange * out.asn)()
+    return Room(v4, out.v4, v6, out.v6, asn, out.asn)
 
 
 def call(function: Any, *words: Any) -> None:
@@ -202,35 +267,22 @@ def is_revoked(octets: bytes, serial: bytes) -> bool:
 Held = tuple[list[IpRange], list[IpRange], list[AsRange]]
 
 
-def judge(
-    members: Sequence[bytes], last: int, strict: bool, now: Time, lists: Sequence[bytes] | None
-) -> tuple[int, int, Held]:
+def judge(asked: Question) -> tuple[int, int, Held]:
     """The fault of a path, the place of the member that has it, and the ranges that are held. A
     first call counts the ranges, and a second one writes them."""
-    words = [*strings_of(members), c_uint32(last), c_uint32(strict), ctypes.byref(now)]
-    function = lib.rpki_path_validate
-    if lists is not None:
-        words = [*strings_of(lists), *words]
-        function = lib.rpki_path_validate_with
     out = Verdict()
     held: Held = ([], [], [])
     for _ in range(2):
-        v4, v6, asn = (IpRange * out.v4)(), (IpRange * out.v6)(), (AsRange * out.asn)()
-        rooms = (v4, c_size_t(len(v4)), v6, c_size_t(len(v6)), asn, c_size_t(len(asn)))
-        if function(*words, *rooms, ctypes.byref(out)) != OK:
+        room = room_for(out)
+        words = (asked, room, out)
+        if lib.rpki_path_validate(*map(ctypes.byref, words)) != OK:
             return out.fault, out.index, ([], [], [])
-        held = (list(v4), list(v6), list(asn))
+        held = (room.v4[: room.v4_room], room.v6[: room.v6_room], room.asn[: room.asn_room])
     return OK, 0, held
 
 
 def names(members: Sequence[bytes]) -> tuple[int, int]:
     """The fault of a path's names, and the place of the member that has it."""
     place = c_uint64()
-    fault: int = lib.rpki_path_names(*strings_of(members), ctypes.byref(place))
+    fault: int = lib.rpki_path_names(ctypes.byref(strings_of(members)), ctypes.byref(place))
     return fault, place.value
-
-
-def locator(anchor: bytes, file: bytes, strict: bool) -> int:
-    """The fault of a locator or of the trust anchor's key, or OK."""
-    fault: int = lib.rpki_path_locator(*octets_of(anchor), *octets_of(file), c_uint32(strict))
-    return fault

@@ -1,9 +1,10 @@
 //! Validates a path of files, from the trust anchor down, with signatures by the library.
 //!
-//! usage: validate [-l LIST.crl].. YYYY-MM-DD LAST MEMBER.cer..
+//! usage: validate [-l LIST.crl].. [-t LOCATOR.tal] YYYY-MM-DD LAST MEMBER.cer..
 //!        LAST: authority, ee, detached or router
 //!
-//! Names have to chain. Revocation lists are asked where some are given.
+//! Names have to chain. Revocation lists are asked where some are given, and the anchor's key is
+//! compared with a locator's where one is.
 //! Ends with 0 where the path is accepted, with 1 where it is rejected, and with 2 where the words
 //! or a file are not as above.
 use gonxebhula::{Fault, FaultKind, Holdings, Kind, Moment, Path, Place};
@@ -14,6 +15,7 @@ use std::process::ExitCode;
 
 /// Octets of a file, at most: 64 MiB.
 const MOST: u64 = 64 << 20;
+const USAGE: &str = "usage: validate [-l LIST.crl].. [-t LOCATOR.tal] YYYY-MM-DD LAST MEMBER.cer..";
 
 fn print(held: &Holdings) {
     println!("accepted; held are");
@@ -90,12 +92,17 @@ fn run(mut words: &[String]) -> Result<ExitCode, String> {
         lists.push(contents(list)?);
         words = rest;
     }
-    let [day, last, files @ ..] = words else {
-        return Err("usage: validate [-l LIST.crl].. YYYY-MM-DD LAST MEMBER.cer..".to_owned());
-    };
-    if files.is_empty() {
-        return Err("usage: validate [-l LIST.crl].. YYYY-MM-DD LAST MEMBER.cer..".to_owned());
+    let mut locator = None;
+    if let [option, file, rest @ ..] = words {
+        if option == "-t" {
+            locator = Some(contents(file)?);
+            words = rest;
+        }
     }
+    let [day, last, _, ..] = words else {
+        return Err(USAGE.to_owned());
+    };
+    let files = &words[2..];
     let (last, now) = (kind(last)?, moment(day)?);
     let members: Vec<Vec<u8>> = files.iter().map(contents).collect::<Result<_, _>>()?;
     let members: Vec<&[u8]> = members.iter().map(Vec::as_slice).collect();
@@ -103,6 +110,9 @@ fn run(mut words: &[String]) -> Result<ExitCode, String> {
     let mut path = Path::new(&members, last);
     if !lists.is_empty() {
         path = path.lists(&lists);
+    }
+    if let Some(file) = &locator {
+        path = path.locator(file);
     }
     match path.validate(now) {
         Ok(held) => {

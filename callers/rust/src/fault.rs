@@ -51,19 +51,11 @@ impl Fault {
 
     pub(crate) fn of_path(number: u32, index: usize, members: usize) -> Fault {
         let place = match index.checked_sub(members) {
-            _ if number == sys::MEMORY || number == sys::BAD_CALL => None,
+            _ if number == sys::MEMORY || number == sys::BAD_CALL || number / 100 == 7 => None,
             None => Some(Place::Member(index)),
             Some(list) => Some(Place::List(list)),
         };
         Fault { number, place }
-    }
-
-    /// The fault of the trust anchor, or of its locator.
-    pub(crate) fn of_anchor(number: u32) -> Fault {
-        match number / 100 {
-            7 => Fault::new(number),
-            _ => Fault::of_path(number, 0, 1),
-        }
     }
 
     /// Returns the number, of `enum rpki_fault` of rpki.h. A number never gets another meaning.

@@ -359,13 +359,11 @@ impl<'a> Path<'a> {
     /// member.
     pub fn validate(&self, now: Moment) -> Result<Holdings, Fault> {
         check_library();
-        if let (Some(file), Some(anchor)) = (self.locator, self.members.first()) {
-            sys::locator(anchor, file, self.strict).map_err(Fault::of_anchor)?;
-        }
         let question = sys::Question {
             members: self.members,
             last: self.last as u32,
             lists: self.lists,
+            locator: self.locator,
             strict: self.strict,
             now: now.0,
         };

@@ -1,10 +1,11 @@
 //! The calls of librpki as rpki.h declares them. All that knows the library's interface, and all that
 //! is unsafe, stands here: each function below hands over pointers with the lengths of their own
 //! slices, and what is written overlaps nothing else of the call.
+use std::mem::size_of;
 use std::ptr;
 
 /// RPKI_ABI of rpki.h.
-pub const ABI: u32 = 2;
+pub const ABI: u32 = 3;
 pub const OK: u32 = 0;
 pub const MEMORY: u32 = 1;
 pub const BAD_CALL: u32 = 2;
@@ -67,6 +68,39 @@ pub struct List {
 pub struct Entry {
     pub date: Time,
     pub serial: [u8; 20],
+}
+
+/// Strings of octets, as the library takes them.
+#[repr(C)]
+struct CStrings {
+    octets: *const u8,
+    length: usize,
+    lengths: *const usize,
+    count: usize,
+}
+
+#[repr(C)]
+struct CQuestion {
+    size: usize,
+    members: CStrings,
+    lists: CStrings,
+    locator: *const u8,
+    locator_length: usize,
+    moment: Time,
+    last: u32,
+    strict: u32,
+    revocation: u32,
+    anchor: u32,
+}
+
+#[repr(C)]
+struct Room {
+    v4: *mut IpRange,
+    v4_room: usize,
+    v6: *mut IpRange,
+    v6_room: usize,
+    asn: *mut AsRange,
+    asn_room: usize,
 }
 
 #[repr(C)]
@@ -139,56 +173,8 @@ extern "C" {
         answers: *mut u8,
         count: usize,
     ) -> u32;
-    fn rpki_path_validate(
-        octets: *const u8,
-        length: usize,
-        lengths: *const usize,
-        members: usize,
-        last: u32,
-        strict: u32,
-        now: *const Time,
-        v4: *mut IpRange,
-        v4_room: usize,
-        v6: *mut IpRange,
-        v6_room: usize,
-        asn: *mut AsRange,
-        asn_room: usize,
-        out: *mut Verdict,
-    ) -> u32;
-    fn rpki_path_validate_with(
-        lists: *const u8,
-        lists_length: usize,
-        list_lengths: *const usize,
-        list_count: usize,
-        octets: *const u8,
-        length: usize,
-        lengths: *const usize,
-        members: usize,
-        last: u32,
-        strict: u32,
-        now: *const Time,
-        v4: *mut IpRange,
-        v4_room: usize,
-        v6: *mut IpRange,
-        v6_room: usize,
-        asn: *mut AsRange,
-        asn_room: usize,
-        out: *mut Verdict,
-    ) -> u32;
-    fn rpki_path_names(
-        octets: *const u8,
-        length: usize,
-        lengths: *const usize,
-        members: usize,
-        place: *mut u64,
-    ) -> u32;
-    fn rpki_path_locator(
-        anchor: *const u8,
-        length: usize,
-        locator: *const u8,
-        locator_length: usize,
-        strict: u32,
-    ) -> u32;
+    fn rpki_path_validate(question: *const CQuestion, room: *mut Room, out: *mut Verdict) -> u32;
+    fn rpki_path_names(members: *const CStrings, place: *mut u64) -> u32;
 }
 
 /// The number of a fault, where a call answers one.
@@ -295,13 +281,23 @@ impl Strings {
             lengths: parts.iter().map(|part| part.len()).collect(),
         }
     }
+
+    fn lent(&self) -> CStrings {
+        CStrings {
+            octets: self.octets.as_ptr(),
+            length: self.octets.len(),
+            lengths: self.lengths.as_ptr(),
+            count: self.lengths.len(),
+        }
+    }
 }
 
-/// What is asked of a path.
+/// What is asked of a path: lists and a locator where they are given.
 pub struct Question<'a> {
     pub members: &'a [&'a [u8]],
     pub last: u32,
     pub lists: Option<&'a [&'a [u8]]>,
+    pub locator: Option<&'a [u8]>,
     pub strict: bool,
     pub now: Time,
 }
@@ -314,76 +310,42 @@ pub struct Held {
     pub asn: Vec<AsRange>,
 }
 
-/// Calls the library, which writes as many ranges as there is room for.
-fn ask(
-    question: &Question<'_>,
-    members: &Strings,
-    lists: Option<&Strings>,
-    held: &mut Held,
-) -> Verdict {
-    let mut out = Verdict::default();
-    let (strict, now) = (question.strict.into(), &question.now);
-    let (octets, length) = (members.octets.as_ptr(), members.octets.len());
-    let (lengths, count) = (members.lengths.as_ptr(), members.lengths.len());
-    let (v4, v4_room) = (held.v4.as_mut_ptr(), held.v4.len());
-    let (v6, v6_room) = (held.v6.as_mut_ptr(), held.v6.len());
-    let (asn, asn_room) = (held.asn.as_mut_ptr(), held.asn.len());
-    match lists {
-        None => unsafe {
-            rpki_path_validate(
-                octets,
-                length,
-                lengths,
-                count,
-                question.last,
-                strict,
-                now,
-                v4,
-                v4_room,
-                v6,
-                v6_room,
-                asn,
-                asn_room,
-                &mut out,
-            )
-        },
-        Some(lists) => unsafe {
-            rpki_path_validate_with(
-                lists.octets.as_ptr(),
-                lists.octets.len(),
-                lists.lengths.as_ptr(),
-                lists.lengths.len(),
-                octets,
-                length,
-                lengths,
-                count,
-                question.last,
-                strict,
-                now,
-                v4,
-                v4_room,
-                v6,
-                v6_room,
-                asn,
-                asn_room,
-                &mut out,
-            )
-        },
-    };
-    out
+impl Held {
+    fn room(&mut self) -> Room {
+        Room {
+            v4: self.v4.as_mut_ptr(),
+            v4_room: self.v4.len(),
+            v6: self.v6.as_mut_ptr(),
+            v6_room: self.v6.len(),
+            asn: self.asn.as_mut_ptr(),
+            asn_room: self.asn.len(),
+        }
+    }
 }
 
-/// What the last member holds, or a fault and its place: a first call counts the ranges, and a second
-/// one writes them.
+/// What the last member holds, or a fault and its place: a first call counts the ranges, and a
+/// second one writes them.
 pub fn judge(question: &Question<'_>) -> Result<Held, (u32, usize)> {
     let members = Strings::of(question.members);
-    let lists = question.lists.map(Strings::of);
+    let lists = Strings::of(question.lists.unwrap_or_default());
+    let locator = question.locator.unwrap_or_default();
+    let asked = CQuestion {
+        size: size_of::<CQuestion>(),
+        members: members.lent(),
+        lists: lists.lent(),
+        locator: locator.as_ptr(),
+        locator_length: locator.len(),
+        moment: question.now,
+        last: question.last,
+        strict: question.strict.into(),
+        revocation: question.lists.is_none().into(),
+        anchor: question.locator.is_none().into(),
+    };
     let mut held = Held::default();
     for _ in 0..2 {
-        let out = ask(question, &members, lists.as_ref(), &mut held);
-        if out.fault != OK {
-            return Err((out.fault, out.index as usize));
-        }
+        let mut out = Verdict::default();
+        let fault = unsafe { rpki_path_validate(&asked, &mut held.room(), &mut out) };
+        answered(fault, ()).map_err(|fault| (fault, out.index as usize))?;
         held.v4.resize(out.v4 as usize, IpRange::default());
         held.v6.resize(out.v6 as usize, IpRange::default());
         held.asn.resize(out.asn as usize, AsRange::default());
@@ -395,27 +357,6 @@ pub fn judge(question: &Question<'_>) -> Result<Held, (u32, usize)> {
 pub fn names(members: &[&[u8]]) -> Result<(), (u32, usize)> {
     let members = Strings::of(members);
     let mut place = 0;
-    let fault = unsafe {
-        rpki_path_names(
-            members.octets.as_ptr(),
-            members.octets.len(),
-            members.lengths.as_ptr(),
-            members.lengths.len(),
-            &mut place,
-        )
-    };
+    let fault = unsafe { rpki_path_names(&members.lent(), &mut place) };
     answered(fault, ()).map_err(|fault| (fault, place as usize))
-}
-
-pub fn locator(anchor: &[u8], locator: &[u8], strict: bool) -> Called<()> {
-    let fault = unsafe {
-        rpki_path_locator(
-            anchor.as_ptr(),
-            anchor.len(),
-            locator.as_ptr(),
-            locator.len(),
-            strict.into(),
-        )
-    };
-    answered(fault, ())
 }

@@ -1,2 +1,4 @@
 mod Cutting
-mod AnchorsAsked
+mod ListsRead
+mod QuestionTerms
+mod Unread

@@ -1,3 +1,11 @@
 pub mod Answered
+pub mod Choices
+pub mod Contents
+pub mod FaultNumbers
+pub mod FaultTexts
+pub mod Questions
 pub mod Strings
-pub mod AnchorKeys
+pub mod Telling
+pub mod TimeParts
+pub mod Verdicts
+pub mod Writing

@@ -1,9 +1,21 @@
 //! Certificates for C.
-ghost use Rattle.std.specs.Prelude.{◌≡◌, ◌≢◌, ◌<◌, ◌↔◌, IsNone, OnOk, IfErr};
+ghost use Rattle.std.specs.Prelude.{◌≡◌, ◌≢◌, ◌<◌, ◌≤◌, ◌↔◌, ◌==◌, not, length, IsTrue, IsNone, IfSome, OnOk, IfOk, IfErr, option_map};
+ghost use Rattle.rpki_ext.specs.Kinds.{Means};
+ghost use Rattle.rpki_ext.specs.declared.inspection.InspectionError.{InspectionError as inspections};
+ghost use Rattle.rpki_cert.specs.Certificates.{CertFields, IsCertificate};
 ghost use Rattle.rpki_cert.specs.Profiles.{MeetsProfile, IsFirstFault};
+ghost use Rattle.rpki_cert.specs.declared.inspect.Kind.{Kind as kinds};
+ghost use Rattle.rpki_c.specs.Choices.{family_number, family_field, listed_blocks, uri_number, uri_field, text_of, name_number, name_field};
+ghost use Rattle.rpki_c.specs.Contents.{BeginsNoCertificate, state_number, TellsKeys, TellsCertificate};
+ghost use Rattle.rpki_c.specs.FaultNumbers.{inspection_number};
+ghost use Rattle.rpki_c.specs.Writing.{IsWritten};
+ghost use Rattle.rpki_c.specs.declared.certificates.Family.{Family as families};
+ghost use Rattle.rpki_c.specs.declared.certificates.CertUri.{CertUri as uris};
+ghost use Rattle.rpki_c.specs.declared.certificates.CertName.{CertName as names};
+ghost use Rattle.rpki_c.specs.Questions.{kind_number};
 
 use crate::copying::{RpkiAsRange, RpkiIpRange, put_addresses, put_as_numbers, put_octets};
-use crate::faults::{BAD_CALL, NONE, of_decoding, of_inspection};
+use crate::faults::{BAD_CALL, MEMORY, NONE, of_decoding, of_inspection};
 use crate::moments::{RpkiTime, parts_of};
 use rpki_blocks::{AsResources, IpResources, Overclaim};
 use rpki_cert::{Cert, InspectionError, KeyUsage, Kind, TbsCert};
@@ -30,7 +42,11 @@ pub struct RpkiCertificate {
     pub asn: u8,
 }
 
-fn state(is_present: bool, is_inherited: bool) -> u8 {
+fn state(is_present: bool, is_inherited: bool) -> u8
+    ensures missing { (IsTrue is_present → ⊥) → result ≡ 0 }
+    ensures inherited { IsTrue is_present → IsTrue is_inherited → result ≡ 1 }
+    ensures listed { IsTrue is_present → (IsTrue is_inherited → ⊥) → result ≡ 2 }
+{
     if !is_present {
         0
     } else if is_inherited {
@@ -40,18 +56,24 @@ fn state(is_present: bool, is_inherited: bool) -> u8 {
     }
 }
 
-fn ip_state(resources: &IpResources) -> u8 {
+fn ip_state(resources: &IpResources) -> u8
+    ensures { result ≡ state_number resources.now }
+{
     state(resources.is_present(), resources.is_inherited())
 }
 
-fn as_state(resources: &AsResources) -> u8 {
+fn as_state(resources: &AsResources) -> u8
+    ensures { result ≡ state_number resources.now }
+{
     state(resources.is_present(), resources.is_inherited())
 }
 
-fn put_keys(data: &TbsCert, out: &mut RpkiCertificate) {
-    out.serial = data.serial_number().octets();
-    out.subject_key = *data.subject_key_identifier().as_octets();
-    match data.authority_key_identifier() {
+fn put_keys(tbs: &TbsCert, out: &mut RpkiCertificate)
+    ensures { TellsKeys tbs.now out.new }
+{
+    out.serial = tbs.serial_number().octets();
+    out.subject_key = *tbs.subject_key_identifier().as_octets();
+    match tbs.authority_key_identifier() {
         Some(identifier) => {
             out.has_authority_key = 1;
             out.authority_key = *identifier.as_octets();
@@ -63,22 +85,42 @@ fn put_keys(data: &TbsCert, out: &mut RpkiCertificate) {
     }
 }
 
-fn put_data(data: &TbsCert, out: &mut RpkiCertificate) {
-    put_keys(data, out);
-    out.not_before = parts_of(data.validity().not_before());
-    out.not_after = parts_of(data.validity().not_after());
-    out.is_authority = if data.is_ca() { 1 } else { 0 };
-    out.key_usage = match data.key_usage() {
+fn put_data(tbs: &TbsCert, out: &mut RpkiCertificate)
+    ensures { TellsCertificate tbs.now out.new }
+{
+    put_keys(tbs, out);
+    out.not_before = parts_of(tbs.validity().not_before());
+    out.not_after = parts_of(tbs.validity().not_after());
+    out.is_authority = if tbs.is_ca() { 1 } else { 0 };
+    out.key_usage = match tbs.key_usage() {
         KeyUsage::Ca => 0,
         KeyUsage::Ee => 1,
     };
-    out.overclaim = match data.overclaim() {
+    out.overclaim = match tbs.overclaim() {
         Overclaim::Refuse => 0,
         Overclaim::Trim => 1,
     };
-    out.v4 = ip_state(data.v4_resources());
-    out.v6 = ip_state(data.v6_resources());
-    out.asn = as_state(data.as_resources());
+    out.v4 = ip_state(tbs.v4_resources());
+    out.v6 = ip_state(tbs.v6_resources());
+    out.asn = as_state(tbs.as_resources());
+}
+
+// The certificate that the octets begin with, or the number of a fault.
+#[tactic(auto, using(crate::proofs::Unread::unless_memory))]
+fn decoded(alloc: Global, octets: &[u8]) -> Result<Cert, u32>
+    ensures read { IfOk result (λ cert. Means IsCertificate cert octets.now) }
+    ensures fault { IfErr result (λ fault. (fault ≢ NONE) × (fault ≢ BAD_CALL)) }
+    ensures reading { IfErr result (λ fault. fault < 300) }
+    ensures unread { IfErr result (λ fault. fault ≢ MEMORY → BeginsNoCertificate octets.now) }
+{
+    match Cert::decode(alloc, octets) {
+        Ok(cert) => Ok(cert),
+        Err(error) => {
+            let fault = of_decoding(&error);
+            drop(error);
+            Err(fault)
+        }
+    }
 }
 
 /// Reads the certificate that the octets begin with. Answers 0, or the number of a fault.
@@ -87,20 +129,25 @@ pub extern "C" fn rpki_certificate_read(
     alloc: Global,
     octets: &[u8],
     out: &mut RpkiCertificate,
-) -> u32 {
-    match Cert::decode(alloc, octets) {
+) -> u32
+    ensures read { result ≡ NONE → (c : CertFields) × Means IsCertificate c octets.now
+        × TellsCertificate c.fields out.new }
+    ensures unread { result ≢ NONE → result ≢ MEMORY → BeginsNoCertificate octets.now }
+{
+    match decoded(alloc, octets) {
         Ok(cert) => {
             put_data(cert.as_tbs(), out);
             drop(cert);
             NONE
         }
-        Err(error) => of_decoding(&error),
+        Err(fault) => fault,
     }
 }
 
 /// Returns the kind that the header numbers so.
 pub(crate) fn kind_of(number: u32) -> Option<Kind>
-    ensures { IsNone result ↔ 4 < number }
+    ensures none { IsNone result ↔ 4 < number }
+    ensures kind { IfSome result (λ kind. number ≡ kind_number kind) }
 {
     match number {
         0 => Some(Kind::Anchor),
@@ -137,11 +184,20 @@ pub extern "C" fn rpki_certificate_inspect(
     strict: u32,
 ) -> u32
     ensures bad_call { (result ≡ BAD_CALL) ↔ 4 < kind }
+    ensures met { result ≡ NONE → (k : kinds) × (kind ≡ kind_number k)
+        × (c : CertFields) × Means IsCertificate c octets.now
+        × MeetsProfile k (not (strict == 0)) c }
+    ensures fault { 300 ≤ result → (k : kinds) × (kind ≡ kind_number k)
+        × (c : CertFields) × Means IsCertificate c octets.now
+        × (e : inspections) × (result ≡ inspection_number e)
+        × IsFirstFault k (not (strict == 0)) c e }
+    ensures unread { result ≢ NONE → result ≢ MEMORY → result ≢ BAD_CALL → result < 300
+        → BeginsNoCertificate octets.now }
 {
     let Some(kind) = kind_of(kind) else {
         return BAD_CALL;
     };
-    match Cert::decode(alloc, octets) {
+    match decoded(alloc, octets) {
         Ok(cert) => {
             let answer = inspect(&cert, kind, strict != 0);
             drop(cert);
@@ -150,7 +206,7 @@ pub extern "C" fn rpki_certificate_inspect(
                 Err(error) => of_inspection(error),
             }
         }
-        Err(error) => of_decoding(&error),
+        Err(fault) => fault,
     }
 }
 
@@ -163,7 +219,8 @@ enum Family {
 
 // The family that has this number.
 fn family_of(number: u32) -> Option<Family>
-    ensures { IsNone result ↔ (number ≢ 4) × (number ≢ 6) }
+    ensures none { IsNone result ↔ (number ≢ 4) × (number ≢ 6) }
+    ensures family { IfSome result (λ family. number ≡ family_number family) }
 {
     match number {
         4 => Some(Family::V4),
@@ -172,10 +229,12 @@ fn family_of(number: u32) -> Option<Family>
     }
 }
 
-fn addresses_of(data: &TbsCert, family: Family) -> &IpResources {
+fn addresses_of(tbs: &TbsCert, family: Family) -> &IpResources
+    ensures { result.now ≡ family_field family tbs.now.extensions }
+{
     match family {
-        Family::V4 => data.v4_resources(),
-        Family::V6 => data.v6_resources(),
+        Family::V4 => tbs.v4_resources(),
+        Family::V6 => tbs.v6_resources(),
     }
 }
 
@@ -191,13 +250,16 @@ pub extern "C" fn rpki_certificate_addresses(
     count: &mut u64,
 ) -> u32
     ensures bad_call { (result ≡ BAD_CALL) ↔ (family ≢ 4) × (family ≢ 6) }
+    ensures listed { result ≡ NONE → (f : families) × (family ≡ family_number f)
+        × (c : CertFields) × Means IsCertificate c octets.now
+        × (count.new ≡ length (listed_blocks (family_field f c.fields.extensions))) }
     ensures at_fault { result ≢ NONE → count.new ≡ 0 }
 {
     *count = 0;
     let Some(family) = family_of(family) else {
         return BAD_CALL;
     };
-    match Cert::decode(alloc, octets) {
+    match decoded(alloc, octets) {
         Ok(cert) => {
             if let Some(blocks) = addresses_of(cert.as_tbs(), family).as_blocks() {
                 *count = put_addresses(blocks, out);
@@ -205,7 +267,7 @@ pub extern "C" fn rpki_certificate_addresses(
             drop(cert);
             NONE
         }
-        Err(error) => of_decoding(&error),
+        Err(fault) => fault,
     }
 }
 
@@ -218,10 +280,12 @@ pub extern "C" fn rpki_certificate_as_numbers(
     out: &mut [RpkiAsRange],
     count: &mut u64,
 ) -> u32
+    ensures listed { result ≡ NONE → (c : CertFields) × Means IsCertificate c octets.now
+        × (count.new ≡ length (listed_blocks c.fields.extensions.as_resources)) }
     ensures at_fault { result ≢ NONE → count.new ≡ 0 }
 {
     *count = 0;
-    match Cert::decode(alloc, octets) {
+    match decoded(alloc, octets) {
         Ok(cert) => {
             if let Some(blocks) = cert.as_tbs().as_resources().as_blocks() {
                 *count = put_as_numbers(blocks, out);
@@ -229,7 +293,7 @@ pub extern "C" fn rpki_certificate_as_numbers(
             drop(cert);
             NONE
         }
-        Err(error) => of_decoding(&error),
+        Err(fault) => fault,
     }
 }
 
@@ -246,7 +310,8 @@ enum CertUri {
 
 // The URI that the header numbers so.
 fn uri_numbered(number: u32) -> Option<CertUri>
-    ensures { IsNone result ↔ 5 < number }
+    ensures none { IsNone result ↔ 5 < number }
+    ensures uri { IfSome result (λ which. number ≡ uri_number which) }
 {
     match number {
         0 => Some(CertUri::CaIssuer),
@@ -259,14 +324,16 @@ fn uri_numbered(number: u32) -> Option<CertUri>
     }
 }
 
-fn uri_of(data: &TbsCert, which: CertUri) -> Option<&[u8]> {
+fn uri_of(tbs: &TbsCert, which: CertUri) -> Option<&[u8]>
+    ensures { option_map (λ uri. uri.now) result ≡ uri_field which tbs.now.extensions }
+{
     match which {
-        CertUri::CaIssuer => Some(data.ca_issuer()?.as_bytes()),
-        CertUri::Crl => Some(data.crl_uri()?.as_bytes()),
-        CertUri::Repository => Some(data.ca_repository()?.as_bytes()),
-        CertUri::Manifest => Some(data.rpki_manifest()?.as_bytes()),
-        CertUri::SignedObject => Some(data.signed_object()?.as_bytes()),
-        CertUri::Notify => Some(data.rpki_notify()?.as_bytes()),
+        CertUri::CaIssuer => Some(tbs.ca_issuer()?.as_bytes()),
+        CertUri::Crl => Some(tbs.crl_uri()?.as_bytes()),
+        CertUri::Repository => Some(tbs.ca_repository()?.as_bytes()),
+        CertUri::Manifest => Some(tbs.rpki_manifest()?.as_bytes()),
+        CertUri::SignedObject => Some(tbs.signed_object()?.as_bytes()),
+        CertUri::Notify => Some(tbs.rpki_notify()?.as_bytes()),
     }
 }
 
@@ -283,13 +350,16 @@ pub extern "C" fn rpki_certificate_uri(
     count: &mut u64,
 ) -> u32
     ensures bad_call { (result ≡ BAD_CALL) ↔ 5 < which }
+    ensures uri { result ≡ NONE → (u : uris) × (which ≡ uri_number u)
+        × (c : CertFields) × Means IsCertificate c octets.now
+        × IsWritten (text_of (uri_field u c.fields.extensions)) out.old out.new count.new }
     ensures at_fault { result ≢ NONE → count.new ≡ 0 }
 {
     *count = 0;
     let Some(which) = uri_numbered(which) else {
         return BAD_CALL;
     };
-    match Cert::decode(alloc, octets) {
+    match decoded(alloc, octets) {
         Ok(cert) => {
             if let Some(uri) = uri_of(cert.as_tbs(), which) {
                 *count = put_octets(uri, out);
@@ -297,7 +367,7 @@ pub extern "C" fn rpki_certificate_uri(
             drop(cert);
             NONE
         }
-        Err(error) => of_decoding(&error),
+        Err(fault) => fault,
     }
 }
 
@@ -310,7 +380,8 @@ enum CertName {
 
 // The name that has this number.
 fn name_numbered(number: u32) -> Option<CertName>
-    ensures { IsNone result ↔ 1 < number }
+    ensures none { IsNone result ↔ 1 < number }
+    ensures name { IfSome result (λ which. number ≡ name_number which) }
 {
     match number {
         0 => Some(CertName::Issuer),
@@ -319,10 +390,12 @@ fn name_numbered(number: u32) -> Option<CertName>
     }
 }
 
-fn name_of(data: &TbsCert, which: CertName) -> &[u8] {
+fn name_of(tbs: &TbsCert, which: CertName) -> &[u8]
+    ensures { result.now ≡ name_field which tbs.now }
+{
     match which {
-        CertName::Issuer => data.issuer().as_bytes(),
-        CertName::Subject => data.subject().as_bytes(),
+        CertName::Issuer => tbs.issuer().as_bytes(),
+        CertName::Subject => tbs.subject().as_bytes(),
     }
 }
 
@@ -338,18 +411,21 @@ pub extern "C" fn rpki_certificate_name(
     count: &mut u64,
 ) -> u32
     ensures bad_call { (result ≡ BAD_CALL) ↔ 1 < which }
+    ensures name { result ≡ NONE → (n : names) × (which ≡ name_number n)
+        × (c : CertFields) × Means IsCertificate c octets.now
+        × IsWritten (name_field n c.fields) out.old out.new count.new }
     ensures at_fault { result ≢ NONE → count.new ≡ 0 }
 {
     *count = 0;
     let Some(which) = name_numbered(which) else {
         return BAD_CALL;
     };
-    match Cert::decode(alloc, octets) {
+    match decoded(alloc, octets) {
         Ok(cert) => {
             *count = put_octets(name_of(cert.as_tbs(), which), out);
             drop(cert);
             NONE
         }
-        Err(error) => of_decoding(&error),
+        Err(fault) => fault,
     }
 }

@@ -1,5 +1,6 @@
 //! Octets, and ranges of addresses and AS numbers, in the caller's memory.
-ghost use Rattle.std.specs.Prelude.{◌≡◌, ◌++◌, length, take, drop};
+ghost use Rattle.std.specs.Prelude.{◌≡◌, length};
+ghost use Rattle.rpki_c.specs.Writing.{written_over, ip_range as range, as_range as systems};
 
 use rpki_blocks::{AsBlock, AsBlocks, IpBlock, IpBlocks};
 
@@ -19,14 +20,18 @@ pub struct RpkiAsRange {
     pub max: u32,
 }
 
-fn ip_range(block: IpBlock) -> RpkiIpRange {
+fn ip_range(block: IpBlock) -> RpkiIpRange
+    ensures { result ≡ range block }
+{
     RpkiIpRange {
         min: block.min().to_bits().to_be_bytes(),
         max: block.max().to_bits().to_be_bytes(),
     }
 }
 
-fn as_range(block: AsBlock) -> RpkiAsRange {
+fn as_range(block: AsBlock) -> RpkiAsRange
+    ensures { result ≡ systems block }
+{
     RpkiAsRange {
         min: block.min().into_u32(),
         max: block.max().into_u32(),
@@ -56,7 +61,7 @@ pub(crate) fn put_as_numbers(blocks: &AsBlocks, out: &mut [RpkiAsRange]) -> u64
 /// Writes as many octets as there is room for, and tells how many there are.
 pub(crate) fn put_octets(from: &[u8], out: &mut [u8]) -> u64
     ensures count { result ≡ length from.now }
-    ensures written { out.new ≡ take (length out.old) from.now ++ drop (length from.now) out.old }
+    ensures written { out.new ≡ written_over from.now out.old }
 {
     let fit = from.len().min(out.len());
     out[..fit].copy_from_slice(&from[..fit]);

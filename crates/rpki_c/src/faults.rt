@@ -3,7 +3,9 @@
 ghost use Rattle.std.specs.Prelude.{◌≡◌, ◌≢◌, ◌↔◌, ◌<◌, ◌≤◌};
 ghost use Rattle.rpki_der.specs.declared.error.DecodeError.TheVariants as decoding;
 ghost use Rattle.rpki_tal.specs.declared.tal_error.TalError.TheVariants as tal;
+ghost use Rattle.rpki_c.specs.FaultNumbers.{field_number, decode_number, inspection_number, verification_number, revocation_number, locator_number, path_number, refusal_number};
 
+use crate::refusal::Refusal;
 use rpki_cert::{InspectionError, VerificationError};
 use rpki_crl::RevocationError;
 use rpki_der::{DecodeError, Field};
@@ -22,7 +24,8 @@ pub(crate) const OTHER_NAME: u32 = 600;
 pub(crate) const OTHER_KEY: u32 = 601;
 
 fn field(field: Field) -> u32
-    ensures { result < 13 }
+    ensures number { result ≡ field_number field }
+    ensures small { result < 13 }
 {
     match field {
         Field::BasicConstraints => 0,
@@ -43,10 +46,11 @@ fn field(field: Field) -> u32
 
 /// The number of a fault of reading.
 pub(crate) fn of_decoding(error: &DecodeError) -> u32
+    ensures number { result ≡ decode_number error.now }
     ensures memory { result ≡ MEMORY ↔ error.now ≡ decoding.Memory }
     ensures fault { result ≢ NONE }
     ensures no_bad_call { result ≢ BAD_CALL }
-    ensures small { result < 600 }
+    ensures small { result < 300 }
 {
     match error {
         DecodeError::Truncated => 100,
@@ -69,8 +73,10 @@ pub(crate) fn of_decoding(error: &DecodeError) -> u32
 
 /// The number of a fault of inspection.
 pub(crate) fn of_inspection(error: InspectionError) -> u32
+    ensures number { result ≡ inspection_number error }
     ensures fault { result ≢ NONE }
     ensures no_bad_call { result ≢ BAD_CALL }
+    ensures great { 300 ≤ result }
     ensures small { result < 600 }
 {
     match error {
@@ -106,6 +112,7 @@ pub(crate) fn of_inspection(error: InspectionError) -> u32
 
 /// The number of a fault of verification.
 pub(crate) fn of_verification(error: &VerificationError) -> u32
+    ensures number { result ≡ verification_number error.now }
     ensures fault { result ≢ NONE }
     ensures no_bad_call { result ≢ BAD_CALL }
     ensures small { result < 600 }
@@ -129,6 +136,7 @@ pub(crate) fn of_verification(error: &VerificationError) -> u32
 
 /// The number of a fault of revocation.
 pub(crate) fn of_revocation(error: RevocationError) -> u32
+    ensures number { result ≡ revocation_number error }
     ensures fault { result ≢ NONE }
     ensures no_bad_call { result ≢ BAD_CALL }
     ensures small { result < 600 }
@@ -144,6 +152,7 @@ pub(crate) fn of_revocation(error: RevocationError) -> u32
 
 /// The number of a fault of a path's member.
 pub(crate) fn of_path(fault: &PathFault) -> u32
+    ensures number { result ≡ path_number fault.now }
     ensures fault { result ≢ NONE }
     ensures no_bad_call { result ≢ BAD_CALL }
     ensures small { result < 600 }
@@ -159,6 +168,7 @@ pub(crate) fn of_path(fault: &PathFault) -> u32
 
 /// The number of a fault of a locator.
 pub(crate) fn of_locator(error: &TalError) -> u32
+    ensures number { result ≡ locator_number error.now }
     ensures memory { result ≡ MEMORY ↔ error.now ≡ tal.Memory }
     ensures fault { result ≢ NONE }
     ensures no_other { result ≢ OTHER_KEY }
@@ -170,5 +180,20 @@ pub(crate) fn of_locator(error: &TalError) -> u32
         TalError::NoKey => 703,
         TalError::BadKey => 704,
         TalError::Memory => MEMORY,
+    }
+}
+
+/// The number of why a path isn't accepted.
+pub(crate) fn of_refusal(refusal: &Refusal) -> u32
+    ensures number { result ≡ refusal_number refusal.now }
+    ensures fault { result ≢ NONE }
+{
+    match refusal {
+        Refusal::BadCall => BAD_CALL,
+        Refusal::Memory => MEMORY,
+        Refusal::Locator(error) => of_locator(error),
+        Refusal::OtherKey => OTHER_KEY,
+        Refusal::List(_, error) => of_decoding(error),
+        Refusal::Member(error) => of_path(&error.fault),
     }
 }

@@ -7,17 +7,20 @@ mod answers;
 mod certificates;
 mod copying;
 mod faults;
+mod judging;
 mod lists;
 mod locators;
 mod moments;
 mod names;
 mod paths;
-mod questions;
+mod question;
+mod refusal;
+mod signatures;
 mod strings;
 mod telling;
 
 /// Tells the number of this interface. It grows with each change that a caller has to follow.
 #[unsafe(no_mangle)]
 pub extern "C" fn rpki_abi_version() -> u32 {
-    2
+    3
 }

@@ -1,13 +1,16 @@
 //! Revocation lists for C.
-ghost use Rattle.std.specs.Prelude.{◌≡◌, ◌≢◌, ◌*◌, ◌↔◌, length, IsTrue};
+ghost use Rattle.std.specs.Prelude.{◌≡◌, ◌≢◌, ◌*◌, ◌↔◌, ◌++◌, ◌∷◌, [], length, IsTrue, OnOk, IfOk, IfErr};
+ghost use Rattle.std.specs.List.{AllZip};
 ghost use Rattle.rpki_der.specs.Place.{MeansOrMemoryBy};
 ghost use Rattle.rpki_ext.specs.Kinds.{Means};
-ghost use Rattle.rpki_crl.specs.Lists.{IsCertificateList};
+ghost use Rattle.rpki_crl.specs.Lists.{CrlFields, IsCertificateList};
+ghost use Rattle.rpki_c.specs.Contents.{TellsList};
+ghost use Rattle.rpki_c.specs.Verdicts.{BeginsNoList, BeginsWithList, IsUnreadList};
 
 use crate::copying::put_octets;
 use crate::faults::{BAD_CALL, MEMORY, NONE, of_decoding};
 use crate::moments::{RpkiTime, parts_of};
-use crate::strings::cut;
+use crate::refusal::Refusal;
 use bytes::Bytes;
 use rpki_crl::{Crl, CrlEntry};
 use rpki_der::{DecodeError, Serial};
@@ -33,15 +36,15 @@ pub struct RpkiEntry {
     pub serial: [u8; 20],
 }
 
-fn entries(list: &Crl) -> u64 {
-    let mut count = 0u64;
-    for _entry in list.as_cert_list().revoked_certs().iter() {
-        count = count.wrapping_add(1);
-    }
-    count
+fn entries(list: &Crl) -> u64
+    ensures { result ≡ length list.now.list.fields.revoked.entries }
+{
+    list.as_cert_list().revoked_certs().iter().count() as u64
 }
 
-fn put_list(list: &Crl, out: &mut RpkiList) {
+fn put_list(list: &Crl, out: &mut RpkiList)
+    ensures { TellsList list.now.list.fields out.new }
+{
     let data = list.as_cert_list();
     out.this_update = parts_of(data.this_update());
     out.next_update = parts_of(data.next_update());
@@ -50,16 +53,37 @@ fn put_list(list: &Crl, out: &mut RpkiList) {
     out.entries = entries(list);
 }
 
+// The list that the octets begin with, or the number of a fault.
+#[tactic(auto, using(crate::proofs::Unread::unless_memory))]
+fn decoded(alloc: Global, octets: &[u8]) -> Result<Crl, u32>
+    ensures read { IfOk result (λ l. Means IsCertificateList l.list octets.now) }
+    ensures fault { IfErr result (λ fault. (fault ≢ NONE) × (fault ≢ BAD_CALL)) }
+    ensures unread { IfErr result (λ fault. fault ≢ MEMORY → BeginsNoList octets.now) }
+{
+    match Crl::decode(alloc, octets) {
+        Ok(list) => Ok(list),
+        Err(error) => {
+            let fault = of_decoding(&error);
+            drop(error);
+            Err(fault)
+        }
+    }
+}
+
 /// Reads the list that the octets begin with. Answers 0, or the number of a fault.
 #[unsafe(no_mangle)]
-pub extern "C" fn rpki_list_read(alloc: Global, octets: &[u8], out: &mut RpkiList) -> u32 {
-    match Crl::decode(alloc, octets) {
+pub extern "C" fn rpki_list_read(alloc: Global, octets: &[u8], out: &mut RpkiList) -> u32
+    ensures read { result ≡ NONE → (l : CrlFields) × Means IsCertificateList l octets.now
+        × TellsList l.fields out.new }
+    ensures unread { result ≢ NONE → result ≢ MEMORY → BeginsNoList octets.now }
+{
+    match decoded(alloc, octets) {
         Ok(list) => {
             put_list(&list, out);
             drop(list);
             NONE
         }
-        Err(error) => of_decoding(&error),
+        Err(fault) => fault,
     }
 }
 
@@ -93,13 +117,13 @@ pub extern "C" fn rpki_list_entries(
     ensures at_fault { result ≢ NONE → count.new ≡ 0 }
 {
     *count = 0;
-    match Crl::decode(alloc, octets) {
+    match decoded(alloc, octets) {
         Ok(list) => {
             *count = put_entries(&list, out);
             drop(list);
             NONE
         }
-        Err(error) => of_decoding(&error),
+        Err(fault) => fault,
     }
 }
 
@@ -115,13 +139,13 @@ pub extern "C" fn rpki_list_issuer(
     ensures at_fault { result ≢ NONE → count.new ≡ 0 }
 {
     *count = 0;
-    match Crl::decode(alloc, octets) {
+    match decoded(alloc, octets) {
         Ok(list) => {
             *count = put_octets(list.as_cert_list().issuer().as_bytes(), out);
             drop(list);
             NONE
         }
-        Err(error) => of_decoding(&error),
+        Err(fault) => fault,
     }
 }
 
@@ -166,7 +190,7 @@ pub extern "C" fn rpki_list_ask(
     if !add_up(serials, answers) {
         return BAD_CALL;
     }
-    match Crl::decode(alloc, octets) {
+    match decoded(alloc, octets) {
         Ok(mut list) => {
             if answers.len() > 1 && list.cache_serials(alloc).is_err() {
                 drop(list);
@@ -176,23 +200,7 @@ pub extern "C" fn rpki_list_ask(
             drop(list);
             answer
         }
-        Err(error) => of_decoding(&error),
-    }
-}
-
-/// Why lists aren't read: the number of a fault, and the place of the list that it is of.
-#[derive(Clone, Copy)]
-pub(crate) struct Unread {
-    pub(crate) fault: u32,
-    pub(crate) place: usize,
-}
-
-impl From<AllocError> for Unread {
-    fn from(_error: AllocError) -> Unread {
-        Unread {
-            fault: MEMORY,
-            place: 0,
-        }
+        Err(fault) => fault,
     }
 }
 
@@ -211,43 +219,28 @@ fn list_of(alloc: Global, octets: &Bytes) -> Result<Crl, DecodeError>
     }
 }
 
-fn append(lists: &mut Vec<Crl>, list: Crl) -> Result<(), AllocError> {
+fn append(lists: &mut Vec<Crl>, list: Crl) -> Result<(), AllocError>
+    ensures { OnOk result (lists.new.items ≡ lists.old.items ++ list ∷ []) }
+{
     lists.push(list)?;
     Ok(())
 }
 
-fn read_lists(alloc: Global, strings: &[Bytes]) -> Result<Vec<Crl>, Unread> {
+/// Reads a list of each of these octets, with its serial numbers in a table.
+pub(crate) fn lists_of(alloc: Global, strings: &[Bytes]) -> Result<Vec<Crl>, Refusal>
+    ensures lists { IfOk result (λ it. AllZip BeginsWithList strings.now it.items) }
+    ensures unread { IfErr result (IsUnreadList strings.now) }
+{
     let mut lists = Vec::new(alloc);
-    for (place, octets) in strings.iter().enumerate() {
+    for octets in strings {
         match list_of(alloc, octets) {
             Ok(list) => append(&mut lists, list)?,
             Err(error) => {
+                let place = lists.len();
                 drop(lists);
-                let fault = of_decoding(&error);
-                drop(error);
-                return Err(Unread { fault, place });
+                return Err(Refusal::List(place, error));
             }
         }
     }
     Ok(lists)
-}
-
-/// Reads the lists that stand one behind the other and have these lengths, with their serial
-/// numbers in tables.
-pub(crate) fn lists_of(
-    alloc: Global,
-    octets: &[u8],
-    lengths: &[usize],
-) -> Result<Vec<Crl>, Unread> {
-    match cut(alloc, octets, lengths)? {
-        Some(strings) => {
-            let lists = read_lists(alloc, &strings);
-            drop(strings);
-            lists
-        }
-        None => Err(Unread {
-            fault: BAD_CALL,
-            place: 0,
-        }),
-    }
 }

@@ -1,67 +1,41 @@
-//! Trust anchor locators for C.
-ghost use Rattle.std.specs.Prelude.{◌≡◌, ◌≢◌, ◌⊎◌, ◌==◌, ℕ, Bool, List, not};
+//! Whether a trust anchor has a locator's key.
+ghost use Rattle.std.specs.Prelude.{◌≡◌, ℕ, Bool, List, OnOk, IfErr};
 ghost use Rattle.rpki_tal.specs.Locators.{IsLocator};
-ghost use Rattle.rpki_c.specs.AnchorKeys.{HasLocatorKey, HasOtherKey, IsNoLocator, BeginsNoCertificate};
+ghost use Rattle.rpki_path.specs.LocatedPaths.{IsLocatorOf};
+ghost use Rattle.rpki_c.specs.Verdicts.{IsUntrusted};
 
-use crate::faults::{MEMORY, NONE, OTHER_KEY, of_decoding, of_locator};
-use rpki_cert::Cert;
+use crate::refusal::Refusal;
+use rpki_path::{Member, PathError, has_locator_key};
 use rpki_tal::Tal;
 use std::alloc::Global;
 
-// The fault where the octets don't begin with a certificate that has the locator's key.
-fn asked(alloc: Global, tal: &Tal, anchor: &[u8]) -> u32
+// Errs where the trust anchor has another key than the locator.
+fn compared(alloc: Global, anchor: &Member<'_>, tal: &Tal) -> Result<(), Refusal>
     ensures same { (strict : Bool) (file : List ℕ) → IsLocator strict tal.now.tal file
-        → result ≡ NONE → HasLocatorKey strict file anchor.now }
-    ensures other { (strict : Bool) (file : List ℕ) → IsLocator strict tal.now.tal file
-        → result ≡ OTHER_KEY → HasOtherKey strict file anchor.now }
-    ensures unread { result ≢ NONE → result ≢ OTHER_KEY → result ≢ MEMORY
-        → BeginsNoCertificate anchor.now }
+        → OnOk result (IsLocatorOf strict anchor.now file) }
+    ensures refused { (strict : Bool) (file : List ℕ) → IsLocator strict tal.now.tal file
+        → IfErr result (IsUntrusted strict file anchor.now) }
 {
-    match Cert::decode(alloc, anchor) {
-        Ok(cert) => {
-            let is_same = tal.has_key(cert.as_tbs().subject_public_key_info());
-            drop(cert);
-            if is_same { NONE } else { OTHER_KEY }
-        }
-        Err(error) => of_decoding(&error),
+    match has_locator_key(alloc, anchor, tal) {
+        Ok(true) => Ok(()),
+        Ok(false) => Err(Refusal::OtherKey),
+        Err(fault) => Err(Refusal::Member(PathError { index: 0, fault })),
     }
 }
 
-// The fault where the file is no locator, or the trust anchor hasn't its key.
-fn located(alloc: Global, anchor: &[u8], file: &[u8], strict: bool) -> u32
-    ensures same { result ≡ NONE → HasLocatorKey strict file.now anchor.now }
-    ensures other { result ≡ OTHER_KEY → HasOtherKey strict file.now anchor.now }
-    ensures unread { result ≢ NONE → result ≢ OTHER_KEY → result ≢ MEMORY
-        → IsNoLocator strict file.now ⊎ BeginsNoCertificate anchor.now }
-{
-    match Tal::read_named(alloc, String::new(alloc), file, strict) {
-        Ok(tal) => {
-            let fault = asked(alloc, &tal, anchor);
-            drop(tal);
-            fault
-        }
-        Err(error) => {
-            let fault = of_locator(&error);
-            drop(error);
-            fault
-        }
-    }
-}
-
-/// Asks whether the trust anchor, with which the octets begin, has the key of the locator that a
-/// file is (RFC 8630 3). Strictly, the file is UTF-8; else its comments may be any octets. Answers
-/// 0, or the number of a fault: 601 where it has another key.
-#[unsafe(no_mangle)]
-pub extern "C" fn rpki_path_locator(
+/// Asks whether the trust anchor has the key of the locator that a file is (RFC 8630 3). Errs where
+/// it has another one, and where the file is no locator or the anchor no certificate.
+pub(crate) fn ask_locator(
     alloc: Global,
-    anchor: &[u8],
-    locator: &[u8],
-    strict: u32,
-) -> u32
-    ensures same { result ≡ NONE → HasLocatorKey (not (strict == 0)) locator.now anchor.now }
-    ensures other { result ≡ OTHER_KEY → HasOtherKey (not (strict == 0)) locator.now anchor.now }
-    ensures unread { result ≢ NONE → result ≢ OTHER_KEY → result ≢ MEMORY
-        → IsNoLocator (not (strict == 0)) locator.now ⊎ BeginsNoCertificate anchor.now }
+    anchor: &Member<'_>,
+    file: &[u8],
+    strict: bool,
+) -> Result<(), Refusal>
+    ensures same { OnOk result (IsLocatorOf strict anchor.now file.now) }
+    ensures refused { IfErr result (IsUntrusted strict file.now anchor.now) }
 {
-    located(alloc, anchor, locator, strict != 0)
+    let tal = Tal::read_named(alloc, String::new(alloc), file, strict)?;
+    let answer = compared(alloc, anchor, &tal);
+    drop(tal);
+    answer
 }

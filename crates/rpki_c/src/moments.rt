@@ -1,6 +1,7 @@
 //! Moments for C.
-ghost use Rattle.std.specs.Prelude.{◌≡◌, IfSome};
-ghost use Rattle.rpki_der.specs.Times.{moment};
+ghost use Rattle.std.specs.Prelude.{◌≡◌, ◌↔◌, IsSome, IfSome};
+ghost use Rattle.rpki_der.specs.Times.{IsMoment};
+ghost use Rattle.rpki_c.specs.TimeParts.{moment_of_parts};
 
 use rpki_der::Time;
 
@@ -20,8 +21,8 @@ pub struct RpkiTime {
 
 /// The moment with these parts, where the calendar has the day and a clock the time.
 pub(crate) fn moment_of(it: &RpkiTime) -> Option<Time>
-    ensures { IfSome result (λ t. t ≡ moment it.now.year it.now.month it.now.day
-        it.now.hour it.now.minute it.now.second) }
+    ensures exists { IsSome result ↔ IsMoment (moment_of_parts it.now) }
+    ensures value { IfSome result (λ time. time ≡ moment_of_parts it.now) }
 {
     Time::utc(
         i32::from(it.year),
@@ -35,8 +36,8 @@ pub(crate) fn moment_of(it: &RpkiTime) -> Option<Time>
 
 /// The parts of a moment.
 pub(crate) fn parts_of(time: Time) -> RpkiTime
-    ensures { time ≡ moment result.year result.month result.day
-        result.hour result.minute result.second }
+    ensures parts { time ≡ moment_of_parts result }
+    ensures unused { result.unused ≡ 0 }
 {
     RpkiTime {
         year: time.year(),

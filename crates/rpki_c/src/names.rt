@@ -5,7 +5,7 @@ ghost use Rattle.rpki_path.specs.GivenPaths.{PathStrings, CanEndIn, IsSplitAs};
 ghost use Rattle.rpki_path.specs.NameChains.{TellsNames};
 
 use crate::faults::{BAD_CALL, MEMORY, NONE, OTHER_NAME, of_path};
-use crate::strings::cut;
+use crate::strings::{RpkiStrings, cut};
 use bytes::Bytes;
 use rpki_cert::Kind;
 use rpki_path::{GivenPath, Member, PathError, first_unchained};
@@ -67,12 +67,11 @@ fn told_of(alloc: Global, strings: &[Bytes]) -> (u32, u64) {
 #[unsafe(no_mangle)]
 pub extern "C" fn rpki_path_names(
     alloc: Global,
-    octets: &[u8],
-    lengths: &[usize],
+    members: &RpkiStrings<'_>,
     place: &mut u64,
 ) -> u32 {
     *place = 0;
-    match cut(alloc, octets, lengths) {
+    match cut(alloc, members.octets, members.lengths) {
         Ok(Some(strings)) => {
             let (fault, at) = told_of(alloc, &strings);
             drop(strings);

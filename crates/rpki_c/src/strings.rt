@@ -5,6 +5,14 @@ ghost use Rattle.rpki_c.specs.Strings.{AreCut};
 use bytes::Bytes;
 use std::alloc::{AllocError, Global};
 
+/// Octets that stand one behind the other, and the length of each string.
+#[repr(C)]
+#[derive(Clone, Copy)]
+pub struct RpkiStrings<'c> {
+    pub octets: &'c [u8],
+    pub lengths: &'c [usize],
+}
+
 /// Cuts octets into the strings that stand there one behind the other and have these lengths. Gives
 /// `None` where the octets end before them or go on behind them.
 pub(crate) fn cut(

@@ -1,5 +1,8 @@
 //! Names and sentences of faults, from their numbers.
-ghost use Rattle.std.specs.Prelude.{◌≡◌, ◌≢◌};
+ghost use Rattle.std.specs.Prelude.{◌≡◌, ◌≢◌, ℕ, List, IfSome};
+ghost use Rattle.rpki_c.specs.FaultNumbers.{field_number, decode_number, inspection_number, verification_number, revocation_number, locator_number, path_number};
+ghost use Rattle.rpki_c.specs.Writing.{IsWritten};
+ghost use Rattle.rpki_c.specs.FaultTexts.{member_fault_name, IsPlainName, IsNameOf};
 
 use crate::copying::put_octets;
 use crate::faults::{BAD_CALL, MEMORY, NONE, OTHER_KEY, OTHER_NAME};
@@ -11,7 +14,9 @@ use rpki_tal::TalError;
 use std::alloc::Global;
 use std::fmt::Display;
 
-fn field(number: u32) -> Option<Field> {
+fn field(number: u32) -> Option<Field>
+    ensures { IfSome result (λ it. field_number it ≡ number) }
+{
     match number {
         0 => Some(Field::BasicConstraints),
         1 => Some(Field::SubjectKeyIdentifier),
@@ -30,7 +35,9 @@ fn field(number: u32) -> Option<Field> {
     }
 }
 
-fn decoding(number: u32) -> Option<DecodeError> {
+fn decoding(number: u32) -> Option<DecodeError>
+    ensures { IfSome result (λ it. decode_number it ≡ number) }
+{
     match number {
         100 => Some(DecodeError::Truncated),
         101 => Some(DecodeError::BadLength),
@@ -48,7 +55,9 @@ fn decoding(number: u32) -> Option<DecodeError> {
     }
 }
 
-fn inspection(number: u32) -> Option<InspectionError> {
+fn inspection(number: u32) -> Option<InspectionError>
+    ensures { IfSome result (λ it. inspection_number it ≡ number) }
+{
     match number {
         300 => Some(InspectionError::AlgorithmMismatch),
         301 => Some(InspectionError::Issuer),
@@ -81,7 +90,9 @@ fn inspection(number: u32) -> Option<InspectionError> {
     }
 }
 
-fn verification(number: u32) -> Option<VerificationError> {
+fn verification(number: u32) -> Option<VerificationError>
+    ensures { IfSome result (λ it. verification_number it ≡ number) }
+{
     match number {
         400 => Some(VerificationError::NotYetValid),
         401 => Some(VerificationError::Expired),
@@ -99,7 +110,9 @@ fn verification(number: u32) -> Option<VerificationError> {
     }
 }
 
-fn revocation(number: u32) -> Option<RevocationError> {
+fn revocation(number: u32) -> Option<RevocationError>
+    ensures { IfSome result (λ it. revocation_number it ≡ number) }
+{
     match number {
         500 => Some(RevocationError::NoCrl),
         501 => Some(RevocationError::WrongKeyId),
@@ -110,7 +123,9 @@ fn revocation(number: u32) -> Option<RevocationError> {
     }
 }
 
-fn locator(number: u32) -> Option<TalError> {
+fn locator(number: u32) -> Option<TalError>
+    ensures { IfSome result (λ it. locator_number it ≡ number) }
+{
     match number {
         700 => Some(TalError::NoText),
         701 => Some(TalError::BadUri),
@@ -121,7 +136,9 @@ fn locator(number: u32) -> Option<TalError> {
     }
 }
 
-fn fault(number: u32) -> Option<PathFault> {
+fn fault(number: u32) -> Option<PathFault>
+    ensures { IfSome result (λ it. path_number it ≡ number) }
+{
     match number {
         MEMORY => Some(PathFault::Memory),
         100..=299 => Some(PathFault::Decode(decoding(number)?)),
@@ -133,7 +150,9 @@ fn fault(number: u32) -> Option<PathFault> {
 
 // The numbers whose faults have no name of the library's, or one with an identifier that a number
 // doesn't tell.
-fn plain(number: u32) -> Option<(&'static str, &'static str)> {
+fn plain(number: u32) -> Option<(&'static str, &'static str)>
+    ensures { IfSome result (λ texts. IsPlainName number texts.0.now) }
+{
     match number {
         NONE => Some(("None", "no fault")),
         BAD_CALL => Some(("BadCall", "lengths or numbers of the call don't fit")),
@@ -148,7 +167,9 @@ fn plain(number: u32) -> Option<(&'static str, &'static str)> {
     }
 }
 
-fn name_of(fault: &PathFault) -> &'static str {
+fn name_of(fault: &PathFault) -> &'static str
+    ensures { result.now ≡ member_fault_name fault.now }
+{
     match fault {
         PathFault::Decode(error) => error.name(),
         PathFault::Inspect(error) => error.name(),
@@ -158,27 +179,37 @@ fn name_of(fault: &PathFault) -> &'static str {
     }
 }
 
+// The name of the fault with this number.
+fn name_numbered(number: u32) -> Option<&'static str>
+    ensures { IfSome result (λ name. IsNameOf number name.now) }
+{
+    if let Some((name, _)) = plain(number) {
+        return Some(name);
+    }
+    if let Some(fault) = locator(number) {
+        let name = fault.name();
+        drop(fault);
+        return Some(name);
+    }
+    let fault = fault(number)?;
+    let name = name_of(&fault);
+    drop(fault);
+    Some(name)
+}
+
 /// Tells the name of the fault with this number, as the library's enums have it: writes as many
 /// octets as there is room for, and in `count` how many there are. Answers 0, or 2 where no fault
 /// has the number.
 #[unsafe(no_mangle)]
 pub extern "C" fn rpki_fault_name(number: u32, out: &mut [u8], count: &mut u64) -> u32
+    ensures name { result ≡ NONE → (name : List ℕ) × IsNameOf number name
+        × IsWritten name out.old out.new count.new }
     ensures at_fault { result ≢ NONE → count.new ≡ 0 }
 {
     *count = 0;
-    if let Some((name, _)) = plain(number) {
-        *count = put_octets(name.as_bytes(), out);
-        return NONE;
-    }
-    if let Some(fault) = locator(number) {
-        *count = put_octets(fault.name().as_bytes(), out);
-        drop(fault);
-        return NONE;
-    }
-    match fault(number) {
-        Some(fault) => {
-            *count = put_octets(name_of(&fault).as_bytes(), out);
-            drop(fault);
+    match name_numbered(number) {
+        Some(name) => {
+            *count = put_octets(name.as_bytes(), out);
             NONE
         }
         None => BAD_CALL,

@@ -2,7 +2,7 @@
 //! of them.
 use crate::answers::{Answers, Said};
 use crate::faults::{BAD_CALL, MEMORY, NONE, of_decoding};
-use crate::strings::cut;
+use crate::strings::{RpkiStrings, cut};
 use bytes::Bytes;
 use rpki_der::{Cursor, DecodeError};
 use std::alloc::{AllocError, Global};
@@ -10,7 +10,7 @@ use std::alloc::{AllocError, Global};
 /// A signature that the caller has to check: places in the octets of the whole path.
 #[repr(C)]
 #[derive(Clone, Copy)]
-pub struct RpkiQuestion {
+pub struct RpkiSignature {
     /// The SubjectPublicKeyInfo of the key, with its identifier and length.
     pub key_at: u64,
     pub key_length: u64,
@@ -57,18 +57,18 @@ fn place(start: u64, span: (usize, usize)) -> (u64, u64) {
     )
 }
 
-fn question(
+fn signature_of(
     issuer: &Bytes,
     issuer_at: u64,
     member: &Bytes,
     member_at: u64,
-) -> Result<RpkiQuestion, DecodeError> {
+) -> Result<RpkiSignature, DecodeError> {
     let (key, _) = key_span(issuer)?;
     let (message, signature) = signed_span(member)?;
     let (key_at, key_length) = place(issuer_at, key);
     let (message_at, message_length) = place(member_at, message);
     let (signature_at, signature_length) = place(member_at, signature);
-    Ok(RpkiQuestion {
+    Ok(RpkiSignature {
         key_at,
         key_length,
         message_at,
@@ -78,7 +78,7 @@ fn question(
     })
 }
 
-fn put_questions(members: &[Bytes], out: &mut [RpkiQuestion]) -> u32 {
+fn put_signatures(members: &[Bytes], out: &mut [RpkiSignature]) -> u32 {
     let Some(first) = members.first() else {
         return BAD_CALL;
     };
@@ -88,8 +88,8 @@ fn put_questions(members: &[Bytes], out: &mut [RpkiQuestion]) -> u32 {
     let mut at = 0usize;
     for member in members.iter() {
         if at < out.len() {
-            match question(issuer, issuer_at, member, member_at) {
-                Ok(question) => out[at] = question,
+            match signature_of(issuer, issuer_at, member, member_at) {
+                Ok(signature) => out[at] = signature,
                 Err(error) => return of_decoding(&error),
             }
         }
@@ -105,15 +105,14 @@ fn put_questions(members: &[Bytes], out: &mut [RpkiQuestion]) -> u32 {
 /// each later one's by the key above it. Writes as many as there is room for. Answers 0, or the
 /// number of a fault.
 #[unsafe(no_mangle)]
-pub extern "C" fn rpki_path_questions(
+pub extern "C" fn rpki_path_signatures(
     alloc: Global,
-    octets: &[u8],
-    lengths: &[usize],
-    out: &mut [RpkiQuestion],
+    members: &RpkiStrings<'_>,
+    out: &mut [RpkiSignature],
 ) -> u32 {
-    match cut(alloc, octets, lengths) {
+    match cut(alloc, members.octets, members.lengths) {
         Ok(Some(members)) => {
-            let answer = put_questions(&members, out);
+            let answer = put_signatures(&members, out);
             drop(members);
             answer
         }

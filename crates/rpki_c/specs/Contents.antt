@@ -1,0 +1,84 @@
+-- What a caller is told of a certificate and of a revocation list (own).
+use Rattle.std.specs.Prelude.{◌≡◌, ◌⊎◌, ℕ, Bool, true, List, length, Option, Some, None, replicate}
+use Rattle.std.specs.Int.Digits.{number_from_digits}
+use Rattle.rpki_der.specs.Times.{Moment}
+use Rattle.rpki_blocks.specs.Resources.{Resources, missing, inherit, blocks}
+use Rattle.rpki_blocks.specs.declared.overclaim.Overclaim.{Overclaim}
+use Rattle.rpki_blocks.specs.declared.overclaim.Overclaim.TheVariants.{Refuse, Trim}
+use Rattle.rpki_ext.specs.declared.key_usage.KeyUsage.{KeyUsage}
+use Rattle.rpki_ext.specs.declared.key_usage.KeyUsage.TheVariants.{Ca, Ee}
+use Rattle.rpki_ext.specs.Kinds.{Means}
+use Rattle.rpki_cert.specs.Certificates.{TbsFields, CertFields, IsCertificate}
+use Rattle.rpki_crl.specs.Lists.{ListFields}
+use Rattle.rpki_crl.specs.RevokedEntries.{Revoked}
+use Rattle.rpki_c.specs.TimeParts.{moment_of_parts}
+use Rattle.rpki_c.specs.declared.certificates.RpkiCertificate.{RpkiCertificate}
+use Rattle.rpki_c.specs.declared.lists.RpkiList.{RpkiList}
+use Rattle.rpki_c.specs.declared.moments.RpkiTime.{RpkiTime}
+
+-- the octets begin with no certificate
+abbrev pub BeginsNoCertificate : List ℕ → Type 0
+BeginsNoCertificate octets = (c : CertFields) → Means IsCertificate c octets → ⊥
+
+-- 1 where it is so, and else 0
+abbrev pub IsFlag : Type 0 → ℕ → Type 0
+IsFlag P n = (P × (n ≡ 1)) ⊎ ((P → ⊥) × (n ≡ 0))
+
+-- the moment of these parts, and no more
+abbrev pub IsTimeOf : Moment → RpkiTime → Type 0
+IsTimeOf m parts = (m ≡ moment_of_parts parts) × (parts.unused ≡ 0)
+
+-- the number, in octets of which the first is the greatest
+abbrev pub IsNumberOf : ℕ → List ℕ → Type 0
+IsNumberOf n octets = number_from_digits 256 octets ≡ n
+
+-- how resources of a kind are there
+abbrev pub state_number : Resources → ℕ
+state_number missing = 0
+state_number inherit = 1
+state_number (blocks bs) = 2
+
+abbrev pub usage_number : KeyUsage → ℕ
+usage_number Ca = 0
+usage_number Ee = 1
+
+abbrev pub overclaim_number : Overclaim → ℕ
+overclaim_number Refuse = 0
+overclaim_number Trim = 1
+
+-- whether there is an identifier
+abbrev pub presence_number : Option (List ℕ) → ℕ
+presence_number None = 0
+presence_number (Some identifier) = 1
+
+-- the identifier, and zeros where there is none
+abbrev pub identifier_octets : Option (List ℕ) → List ℕ
+identifier_octets None = replicate 20 0
+identifier_octets (Some identifier) = identifier
+
+-- the keys and the serial number are those of the fields
+pub record TellsKeys (f : TbsFields) (it : RpkiCertificate) : Type 0 where
+  pub serial : IsNumberOf f.serial it.serial
+  pub subject_key : it.subject_key ≡ f.extensions.subject_key_identifier
+  pub has_authority_key : it.has_authority_key ≡ presence_number f.extensions.authority_key_identifier
+  pub authority_key : it.authority_key ≡ identifier_octets f.extensions.authority_key_identifier
+
+-- each number is that of its field
+pub record TellsCertificate (f : TbsFields) (it : RpkiCertificate) : Type 0 where
+  pub keys : TellsKeys f it
+  pub not_before : IsTimeOf f.validity.not_before it.not_before
+  pub not_after : IsTimeOf f.validity.not_after it.not_after
+  pub is_authority : IsFlag (f.extensions.basic_ca ≡ Some true) it.is_authority
+  pub key_usage : it.key_usage ≡ usage_number f.extensions.key_usage
+  pub overclaim : it.overclaim ≡ overclaim_number f.extensions.overclaim
+  pub v4 : it.v4 ≡ state_number f.extensions.v4_resources
+  pub v6 : it.v6 ≡ state_number f.extensions.v6_resources
+  pub asn : it.asn ≡ state_number f.extensions.as_resources
+
+-- each number is that of its field, and the entries are counted
+pub record TellsList (f : ListFields Revoked) (it : RpkiList) : Type 0 where
+  pub this_update : IsTimeOf f.this_update it.this_update
+  pub next_update : IsTimeOf f.next_update it.next_update
+  pub entries : it.entries ≡ length f.revoked.entries
+  pub number : IsNumberOf f.extensions.crl_number it.number
+  pub authority_key : it.authority_key ≡ f.extensions.authority_key_identifier

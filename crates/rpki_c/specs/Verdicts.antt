@@ -1,0 +1,124 @@
+-- What is answered to a question about a path, and what is then told of it (own).
+use Rattle.std.specs.Prelude.{◌≡◌, ◌≢◌, ◌⊎◌, ◌<◌, ℕ, Bool, true, false, List, [], length, sum, get_or, Result, Ok, Err}
+use Rattle.std.specs.List.{AllZip}
+use Rattle.rpki_ext.specs.Kinds.{Means}
+use Rattle.rpki_der.specs.Place.{Rejects}
+use Rattle.rpki_parts.specs.Signatures.{Verifies}
+use Rattle.rpki_cert.specs.Verification.{Context, context}
+use Rattle.rpki_crl.specs.Lists.{CrlFields, CrlState, IsCertificateList}
+use Rattle.rpki_revocation.specs.Asking.{RevocationChecks, nobody}
+use Rattle.rpki_revocation.specs.AskedLists.{by_lists}
+use Rattle.rpki_tal.specs.LocatorFaults.{RejectsTal}
+use Rattle.rpki_tal.specs.Locators.{TalFields, IsLocator}
+use Rattle.rpki_path.specs.GivenPaths.{PathStrings, CanEndIn, IsSplitAs}
+use Rattle.rpki_path.specs.Judging.{Judges, IsAcceptedWith}
+use Rattle.rpki_path.specs.LocatedPaths.{IsLocatorOf, BeginsWithOtherKey}
+use Rattle.rpki_path.specs.Paths.Steps.{IsUnread}
+use Rattle.rpki_path.specs.declared.judging.Judged.{Judged}
+use Rattle.rpki_c.specs.Questions.{HasTerms, HasNoTerms}
+use Rattle.rpki_c.specs.Strings.{AreCut}
+use Rattle.rpki_c.specs.declared.question.RpkiQuestion.{RpkiQuestion}
+use Rattle.rpki_c.specs.declared.question.Terms.{Terms}
+use Rattle.rpki_c.specs.declared.refusal.Refusal.{Refusal}
+use Rattle.rpki_c.specs.declared.refusal.Refusal.TheVariants as refusal
+use Rattle.rpki_c.specs.declared.strings.RpkiStrings.{RpkiStrings}
+
+-- ---- the strings of a question
+
+-- these are the caller's octets, cut as the lengths say
+abbrev pub AreStringsOf : RpkiStrings → List (List ℕ) → Type 0
+AreStringsOf s strings = AreCut s.octets.now s.lengths.now strings
+
+-- the lengths don't add up to the octets
+abbrev pub DontAddUp : RpkiStrings → Type 0
+DontAddUp s = sum s.lengths.now ≢ length s.octets.now
+
+-- ---- why there is no judgement
+
+-- it is an error of which this holds
+abbrev pub Refused : (Refusal → Type 0) → Result Judged Refusal → Type 0
+Refused P (Ok judged) = ⊥
+Refused P (Err r) = P r
+
+-- the call doesn't fit, or memory ran out
+abbrev pub IsUncalled : Type 0 → Refusal → Type 0
+IsUncalled P refusal.BadCall = P
+IsUncalled P refusal.Memory = Unit {0}
+IsUncalled P _ = ⊥
+
+-- the octets begin with no list
+abbrev pub BeginsNoList : List ℕ → Type 0
+BeginsNoList octets = (l : CrlFields) → Means IsCertificateList l octets → ⊥
+
+-- the octets of the list at this place begin with none
+abbrev pub IsUnreadList : List (List ℕ) → Refusal → Type 0
+IsUnreadList strings (refusal.List place e) = (place < length strings) × Rejects e (BeginsNoList (get_or strings place []))
+IsUnreadList strings refusal.Memory = Unit {0}
+IsUnreadList strings _ = ⊥
+
+-- the locator's file is none, or the trust anchor's octets don't begin with a certificate that has
+-- its key
+abbrev pub IsUntrusted : Bool → List ℕ → List ℕ → Refusal → Type 0
+IsUntrusted strict locator anchor (refusal.Locator e) = RejectsTal strict e locator
+IsUntrusted strict locator anchor refusal.OtherKey =
+    (t : TalFields) × IsLocator strict t locator × BeginsWithOtherKey t anchor
+IsUntrusted strict locator anchor (refusal.Member e) = (e.index ≡ 0) × IsUnread anchor e.fault
+IsUntrusted strict locator anchor refusal.Memory = Unit {0}
+IsUntrusted strict locator anchor _ = ⊥
+
+-- ---- answers
+
+-- that the path is accepted, or what is wrong of its first wrong member, where these are asked for
+-- revocation
+abbrev pub Tells : Context → RevocationChecks → PathStrings → Result Judged Refusal → Type 0
+Tells x asked path (Ok judged) = IsAcceptedWith x asked path judged
+Tells x asked path (Err (refusal.Member e)) = Judges x asked path (Err e)
+Tells x asked path _ = ⊥
+
+-- the octets begin with this list
+abbrev pub BeginsWithList : List ℕ → CrlState → Type 0
+BeginsWithList octets l = Means IsCertificateList l.list octets
+
+-- the answer, where the lists with which these octets begin are asked
+abbrev pub AnswersListed : Context → PathStrings → List (List ℕ) → Result Judged Refusal → Type 0
+AnswersListed x path octets r =
+    Refused (IsUnreadList octets) r
+    ⊎ ((lists : List CrlState) × AllZip BeginsWithList octets lists × Tells x (by_lists x lists) path r)
+
+-- the answer, where the caller's lists are asked
+abbrev pub AnswersWith : Context → PathStrings → RpkiStrings → Result Judged Refusal → Type 0
+AnswersWith x path s r =
+    Refused (IsUncalled (DontAddUp s)) r
+    ⊎ ((octets : List (List ℕ)) × AreStringsOf s octets × AnswersListed x path octets r)
+
+-- the answer of a path whose trust anchor is trusted: lists are asked, or nobody is
+abbrev pub AnswersTrusted : Context → RpkiQuestion → Terms → PathStrings → Result Judged Refusal → Type 0
+AnswersTrusted x q t path r =
+    ((t.asks_lists ≡ true) × AnswersWith x path q.lists r) ⊎ ((t.asks_lists ≡ false) × Tells x nobody path r)
+
+-- the trust anchor is taken as it is given, or has the locator's key
+abbrev pub IsTrusted : RpkiQuestion → Terms → List ℕ → Type 0
+IsTrusted q t anchor = (t.asks_locator ≡ false) ⊎ IsLocatorOf t.strict anchor q.locator.now
+
+-- the answer of a path
+abbrev pub AnswersPath : Context → RpkiQuestion → Terms → PathStrings → Result Judged Refusal → Type 0
+AnswersPath x q t path r =
+    ((t.asks_locator ≡ true) × Refused (IsUntrusted t.strict q.locator.now path.anchor) r)
+    ⊎ (IsTrusted q t path.anchor × AnswersTrusted x q t path r)
+
+-- the answer of these strings, of which the last is of the kind that is named
+abbrev pub AnswersStrings : Context → RpkiQuestion → Terms → List (List ℕ) → Result Judged Refusal → Type 0
+AnswersStrings x q t strings r =
+    Refused (IsUncalled (CanEndIn t.last (length strings) → ⊥)) r
+    ⊎ ((path : PathStrings) × CanEndIn t.last (length strings) × IsSplitAs strings t.last path × AnswersPath x q t path r)
+
+-- the answer of the question's members
+abbrev pub AnswersMembers : Verifies → RpkiQuestion → Terms → Result Judged Refusal → Type 0
+AnswersMembers verifies q t r =
+    Refused (IsUncalled (DontAddUp q.members)) r
+    ⊎ ((strings : List (List ℕ)) × AreStringsOf q.members strings × AnswersStrings (context verifies t.now t.strict) q t strings r)
+
+-- the answer to a question, by this relation of signatures
+abbrev pub Answers : Verifies → RpkiQuestion → Result Judged Refusal → Type 0
+Answers verifies q r =
+    Refused (IsUncalled (HasNoTerms q)) r ⊎ ((t : Terms) × HasTerms q t × AnswersMembers verifies q t r)

@@ -1,0 +1,204 @@
+//! The answer to a question about a path.
+ghost use Rattle.std.specs.Prelude.{◌≡◌, IfOk, IfErr, Err};
+ghost use Rattle.rpki_cert.specs.Verification.{context};
+ghost use Rattle.rpki_path.specs.Judging.{Judges};
+ghost use Rattle.rpki_revocation.specs.AskedLists.{by_lists};
+ghost use Rattle.rpki_rsa.specs.RsaSignatures.{IsSignedByRsa};
+ghost use Rattle.rpki_c.specs.Verdicts.{AreStringsOf, DontAddUp, IsUncalled, AnswersListed, AnswersWith, AnswersTrusted, AnswersPath, AnswersStrings, AnswersMembers, Answers};
+
+use crate::lists::lists_of;
+use crate::locators::ask_locator;
+use crate::question::{RpkiQuestion, Terms, terms_of};
+use crate::refusal::Refusal;
+use crate::signatures::answers;
+use crate::strings::{RpkiStrings, cut};
+use bytes::Bytes;
+use rpki_crl::Crl;
+use rpki_parts::Verifier;
+use rpki_path::{GivenPath, Judged, Member, PathError, judge};
+use rpki_revocation::{GivenLists, NobodyAsked};
+use rpki_rsa::RsaVerifier;
+use std::alloc::Global;
+
+// The strings of the caller's octets and lengths.
+fn strings_of(alloc: Global, strings: &RpkiStrings<'_>) -> Result<Vec<Bytes>, Refusal>
+    ensures cut { IfOk result (λ it. AreStringsOf strings.now it.items) }
+    ensures refused { IfErr result (IsUncalled (DontAddUp strings.now)) }
+{
+    match cut(alloc, strings.octets, strings.lengths)? {
+        Some(strings) => Ok(strings),
+        None => Err(Refusal::BadCall),
+    }
+}
+
+// The verdict on the path, where these lists are asked.
+fn judge_lists<V: Verifier>(
+    alloc: Global,
+    path: &GivenPath<'_, '_>,
+    lists: &[Crl],
+    terms: Terms,
+    verifier: &V,
+) -> Result<Judged, PathError>
+    ensures { let x = context (V.verifies verifier.now) terms.now terms.strict in
+        Judges x (by_lists x lists.now) path.now result }
+{
+    let asked = GivenLists::new(lists);
+    judge(alloc, path, &asked, terms.strict, terms.now, verifier)
+}
+
+// The answer of the path, where the lists are asked with which these octets begin.
+fn judge_listed<V: Verifier>(
+    alloc: Global,
+    path: &GivenPath<'_, '_>,
+    octets: &[Bytes],
+    terms: Terms,
+    verifier: &V,
+) -> Result<Judged, Refusal>
+    ensures { let x = context (V.verifies verifier.now) terms.now terms.strict in
+        AnswersListed x path.now octets.now result }
+{
+    let lists = lists_of(alloc, octets)?;
+    let answer = judge_lists(alloc, path, &lists, terms, verifier);
+    drop(lists);
+    Ok(answer?)
+}
+
+// The answer of the path, where the caller's lists are asked.
+fn judge_with<V: Verifier>(
+    alloc: Global,
+    path: &GivenPath<'_, '_>,
+    lists: &RpkiStrings<'_>,
+    terms: Terms,
+    verifier: &V,
+) -> Result<Judged, Refusal>
+    ensures { let x = context (V.verifies verifier.now) terms.now terms.strict in
+        AnswersWith x path.now lists.now result }
+{
+    let octets = strings_of(alloc, lists)?;
+    let answer = judge_listed(alloc, path, &octets, terms, verifier);
+    drop(octets);
+    answer
+}
+
+// The answer of the path, whose trust anchor is trusted.
+fn judge_trusted<V: Verifier>(
+    alloc: Global,
+    path: &GivenPath<'_, '_>,
+    question: &RpkiQuestion<'_>,
+    terms: Terms,
+    verifier: &V,
+) -> Result<Judged, Refusal>
+    ensures { let x = context (V.verifies verifier.now) terms.now terms.strict in
+        AnswersTrusted x question.now terms path.now result }
+{
+    if terms.asks_lists {
+        return judge_with(alloc, path, &question.lists, terms, verifier);
+    }
+    let (strict, now) = (terms.strict, terms.now);
+    Ok(judge(alloc, path, &NobodyAsked, strict, now, verifier)?)
+}
+
+// The answer of the path.
+fn judge_path<V: Verifier>(
+    alloc: Global,
+    path: &GivenPath<'_, '_>,
+    question: &RpkiQuestion<'_>,
+    terms: Terms,
+    verifier: &V,
+) -> Result<Judged, Refusal>
+    ensures { let x = context (V.verifies verifier.now) terms.now terms.strict in
+        AnswersPath x question.now terms path.now result }
+{
+    if terms.asks_locator {
+        ask_locator(alloc, path.anchor, question.locator, terms.strict)?;
+    }
+    judge_trusted(alloc, path, question, terms, verifier)
+}
+
+// The answer to the question, whose members are these.
+fn judge_members<V: Verifier>(
+    alloc: Global,
+    members: &[Member<'_>],
+    question: &RpkiQuestion<'_>,
+    terms: Terms,
+    verifier: &V,
+) -> Result<Judged, Refusal>
+    ensures { let x = context (V.verifies verifier.now) terms.now terms.strict in
+        AnswersStrings x question.now terms members.now result }
+{
+    match GivenPath::of(members, terms.last) {
+        Some(path) => judge_path(alloc, &path, question, terms, verifier),
+        None => Err(Refusal::BadCall),
+    }
+}
+
+// The answer to the question, the octets of whose members are these.
+fn judge_strings<V: Verifier>(
+    alloc: Global,
+    strings: &[Bytes],
+    question: &RpkiQuestion<'_>,
+    terms: Terms,
+    verifier: &V,
+) -> Result<Judged, Refusal>
+    ensures { let x = context (V.verifies verifier.now) terms.now terms.strict in
+        AnswersStrings x question.now terms strings.now result }
+{
+    let members = Member::of_each(alloc, strings)?;
+    let answer = judge_members(alloc, &members, question, terms, verifier);
+    drop(members);
+    answer
+}
+
+// The answer to the question, which has these terms.
+fn judge_terms(alloc: Global, question: &RpkiQuestion<'_>, terms: Terms) -> Result<Judged, Refusal>
+    ensures { AnswersMembers IsSignedByRsa question.now terms result }
+{
+    let strings = strings_of(alloc, &question.members)?;
+    let answer = judge_strings(alloc, &strings, question, terms, &RsaVerifier);
+    drop(strings);
+    answer
+}
+
+/// Answers a question about a path, with signatures as the RPKI has them (RSASSA-PKCS1-v1_5 with
+/// SHA-256).
+pub(crate) fn judge_question(alloc: Global, question: &RpkiQuestion<'_>) -> Result<Judged, Refusal>
+    ensures { Answers IsSignedByRsa question.now result }
+{
+    match terms_of(question) {
+        Some(terms) => judge_terms(alloc, question, terms),
+        None => Err(Refusal::BadCall),
+    }
+}
+
+// The answer to the question, by the signatures that the caller said yes to.
+fn judge_said(
+    alloc: Global,
+    strings: &[Bytes],
+    question: &RpkiQuestion<'_>,
+    terms: Terms,
+    yes: &[u8],
+) -> Result<Judged, Refusal> {
+    let verifier = answers(alloc, strings, yes)?;
+    let answer = judge_strings(alloc, strings, question, terms, &verifier);
+    drop(verifier);
+    answer
+}
+
+/// Answers a question about a path that asks no lists, with signatures that the caller has checked:
+/// of each member, whether an octet 1 says that its signature is good.
+pub(crate) fn judge_question_said(
+    alloc: Global,
+    question: &RpkiQuestion<'_>,
+    yes: &[u8],
+) -> Result<Judged, Refusal> {
+    let Some(terms) = terms_of(question) else {
+        return Err(Refusal::BadCall);
+    };
+    if terms.asks_lists {
+        return Err(Refusal::BadCall);
+    }
+    let strings = strings_of(alloc, &question.members)?;
+    let answer = judge_said(alloc, &strings, question, terms, yes);
+    drop(strings);
+    answer
+}

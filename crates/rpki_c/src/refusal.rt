@@ -1,0 +1,71 @@
+//! Why a path isn't accepted.
+ghost use Rattle.rpki_c.specs.declared.refusal.Refusal.TheVariants as refusal;
+
+use rpki_der::DecodeError;
+use rpki_path::PathError;
+use rpki_tal::TalError;
+use std::alloc::AllocError;
+
+/// Why a path isn't accepted, or isn't judged at all.
+#[derive(Drop)]
+pub(crate) enum Refusal {
+    /// The caller's lengths or numbers don't fit.
+    BadCall,
+    /// Memory ran out before a member was judged.
+    Memory,
+    /// The locator's octets are none.
+    Locator(TalError),
+    /// The trust anchor's key isn't the locator's.
+    OtherKey,
+    /// The octets of the list at this place are none.
+    List(usize, DecodeError),
+    /// A member is wrong.
+    Member(PathError),
+}
+
+impl Refusal {
+    ghost use Rattle.std.specs.Prelude.{◌≡◌};
+    ghost use Rattle.rpki_c.specs.Telling.{refusal_place, told_place};
+
+    /// Returns the place of what is wrong, of a question of so many members, as a verdict tells it.
+    pub(crate) fn index(&self, members: usize) -> u32
+        ensures { result ≡ told_place (refusal_place members self.now) }
+    {
+        let place = match self {
+            Refusal::Member(error) => error.index,
+            Refusal::List(place, _) => members.saturating_add(*place),
+            _ => 0,
+        };
+        u32::try_from(place).unwrap_or(u32::MAX)
+    }
+}
+
+impl From<AllocError> for Refusal {
+    ghost use Rattle.std.specs.Prelude.{◌≡◌};
+
+    ghost from_gives = { λ _ r. r ≡ refusal.Memory };
+
+    fn from(_error: AllocError) -> Refusal {
+        Refusal::Memory
+    }
+}
+
+impl From<TalError> for Refusal {
+    ghost use Rattle.std.specs.Prelude.{◌≡◌};
+
+    ghost from_gives = { λ error r. r ≡ refusal.Locator error };
+
+    fn from(error: TalError) -> Refusal {
+        Refusal::Locator(error)
+    }
+}
+
+impl From<PathError> for Refusal {
+    ghost use Rattle.std.specs.Prelude.{◌≡◌};
+
+    ghost from_gives = { λ error r. r ≡ refusal.Member error };
+
+    fn from(error: PathError) -> Refusal {
+        Refusal::Member(error)
+    }
+}
