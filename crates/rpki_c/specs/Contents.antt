@@ -1,5 +1,5 @@
 -- What a caller is told of a certificate and of a revocation list (own).
-use Rattle.std.specs.Prelude.{◌≡◌, ◌⊎◌, ℕ, Bool, true, List, length, Option, Some, None, replicate}
+use Rattle.std.specs.Prelude.{◌≡◌, ◌⊎◌, ◌-◌, ◌^◌, ℕ, Bool, true, List, length, min, Option, Some, None, replicate}
 use Rattle.std.specs.Int.Digits.{number_from_digits}
 use Rattle.rpki_der.specs.Times.{Moment}
 use Rattle.rpki_blocks.specs.Resources.{Resources, missing, inherit, blocks}
@@ -75,10 +75,14 @@ pub record TellsCertificate (f : TbsFields) (it : RpkiCertificate) : Type 0 wher
   pub v6 : it.v6 ≡ state_number f.extensions.v6_resources
   pub asn : it.asn ≡ state_number f.extensions.as_resources
 
+-- a count, or the greatest number of 64 bits where it is greater
+abbrev pub told_count : ℕ → ℕ
+told_count count = min count (2 ^ 64 - 1)
+
 -- each number is that of its field, and the entries are counted
 pub record TellsList (f : ListFields Revoked) (it : RpkiList) : Type 0 where
   pub this_update : IsTimeOf f.this_update it.this_update
   pub next_update : IsTimeOf f.next_update it.next_update
-  pub entries : it.entries ≡ length f.revoked.entries
+  pub entries : it.entries ≡ told_count (length f.revoked.entries)
   pub number : IsNumberOf f.extensions.crl_number it.number
   pub authority_key : it.authority_key ≡ f.extensions.authority_key_identifier

@@ -1,10 +1,10 @@
 //! Revocation lists for C.
-ghost use Rattle.std.specs.Prelude.{◌≡◌, ◌≢◌, ◌*◌, ◌↔◌, ◌++◌, ◌∷◌, [], length, IsTrue, OnOk, IfOk, IfErr};
+ghost use Rattle.std.specs.Prelude.{◌≡◌, ◌≢◌, ◌≤◌, ◌*◌, ◌^◌, ◌↔◌, ◌++◌, ◌∷◌, [], length, IsTrue, IsNone, OnOk, IfOk, IfErr, IfSome};
 ghost use Rattle.std.specs.List.{AllZip};
 ghost use Rattle.rpki_der.specs.Place.{MeansOrMemoryBy};
 ghost use Rattle.rpki_ext.specs.Kinds.{Means};
 ghost use Rattle.rpki_crl.specs.Lists.{CrlFields, IsCertificateList};
-ghost use Rattle.rpki_c.specs.Contents.{TellsList};
+ghost use Rattle.rpki_c.specs.Contents.{TellsList, told_count};
 ghost use Rattle.rpki_c.specs.Verdicts.{BeginsNoList, BeginsWithList, IsUnreadList};
 
 use crate::copying::put_octets;
@@ -36,10 +36,22 @@ pub struct RpkiEntry {
     pub serial: [u8; 20],
 }
 
-fn entries(list: &Crl) -> u64
-    ensures { result ≡ length list.now.list.fields.revoked.entries }
+// How many entries there are; nothing where 64 bits can't tell.
+fn count_of(list: &Crl) -> Option<u64>
+    ensures some { IfSome result (λ n. n ≡ length list.now.list.fields.revoked.entries) }
+    ensures none { IsNone result → 2 ^ 64 ≤ length list.now.list.fields.revoked.entries }
 {
-    list.as_cert_list().revoked_certs().iter().count() as u64
+    let mut count = 0u64;
+    for _entry in list.as_cert_list().revoked_certs().iter() {
+        count = count.checked_add(1)?;
+    }
+    Some(count)
+}
+
+fn entries(list: &Crl) -> u64
+    ensures { result ≡ told_count (length list.now.list.fields.revoked.entries) }
+{
+    count_of(list).unwrap_or(u64::MAX)
 }
 
 fn put_list(list: &Crl, out: &mut RpkiList)
