@@ -1,5 +1,5 @@
 -- What a caller is told of a certificate and of a revocation list (own).
-use Rattle.std.specs.Prelude.{◌≡◌, ◌⊎◌, ◌-◌, ◌^◌, ℕ, Bool, true, List, length, min, Option, Some, None, replicate}
+use Rattle.std.specs.Prelude.{◌≡◌, ◌⊎◌, ◌+◌, ◌-◌, ◌*◌, ◌^◌, ◌<◌, ℕ, Bool, true, List, length, get_or, slice_range, min, Option, Some, None, replicate}
 use Rattle.std.specs.Int.Digits.{number_from_digits}
 use Rattle.rpki_der.specs.Times.{Moment}
 use Rattle.rpki_blocks.specs.Resources.{Resources, missing, inherit, blocks}
@@ -10,7 +10,7 @@ use Rattle.rpki_ext.specs.declared.key_usage.KeyUsage.TheVariants.{Ca, Ee}
 use Rattle.rpki_ext.specs.Kinds.{Means}
 use Rattle.rpki_cert.specs.Certificates.{TbsFields, CertFields, IsCertificate}
 use Rattle.rpki_crl.specs.Lists.{ListFields}
-use Rattle.rpki_crl.specs.RevokedEntries.{Revoked}
+use Rattle.rpki_crl.specs.RevokedEntries.{Entry, IsRevoked, Revoked}
 use Rattle.rpki_c.specs.TimeParts.{moment_of_parts}
 use Rattle.rpki_c.specs.declared.certificates.RpkiCertificate.{RpkiCertificate}
 use Rattle.rpki_c.specs.declared.lists.RpkiList.{RpkiList}
@@ -86,3 +86,12 @@ pub record TellsList (f : ListFields Revoked) (it : RpkiList) : Type 0 where
   pub entries : it.entries ≡ told_count (length f.revoked.entries)
   pub number : IsNumberOf f.extensions.crl_number it.number
   pub authority_key : it.authority_key ≡ f.extensions.authority_key_identifier
+
+-- the serial number at this place: 20 octets, of which the first is the greatest
+abbrev pub serial_number : List ℕ → ℕ → ℕ
+serial_number serials i = number_from_digits 256 (slice_range serials (20 * i) (20 * i + 20))
+
+-- each answer is 1 where these entries have the serial number at its place, and else 0
+abbrev pub AreAnswers : List Entry → List ℕ → List ℕ → Type 0
+AreAnswers entries serials answers =
+    (i : ℕ) → i < length answers → IsFlag (IsRevoked (serial_number serials i) entries) (get_or answers i 0)

@@ -4,7 +4,8 @@ ghost use Rattle.std.specs.List.{AllZip};
 ghost use Rattle.rpki_der.specs.Place.{MeansOrMemoryBy};
 ghost use Rattle.rpki_ext.specs.Kinds.{Means};
 ghost use Rattle.rpki_crl.specs.Lists.{CrlFields, IsCertificateList};
-ghost use Rattle.rpki_c.specs.Contents.{TellsList, told_count};
+ghost use Rattle.rpki_crl.specs.RevokedEntries.{IsRevoked};
+ghost use Rattle.rpki_c.specs.Contents.{AreAnswers, IsFlag, TellsList, serial_number, told_count};
 ghost use Rattle.rpki_c.specs.Verdicts.{BeginsNoList, BeginsWithList, IsUnreadList};
 
 use crate::copying::put_octets;
@@ -161,7 +162,10 @@ pub extern "C" fn rpki_list_issuer(
     }
 }
 
-fn serial_at(serials: &[u8], at: usize) -> Option<Serial> {
+// The serial number at this place.
+fn serial_at(serials: &[u8], at: usize) -> Option<Serial>
+    ensures { IfSome result (λ s. s ≡ serial_number serials.now at) }
+{
     let from = at.checked_mul(20)?;
     let to = from.checked_add(20)?;
     Serial::from_slice(serials.get(from..to)?)
@@ -174,16 +178,45 @@ fn add_up(serials: &[u8], answers: &[u8]) -> bool
     serials.len() % 20 == 0 && serials.len() / 20 == answers.len()
 }
 
-fn put_answers(list: &Crl, serials: &[u8], answers: &mut [u8]) -> u32 {
-    let mut at = 0usize;
-    for answer in answers.iter_mut() {
+// 1 where the list revokes the serial number, and else 0.
+fn answer_of(list: &Crl, serial: Serial) -> u8
+    ensures { IsFlag (IsRevoked serial list.now.list.fields.revoked.entries) result }
+{
+    if list.contains(serial) { 1 } else { 0 }
+}
+
+fn put_answers(list: &Crl, serials: &[u8], answers: &mut [u8]) -> u32
+    ensures answers { result ≡ NONE
+        → AreAnswers list.now.list.fields.revoked.entries serials.now answers.new }
+    ensures fault { result ≢ NONE → result ≡ BAD_CALL }
+{
+    for at in 0..answers.len() {
         match serial_at(serials, at) {
-            Some(serial) => *answer = if list.contains(serial) { 1 } else { 0 },
+            Some(serial) => answers[at] = answer_of(list, serial),
             None => return BAD_CALL,
         }
-        at = at.wrapping_add(1);
     }
     NONE
+}
+
+// The list that the octets begin with, with its serial numbers in a table where several are asked
+// for.
+fn list_for(alloc: Global, octets: &[u8], count: usize) -> Result<Crl, u32>
+    ensures read { IfOk result (λ l. Means IsCertificateList l.list octets.now) }
+    ensures fault { IfErr result (λ fault. (fault ≢ NONE) × (fault ≢ BAD_CALL)) }
+    ensures unread { IfErr result (λ fault. fault ≢ MEMORY → BeginsNoList octets.now) }
+{
+    let mut list = decoded(alloc, octets)?;
+    if count < 2 {
+        return Ok(list);
+    }
+    match list.cache_serials(alloc) {
+        Ok(()) => Ok(list),
+        Err(_) => {
+            drop(list);
+            Err(MEMORY)
+        }
+    }
 }
 
 /// Asks the list for serial numbers, which stand one behind the other in 20 octets each, and writes
@@ -198,16 +231,15 @@ pub extern "C" fn rpki_list_ask(
     answers: &mut [u8],
 ) -> u32
     ensures bad_call { (length serials.now ≢ 20 * length answers.old) → result ≡ BAD_CALL }
+    ensures answers { result ≡ NONE → (l : CrlFields) × Means IsCertificateList l octets.now
+        × AreAnswers l.fields.revoked.entries serials.now answers.new }
+    ensures unread { result ≢ NONE → result ≢ MEMORY → result ≢ BAD_CALL → BeginsNoList octets.now }
 {
     if !add_up(serials, answers) {
         return BAD_CALL;
     }
-    match decoded(alloc, octets) {
-        Ok(mut list) => {
-            if answers.len() > 1 && list.cache_serials(alloc).is_err() {
-                drop(list);
-                return MEMORY;
-            }
+    match list_for(alloc, octets, answers.len()) {
+        Ok(list) => {
             let answer = put_answers(&list, serials, answers);
             drop(list);
             answer
