@@ -206,6 +206,14 @@ def _as_numbers(ranges: Sequence[raw.AsRange]) -> AsNumbers:
 
 # ---- certificates
 
+Octets = Union[bytes, bytearray, memoryview]
+
+
+def _bytes(octets: Octets) -> bytes:
+    """The octets of a bytes-like object as they are now. Of a number, of which bytes() makes zeros,
+    and of a text this raises TypeError."""
+    return octets if isinstance(octets, bytes) else bytes(memoryview(octets))
+
 
 class Kind(enum.Enum):
     """What a certificate is judged as."""
@@ -249,8 +257,8 @@ class Certificate:
     Raises DecodeFault where the octets begin with none.
     """
 
-    def __init__(self, octets: bytes) -> None:
-        self.octets = bytes(octets)
+    def __init__(self, octets: Octets) -> None:
+        self.octets = _bytes(octets)
         """The octets that were given."""
         try:
             self._read = raw.certificate(self.octets)
@@ -370,8 +378,8 @@ class RevocationList:
     Raises DecodeFault where the octets begin with none.
     """
 
-    def __init__(self, octets: bytes) -> None:
-        self.octets = bytes(octets)
+    def __init__(self, octets: Octets) -> None:
+        self.octets = _bytes(octets)
         """The octets that were given."""
         try:
             self._read = raw.revocation_list(self.octets)
@@ -422,16 +430,16 @@ class RevocationList:
 # ---- paths
 
 
-def _octets(what: bytes | Certificate | RevocationList) -> bytes:
-    return what if isinstance(what, bytes) else what.octets
+def _octets(what: Octets | Certificate | RevocationList) -> bytes:
+    return what.octets if isinstance(what, (Certificate, RevocationList)) else _bytes(what)
 
 
 def validate(
-    members: Sequence[bytes | Certificate],
+    members: Sequence[Octets | Certificate],
     *,
     last: Kind,
-    lists: Sequence[bytes | RevocationList] | None = None,
-    locator: bytes | None = None,
+    lists: Sequence[Octets | RevocationList] | None = None,
+    locator: Octets | None = None,
     at: datetime | None = None,
     strict: bool = True,
     chain_names: bool = True,
@@ -458,7 +466,8 @@ def validate(
     all_members = [_octets(it) for it in members]
     now = _time(datetime.now(timezone.utc) if at is None else at)
     all_lists = None if lists is None else [_octets(it) for it in lists]
-    asked = raw.question(all_members, last.value, now, strict, all_lists, locator)
+    key = None if locator is None else _bytes(locator)
+    asked = raw.question(all_members, last.value, now, strict, all_lists, key)
     fault, index, held = raw.judge(asked)
     if fault // 100 == 7:
         _raise(fault)

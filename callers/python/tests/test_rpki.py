@@ -9,7 +9,7 @@ import threading
 import unittest
 from datetime import datetime, timedelta, timezone
 from pathlib import Path
-from typing import Any
+from typing import Any, cast
 
 import rpki
 from rpki import INHERIT, AsNumbers, Certificate, Entry, Kind, RevocationList, validate
@@ -85,6 +85,18 @@ class Certificates(unittest.TestCase):
                 Certificate(other)
         self.assertEqual(Certificate(octets("first.cer") + b"more").serial_number, 2)
 
+    def test_values_that_lend_octets(self) -> None:
+        mutable = bytearray(octets("first.cer"))
+        it = Certificate(mutable)
+        words = memoryview(mutable + bytes(-len(mutable) % 4)).cast("I")
+        self.assertEqual(Certificate(words).octets, words.tobytes())
+        mutable.clear()
+        self.assertEqual(it.octets, octets("first.cer"))
+        for other in (5, True, None, "text", list(octets("first.cer"))):
+            for read in (Certificate, RevocationList):
+                with self.assertRaises(TypeError):
+                    read(cast(Any, other))
+
 
 class Lists(unittest.TestCase):
     def test_fields(self) -> None:
@@ -130,6 +142,20 @@ class Paths(unittest.TestCase):
         members = [Certificate(it) for it in self.members]
         lists = [RevocationList(it) for it in self.lists]
         self.assertTrue(validate(members, last=Kind.DETACHED, lists=lists, at=self.noon).ipv4)
+
+    def test_values_that_lend_octets(self) -> None:
+        members, lists = map(bytearray, self.members), map(memoryview, self.lists)
+        key = memoryview(octets("anchor.tal"))
+        asked: dict[str, Any] = {"last": Kind.END_ENTITY, "at": self.noon}
+        self.assertTrue(validate([*members], lists=[*lists], locator=key, **asked).ipv4)
+        for other in (5, None, "text", "", False):
+            with self.assertRaises(TypeError):
+                validate([cast(Any, other)], **asked)
+            with self.assertRaises(TypeError):
+                validate(self.members, lists=[cast(Any, other)], **asked)
+        for no_locator in (5, "text", "", False):
+            with self.assertRaises(TypeError):
+                validate(self.members, locator=cast(Any, no_locator), **asked)
 
     def rejects(
         self,
