@@ -245,9 +245,13 @@ def _moment(it: raw.Time) -> datetime:
 
 
 def _time(moment: datetime) -> raw.Time:
-    if moment.tzinfo is None:
+    # without an offset, astimezone() takes the moment as one of this machine's zone
+    if moment.utcoffset() is None:
         raise ValueError("the moment has no time zone: datetime.now(timezone.utc) has")
-    it = moment.astimezone(timezone.utc)
+    try:
+        it = moment.astimezone(timezone.utc)
+    except OverflowError as error:
+        raise ValueError("the moment is outside the years 1 to 9999 of UTC") from error
     return raw.Time(it.year, it.month, it.day, it.hour, it.minute, it.second)
 
 

@@ -7,7 +7,7 @@ tests/files.
 import ipaddress
 import threading
 import unittest
-from datetime import datetime, timedelta, timezone
+from datetime import datetime, timedelta, timezone, tzinfo
 from pathlib import Path
 from typing import Any, cast
 
@@ -206,6 +206,20 @@ class Paths(unittest.TestCase):
                 validate(members, last=last, at=self.noon)
         with self.assertRaises(ValueError):
             validate(self.members, last=Kind.END_ENTITY, at=datetime(2026, 6, 1))
+
+    def test_moments_without_offset_or_year(self) -> None:
+        class Zone(tzinfo):
+            def utcoffset(self, _: datetime | None) -> None:
+                return None
+
+            dst = tzname = utcoffset
+
+        west, east = timezone(timedelta(hours=-12)), timezone(timedelta(hours=12))
+        none = [datetime(2026, 6, 1, tzinfo=Zone())]
+        none += [datetime.max.replace(tzinfo=west), datetime.min.replace(tzinfo=east)]
+        for at in none:
+            with self.assertRaises(ValueError):
+                validate(self.members, last=Kind.END_ENTITY, at=at)
 
     def test_other_time_zones(self) -> None:
         west = timezone(timedelta(hours=-12))
