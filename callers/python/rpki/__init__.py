@@ -354,7 +354,7 @@ class Certificate:
     def inspect(self, kind: Kind, strict: bool = True) -> None:
         """Checks that it meets the profile of a kind, and raises InspectionFault where it doesn't.
         Leniently, names may have other strings than RFC 6487 4.4 asks."""
-        _raise(raw.inspect(self.octets, kind.value, strict))
+        _raise(raw.inspect(self.octets, Kind(kind).value, strict))
 
     def meets(self, kind: Kind, strict: bool = True) -> bool:
         """Tells whether it meets the profile of a kind."""
@@ -471,7 +471,7 @@ def validate(
     now = _time(datetime.now(timezone.utc) if at is None else at)
     all_lists = None if lists is None else [_octets(it) for it in lists]
     key = None if locator is None else _bytes(locator)
-    asked = raw.question(all_members, last.value, now, strict, all_lists, key)
+    asked = raw.question(all_members, Kind(last).value, now, strict, all_lists, key)
     fault, index, held = raw.judge(asked)
     if fault // 100 == 7:
         _raise(fault)

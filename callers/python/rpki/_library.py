@@ -170,7 +170,7 @@ def question(
         *octets_of(locator or b""),
         now,
         last,
-        strict,
+        strict != 0,
         lists is None,
         locator is None,
     )
@@ -222,7 +222,8 @@ def certificate(octets: bytes) -> Certificate:
 
 def inspect(octets: bytes, kind: int, strict: bool) -> int:
     """The fault of the certificate as one of the kind, or OK."""
-    fault: int = lib.rpki_certificate_inspect(*octets_of(octets), c_uint32(kind), c_uint32(strict))
+    numbers = c_uint32(kind), c_uint32(strict != 0)
+    fault: int = lib.rpki_certificate_inspect(*octets_of(octets), *numbers)
     return fault
 
 

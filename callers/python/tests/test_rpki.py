@@ -79,6 +79,15 @@ class Certificates(unittest.TestCase):
             it.inspect(Kind.AUTHORITY)
         self.assertTrue(300 <= caught.exception.number < 400)
 
+    def test_numbers_as_modes_and_kinds(self) -> None:
+        it = Certificate((TOP / "tests" / "files" / "odd_name_utf8.cer").read_bytes())
+        kind = next(kind for kind in Kind if it.meets(kind, strict=False))
+        for strict in (True, 1, 256, 1 << 32, 1 << 64, "", None):
+            self.assertFalse(it.meets(kind, cast(Any, strict)))
+        for none in (5, (1 << 32) + kind.value, INHERIT, None):
+            with self.assertRaises(ValueError):
+                it.meets(cast(Any, none), strict=False)
+
     def test_other_octets(self) -> None:
         for other in (b"", b"\x30\x00", octets("first.crl"), octets("first.cer")[:-1]):
             with self.assertRaises(rpki.DecodeFault):
@@ -189,6 +198,12 @@ class Paths(unittest.TestCase):
         path = self.members[1:3]
         self.rejects("OtherKey", rpki.LocatorFault, 0, path, locator=octets("anchor.tal"))
         self.rejects("NoUri", rpki.LocatorFault, None, self.members[:1], locator=b"\n")
+        latin = b"# \xe9\n" + octets("anchor.tal")
+        asked: dict[str, Any] = {"last": Kind.AUTHORITY, "locator": latin, "at": self.noon}
+        self.assertTrue(validate(self.members[:1], strict=False, **asked))
+        for strict in (True, 1 << 32, None):
+            members = self.members[:1]
+            self.rejects("NoText", rpki.LocatorFault, None, members, locator=latin, strict=strict)
 
     def test_lists_that_are_none(self) -> None:
         with self.assertRaises(rpki.DecodeFault) as caught:
