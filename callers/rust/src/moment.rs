@@ -28,7 +28,8 @@ impl Moment {
         Moment::from_timestamp(passed.map_or(0, |it| it.as_secs()))
     }
 
-    /// Returns the moment so many seconds after 1970-01-01T00:00:00Z, without leap seconds.
+    /// Returns the moment so many seconds after 1970-01-01T00:00:00Z, without leap seconds. Behind
+    /// the year 9999 there is none: a call that takes what is returned there has a bad call's fault.
     pub fn from_timestamp(seconds: u64) -> Moment {
         let (days, rest) = (seconds / 86_400, seconds % 86_400);
         // the days from 1 March of the year 0, in eras of 400 years
@@ -45,7 +46,7 @@ impl Moment {
         };
         let year = era * 400 + year + u64::from(month <= 2);
         Moment::new(
-            year as u16,
+            u16::try_from(year).unwrap_or(u16::MAX),
             month as u8,
             day as u8,
             (rest / 3_600) as u8,

@@ -193,6 +193,28 @@ fn moments_are_those_of_the_calendar() {
 }
 
 #[test]
+fn moments_behind_the_calendar_are_none() {
+    let anchor = octets("anchor.cer");
+    let members = [anchor.as_slice()];
+    let path = Path::new(&members, Kind::TrustAnchor);
+    let noon = 1_780_315_200;
+    assert_eq!(Moment::from_timestamp(noon), at(NOON));
+    assert!(path.validate(Moment::from_timestamp(noon)).is_ok());
+    // noon of the year 67562, whose low 16 bits are those of 2026
+    let later = 2_069_896_680_000;
+    for seconds in [
+        253_402_300_800,
+        later,
+        noon * 1_000,
+        noon * 1_000_000,
+        u64::MAX,
+    ] {
+        let fault = path.validate(Moment::from_timestamp(seconds)).unwrap_err();
+        assert_eq!(fault.kind(), FaultKind::BadCall, "{seconds}");
+    }
+}
+
+#[test]
 fn values_go_between_threads() {
     fn is<T: Send + Sync + 'static>() {}
     is::<Certificate>();
