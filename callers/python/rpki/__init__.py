@@ -74,6 +74,10 @@ class Fault(Exception):
         place = "".join(f"{what} {at}: " for what, at in places if at is not None)
         super().__init__(f"{place}{self.sentence} ({self.name})")
 
+    def __reduce__(self) -> tuple[type[Fault], tuple[int, int | None, int | None]]:
+        """Makes it anew of what it was made of, in another process too."""
+        return type(self), (self.number, self.member, self.revocation_list)
+
 
 class DecodeFault(Fault):
     """The octets begin with no certificate, or with no revocation list."""

@@ -4,7 +4,9 @@ tests/files.
     PYTHONPATH=callers/python RPKI_LIBRARY=FOLDER python3 -m unittest discover -s callers/python/tests
 """
 
+import copy
 import ipaddress
+import pickle
 import threading
 import unittest
 from datetime import datetime, timedelta, timezone, tzinfo
@@ -204,6 +206,13 @@ class Paths(unittest.TestCase):
         for strict in (True, 1 << 32, None):
             members = self.members[:1]
             self.rejects("NoText", rpki.LocatorFault, None, members, locator=latin, strict=strict)
+
+    def test_faults_go_between_processes(self) -> None:
+        faults = [rpki.VerificationFault(408, 2), rpki.DecodeFault(102, None, 1), rpki.Fault(700)]
+        for it in faults:
+            for again in (pickle.loads(pickle.dumps(it)), copy.copy(it)):
+                self.assertEqual((type(again), str(again)), (type(it), str(it)))
+                self.assertEqual(vars(again), vars(it))
 
     def test_lists_that_are_none(self) -> None:
         with self.assertRaises(rpki.DecodeFault) as caught:
