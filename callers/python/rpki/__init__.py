@@ -123,7 +123,7 @@ def _raise(fault: int, member: int | None = None, revocation_list: int | None = 
     if fault == raw.MEMORY:
         raise MemoryError
     if fault == raw.BAD_CALL:
-        raise ValueError("there are too few members, or there is no such moment")
+        raise ValueError("there are too few members, or the last of several is to be a trust anchor")
     kind = _FAULTS.get(fault, _FAULTS.get(fault // 100, Fault))
     raise kind(fault, member, revocation_list)
 
@@ -469,7 +469,8 @@ def validate(
     names for the strings of RFC 6487 4.4, and the locator for UTF-8. `chain_names` asks that each
     issuer is the subject of the member above it (RFC 6487 7.2).
 
-    Raises the Fault of the first wrong member, and ValueError where there are too few members.
+    Raises the Fault of the first wrong member, and ValueError where there are too few members, or
+    the last of several is to be a trust anchor.
     """
     all_members = [_octets(it) for it in members]
     now = _time(datetime.now(timezone.utc) if at is None else at)

@@ -221,12 +221,14 @@ class Paths(unittest.TestCase):
         self.assertEqual((caught.exception.member, caught.exception.revocation_list), (None, 1))
 
     def test_wrong_calls(self) -> None:
-        too_few: list[tuple[list[bytes], Kind]] = [
+        wrong: list[tuple[list[bytes], Kind]] = [
             ([], Kind.AUTHORITY),
             (self.members[:1], Kind.END_ENTITY),
+            (self.members[:2], Kind.TRUST_ANCHOR),
         ]
-        for members, last in too_few:
-            with self.assertRaises(ValueError):
+        for members, last in wrong:
+            text = "too few members, or the last of several is to be a trust anchor"
+            with self.assertRaisesRegex(ValueError, text):
                 validate(members, last=last, at=self.noon)
         with self.assertRaises(ValueError):
             validate(self.members, last=Kind.END_ENTITY, at=datetime(2026, 6, 1))

@@ -9,7 +9,8 @@ use std::fmt;
 pub enum FaultKind {
     /// Memory ran out.
     Memory,
-    /// There are too few members, or there is no such moment.
+    /// There are too few members, the last of several is to be a trust anchor, or there is no such
+    /// moment.
     BadCall,
     /// The octets begin with no certificate, or with no revocation list.
     Decode,
@@ -106,7 +107,10 @@ impl fmt::Display for Fault {
             None => {}
         }
         match self.kind() {
-            FaultKind::BadCall => f.write_str("there are too few members, or no such moment"),
+            FaultKind::BadCall => f.write_str(
+                "there are too few members, the last of several is to be a trust anchor, \
+                 or there is no such moment",
+            ),
             _ => write!(f, "{} ({})", self.sentence(), self.name()),
         }
     }

@@ -175,6 +175,14 @@ fn wrong_calls_are_told() {
     let no_day = Path::new(&members, Kind::Authority).validate(at([2026, 2, 29, 0, 0, 0]));
     assert_eq!(no_day.unwrap_err().kind(), FaultKind::BadCall);
     assert!(Path::new(&[], Kind::Authority).validate(at(NOON)).is_err());
+    let first = octets("first.cer");
+    let both = [anchor.as_slice(), first.as_slice()];
+    let below = Path::new(&both, Kind::TrustAnchor).validate(at(NOON));
+    assert_eq!(
+        below.unwrap_err().to_string(),
+        "there are too few members, the last of several is to be a trust anchor, \
+         or there is no such moment"
+    );
 }
 
 #[test]
