@@ -7,7 +7,7 @@
  * compared with a locator's where one is. Compiled with -DLIBCRYPTO it takes no lists, and
  * libcrypto checks the signatures that the library asks for, in place of the library's own proved
  * verifier. Ends with 0 where the path is accepted, with 1 where it is rejected, and with 2 where
- * the words or a file are not as above. */
+ * the words or a file are not as above, or the verdict can't be written. */
 #include "rpki.h"
 #include <arpa/inet.h>
 #include <ctype.h>
@@ -242,6 +242,7 @@ int main(int count, char **words) {
         print_held(&held);
     else
         print_fault(&verdict);
+    if (fflush(stdout) != 0 || ferror(stdout)) fail("output", strerror(errno));
     let_go(&it.path);
     let_go(&it.lists);
     let_go(&it.locator);

@@ -9,7 +9,7 @@ usage: python3 -m rpki FILE..
        python3 -m rpki locator LOCATOR YYYY-MM-DD LAST MEMBER..
            the same, with a trust anchor locator, whose key the anchor has to have
 
-Ends with 0, or with 2 where the words or a file are not as above.
+Ends with 0, or with 2 where the words or a file are not as above, or the answer can't be written.
 """
 
 from __future__ import annotations
@@ -17,6 +17,7 @@ from __future__ import annotations
 import base64
 import hashlib
 import json
+import os
 import re
 import sys
 from collections.abc import Iterator, Sequence
@@ -243,10 +244,20 @@ def main(words: Sequence[str]) -> int:
         return 2
     try:
         run(words)
+        flush()
     except (Fault, OSError, ValueError) as error:
         print(f"rpki: {error}", file=sys.stderr)
         return 2
     return 0
+
+
+def flush() -> None:
+    """Writes what is still held back. What can't be written isn't tried once more at the end."""
+    try:
+        print(end="", flush=True)
+    except OSError:
+        os.dup2(os.open(os.devnull, os.O_WRONLY), sys.stdout.fileno())
+        raise
 
 
 if __name__ == "__main__":

@@ -6,38 +6,46 @@
 //! Names have to chain. Revocation lists are asked where some are given, and the anchor's key is
 //! compared with a locator's where one is.
 //! Ends with 0 where the path is accepted, with 1 where it is rejected, and with 2 where the words
-//! or a file are not as above.
+//! or a file are not as above, or the verdict can't be written.
 use gonxebhula::{Fault, FaultKind, Holdings, Kind, Moment, Path, Place};
 use std::env;
+use std::ffi::{OsStr, OsString};
 use std::fs::File;
-use std::io::Read;
+use std::io::{self, Read, Write};
 use std::process::ExitCode;
 
 /// Octets of a file, at most: 64 MiB.
 const MOST: u64 = 64 << 20;
 const USAGE: &str = "usage: validate [-l LIST.crl].. [-t LOCATOR.tal] YYYY-MM-DD LAST MEMBER.cer..";
 
-fn print(held: &Holdings) {
-    println!("accepted; held are");
+fn print(held: &Holdings) -> io::Result<()> {
+    let mut out = io::stdout().lock();
+    writeln!(out, "accepted; held are")?;
     for (min, max) in &held.ipv4 {
-        println!("  {min}-{max}");
+        writeln!(out, "  {min}-{max}")?;
     }
     for (min, max) in &held.ipv6 {
-        println!("  {min}-{max}");
+        writeln!(out, "  {min}-{max}")?;
     }
     for numbers in &held.as_numbers {
-        println!("  AS{}-AS{}", numbers.start(), numbers.end());
+        writeln!(out, "  AS{}-AS{}", numbers.start(), numbers.end())?;
     }
+    out.flush()
 }
 
-fn print_fault(fault: &Fault, members: usize) {
+fn print_fault(fault: &Fault, members: usize) -> io::Result<()> {
     let member = match fault.place() {
         Some(Place::Member(at)) => at,
         Some(Place::List(at)) => members + at,
         _ => 0,
     };
     let (number, name, sentence) = (fault.number(), fault.name(), fault.sentence());
-    println!("refused: member {member}, fault {number}, {name}: {sentence}");
+    let mut out = io::stdout().lock();
+    writeln!(
+        out,
+        "refused: member {member}, fault {number}, {name}: {sentence}"
+    )?;
+    out.flush()
 }
 
 /// The beginning of a day that is written YYYY-MM-DD. Whether the calendar has it is left to the
@@ -70,9 +78,9 @@ fn kind(word: &str) -> Result<Kind, String> {
 }
 
 /// The octets of a file, which has some, and at most `MOST`.
-fn contents(name: &String) -> Result<Vec<u8>, String> {
-    let mut octets = Vec::new();
-    File::open(name)
+fn contents(file: &OsString) -> Result<Vec<u8>, String> {
+    let (mut octets, name) = (Vec::new(), file.to_string_lossy());
+    File::open(file)
         .and_then(|file| file.take(MOST + 1).read_to_end(&mut octets))
         .map_err(|error| format!("{name}: {error}"))?;
     match octets.len() as u64 {
@@ -83,10 +91,11 @@ fn contents(name: &String) -> Result<Vec<u8>, String> {
 }
 
 /// Prints the verdict. Errs with what isn't as it has to be.
-fn run(mut words: &[String]) -> Result<ExitCode, String> {
+fn run(mut words: &[OsString]) -> Result<ExitCode, String> {
+    let unwritten = |error: io::Error| format!("output: {error}");
     let mut lists = Vec::new();
     while let [option, list, rest @ ..] = words {
-        if option != "-l" {
+        if option != OsStr::new("-l") {
             break;
         }
         lists.push(contents(list)?);
@@ -94,7 +103,7 @@ fn run(mut words: &[String]) -> Result<ExitCode, String> {
     }
     let mut locator = None;
     if let [option, file, rest @ ..] = words {
-        if option == "-t" {
+        if option == OsStr::new("-t") {
             locator = Some(contents(file)?);
             words = rest;
         }
@@ -103,7 +112,10 @@ fn run(mut words: &[String]) -> Result<ExitCode, String> {
         return Err(USAGE.to_owned());
     };
     let files = &words[2..];
-    let (last, now) = (kind(last)?, moment(day)?);
+    let (last, now) = (
+        kind(&last.to_string_lossy())?,
+        moment(&day.to_string_lossy())?,
+    );
     let members: Vec<Vec<u8>> = files.iter().map(contents).collect::<Result<_, _>>()?;
     let members: Vec<&[u8]> = members.iter().map(Vec::as_slice).collect();
     let lists: Vec<&[u8]> = lists.iter().map(Vec::as_slice).collect();
@@ -116,14 +128,14 @@ fn run(mut words: &[String]) -> Result<ExitCode, String> {
     }
     match path.validate(now) {
         Ok(held) => {
-            print(&held);
+            print(&held).map_err(unwritten)?;
             Ok(ExitCode::SUCCESS)
         }
         Err(fault) => match fault.kind() {
             FaultKind::Memory => Err("there is no more memory".to_owned()),
             FaultKind::BadCall => Err("no such day, or too few members".to_owned()),
             _ => {
-                print_fault(&fault, members.len());
+                print_fault(&fault, members.len()).map_err(unwritten)?;
                 Ok(ExitCode::from(1))
             }
         },
@@ -131,9 +143,9 @@ fn run(mut words: &[String]) -> Result<ExitCode, String> {
 }
 
 fn main() -> ExitCode {
-    let words: Vec<String> = env::args().skip(1).collect();
+    let words: Vec<OsString> = env::args_os().skip(1).collect();
     run(&words).unwrap_or_else(|error| {
-        eprintln!("validate: {error}");
+        let _ = writeln!(io::stderr(), "validate: {error}");
         ExitCode::from(2)
     })
 }
