@@ -67,9 +67,9 @@ install-lib:
 	$(INSTALL) -m 644 $(library)/librpki.a "$(DESTDIR)$(LIBDIR)/librpki.a"
 	$(INSTALL) -m 755 $(library)/librpki.so "$(DESTDIR)$(LIBDIR)/librpki.so.$$($(abi))"
 	ln -sf "librpki.so.$$($(abi))" "$(DESTDIR)$(LIBDIR)/librpki.so"
-	version=$$(./rpki --version) && sed -e 's|@prefix@|$(PREFIX)|' -e 's|@libdir@|$(LIBDIR)|' \
-	    -e 's|@includedir@|$(INCLUDEDIR)|' -e "s|@version@|$${version#rpki }|" \
-	    callers/c/rpki.pc.in > "$(DESTDIR)$(PKGCONFIGDIR)/rpki.pc"
+	version=$$(./rpki --version) && { printf '%s\n' "prefix=$(PREFIX)" "libdir=$(LIBDIR)" \
+	    "includedir=$(INCLUDEDIR)" && sed "s|@version@|$${version#rpki }|" callers/c/rpki.pc.in; } \
+	    > "$(DESTDIR)$(PKGCONFIGDIR)/rpki.pc"
 	chmod 644 "$(DESTDIR)$(PKGCONFIGDIR)/rpki.pc"
 	$(INSTALL) -d "$(DESTDIR)$(MANDIR)/man3"
 	awk -f callers/c/page.awk include/rpki.h > "$(DESTDIR)$(MANDIR)/man3/librpki.3"
