@@ -72,7 +72,7 @@ install-lib:
 	    > "$(DESTDIR)$(PKGCONFIGDIR)/rpki.pc"
 	chmod 644 "$(DESTDIR)$(PKGCONFIGDIR)/rpki.pc"
 	$(INSTALL) -d "$(DESTDIR)$(MANDIR)/man3"
-	awk -f callers/c/page.awk include/rpki.h > "$(DESTDIR)$(MANDIR)/man3/librpki.3"
+	awk -f callers/c/page.awk include/rpki.h callers/c/holds.c > "$(DESTDIR)$(MANDIR)/man3/librpki.3"
 	chmod 644 "$(DESTDIR)$(MANDIR)/man3/librpki.3"
 	for name in $$($(calls)); do ln -sf librpki.3 "$(DESTDIR)$(MANDIR)/man3/$$name.3"; done
 

@@ -1,6 +1,6 @@
 # Makes the manual page librpki(3) of the header: its comments as text, its declarations as they
-# stand.
-#   awk -f callers/c/page.awk include/rpki.h
+# stand. Behind them stands a program as its example.
+#   awk -f callers/c/page.awk include/rpki.h callers/c/holds.c
 
 BEGIN {
     print ".Dd November 27, 2026\n.Dt LIBRPKI 3\n.Os"
@@ -69,6 +69,18 @@ function print_declaration(line) {
 function end_code() {
     if (in_code) put(".Ed")
     in_code = 0
+}
+
+# the program, as it stands
+FNR == 1 && NR > 1 {
+    end_code()
+    put(".Sh EXAMPLES")
+    is_apart = 0
+    in_program = 1
+}
+in_program {
+    print_declaration($0)
+    next
 }
 
 /^#if|^#endif|^#include|^#define RPKI_H|^extern "C"|^}$/ { next }

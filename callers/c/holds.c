@@ -1,0 +1,72 @@
+/* Prints the IPv4 addresses that a path of certificates holds, or why it is
+ * rejected. The files are anchor.cer, first.cer and first.crl. */
+#include <rpki.h>
+#include <stdio.h>
+#include <stdlib.h>
+
+/* Files one behind the other, and the length of each. */
+struct files {
+    uint8_t octets[1 << 16];
+    size_t length, lengths[8], count;
+};
+
+static void append(struct files *to, const char *name) {
+    FILE *file = fopen(name, "rb");
+    if (file == NULL) {
+        perror(name);
+        exit(2);
+    }
+    uint8_t *end = to->octets + to->length;
+    size_t length = fread(end, 1, sizeof to->octets - to->length, file);
+    fclose(file);
+    to->length += length;
+    to->lengths[to->count++] = length;
+}
+
+static struct rpki_strings strings_of(const struct files *it) {
+    return (struct rpki_strings){
+        .octets = it->octets,
+        .length = it->length,
+        .lengths = it->lengths,
+        .count = it->count,
+    };
+}
+
+static int reject(uint32_t fault, uint64_t member) {
+    uint8_t sentence[256];
+    uint64_t length;
+    rpki_fault_sentence(fault, sentence, sizeof sentence, &length);
+    printf("member %d: ", (int)member);
+    printf("%.*s\n", (int)length, (const char *)sentence);
+    return 1;
+}
+
+int main(void) {
+    static struct files members, lists;
+    static struct rpki_ip_range v4[100]; /* verdict.v4 tells of more */
+    append(&members, "anchor.cer");
+    append(&members, "first.cer");
+    append(&lists, "first.crl");
+    struct rpki_question question = {
+        .size = sizeof question,
+        .members = strings_of(&members),
+        .lists = strings_of(&lists),
+        .moment = {.year = 2026, .month = 6, .day = 1},
+        .last = RPKI_AUTHORITY,
+        .strict = 1,
+        .anchor = RPKI_AS_GIVEN, /* in place of a locator */
+    };
+    struct rpki_room room = {.v4 = v4, .v4_room = 100};
+    struct rpki_verdict verdict;
+    uint64_t place;
+    if (rpki_path_validate(&question, &room, &verdict) != RPKI_OK)
+        return reject(verdict.fault, verdict.index);
+    uint32_t names = rpki_path_names(&question.members, &place);
+    if (names != RPKI_OK) return reject(names, place);
+    for (size_t i = 0; i < verdict.v4 && i < 100; i++) {
+        const uint8_t *min = v4[i].min, *max = v4[i].max;
+        printf("%d.%d.%d.%d to ", min[0], min[1], min[2], min[3]);
+        printf("%d.%d.%d.%d\n", max[0], max[1], max[2], max[3]);
+    }
+    return 0;
+}
