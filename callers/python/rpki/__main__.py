@@ -1,5 +1,5 @@
-"""What the package does, from the shell: prints what certificates and revocation lists hold, as
-`rpki show -j` does, or the verdict on a path.
+"""What the package does, from the shell: prints what certificates and revocation lists in DER hold,
+by the members of `rpki show -j`, or the verdict on a path.
 
 usage: python3 -m rpki FILE..
        python3 -m rpki path YYYY-MM-DD LAST MEMBER..
@@ -9,7 +9,8 @@ usage: python3 -m rpki FILE..
        python3 -m rpki locator LOCATOR YYYY-MM-DD LAST MEMBER..
            the same, with a trust anchor locator, whose key the anchor has to have
 
-Ends with 0, or with 2 where the words or a file are not as above, or the answer can't be written.
+Ends with 0; with 1 where a file is neither, or the path is rejected; and with 2 where the words are
+not as above, a file can't be read, or the answer can't be written.
 """
 
 from __future__ import annotations
@@ -222,19 +223,26 @@ def contents(file: str) -> bytes:
     return octets
 
 
-def run(words: Sequence[str]) -> None:
+def run(words: Sequence[str]) -> bool:
+    """Prints what the words ask, and tells whether the path is accepted, or each file was read."""
     if words[0] == "path":
         day, last, *members = words[1:]
-        print(json.dumps(path(day, last, members)))
+        verdict = path(day, last, members)
     elif words[0] == "with":
         lists, day, last, *members = words[1:]
-        print(json.dumps(path(day, last, members, lists.split(","))))
+        verdict = path(day, last, members, lists.split(","))
     elif words[0] == "locator":
         locator, day, last, *members = words[1:]
-        print(json.dumps(path(day, last, members, locator=locator)))
+        verdict = path(day, last, members, locator=locator)
     else:
+        all_read = True
         for file in words:
-            print(json.dumps(show(file), indent=2, sort_keys=True))
+            shown = show(file)
+            print(json.dumps(shown, indent=2, sort_keys=True))
+            all_read = all_read and "fault" not in shown
+        return all_read
+    print(json.dumps(verdict))
+    return bool(verdict["accepted"])
 
 
 def main(words: Sequence[str]) -> int:
@@ -243,12 +251,12 @@ def main(words: Sequence[str]) -> int:
         print(__doc__, file=sys.stderr)
         return 2
     try:
-        run(words)
+        is_good = run(words)
         flush()
+        return 0 if is_good else 1
     except (Fault, OSError, ValueError) as error:
         print(f"rpki: {error}", file=sys.stderr)
         return 2
-    return 0
 
 
 def flush() -> None:
