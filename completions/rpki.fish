@@ -5,6 +5,7 @@ set -l validate '__fish_seen_subcommand_from validate'
 set -l both '__fish_seen_subcommand_from show validate'
 
 complete -c rpki -n $first -f
+complete -c rpki -n '__fish_seen_subcommand_from help' -f
 complete -c rpki -n $first -a show -d 'Print what certificates, lists and locators hold'
 complete -c rpki -n $first -a validate -d 'Validate a path of certificates'
 complete -c rpki -n $first -a help -d 'Print the commands'
