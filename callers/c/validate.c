@@ -116,14 +116,25 @@ static struct rpki_question question_of(const struct request *it) {
 }
 
 #ifdef LIBCRYPTO
+#include <openssl/bn.h>
 #include <openssl/evp.h>
 #include <openssl/x509.h>
+
+/* Tells whether the RPKI verifies signatures with the key: RSA of 2048 bits and the exponent 65537
+ * (RFC 7935 3). libcrypto would take any, and so a path that rests on a weak one. */
+static int is_used(const EVP_PKEY *key) {
+    BIGNUM *exponent = NULL;
+    int used = EVP_PKEY_base_id(key) == EVP_PKEY_RSA && EVP_PKEY_bits(key) == 2048
+        && EVP_PKEY_get_bn_param(key, "e", &exponent) == 1 && BN_is_word(exponent, 65537);
+    BN_free(exponent);
+    return used;
+}
 
 static int is_good(const uint8_t *octets, const struct rpki_signature *it) {
     const uint8_t *key_at = octets + it->key_at;
     EVP_PKEY *key = d2i_PUBKEY(NULL, &key_at, (long)it->key_length);
     EVP_MD_CTX *context = EVP_MD_CTX_new();
-    int good = key != NULL && context != NULL && EVP_PKEY_base_id(key) == EVP_PKEY_RSA
+    int good = key != NULL && context != NULL && is_used(key)
         && EVP_DigestVerifyInit(context, NULL, EVP_sha256(), NULL, key) == 1
         && EVP_DigestVerify(context, octets + it->signature_at, it->signature_length,
                             octets + it->message_at, it->message_length) == 1;
