@@ -456,7 +456,7 @@ def validate(
 
     `members` are in order, the trust anchor first; `last` is what the last one is judged as. Of a
     router's certificate the answer is what the member above it holds. Signatures are checked (RFC
-    7935).
+    7935). Whether the RPKI uses the last member's own key isn't asked; `rpki validate` asks it.
 
     `lists` are revocation lists, in any order: then each member below the trust anchor has to be
     unrevoked by the latest list of its issuer that has begun. With None, nothing of revocation is

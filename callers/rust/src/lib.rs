@@ -356,7 +356,7 @@ impl<'a> Path<'a> {
 
     /// Validates the path, with signatures (RFC 7935), and returns what its last member holds; of a
     /// router's certificate, what the member above it holds. Errs with the fault of the first wrong
-    /// member.
+    /// member. Whether the RPKI uses the last member's own key isn't asked; `rpki validate` asks it.
     pub fn validate(&self, now: Moment) -> Result<Holdings, Fault> {
         check_library();
         let question = sys::Question {
