@@ -74,7 +74,7 @@ install-lib:
 	$(INSTALL) -d "$(DESTDIR)$(MANDIR)/man3"
 	awk -f callers/c/page.awk include/rpki.h callers/c/holds.c > "$(DESTDIR)$(MANDIR)/man3/librpki.3"
 	chmod 644 "$(DESTDIR)$(MANDIR)/man3/librpki.3"
-	for name in $$($(calls)); do ln -sf librpki.3 "$(DESTDIR)$(MANDIR)/man3/$$name.3"; done
+	for name in $$($(calls)); do ln -sf librpki.3 "$(DESTDIR)$(MANDIR)/man3/$$name.3" || exit; done
 
 # a library of another interface has another name, and stays
 uninstall:
@@ -83,6 +83,6 @@ uninstall:
 	rm -f "$(DESTDIR)$(INCLUDEDIR)/rpki.h" "$(DESTDIR)$(PKGCONFIGDIR)/rpki.pc"
 	rm -f "$(DESTDIR)$(LIBDIR)/librpki.a" "$(DESTDIR)$(LIBDIR)/librpki.so" \
 	    "$(DESTDIR)$(LIBDIR)/librpki.so.$$($(abi))"
-	for name in librpki $$($(calls)); do rm -f "$(DESTDIR)$(MANDIR)/man3/$$name.3"; done
+	for name in librpki $$($(calls)); do rm -f "$(DESTDIR)$(MANDIR)/man3/$$name.3" || exit; done
 
 .PHONY: all program library check install install-program install-lib uninstall
