@@ -347,7 +347,8 @@ struct rpki_verdict {
 };
 
 /* Answers a question about a path. Signatures are checked as the RPKI has them (RFC 7935). Doesn't
- * ask whether names chain, which rpki_path_names does.
+ * ask whether names chain, which rpki_path_names does; nor whether the RPKI uses the last member's
+ * key (RFC 7935 3, RFC 8608 3.1), with which no signature here is verified.
  * Writes the ranges that are held, as many as there is room for, and into *out how many there are:
  * where there are more, ask again with more room. *out holds after every fault.
  * Answers RPKI_BAD_CALL where `size` is another, lengths don't add up, a number of the question is
