@@ -173,7 +173,8 @@ pub record IsPrefixBy (b : Block) (last : ℕ) : Type 0 where
   pub zeros : b.min % 2 ^ last ≡ 0
   pub size : b.max + 1 ≡ b.min + 2 ^ last
 
-prefix_parts : (b : Block) (last : ℕ) → is_prefix b last ≡ true → IsPrefixBy b last
+-- what the test says
+pub prefix_parts : (b : Block) (last : ℕ) → is_prefix b last ≡ true → IsPrefixBy b last
 prefix_parts b last h = let r = and_parts _ _ h in record { zeros = eqb-true _ _ r.0; size = eqb-true _ _ r.1 }
 
 prefix_test : (b : Block) (last : ℕ) → IsPrefixBy b last → is_prefix b last ≡ true
@@ -194,6 +195,10 @@ only_foot b last le p =
     let size : b.max + 1 - b.min ≡ 2 ^ last = omega (arith, p.size) in
     let most = power_order (foot b) last (ap (λ (m : ℕ). m % 2 ^ foot b) (sym size) ∙ divides_difference (b.max + 1) b.min (2 ^ foot b) high low) in
     omega arith
+
+-- so its last bits are the greatest that pass
+pub one_prefix : (b : Block) (last : ℕ) → last ≤ 128 → IsPrefixBy b last → prefix_bits b ≡ last
+one_prefix b last le p = only_foot b (prefix_bits b) (greatest_le (is_prefix b) 128) (prefix_parts b _ (greatest_found (is_prefix b) 128 last (prefix_test b last p) le)) ∙ sym (only_foot b last le p)
 
 -- a block as large as its open bits is a prefix with these bits open
 pub prefix_yes : (b : Block) → b.min ≤ b.max → b.max - b.min ≡ 2 ^ foot b - 1 → (is_prefix b (prefix_bits b) ≡ true) × (prefix_bits b ≡ foot b)

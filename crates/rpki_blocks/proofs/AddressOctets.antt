@@ -1,12 +1,14 @@
 -- The first octets of an address.
 use Rattle.std.proofs.Common.{◌≡◌, ℕ, zero, suc, ◌+◌, ◌-◌, ◌*◌, ◌/◌, ◌%◌, ◌^◌, ◌<◌, ◌≤◌, List, [], ◌∷◌, ◌++◌, take, length, subst, refl, sym, ap, ◌∙◌, arith}
 use Rattle.std.specs.Int.{byte_at, bytes_high_first}
-use Rattle.std.proofs.Math.Nat.{div-div-eq-div-mul, mul_assoc, mul-mod_left, pow-suc}
+use Rattle.std.proofs.Math.Nat.{div-div-eq-div-mul, mul_assoc, pow-suc}
 use Rattle.std.specs.Int.Digits.{number_from_digits}
 use Rattle.std.proofs.lemmas.Int.Digits.{number_push}
 use Rattle.std.proofs.lemmas.List.{length-append}
 use Rattle.std.proofs.lemmas.Nat.{pow-add, shl-shr, pow_pos, div_below, shl_below}
-use Rattle.rpki_blocks.specs.AddressBits.{octets_of}
+use Rattle.rpki_der.specs.Values.{AreOctets}
+use Rattle.rpki_der.proofs.Octets.{AreOctets-append}
+use Rattle.rpki_blocks.specs.AddressBits.{front, octets_of}
 use Rattle.rpki_der.proofs.HighFirst.{byte_is}
 use Rattle.rpki_blocks.proofs.FirstBits.{octets_bits}
 
@@ -52,6 +54,11 @@ pub length_octets_of : (count n : ℕ) → length (octets_of count n) ≡ count
 length_octets_of zero n = refl
 length_octets_of (suc count) n = omega (arith, length-append (octets_of count (n / 256)) ((n % 256) ∷ []), length_octets_of count (n / 256))
 
+-- they are octets
+pub octets_of_are : (count n : ℕ) → AreOctets (octets_of count n)
+octets_of_are zero n = tt
+octets_of_are (suc count) n = AreOctets-append (octets_of count (n / 256)) ((n % 256) ∷ []) (octets_of_are count (n / 256)) (omega arith, tt)
+
 -- the octets of a number stand for it
 pub number_octets_of : (count n : ℕ) → n < 2 ^ (8 * count) → number_from_digits 256 (octets_of count n) ≡ n
 number_octets_of zero n h = let e : n ≡ 0 = omega arith in sym e
@@ -72,19 +79,6 @@ cut_small last address most small =
     let bits : 128 - last + (8 * ((128 - last + 7) / 8) - (128 - last)) ≡ 8 * ((128 - last + 7) / 8) = omega arith in
     subst (λ (k : ℕ). address / 2 ^ last * 2 ^ (8 * ((128 - last + 7) / 8) - (128 - last)) < 2 ^ k) bits up
 
--- an address without its last bits
-pub record IsCut (last address : ℕ) (octets : List ℕ) : Type 0 where
-  pub octets_are : octets ≡ octets_of ((128 - last + 7) / 8) (address / 2 ^ last * 2 ^ (8 * ((128 - last + 7) / 8) - (128 - last)))
-  pub zero_bits : number_from_digits 256 octets % 2 ^ (8 * ((128 - last + 7) / 8) - (128 - last)) ≡ 0
-  pub some : octets ≡ [] → 8 * ((128 - last + 7) / 8) - (128 - last) ≡ 0
-
 -- the first octets of an address are its front with unused bits
-pub cut_address : (last address : ℕ) → last ≤ 128 → address < 2 ^ 128 → IsCut last address (take ((128 - last + 7) / 8) (bytes_high_first 16 (address / 2 ^ last * 2 ^ last)))
-cut_address last address most small =
-    let same = first_octets ((128 - last + 7) / 8) last (8 * ((128 - last + 7) / 8) - (128 - last)) (address / 2 ^ last) (omega arith) (omega arith) in
-    let value = number_octets_of ((128 - last + 7) / 8) (address / 2 ^ last * 2 ^ (8 * ((128 - last + 7) / 8) - (128 - last))) (cut_small last address most small) in
-    record {
-      octets_are = same;
-      zero_bits = ap (λ (os : List ℕ). number_from_digits 256 os % 2 ^ (8 * ((128 - last + 7) / 8) - (128 - last))) same ∙ ap (λ (k : ℕ). k % 2 ^ (8 * ((128 - last + 7) / 8) - (128 - last))) value ∙ mul-mod_left (address / 2 ^ last) (2 ^ (8 * ((128 - last + 7) / 8) - (128 - last)));
-      some = λ e. omega (arith, length_octets_of ((128 - last + 7) / 8) (address / 2 ^ last * 2 ^ (8 * ((128 - last + 7) / 8) - (128 - last))), ap length (sym same ∙ e));
-    }
+pub cut_address : (last address : ℕ) → last ≤ 128 → take ((128 - last + 7) / 8) (bytes_high_first 16 (address / 2 ^ last * 2 ^ last)) ≡ (front last address).1
+cut_address last address most = first_octets ((128 - last + 7) / 8) last (8 * ((128 - last + 7) / 8) - (128 - last)) (address / 2 ^ last) (omega arith) (omega arith)

@@ -1,20 +1,25 @@
 -- What is written of a block of addresses encodes it.
 use Rattle.std.specs.Int.Digits.{number_from_digits}
 use Rattle.std.specs.Prelude.{◌==◌}
-use Rattle.std.proofs.Common.{◌≡◌, ℕ, true, sym, subst, inl, inr, ◌≤◌, arith, ◌∙◌, ◌-◌, ◌/◌, ◌%◌, [], ◌∷◌, length, ◌+◌, ◌*◌, ◌^◌, ap, ◌<◌, List}
-use Rattle.std.proofs.lemmas.Bool.{cases_lt, eqb-true, eq-eqb, and_parts}
-use Rattle.std.proofs.lemmas.Nat.{pow-add}
-use Rattle.std.proofs.Math.Nat.{mul-mod_left, mul_assoc, mul_comm, mod-add-div, mul-le-mul_left, mod-lt, mod-one}
+use Rattle.std.proofs.Common.{◌≡◌, ℕ, true, sym, refl, subst, inl, inr, ◌≤◌, arith, ◌∙◌, ◌-◌, ◌/◌, ◌%◌, [], ◌++◌, length, ◌+◌, ◌*◌, ◌^◌, ap, ◌<◌, List, Some}
+use Rattle.std.proofs.lemmas.Bool.{cases_lt, eqb-true, eq-eqb, and_parts, le-ltb, not-false}
+use Rattle.std.proofs.lemmas.Nat.{pow-add, shl-shr}
+use Rattle.std.proofs.Math.Nat.{mul-mod_left, mul_assoc, mul_comm, mod-add-div, mul-le-mul_left, mod-lt}
 use Rattle.std.proofs.Math.Pow.{pow_pos, pow-lt}
-use Rattle.rpki_der.specs.Values.{sequence}
-use Rattle.rpki_der.specs.Tags.{SEQUENCE, BIT_STRING}
-use Rattle.rpki_der.proofs.ValueWritten.{bool_cases, Short, made, content_short, pieces_short}
+use Rattle.rpki_der.specs.BasicFormats.{bit_string}
+use Rattle.rpki_der.specs.Primitives.{IsBits}
+use Rattle.rpki_der.specs.Tags.{SEQUENCE}
+use Rattle.rpki_der.specs.Values.{enc}
+use Rattle.rpki_der.proofs.Octets.{some}
+use Rattle.rpki_der.proofs.ValueWritten.{bool_cases}
+use Rattle.rpki_blocks.specs.AddressBits.{around, front, octets_of, without, zero_bits, is_prefix, prefix_bits, one_bits, ip_block, ip_range}
+use Rattle.rpki_blocks.specs.Addresses.{lower, upper, family_bits, prefix_of, ip_address_format, ip_address_range_format, ip_address_or_range_format}
 use Rattle.rpki_blocks.specs.Prefixes.{is_v4_block}
-use Rattle.rpki_blocks.specs.AddressBits.{octets_of, without, zero_bits, is_prefix, prefix_bits, one_bits, ip_block}
-use Rattle.rpki_blocks.specs.Sets.{Block}
-use Rattle.rpki_blocks.specs.Addresses.{lower, upper, IsIPAddress, IsIPAddressRange, IsIPAddressOrRange}
-use Rattle.rpki_blocks.proofs.AddressBits.{greatest_passes, greatest_le, greatest_above}
-use Rattle.rpki_blocks.proofs.AddressOctets.{length_octets_of, number_octets_of, cut_small}
+use Rattle.rpki_blocks.specs.Sets.{Block, between}
+use Rattle.rpki_blocks.specs.declared.ip_resources.Family.{Family}
+use Rattle.rpki_blocks.specs.declared.ip_resources.Family.TheVariants.{V4, V6}
+use Rattle.rpki_blocks.proofs.AddressBits.{greatest_le, greatest_above, one_prefix, ones_divide, prefix_parts, zeros_divide}
+use Rattle.rpki_blocks.proofs.AddressOctets.{length_octets_of, number_octets_of, octets_of_are, cut_small}
 
 abbrev count_of : ℕ → ℕ
 count_of last = (128 - last + 7) / 8
@@ -25,9 +30,13 @@ unused_of last = 8 * count_of last - (128 - last)
 same_block : (r s : Block) → r.min ≡ s.min → r.max ≡ s.max → r ≡ s
 same_block r s a b = λ i. record { min = a i; max = b i }
 
--- the block of the addresses that differ in the last bits alone
-abbrev around : ℕ → ℕ → Block
-around last address = record { min = address / 2 ^ last * 2 ^ last; max = address / 2 ^ last * 2 ^ last + 2 ^ last - 1 }
+-- the bits that are written of such a block are those of the address
+bits_around : (last address : ℕ) → last ≤ 128 → front (prefix_bits (around last address)) (around last address).min ≡ front last address
+bits_around last address l =
+    let some = pow_pos last in
+    let bits : prefix_bits (around last address) ≡ last = one_prefix (around last address) last l (record { zeros = mul-mod_left (address / 2 ^ last) (2 ^ last); size = omega (arith, some) }) in
+    let same : address / 2 ^ last * 2 ^ last / 2 ^ last ≡ address / 2 ^ last = shl-shr (address / 2 ^ last) last in
+    ap (λ (k : ℕ). front k (address / 2 ^ last * 2 ^ last)) bits ∙ ap (λ (n : ℕ). (unused_of last, octets_of (count_of last) (n * 2 ^ unused_of last))) same
 
 module _ (last address : ℕ) (l : last ≤ 128) (h : address < 2 ^ 128) where
   octets_is : number_from_digits 256 (octets_of (count_of last) (address / 2 ^ last * 2 ^ unused_of last)) ≡ address / 2 ^ last * 2 ^ unused_of last
@@ -51,20 +60,25 @@ module _ (last address : ℕ) (l : last ≤ 128) (h : address < 2 ^ 128) where
       let rest : 128 - 8 * length (octets_of (count_of last) (address / 2 ^ last * 2 ^ unused_of last)) + unused_of last ≡ last = omega (arith, long) in
       ap (λ (k : ℕ). k + 2 ^ (128 - 8 * length (octets_of (count_of last) (address / 2 ^ last * 2 ^ unused_of last)) + unused_of last) - 1) lower_is ∙ ap (λ (k : ℕ). address / 2 ^ last * 2 ^ last + 2 ^ k - 1) rest
 
-  without_made : (width : ℕ) → 128 ≤ width + last → 8 * ((width + 7) / 8) ≤ width → Short (without last address) → IsIPAddress width (around last address) (without last address)
-  unfolding without
-  without_made width wide whole short = record {
-    unused = unused_of last;
-    octets = octets_of (count_of last) (address / 2 ^ last * 2 ^ unused_of last);
-    encoded = record {
-      enc = made BIT_STRING (unused_of last ∷ octets_of (count_of last) (address / 2 ^ last * 2 ^ unused_of last)) (omega arith) short;
-      few = omega arith;
-      none = no_octets;
-      zero_bits = ap (λ (k : ℕ). k % 2 ^ unused_of last) octets_is ∙ mul-mod_left (address / 2 ^ last) (2 ^ unused_of last);
-    };
-    fits = omega (arith, length_octets_of (count_of last) (address / 2 ^ last * 2 ^ unused_of last));
-    is = same_block _ _ (sym lower_is) (sym upper_is);
+  -- an address without its last bits is a BIT STRING
+  pub front_is : IsBits (front last address) (bit_string.written (front last address))
+  front_is = record {
+    enc = record { octet = omega arith; low_tag = omega arith; octets = (omega arith, octets_of_are (count_of last) (address / 2 ^ last * 2 ^ unused_of last)); short = omega (arith, length_octets_of (count_of last) (address / 2 ^ last * 2 ^ unused_of last)); is = refl };
+    few = omega arith;
+    none = no_octets;
+    zero_bits = ap (λ (k : ℕ). k % 2 ^ unused_of last) octets_is ∙ mul-mod_left (address / 2 ^ last) (2 ^ unused_of last);
   }
+
+  few_octets : (family : Family) → 128 ≤ family_bits family + last → 8 * length (front last address).1 ≤ family_bits family
+  few_octets V4 wide = omega (arith, length_octets_of (count_of last) (address / 2 ^ last * 2 ^ unused_of last))
+  few_octets V6 wide = omega (arith, length_octets_of (count_of last) (address / 2 ^ last * 2 ^ unused_of last))
+
+  -- the addresses that differ in the last bits alone are a block that can be written
+  address_fits : (family : Family) → 128 ≤ family_bits family + last → (ip_address_format family).fits (around last address)
+  unfolding ip_address_format
+  address_fits family wide =
+      subst (λ (x : ℕ × List ℕ). (prefix_of (family_bits family) x ≡ Some (around last address)) × IsBits x (bit_string.written x)) (sym (bits_around last address l))
+      (rw (le-ltb (family_bits family) (8 * length (front last address).1) (few_octets family wide)) (ap some (same_block _ _ lower_is upper_is)), front_is)
 
 -- a number with so many zero bits, or one below one with so many
 zeros_are : (n last : ℕ) → n % 2 ^ last ≡ 0 → n / 2 ^ last * 2 ^ last ≡ n
@@ -86,43 +100,34 @@ ones_by n p a b r small first second =
 ones_are : (n last : ℕ) → (n + 1) % 2 ^ last ≡ 0 → n / 2 ^ last * 2 ^ last + 2 ^ last - 1 ≡ n
 ones_are n last h = ones_by n (2 ^ last) (n / 2 ^ last) ((n + 1) / 2 ^ last) (n % 2 ^ last) (mod-lt n (pow_pos last)) (mod-add-div n (2 ^ last)) (omega (arith, mod-add-div (n + 1) (2 ^ last), h))
 
--- what is written of a block of addresses of a width encodes it, if short
-pub ip_block_made : (width : ℕ) → 8 * ((width + 7) / 8) ≤ width → (P : Block → Type 0) → ((b : Block) → P b → (128 ≤ width + zero_bits b.min) × (128 ≤ width + one_bits b.max) × (is_prefix b (prefix_bits b) ≡ true → 128 ≤ width + prefix_bits b)) → (b : Block) → P b → b.min ≤ b.max → b.max < 2 ^ 128 → Short (ip_block b) → IsIPAddressOrRange width b (ip_block b)
-ip_block_made width whole P wide b p order small short =
-    elim (bool_cases (is_prefix b (prefix_bits b))) [
-      | inl t ↦
-          let is : ip_block b ≡ without (prefix_bits b) b.min = rw t in
-          let tests = and_parts _ _ t in
-          let zeros = zeros_are b.min (prefix_bits b) (eqb-true _ _ tests.0) in
-          let size : b.max + 1 ≡ b.min + 2 ^ prefix_bits b = eqb-true _ _ tests.1 in
-          let encoded = without_made (prefix_bits b) b.min (greatest_le (is_prefix b) 128) (omega arith) width ((wide b p).2 t) whole (subst Short is short) in
-          let same : around (prefix_bits b) b.min ≡ b = same_block _ _ zeros (omega (arith, zeros, size)) in
-          inr (subst (λ (s : List ℕ). IsIPAddress width b s) (sym is) (subst (λ (r : Block). IsIPAddress width r (without (prefix_bits b) b.min)) same encoded))
-      | inr f ↦
-          let is : ip_block b ≡ sequence (without (zero_bits b.min) b.min ∷ without (one_bits b.max) b.max ∷ []) = rw f in
-          let short' : Short (sequence (without (zero_bits b.min) b.min ∷ without (one_bits b.max) b.max ∷ [])) = subst Short is short in
-          let shorts = pieces_short (without (zero_bits b.min) b.min ∷ without (one_bits b.max) b.max ∷ []) (content_short SEQUENCE _ short') in
-          let low = without_made (zero_bits b.min) b.min (greatest_le _ 128) (omega arith) width (wide b p).0 whole shorts.0 in
-          let high = without_made (one_bits b.max) b.max (greatest_le _ 128) small width (wide b p).1 whole shorts.1.0 in
-          let low_is = zeros_are b.min (zero_bits b.min) (eqb-true _ _ (greatest_passes (λ last. b.min % 2 ^ last == 0) 128 (eq-eqb _ _ (mod-one b.min)))) in
-          let high_is = ones_are b.max (one_bits b.max) (eqb-true _ _ (greatest_passes (λ last. (b.max + 1) % 2 ^ last == 0) 128 (eq-eqb _ _ (mod-one (b.max + 1))))) in
-          let range : IsIPAddressRange width b (sequence (without (zero_bits b.min) b.min ∷ without (one_bits b.max) b.max ∷ [])) = record {
-            from = without (zero_bits b.min) b.min;
-            to = without (one_bits b.max) b.max;
-            low = around (zero_bits b.min) b.min;
-            high = around (one_bits b.max) b.max;
-            low_is = low;
-            high_is = high;
-            sequence = made SEQUENCE _ (omega arith) short';
-            ordered = omega (arith, low_is, high_is);
-            is = same_block _ _ (sym low_is) (sym high_is);
-          } in
-          inl (subst (λ (s : List ℕ). IsIPAddressRange width b s) (sym is) range)
-    ]
+-- what is written of a block
+pub block_text : (family : Family) (b : Block) → (ip_address_or_range_format family).written b ≡ ip_block b
+unfolding ip_address_or_range_format ip_address_range_format ip_address_format without
+block_text family b =
+    let ends : enc SEQUENCE (bit_string.written (front (prefix_bits (around (zero_bits b.min) b.min)) (around (zero_bits b.min) b.min).min) ++ bit_string.written (front (prefix_bits (around (one_bits b.max) b.max)) (around (one_bits b.max) b.max).min)) ≡ ip_range b.min b.max =
+    λ i. enc SEQUENCE (bit_string.written (bits_around (zero_bits b.min) b.min (greatest_le _ 128) i) ++ bit_string.written (bits_around (one_bits b.max) b.max (greatest_le _ 128) i)) in
+    elim (bool_cases (is_prefix b (prefix_bits b))) [ inl t ↦ rw t refl | inr f ↦ rw f ends ]
+
+-- a block of addresses of the family can be written
+pub block_fits : (family : Family) (b : Block) → 128 ≤ family_bits family + zero_bits b.min → 128 ≤ family_bits family + one_bits b.max → (is_prefix b (prefix_bits b) ≡ true → 128 ≤ family_bits family + prefix_bits b) → b.min ≤ b.max → b.max < 2 ^ 128 → (ip_address_or_range_format family).fits b
+unfolding ip_address_or_range_format ip_address_range_format
+block_fits family b zeros ones bits order small =
+    let low_is = zeros_are b.min (zero_bits b.min) (zeros_divide b.min) in
+    let high_is = ones_are b.max (one_bits b.max) (ones_divide b.max) in (
+      λ range. (
+        rw (le-ltb (around (one_bits b.max) b.max).max (around (zero_bits b.min) b.min).min (omega (arith, low_is, high_is))) (ap some (same_block (between (around (zero_bits b.min) b.min).min (around (one_bits b.max) b.max).max) b low_is high_is)),
+        (address_fits (zero_bits b.min) b.min (greatest_le _ 128) (omega arith) family zeros, address_fits (one_bits b.max) b.max (greatest_le _ 128) small family ones),
+      ),
+      λ other.
+          let t = not-false (is_prefix b (prefix_bits b)) other in
+          let p = prefix_parts b (prefix_bits b) t in
+          let same : around (prefix_bits b) b.min ≡ b = same_block _ _ (zeros_are b.min (prefix_bits b) p.zeros) (omega (arith, zeros_are b.min (prefix_bits b) p.zeros, p.size)) in
+          subst (ip_address_format family).fits same (address_fits (prefix_bits b) b.min (greatest_le (is_prefix b) 128) (omega arith) family (bits t)),
+    )
 
 -- any block of IPv6 addresses
-pub v6_block_made : (b : Block) → b.min ≤ b.max → b.max < 2 ^ 128 → Short (ip_block b) → IsIPAddressOrRange 128 b (ip_block b)
-v6_block_made b order small short = ip_block_made 128 (omega arith) (λ b. Unit {0}) (λ b p. (omega arith, omega arith, λ t. omega arith)) b tt order small short
+pub v6_fits : (b : Block) → b.min ≤ b.max → b.max ≤ 2 ^ 128 - 1 → (ip_address_or_range_format V6).fits b
+v6_fits b order small = block_fits V6 b (omega arith) (omega arith) (λ t. omega arith) order (omega (arith, small))
 
 -- the block is one of whole IPv4 addresses
 record IsV4Block (b : Block) : Type 0 where
@@ -152,7 +157,8 @@ v4_size m n k zeros ones size =
       | inr le ↦ le
     ]
 
--- what is written of a block of IPv4 addresses encodes it, if short
-pub v4_block_made : (b : Block) → is_v4_block b ≡ true → b.min ≤ b.max → b.max < 2 ^ 128 → Short (ip_block b) → IsIPAddressOrRange 32 b (ip_block b)
-v4_block_made b v4 order small short =
-    ip_block_made 32 (omega arith) IsV4Block (λ b p. (omega (arith, v4_zeros b.min p.zeros), omega (arith, v4_ones b.max p.ones), λ t. omega (arith, v4_size b.min b.max (prefix_bits b) p.zeros p.ones (eqb-true _ _ (and_parts _ _ t).1)))) b (v4_parts b v4) order small short
+-- a block of IPv4 addresses can be written as one
+pub v4_fits : (b : Block) → is_v4_block b ≡ true → b.min ≤ b.max → b.max < 2 ^ 128 → (ip_address_or_range_format V4).fits b
+v4_fits b v4 order small =
+    let p = v4_parts b v4 in
+    block_fits V4 b (omega (arith, v4_zeros b.min p.zeros)) (omega (arith, v4_ones b.max p.ones)) (λ t. omega (arith, v4_size b.min b.max (prefix_bits b) p.zeros p.ones (eqb-true _ _ (and_parts _ _ t).1))) order small

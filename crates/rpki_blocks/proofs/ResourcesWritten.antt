@@ -1,160 +1,75 @@
 -- What is written of resources encodes them.
-use Rattle.std.specs.Prelude.{◌≢◌, ◌==◌}
-use Rattle.std.specs.List.{AllByRecursion, concat, list_all}
-use Rattle.std.specs.Option.{option_map}
-use Rattle.std.proofs.Common.{◌≡◌, ℕ, ◌^◌, ◌-◌, ◌<◌, ◌≤◌, List, [], ◌∷◌, true, sym, subst, arith, inl, inr, map, Option, Some, refl, None, ◌⊎◌, ◌++◌}
-use Rattle.std.proofs.lemmas.Bool.{eqb-true, and_parts}
+use Rattle.std.specs.Prelude.{◌==◌, flat_map, IfSome}
+use Rattle.std.specs.List.{AllByRecursion, list_all}
+use Rattle.std.proofs.Common.{◌≡◌, ℕ, ◌^◌, ◌-◌, ◌<◌, ◌≤◌, List, [], ◌∷◌, length, true, sym, subst, ap, ◌∙◌, arith, inl, inr, Option, Some, refl, None, ◌⊎◌, ◌++◌}
+use Rattle.std.proofs.lemmas.Bool.{eqb-true, and_parts, le-leb, not-false}
 use Rattle.std.proofs.lemmas.List.{append-nil}
 use Rattle.std.proofs.lemmas.Option.{same_Some}
-use Rattle.rpki_der.specs.Sequences.{AreEncodings}
-use Rattle.rpki_der.specs.Primitives.{number}
-use Rattle.rpki_der.specs.Values.{sequence, nested, sequence_of_some}
-use Rattle.rpki_der.specs.Tags.{SEQUENCE, OCTET_STRING, CONTEXT_CONSTRUCTED}
-use Rattle.rpki_der.proofs.ValueWritten.{Short, bool_cases, made, content_short, pieces_short, number_made, nested_made, nested_short}
-use Rattle.rpki_blocks.specs.Sets.{Block, IsChain}
+use Rattle.rpki_der.specs.Formats.{Format}
+use Rattle.rpki_der.specs.Primitives.{null}
+use Rattle.rpki_der.specs.Tags.{SEQUENCE, OCTET_STRING}
+use Rattle.rpki_der.specs.Values.{AreOctets, enc, length_octets, sequence_of_some}
+use Rattle.rpki_der.proofs.FormatAnswers.{IsAlone}
+use Rattle.rpki_der.proofs.WrittenOctets.{IfShort, ok_concat, ok_enc}
+use Rattle.rpki_blocks.specs.Sets.{Block, IsChain, AreUpTo, IsSet}
 use Rattle.rpki_blocks.specs.Prefixes.{is_v4_block, AreV4}
 use Rattle.rpki_blocks.specs.Resources.{Resources, missing, inherit, blocks, IsResources}
-use Rattle.rpki_blocks.specs.Unions.{IsResourceChoice, written_choice}
-use Rattle.rpki_blocks.specs.Addresses.{Families, IsIPAddressOrRange, IsIPAddressFamily, IsIPAddrBlocks, Ip, or_missing, family, family_pieces, ip}
-use Rattle.rpki_blocks.specs.Systems.{IsASId, IsASRange, IsASIdOrRange, IsASIdentifiers, as_block, written_as}
-use Rattle.rpki_blocks.specs.AddressBits.{ip_block}
-use Rattle.rpki_blocks.proofs.AddressWritten.{v6_block_made, v4_block_made}
+use Rattle.rpki_blocks.specs.Unions.{resource_choice}
+use Rattle.rpki_blocks.specs.Addresses.{Families, Ip, or_missing, afi, family_of, family, ip, ip_address_or_range_format, ip_address_family_format, ip_addr_blocks_format}
+use Rattle.rpki_blocks.specs.Systems.{as_range_format, as_id_or_range_format, as_identifiers_format, written_as}
+use Rattle.rpki_blocks.specs.declared.ip_resources.Family.{Family}
+use Rattle.rpki_blocks.specs.declared.ip_resources.Family.TheVariants.{V4, V6}
+use Rattle.rpki_blocks.proofs.AddressReads.{ip_alone}
+use Rattle.rpki_blocks.proofs.AddressWritten.{block_text, v4_fits, v6_fits}
+use Rattle.rpki_blocks.proofs.SystemReads.{as_alone}
 
-as_block_made : (b : Block) → b.min ≤ b.max → b.max < 2 ^ 32 → Short (as_block b) → IsASIdOrRange b (as_block b)
-as_block_made b order small short =
-    elim (bool_cases (b.min == b.max)) [
-      | inl t ↦
-          let same : b.min ≡ b.max = eqb-true _ _ t in
-          let is : as_block b ≡ number b.min = rw t in
-          inr (same, subst (λ (s : List ℕ). IsASId b.min s) (sym is) (record { number = number_made b.min (subst Short is short); small = omega arith }))
-      | inr f ↦
-          let is : as_block b ≡ sequence (number b.min ∷ number b.max ∷ []) = rw f in
-          let short' : Short (sequence (number b.min ∷ number b.max ∷ [])) = subst Short is short in
-          let shorts = pieces_short (number b.min ∷ number b.max ∷ []) (content_short SEQUENCE _ short') in
-          let range : IsASRange b (sequence (number b.min ∷ number b.max ∷ [])) = record {
-            from = number b.min;
-            to = number b.max;
-            from_is = record { number = number_made b.min shorts.0; small = omega arith };
-            to_is = record { number = number_made b.max shorts.1.0; small = small };
-            sequence = made SEQUENCE _ (omega arith) short';
-            ordered = order;
-          } in
-          inl (subst (λ (s : List ℕ). IsASRange b s) (sym is) range)
-    ]
+-- what a format writes of a value that fits encodes it, and consists of octets
+is_made : {V : Type 0} (f : Format V) → IsAlone f → (v : V) (c : List ℕ) → f.written v ≡ c → f.fits v → length c < 2 ^ 32 → f.encodes v c × AreOctets c
+is_made f alone v c is fits = subst (λ (t : List ℕ). length t < 2 ^ 32 → f.encodes v t × AreOctets t) is (λ short. (alone.law.made v fits short, alone.law.octets v fits short))
 
-chain_order : (bs : List Block) → IsChain bs → AllByRecursion (λ b. b.min ≤ b.max) bs
-chain_order [] h = tt
-chain_order (b ∷ []) h = (h, tt)
-chain_order (b ∷ c ∷ bs) h = (h.0, chain_order (c ∷ bs) h.2)
+-- ---- a choice
 
--- the resources are written, and each block has P
-abbrev pub FitsWith : (Block → Type 0) → Resources → Type 0
-FitsWith P missing = Unit {0}
-FitsWith P inherit = Unit {0}
-FitsWith P (blocks bs) = (bs ≢ []) × IsChain bs × AllByRecursion P bs
+-- blocks of a set can be written where each up to the greatest number can
+pub all_fit : (element : Format Block) (greatest : ℕ) → ((b : Block) → b.min ≤ b.max → b.max ≤ greatest → element.fits b) → (bs : List Block) → IsChain bs → AreUpTo greatest bs → AllByRecursion element.fits bs
+all_fit element greatest each [] chain small = tt
+all_fit element greatest each (b ∷ []) chain small = (each b chain small.0, tt)
+all_fit element greatest each (b ∷ c ∷ bs) chain small = (each b chain.0 small.0, all_fit element greatest each (c ∷ bs) chain.2 small.1)
 
-both : {X : Type 0} (P Q : X → Type 0) (xs : List X) → AllByRecursion P xs → AllByRecursion Q xs → AllByRecursion (λ x. P x × Q x) xs
-both P Q [] p q = tt
-both P Q (x ∷ xs) p q = ((p.0, q.0), both P Q xs p.1 q.1)
+all_v4 : (bs : List Block) → IsChain bs → AreUpTo (2 ^ 128 - 1) bs → list_all is_v4_block bs ≡ true → AllByRecursion (ip_address_or_range_format V4).fits bs
+all_v4 [] chain small v4 = tt
+all_v4 (b ∷ []) chain small v4 = (v4_fits b (and_parts _ _ v4).0 chain (omega (arith, small.0)), tt)
+all_v4 (b ∷ c ∷ bs) chain small v4 = let p = and_parts _ _ v4 in (v4_fits b p.0 chain.0 (omega (arith, small.0)), all_v4 (c ∷ bs) chain.2 small.1 p.1)
 
--- a block of numbers of the kind
-abbrev pub IsBlock : ℕ → Block → Type 0
-IsBlock greatest b = (b.min ≤ b.max) × (b.max ≤ greatest)
+-- a choice that is there can be written where its blocks can
+choice_fits : (element : Format Block) (greatest : ℕ) (r : Resources) → IsResources greatest r → (r ≡ missing → ⊥) → ((bs : List Block) → r ≡ blocks bs → IsSet greatest bs → AllByRecursion element.fits bs) → (resource_choice element).fits r
+unfolding resource_choice
+choice_fits element greatest missing f there all = absurd (there refl)
+choice_fits element greatest inherit f there all = (λ e. absurd cc, λ e. (refl, tt))
+choice_fits element greatest (blocks []) f there all = absurd (f.0 refl)
+choice_fits element greatest (blocks (b ∷ bs)) f there all = (λ e. (refl, f.1.chain, all (b ∷ bs) refl f.1), λ e. absurd cc)
 
-abbrev IsAsBlock : Block → Type 0
-IsAsBlock b = IsBlock (2 ^ 32 - 1) b
+-- ---- AS numbers
 
--- a block of IPv6 addresses
-abbrev pub IsV6 : Block → Type 0
-IsV6 b = IsBlock (2 ^ 128 - 1) b
+as_block_fits : (b : Block) → b.min ≤ b.max → b.max ≤ 2 ^ 32 - 1 → as_id_or_range_format.fits b
+unfolding as_id_or_range_format as_range_format
+as_block_fits b order small =
+    (λ range. (le-leb b.min b.max order, (omega arith, omega arith)), λ one. let same : b.min ≡ b.max = eqb-true _ _ (not-false (b.min == b.max) one) in (λ i. Some (record { min = b.min; max = same i }), omega arith))
 
-abbrev IsV4 : Block → Type 0
-IsV4 b = IsBlock (2 ^ 128 - 1) b × (is_v4_block b ≡ true)
+-- what is written of AS numbers is what their format writes, and they are there
+pub as_written : (r : Resources) (c : List ℕ) → written_as r ≡ Some c → (r ≡ missing → ⊥) × (as_identifiers_format.written r ≡ c)
+unfolding as_identifiers_format resource_choice
+as_written missing c e = absurd cc
+as_written inherit c e = (λ is. absurd cc, same_Some _ _ e)
+as_written (blocks bs) c e = (λ is. absurd cc, same_Some _ _ e)
 
-fits : (greatest : ℕ) (r : Resources) → IsResources greatest r → FitsWith (IsBlock greatest) r
-fits greatest missing f = tt
-fits greatest inherit f = tt
-fits greatest (blocks bs) f = (f.0, f.1.chain, both (λ b. b.min ≤ b.max) (λ b. b.max ≤ greatest) bs (chain_order bs f.1.chain) f.1.small)
+-- what is written of AS numbers encodes them, and consists of octets
+pub as_resources_made : (r : Resources) (c : List ℕ) → written_as r ≡ Some c → IsResources (2 ^ 32 - 1) r → length c < 2 ^ 32 → as_identifiers_format.encodes r c × AreOctets c
+unfolding as_identifiers_format
+as_resources_made r c e f short =
+    let w = as_written r c e in
+    is_made as_identifiers_format as_alone r c w.1 (choice_fits as_id_or_range_format (2 ^ 32 - 1) r f w.0 (λ bs is set. all_fit as_id_or_range_format (2 ^ 32 - 1) as_block_fits bs set.chain set.small)) short
 
-fits_as : (r : Resources) → IsResources (2 ^ 32 - 1) r → FitsWith IsAsBlock r
-fits_as r f = fits (2 ^ 32 - 1) r f
-
--- the blocks of IPv6 resources are of IPv6 addresses
-pub fits_v6 : (r : Resources) → IsResources (2 ^ 128 - 1) r → FitsWith IsV6 r
-fits_v6 r f = fits (2 ^ 128 - 1) r f
-
-all_v4 : (bs : List Block) → list_all is_v4_block bs ≡ true → AllByRecursion (λ b. is_v4_block b ≡ true) bs
-all_v4 [] h = tt
-all_v4 (b ∷ bs) h = let r = and_parts _ _ h in (r.0, all_v4 bs r.1)
-
-fits_v4 : (r : Resources) → IsResources (2 ^ 128 - 1) r → AreV4 r → FitsWith IsV4 r
-fits_v4 missing f v = tt
-fits_v4 inherit f v = tt
-fits_v4 (blocks bs) f v = let g = fits (2 ^ 128 - 1) (blocks bs) f in (g.0, g.1, both (IsBlock (2 ^ 128 - 1)) (λ b. is_v4_block b ≡ true) bs g.2 (all_v4 bs v))
-
--- what is written of a block encodes it
-abbrev pub Writes : (Block → Type 0) → (Block → List ℕ) → (Block → List ℕ → Type 0) → Type 0
-Writes P write element = (b : Block) → P b → Short (write b) → element b (write b)
-
--- what is written of blocks, one after the other, is a sequence of them
-pub elements_made : (P : Block → Type 0) (write : Block → List ℕ) (element : Block → List ℕ → Type 0) → Writes P write element → (bs : List Block) → AllByRecursion P bs → AllByRecursion Short (map write bs) → AreEncodings element bs (concat (map write bs))
-elements_made P write element w [] f s = refl
-elements_made P write element w (b ∷ bs) f s = (write b, concat (map write bs), w b f.0 s.0, elements_made P write element w bs f.1 s.1, refl)
-
-choice_made : (P : Block → Type 0) (write : Block → List ℕ) (element : Block → List ℕ → Type 0) → Writes P write element → (r : Resources) (c : List ℕ) → written_choice write r ≡ Some c → FitsWith P r → Short c → IsResourceChoice element r c
-choice_made P write element w missing c e f s = absurd cc
-choice_made P write element w inherit c e f s = inr (refl, sym (same_Some _ _ e))
-choice_made P write element w (blocks []) c e f s = absurd (f.0 refl)
-choice_made P write element w (blocks (b ∷ bs)) c e f s =
-    let is : sequence (map write (b ∷ bs)) ≡ c = same_Some _ _ e in
-    let short : Short (sequence (map write (b ∷ bs))) = subst Short (sym is) s in
-    let sequence_is = elements_made P write element w (b ∷ bs) f.2 (pieces_short (map write (b ∷ bs)) (content_short SEQUENCE _ short)) in
-    subst (λ (x : List ℕ). IsResourceChoice element (blocks (b ∷ bs)) x) is (inl (record {
-      elements = b ∷ bs;
-      encoded = record { content = concat (map write (b ∷ bs)); content_is = sequence_is; enc = made SEQUENCE _ (omega arith) short };
-      union = record { chain = b ∷ bs; is_chain = f.1; same = λ n. refl; is = refl };
-    }))
-
-as_writes : Writes IsAsBlock as_block IsASIdOrRange
-as_writes b p short = as_block_made b p.0 (omega (arith, p.1)) short
-
--- what is written of a block of IPv6 addresses encodes it
-pub v6_writes : Writes IsV6 ip_block (IsIPAddressOrRange 128)
-v6_writes b p short = v6_block_made b p.0 (omega (arith, p.1)) short
-
-v4_writes : Writes IsV4 ip_block (IsIPAddressOrRange 32)
-v4_writes b p short = v4_block_made b p.1 p.0.0 (omega (arith, p.0.1)) short
-
--- what is written of AS numbers encodes them
-pub as_resources_made : (r : Resources) (c : List ℕ) → written_as r ≡ Some c → IsResources (2 ^ 32 - 1) r → Short c → IsASIdentifiers r c
-as_resources_made r c e f s = go (written_choice as_block r) refl e
-  where
-    go : (o : Option (List ℕ)) → written_choice as_block r ≡ o → option_map (nested (SEQUENCE ∷ CONTEXT_CONSTRUCTED 0 ∷ [])) o ≡ Some c → IsASIdentifiers r c
-    go None k e = absurd cc
-    go (Some x) k e =
-        let is : nested (SEQUENCE ∷ CONTEXT_CONSTRUCTED 0 ∷ []) x ≡ c = same_Some _ _ e in
-        let short : Short (nested (SEQUENCE ∷ CONTEXT_CONSTRUCTED 0 ∷ []) x) = subst Short (sym is) s in
-        subst (λ (y : List ℕ). IsASIdentifiers r y) is (record {
-          choice = x;
-          choice_is = choice_made IsAsBlock as_block IsASIdOrRange as_writes r x k (fits_as r f) (nested_short (SEQUENCE ∷ CONTEXT_CONSTRUCTED 0 ∷ []) x short);
-          nested = nested_made (SEQUENCE ∷ CONTEXT_CONSTRUCTED 0 ∷ []) x (omega arith, (omega arith, tt)) short;
-        })
-
-one_family : (n width : ℕ) (P : Block → Type 0) → Writes P ip_block (IsIPAddressOrRange width) → (r : Resources) (c : List ℕ) → written_choice ip_block r ≡ Some c → FitsWith P r → Short (sequence ((OCTET_STRING ∷ 2 ∷ 0 ∷ n ∷ []) ∷ c ∷ [])) → IsIPAddressFamily n width r (sequence ((OCTET_STRING ∷ 2 ∷ 0 ∷ n ∷ []) ∷ c ∷ []))
-one_family n width P w r c k f short = record {
-  choice = c;
-  choice_is = choice_made P ip_block (IsIPAddressOrRange width) w r c k f (pieces_short ((OCTET_STRING ∷ 2 ∷ 0 ∷ n ∷ []) ∷ c ∷ []) (content_short SEQUENCE _ short)).1.0;
-  sequence = made SEQUENCE _ (omega arith) short;
-}
-
--- a family that is missing isn't written; another is one value
-abbrev IsWritten : ℕ → ℕ → Resources → Type 0
-IsWritten n width r = ((r ≡ missing) × (family n r ≡ [])) ⊎ ((x : List ℕ) × (family n r ≡ x ∷ []) × (Short x → IsIPAddressFamily n width r x) × (r ≡ missing → ⊥))
-
-family_made : (n width : ℕ) (P : Block → Type 0) → Writes P ip_block (IsIPAddressOrRange width) → (r : Resources) → FitsWith P r → IsWritten n width r
-family_made n width P w missing f = inl (refl, refl)
-family_made n width P w inherit f = inr (_, refl, λ short. one_family n width P w inherit _ refl f short, λ e. cc)
-family_made n width P w (blocks bs) f = inr (_, refl, λ short. one_family n width P w (blocks bs) _ refl f short, λ e. cc)
+-- ---- addresses
 
 -- the families that are written
 pub present : Resources → Option Resources
@@ -173,46 +88,62 @@ present_is missing = refl
 present_is inherit = refl
 present_is (blocks bs) = refl
 
-present_some : (r : Resources) → (r ≡ missing → ⊥) → present r ≡ Some r
-unfolding present
-present_some missing h = absurd (h refl)
-present_some inherit h = refl
-present_some (blocks bs) h = refl
+-- the number of a family
+abbrev pub number : Family → ℕ
+number V4 = 1
+number V6 = 2
 
-present_none : (r : Resources) → r ≡ missing → present r ≡ None
-unfolding present
-present_none missing h = refl
-present_none inherit h = absurd cc
-present_none (blocks bs) h = absurd cc
+-- what is written of it
+pub afi_written : (f : Family) → enc OCTET_STRING (afi f) ≡ OCTET_STRING ∷ 2 ∷ 0 ∷ number f ∷ []
+unfolding enc length_octets
+afi_written V4 = refl
+afi_written V6 = refl
 
--- what is written of addresses encodes them
-pub ip_made : (i : Ip) (c : List ℕ) → ip i ≡ Some c → IsResources (2 ^ 128 - 1) i.v4 → AreV4 i.v4 → IsResources (2 ^ 128 - 1) i.v6 → Short c → IsIPAddrBlocks (written_families i) c
-ip_made i c e f4 only_v4 f6 s =
-    elim (family_made 1 32 IsV4 v4_writes i.v4 (fits_v4 i.v4 f4 only_v4)) [
-      | inl a ↦ elim (family_made 2 128 IsV6 v6_writes i.v6 (fits_v6 i.v6 f6)) [
-        | inl b ↦ let none : sequence_of_some [] ≡ Some c = rw (a.1, b.1) at e in absurd cc
-        | inr b ↦
-            let is : sequence (b.0 ∷ []) ≡ c = same_Some _ _ (rw (a.1, b.1) at e) in
-            let short : Short (sequence (b.0 ∷ [])) = subst Short (sym is) s in
-            subst (λ (x : List ℕ). IsIPAddrBlocks (written_families i) x) is (record { pieces = b.0 ∷ []; families = inr ((i.v6, b.2 (pieces_short (b.0 ∷ []) (content_short SEQUENCE _ short)).0, present_some i.v6 b.3), present_none i.v4 a.0); sequence = made SEQUENCE _ (omega arith) short })
+-- a family that is missing isn't written; another is one value, as its format writes it
+abbrev pub IsWritten : Family → Resources → Type 0
+IsWritten f r = ((r ≡ missing) × (present r ≡ None) × (family (number f) r ≡ [])) ⊎ ((r ≡ missing → ⊥) × (present r ≡ Some r) × (family (number f) r ≡ ip_address_family_format.written (f, r) ∷ []))
+
+-- each is written so
+pub family_text : (f : Family) (r : Resources) → IsWritten f r
+unfolding ip_address_family_format resource_choice present
+family_text f missing = inl (refl, refl, refl)
+family_text f inherit = inr (λ e. absurd cc, refl, ap (λ (t : List ℕ). enc SEQUENCE (t ++ null) ∷ []) (sym (afi_written f)))
+family_text f (blocks bs) = inr (λ e. absurd cc, refl, λ i. enc SEQUENCE (sym (afi_written f) i ++ enc SEQUENCE (flat_map (λ b. sym (block_text f b) i) bs)) ∷ [])
+
+family_fits : (f : Family) (r : Resources) → IsResources (2 ^ 128 - 1) r → ((bs : List Block) → r ≡ blocks bs → IsSet (2 ^ 128 - 1) bs → AllByRecursion (ip_address_or_range_format f).fits bs) → (r ≡ missing → ⊥) → ip_address_family_format.fits (f, r)
+unfolding ip_address_family_format
+family_fits f r fit all there = (named f, (refl, choice_fits (ip_address_or_range_format f) (2 ^ 128 - 1) r fit there all))
+  where
+    named : (f : Family) → (family_of (afi f) ≡ Some f) × AreOctets (afi f)
+    named V4 = (refl, (omega arith, (omega arith, tt)))
+    named V6 = (refl, (omega arith, (omega arith, tt)))
+
+-- what is written of addresses is what the format of their families writes
+ip_written : (i : Ip) (c : List ℕ) → ip i ≡ Some c → ((i.v4 ≡ missing → ⊥) → ip_address_family_format.fits (V4, i.v4)) → ((i.v6 ≡ missing → ⊥) → ip_address_family_format.fits (V6, i.v6))
+    → ip_addr_blocks_format.fits (written_families i) × (ip_addr_blocks_format.written (written_families i) ≡ c)
+unfolding ip_addr_blocks_format
+ip_written i c e four six =
+    elim (family_text V4 i.v4) [
+      | inl a ↦ elim (family_text V6 i.v6) [
+        | inl b ↦ let none : sequence_of_some [] ≡ Some c = rw (a.2, b.2) at e in absurd cc
+        | inr b ↦ rw (a.1, b.1) ((refl, (six b.0, tt)), same_Some _ _ (rw (a.2, b.2) at e))
       ]
-      | inr a ↦ elim (family_made 2 128 IsV6 v6_writes i.v6 (fits_v6 i.v6 f6)) [
-        | inl b ↦
-            let is : sequence (a.0 ∷ []) ≡ c = same_Some _ _ (rw (a.1, b.1) at e) in
-            let short : Short (sequence (a.0 ∷ [])) = subst Short (sym is) s in
-            subst (λ (x : List ℕ). IsIPAddrBlocks (written_families i) x) is (record { pieces = a.0 ∷ []; families = inl ((i.v4, a.2 (pieces_short (a.0 ∷ []) (content_short SEQUENCE _ short)).0, present_some i.v4 a.3), present_none i.v6 b.0); sequence = made SEQUENCE _ (omega arith) short })
+      | inr a ↦ elim (family_text V6 i.v6) [
+        | inl b ↦ rw (a.1, b.1) ((refl, (four a.0, tt)), same_Some _ _ (rw (a.2, b.2) at e))
         | inr b ↦
-            let is : sequence (a.0 ∷ b.0 ∷ []) ≡ c = same_Some _ _ (rw (a.1, b.1) at e) in
-            let short : Short (sequence (a.0 ∷ b.0 ∷ [])) = subst Short (sym is) s in
-            let shorts = pieces_short (a.0 ∷ b.0 ∷ []) (content_short SEQUENCE _ short) in
-            subst (λ (x : List ℕ). IsIPAddrBlocks (written_families i) x) is (record { pieces = a.0 ∷ b.0 ∷ []; families = inl ((i.v4, a.2 shorts.0, present_some i.v4 a.3), (i.v6, b.2 shorts.1.0, present_some i.v6 b.3)); sequence = made SEQUENCE _ (omega arith) short })
+            let one = ip_address_family_format.written (V4, i.v4) in
+            let two = ip_address_family_format.written (V6, i.v6) in
+            rw (a.1, b.1) ((refl, (four a.0, six b.0)), ap (λ (t : List ℕ). enc SEQUENCE (one ++ t)) (sym (append-nil two)) ∙ same_Some _ _ (rw (a.2, b.2) at e))
       ]
     ]
 
-choice_none : (write : Block → List ℕ) (r : Resources) → written_choice write r ≡ None → r ≡ missing
-choice_none write missing e = refl
-choice_none write inherit e = absurd cc
-choice_none write (blocks bs) e = absurd cc
+-- what is written of addresses encodes them, and consists of octets
+pub ip_made : (i : Ip) (c : List ℕ) → ip i ≡ Some c → IsResources (2 ^ 128 - 1) i.v4 → AreV4 i.v4 → IsResources (2 ^ 128 - 1) i.v6 → length c < 2 ^ 32 → ip_addr_blocks_format.encodes (written_families i) c × AreOctets c
+ip_made i c e f4 only_v4 f6 short =
+    let w = ip_written i c e
+    (family_fits V4 i.v4 f4 (λ bs is set. all_v4 bs set.chain set.small (subst AreV4 is only_v4)))
+    (family_fits V6 i.v6 f6 (λ bs is set. all_fit (ip_address_or_range_format V6) (2 ^ 128 - 1) v6_fits bs set.chain set.small)) in
+    is_made ip_addr_blocks_format ip_alone (written_families i) c w.1 w.0 short
 
 -- only of missing AS numbers nothing is written
 pub no_as_resources : (r : Resources) → written_as r ≡ None → r ≡ missing
@@ -228,12 +159,15 @@ no_pieces (p ∷ ps) e = absurd cc
 -- only where both families are missing nothing is written of addresses
 pub no_ip : (i : Ip) → ip i ≡ None → i ≡ record { v4 = missing; v6 = missing }
 no_ip i e =
-    let four = none_of 1 (written_choice ip_block i.v4) _ (no_pieces _ e) in
-    let six = none_of 2 (written_choice ip_block i.v6) [] (rw (append-nil (family_pieces 2 (written_choice ip_block i.v6))) four.1) in
-    let a = choice_none ip_block i.v4 four.0 in
-    let b = choice_none ip_block i.v6 six.0 in
-    λ j. record { v4 = a j; v6 = b j }
-  where
-    none_of : (n : ℕ) (o : Option (List ℕ)) (ps : List (List ℕ)) → family_pieces n o ++ ps ≡ [] → (o ≡ None) × (ps ≡ [])
-    none_of n None ps e = (refl, e)
-    none_of n (Some c) ps e = absurd cc
+    elim (family_text V4 i.v4) [
+      | inl a ↦ elim (family_text V6 i.v6) [
+        | inl b ↦ λ j. record { v4 = a.0 j; v6 = b.0 j }
+        | inr b ↦ let some : sequence_of_some (ip_address_family_format.written (V6, i.v6) ∷ []) ≡ None = rw (a.2, b.2) at e in absurd cc
+      ]
+      | inr a ↦ let some : sequence_of_some (ip_address_family_format.written (V4, i.v4) ∷ family 2 i.v6) ≡ None = rw a.2 at e in absurd cc
+    ]
+
+-- a SEQUENCE of pieces, if short, consists of octets where they do
+pub ok_pieces : (ps : List (List ℕ)) → AllByRecursion IfShort ps → IfSome (sequence_of_some ps) IfShort
+ok_pieces [] h = tt
+ok_pieces (p ∷ ps) h = ok_enc SEQUENCE _ (omega arith) (ok_concat (p ∷ ps) h)

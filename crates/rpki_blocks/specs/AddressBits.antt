@@ -1,8 +1,9 @@
 -- How blocks of addresses are written: the bits that stand, and those that are left out (RFC 3779
 -- 2.1.2, 2.2.3.8, 2.2.3.9).
 use Rattle.std.specs.Prelude.{◌≡◌, ℕ, zero, suc, ◌+◌, ◌-◌, ◌*◌, ◌/◌, ◌%◌, ◌^◌, ◌==◌, ◌&&◌, Bool, true, false, cond, List, [], ◌∷◌, ◌++◌, Option, Some, None}
-use Rattle.rpki_der.specs.Tags.{BIT_STRING}
-use Rattle.rpki_der.specs.Values.{enc, sequence}
+use Rattle.rpki_der.specs.BasicFormats.{bit_string}
+use Rattle.rpki_der.specs.Tags.{SEQUENCE}
+use Rattle.rpki_der.specs.Values.{enc}
 use Rattle.rpki_blocks.specs.Sets.{Block}
 
 -- the greatest number up to n that passes, 0 where none passes
@@ -15,12 +16,20 @@ abbrev pub octets_of : ℕ → ℕ → List ℕ
 octets_of zero n = []
 octets_of (suc count) n = octets_of count (n / 256) ++ (n % 256) ∷ []
 
--- the BIT STRING of an address of 128 bits without its last bits
-unfoldable pub without : ℕ → ℕ → List ℕ
-without last address =
+-- an address of 128 bits without its last bits: the count of unused bits, and octets
+abbrev pub front : ℕ → ℕ → ℕ × List ℕ
+front last address =
     let count : ℕ = (128 - last + 7) / 8 in
     let unused : ℕ = 8 * count - (128 - last) in
-    enc BIT_STRING (unused ∷ octets_of count (address / 2 ^ last * 2 ^ unused))
+    (unused, octets_of count (address / 2 ^ last * 2 ^ unused))
+
+-- the BIT STRING of it
+unfoldable pub without : ℕ → ℕ → List ℕ
+without last address = bit_string.written (front last address)
+
+-- the block of the addresses that differ from this one in the last bits alone
+abbrev pub around : ℕ → ℕ → Block
+around last address = record { min = address / 2 ^ last * 2 ^ last; max = address / 2 ^ last * 2 ^ last + 2 ^ last - 1 }
 
 -- whether the block is all addresses that differ in the last bits alone
 abbrev pub is_prefix : Block → ℕ → Bool
@@ -46,7 +55,7 @@ one_bits n = greatest (λ last. (n + 1) % 2 ^ last == 0) 128
 -- IPAddressRange: the lower end without its trailing zero bits, the upper end without its trailing
 -- one bits
 abbrev pub ip_range : ℕ → ℕ → List ℕ
-ip_range min max = sequence (without (zero_bits min) min ∷ without (one_bits max) max ∷ [])
+ip_range min max = enc SEQUENCE (without (zero_bits min) min ++ without (one_bits max) max)
 
 -- IPAddressOrRange: a prefix where one covers the block exactly, else a range
 abbrev pub ip_block : Block → List ℕ

@@ -1,13 +1,14 @@
 //! The AS numbers that a certificate lists (RFC 3779 3.2.3).
 ghost use Rattle.std.specs.Prelude.{◌^◌, Some};
-ghost use Rattle.rpki_der.specs.Place.{remaining, Keeps, AnswersOrMemory};
-ghost use Rattle.rpki_der.specs.Place.Reading.{Took, TookOrMemory, Returns};
-ghost use Rattle.rpki_der.specs.Tags.{INTEGER, SEQUENCE};
-ghost use Rattle.rpki_der.specs.Values.{AreOctets};
-ghost use Rattle.rpki_blocks.specs.Systems.{IsASIdentifiers};
-ghost use Rattle.rpki_blocks.specs.Systems.Reading.{as_range_of, single, as_id, as_element_at, as_identifiers_at};
+ghost use Rattle.rpki_der.proofs.Choices.{choice_shrinks, conversion_shrinks, content_shrinks, inside_shrinks};
 ghost use Rattle.rpki_der.specs.Primitives.Reading.{number_below, u32_at};
-ghost use Rattle.rpki_der.proofs.Choices.{content_or_shrinks, conversion_shrinks, content_shrinks};
+ghost use Rattle.rpki_der.specs.Tags.{INTEGER, SEQUENCE};
+ghost use Rattle.rpki_der.specs.Answers.{AnswersOrMemory};
+ghost use Rattle.rpki_der.specs.Place.{remaining, Keeps};
+ghost use Rattle.rpki_der.specs.Place.Reading.{Took, TookOrMemory};
+ghost use Rattle.rpki_der.specs.Values.{AreOctets};
+ghost use Rattle.rpki_blocks.specs.Sets.{between};
+ghost use Rattle.rpki_blocks.specs.Systems.{as_id_format, as_ends_format, as_range_format, as_id_or_range_format, as_identifiers_format};
 
 use crate::asn::Asn;
 use crate::block::AsBlock;
@@ -19,42 +20,45 @@ use std::alloc::Global;
 // The kind of AS numbers.
 struct AsNumbers;
 
-// A range of a whole content.
+// The range that stands next.
+#[tactic(auto, unfolding(crate::specs::Systems::as_range_format))]
 #[inline(always)]
-fn range_in(mut content: Cursor<'_>) -> Result<AsBlock, DecodeError>
-    ensures { Returns result (as_range_of (remaining content.entry)) }
+fn take_range(cursor: &mut Cursor<'_>) -> Result<AsBlock, DecodeError>
+    ensures reads { Took as_range_format.read cursor.old result cursor.new }
+    ensures keeps { Keeps result cursor.old cursor.new }
 {
+    let mut ahead = cursor.fork();
+    let mut content = ahead.take_sequence()?;
     let low = content.take_u32()?;
     let high = content.take_u32()?;
     if high < low {
         return Err(DecodeError::BadValue);
     }
     content.finish()?;
+    *cursor = ahead;
     Ok(AsBlock::of_ends(Asn::from(low), Asn::from(high)))
 }
 
-#[tactic(auto, unfolding(crate::specs::Systems::Reading::as_element_at))]
+// The number or the range that stands next.
+#[tactic(auto, unfolding(crate::specs::Systems::as_id_or_range_format))]
 #[inline(always)]
 fn take_element(cursor: &mut Cursor<'_>) -> Result<AsBlock, DecodeError>
-    ensures reads { Took as_element_at cursor.old result cursor.new }
+    ensures reads { Took as_id_or_range_format.read cursor.old result cursor.new }
     ensures keeps { Keeps result cursor.old cursor.new }
 {
-    let mut ahead = cursor.fork();
-    let block = match ahead.take_opt_sequence()? {
-        Some(content) => range_in(content)?,
-        None => {
-            let number = Asn::from(ahead.take_u32()?);
-            AsBlock::of_ends(number, number)
+    match cursor.rest() {
+        [tag::SEQUENCE, ..] => take_range(cursor),
+        _ => {
+            let number = Asn::from(cursor.take_u32()?);
+            Ok(AsBlock::of_ends(number, number))
         }
-    };
-    *cursor = ahead;
-    Ok(block)
+    }
 }
 
 impl Elements for AsNumbers {
     type End = Asn;
 
-    ghost element_at = { λ _. as_element_at };
+    ghost element = { λ _. as_id_or_range_format };
 
     #[inline(always)]
     fn take_element(&self, cursor: &mut Cursor<'_>) -> Result<AsBlock, DecodeError> {
@@ -66,16 +70,18 @@ impl Elements for AsNumbers {
         octets / 3 + 1
     }
 
-    ghost shrinks = { λ _. unfold as_element_at u32_at in
-        content_or_shrinks SEQUENCE as_range_of as_id
-        (conversion_shrinks single u32_at (content_shrinks INTEGER (number_below (2 ^ 32)))) };
+    ghost shrinks = { λ _. unfold as_id_or_range_format as_range_format u32_at in
+        choice_shrinks SEQUENCE as_range_format.read as_id_format.read
+        (inside_shrinks SEQUENCE as_ends_format.read)
+        (conversion_shrinks (λ n. Some (between n n)) u32_at
+        (content_shrinks INTEGER (number_below (2 ^ 32)))) };
 }
 
 impl AsResources {
-    // ASIdentifiers, by the reading function.
-    #[tactic(auto, unfolding(crate::specs::Systems::Reading::as_identifiers_at))]
+    // ASIdentifiers, by their format.
+    #[tactic(auto, unfolding(crate::specs::Systems::as_identifiers_format))]
     fn read_from(alloc: Global, cursor: &mut Cursor<'_>) -> Result<AsResources, DecodeError>
-        ensures reads { TookOrMemory as_identifiers_at cursor.old result cursor.new }
+        ensures reads { TookOrMemory as_identifiers_format.read cursor.old result cursor.new }
         ensures keeps { Keeps result cursor.old cursor.new }
         ensures octets { AreOctets (remaining cursor.old) }
     {
@@ -92,10 +98,9 @@ impl AsResources {
     /// Reads the ASIdentifiers that stand next (RFC 3779 3.2.3). An empty list counts as missing.
     /// Elements may stand in any order, overlap and touch. Errs where a lower end is above its
     /// upper one, and where routing domain identifiers stand (RFC 6487 4.8.11).
+    #[tactic(auto, using(rpki_der::proofs::FormatAnswers::answers_or_memory_alone, crate::proofs::SystemReads::as_alone))]
     pub fn take_from(alloc: Global, cursor: &mut Cursor<'_>) -> Result<AsResources, DecodeError>
-        ensures answers { AnswersOrMemory IsASIdentifiers cursor.old result cursor.new }
-        ensures reads { TookOrMemory as_identifiers_at cursor.old result cursor.new }
-        ensures keeps { Keeps result cursor.old cursor.new }
+        ensures { AnswersOrMemory as_identifiers_format cursor.old result cursor.new }
     {
         AsResources::read_from(alloc, cursor)
     }

@@ -1,35 +1,37 @@
 //! Lists of blocks in resources of certificates (RFC 3779 2.2.3.4, 3.2.3.2).
-ghost use Rattle.std.specs.Prelude.{◌++◌, ℕ, List, [], ◌∷◌, Option, Some, OnOk};
+ghost use Rattle.std.specs.Prelude.{◌++◌, [], ◌∷◌, OnOk};
+ghost use Rattle.rpki_der.specs.Formats.{Format};
 ghost use Rattle.rpki_der.specs.Place.{remaining, Keeps};
 ghost use Rattle.rpki_der.specs.Place.Reading.{Took, TookOrMemory, ReturnsOrMemory, ReturnsOrMemoryBy};
 ghost use Rattle.rpki_der.specs.Sequences.Reading.{Shrinks};
 ghost use Rattle.rpki_blocks.specs.Resources.{listed};
 ghost use Rattle.rpki_blocks.specs.Sets.{Block as Span, HaveSameNumbers};
-ghost use Rattle.rpki_blocks.specs.Unions.Reading.{merged, union_of, choice_at};
+ghost use Rattle.rpki_blocks.specs.Unions.{resource_choice};
+ghost use Rattle.rpki_blocks.specs.Unions.Reading.{merged, union_of};
 
 use crate::block::Block;
 use crate::bound::Bound;
 use crate::chain::{Chain, merge};
 use crate::resources::Resources;
-use rpki_der::{Cursor, DecodeError};
+use rpki_der::{Cursor, DecodeError, tag};
 use std::alloc::{AllocError, Global};
 
 /// A kind of numbers, and how one element of a list of them is read.
 pub(crate) trait Elements {
     type End: Bound;
 
-    /// The reading function of an element.
-    ghost element_at: { Self → List ℕ → Option (Span × List ℕ) };
+    /// The format of an element.
+    ghost element: { Self → Format Span };
 
     fn take_element(&self, cursor: &mut Cursor<'_>) -> Result<Block<Self::End>, DecodeError>
-        ensures reads { Took (element_at self.now) cursor.old result cursor.new }
+        ensures reads { Took (element self.now).read cursor.old result cursor.new }
         ensures keeps { Keeps result cursor.old cursor.new };
 
     /// For how many blocks room is made before a sequence of so many octets is read.
     fn room(&self, octets: usize) -> usize;
 
     /// An element has octets.
-    ghost shrinks: { (kind : Self) → Shrinks (element_at kind) };
+    ghost shrinks: { (kind : Self) → Shrinks (element kind).read };
 }
 
 // Merges blocks that fill their room, and makes more where that frees less than half of it.
@@ -69,7 +71,7 @@ fn elements_in<K: Elements>(
     mut content: Cursor<'_>,
 ) -> Result<Vec<Block<K::End>>, DecodeError>
     ensures { ReturnsOrMemoryBy (λ v. listed (merged v.items)) result
-        (union_of (K.element_at kind.now) (remaining content.entry)) }
+        (union_of (K.element kind.now).read (remaining content.entry)) }
 {
     let mut blocks = Vec::with_capacity(alloc, kind.room(content.rest().len()))?;
     while !content.is_empty() {
@@ -85,7 +87,7 @@ fn union_in<K: Elements>(
     kind: &K,
     content: Cursor<'_>,
 ) -> Result<Resources<K::End>, DecodeError>
-    ensures { ReturnsOrMemory result (union_of (K.element_at kind.now) (remaining content.entry)) }
+    ensures { ReturnsOrMemory result (union_of (K.element kind.now).read (remaining content.entry)) }
 {
     let blocks = elements_in(alloc, kind, content)?;
     Ok(Resources::blocks(Chain::from_blocks(blocks)))
@@ -93,19 +95,19 @@ fn union_in<K: Elements>(
 
 /// Reads an IPAddressChoice or an ASIdentifierChoice: NULL for what the issuer has, or a SEQUENCE
 /// of elements.
-#[tactic(auto, unfolding(crate::specs::Unions::Reading::choice_at))]
+#[tactic(auto, unfolding(crate::specs::Unions::resource_choice))]
 pub(crate) fn take_choice<K: Elements>(
     alloc: Global,
     kind: &K,
     cursor: &mut Cursor<'_>,
 ) -> Result<Resources<K::End>, DecodeError>
-    ensures reads { TookOrMemory (choice_at (K.element_at kind.now)) cursor.old result cursor.new }
+    ensures reads { TookOrMemory (resource_choice (K.element kind.now)).read cursor.old result cursor.new }
     ensures keeps { Keeps result cursor.old cursor.new }
 {
     let mut ahead = cursor.fork();
-    let resources = match ahead.take_opt_sequence()? {
-        Some(content) => union_in(alloc, kind, content)?,
-        None => {
+    let resources = match ahead.rest() {
+        [tag::SEQUENCE, ..] => union_in(alloc, kind, ahead.take_sequence()?)?,
+        _ => {
             ahead.take_null()?;
             Resources::inherit()
         }

@@ -1,6 +1,6 @@
 //! How resources are written.
 ghost use Rattle.std.specs.Prelude.{◌≡◌, ℕ, ◌+◌, ◌-◌, ◌^◌, ◌<◌, ◌≤◌, ◌++◌};
-ghost use Rattle.std.specs.Prelude.{List, [], true, map, IfOk, OnOk};
+ghost use Rattle.std.specs.Prelude.{List, [], true, flat_map, IfOk, OnOk};
 ghost use Rattle.std.specs.List.{concat};
 ghost use Rattle.std.specs.Option.{option_map};
 ghost use Rattle.rpki_blocks.specs.Sets.{between};
@@ -39,6 +39,7 @@ pub trait Encode: Bound {
 impl Encode for Asn {
     ghost written = { as_block };
 
+    #[tactic(auto, unfolding(crate::specs::Systems::as_id_or_range_format, crate::specs::Systems::as_range_format))]
     fn put_block(alloc: Global, out: &mut Vec<u8>, min: Asn, max: Asn) -> Result<(), EncodeError>
         requires { min ≤ max }
         ensures ok { OnOk result (out.new.items ≡ out.old.items ++ as_block (between min max)) }
@@ -52,7 +53,7 @@ impl Encode for Asn {
 }
 
 // Appends a SEQUENCE of two INTEGERs.
-#[tactic(auto, using(crate::proofs::Lengths::two_longer))]
+#[tactic(auto, using(crate::proofs::Lengths::two_longer), unfolding(crate::specs::Systems::as_range_format))]
 fn put_range(alloc: Global, out: &mut Vec<u8>, min: u32, max: u32) -> Result<(), EncodeError>
     ensures ok { OnOk result (out.new.items ≡ out.old.items ++ as_range min max) }
     ensures too_long { SaysLong result (as_range min max) }
@@ -73,8 +74,8 @@ fn put_number(out: &mut Vec<u8>, asn: u32) -> Result<(), EncodeError>
 
 // The elements of a set, one after the other.
 fn elements<B: Encode>(alloc: Global, chain: &Chain<B>) -> Result<Vec<u8>, EncodeError>
-    ensures ok { IfOk result (λ content. content.items ≡ concat (map B.written chain.now)) }
-    ensures too_long { SaysLong result (concat (map B.written chain.now)) }
+    ensures ok { IfOk result (λ content. content.items ≡ flat_map B.written chain.now) }
+    ensures too_long { SaysLong result (flat_map B.written chain.now) }
 {
     let mut content = Vec::new(alloc);
     for block in chain.iter() {

@@ -1,23 +1,24 @@
 //! The addresses that a certificate lists (RFC 3779 2.2.3).
 ghost use Rattle.std.specs.Prelude.{◌≡◌, ◌<◌, ◌≤◌, ◌+◌, ◌-◌, ◌*◌, ◌^◌, ◌%◌, [], length, Some};
 ghost use Rattle.std.specs.Int.Digits.{number_from_digits};
-ghost use Rattle.rpki_der.specs.Place.{remaining, Keeps, AnswersOrMemoryBy};
-ghost use Rattle.rpki_der.specs.Place.Reading.{Took, TookOrMemory, TookOrMemoryBy, Returns, ReturnsBy, ReturnsOrMemory, ReturnsOrMemoryBy};
+ghost use Rattle.rpki_der.proofs.Choices.{choice_shrinks, conversion_shrinks, content_shrinks, inside_shrinks};
+ghost use Rattle.rpki_der.specs.Primitives.Reading.{bits_at, bits_of};
+ghost use Rattle.rpki_der.specs.Answers.{AnswersOrMemoryBy};
+ghost use Rattle.rpki_der.specs.Place.{remaining, Keeps};
+ghost use Rattle.rpki_der.specs.Place.Reading.{Took, TookOrMemory, TookOrMemoryBy, Returns, ReturnsBy};
+ghost use Rattle.rpki_der.specs.Reading.{optional};
 ghost use Rattle.rpki_der.specs.Tags.{BIT_STRING, SEQUENCE};
 ghost use Rattle.rpki_der.specs.Values.{AreOctets};
-ghost use Rattle.rpki_blocks.specs.Addresses.{lower, upper, IsIPAddrBlocks};
+ghost use Rattle.rpki_blocks.specs.Addresses.{lower, upper, family_bits, prefix_of, ip_address_format, ip_address_ends_format, ip_address_range_format, ip_address_or_range_format};
+ghost use Rattle.rpki_blocks.specs.Addresses.{family_of, ip_address_family_format, with_second, ip_addr_blocks_format};
 ghost use Rattle.rpki_blocks.specs.Addresses.Views.{families_of};
-ghost use Rattle.rpki_blocks.specs.Addresses.Reading.{family_bits, prefix_of, address_at, address_range, ip_element_at, family_of, family_in, with_second, families_in, families_at};
-ghost use Rattle.rpki_der.specs.Primitives.Reading.{bits_at};
-ghost use Rattle.rpki_der.specs.Choices.{optional_of};
-ghost use Rattle.rpki_der.proofs.Choices.{content_or_shrinks, conversion_shrinks, content_shrinks};
 
 use crate::addr::Addr;
 use crate::block::{Block, IpBlock};
 use crate::elements::{Elements, take_choice};
 use crate::prefix::Prefix;
 use crate::resources::IpResources;
-use rpki_der::{Cursor, DecodeError};
+use rpki_der::{Cursor, DecodeError, tag};
 use std::alloc::Global;
 
 /// The two families of addresses.
@@ -126,10 +127,10 @@ fn prefix_of(bits: usize, unused: u8, octets: &[u8]) -> Result<IpBlock, DecodeEr
 }
 
 // The addresses that begin with the bits of the BIT STRING that stands next.
-#[tactic(auto, unfolding(crate::specs::Addresses::Reading::address_at))]
+#[tactic(auto, unfolding(crate::specs::Addresses::ip_address_format))]
 #[inline(always)]
 fn take_address(family: Family, cursor: &mut Cursor<'_>) -> Result<IpBlock, DecodeError>
-    ensures reads { Took (address_at family) cursor.old result cursor.new }
+    ensures reads { Took (ip_address_format family).read cursor.old result cursor.new }
     ensures keeps { Keeps result cursor.old cursor.new }
 {
     let mut ahead = cursor.fork();
@@ -140,34 +141,36 @@ fn take_address(family: Family, cursor: &mut Cursor<'_>) -> Result<IpBlock, Deco
 }
 
 // A range: from the first address of one prefix to the last of another.
+#[tactic(auto, unfolding(crate::specs::Addresses::ip_address_range_format))]
 #[inline(always)]
-fn range_in(family: Family, mut content: Cursor<'_>) -> Result<IpBlock, DecodeError>
-    ensures { Returns result (address_range family (remaining content.entry)) }
+fn take_range(family: Family, cursor: &mut Cursor<'_>) -> Result<IpBlock, DecodeError>
+    ensures reads { Took (ip_address_range_format family).read cursor.old result cursor.new }
+    ensures keeps { Keeps result cursor.old cursor.new }
 {
+    let mut ahead = cursor.fork();
+    let mut content = ahead.take_sequence()?;
     let low = take_address(family, &mut content)?.min();
     let high = take_address(family, &mut content)?.max();
     if high < low {
         return Err(DecodeError::BadValue);
     }
     content.finish()?;
+    *cursor = ahead;
     Ok(IpBlock::from((low, high)))
 }
 
 impl Elements for Family {
     type End = Addr;
 
-    ghost element_at = { ip_element_at };
+    ghost element = { ip_address_or_range_format };
 
-    #[tactic(auto, unfolding(crate::specs::Addresses::Reading::ip_element_at))]
+    #[tactic(auto, unfolding(crate::specs::Addresses::ip_address_or_range_format))]
     #[inline(always)]
     fn take_element(&self, cursor: &mut Cursor<'_>) -> Result<IpBlock, DecodeError> {
-        let mut ahead = cursor.fork();
-        let block = match ahead.take_opt_sequence()? {
-            Some(content) => range_in(*self, content)?,
-            None => take_address(*self, &mut ahead)?,
-        };
-        *cursor = ahead;
-        Ok(block)
+        match cursor.rest() {
+            [tag::SEQUENCE, ..] => take_range(*self, cursor),
+            _ => take_address(*self, cursor),
+        }
     }
 
     // A whole address of IPv4 takes seven octets.
@@ -175,16 +178,18 @@ impl Elements for Family {
         octets / 7 + 1
     }
 
-    ghost shrinks = { λ family. unfold ip_element_at address_at bits_at in
-        content_or_shrinks SEQUENCE (address_range family) (address_at family)
-        (conversion_shrinks (prefix_of (family_bits family)) bits_at (content_shrinks BIT_STRING _)) };
+    ghost shrinks = { λ family. unfold ip_address_or_range_format ip_address_range_format ip_address_format bits_at in
+        choice_shrinks SEQUENCE (ip_address_range_format family).read (ip_address_format family).read
+        (inside_shrinks SEQUENCE (ip_address_ends_format family).read)
+        (conversion_shrinks (prefix_of (family_bits family)) bits_at (content_shrinks BIT_STRING bits_of)) };
 }
 
-// A family and its resources: the content of an IPAddressFamily.
-#[tactic(auto, unfolding(crate::specs::Addresses::Reading::family_in))]
-fn family_in(alloc: Global, mut content: Cursor<'_>) -> Result<(Family, IpResources), DecodeError>
-    ensures { ReturnsOrMemory result (family_in (remaining content.entry)) }
+// The family that stands next, and its resources.
+#[tactic(auto, unfolding(crate::specs::Addresses::ip_address_family_format))]
+fn take_family(alloc: Global, cursor: &mut Cursor<'_>) -> Result<(Family, IpResources), DecodeError>
+    ensures { TookOrMemory ip_address_family_format.read cursor.old result cursor.new }
 {
+    let mut content = cursor.take_sequence()?;
     let family = Family::from_octets(content.take_octets()?.rest())?;
     let resources = take_choice(alloc, &family, &mut content)?;
     content.finish()?;
@@ -196,11 +201,12 @@ fn take_opt_family(
     alloc: Global,
     cursor: &mut Cursor<'_>,
 ) -> Result<Option<(Family, IpResources)>, DecodeError>
-    ensures { TookOrMemory (optional_of SEQUENCE family_in) cursor.old result cursor.new }
+    ensures { TookOrMemory (optional SEQUENCE ip_address_family_format.read)
+        cursor.old result cursor.new }
 {
-    match cursor.take_opt_sequence()? {
-        Some(content) => Ok(Some(family_in(alloc, content)?)),
-        None => Ok(None),
+    match cursor.rest() {
+        [tag::SEQUENCE, ..] => Ok(Some(take_family(alloc, cursor)?)),
+        _ => Ok(None),
     }
 }
 
@@ -209,7 +215,7 @@ fn with_second(
     first: (Family, IpResources),
     second: Option<(Family, IpResources)>,
 ) -> Result<(Option<IpResources>, Option<IpResources>), DecodeError>
-    ensures { ReturnsBy families_of result (with_second first.0 first.1 second) }
+    ensures { ReturnsBy families_of result (with_second first second) }
 {
     match (first, second) {
         ((Family::V4, v4), None) => Ok((Some(v4), None)),
@@ -220,37 +226,27 @@ fn with_second(
     }
 }
 
-// The families of an extension: the content of IPAddrBlocks.
-#[tactic(auto, unfolding(crate::specs::Addresses::Reading::families_in))]
-fn families_in(
-    alloc: Global,
-    mut content: Cursor<'_>,
-) -> Result<(Option<IpResources>, Option<IpResources>), DecodeError>
-    ensures { ReturnsOrMemoryBy families_of result (families_in (remaining content.entry)) }
-{
-    if content.is_empty() {
-        return Err(DecodeError::BadValue);
-    }
-    let first = family_in(alloc, content.take_sequence()?)?;
-    let second = take_opt_family(alloc, &mut content)?;
-    content.finish()?;
-    with_second(first, second)
-}
-
 impl IpResources {
-    // The families, by the reading function.
-    #[tactic(auto, unfolding(crate::specs::Addresses::Reading::families_at))]
+    // The families, by their format.
+    #[tactic(auto, unfolding(crate::specs::Addresses::ip_addr_blocks_format))]
     fn read_families(
         alloc: Global,
         cursor: &mut Cursor<'_>,
     ) -> Result<(Option<IpResources>, Option<IpResources>), DecodeError>
-        ensures reads { TookOrMemoryBy families_of families_at cursor.old result cursor.new }
+        ensures reads { TookOrMemoryBy families_of ip_addr_blocks_format.read
+            cursor.old result cursor.new }
         ensures keeps { Keeps result cursor.old cursor.new }
         ensures octets { AreOctets (remaining cursor.old) }
     {
         let mut ahead = cursor.fork();
-        let content = ahead.take_sequence()?;
-        let families = families_in(alloc, content)?;
+        let mut content = ahead.take_sequence()?;
+        if content.is_empty() {
+            return Err(DecodeError::BadValue);
+        }
+        let first = take_family(alloc, &mut content)?;
+        let second = take_opt_family(alloc, &mut content)?;
+        content.finish()?;
+        let families = with_second(first, second)?;
         *cursor = ahead;
         Ok(families)
     }
@@ -260,14 +256,13 @@ impl IpResources {
     /// Elements may stand in any order, overlap and touch. Errs where a family stands twice, where
     /// none or another one stands, where there are more bits than an address has, and where a lower
     /// end is above its upper one.
+    #[tactic(auto, using(rpki_der::proofs::FormatAnswers::answers_or_memory_alone, crate::proofs::AddressReads::ip_alone))]
     pub fn take_families_from(
         alloc: Global,
         cursor: &mut Cursor<'_>,
     ) -> Result<(Option<IpResources>, Option<IpResources>), DecodeError>
-        ensures answers { AnswersOrMemoryBy families_of IsIPAddrBlocks
+        ensures { AnswersOrMemoryBy families_of ip_addr_blocks_format
             cursor.old result cursor.new }
-        ensures reads { TookOrMemoryBy families_of families_at cursor.old result cursor.new }
-        ensures keeps { Keeps result cursor.old cursor.new }
     {
         IpResources::read_families(alloc, cursor)
     }

@@ -1,5 +1,6 @@
 -- Fields that have an encoding.
 use Rattle.std.proofs.Common.{ℕ, List, [], ◌∷◌, refl, arith, ◌<◌, ◌^◌, length, inl}
+use Rattle.rpki_der.specs.Extensions.{extension_format}
 use Rattle.rpki_der.specs.Tags.{SEQUENCE}
 use Rattle.rpki_der.specs.Times.{Moment, IsMoment, time}
 use Rattle.rpki_der.specs.Values.{enc, length_octets}
@@ -7,12 +8,17 @@ use Rattle.rpki_der.specs.Primitives.{number}
 use Rattle.rpki_der.proofs.WrittenOctets.{literal}
 use Rattle.rpki_blocks.specs.declared.overclaim.Overclaim.TheVariants.{Refuse}
 use Rattle.rpki_blocks.specs.Resources.{inherit}
-use Rattle.rpki_parts.specs.Algorithms.{with_null}
+use Rattle.rpki_parts.specs.Algorithms.{algorithm_format, with_null}
+use Rattle.rpki_parts.specs.Keys.{key_algorithm_format, key_identifier_format, public_key_format, whole_bits_format}
+use Rattle.rpki_parts.specs.Validities.{validity_format}
 use Rattle.rpki_parts.specs.declared.key.PublicKeyFormat.TheVariants.{Rsa}
-use Rattle.rpki_parts.specs.Names.{IsName}
+use Rattle.rpki_parts.specs.Names.{name_format}
+use Rattle.rpki_parts.proofs.DeeperNames.{empty_name}
 use Rattle.rpki_ext.specs.declared.key_usage.KeyUsage.TheVariants.{Ee}
 use Rattle.rpki_ext.proofs.CertificateExtensions.{inheriting_fits}
-use Rattle.rpki_cert.specs.Certificates.{TbsFields, tbs_content, Fits}
+use Rattle.rpki_ext.specs.ExtensionKinds.{certificate_policies_format, key_usage_format}
+use Rattle.rpki_ext.specs.ResourceKinds.{addresses_format}
+use Rattle.rpki_cert.specs.Certificates.{TbsFields, tbs_content, tbs_content_format, version_format, Fits}
 use Rattle.rpki_ext.specs.CertificateExtensions.{bare, extensions, HasResources}
 
 abbrev year_2000 : Moment
@@ -38,25 +44,21 @@ some_fields = record {
   extensions = record (bare no_key Ee Refuse) { v4_resources = inherit };
 }
 
-is_name : IsName no_name no_name
-unfolding enc length_octets
-is_name = record { parts = []; parts_are = record { content = []; elements = refl; sequence = record { octet = omega arith; low_tag = omega arith; octets = tt; short = omega arith; is = refl } }; kept = refl }
-
 is_moment : IsMoment year_2000
 is_moment = record { year = omega arith; month = (omega arith, omega arith); day = (omega arith, omega arith); hour = omega arith; minute = omega arith; second = omega arith }
 
 short : length (tbs_content some_fields) < 2 ^ 32
-unfolding extensions enc length_octets number time
+unfolding extensions enc length_octets number time tbs_content_format version_format algorithm_format name_format validity_format public_key_format key_algorithm_format whole_bits_format extension_format key_identifier_format key_usage_format certificate_policies_format addresses_format
 short = omega arith
 
 -- the fields of the example have an encoding
 pub some_fit : Fits some_fields
 some_fit = record {
   serial_is = omega arith;
-  issuer_is = is_name;
+  issuer_is = empty_name;
   not_before_is = is_moment;
   not_after_is = is_moment;
-  subject_is = is_name;
+  subject_is = empty_name;
   key_is = tt;
   extensions_are = inheriting_fits no_key Ee Refuse (literal no_key refl, refl);
   short = short;

@@ -1,37 +1,36 @@
 -- What a certificate is built of is what is read of it.
 use Rattle.std.specs.List.{AllByRecursion, AllZip, concat}
 use Rattle.std.specs.Prelude.{IfOk, IfErr}
-use Rattle.std.proofs.Common.{◌≡◌, ◌<◌, ◌-◌, ℕ, List, [], ◌∷◌, ◌++◌, length, take, Option, Some, None, Result, Ok, Err, refl, sym, ap, subst, ◌∙◌, arith}
+use Rattle.std.proofs.Common.{◌≡◌, ◌-◌, ℕ, List, [], ◌∷◌, ◌++◌, length, take, Some, Result, Ok, Err, refl, sym, ap, subst, ◌∙◌, arith}
 use Rattle.std.proofs.lemmas.List.{append-nil}
-use Rattle.std.proofs.lemmas.List.Folds.{concat-append}
 use Rattle.rpki_der.specs.Extensions.{Extension, IsExtension}
 use Rattle.rpki_der.specs.Place.{Rejects}
 use Rattle.rpki_der.specs.Place.Reading.{ReturnsOrMemoryBy}
 use Rattle.rpki_der.specs.Sequences.{AreEncodings}
 use Rattle.rpki_der.specs.Sequences.Reading.{sequence_of, Shrinks}
-use Rattle.rpki_der.specs.Skipping.{IsCaptured}
+use Rattle.rpki_der.specs.Skipping.{IsCaptured, levels}
 use Rattle.rpki_der.specs.Skipping.Reading.{any_at, captured_at}
 use Rattle.rpki_der.specs.Encoding.{Means}
 use Rattle.rpki_der.specs.Tags.{CONTEXT_CONSTRUCTED, SEQUENCE}
-use Rattle.rpki_der.specs.Values.{enc, length_octets, IsEnc, IsValue, IsNested}
+use Rattle.rpki_der.specs.Values.{IsEnc, IsValue, IsNested}
 use Rattle.rpki_der.specs.Values.Reading.{value_at}
 use Rattle.rpki_der.specs.declared.error.DecodeError.{DecodeError}
 use Rattle.rpki_der.specs.declared.error.DecodeError.TheVariants.{Memory}
-use Rattle.rpki_der.proofs.Answering.{certainly, rejects}
-use Rattle.rpki_der.proofs.Formats.{of_enc}
+use Rattle.rpki_der.proofs.Answering.{rejects}
 use Rattle.rpki_der.proofs.Octets.{bind_some, both_are, some, some_is, nothing}
 use Rattle.rpki_der.proofs.Sequences.{sequence_again}
 use Rattle.rpki_der.proofs.SkippingReads.{captured_reads}
 use Rattle.rpki_der.proofs.SkippingSteps.{any_shrinks}
 use Rattle.rpki_der.proofs.ValueReads.{value_again}
 use Rattle.rpki_ext.proofs.Pieces.{sequence_pieces}
-use Rattle.rpki_cert.specs.Certificates.{CertFields, TbsFields, version_3, IsTbsCertificateContent, IsCertificate}
+use Rattle.rpki_cert.specs.Certificates.{CertFields, IsCertificate}
 use Rattle.rpki_cert.specs.Rearranged.{IsBuiltOf, IsSomeExtension}
 use Rattle.rpki_cert.specs.Rearranging.{BeginsWith, IsRejected, Parts}
-use Rattle.rpki_cert.specs.Rearranging.Reading.{frame_at, sequence_in, split_last, with_front}
+use Rattle.rpki_cert.specs.Rearranging.Reading.{frame_at, sequence_in, split_last}
 use Rattle.rpki_cert.specs.RearrangeErrors.{of_reading}
 use Rattle.rpki_cert.specs.declared.extra.Extra.{Extra}
 use Rattle.rpki_cert.specs.declared.rearrange_error.RearrangeError.{RearrangeError}
+use Rattle.rpki_cert.proofs.CertificateParts.{all_values, certificate_parts, concat_push, zipped_values}
 
 -- ---- values one after the other
 
@@ -62,10 +61,10 @@ split_is all xs x e = rw e (split_push xs x)
 
 -- ---- extensions
 
-zipped_values : (xs : List Extension) (ps : List (List ℕ)) → AllZip IsExtension xs ps → AllByRecursion IsValue ps × AllByRecursion IsSomeExtension ps
-zipped_values xs [] h = (tt, tt)
-zipped_values [] (p ∷ ps) h = elim h [ ]
-zipped_values (x ∷ xs) (p ∷ ps) h = let r = zipped_values xs ps h.1 in ((of_enc h.0.sequence, r.0), ((x, h.0), r.1))
+some_extensions : (xs : List Extension) (ps : List (List ℕ)) → AllZip IsExtension xs ps → AllByRecursion IsSomeExtension ps
+some_extensions xs [] h = tt
+some_extensions [] (p ∷ ps) h = elim h [ ]
+some_extensions (x ∷ xs) (p ∷ ps) h = ((x, h.0), some_extensions xs ps h.1)
 
 whole_value : (t : ℕ) (c text : List ℕ) → IsEnc t c text → value_at t text ≡ some {A = List ℕ × List ℕ} (c, [])
 whole_value t c text s = ap (value_at t) (sym (append-nil text)) ∙ value_again t c text [] s
@@ -77,38 +76,6 @@ sequence_is_read ps elements value h e (inner, outer_is, (content, inner_is, sam
     rw (whole_value (CONTEXT_CONSTRUCTED 3) inner value outer_is, whole_value SEQUENCE content inner inner_is) values
 
 -- ---- a certificate
-
-version_is_value : IsValue version_3
-unfolding enc length_octets
-version_is_value = record {
-  tag = CONTEXT_CONSTRUCTED 0;
-  content = 2 ∷ 1 ∷ 2 ∷ [];
-  enc = record { octet = omega arith; low_tag = omega arith; octets = (omega arith, (omega arith, (omega arith, tt))); short = omega arith; is = refl };
-}
-
-module _ {f : TbsFields} {content : List ℕ} (t : IsTbsCertificateContent f content) where
-  abbrev front_of : List (List ℕ)
-  front_of = version_3 ∷ t.serial ∷ t.algorithm ∷ t.issuer ∷ t.validity ∷ t.subject ∷ t.key ∷ []
-
-  front_values : AllByRecursion IsValue front_of
-  front_values = (
-    version_is_value,
-    (
-      of_enc t.serial_is.number.enc,
-      (
-        of_enc t.algorithm_is.sequence,
-        (of_enc t.issuer_is.parts_are.sequence, (of_enc t.validity_is.sequence, (of_enc t.subject_is.parts_are.sequence, (of_enc t.key_is.sequence, tt)))),
-      ),
-    ),
-  )
-
-  all_values : AllByRecursion IsValue (front_of ++ t.extensions ∷ [])
-  all_values =
-      let h = front_values in
-      (h.0, (h.1.0, (h.1.1.0, (h.1.1.1.0, (h.1.1.1.1.0, (h.1.1.1.1.1.0, (h.1.1.1.1.1.1.0, (of_enc t.extensions_is.1, tt))))))))
-
-concat_last : (before : List (List ℕ)) (last : List ℕ) → concat (before ++ last ∷ []) ≡ concat before ++ last
-concat_last before last = concat-append before (last ∷ []) ∙ ap (λ (s : List ℕ). concat before ++ s) (append-nil last)
 
 parts_from : (octets content rest tbs behind last : List ℕ) (values before elements : List (List ℕ)) → value_at SEQUENCE octets ≡ some {A = List ℕ × List ℕ} (content, rest) → value_at SEQUENCE content ≡ some {A = List ℕ × List ℕ} (tbs, behind)
     → sequence_of captured_at tbs ≡ some values → split_last values ≡ some {A = List (List ℕ) × List ℕ} (before, last) → sequence_in last ≡ some elements
@@ -123,32 +90,30 @@ record AreParts (octets front : List ℕ) : Type 0 where
   built : IsBuiltOf parts.before parts.old parts.behind front
   extensions_are : AllByRecursion IsSomeExtension parts.old
 
-certificate_parts : (c : CertFields) (octets front rest : List ℕ) → octets ≡ front ++ rest → IsCertificate c front → AreParts octets front
-certificate_parts c octets front rest e s =
-    let signed = s.content_is.signed_is in
-    let tbs = s.content_is.fields_are in
-    let inside = tbs.content_is in
-    let behind = signed.algorithm ++ (signed.signature ++ []) in
-    let before = front_of inside in
+parts_in : (c : CertFields) (octets text rest : List ℕ) → octets ≡ text ++ rest → IsCertificate c text → AreParts octets text
+parts_in c octets text rest e s =
+    let p = certificate_parts levels c text s in
+    let inside = p.fields in
+    let behind = p.signed.algorithm ++ p.signed.signature in
+    let before = inside.front in
     let found = sequence_pieces IsExtension inside.triples inside.elements inside.elements_are in
-    let zipped = zipped_values inside.triples found.0 found.1 in
     let message = c.signed_data.message in
-    let first : value_at SEQUENCE octets ≡ some {A = List ℕ × List ℕ} (s.content, rest) = ap (value_at SEQUENCE) e ∙ value_again SEQUENCE s.content front rest s.enc in
-    let second : value_at SEQUENCE s.content ≡ some {A = List ℕ × List ℕ} (tbs.content, behind) = ap (value_at SEQUENCE) signed.is ∙ value_again SEQUENCE tbs.content message behind tbs.enc in
-    let third : sequence_of captured_at tbs.content ≡ some (before ++ inside.extensions ∷ []) = values_are_read (before ++ inside.extensions ∷ []) tbs.content (all_values inside) inside.is in
-    let fourth : sequence_in inside.extensions ≡ some found.0 = sequence_is_read found.0 inside.elements inside.extensions zipped.0 found.2 inside.extensions_is in
+    let first : value_at SEQUENCE octets ≡ some {A = List ℕ × List ℕ} (p.content, rest) = ap (value_at SEQUENCE) e ∙ value_again SEQUENCE p.content text rest p.enc in
+    let second : value_at SEQUENCE p.content ≡ some {A = List ℕ × List ℕ} (p.inside, behind) = ap (value_at SEQUENCE) p.signed.is ∙ value_again SEQUENCE p.inside message behind p.inside_enc in
+    let third : sequence_of captured_at p.inside ≡ some (before ++ inside.extensions ∷ []) = values_are_read (before ++ inside.extensions ∷ []) p.inside (all_values inside) inside.is in
+    let fourth : sequence_in inside.extensions ≡ some found.0 = sequence_is_read found.0 inside.elements inside.extensions (zipped_values inside.triples found.0 found.1) found.2 inside.extensions_is in
     record {
       parts = record { before = before; old = found.0; behind = behind };
-      read = parts_from octets s.content rest tbs.content behind inside.extensions (before ++ inside.extensions ∷ []) before found.0 first second third (split_push before inside.extensions) fourth;
+      read = parts_from octets p.content rest p.inside behind inside.extensions (before ++ inside.extensions ∷ []) before found.0 first second third (split_push before inside.extensions) fourth;
       built = record {
         extensions = inside.extensions;
         tbs = message;
-        before_are = front_values inside;
+        before_are = inside.front_values;
         extensions_is = subst (λ (elements : List ℕ). IsNested (CONTEXT_CONSTRUCTED 3 ∷ SEQUENCE ∷ []) elements inside.extensions) found.2 inside.extensions_is;
-        tbs_is = subst (λ (d : List ℕ). IsEnc SEQUENCE d message) (inside.is ∙ concat_last before inside.extensions) tbs.enc;
-        whole = subst (λ (d : List ℕ). IsEnc SEQUENCE d front) signed.is s.enc;
+        tbs_is = subst (λ (d : List ℕ). IsEnc SEQUENCE d message) (inside.is ∙ concat_push before inside.extensions) p.inside_enc;
+        whole = subst (λ (d : List ℕ). IsEnc SEQUENCE d text) p.signed.is p.enc;
       };
-      extensions_are = zipped.1;
+      extensions_are = some_extensions inside.triples found.0 found.1;
     }
 
 -- ---- what is read
@@ -162,7 +127,7 @@ same_parts p q e = let same : view p ≡ view q = some_is (view p) (view q) e in
 
 begins : (octets : List ℕ) (c : CertFields) (m : Means IsCertificate c octets) (p : Parts) → frame_at octets ≡ Some (view p) → BeginsWith octets p
 begins octets c m p e =
-    let found = certificate_parts c octets m.1.text m.0 m.1.parts m.1.encoded in
+    let found = parts_in c octets m.1.text m.0 m.1.parts m.1.encoded in
     let same : found.parts ≡ p = same_parts found.parts p (sym found.read ∙ e) in
     subst (λ (q : Parts). BeginsWith octets q) same (record {
       certificate = c;
@@ -187,7 +152,7 @@ pub parts_rejected : (octets copy : List ℕ) (c : CertFields) → Means IsCerti
 parts_rejected octets copy c m same (Ok p) e = tt
 parts_rejected octets copy c m same (Err d) e =
     let n = subst (λ (o : List ℕ). Means IsCertificate c o) same m in
-    let found = certificate_parts c octets n.1.text n.0 n.1.parts n.1.encoded in
+    let found = parts_in c octets n.1.text n.0 n.1.parts n.1.encoded in
     rejects d (λ none. nothing (view found.parts) (sym none ∙ found.read)) e
 
 -- ---- why nothing could be read

@@ -1,8 +1,7 @@
-pub mod CertificatesReads
-pub mod CertificatesWritten
+pub mod CertificateFormats
+pub mod CertificateParts
 pub mod DataRead
 pub mod ExampleFields
-pub mod WritingSteps
 pub mod Exclusive
 pub mod Testing
 pub mod Checks

@@ -2,8 +2,7 @@
 use Rattle.std.specs.List.{AllByRecursion, AllZip}
 use Rattle.std.proofs.Common.{◌≡◌, false, refl, ℕ, zero, suc, ◌≤◌, List, [], ◌∷◌, length, take, drop, Option, Some, arith, subst, sym}
 use Rattle.std.proofs.lemmas.Bool.{or_parts, or_from}
-use Rattle.rpki_der.specs.Extensions.{Extension, IsExtension}
-use Rattle.rpki_der.specs.Extensions.Reading.{extension_at}
+use Rattle.rpki_der.specs.Extensions.{Extension, IsExtension, extension_format}
 use Rattle.rpki_der.specs.Sequences.{IsAtMostOne}
 use Rattle.rpki_der.proofs.ExtensionReads.{extension_reads}
 use Rattle.rpki_blocks.specs.declared.overclaim.Overclaim.{Overclaim}
@@ -120,7 +119,7 @@ one_sequence_of (x ∷ xs) ys [] p q = elim p [ ]
 one_sequence_of [] ys (b ∷ bs) p q = elim p [ ]
 one_sequence_of (x ∷ xs) [] (b ∷ bs) p q = elim q [ ]
 one_sequence_of (x ∷ xs) (y ∷ ys) (b ∷ bs) p q =
-    let first : x ≡ y = (unambiguous extension_at IsExtension extension_reads x y b b [] [] p.0 q.0 refl).0 in
+    let first : x ≡ y = (unambiguous extension_format.read IsExtension extension_reads x y b b [] [] p.0 q.0 refl).0 in
     let rest = one_sequence_of xs ys bs p.1 q.1 in cc (first, rest)
 
 -- what rearranged extensions give, they gave before

@@ -1,20 +1,20 @@
 -- The certificate with the new sequence is a rearrangement of the one that was read.
 use Rattle.std.specs.List.{AllByRecursion, concat, sum_by}
 use Rattle.std.specs.Prelude.{bytes_eq, IsErrAnd, IsErrOf}
-use Rattle.std.proofs.Common.{◌≡◌, ◌⊎◌, ℕ, ◌+◌, ◌^◌, ◌%◌, ◌<◌, ◌≤◌, true, false, cond, List, [], ◌∷◌, ◌++◌, length, get_or, Result, Ok, Err, refl, sym, ap, subst, ◌∙◌, arith, inl, inr}
+use Rattle.std.proofs.Common.{◌≡◌, ◌⊎◌, ℕ, ◌+◌, ◌^◌, ◌<◌, ◌≤◌, false, cond, List, [], ◌∷◌, ◌++◌, length, get_or, Result, Ok, Err, refl, sym, ap, subst, ◌∙◌, arith, inl, inr}
 use Rattle.std.proofs.lemmas.Bool.{cases_Bool}
 use Rattle.std.proofs.lemmas.List.{length-append}
 use Rattle.std.proofs.lemmas.Slice.Eq.{bytes_eq-Decides}
 use Rattle.rpki_der.specs.Extensions.{Extension}
 use Rattle.rpki_der.specs.Primitives.{IsOid}
 use Rattle.rpki_der.specs.Tags.{CONTEXT_CONSTRUCTED, SEQUENCE}
-use Rattle.rpki_der.specs.Values.{AreOctets, IsEnc, IsValue, enc, length_octets, nested}
+use Rattle.rpki_der.specs.Values.{AreOctets, IsValue, enc, length_octets, nested}
 use Rattle.rpki_der.specs.declared.error.EncodeError.{EncodeError}
 use Rattle.rpki_der.specs.declared.error.EncodeError.TheVariants.{TooLong, Memory}
 use Rattle.rpki_der.proofs.ExtensionWritten.{extension_made}
 use Rattle.rpki_der.proofs.Octets.{AreOctets-parts}
 use Rattle.rpki_der.proofs.ValueWritten.{Short, content_short, enc_longer, made, nested_made, nested_short, pieces_short}
-use Rattle.rpki_cert.specs.Rearranged.{IsBuiltOf, IsPassedOver, IsRearrangement, IsSomeExtension, times}
+use Rattle.rpki_cert.specs.Rearranged.{IsBuiltOf, IsPassedOver, IsRearrangement, times}
 use Rattle.rpki_cert.specs.Rearranging.{ArePlaced, AreUnknown, BeginsWith, IsPlan, IsRearranged, IsRejected, Parts, added_at, content_with, is_known, new_extensions, tbs_content_with, written}
 use Rattle.rpki_cert.specs.Rearranging.Steps.{HaveAdded, HasLong, joined}
 use Rattle.rpki_cert.specs.RearrangeErrors.{of_writing}

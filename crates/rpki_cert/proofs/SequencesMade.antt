@@ -1,7 +1,7 @@
 -- The sequence of extensions that is made, step by step.
-use Rattle.std.specs.List.{AllByRecursion, IsDistinct, concat, filter, sum_by}
+use Rattle.std.specs.List.{AllByRecursion, concat, filter, sum_by}
 use Rattle.std.specs.Prelude.{nat_eq}
-use Rattle.std.proofs.Common.{◌≡◌, ◌≢◌, ◌⊎◌, ℕ, zero, suc, ◌+◌, ◌^◌, ◌<◌, ◌≤◌, Bool, true, false, cond, List, [], ◌∷◌, ◌++◌, length, map, get_or, take, drop, set, replicate, add-one, drop-cons, refl, sym, ap, subst, ◌∙◌, arith, inl, inr, append_assoc}
+use Rattle.std.proofs.Common.{◌≡◌, ◌≢◌, ◌⊎◌, ℕ, zero, suc, ◌+◌, ◌^◌, ◌<◌, ◌≤◌, true, false, List, [], ◌∷◌, ◌++◌, length, map, get_or, take, drop, set, replicate, add-one, drop-cons, refl, sym, ap, subst, ◌∙◌, arith, inl, inr, append_assoc}
 use Rattle.std.proofs.lemmas.Bool.{cases_Bool, eq-eqb, eqb-true}
 use Rattle.std.proofs.lemmas.List.{get_or-set_same, get_or-set_other, get_or-replicate, length-replicate, length-set, length-append, take_all, take_more, append-nil, map-append}
 use Rattle.std.proofs.lemmas.List.Elements.{filter-append}
@@ -11,7 +11,7 @@ use Rattle.rpki_der.specs.Primitives.{IsOid}
 use Rattle.rpki_cert.specs.Rearranging.{ArePlaced, added_at, sequence_from, written}
 use Rattle.rpki_cert.specs.Rearranging.Steps.{HaveAdded, HasLong, joined}
 use Rattle.rpki_cert.specs.declared.extra.Extra.{Extra}
-use Rattle.rpki_cert.proofs.Orders.{all_get, all_more, all_now}
+use Rattle.rpki_cert.proofs.Orders.{all_now}
 
 abbrev none : List ℕ
 none = []

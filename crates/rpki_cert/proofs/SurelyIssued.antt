@@ -1,12 +1,11 @@
 -- Where nothing but memory is in the way, nothing but memory keeps a certificate from being issued.
-use Rattle.std.specs.List.{concat}
 use Rattle.std.specs.Prelude.{Result, Ok, Err, IfErr}
 use Rattle.std.proofs.Common.{◌≡◌, ◌<◌, ◌^◌, ℕ, List, length, sym, ap, subst, ◌∙◌, inl, inr, arith}
 use Rattle.rpki_der.specs.declared.error.DecodeError.{DecodeError}
 use Rattle.rpki_der.specs.declared.error.DecodeError.TheVariants as reading
 use Rattle.rpki_der.specs.declared.error.EncodeError.TheVariants as writing
 use Rattle.rpki_parts.specs.Signatures.{SignatureFields}
-use Rattle.rpki_parts.specs.SignedDatas.{signed_pieces}
+use Rattle.rpki_parts.specs.SignedDatas.{signed_content}
 use Rattle.rpki_parts.specs.Signing.{IsRefusal}
 use Rattle.rpki_parts.specs.declared.signature.SigningError.{SigningError}
 use Rattle.rpki_parts.specs.declared.signature.SigningError.TheVariants as signing
@@ -26,7 +25,7 @@ use Rattle.rpki_cert.proofs.Checks.{first_not_all}
 module _ {E : Type 0} (f : TbsFields) (MayAnswer : Result SignatureFields (SigningError E) → Type 0) where
   -- ---- it is signed
 
-  module _ (short : length (tbs_content f) < 2 ^ 32) (signs : (e : SigningError E) → MayAnswer (Err e) → e ≡ signing.Memory) (fits : (s : SignatureFields) → MayAnswer (Ok s) → length (concat (signed_pieces (made_with f s).signed_data)) < 2 ^ 32) where
+  module _ (short : length (tbs_content f) < 2 ^ 32) (signs : (e : SigningError E) → MayAnswer (Err e) → e ≡ signing.Memory) (fits : (s : SignatureFields) → MayAnswer (Ok s) → length (signed_content (made_with f s).signed_data) < 2 ^ 32) where
     signed : (e : SigningError E) → IsRefusal (tbs_content f) MayAnswer e → IsMemory {E = E} (Signing e)
     signed signing.Memory h = tt
     signed signing.TooLong (inl long) = omega arith
@@ -61,7 +60,7 @@ module _ {E : Type 0} (f : TbsFields) (MayAnswer : Result SignatureFields (Signi
         read reading.Memory h = tt
         read _ h = absurd h
 
-        module _ (signs : (e : SigningError E) → MayAnswer (Err e) → e ≡ signing.Memory) (fits : (s : SignatureFields) → MayAnswer (Ok s) → length (concat (signed_pieces (made_with f s).signed_data)) < 2 ^ 32) where
+        module _ (signs : (e : SigningError E) → MayAnswer (Err e) → e ≡ signing.Memory) (fits : (s : SignatureFields) → MayAnswer (Ok s) → length (signed_content (made_with f s).signed_data) < 2 ^ 32) where
           memory_alone : (e : IssueCaError E) → IsNotIssued f MayAnswer (IsInvalidBelow x issuer kind) e → IsNoReadingFault e → IsMemory e
           memory_alone (Signing e) h r = signed can.fits.short signs fits e h
           memory_alone (Encode writing.TooLong) h r = absurd r

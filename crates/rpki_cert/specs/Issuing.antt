@@ -1,12 +1,11 @@
 -- A certification authority issues a certificate: it is made, captured, read again and validated
 -- (RFC 6487 4).
 use Rattle.std.specs.Prelude.{◌≡◌, ℕ, codes, ◌^◌, ◌≤◌, ◌<◌, List, length, Result, Ok}
-use Rattle.std.specs.List.{concat}
 use Rattle.rpki_der.specs.Place.{Rejects}
 use Rattle.rpki_der.specs.declared.error.DecodeError.TheVariants as reading
 use Rattle.rpki_der.specs.declared.error.EncodeError.TheVariants as writing
 use Rattle.rpki_parts.specs.Signatures.{SignatureFields}
-use Rattle.rpki_parts.specs.SignedDatas.{SignedFields, signed_data, signed_pieces}
+use Rattle.rpki_parts.specs.SignedDatas.{SignedFields, signed_content, signed_data}
 use Rattle.rpki_parts.specs.Signing.{IsRefusal}
 use Rattle.rpki_parts.specs.declared.signature.SigningError.{SigningError}
 use Rattle.rpki_parts.specs.declared.signature.SigningError.TheVariants as signing
@@ -23,7 +22,7 @@ use Rattle.rpki_cert.specs.declared.verification_error.VerificationError.TheVari
 pub record IsMadeOf {E : Type 0} (f : TbsFields) (MayAnswer : Result SignatureFields (SigningError E) → Type 0) (s : SignedFields) : Type 0 where
   pub message_is : s.message ≡ encoding f
   pub signed : MayAnswer (Ok s.signature)
-  pub short : length (concat (signed_pieces s)) < 2 ^ 32
+  pub short : length (signed_content s) < 2 ^ 32
 
 -- no certificate begins its octets
 abbrev pub IsUnreadable : SignedFields → Type 0
@@ -66,7 +65,7 @@ IsNoReadingFault _ = ⊥
 -- why signed data that was made already is not read again as a certificate
 abbrev pub IsNotReadAgain : {E : Type 0} → SignedFields → IssueCaError E → Type 0
 IsNotReadAgain s (Signing e) = ⊥
-IsNotReadAgain s (Encode writing.TooLong) = 2 ^ 32 ≤ length (concat (signed_pieces s))
+IsNotReadAgain s (Encode writing.TooLong) = 2 ^ 32 ≤ length (signed_content s)
 IsNotReadAgain s (Encode writing.Memory) = Unit {0}
 IsNotReadAgain s (Decode e) = Rejects e (IsUnreadable s)
 IsNotReadAgain s (Validation e) = ⊥

@@ -1,15 +1,15 @@
 //! Certificates, read and written.
 ghost use Rattle.std.specs.Prelude.{◌≡◌, ◌^◌, ◌<◌, length, IfOk, IsOk};
-ghost use Rattle.std.specs.List.{concat};
-ghost use Rattle.rpki_der.specs.Place.{remaining, Keeps, AnswersOrMemory, AnswersOptionalOrMemory, MeansOrMemory};
+ghost use Rattle.rpki_der.specs.Answers.{AnswersOrMemory};
+ghost use Rattle.rpki_der.specs.Place.{remaining, Keeps, AnswersOptionalOrMemory, MeansOrMemory};
 ghost use Rattle.rpki_der.specs.Place.Reading.{TookOrMemory};
+ghost use Rattle.rpki_der.specs.Skipping.{levels};
 ghost use Rattle.rpki_der.specs.Tags.{SEQUENCE};
 ghost use Rattle.rpki_der.specs.Values.{AreOctets};
 ghost use Rattle.rpki_der.specs.Writers.{SaysLong, Writes};
-ghost use Rattle.rpki_parts.specs.SignedDatas.{signed_data, signed_part, signed_pieces};
+ghost use Rattle.rpki_parts.specs.SignedDatas.{signed_content, signed_data, signed_part};
 ghost use Rattle.rpki_der.specs.Encoding.{Means};
-ghost use Rattle.rpki_cert.specs.Certificates.{IsCertificateContent, IsCertificate};
-ghost use Rattle.rpki_cert.specs.Certificates.Reading.{cert_content_at, cert_at};
+ghost use Rattle.rpki_cert.specs.Certificates.{IsCertificate, certificate_content_format, certificate_format};
 
 use crate::tbs::TbsCert;
 use bytes::Bytes;
@@ -55,9 +55,10 @@ impl Cert {
     }
 
     // What stands in the SEQUENCE, by the reading function.
-    #[tactic(auto, unfolding(crate::specs::Certificates::Reading::cert_content_at))]
+    #[tactic(auto, unfolding(crate::specs::Certificates::certificate_content_format))]
     fn read_content(alloc: Global, content: &mut Cursor<'_>) -> Result<Cert, DecodeError>
-        ensures reads { TookOrMemory cert_content_at content.old result content.new }
+        ensures reads { TookOrMemory (certificate_content_format levels).read
+            content.old result content.new }
         ensures keeps { Keeps result content.old content.new }
         ensures octets { AreOctets (remaining content.old) }
     {
@@ -79,9 +80,9 @@ impl Cert {
     }
 
     // The SEQUENCE, by the reading function.
-    #[tactic(auto, unfolding(crate::specs::Certificates::Reading::cert_at))]
     fn read(alloc: Global, cursor: &mut Cursor<'_>) -> Result<Cert, DecodeError>
-        ensures reads { TookOrMemory cert_at cursor.old result cursor.new }
+        ensures reads { TookOrMemory (certificate_format levels).read
+            cursor.old result cursor.new }
         ensures keeps { Keeps result cursor.old cursor.new }
         ensures octets { AreOctets (remaining cursor.old) }
     {
@@ -117,8 +118,7 @@ impl Cert {
     /// Reads the certificate that stands next, one SEQUENCE (RFC 5280 4.1). Fails if no front of
     /// the remaining octets is one; which error is returned is unspecified.
     pub fn take_from(alloc: Global, cursor: &mut Cursor<'_>) -> Result<Cert, DecodeError>
-        ensures answers { AnswersOrMemory IsCertificate cursor.old result cursor.new }
-        ensures keeps { Keeps result cursor.old cursor.new }
+        ensures { AnswersOrMemory (certificate_format levels) cursor.old result cursor.new }
     {
         Cert::read(alloc, cursor)
     }
@@ -140,9 +140,10 @@ impl Cert {
     }
 
     /// Reads what stands inside the SEQUENCE of a certificate, without its identifier and length.
+    #[tactic(auto, using(rpki_der::proofs::FormatAnswers::answers_or_memory_alone, crate::proofs::CertificateFormats::certificate_content_alone))]
     pub fn from_constructed(alloc: Global, content: &mut Cursor<'_>) -> Result<Cert, DecodeError>
-        ensures answers { AnswersOrMemory IsCertificateContent content.old result content.new }
-        ensures keeps { Keeps result content.old content.new }
+        ensures { AnswersOrMemory (certificate_content_format levels)
+            content.old result content.new }
     {
         Cert::read_content(alloc, content)
     }
@@ -173,8 +174,8 @@ impl Cert {
     /// Writes the certificate's octets, as [`Cert::encode_ref`] does, into a buffer of their own.
     pub fn to_captured(&self, alloc: Global) -> Result<Bytes, EncodeError>
         ensures ok { IfOk result (λ octets. octets ≡ signed_data self.now.signed_data) }
-        ensures too_long { SaysLong result (concat (signed_pieces self.now.signed_data)) }
-        ensures fits { IsOk result → length (concat (signed_pieces self.now.signed_data)) < 2 ^ 32 }
+        ensures too_long { SaysLong result (signed_content self.now.signed_data) }
+        ensures fits { IsOk result → length (signed_content self.now.signed_data) < 2 ^ 32 }
     {
         let mut octets = Vec::new(alloc);
         self.encode_ref(alloc, &mut octets)?;

@@ -1,9 +1,8 @@
 //! Certificates are made: fields go in, octets come out.
 ghost use Rattle.std.specs.Prelude.{◌≡◌, unwrap_or, ◌^◌, ◌<◌, length, Ok, IfOk, IfErr, OnOk};
-ghost use Rattle.std.specs.List.{concat};
 ghost use Rattle.rpki_der.specs.declared.error.EncodeError.TheVariants.{Memory};
 ghost use Rattle.rpki_parts.specs.KeyNames.{subject_name};
-ghost use Rattle.rpki_parts.specs.SignedDatas.{signed_pieces};
+ghost use Rattle.rpki_parts.specs.SignedDatas.{signed_content};
 ghost use Rattle.rpki_parts.specs.Signing.{IsRefusal};
 ghost use Rattle.rpki_cert.specs.Making.{new_fields};
 ghost use Rattle.rpki_cert.specs.Certificates.{Fits, tbs_content, encoding};
@@ -78,7 +77,7 @@ impl TbsCert {
         ensures signed { IfOk result
             (λ s. S.signs signer.now key.now self.now.algorithm (encoding self.now)
             (Ok s.signature)) }
-        ensures fits { IfOk result (λ s. length (concat (signed_pieces s)) < 2 ^ 32) }
+        ensures fits { IfOk result (λ s. length (signed_content s) < 2 ^ 32) }
         ensures rejected { IfErr result (IsRefusal (tbs_content self.now)
             (S.signs signer.now key.now self.now.algorithm (encoding self.now))) }
     {
@@ -104,7 +103,7 @@ impl TbsCert {
         ensures signed { IfOk result
             (λ c. S.signs signer.now key.now self.algorithm (encoding self)
             (Ok c.signed_data.signature)) }
-        ensures fits { IfOk result (λ c. length (concat (signed_pieces c.signed_data)) < 2 ^ 32) }
+        ensures fits { IfOk result (λ c. length (signed_content c.signed_data) < 2 ^ 32) }
         ensures rejected { IfErr result (IsRefusal (tbs_content self)
             (S.signs signer.now key.now self.algorithm (encoding self))) }
     {

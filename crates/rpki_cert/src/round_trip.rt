@@ -1,9 +1,8 @@
 //! What the public clauses give together: a certificate that was made is read again from its own
 //! octets.
 ghost use Rattle.std.specs.Prelude.{◌≡◌, ◌^◌, ◌<◌, length, IfOk, IfErr};
-ghost use Rattle.std.specs.List.{concat};
 ghost use Rattle.rpki_der.specs.declared.error.EncodeError.TheVariants.{Memory};
-ghost use Rattle.rpki_parts.specs.SignedDatas.{signed_pieces};
+ghost use Rattle.rpki_parts.specs.SignedDatas.{signed_content};
 ghost use Rattle.rpki_blocks.specs.Prefixes.{AreV4};
 ghost use Rattle.rpki_ext.specs.CertificateExtensions.{HasResources};
 ghost use Rattle.rpki_cert.specs.Certificates.{Fits, encoding};
@@ -19,7 +18,7 @@ use std::alloc::Global;
 pub fn read_again(alloc: Global, made: &Cert) -> Result<Cert, EncodeError>
     requires written { Fits made.now.fields }
     requires message { made.now.signed_data.message ≡ encoding made.now.fields }
-    requires fits { length (concat (signed_pieces made.now.signed_data)) < 2 ^ 32 }
+    requires fits { length (signed_content made.now.signed_data) < 2 ^ 32 }
     requires resources { HasResources made.now.fields.extensions }
     requires only_v4 { AreV4 made.now.fields.extensions.v4_resources }
     ensures same { IfOk result (λ c. c ≡ made.now) }

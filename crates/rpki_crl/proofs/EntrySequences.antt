@@ -8,27 +8,26 @@ use Rattle.rpki_der.specs.Values.{AreOctets}
 use Rattle.rpki_der.proofs.Octets.{bind_some, nothing, some}
 use Rattle.rpki_der.proofs.Sequences.{elements_are, sequence_steps}
 use Rattle.rpki_der.proofs.SequenceWalks.{passed, ends, goes_on}
-use Rattle.rpki_crl.specs.RevokedEntries.{Entry, Revoked, IsEntry, AreEntries, IsRevoked}
-use Rattle.rpki_crl.specs.RevokedEntries.Reading.{entry_at, or_none, entries_in, entries_pass}
+use Rattle.rpki_crl.specs.RevokedEntries.{Entry, Revoked, IsEntry, AreEntries, IsRevoked, entry_format, or_none, entries_in, entries_pass}
 use Rattle.rpki_crl.specs.SerialTables.{looks}
 use Rattle.rpki_crl.proofs.EntryReads.{entry_reads, entry_shrinks}
 
 -- no octets are read as no entries
-pub all_read : sequence_of entry_at [] ≡ Some []
+pub all_read : sequence_of entry_format.read [] ≡ Some []
 unfolding sequence_of
 all_read = refl
 
 -- octets that pass are their entries
-pub entries_are : (octets : List ℕ) → entries_pass octets ≡ Some tt → sequence_of entry_at octets ≡ Some (entries_in octets)
+pub entries_are : (octets : List ℕ) → entries_pass octets ≡ Some tt → sequence_of entry_format.read octets ≡ Some (entries_in octets)
 unfolding entries_pass
 entries_are octets whole =
-    let elements = bind_some (sequence_of entry_at octets) (λ entries. Some tt) tt (sym (passed entry_at octets) ∙ whole) in
+    let elements = bind_some (sequence_of entry_format.read octets) (λ entries. Some tt) tt (sym (passed entry_format.read octets) ∙ whole) in
     rw elements.1 refl
 
 -- and they are encoded so
 pub kept_entries : (octets : List ℕ) (r : Revoked) → record { entries = entries_in octets; octets = octets } ≡ r → entries_pass octets ≡ Some tt → AreOctets octets → AreEntries r.entries r.octets
 kept_entries octets r view whole fits =
-    subst (λ (s : Revoked). AreEntries s.entries s.octets) view (elements_are entry_at IsEntry entry_reads octets (entries_in octets) fits (entries_are octets whole))
+    subst (λ (s : Revoked). AreEntries s.entries s.octets) view (elements_are entry_format.read IsEntry entry_reads octets (entries_in octets) fits (entries_are octets whole))
 
 -- ---- one entry after the other
 
@@ -42,21 +41,21 @@ module _ (octets : List ℕ) (whole : entries_pass octets ≡ Some tt) where
   none_left e = rw e no_entries_in
 
   -- before the end one stands
-  pub one_stands : 0 < length octets → entry_at octets ≡ None → ⊥
+  pub one_stands : 0 < length octets → entry_format.read octets ≡ None → ⊥
   unfolding entries_pass
-  one_stands p none = nothing tt (sym (ends entry_at pass entry_shrinks tt octets p none) ∙ whole)
+  one_stands p none = nothing tt (sym (ends entry_format.read pass entry_shrinks tt octets p none) ∙ whole)
 
-  module _ (e : Entry) (rest : List ℕ) (was : entry_at octets ≡ some {A = Entry × List ℕ} (e, rest)) where
+  module _ (e : Entry) (rest : List ℕ) (was : entry_format.read octets ≡ some {A = Entry × List ℕ} (e, rest)) where
     -- and the others follow it
     pub others_pass : entries_pass rest ≡ Some tt
     unfolding entries_pass
-    others_pass = sym (goes_on entry_at pass entry_shrinks tt octets e rest was tt refl) ∙ whole
+    others_pass = sym (goes_on entry_format.read pass entry_shrinks tt octets e rest was tt refl) ∙ whole
 
     -- the first entry that is read is the first of the octets
     pub first_entry : entries_in octets ≡ e ∷ entries_in rest
     first_entry =
         let less : length rest < length octets = entry_shrinks octets e rest was in
-        let elements : sequence_of entry_at octets ≡ Some (e ∷ entries_in rest) = sequence_steps entry_at entry_shrinks octets (omega (arith, less)) ∙ rw (was, entries_are rest others_pass) refl in
+        let elements : sequence_of entry_format.read octets ≡ Some (e ∷ entries_in rest) = sequence_steps entry_format.read entry_shrinks octets (omega (arith, less)) ∙ rw (was, entries_are rest others_pass) refl in
         ap or_none elements
 
 -- ---- a serial among those of entries
@@ -68,7 +67,7 @@ module _ (serial : ℕ) where
 
   -- no entry has it
   unfoldable pub spares : List ℕ → Option (Unit {0})
-  spares = over entry_at (each differs) tt
+  spares = over entry_format.read (each differs) tt
 
   found_among : (entries : List Entry) → steps (each differs) tt entries ≡ None → IsRevoked serial entries
   found_among [] e = absurd cc
@@ -117,7 +116,7 @@ module _ (serial : ℕ) (octets : List ℕ) (whole : entries_pass octets ≡ Som
   pub no_more_looks : octets ≡ [] → looks serial (entries_in octets) ≡ 0
   no_more_looks e = rw (none_left octets whole e) refl
 
-  module _ (e : Entry) (rest : List ℕ) (was : entry_at octets ≡ some {A = Entry × List ℕ} (e, rest)) where
+  module _ (e : Entry) (rest : List ℕ) (was : entry_format.read octets ≡ some {A = Entry × List ℕ} (e, rest)) where
     -- an entry with the serial is the last that is looked at
     pub last_look : e.serial ≡ serial → looks serial (entries_in octets) ≡ 1
     last_look same = rw (first_entry octets whole e rest was, eq-eqb e.serial serial same) refl

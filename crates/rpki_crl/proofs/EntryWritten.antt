@@ -4,18 +4,17 @@ use Rattle.std.specs.List.{AllByRecursion}
 use Rattle.std.proofs.Common.{◌≡◌, ℕ, ◌^◌, ◌<◌, ◌≤◌, List, [], ◌∷◌, length, ◌++◌, Some, refl, sym, ap, ◌∙◌, append_assoc, arith}
 use Rattle.std.proofs.lemmas.Int.Digits.{length-digits_of-le}
 use Rattle.std.proofs.lemmas.List.{append-nil, length-append}
+use Rattle.rpki_der.specs.Tags.{SEQUENCE}
 use Rattle.rpki_der.specs.Primitives.{unsigned, number}
 use Rattle.rpki_der.specs.Times.{Moment, time}
 use Rattle.rpki_der.specs.Sequences.Reading.{sequence_of}
 use Rattle.rpki_der.proofs.Octets.{some}
-use Rattle.rpki_der.proofs.RoundTrips.{enc_small, moment_made, serial_made, unsigned_small}
+use Rattle.rpki_der.proofs.RoundTrips.{enc_small, unsigned_small}
 use Rattle.rpki_der.proofs.Sequences.{sequence_again}
 use Rattle.rpki_der.proofs.SequenceWalks.{passed}
-use Rattle.rpki_der.proofs.WrittenOctets.{ok_append, ok_number, ok_time}
 use Rattle.rpki_parts.proofs.Lengths.{time_short}
-use Rattle.rpki_crl.specs.RevokedEntries.{Entry, IsEntry, AreEntries, FitsEntry, entry, entry_content, entries}
-use Rattle.rpki_crl.specs.RevokedEntries.Reading.{entry_at, entries_in, entries_pass, or_none}
-use Rattle.rpki_crl.proofs.EntryReads.{entry_reads, entry_shrinks}
+use Rattle.rpki_crl.specs.RevokedEntries.{Entry, IsEntry, AreEntries, FitsEntry, entry, entry_content_format, entry_format, entries, entries_in, entries_pass, or_none}
+use Rattle.rpki_crl.proofs.EntryReads.{entry_alone, entry_reads, entry_shrinks}
 
 -- a serial number that is written has at most 23 octets
 pub serial_short : (n : ℕ) → n < 2 ^ 160 → length (number n) ≤ 23
@@ -32,13 +31,10 @@ entry_short n m h = omega (arith, length-append (number n) (time m), serial_shor
 
 -- an entry
 entry_made : (e : Entry) → FitsEntry e → IsEntry e (entry e)
+unfolding entry_format entry_content_format
 entry_made e fits =
     let short = entry_short e.serial e.date fits.0 in
-    record {
-      content = entry_content e;
-      content_is = record { serial = number e.serial; date = time e.date; serial_is = serial_made e.serial fits.0; date_is = moment_made e.date fits.1; is = refl };
-      enc = record { octet = omega arith; low_tag = omega arith; octets = ok_append (number e.serial) (time e.date) (ok_number e.serial) (ok_time e.date fits.1) (omega arith); short = omega arith; is = refl };
-    }
+    entry_alone.law.made e fits (omega (arith, enc_small SEQUENCE (number e.serial ++ time e.date) (omega arith), short))
 
 -- a sequence of them
 pub elements_made : (es : List Entry) → AllByRecursion FitsEntry es → AreEntries es (entries es)
@@ -46,13 +42,13 @@ elements_made [] all = refl
 elements_made (e ∷ es) all = (entry e, entries es, entry_made e all.0, elements_made es all.1, refl)
 
 -- what is written of entries is read as them
-pub sequence_is_read : (es : List Entry) → AllByRecursion FitsEntry es → sequence_of entry_at (entries es) ≡ some es
-sequence_is_read es all = sequence_again entry_at IsEntry entry_reads entry_shrinks es (entries es) (elements_made es all)
+pub sequence_is_read : (es : List Entry) → AllByRecursion FitsEntry es → sequence_of entry_format.read (entries es) ≡ some es
+sequence_is_read es all = sequence_again entry_format.read IsEntry entry_reads entry_shrinks es (entries es) (elements_made es all)
 
 -- what is written of entries passes the walk over them
 pub sequence_passes : (es : List Entry) → AllByRecursion FitsEntry es → entries_pass (entries es) ≡ Some tt
 unfolding entries_pass
-sequence_passes es all = passed entry_at (entries es) ∙ rw (sequence_is_read es all) refl
+sequence_passes es all = passed entry_format.read (entries es) ∙ rw (sequence_is_read es all) refl
 
 -- what is written of entries has them
 pub sequence_has : (es : List Entry) → AllByRecursion FitsEntry es → entries_in (entries es) ≡ es

@@ -5,14 +5,13 @@ pub mod EntryWritten
 pub mod Halvings
 pub mod Buckets
 pub mod ListExtensionsReads
-pub mod CertificateListsReads
+pub mod ListFormats
 pub mod SerialCaches
 pub mod ListsWritten
 pub mod Loops
 pub mod SignedLists
 pub mod ExampleLists
 pub mod GivenEntries
-pub mod EncodedLists
 pub mod DeeperLists
 pub mod Earliest
 pub mod NamedLists

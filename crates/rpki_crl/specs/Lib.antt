@@ -1,3 +1,4 @@
+pub mod Answers
 pub mod RevokedEntries
 pub mod SerialTables
 pub mod SerialBuckets

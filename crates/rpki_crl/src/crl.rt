@@ -1,15 +1,15 @@
 //! Revocation lists, read and asked.
 ghost use Rattle.std.specs.Prelude.{◌≡◌, ◌↔◌, ◌^◌, ◌<◌, ◌≤◌, true, false, length, IsTrue, IfOk, IsOk, OnOk, OnErr, IsErrOf, IfSome};
-ghost use Rattle.std.specs.List.{concat};
-ghost use Rattle.rpki_der.specs.Place.{remaining, Keeps, AnswersOrMemoryBy, AnswersOptionalOrMemoryBy, MeansOrMemoryBy};
+ghost use Rattle.rpki_der.specs.Answers.{AnswersOrMemoryBy};
+ghost use Rattle.rpki_der.specs.Place.{remaining, Keeps, AnswersOptionalOrMemoryBy, MeansOrMemoryBy};
 ghost use Rattle.rpki_der.specs.Place.Reading.{TookOrMemoryBy};
+ghost use Rattle.rpki_der.specs.Skipping.{levels};
 ghost use Rattle.rpki_der.specs.Tags.{SEQUENCE};
 ghost use Rattle.rpki_der.specs.Values.{AreOctets};
-ghost use Rattle.rpki_der.specs.Writers.{value, Writes};
-ghost use Rattle.rpki_parts.specs.SignedDatas.{signed_data, signed_pieces};
+ghost use Rattle.rpki_der.specs.Writers.{Writes};
+ghost use Rattle.rpki_parts.specs.SignedDatas.{signed_content, signed_data, signed_part};
 ghost use Rattle.rpki_ext.specs.Kinds.{Means};
-ghost use Rattle.rpki_crl.specs.Lists.{IsCertificateListContent, IsCertificateList};
-ghost use Rattle.rpki_crl.specs.Lists.Reading.{crl_content_at, crl_at};
+ghost use Rattle.rpki_crl.specs.Lists.{IsCertificateList, certificate_list_content_format, certificate_list_format};
 ghost use Rattle.rpki_crl.specs.RevokedEntries.{IsRevoked};
 ghost use Rattle.rpki_crl.specs.SerialTables.{digits, looks};
 
@@ -64,9 +64,10 @@ impl Crl {
     }
 
     // What stands in the SEQUENCE, by the reading function.
-    #[tactic(auto, unfolding(crate::specs::Lists::Reading::crl_content_at, crate::specs::Lists::Reading::kept_at))]
+    #[tactic(auto, unfolding(crate::specs::Lists::certificate_list_content_format))]
     fn read_content(alloc: Global, content: &mut Cursor<'_>) -> Result<Crl, DecodeError>
-        ensures reads { TookOrMemoryBy (λ c. c.list) crl_content_at content.old result content.new }
+        ensures reads { let format = certificate_list_content_format levels in
+            TookOrMemoryBy (λ c. c.list) format.read content.old result content.new }
         ensures keeps { Keeps result content.old content.new }
         ensures uncached { IfOk result (λ c. c.is_cached ≡ false) }
         ensures octets { AreOctets (remaining content.old) }
@@ -88,9 +89,10 @@ impl Crl {
     }
 
     // The SEQUENCE, by the reading function.
-    #[tactic(auto, unfolding(crate::specs::Lists::Reading::crl_at))]
+    #[tactic(auto, unfolding(crate::specs::Lists::certificate_list_format))]
     fn read(alloc: Global, cursor: &mut Cursor<'_>) -> Result<Crl, DecodeError>
-        ensures reads { TookOrMemoryBy (λ c. c.list) crl_at cursor.old result cursor.new }
+        ensures reads { let format = certificate_list_format levels in
+            TookOrMemoryBy (λ c. c.list) format.read cursor.old result cursor.new }
         ensures keeps { Keeps result cursor.old cursor.new }
         ensures uncached { IfOk result (λ c. c.is_cached ≡ false) }
         ensures octets { AreOctets (remaining cursor.old) }
@@ -130,10 +132,10 @@ impl Crl {
 
     /// Reads the list that stands next, one SEQUENCE (RFC 5280 5.1, RFC 6487 5). Fails if no front
     /// of the remaining octets is one; which error is returned is unspecified.
+    #[tactic(auto, using(rpki_der::proofs::FormatAnswers::answers_or_memory_alone, crate::proofs::ListFormats::certificate_list_alone))]
     pub fn take_from(alloc: Global, cursor: &mut Cursor<'_>) -> Result<Crl, DecodeError>
-        ensures answers { let encodes = IsCertificateList in
-            AnswersOrMemoryBy (λ c. c.list) encodes cursor.old result cursor.new }
-        ensures keeps { Keeps result cursor.old cursor.new }
+        ensures answers { let format = certificate_list_format levels in
+            AnswersOrMemoryBy (λ c. c.list) format cursor.old result cursor.new }
         ensures uncached { IfOk result (λ c. c.is_cached ≡ false) }
     {
         Crl::read(alloc, cursor)
@@ -154,10 +156,10 @@ impl Crl {
     }
 
     /// Reads what stands inside the SEQUENCE of a list, without its identifier and length.
+    #[tactic(auto, using(rpki_der::proofs::FormatAnswers::answers_or_memory_alone, crate::proofs::ListFormats::certificate_list_content_alone))]
     pub fn from_constructed(alloc: Global, content: &mut Cursor<'_>) -> Result<Crl, DecodeError>
-        ensures answers { let encodes = IsCertificateListContent in
-            AnswersOrMemoryBy (λ c. c.list) encodes content.old result content.new }
-        ensures keeps { Keeps result content.old content.new }
+        ensures answers { let format = certificate_list_content_format levels in
+            AnswersOrMemoryBy (λ c. c.list) format content.old result content.new }
         ensures uncached { IfOk result (λ c. c.is_cached ≡ false) }
     {
         Crl::read_content(alloc, content)
@@ -221,8 +223,8 @@ impl Crl {
     /// the signature. For a list that was read these are its own octets. Errs with `TooLong` where
     /// the content would have 2^32 octets or more.
     pub fn encode_ref(&self, alloc: Global, out: &mut Vec<u8>) -> Result<(), EncodeError>
-        ensures { let pieces = signed_pieces self.now.list.signed_data in
-            Writes (value SEQUENCE (concat pieces)) out.old.items result out.new.items }
+        ensures { Writes (signed_part self.now.list.signed_data)
+            out.old.items result out.new.items }
     {
         self.signed_data.encode_ref(alloc, out)
     }
@@ -231,9 +233,9 @@ impl Crl {
     pub fn to_captured(&self, alloc: Global) -> Result<Bytes, EncodeError>
         ensures ok { IfOk result (λ octets. octets ≡ signed_data self.now.list.signed_data) }
         ensures too_long { IsErrOf result EncodeError.TooLong
-            → 2 ^ 32 ≤ length (concat (signed_pieces self.now.list.signed_data)) }
+            → 2 ^ 32 ≤ length (signed_content self.now.list.signed_data) }
         ensures fits { IsOk result
-            → length (concat (signed_pieces self.now.list.signed_data)) < 2 ^ 32 }
+            → length (signed_content self.now.list.signed_data) < 2 ^ 32 }
     {
         let mut octets = Vec::new(alloc);
         self.encode_ref(alloc, &mut octets)?;

@@ -1,12 +1,12 @@
 //! An entry of a certificate revocation list.
 ghost use Rattle.std.specs.Prelude.{◌≡◌, ◌<◌, ◌++◌, OnOk, OnErr, IfErr};
-ghost use Rattle.rpki_der.specs.Place.{remaining, Keeps, AnswersBy, AnswersOptionalBy};
+ghost use Rattle.rpki_der.specs.Place.{remaining, Keeps, AnswersOptionalBy};
+ghost use Rattle.rpki_der.specs.Answers.{AnswersBy};
 ghost use Rattle.rpki_der.specs.Place.Reading.{TookBy};
 ghost use Rattle.rpki_der.specs.Values.{AreOctets};
 ghost use Rattle.rpki_der.specs.Tags.{SEQUENCE};
 ghost use Rattle.rpki_der.specs.declared.error.EncodeError.TheVariants.{Memory};
-ghost use Rattle.rpki_crl.specs.RevokedEntries.{IsEntry, IsEntryContent, entry, FitsEntry};
-ghost use Rattle.rpki_crl.specs.RevokedEntries.Reading.{entry_at, entry_content_at};
+ghost use Rattle.rpki_crl.specs.RevokedEntries.{IsEntry, entry, entry_content_format, entry_format, FitsEntry};
 ghost use Rattle.rpki_crl.specs.RevokedEntries.Views.{entry_of};
 
 use rpki_der::{Cursor, DecodeError, EncodeError, Serial, Time, put_value, tag};
@@ -34,10 +34,10 @@ impl CrlEntry {
     }
 
     // What stands in the SEQUENCE, by the reading function.
-    #[tactic(auto, unfolding(crate::specs::RevokedEntries::Reading::entry_content_at))]
+    #[tactic(auto, unfolding(crate::specs::RevokedEntries::entry_content_format))]
     #[inline(always)]
     fn take_content(content: &mut Cursor<'_>) -> Result<CrlEntry, DecodeError>
-        ensures reads { TookBy entry_of entry_content_at content.old result content.new }
+        ensures reads { TookBy entry_of entry_content_format.read content.old result content.new }
         ensures keeps { Keeps result content.old content.new }
         ensures octets { AreOctets (remaining content.old) }
     {
@@ -52,10 +52,10 @@ impl CrlEntry {
     }
 
     // The entry that stands next, by the reading function.
-    #[tactic(auto, unfolding(crate::specs::RevokedEntries::Reading::entry_at))]
+    #[tactic(auto, unfolding(crate::specs::RevokedEntries::entry_format))]
     #[inline(always)]
     fn take_entry(cursor: &mut Cursor<'_>) -> Result<CrlEntry, DecodeError>
-        ensures reads { TookBy entry_of entry_at cursor.old result cursor.new }
+        ensures reads { TookBy entry_of entry_format.read cursor.old result cursor.new }
         ensures keeps { Keeps result cursor.old cursor.new }
         ensures octets { AreOctets (remaining cursor.old) }
     {
@@ -68,11 +68,10 @@ impl CrlEntry {
     }
 
     /// Reads the SEQUENCE of a serial number and a time that must stand next (RFC 5280 5.1).
+    #[tactic(auto, using(rpki_der::proofs::FormatAnswers::answers_alone, crate::proofs::EntryReads::entry_alone))]
     #[inline(always)]
     pub fn take_from(cursor: &mut Cursor<'_>) -> Result<CrlEntry, DecodeError>
-        ensures answers { AnswersBy entry_of IsEntry cursor.old result cursor.new }
-        ensures reads { TookBy entry_of entry_at cursor.old result cursor.new }
-        ensures keeps { Keeps result cursor.old cursor.new }
+        ensures { AnswersBy entry_of entry_format cursor.old result cursor.new }
     {
         CrlEntry::take_entry(cursor)
     }
@@ -90,15 +89,16 @@ impl CrlEntry {
     }
 
     /// Reads what stands inside the SEQUENCE of an entry, without its identifier and length.
+    #[tactic(auto, using(rpki_der::proofs::FormatAnswers::answers_alone, crate::proofs::EntryReads::entry_content_alone))]
     pub fn from_constructed(content: &mut Cursor<'_>) -> Result<CrlEntry, DecodeError>
-        ensures answers { AnswersBy entry_of IsEntryContent content.old result content.new }
-        ensures keeps { Keeps result content.old content.new }
+        ensures { AnswersBy entry_of entry_content_format content.old result content.new }
     {
         CrlEntry::take_content(content)
     }
 
     /// Appends the entry: the SEQUENCE of its serial number and its time (RFC 5280 5.1). The only
     /// error is `Memory`.
+    #[tactic(auto, unfolding(crate::specs::RevokedEntries::entry_format, crate::specs::RevokedEntries::entry_content_format))]
     pub fn encode(self, alloc: Global, out: &mut Vec<u8>) -> Result<(), EncodeError>
         ensures ok { OnOk result (out.new.items ≡ out.old.items ++ entry (entry_of self)) }
         ensures err { OnErr result (out.new.items ≡ out.old.items) }

@@ -3,9 +3,9 @@ ghost use Rattle.std.specs.Prelude.{◌≡◌, ◌⊎◌};
 ghost use Rattle.rpki_der.specs.Primitives.{IsOid};
 ghost use Rattle.rpki_der.specs.Place.{remaining};
 ghost use Rattle.rpki_der.specs.Place.Reading.{ReturnsBy, ReturnsOrMemoryBy};
-ghost use Rattle.rpki_der.specs.Extensions.Reading.{extension_at};
 ghost use Rattle.rpki_der.specs.Folding.{over};
-ghost use Rattle.rpki_crl.specs.ListExtensions.Reading.{list_fold, both_seen, list_extensions_of};
+ghost use Rattle.rpki_der.specs.Extensions.{extension_format};
+ghost use Rattle.rpki_crl.specs.ListExtensions.{list_fold, both_seen, list_extensions_of};
 ghost use Rattle.rpki_crl.specs.ListExtensions.Views.{NamesListKind, sights_of, extensions_view};
 
 use crate::invalid_extension::InvalidExtension;
@@ -114,7 +114,7 @@ impl ReadListExtensions {
     // A sequence of extensions, one after the other.
     fn from_row(alloc: Global, elements: &Cursor<'_>) -> Result<ReadListExtensions, DecodeError>
         ensures { ReturnsOrMemoryBy sights_of result
-            (over extension_at list_fold.step list_fold.start (remaining elements.now)) }
+            (over extension_format.read list_fold.step list_fold.start (remaining elements.now)) }
     {
         let mut rest = elements.fork();
         let mut seen = ReadListExtensions::nothing();
@@ -150,7 +150,7 @@ impl CrlExtensions {
     }
 
     /// Reads all extensions of a list, and returns what they give (RFC 6487 5).
-    #[tactic(auto, unfolding(crate::specs::ListExtensions::Reading::list_extensions_of))]
+    #[tactic(auto, unfolding(crate::specs::ListExtensions::list_extensions_of))]
     pub(crate) fn from_row(
         alloc: Global,
         elements: &Cursor<'_>,

@@ -6,8 +6,7 @@ ghost use Rattle.rpki_der.specs.Encoding.{Begins, BeginsOrAbsent};
 ghost use Rattle.rpki_der.specs.Tags.{SEQUENCE};
 ghost use Rattle.rpki_der.specs.Values.{IsUnambiguous};
 ghost use Rattle.rpki_parts.specs.SignedDatas.{signed_data};
-ghost use Rattle.rpki_crl.specs.Lists.{CrlFields, ListFields, ListFits, IsTbsCertList, IsCertificateList, IsCertificateListWithin};
-ghost use Rattle.rpki_crl.specs.Lists.{IsMadeList, list_encoding};
+ghost use Rattle.rpki_crl.specs.Lists.{CrlFields, ListFields, ListFits, IsMadeList, IsTbsCertList, IsCertificateList, IsCertificateListWithin, list_encoding};
 ghost use Rattle.rpki_crl.specs.RevokedEntries.{Entry, Revoked, AreEntries, IsRevokedCertificates, FitsEntry, entries};
 
 /// Says that a string begins with at most one revocation list, with its fields and entries, and

@@ -1,9 +1,8 @@
 //! Revocation lists are made: fields go in, octets come out.
 ghost use Rattle.std.specs.Prelude.{◌≡◌, ◌^◌, ◌<◌, length, Ok, IfOk, IfErr, OnOk, false};
-ghost use Rattle.std.specs.List.{concat};
 ghost use Rattle.std.specs.Iterator.{IsFinite};
 ghost use Rattle.rpki_der.specs.declared.error.EncodeError.TheVariants.{Memory};
-ghost use Rattle.rpki_parts.specs.SignedDatas.{signed_pieces};
+ghost use Rattle.rpki_parts.specs.SignedDatas.{signed_content};
 ghost use Rattle.rpki_parts.specs.Signing.{IsRefusal};
 ghost use Rattle.rpki_crl.specs.Lists.{ListFits, list_content, list_encoding};
 ghost use Rattle.rpki_crl.specs.ListMaking.{AreGiven, with_entries, IsListRefusal};
@@ -19,6 +18,7 @@ use std::alloc::{AllocError, Global};
 
 impl TbsCertList<RevokedCertificates> {
     // The octets that `encode_ref` writes, with the signer's signature.
+    #[tactic(auto, unfolding(crate::specs::Lists::list_format))]
     fn sign<S: Signer>(
         &self,
         alloc: Global,
@@ -30,7 +30,7 @@ impl TbsCertList<RevokedCertificates> {
         ensures signed { IfOk result
             (λ s. S.signs signer.now key.now self.now.algorithm (list_encoding self.now)
             (Ok s.signature)) }
-        ensures fits { IfOk result (λ s. length (concat (signed_pieces s)) < 2 ^ 32) }
+        ensures fits { IfOk result (λ s. length (signed_content s) < 2 ^ 32) }
         ensures rejected { IfErr result (IsRefusal (list_content self.now)
             (S.signs signer.now key.now self.now.algorithm (list_encoding self.now))) }
     {
@@ -55,7 +55,7 @@ impl TbsCertList<RevokedCertificates> {
             (λ c. S.signs signer.now key.now self.algorithm (list_encoding self)
             (Ok c.list.signed_data.signature)) }
         ensures fits { IfOk result
-            (λ c. length (concat (signed_pieces c.list.signed_data)) < 2 ^ 32) }
+            (λ c. length (signed_content c.list.signed_data) < 2 ^ 32) }
         ensures rejected { IfErr result (IsRefusal (list_content self)
             (S.signs signer.now key.now self.algorithm (list_encoding self))) }
     {
@@ -121,7 +121,7 @@ impl<C: IntoIterator<Item = CrlEntry>> TbsCertList<C> {
             (λ c. S.signs signer.now key.now self.algorithm (list_encoding c.list.fields)
             (Ok c.list.signed_data.signature)) }
         ensures fits { IfOk result
-            (λ c. length (concat (signed_pieces c.list.signed_data)) < 2 ^ 32) }
+            (λ c. length (signed_content c.list.signed_data) < 2 ^ 32) }
         ensures rejected { IfErr result (IsListRefusal self
             (AreGiven C.into_iter_gives C.IntoIter.next_gives self.revoked)
             (S.signs signer.now key.now self.algorithm)) }

@@ -1,13 +1,13 @@
 //! The list of entries of a certificate revocation list.
 ghost use Rattle.std.specs.Prelude.{◌≡◌, ◌↔◌, IsTrue, IfOk, IfErr, map};
 ghost use Rattle.rpki_der.specs.declared.error.EncodeError.TheVariants.{Memory};
-ghost use Rattle.rpki_der.specs.Place.{remaining, Keeps, AnswersOrAbsentOrMemory};
+ghost use Rattle.rpki_der.specs.Place.{remaining, Keeps};
 ghost use Rattle.rpki_der.specs.Place.Reading.{Returns, ReturnsOrMemory, TookOrMemory};
 ghost use Rattle.rpki_der.specs.Tags.{SEQUENCE};
 ghost use Rattle.rpki_der.specs.Values.{AreOctets};
 ghost use Rattle.rpki_der.specs.Writers.{Writes};
-ghost use Rattle.rpki_crl.specs.RevokedEntries.{AreEntries, IsRevoked, IsRevokedCertificates, entries, revoked_part};
-ghost use Rattle.rpki_crl.specs.RevokedEntries.Reading.{entries_pass, no_entries, revoked_of, revoked_at};
+ghost use Rattle.rpki_crl.specs.Answers.{AnswersOrAbsentOrMemory};
+ghost use Rattle.rpki_crl.specs.RevokedEntries.{AreEntries, IsRevoked, entries, entries_pass, no_entries, revoked_format, revoked_of, revoked_part};
 ghost use Rattle.rpki_crl.specs.RevokedEntries.Views.{entry_of};
 ghost use Rattle.rpki_crl.specs.SerialTables.{looks};
 
@@ -27,7 +27,7 @@ pub struct RevokedCertificates {
 impl Model for RevokedCertificates {
     ghost use Rattle.std.specs.Prelude.{◌≡◌, Some};
     ghost use Rattle.rpki_crl.specs.RevokedEntries.{Revoked};
-    ghost use Rattle.rpki_crl.specs.RevokedEntries.Reading.{entries_in, entries_pass};
+    ghost use Rattle.rpki_crl.specs.RevokedEntries.{entries_in, entries_pass};
 
     ghost Value = { Revoked };
 
@@ -46,7 +46,7 @@ impl<'a> Model for RevokedCertificatesIter<'a> {
     ghost use Rattle.std.specs.Prelude.{◌≡◌, List, Some};
     ghost use Rattle.rpki_der.specs.Place.{remaining};
     ghost use Rattle.rpki_crl.specs.RevokedEntries.{Entry};
-    ghost use Rattle.rpki_crl.specs.RevokedEntries.Reading.{entries_in, entries_pass};
+    ghost use Rattle.rpki_crl.specs.RevokedEntries.{entries_in, entries_pass};
 
     ghost Value = { List Entry };
 
@@ -88,7 +88,7 @@ fn check(cursor: &Cursor<'_>) -> Result<(), DecodeError>
 }
 
 // The content of the SEQUENCE, if it is a sequence of entries.
-#[tactic(auto, unfolding(crate::specs::RevokedEntries::Reading::revoked_of))]
+#[tactic(auto, unfolding(crate::specs::RevokedEntries::revoked_of))]
 fn kept(alloc: Global, content: &mut Cursor<'_>) -> Result<RevokedCertificates, DecodeError>
     ensures { ReturnsOrMemory result (revoked_of (remaining content.old)) }
 {
@@ -134,12 +134,12 @@ impl RevokedCertificates {
     }
 
     // The list that stands next, by the reading function.
-    #[tactic(auto, unfolding(crate::specs::RevokedEntries::Reading::revoked_at))]
+    #[tactic(auto, unfolding(crate::specs::RevokedEntries::revoked_format))]
     pub(crate) fn read(
         alloc: Global,
         cursor: &mut Cursor<'_>,
     ) -> Result<RevokedCertificates, DecodeError>
-        ensures reads { TookOrMemory revoked_at cursor.old result cursor.new }
+        ensures reads { TookOrMemory revoked_format.read cursor.old result cursor.new }
         ensures keeps { Keeps result cursor.old cursor.new }
         ensures octets { AreOctets (remaining cursor.old) }
     {
@@ -154,13 +154,12 @@ impl RevokedCertificates {
 
     /// Reads the SEQUENCE of entries that stands next (RFC 5280 5.1). Where no SEQUENCE stands next
     /// there are none.
+    #[tactic(auto, using(crate::proofs::ListReads::answers_revoked))]
     pub fn take_from(
         alloc: Global,
         cursor: &mut Cursor<'_>,
     ) -> Result<RevokedCertificates, DecodeError>
-        ensures answers { let encodes = IsRevokedCertificates in
-            AnswersOrAbsentOrMemory SEQUENCE encodes cursor.old result cursor.new }
-        ensures keeps { Keeps result cursor.old cursor.new }
+        ensures { AnswersOrAbsentOrMemory SEQUENCE revoked_format cursor.old result cursor.new }
     {
         RevokedCertificates::read(alloc, cursor)
     }
@@ -208,8 +207,9 @@ impl RevokedCertificates {
 
     /// Appends the SEQUENCE of the entries, as they were read or made; nothing where there are none
     /// (RFC 5280 5.1.2.6). Errs with `TooLong` where they have 2^32 octets or more.
+    #[tactic(auto, unfolding(crate::specs::RevokedEntries::revoked_format))]
     pub fn encode_ref(&self, _alloc: Global, out: &mut Vec<u8>) -> Result<(), EncodeError>
-        ensures { Writes (revoked_part self.now.octets) out.old.items result out.new.items }
+        ensures { Writes (revoked_part self.now) out.old.items result out.new.items }
     {
         let octets = self.octets.as_bytes();
         if octets.is_empty() {

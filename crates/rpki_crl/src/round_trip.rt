@@ -1,8 +1,7 @@
 //! What the public clauses give together: a list that was made is read again from its own octets.
 ghost use Rattle.std.specs.Prelude.{◌≡◌, ◌^◌, ◌<◌, length, false, IfOk, IfErr};
-ghost use Rattle.std.specs.List.{concat};
 ghost use Rattle.rpki_der.specs.declared.error.EncodeError.TheVariants.{Memory};
-ghost use Rattle.rpki_parts.specs.SignedDatas.{signed_pieces};
+ghost use Rattle.rpki_parts.specs.SignedDatas.{signed_content};
 ghost use Rattle.rpki_crl.specs.Lists.{ListFits, list_encoding};
 
 use crate::crl::Crl;
@@ -18,7 +17,7 @@ pub fn read_again(alloc: Global, made: &Crl) -> Result<Crl, EncodeError>
     requires message { made.now.list.signed_data.message ≡ list_encoding made.now.list.fields }
     requires algorithm { let list = made.now.list in
         list.fields.algorithm ≡ list.signed_data.signature.algorithm }
-    requires fits { length (concat (signed_pieces made.now.list.signed_data)) < 2 ^ 32 }
+    requires fits { length (signed_content made.now.list.signed_data) < 2 ^ 32 }
     ensures same { IfOk result (λ c. c.list ≡ made.now.list) }
     ensures uncached { IfOk result (λ c. c.is_cached ≡ false) }
     ensures memory { IfErr result (λ e. e ≡ Memory) }

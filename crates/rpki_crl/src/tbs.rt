@@ -1,15 +1,13 @@
 //! The data of a revocation list: its fields, and how it is read.
 ghost use Rattle.std.specs.Prelude.{◌≡◌, IfOk};
 ghost use Rattle.std.specs.Borrow.{sem};
-ghost use Rattle.rpki_der.specs.Place.{remaining, Keeps, AnswersOrMemory};
-ghost use Rattle.rpki_der.specs.Place.Reading.{Took, TookBy, TookOrMemory, TookOrMemoryBy};
-ghost use Rattle.rpki_der.specs.Reading.{inside, both};
-ghost use Rattle.rpki_der.specs.Values.Reading.{value_at};
-ghost use Rattle.rpki_der.specs.Tags.{CONTEXT_CONSTRUCTED, SEQUENCE};
+ghost use Rattle.rpki_der.specs.Answers.{AnswersOrMemory};
+ghost use Rattle.rpki_der.specs.Place.{remaining, Keeps};
+ghost use Rattle.rpki_der.specs.Place.Reading.{Took, TookOrMemory, TookOrMemoryBy};
+ghost use Rattle.rpki_der.specs.Skipping.{levels};
 ghost use Rattle.rpki_der.specs.Values.{AreOctets};
-ghost use Rattle.rpki_crl.specs.Lists.{IsTbsCertList};
-ghost use Rattle.rpki_crl.specs.Lists.Reading.{list_version_at, list_parts_in_order, list_parts_at, list_at};
-ghost use Rattle.rpki_crl.specs.Lists.Views.{parts_view};
+ghost use Rattle.rpki_crl.specs.ListExtensions.Views.{extensions_view};
+ghost use Rattle.rpki_crl.specs.Lists.{version_2, list_content_format, list_format, tagged_extensions_format};
 ghost use Rattle.rpki_crl.specs.Lists.Lending.{LendsRevoked};
 
 use crate::extensions::CrlExtensions;
@@ -49,9 +47,9 @@ impl<C> Model for TbsCertList<C> {
 }
 
 // The version, which is 2.
-#[tactic(auto, unfolding(crate::specs::Lists::Reading::list_version_at))]
+#[tactic(auto, unfolding(crate::specs::Lists::version_2))]
 fn take_version(cursor: &mut Cursor<'_>) -> Result<(), DecodeError>
-    ensures reads { Took list_version_at cursor.old result cursor.new }
+    ensures reads { Took version_2.read cursor.old result cursor.new }
     ensures keeps { Keeps result cursor.old cursor.new }
 {
     let mut ahead = cursor.fork();
@@ -63,101 +61,42 @@ fn take_version(cursor: &mut Cursor<'_>) -> Result<(), DecodeError>
     Ok(())
 }
 
-// The fields before the extensions.
-#[derive(Drop)]
-struct Head {
-    signature: RpkiSignatureAlgorithm,
-    issuer: Name,
-    this_update: Time,
-    next_update: Time,
-    revoked_certs: RevokedCertificates,
-}
-
-// The sequence of extensions, as it stands inside its tags.
-fn take_extensions<'a>(cursor: &mut Cursor<'a>) -> Result<Cursor<'a>, DecodeError>
-    ensures reads { TookBy remaining (inside (CONTEXT_CONSTRUCTED 0) (value_at SEQUENCE))
+// The extensions, inside their tags.
+fn take_extensions(alloc: Global, cursor: &mut Cursor<'_>) -> Result<CrlExtensions, DecodeError>
+    ensures reads { TookOrMemoryBy extensions_view tagged_extensions_format.read
         cursor.old result cursor.new }
     ensures keeps { Keeps result cursor.old cursor.new }
 {
     let mut ahead = cursor.fork();
     let mut tagged = ahead.take_value(tag::CONTEXT_CONSTRUCTED)?;
     let elements = tagged.take_sequence()?;
+    let extensions = CrlExtensions::from_row(alloc, &elements)?;
     tagged.finish()?;
     *cursor = ahead;
-    Ok(elements)
-}
-
-// These fields, and the sequence of extensions as it stands.
-#[tactic(auto, unfolding(crate::specs::Lists::Reading::list_parts_in_order))]
-fn take_in_order<'a>(
-    alloc: Global,
-    cursor: &mut Cursor<'a>,
-) -> Result<(Head, Cursor<'a>), DecodeError>
-    ensures reads { TookOrMemoryBy parts_view list_parts_in_order cursor.old result cursor.new }
-    ensures keeps { Keeps result cursor.old cursor.new }
-{
-    let mut ahead = cursor.fork();
-    take_version(&mut ahead)?;
-    let signature = RpkiSignatureAlgorithm::x509_take_from(&mut ahead)?;
-    let issuer = Name::take_from(alloc, &mut ahead)?;
-    let (issuer, this_update) = beside(issuer, Time::take_from(&mut ahead))?;
-    let (issuer, next_update) = beside(issuer, Time::take_from(&mut ahead))?;
-    let both = beside(issuer, RevokedCertificates::read(alloc, &mut ahead))?;
-    let (both, elements) = beside(both, take_extensions(&mut ahead))?;
-    let (issuer, revoked_certs) = both;
-    *cursor = ahead;
-    let head = Head {
-        signature,
-        issuer,
-        this_update,
-        next_update,
-        revoked_certs,
-    };
-    Ok((head, elements))
-}
-
-// Reads what stands inside the SEQUENCE.
-#[tactic(auto, unfolding(crate::specs::Lists::Reading::list_parts_at))]
-fn take_fields<'a>(
-    alloc: Global,
-    cursor: &mut Cursor<'a>,
-) -> Result<(Head, Cursor<'a>), DecodeError>
-    ensures reads { TookOrMemoryBy parts_view list_parts_at cursor.old result cursor.new }
-    ensures keeps { Keeps result cursor.old cursor.new }
-{
-    let mut ahead = cursor.fork();
-    let mut content = ahead.take_sequence()?;
-    let fields = take_in_order(alloc, &mut content)?;
-    if !content.is_empty() {
-        drop(fields);
-        return Err(DecodeError::Trailing);
-    }
-    *cursor = ahead;
-    Ok(fields)
+    Ok(extensions)
 }
 
 impl TbsCertList<RevokedCertificates> {
-    /// Reads the data, by the reading function.
-    #[tactic(auto, unfolding(crate::specs::Lists::Reading::list_at))]
-    pub(crate) fn read(
+    // What stands inside the SEQUENCE, by the reading function.
+    #[tactic(auto, unfolding(crate::specs::Lists::list_content_format))]
+    fn take_content(
         alloc: Global,
-        cursor: &mut Cursor<'_>,
+        content: &mut Cursor<'_>,
     ) -> Result<TbsCertList<RevokedCertificates>, DecodeError>
-        ensures reads { TookOrMemory list_at cursor.old result cursor.new }
-        ensures keeps { Keeps result cursor.old cursor.new }
-        ensures octets { AreOctets (remaining cursor.old) }
+        ensures reads { TookOrMemory (list_content_format levels).read
+            content.old result content.new }
+        ensures keeps { Keeps result content.old content.new }
     {
-        let mut ahead = cursor.fork();
-        let (head, elements) = take_fields(alloc, &mut ahead)?;
-        let (head, extensions) = beside(head, CrlExtensions::from_row(alloc, &elements))?;
-        *cursor = ahead;
-        let Head {
-            signature,
-            issuer,
-            this_update,
-            next_update,
-            revoked_certs,
-        } = head;
+        let mut ahead = content.fork();
+        take_version(&mut ahead)?;
+        let signature = RpkiSignatureAlgorithm::x509_take_from(&mut ahead)?;
+        let issuer = Name::take_from(alloc, &mut ahead)?;
+        let (issuer, this_update) = beside(issuer, Time::take_from(&mut ahead))?;
+        let (issuer, next_update) = beside(issuer, Time::take_from(&mut ahead))?;
+        let both = beside(issuer, RevokedCertificates::read(alloc, &mut ahead))?;
+        let (both, extensions) = beside(both, take_extensions(alloc, &mut ahead))?;
+        let (issuer, revoked_certs) = both;
+        *content = ahead;
         Ok(TbsCertList {
             signature,
             issuer,
@@ -168,15 +107,36 @@ impl TbsCertList<RevokedCertificates> {
         })
     }
 
+    /// Reads the data, by the reading function.
+    #[tactic(auto, unfolding(crate::specs::Lists::list_format))]
+    pub(crate) fn read(
+        alloc: Global,
+        cursor: &mut Cursor<'_>,
+    ) -> Result<TbsCertList<RevokedCertificates>, DecodeError>
+        ensures reads { TookOrMemory (list_format levels).read cursor.old result cursor.new }
+        ensures keeps { Keeps result cursor.old cursor.new }
+        ensures octets { AreOctets (remaining cursor.old) }
+    {
+        let mut ahead = cursor.fork();
+        let mut content = ahead.take_sequence()?;
+        let list = TbsCertList::take_content(alloc, &mut content)?;
+        if !content.is_empty() {
+            drop(list);
+            return Err(DecodeError::Trailing);
+        }
+        *cursor = ahead;
+        Ok(list)
+    }
+
     /// Reads the TBSCertList that stands next, one SEQUENCE (RFC 5280 5.1.2, RFC 6487 5), whatever
     /// order its extensions stand in. Fails if no front of the remaining octets is one; which error
     /// is returned is unspecified.
+    #[tactic(auto, using(rpki_der::proofs::FormatAnswers::answers_or_memory_alone, crate::proofs::ListFormats::list_alone))]
     pub fn take_from(
         alloc: Global,
         cursor: &mut Cursor<'_>,
     ) -> Result<TbsCertList<RevokedCertificates>, DecodeError>
-        ensures answers { AnswersOrMemory IsTbsCertList cursor.old result cursor.new }
-        ensures keeps { Keeps result cursor.old cursor.new }
+        ensures { AnswersOrMemory (list_format levels) cursor.old result cursor.new }
     {
         TbsCertList::read(alloc, cursor)
     }

@@ -1,13 +1,13 @@
 //! How the data of a revocation list is written.
 ghost use Rattle.std.specs.Prelude.{◌≡◌, ◌^◌, ◌≤◌, ◌++◌, ◌<◌, length, IfOk, OnOk, IsErrOf};
-ghost use Rattle.rpki_der.specs.Tags.{SEQUENCE};
-ghost use Rattle.rpki_der.specs.Writers.{value, Writes};
+ghost use Rattle.rpki_der.specs.Writers.{Writes};
 ghost use Rattle.rpki_der.specs.Times.{IsMoment};
 ghost use Rattle.rpki_parts.specs.Names.{IsName};
-ghost use Rattle.rpki_ext.specs.KeyIdentifiers.{HasTwentyOctets};
+ghost use Rattle.rpki_ext.specs.ExtensionKinds.{HasTwentyOctets};
 ghost use Rattle.rpki_crl.specs.RevokedEntries.{AreEntries};
+ghost use Rattle.rpki_crl.specs.ListExtensions.{list_sequence};
 ghost use Rattle.rpki_crl.specs.ListExtensions.Views.{extensions_view};
-ghost use Rattle.rpki_crl.specs.Lists.{ListFits, list_content, list_sequence, tagged_list_extensions};
+ghost use Rattle.rpki_crl.specs.Lists.{ListFits, list_content, list_part, tagged_list_extensions};
 
 use crate::extensions::CrlExtensions;
 use crate::revoked::RevokedCertificates;
@@ -35,7 +35,6 @@ impl CrlExtensions {
     }
 
     // Appends them inside their two tags.
-    #[tactic(auto, unfolding(crate::specs::Lists::tagged_list_extensions))]
     fn put_tagged(&self, alloc: Global, out: &mut Vec<u8>) -> Result<(), EncodeError>
         ensures ok { OnOk result
             (out.new.items ≡ out.old.items ++ tagged_list_extensions (extensions_view self.now)) }
@@ -68,6 +67,7 @@ impl TbsCertList<RevokedCertificates> {
     }
 
     // What stands inside the SEQUENCE.
+    #[tactic(auto, unfolding(crate::specs::Lists::list_content_format))]
     fn content(&self, alloc: Global) -> Result<Vec<u8>, EncodeError>
         ensures ok { IfOk result (λ c. c.items ≡ list_content self.now) }
         ensures number { OnOk result (self.now.extensions.crl_number < 2 ^ 160) }
@@ -87,9 +87,9 @@ impl TbsCertList<RevokedCertificates> {
     /// Appends the TBSCertList with these fields (RFC 5280 5.1.2, RFC 6487 5): the entries as they
     /// are kept, and both extensions in one fixed order, without flags. Errs with `TooLong` where
     /// its content would have 2^32 octets or more.
+    #[tactic(auto, unfolding(crate::specs::Lists::list_format))]
     pub fn encode_ref(&self, alloc: Global, out: &mut Vec<u8>) -> Result<(), EncodeError>
-        ensures writes { Writes (value SEQUENCE (list_content self.now))
-            out.old.items result out.new.items }
+        ensures writes { Writes (list_part self.now) out.old.items result out.new.items }
         ensures fits { OnOk result (ListFits self.now) }
     {
         self.known();

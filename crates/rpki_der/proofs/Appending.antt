@@ -1,8 +1,7 @@
 -- What an append that may fail leaves behind.
 use Rattle.std.proofs.Common.{◌≡◌, ℕ, ◌+◌, List, [], ◌∷◌, ◌++◌, length, take, Result, Ok, Err, refl, ap, sym, ◌∙◌, append_assoc, arith}
 use Rattle.std.specs.Prelude.{OnOk, OnErr, is_ok, if◌then◌else◌}
-use Rattle.std.specs.List.{concat}
-use Rattle.std.proofs.lemmas.List.{append-nil, length-append, take_at, take-take}
+use Rattle.std.proofs.lemmas.List.{length-append, take_at, take-take}
 use Rattle.rpki_der.specs.Values.{length_octets, enc}
 
 -- what was appended may be written in another form
@@ -27,10 +26,10 @@ unfolding enc
 length-enc t c = omega (arith, length-append (length_octets (length c)) c)
 
 -- three pieces behind an identifier octet and their length are a value
-pub assembled : (t : ℕ) (old a b c : List ℕ) (n : ℕ) → n ≡ length (concat (a ∷ b ∷ c ∷ [])) → ((((old ++ t ∷ []) ++ length_octets n) ++ a) ++ b) ++ c ≡ old ++ enc t (concat (a ∷ b ∷ c ∷ []))
+pub assembled : (t : ℕ) (old a b c : List ℕ) (n : ℕ) → n ≡ length (a ++ (b ++ c)) → ((((old ++ t ∷ []) ++ length_octets n) ++ a) ++ b) ++ c ≡ old ++ enc t (a ++ (b ++ c))
 unfolding enc
-assembled t old a b c n e = rw e (simp (append_assoc, append-nil {A = ℕ}))
+assembled t old a b c n e = rw e (simp (append_assoc))
 
 -- the length of three pieces is the sum of theirs
-pub length-pieces : (a b c : List ℕ) → length (concat (a ∷ b ∷ c ∷ [])) ≡ length a + (length b + length c)
-length-pieces a b c = omega (arith, length-append c [], length-append b (concat (c ∷ [])), length-append a (concat (b ∷ c ∷ [])))
+pub length-pieces : (a b c : List ℕ) → length (a ++ (b ++ c)) ≡ length a + (length b + length c)
+length-pieces a b c = omega (arith, length-append b c, length-append a (b ++ c))

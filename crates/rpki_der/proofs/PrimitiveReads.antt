@@ -9,20 +9,15 @@ use Rattle.std.proofs.Math.Nat.{mul-add-mod_self_right}
 use Rattle.std.proofs.lemmas.Int.Digits.{number_after_append, number_after_ge, number_more}
 use Rattle.rpki_der.specs.Values.{length_octets, enc, IsEnc}
 use Rattle.rpki_der.specs.Primitives.{IsNull, IsBits, IsU32, IsUnsigned, IsBoolOrFalse, IsInteger, IsNumber}
-use Rattle.rpki_der.specs.Primitives.Reading.{octets_at, null_of, null_at, or_false, bool_or_false_at, has_zero_bits, bits_of, bits_at, is_unsigned, unsigned_of, unsigned_at, number_below, u32_at, bool_of, bool_at}
+use Rattle.rpki_der.specs.Primitives.Reading.{null_of, null_at, or_false, bool_or_false_at, has_zero_bits, bits_of, bits_at, is_unsigned, unsigned_of, unsigned_at, number_below, u32_at, bool_of, bool_at}
 use Rattle.rpki_der.specs.Reading.{content, optional, Reads, ReadsBefore, ReadsOrAbsent, Inside, Optional, BeginWith}
 use Rattle.rpki_der.specs.Encoding.{BeginsOther}
-use Rattle.rpki_der.specs.Tags.{BIT_STRING, BOOLEAN, INTEGER, NULL, OCTET_STRING}
+use Rattle.rpki_der.specs.Tags.{BIT_STRING, BOOLEAN, INTEGER, NULL}
 use Rattle.rpki_der.proofs.Octets.{if_some, some_is, nothing}
 use Rattle.rpki_der.proofs.Readings.{content_reads, same_reads}
-use Rattle.rpki_der.proofs.ValueReads.{value_reads}
 use Rattle.rpki_der.proofs.Optionals.{optional_or_absent, absent_before, map_value_or_absent}
 
 -- ---- OCTET STRING
-
--- an OCTET STRING is read as it is encoded
-pub octets_reads : Reads octets_at (IsEnc OCTET_STRING)
-octets_reads = value_reads OCTET_STRING
 
 -- ---- NULL
 

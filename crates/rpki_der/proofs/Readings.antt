@@ -179,23 +179,9 @@ both_reads f g S T F G = before_then Anything f g S T (before Anything f S F) G 
 pub inside_reads : {X : Type 0} (t : ℕ) (f : List ℕ → Option (X × List ℕ)) (S : X → List ℕ → Type 0) → Reads f S → Reads (inside t f) (Inside t S)
 inside_reads t f S F = inside_before Anything t f S tt (before Anything f S F)
 
--- a lawful reading that depends on one before it is lawful
-pub and_then_reads : {X Y : Type 0} (f : List ℕ → Option (X × List ℕ)) (g : X → List ℕ → Option (Y × List ℕ)) (S : X → List ℕ → Type 0) (T : X → Y → List ℕ → Type 0)
-    → Reads f S → ((x : X) → Reads (g x) (T x)) → Reads (and_then f g) (AndThen S T)
-and_then_reads f g S T F G = before_anything (and_then f g) (AndThen S T) (and_then_before Anything f g S T F (λ x. before Anything (g x) (T x) (G x)))
-
 -- the whole of some octets
 pub whole_reads : {X : Type 0} (f : List ℕ → Option (X × List ℕ)) (S : X → List ℕ → Type 0) → Reads f S → ReadsWhole (whole f) S
 whole_reads f S F = whole_before Anything f S tt (before Anything f S F)
-
--- a lawful reading stays lawful where its values take another form
-pub map_value_reads : {X Y : Type 0} (f : List ℕ → Option (X × List ℕ)) (S : X → List ℕ → Type 0) (to : X → Y) (back : Y → X)
-    → ((x : X) → back (to x) ≡ x) → ((y : Y) → to (back y) ≡ y) → Reads f S → Reads (map_value to f) (λ y. S (back y))
-map_value_reads {X} {Y} f S to back bt tb F =
-    let T : Y → List ℕ → Type 0 = λ y. S (back y) in
-    before_anything (map_value to f) T (map_value_before Anything to f S T (before Anything f S F)
-    (λ x text s. subst (λ (z : X). S z text) (sym (bt x)) s)
-    (λ y text t. (back y, tb y, t)))
 
 -- a lawful reading of a whole content is lawful inside its tag
 pub content_reads : {X : Type 0} (t : ℕ) (f : List ℕ → Option X) (S : X → List ℕ → Type 0) → ReadsWhole f S → Reads (content t f) (Inside t S)

@@ -1,12 +1,11 @@
 -- A sequence is its first value and a sequence.
-use Rattle.std.proofs.Common.{◌≡◌, ℕ, zero, suc, ◌<◌, ◌≤◌, List, [], ◌∷◌, length, Option, Some, None, refl, ap, subst, ◌∙◌, arith}
-use Rattle.rpki_der.specs.Reading.{at_end, inside, Reads}
-use Rattle.rpki_der.specs.Values.Reading.{value_at, ◌>>=◌}
+use Rattle.std.proofs.Common.{◌≡◌, ℕ, zero, suc, ◌<◌, ◌≤◌, List, [], ◌∷◌, length, Option, Some, None, refl, subst, ◌∙◌, arith}
+use Rattle.rpki_der.specs.Reading.{Reads}
+use Rattle.rpki_der.specs.Values.Reading.{◌>>=◌}
 use Rattle.rpki_der.specs.Values.{AreOctets}
 use Rattle.rpki_der.specs.Sequences.{AreEncodings}
 use Rattle.rpki_der.specs.Sequences.Reading.{sequence_at, sequence_of, Shrinks}
 use Rattle.rpki_der.proofs.Octets.{AreOctets-after, bind_some, some, some_is, nothing}
-use Rattle.rpki_der.proofs.ValueReads.{value_shorter}
 
 -- two ways to go on that agree after what was read
 same_after : {X : Type 0} (r : Option (X × List ℕ)) (f g : List ℕ → Option (List X)) → ((x : X × List ℕ) → r ≡ Some x → f x.1 ≡ g x.1)
@@ -54,17 +53,3 @@ sequence_again {X} read S law less (x ∷ xs) bytes s =
     let shorter : length s.1 < length bytes = less bytes x s.1 first in
     let later : sequence_of read s.1 ≡ some xs = sequence_again read S law less xs s.1 s.3 in
     sequence_steps read less bytes (omega arith) ∙ rw (first, later) refl
-
-ended_is : {X : Type 0} (rest : List ℕ) (x y : X) → at_end rest x ≡ some y → x ≡ y
-ended_is [] x y e = some_is x y e
-ended_is (b ∷ rest) x y e = nothing y e
-
--- readings of values shrink
-pub inside_shrinks : {X : Type 0} (t : ℕ) (f : List ℕ → Option (X × List ℕ)) → Shrinks (inside t f)
-inside_shrinks {X} t f = λ bytes p rest e.
-    let a = bind_some (value_at t bytes) (λ v. f v.0 >>= λ x. at_end x.1 (x.0, v.1)) (p, rest) e in
-    let b = bind_some (f a.0.0) (λ x. at_end x.1 (x.0, a.0.1)) (p, rest) a.2 in
-    let g = ended_is b.0.1 (b.0.0, a.0.1) (p, rest) b.2 in
-    let k = value_shorter t bytes a.0.0 a.0.1 a.1 in
-    let same : a.0.1 ≡ rest = ap (λ (q : X × List ℕ). q.1) g in
-    omega (arith, ap length same)

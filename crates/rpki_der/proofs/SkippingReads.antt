@@ -1,9 +1,9 @@
 -- Values of any kind, both ways.
 use Rattle.std.specs.List.{AllByRecursion, concat}
-use Rattle.std.proofs.Common.{◌≡◌, ℕ, zero, suc, ◌-◌, cond, List, [], ◌∷◌, ◌++◌, length, take, None, Result, Ok, Err, refl, sym, ap, ◌∙◌, arith, inl, inr, ◌↔◌}
+use Rattle.std.proofs.Common.{◌≡◌, ℕ, zero, suc, ◌-◌, ◌+◌, ◌<◌, cond, List, [], ◌∷◌, ◌++◌, length, take, Some, None, Result, Ok, Err, refl, sym, ap, ◌∙◌, arith, inl, inr, ◌↔◌}
 use Rattle.std.specs.Prelude.{IsOk}
 use Rattle.std.proofs.lemmas.Bool.{cases_Bool, eq-eqb, eqb-true}
-use Rattle.std.proofs.lemmas.List.{length-append, take_at}
+use Rattle.std.proofs.lemmas.List.{length-append, length-take-le, take_at}
 use Rattle.rpki_der.specs.Values.{AreOctets, enc, IsEnc, IsValue}
 use Rattle.rpki_der.specs.Reading.{Reads, ReadsWhole}
 use Rattle.rpki_der.specs.Values.Reading.{value_at, ◌>>=◌}
@@ -14,11 +14,11 @@ use Rattle.rpki_der.specs.declared.error.DecodeError.{DecodeError}
 use Rattle.rpki_der.specs.Encoding.{Begins}
 use Rattle.rpki_der.specs.Skipping.{IsSkippableWithin, IsSkippableSequence, IsSkipped, IsCaptured, levels}
 use Rattle.rpki_der.specs.Skipping.Reading.{any_at, captured_at, is_primitive, skip_within, skip_sequence_within, skip_at, skip_all_of}
-use Rattle.rpki_der.proofs.Octets.{bind_some, if_some, some, some_is, nothing}
+use Rattle.rpki_der.proofs.Octets.{both_are, bind_some, if_some, some, some_is, nothing}
 use Rattle.rpki_der.proofs.Readings.{begins_same}
 use Rattle.rpki_der.proofs.ValueReads.{value_takes, value_again}
 use Rattle.rpki_der.proofs.Sequences.{elements_are, sequence_again}
-use Rattle.rpki_der.proofs.SkippingSteps.{within_shrinks}
+use Rattle.rpki_der.proofs.SkippingSteps.{any_shrinks, within_shrinks}
 
 -- ---- a value of any identifier octet
 
@@ -68,6 +68,23 @@ captured_reads = record {
   where
     front_is : (octets text rest : List ℕ) → octets ≡ text ++ rest → take (length octets - length rest) octets ≡ text
     front_is octets text rest e = rw e (take_at text rest (length (text ++ rest) - length rest) (omega (arith, length-append text rest)))
+
+-- what is kept and what remains are the octets
+pub captured_length : (octets text rest : List ℕ) → captured_at octets ≡ Some (text, rest) → length text + length rest ≡ length octets
+unfolding captured_at
+captured_length octets text rest e =
+    let (((tag, content), after), found, last) = bind_some (any_at octets) (λ v. some {A = List ℕ × List ℕ} (take (length octets - length v.1) octets, v.1)) (text, rest) e in
+    let d = both_are (take (length octets - length after) octets, after) (text, rest) last in
+    let shorter = any_shrinks octets (tag, content) after found in
+    omega (arith, shorter, length-take-le (length octets - length after) octets (omega (arith, shorter)), ap length d.0, ap length d.1)
+
+-- what is kept has an octet at least
+pub captured_some : (octets text rest : List ℕ) → captured_at octets ≡ Some (text, rest) → length rest < length octets
+unfolding captured_at
+captured_some octets text rest e =
+    let (((tag, content), after), found, last) = bind_some (any_at octets) (λ v. some {A = List ℕ × List ℕ} (take (length octets - length v.1) octets, v.1)) (text, rest) e in
+    let d = both_are (take (length octets - length after) octets, after) (text, rest) last in
+    omega (arith, any_shrinks octets (tag, content) after found, ap length d.1)
 
 -- ---- a value that is skipped
 

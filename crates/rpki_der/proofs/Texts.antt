@@ -1,5 +1,4 @@
 -- Octets that are printed one after the other.
-use Rattle.std.specs.List.{flat_map}
 use Rattle.std.specs.Fmt.{digits, format_spec, padded_integral}
 use Rattle.std.proofs.Common.{◌≡◌, ℕ, ◌+◌, ◌-◌, ◌/◌, ◌%◌, ◌^◌, ◌<◌, true, false, List, [], ◌∷◌, ◌++◌, length, take, get_or, sym, ap, ◌∙◌}
 use Rattle.std.proofs.lemmas.Fmt.{hex_byte}

@@ -26,18 +26,26 @@ pub enc_longer : (t : ℕ) (c : List ℕ) → length c ≤ length (enc t c)
 unfolding enc
 enc_longer t c = omega (arith, length-append (length_octets (length c)) c)
 
+-- the content of a value that consists of octets does so too
+pub enc_octets : (t : ℕ) (c : List ℕ) → AreOctets (enc t c) → AreOctets c
+unfolding enc
+enc_octets t c h = (AreOctets-parts (length_octets (length c)) c h.1).1
+
 -- a short value has a short content
 pub content_short : (t : ℕ) (c : List ℕ) → Short (enc t c) → Short c
-unfolding enc
-content_short t c h = (omega (arith, enc_longer t c, h.0), (AreOctets-parts (length_octets (length c)) c h.1.1).1)
+content_short t c h = (omega (arith, enc_longer t c, h.0), enc_octets t c h.1)
+
+-- two pieces that are short together are short each
+pub append_short : (a b : List ℕ) → Short (a ++ b) → Short a × Short b
+append_short a b h =
+    let whole = length-append a b in
+    let octets = AreOctets-parts a b h.1 in
+    ((omega (arith, whole, h.0), octets.0), (omega (arith, whole, h.0), octets.1))
 
 -- pieces that are short together are short each
 pub pieces_short : (ps : List (List ℕ)) → Short (concat ps) → AllByRecursion Short ps
 pieces_short [] h = tt
-pieces_short (p ∷ ps) h =
-    let whole = length-append p (concat ps) in
-    let octets = AreOctets-parts p (concat ps) h.1 in
-    ((omega (arith, whole, h.0), octets.0), pieces_short ps (omega (arith, whole, h.0), octets.1))
+pieces_short (p ∷ ps) h = let both = append_short p (concat ps) h in (both.0, pieces_short ps both.1)
 
 -- what is written of a content in a tag is a value
 pub made : (t : ℕ) (c : List ℕ) → t % 32 < 31 → Short (enc t c) → IsEnc t c (enc t c)

@@ -6,7 +6,7 @@ use Rattle.std.proofs.Common.{◌≡◌, ℕ, ◌%◌, ◌/◌, ◌^◌, ◌<◌
 use Rattle.std.proofs.lemmas.Bool.{cases_lt, lt-ltb, le-ltb, ltb-true, and_parts}
 use Rattle.std.proofs.lemmas.List.{length-append}
 use Rattle.std.proofs.lemmas.Int.Digits.{length-digits_of-le, all_below_base_digits_of}
-use Rattle.rpki_der.specs.Values.{AreOctets, length_octets, enc, IsEnc, nested}
+use Rattle.rpki_der.specs.Values.{AreOctets, length_octets, enc, IsEnc}
 use Rattle.rpki_der.specs.Times.{Moment, leap_day, days_in_month, IsMoment, two, after_year, time}
 use Rattle.rpki_der.specs.Primitives.{unsigned, number, bool_or_false}
 use Rattle.rpki_der.specs.Tags.{BOOLEAN, GENERALIZED_TIME, INTEGER, UTC_TIME}
@@ -60,11 +60,6 @@ ok_enc t c tag h l = let small : length c < 2 ^ 32 = omega (arith, enc_longer t 
 -- a value's octets
 pub value_octets : {t : ℕ} {c b : List ℕ} → IsEnc t c b → AreOctets b
 value_octets {t} {c} h = subst AreOctets (sym h.is) (octets_enc t c h.octet h.short h.octets)
-
--- a value in several tags, if short, consists of octets where its content does
-pub ok_nested : (tags : List ℕ) (c : List ℕ) → AreOctets tags → IfShort c → IfShort (nested tags c)
-ok_nested [] c t h = h
-ok_nested (t ∷ ts) c tags h = ok_enc t (nested ts c) tags.0 (ok_nested ts c tags.1 h)
 
 ok_unsigned : (ds : List ℕ) → AreOctets ds → AreOctets (unsigned ds)
 ok_unsigned [] h = (omega arith, tt)

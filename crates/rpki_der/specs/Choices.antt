@@ -1,6 +1,6 @@
 -- Readings that choose by what stands next or by a test, that depend on what stood before, and that
 -- turn what they read.
-use Rattle.std.specs.Prelude.{◌≡◌, ℕ, bytes_eq, nat_eq, Bool, if◌then◌else◌, List, [], ◌∷◌, ◌++◌, Option, Some, None, ◌⊎◌}
+use Rattle.std.specs.Prelude.{◌≡◌, ℕ, bytes_eq, nat_eq, if◌then◌else◌, List, [], ◌∷◌, ◌++◌, Option, Some, None, ◌⊎◌}
 use Rattle.rpki_der.specs.Reading.{at_end, optional}
 use Rattle.rpki_der.specs.Values.Reading.{value_at, ◌>>=◌}
 
@@ -15,17 +15,6 @@ choice t first second (found ∷ bytes) = if nat_eq found t then first (found �
 abbrev pub Either : {V : Type 0} → (V → List ℕ → Type 0) → (V → List ℕ → Type 0) → V → List ℕ → Type 0
 Either first second v text = first v text ⊎ second v text
 
--- what a whole content gives, or what is read before another tag
-abbrev pub content_case : {X : Type 0} → (List ℕ → Option X) → (List ℕ → Option (X × List ℕ)) → Option (List ℕ) → List ℕ → Option (X × List ℕ)
-content_case of other (Some c) rest = of c >>= λ x. Some (x, rest)
-content_case of other None rest = other rest
-
--- reads a whole content behind this tag, or by the other before another tag
-abbrev pub content_or : {X : Type 0} → ℕ → (List ℕ → Option X) → (List ℕ → Option (X × List ℕ)) → List ℕ → Option (X × List ℕ)
-content_or tag of other bytes = do
-  c ← optional tag (value_at tag) bytes
-  content_case of other c.0 c.1
-
 -- what a whole content gives, or nothing before another tag
 abbrev pub maybe : {X : Type 0} → (List ℕ → Option X) → Option (List ℕ) → List ℕ → Option (Option X × List ℕ)
 maybe of (Some c) rest = of c >>= λ x. Some (Some x, rest)
@@ -39,21 +28,9 @@ optional_of tag of bytes = do
 
 -- ---- a test chooses
 
--- only where the test was passed
-abbrev pub only_if : {X : Type 0} → Bool → (List ℕ → Option (X × List ℕ)) → List ℕ → Option (X × List ℕ)
-only_if test read bytes = if test then read bytes else None
-
--- by one where the test was passed, else by the other
-abbrev pub choose : {X : Type 0} → Bool → (List ℕ → Option (X × List ℕ)) → (List ℕ → Option (X × List ℕ)) → List ℕ → Option (X × List ℕ)
-choose test first second bytes = if test then first bytes else second bytes
-
 -- these octets, and no others
 abbrev pub exactly : List ℕ → List ℕ → Option (Unit {0})
 exactly wanted octets = if bytes_eq octets wanted then Some tt else None
-
--- a value that no octet is read for
-abbrev pub always : {X : Type 0} → X → List ℕ → Option (X × List ℕ)
-always x bytes = Some (x, bytes)
 
 -- ---- what was read decides
 

@@ -50,10 +50,6 @@ abbrev pub AnswersBy : {X Y : Type 0} → (X → Y) → (Y → List ℕ → Type
 AnswersBy view encodes old (Ok x) new = Begins encodes (remaining old) (view x) (remaining new)
 AnswersBy {X} {Y} view encodes old (Err e) new = (e ≢ Memory) × ((y : Y) (rest : List ℕ) → Begins encodes (remaining old) y rest → ⊥)
 
--- a reader's answer without a view
-abbrev pub Answers : {X : Type 0} → (X → List ℕ → Type 0) → Place → Result X DecodeError → Place → Type 0
-Answers encodes = AnswersBy (λ x. x) encodes
-
 -- The answer of a reader that answers None at the end and before another identifier, seen by view.
 abbrev pub AnswersOptionalBy : {X Y : Type 0} → (X → Y) → ℕ → (Y → List ℕ → Type 0) → Place → Result (Option X) DecodeError → Place → Type 0
 AnswersOptionalBy view tag encodes old (Ok None) new = BeginsOther tag (remaining old) × (new ≡ old)
@@ -65,10 +61,6 @@ AnswersOptionalBy {X} {Y} view tag encodes old (Err e) new =
 abbrev pub AnswersOrMemoryBy : {X Y : Type 0} → (X → Y) → (Y → List ℕ → Type 0) → Place → Result X DecodeError → Place → Type 0
 AnswersOrMemoryBy view encodes old (Ok x) new = Begins encodes (remaining old) (view x) (remaining new)
 AnswersOrMemoryBy {X} {Y} view encodes old (Err e) new = Rejects e ((y : Y) (rest : List ℕ) → Begins encodes (remaining old) y rest → ⊥)
-
--- the answer of a reader that may run out of memory
-abbrev pub AnswersOrMemory : {X : Type 0} → (X → List ℕ → Type 0) → Place → Result X DecodeError → Place → Type 0
-AnswersOrMemory encodes = AnswersOrMemoryBy (λ x. x) encodes
 
 -- the answer of a reader whose value may be absent, and that may run out of memory, seen by view
 abbrev pub AnswersOptionalOrMemoryBy : {X Y : Type 0} → (X → Y) → ℕ → (Y → List ℕ → Type 0) → Place → Result (Option X) DecodeError → Place → Type 0

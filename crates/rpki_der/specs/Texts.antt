@@ -1,7 +1,7 @@
 -- What is printed of octets, serial numbers and times.
 use Rattle.std.specs.Int.Digits.{digits_of}
 use Rattle.std.specs.List.{concat, flat_map}
-use Rattle.std.specs.Prelude.{ℕ, ◌+◌, ◌/◌, ◌%◌, nat_lt, if◌then◌else◌, List, [], ◌∷◌, ◌++◌, codes}
+use Rattle.std.specs.Prelude.{ℕ, ◌+◌, ◌/◌, ◌%◌, nat_lt, if◌then◌else◌, List, [], ◌∷◌, codes}
 use Rattle.rpki_der.specs.Times.{Moment, two}
 
 -- an upper-case hexadecimal digit

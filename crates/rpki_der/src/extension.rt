@@ -1,13 +1,13 @@
 //! Extensions, read and appended to vectors.
 ghost use Rattle.std.specs.Prelude.{◌≡◌, ◌+◌, ◌^◌, ◌≤◌, ◌<◌, ◌++◌, length, take, MatchOption, IfOk, OnOk, OnErr};
-ghost use Rattle.std.specs.List.{concat};
 ghost use Rattle.rpki_der.specs.Primitives.{IsOid, bool_or_false};
-ghost use Rattle.rpki_der.specs.Extensions.Reading.{extension_at};
 ghost use Rattle.rpki_der.specs.Extensions.Views.{extension_view};
-ghost use Rattle.rpki_der.specs.Place.{remaining, IsWithin, EndsAt, Keeps, AnswersBy};
+ghost use Rattle.rpki_der.specs.Place.{remaining, IsWithin, EndsAt, Keeps};
+ghost use Rattle.rpki_der.specs.Answers.{AnswersBy};
 ghost use Rattle.rpki_der.specs.Place.Reading.{TookBy};
-ghost use Rattle.rpki_der.specs.Values.{AreOctets, length_octets, sequence};
-ghost use Rattle.rpki_der.specs.Extensions.{IsExtension, extension_part, pieces_with};
+ghost use Rattle.rpki_der.specs.Values.{AreOctets, enc, length_octets};
+ghost use Rattle.rpki_der.specs.Extensions.{extension_content, extension_format, extension_part};
+ghost use Rattle.rpki_der.specs.Tags.{SEQUENCE};
 ghost use Rattle.rpki_der.specs.Writers.{WritesOrTooLong};
 
 use crate::cursor::Cursor;
@@ -48,8 +48,8 @@ fn value_len(len: usize) -> usize
 // than 2^32 and they too.
 fn pieces_len(id: &[u8], flag: &[u8], content: &[u8]) -> Option<u32>
     requires { length flag.now ≤ 3 }
-    ensures { let pieces = concat (pieces_with id.now flag.now content.now) in
-        MatchOption result (2 ^ 32 ≤ length pieces) (λ len. len ≡ length pieces) }
+    ensures { let inside = extension_content id.now flag.now content.now in
+        MatchOption result (2 ^ 32 ≤ length inside) (λ len. len ≡ length inside) }
 {
     if id.len() > MAX_LEN || content.len() > MAX_LEN {
         return None;
@@ -69,9 +69,9 @@ fn append_extension(
     flag: &[u8],
     content: &[u8],
 ) -> Result<(), AllocError>
-    requires { len ≡ length (concat (pieces_with id.now flag.now content.now)) }
-    ensures ok { let pieces = pieces_with id.now flag.now content.now in
-        OnOk result (out.new.items ≡ out.old.items ++ sequence pieces) }
+    requires { len ≡ length (extension_content id.now flag.now content.now) }
+    ensures ok { let inside = extension_content id.now flag.now content.now in
+        OnOk result (out.new.items ≡ out.old.items ++ enc SEQUENCE inside) }
     ensures err { OnErr result (take (length out.old.items) out.new.items ≡ out.old.items) }
 {
     out.push(tag::SEQUENCE)?;
@@ -83,6 +83,7 @@ fn append_extension(
 
 /// Appends the extension with this identifier, flag and content (RFC 5280 4.1): the flag only where
 /// it is true (X.690 11.5). Errs with `TooLong` where that makes a content of 2^32 octets or more.
+#[tactic(auto, unfolding(crate::specs::Extensions::extension_format))]
 pub fn put_extension(
     out: &mut Vec<u8>,
     id: &[u8],
@@ -106,10 +107,10 @@ pub fn put_extension(
 }
 
 // The extension that stands next, by the reading function.
-#[tactic(auto, unfolding(crate::specs::Extensions::Reading::extension_at))]
+#[tactic(auto, unfolding(crate::specs::Extensions::extension_format))]
 #[inline(always)]
 fn read<'a>(cursor: &mut Cursor<'a>) -> Result<(&'a [u8], bool, Cursor<'a>), DecodeError>
-    ensures reads { TookBy extension_view extension_at cursor.old result cursor.new }
+    ensures reads { TookBy extension_view extension_format.read cursor.old result cursor.new }
     ensures keeps { Keeps result cursor.old cursor.new }
     ensures inside { IfOk result (λ x. IsWithin x.2 cursor.old) }
     ensures placed { IfOk result (λ x. EndsAt x.2 cursor.new) }
@@ -127,13 +128,12 @@ fn read<'a>(cursor: &mut Cursor<'a>) -> Result<(&'a [u8], bool, Cursor<'a>), Dec
 
 /// Reads the extension that stands next. Returns its identifier, critical flag and content (RFC
 /// 5280 4.1.2.9).
+#[tactic(auto, using(crate::proofs::FormatAnswers::answers_alone, crate::proofs::ExtensionReads::extension_alone))]
 #[inline(always)]
 pub fn take_extension<'a>(
     cursor: &mut Cursor<'a>,
 ) -> Result<(&'a [u8], bool, Cursor<'a>), DecodeError>
-    ensures answers { AnswersBy extension_view IsExtension cursor.old result cursor.new }
-    ensures reads { TookBy extension_view extension_at cursor.old result cursor.new }
-    ensures keeps { Keeps result cursor.old cursor.new }
+    ensures answers { AnswersBy extension_view extension_format cursor.old result cursor.new }
     ensures inside { IfOk result (λ x. IsWithin x.2 cursor.old) }
     ensures placed { IfOk result (λ x. EndsAt x.2 cursor.new) }
 {

@@ -1,7 +1,9 @@
 //! INTEGER of a number that is not negative.
 ghost use Rattle.std.specs.Prelude.{◌≡◌, ◌^◌, ◌≤◌, ◌++◌, length, IfOk};
 ghost use Rattle.std.specs.Int.Digits.{digits_of, number_from_digits};
-ghost use Rattle.rpki_der.specs.Place.{remaining, IsWithin, Keeps, Answers, AnswersBy};
+ghost use Rattle.rpki_der.specs.Place.{remaining, IsWithin, Keeps};
+ghost use Rattle.rpki_der.specs.Answers.{Answers, AnswersBy};
+ghost use Rattle.rpki_der.specs.BasicFormats.{u32_format, unsigned_format};
 ghost use Rattle.rpki_der.specs.Place.Reading.{Took, TookBy, Returns};
 ghost use Rattle.rpki_der.specs.Primitives.{IsU32, IsUnsigned, unsigned};
 ghost use Rattle.rpki_der.specs.Primitives.Reading.{is_unsigned, number_below, u32_at, unsigned_at};
@@ -101,9 +103,7 @@ impl<'a> Cursor<'a> {
     /// Reads the INTEGER from 0 to 2^32 - 1 that must stand next (X.690 8.3).
     #[inline(always)]
     pub fn take_u32(&mut self) -> Result<u32, DecodeError>
-        ensures answers { Answers IsU32 self.old result self.new }
-        ensures reads { Took u32_at self.old result self.new }
-        ensures keeps { Keeps result self.old self.new }
+        ensures { Answers u32_format self.old result self.new }
     {
         self.next_u32()
     }
@@ -127,10 +127,9 @@ impl<'a> Cursor<'a> {
 
     /// Reads the INTEGER from 0 on that must stand next, of whatever size (X.690 8.3). Returns a
     /// cursor over its content: the octets of the number, the highest first.
+    #[tactic(auto, using(crate::proofs::FormatAnswers::answers_lawful, crate::proofs::BasicFormats::unsigned_lawful))]
     pub fn take_unsigned(&mut self) -> Result<Cursor<'a>, DecodeError>
-        ensures answers { AnswersBy remaining IsUnsigned self.old result self.new }
-        ensures reads { TookBy remaining unsigned_at self.old result self.new }
-        ensures keeps { Keeps result self.old self.new }
+        ensures answers { AnswersBy remaining unsigned_format self.old result self.new }
         ensures inside { IfOk result (λ c. IsWithin c self.old) }
     {
         self.next_unsigned()

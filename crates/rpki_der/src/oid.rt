@@ -4,7 +4,9 @@ ghost use Rattle.std.proofs.Common.{rules};
 ghost use Rattle.std.specs.Cmp.Rules.{comparing};
 ghost use Rattle.rpki_der.specs.Identifiers.{id_ce, pkix};
 ghost use Rattle.rpki_der.specs.Primitives.{IsOid, IsObjectIdentifier};
-ghost use Rattle.rpki_der.specs.Place.{remaining, Keeps, AnswersBy};
+ghost use Rattle.rpki_der.specs.Place.{remaining, Keeps};
+ghost use Rattle.rpki_der.specs.Answers.{AnswersBy};
+ghost use Rattle.rpki_der.specs.BasicFormats.{object_identifier};
 ghost use Rattle.rpki_der.specs.Place.Reading.{TookBy};
 ghost use Rattle.rpki_der.specs.Primitives.Reading.{is_oid, ends_oid, oid_at};
 ghost use Rattle.rpki_der.specs.Values.{AreOctets};
@@ -222,11 +224,10 @@ impl<'a> Cursor<'a> {
     }
 
     /// Reads the OBJECT IDENTIFIER that must stand next. Returns its content octets (X.690 8.19).
+    #[tactic(auto, using(crate::proofs::FormatAnswers::answers_lawful, crate::proofs::BasicFormats::object_identifier_lawful))]
     #[inline(always)]
     pub fn take_oid(&mut self) -> Result<&'a [u8], DecodeError>
-        ensures answers { AnswersBy (λ id. id.now) IsObjectIdentifier self.old result self.new }
-        ensures reads { TookBy (λ id. id.now) oid_at self.old result self.new }
-        ensures keeps { Keeps result self.old self.new }
+        ensures { AnswersBy (λ id. id.now) object_identifier self.old result self.new }
     {
         self.next_oid()
     }

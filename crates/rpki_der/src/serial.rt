@@ -4,7 +4,9 @@ ghost use Rattle.std.specs.Ordering.{nat_cmp};
 ghost use Rattle.std.specs.Int.Digits.{digits_of, number_from_digits};
 ghost use Rattle.std.proofs.Common.{rules};
 ghost use Rattle.std.specs.Cmp.Rules.{comparing};
-ghost use Rattle.rpki_der.specs.Place.{remaining, Keeps, Answers};
+ghost use Rattle.rpki_der.specs.Place.{remaining, Keeps};
+ghost use Rattle.rpki_der.specs.Answers.{Answers};
+ghost use Rattle.rpki_der.specs.BasicFormats.{serial_format};
 ghost use Rattle.rpki_der.specs.Place.Reading.{Took, Returns};
 ghost use Rattle.rpki_der.specs.Values.{AreOctets};
 ghost use Rattle.rpki_der.specs.Serials.{IsSerial};
@@ -139,9 +141,7 @@ impl Serial {
     /// Reads the INTEGER that must stand next, from 0 to 2^160 - 1 (RFC 5280 4.1.2.2).
     #[inline(always)]
     pub fn take_from(cursor: &mut Cursor<'_>) -> Result<Serial, DecodeError>
-        ensures answers { Answers IsSerial cursor.old result cursor.new }
-        ensures reads { Took serial_at cursor.old result cursor.new }
-        ensures keeps { Keeps result cursor.old cursor.new }
+        ensures { Answers serial_format cursor.old result cursor.new }
     {
         Serial::take_number(cursor)
     }

@@ -1,6 +1,8 @@
 //! OCTET STRING and NULL.
 ghost use Rattle.std.specs.Prelude.{IfOk};
-ghost use Rattle.rpki_der.specs.Place.{remaining, IsWithin, EndsAt, Keeps, Answers, AnswersBy};
+ghost use Rattle.rpki_der.specs.Answers.{Answers, AnswersBy};
+ghost use Rattle.rpki_der.specs.BasicFormats.{null_format, octet_string};
+ghost use Rattle.rpki_der.specs.Place.{remaining, IsWithin, EndsAt, Keeps};
 ghost use Rattle.rpki_der.specs.Place.Reading.{Took, TookBy};
 ghost use Rattle.rpki_der.specs.Primitives.{IsNull};
 ghost use Rattle.rpki_der.specs.Primitives.Reading.{octets_at, null_at};
@@ -15,9 +17,7 @@ impl<'a> Cursor<'a> {
     /// Reads the OCTET STRING that must stand next. Returns a cursor over its octets (X.690 8.7).
     #[inline(always)]
     pub fn take_octets(&mut self) -> Result<Cursor<'a>, DecodeError>
-        ensures answers { AnswersBy remaining (IsEnc OCTET_STRING) self.old result self.new }
-        ensures reads { TookBy remaining octets_at self.old result self.new }
-        ensures keeps { Keeps result self.old self.new }
+        ensures answers { AnswersBy remaining octet_string self.old result self.new }
         ensures inside { IfOk result (λ c. IsWithin c self.old) }
         ensures placed { IfOk result (λ c. EndsAt c self.new) }
     {
@@ -44,9 +44,7 @@ impl<'a> Cursor<'a> {
     /// content.
     #[inline(always)]
     pub fn take_null(&mut self) -> Result<(), DecodeError>
-        ensures answers { Answers IsNull self.old result self.new }
-        ensures reads { Took null_at self.old result self.new }
-        ensures keeps { Keeps result self.old self.new }
+        ensures { Answers null_format self.old result self.new }
     {
         self.next_null()
     }

@@ -1,6 +1,8 @@
 //! Values of any kind: passed over, or kept whole.
 ghost use Rattle.std.specs.Prelude.{◌≡◌, ◌↔◌, [], IsOk, OnOk};
-ghost use Rattle.rpki_der.specs.Place.{remaining, Keeps, Answers, AnswersOrMemory};
+ghost use Rattle.rpki_der.specs.Place.{remaining, Keeps};
+ghost use Rattle.rpki_der.specs.Answers.{Answers, AnswersOrMemory};
+ghost use Rattle.rpki_der.specs.BasicFormats.{any_value, skippable_value};
 ghost use Rattle.rpki_der.specs.Place.Reading.{Took, TookBy, TookOrMemory, Returns};
 ghost use Rattle.rpki_der.specs.Skipping.{IsSkipped, IsSkippableSequence, IsCaptured};
 ghost use Rattle.rpki_der.specs.Skipping.Reading.{any_at, captured_at, skip_within, skip_sequence_within, skip_at, skip_all_of};
@@ -75,9 +77,7 @@ impl<'a> Cursor<'a> {
     /// most 32 deep, this one counted as the first (own). Errs with `TooDeep` at a constructed
     /// value below the last level. Takes no memory.
     pub fn skip_one(&mut self) -> Result<(), DecodeError>
-        ensures answers { Answers IsSkipped self.old result self.new }
-        ensures reads { Took skip_at self.old result self.new }
-        ensures keeps { Keeps result self.old self.new }
+        ensures { Answers skippable_value self.old result self.new }
     {
         self.next_skippable()
     }
@@ -125,9 +125,7 @@ impl<'a> Cursor<'a> {
     /// not tested. The only other error than those of the identifier and the length is `Memory`.
     #[inline(always)]
     pub fn capture_one(&mut self, alloc: Global) -> Result<Piece, DecodeError>
-        ensures answers { AnswersOrMemory IsCaptured self.old result self.new }
-        ensures reads { TookOrMemory captured_at self.old result self.new }
-        ensures keeps { Keeps result self.old self.new }
+        ensures { AnswersOrMemory any_value self.old result self.new }
     {
         self.next_captured(alloc)
     }

@@ -9,7 +9,9 @@ ghost use Rattle.jiff_core.specs.Date.{IsYmd};
 ghost use Rattle.jiff_core.specs.Time.{IsHms};
 ghost use Rattle.jiff_core.specs.Time.{IsTime as IsClock};
 ghost use Rattle.rpki_der.specs.Timestamps.{timestamp};
-ghost use Rattle.rpki_der.specs.Place.{remaining, Keeps, Answers};
+ghost use Rattle.rpki_der.specs.Place.{remaining, Keeps};
+ghost use Rattle.rpki_der.specs.Answers.{Answers};
+ghost use Rattle.rpki_der.specs.BasicFormats.{time_format};
 ghost use Rattle.rpki_der.specs.Place.Reading.{Took, Returns, ReturnsBy};
 ghost use Rattle.rpki_der.specs.Values.{AreOctets};
 ghost use Rattle.rpki_der.specs.Times.{Moment, moment, IsMoment, IsTime, second_number, two, after_year, fourteen_digits, time};
@@ -185,11 +187,10 @@ impl Time {
 
     /// Reads the UTCTime or GeneralizedTime that must stand next, in the form that ends in seconds
     /// and Z (RFC 5280 4.1.2.5).
+    #[tactic(auto, using(crate::proofs::FormatAnswers::answers_lawful, crate::proofs::BasicFormats::time_lawful))]
     #[inline(always)]
     pub fn take_from(cursor: &mut Cursor<'_>) -> Result<Time, DecodeError>
-        ensures answers { Answers IsTime cursor.old result cursor.new }
-        ensures reads { Took time_at cursor.old result cursor.new }
-        ensures keeps { Keeps result cursor.old cursor.new }
+        ensures { Answers time_format cursor.old result cursor.new }
     {
         Time::take_time(cursor)
     }

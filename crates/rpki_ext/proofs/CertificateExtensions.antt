@@ -1,11 +1,11 @@
 -- The extensions of a certificate: what a sequence of them gives, both ways, and what is written of
 -- their fields.
 use Rattle.std.specs.List.{AllByRecursion, list_all}
-use Rattle.std.specs.Prelude.{unwrap_or, filter, IfSome, is_some}
+use Rattle.std.specs.Prelude.{unwrap_or, filter, IfSome, is_some, ◌≢◌, ◌^◌, ◌-◌}
 use Rattle.std.proofs.Common.{ℕ, Bool, List, Option, [], ◌∷◌, Some, None, ◌≡◌, true, false, cond, ap, refl, map, sym, subst, inl, inr, Result, Ok, Err, ◌⊎◌, ◌||◌, not, ◌∙◌}
-use Rattle.std.proofs.lemmas.Bool.{false_from_ne_true, true_from_ne_false}
-use Rattle.rpki_der.specs.Extensions.{OptionalExtension, Extension, IsExtension}
-use Rattle.rpki_der.specs.Extensions.Reading.{extension_at}
+use Rattle.std.proofs.lemmas.Bool.{cases_Bool, false_from_ne_true, true_from_ne_false}
+use Rattle.std.proofs.lemmas.Option.{IfSome_then}
+use Rattle.rpki_der.specs.Extensions.{OptionalExtension, Extension, IsExtension, extension_format}
 use Rattle.rpki_der.specs.Folding.{IsLawful, IsFolded, over}
 use Rattle.rpki_der.specs.Place.{MeansOrMemory}
 use Rattle.rpki_der.specs.Place.Reading.{ReturnsOrMemory}
@@ -20,44 +20,30 @@ use Rattle.rpki_der.proofs.Lists.{weaken}
 use Rattle.rpki_der.proofs.Octets.{some, some_is, nothing, bind_some, chosen}
 use Rattle.rpki_der.proofs.ValueWritten.{Short}
 use Rattle.rpki_der.proofs.WrittenOctets.{IfShort}
-use Rattle.rpki_blocks.specs.Addresses.{Ip}
-use Rattle.rpki_blocks.specs.Addresses.Reading.{families_at}
+use Rattle.rpki_blocks.specs.Addresses.{Ip, ip_addr_blocks_format}
 use Rattle.rpki_blocks.specs.Prefixes.{AreV4}
-use Rattle.rpki_blocks.specs.Resources.{missing, inherit, Resources}
-use Rattle.rpki_blocks.specs.Systems.Reading.{as_identifiers_at}
+use Rattle.rpki_blocks.specs.Resources.{missing, inherit, IsResources, Resources}
+use Rattle.rpki_blocks.specs.Systems.{as_identifiers_format}
 use Rattle.rpki_blocks.specs.declared.overclaim.Overclaim.{Overclaim}
 use Rattle.rpki_blocks.specs.declared.overclaim.Overclaim.TheVariants.{Refuse, Trim}
-use Rattle.rpki_blocks.proofs.ResourcesWritten.{no_ip, no_as_resources}
 use Rattle.rpki_ext.specs.CertificateExtensions.{bare, ExtensionFields, parts, no_access, no_addresses, GiveFields, ExtensionsFit, HasResources, AreExtensions, values_of}
 use Rattle.rpki_ext.specs.CertificateExtensions.Views.{ip_of}
 use Rattle.rpki_ext.specs.CertificateExtensions.Reading.{under, may_stand, all_kinds, State, ListedFields, listed_under, agreed, completed, extensions_of, state_of, Names, is_seen, wanted, HasFlag}
-use Rattle.rpki_ext.specs.ExtensionKinds.{known, basic_constraints, subject_key_identifier, authority_key_identifier, key_usage, extended_key_usage, crl_distribution_points, authority_information_access, subject_information_access, certificate_policies, ip_resources, as_resources, certificate_kinds}
-use Rattle.rpki_ext.specs.KeyIdentifiers.{HasTwentyOctets}
-use Rattle.rpki_ext.specs.Kinds.{Gives, is_of, Any}
-use Rattle.rpki_ext.specs.SubjectAccess.{Access}
+use Rattle.rpki_ext.specs.ExtensionKinds.{known, subject_key_identifier, key_usage, certificate_policies, ip_resources, as_resources, certificate_kinds, HasTwentyOctets, authority_information_access_format, basic_constraints_format, certificate_policies_format, crl_distribution_points_format}
+use Rattle.rpki_ext.specs.Kinds.{Gives, is_of, kept_if}
+use Rattle.rpki_ext.specs.ResourceKinds.{addresses_format, are_there, has_addresses, numbers_format}
+use Rattle.rpki_ext.specs.SubjectAccess.{Access, HasUris, has_uri, subject_information_access_format}
 use Rattle.rpki_ext.specs.declared.key_usage.KeyUsage.{KeyUsage as Usage}
 use Rattle.rpki_ext.specs.declared.reading.Named.{Named}
 use Rattle.rpki_ext.specs.declared.reading.Named.TheVariants.{BasicConstraints, SubjectKeyIdentifier, AuthorityKeyIdentifier, KeyUsage, ExtendedKeyUsage, CrlDistributionPoints, AuthorityInformationAccess, SubjectInformationAccess, CertificatePolicies, IpResources, AsResources}
 use Rattle.rpki_ext.specs.declared.reading.ReadExtensions.{ReadExtensions}
-use Rattle.rpki_ext.proofs.AuthorityAccess.{authority_information_access_is}
-use Rattle.rpki_ext.proofs.BasicConstraints.{basic_constraints_is}
-use Rattle.rpki_ext.proofs.CertificatePolicies.{certificate_policies_is}
-use Rattle.rpki_ext.proofs.DistributionPoints.{crl_distribution_points_is}
-use Rattle.rpki_ext.proofs.ExtendedKeyUsages.{extended_key_usage_is}
-use Rattle.rpki_ext.proofs.KeyIdentifiers.{subject_key_identifier_is, authority_key_identifier_is}
-use Rattle.rpki_ext.proofs.KeyUsages.{key_usage_is}
-use Rattle.rpki_ext.proofs.KindTables.{table_law, AreKinds}
-use Rattle.rpki_ext.proofs.KindsWritten.{as_it_was, IsKnown, is_known, all_known, is_in, only_ones, none_unknown, kept_all, kept_some, else_kept, written}
-use Rattle.rpki_ext.proofs.ResourceKinds.{ip_resources_is, ip_shows, as_resources_is, as_shows}
+use Rattle.rpki_ext.proofs.ExtensionKinds.{kinds_are, purposes_fit, authority_fits, subject_fits, usage_fits}
+use Rattle.rpki_ext.proofs.KindTables.{table_law}
+use Rattle.rpki_ext.proofs.KindsWritten.{IsKnown, is_known, all_known, is_in, only_ones, none_unknown, written}
+use Rattle.rpki_ext.proofs.ResourceKinds.{is_there, no_addresses_there, not_there, some_addresses}
 use Rattle.rpki_ext.proofs.ShownModes.{under_mode, mode_under, stays, was}
 use Rattle.rpki_ext.proofs.TablesWritten.{identifiers_by_kind, Fit, table_given, table_octets}
-use Rattle.rpki_ext.proofs.SubjectAccess.{subject_information_access_is, no_uris}
-
--- ---- the kinds
-
--- all kinds that certificates know are lawful
-pub kinds_are : AreKinds certificate_kinds
-kinds_are = (basic_constraints_is, (subject_key_identifier_is, (authority_key_identifier_is, (key_usage_is, (extended_key_usage_is, (crl_distribution_points_is, (authority_information_access_is, (subject_information_access_is, (certificate_policies_is, ((ip_shows, ip_resources_is), ((as_shows, as_resources_is), tt)))))))))))
+use Rattle.rpki_ext.proofs.SubjectAccess.{no_uris}
 
 -- ---- a second extension of a kind, and one with another flag than its kind's, is refused
 
@@ -102,12 +88,14 @@ pub rejected : (s : ReadExtensions) (kind : Named) (id : List ℕ) (critical : B
 rejected s kind id critical content n h = elim h [ inl seen ↦ second s kind id critical content n seen | inr flag ↦ unflagged s kind id critical content n flag ]
 
 -- resources that are not read, whatever the mode of their identifier
-pub unread_ip : (s : ReadExtensions) (mode : Overclaim) (x : Extension) → x.identifier ≡ (ip_resources mode).identifier → is_some (ip_of s.ip_resources) ≡ false → families_at x.content ≡ None → all_kinds.step (state_of s) x ≡ None
+pub unread_ip : (s : ReadExtensions) (mode : Overclaim) (x : Extension) → x.identifier ≡ (ip_resources mode).identifier → is_some (ip_of s.ip_resources) ≡ false → ip_addr_blocks_format.read x.content ≡ None → all_kinds.step (state_of s) x ≡ None
+unfolding addresses_format
 unread_ip s Refuse x named first none = rw (named, first, none) refl
 unread_ip s Trim x named first none = rw (named, first, none) refl
 
 -- an extension of AS numbers that isn't read ends the walk
-pub unread_as : (s : ReadExtensions) (mode : Overclaim) (x : Extension) → x.identifier ≡ (as_resources mode).identifier → is_some s.as_resources ≡ false → as_identifiers_at x.content ≡ None → all_kinds.step (state_of s) x ≡ None
+pub unread_as : (s : ReadExtensions) (mode : Overclaim) (x : Extension) → x.identifier ≡ (as_resources mode).identifier → is_some s.as_resources ≡ false → as_identifiers_format.read x.content ≡ None → all_kinds.step (state_of s) x ≡ None
+unfolding numbers_format
 unread_as s Refuse x named first none = rw (named, first, none) refl
 unread_as s Trim x named first none = rw (named, first, none) refl
 
@@ -189,7 +177,7 @@ pub extensions_read : ReadsWhole extensions_of AreExtensions
 unfolding extensions_of
 extensions_read = record {
   takes = λ c f low e.
-      let a = bind_some (over extension_at all_kinds.step all_kinds.start c) completed f e in
+      let a = bind_some (over extension_format.read all_kinds.step all_kinds.start c) completed f e in
       let folded : IsFolded IsExtension all_kinds a.0 c = going.takes c a.0 low a.1 in
       (folded.0, folded.1, give folded.0 a.0 f a.2 folded.2);
   again = λ f c s.
@@ -197,8 +185,8 @@ extensions_read = record {
       rw (going.again g.0 c (s.0, s.1, g.1), g.2) refl;
 }
   where
-    going : ReadsWhole (over extension_at all_kinds.step all_kinds.start) (IsFolded IsExtension all_kinds)
-    going = over_reads extension_at IsExtension HasOctets all_kinds extension_reads extension_shrinks extension_octets all_kinds_law
+    going : ReadsWhole (over extension_format.read all_kinds.step all_kinds.start) (IsFolded IsExtension all_kinds)
+    going = over_reads extension_format.read IsExtension HasOctets all_kinds extension_reads extension_shrinks extension_octets all_kinds_law
 
 -- a function that returns what reading gives answers both ways for whole octets
 pub sequence_means : (r : Result ExtensionFields DecodeError) (octets : List ℕ) → AreOctets octets → ReturnsOrMemory r (extensions_of octets) → MeansOrMemory AreExtensions r octets
@@ -223,38 +211,58 @@ are_known Trim x = refl
 pub known_parts : (x : ExtensionFields) → AllByRecursion IsKnown (parts x)
 known_parts x = all_known (parts x) (are_known x.overclaim x)
 
-always : {V : Type 0} (v : Option V) → IfSome v Any
-always None = tt
-always (Some w) = tt
+-- a value that passes the test can be written, or there is none
+if_fits : {V : Type 0} (test : V → Bool) (P Q : V → Type 0) → ((w : V) → P w → test w ≡ true → Q w) → (v : V) → P v → IfSome (kept_if test v) Q
+if_fits {V} test P Q fits v p = elim (cases_Bool (test v)) [ inl y ↦ rw y (fits v p y) | inr n ↦ rw n tt ]
+
+-- a value is what is kept of it, or what it is where it doesn't pass
+else_kept : {V : Type 0} (test : V → Bool) (d v : V) → (test v ≡ false → v ≡ d) → v ≡ unwrap_or (kept_if test v) d
+else_kept test d v other = elim (cases_Bool (test v)) [ inl y ↦ rw y refl | inr n ↦ rw n (other n) ]
+
+-- a value that passes the test is kept
+kept_some : {V : Type 0} (test : V → Bool) (v : V) → test v ≡ true → kept_if test v ≢ None
+kept_some test v y = rw y (λ e. absurd cc)
 
 module _ (x : ExtensionFields) (fits : ExtensionsFit x) (only_v4 : AreV4 x.v4_resources) where
+  abbrev i : Ip
+  i = record { v4 = x.v4_resources; v6 = x.v6_resources }
+
   all_fit : Fit certificate_kinds (values_of x)
-  all_fit = (always x.basic_ca, (fits.subject_key_identifier_is, (fits.authority_key_identifier_is, (tt, (fits.extended_key_usage_is, (fits.crl_uri_is, (fits.ca_issuer_is, (fits.access_is, (tt, ((fits.v4_is, only_v4, fits.v6_is), (fits.as_is, tt)))))))))))
+  unfolding basic_constraints_format crl_distribution_points_format authority_information_access_format subject_information_access_format certificate_policies_format addresses_format numbers_format
+  all_fit =
+      let subject = subject_fits x.subject_key_identifier fits.subject_key_identifier_is in
+      let authority = IfSome_then x.authority_key_identifier fits.authority_key_identifier_is authority_fits in
+      let purposes = IfSome_then x.extended_key_usage fits.extended_key_usage_is purposes_fit in
+      let uris = if_fits has_uri HasUris (λ a. HasUris a × (has_uri a ≡ true)) (λ a h y. (h, y)) x.access fits.access_is in
+      let addresses = if_fits has_addresses (λ i. IsResources (2 ^ 128 - 1) i.v4 × AreV4 i.v4 × IsResources (2 ^ 128 - 1) i.v6) addresses_format.fits (λ i h y. (h.0, h.1, h.2, y)) i (fits.v4_is, only_v4, fits.v6_is) in
+      let numbers = if_fits are_there (IsResources (2 ^ 32 - 1)) numbers_format.fits (λ r h y. (h, y)) x.as_resources fits.as_is in
+      (any x.basic_ca, (subject, (authority, (usage_fits x.key_usage, (purposes, (fits.crl_uri_is, (fits.ca_issuer_is, (uris, (tt, (addresses, (numbers, tt)))))))))))
+    where
+      any : (v : Option Bool) → IfSome v (λ b. Unit {0})
+      any None = tt
+      any (Some b) = tt
 
   -- the contents that are written of fields, if short, consist of octets
   pub ok_contents : AllByRecursion (λ p. IfSome p.content IfShort) (parts x)
   ok_contents = table_octets certificate_kinds kinds_are (values_of x) all_fit
 
-  abbrev i : Ip
-  i = record { v4 = x.v4_resources; v6 = x.v6_resources }
-
   -- what is written of fields with resources gives these fields, if short
   pub fields_given : HasResources x → AllByRecursion (λ p. IfSome p.content Short) (parts x) → GiveFields (written (parts x)) x
   fields_given some s =
       let (basic, (key, (authority, (usage, (purposes, (lists, (issuer, (uris, (policies, (ips, (asns, _))))))))))) = table_given certificate_kinds kinds_are (parts x) (values_of x) all_fit (only_ones (parts x) (identifiers_by_kind certificate_kinds) (parts x) (one_each x.overclaim x) s) in
-      let addresses_are : i ≡ _ = else_kept no_addresses i ((ip_resources x.overclaim).written i) (no_ip i) in
+      let addresses_are : i ≡ _ = else_kept has_addresses no_addresses i (no_addresses_there i) in
       record {
         passed_over = none_unknown (parts x) (known_parts x);
-        basic_constraints_is = as_it_was (written (parts x)) basic_constraints x.basic_ca (kept_all _ x.basic_ca) basic;
+        basic_constraints_is = basic;
         subject_key_identifier_is = key;
-        authority_key_identifier_is = as_it_was (written (parts x)) authority_key_identifier x.authority_key_identifier (kept_all _ x.authority_key_identifier) authority;
+        authority_key_identifier_is = authority;
         key_usage_is = usage;
-        extended_key_usage_is = as_it_was (written (parts x)) extended_key_usage x.extended_key_usage (kept_all _ x.extended_key_usage) purposes;
-        crl_distribution_points_is = as_it_was (written (parts x)) crl_distribution_points x.crl_uri (kept_all _ x.crl_uri) lists;
-        authority_information_access_is = as_it_was (written (parts x)) authority_information_access x.ca_issuer (kept_all _ x.ca_issuer) issuer;
+        extended_key_usage_is = purposes;
+        crl_distribution_points_is = lists;
+        authority_information_access_is = issuer;
         access = _;
         subject_information_access_is = uris;
-        access_is = else_kept no_access x.access (subject_information_access.written x.access) (no_uris x.access);
+        access_is = else_kept has_uri no_access x.access (no_uris x.access);
         certificate_policies_is = policies;
         ip = _;
         ip_resources_is = ips;
@@ -262,12 +270,12 @@ module _ (x : ExtensionFields) (fits : ExtensionsFit x) (only_v4 : AreV4 x.v4_re
         v6_is = ap (λ (j : Ip). j.v6) addresses_are;
         numbers = _;
         as_resources_is = asns;
-        as_is = else_kept missing x.as_resources ((as_resources x.overclaim).written x.as_resources) (no_as_resources x.as_resources);
+        as_is = else_kept are_there missing x.as_resources (not_there x.as_resources);
         some_resources = elim some [
-          | inl four ↦ inl (kept_some i _ (λ e. four (ap (λ (j : Ip). j.v4) (no_ip i e))))
+          | inl four ↦ inl (kept_some has_addresses i (some_addresses (inl four)))
           | inr more ↦ elim more [
-            | inl six ↦ inl (kept_some i _ (λ e. six (ap (λ (j : Ip). j.v6) (no_ip i e))))
-            | inr numbered ↦ inr (kept_some x.as_resources _ (λ e. numbered (no_as_resources x.as_resources e)))
+            | inl six ↦ inl (kept_some has_addresses i (some_addresses (inr six)))
+            | inr numbered ↦ inr (kept_some are_there x.as_resources (is_there x.as_resources numbered))
           ]
         ];
       }

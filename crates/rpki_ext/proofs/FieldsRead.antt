@@ -4,23 +4,23 @@ use Rattle.std.specs.List.{AllByRecursion, AllZip}
 use Rattle.std.specs.Prelude.{IfSome}
 use Rattle.std.proofs.Common.{◌≡◌, ℕ, ◌-◌, ◌^◌, List, [], ◌∷◌, Option, Some, None, refl, subst, sym, ◌∙◌, ap, map, inl, inr}
 use Rattle.std.proofs.lemmas.Option.{same_Some}
-use Rattle.rpki_der.specs.Extensions.{Extension, OptionalExtension, IsExtension, text}
-use Rattle.rpki_der.specs.Extensions.Reading.{extension_at}
+use Rattle.rpki_der.specs.Extensions.{Extension, OptionalExtension, IsExtension, extension_format, text}
 use Rattle.rpki_der.specs.Sequences.{IsAtMostOne}
 use Rattle.rpki_der.proofs.ExtensionReads.{extension_reads, extension_shrinks}
 use Rattle.rpki_der.proofs.Octets.{some_is}
 use Rattle.rpki_der.proofs.Sequences.{sequence_again}
 use Rattle.rpki_der.proofs.ValueWritten.{Short, pieces_short}
-use Rattle.rpki_blocks.specs.Addresses.{Ip, ip}
+use Rattle.rpki_blocks.specs.Addresses.{Ip}
 use Rattle.rpki_blocks.specs.Prefixes.{AreV4}
 use Rattle.rpki_blocks.specs.Resources.{IsResources}
-use Rattle.rpki_blocks.specs.Systems.{written_as}
 use Rattle.rpki_blocks.specs.declared.overclaim.Overclaim.{Overclaim}
 use Rattle.rpki_blocks.proofs.ResourcesWritten.{no_ip}
 use Rattle.rpki_blocks.proofs.ReadAsV4.{read_as_v4, some_ip, some_as}
 use Rattle.rpki_ext.specs.CertificateExtensions.{ExtensionFields, AreExtensions, HasResources, extensions, parts}
 use Rattle.rpki_ext.specs.ExtensionKinds.{certificate_kinds, ip_resources, as_resources}
-use Rattle.rpki_ext.specs.Kinds.{ExtensionKind, TellsUnder, GivesUnder, extension_for, identifiers_by_mode, only}
+use Rattle.rpki_ext.specs.Kinds.{ExtensionKind, TellsUnder, GivesUnder, extension_for, identifiers_by_mode, kept_if, only}
+use Rattle.rpki_ext.specs.ResourceKinds.{addresses_format, are_there, has_addresses}
+use Rattle.rpki_ext.proofs.ResourceKinds.{addresses_written, numbers_written}
 use Rattle.rpki_ext.proofs.CertificateExtensions.{known_parts, one_each}
 use Rattle.rpki_ext.proofs.KindsWritten.{written, IsOnly, only_ones, only_written, elements_made, contents_short}
 use Rattle.rpki_ext.proofs.TablesWritten.{identifiers_by_kind}
@@ -51,7 +51,7 @@ module _ (x y : ExtensionFields) (short : Short (extensions x)) (read : AreExten
   same : read.0 ≡ written (parts x)
   unfolding extensions
   same =
-      let again = sequence_again extension_at IsExtension extension_reads extension_shrinks in
+      let again = sequence_again extension_format.read IsExtension extension_reads extension_shrinks in
       some_is read.0 (written (parts x)) (sym (again read.0 (extensions x) read.1) ∙ again (written (parts x)) (extensions x) (elements_made (parts x) (known_parts x) shorts))
 
   ones : AllZip (IsOnly (parts x)) (identifiers_by_kind certificate_kinds) (parts x)
@@ -64,10 +64,10 @@ module _ (x y : ExtensionFields) (short : Short (extensions x)) (read : AreExten
       subst (λ (xs : List Extension). IsAtMostOne (TellsUnder kinds y.overclaim) xs v) is h
 
   abbrev address_part : OptionalExtension
-  address_part = extension_for (ip_resources x.overclaim) (Some i)
+  address_part = extension_for (ip_resources x.overclaim) (kept_if has_addresses i)
 
   abbrev number_part : OptionalExtension
-  number_part = extension_for (as_resources x.overclaim) (Some x.as_resources)
+  number_part = extension_for (as_resources x.overclaim) (kept_if are_there x.as_resources)
 
   resource_parts : IsOnly (parts x) (identifiers_by_mode ip_resources) address_part × IsOnly (parts x) (identifiers_by_mode as_resources) number_part
   resource_parts = let (_, (_, (_, (_, (_, (_, (_, (_, (_, (ips, (asns, _))))))))))) = ones in (ips, asns)
@@ -83,20 +83,21 @@ module _ (x y : ExtensionFields) (short : Short (extensions x)) (read : AreExten
   resources_read =
       elim read.2.some_resources [
         | inl some ↦
-            let c = has_content (TellsUnder ip_resources y.overclaim) address_part (ip i) read.2.ip addresses_given some in
-            elim (some_ip i c.0 c.1) [ inl four ↦ inl four | inr six ↦ inr (inl six) ]
+            let c = has_content (TellsUnder ip_resources y.overclaim) address_part address_part.content read.2.ip addresses_given some in
+            elim (some_ip i c.0 (sym (addresses_written i) ∙ c.1)) [ inl four ↦ inl four | inr six ↦ inr (inl six) ]
         | inr some ↦
-            let c = has_content (TellsUnder as_resources y.overclaim) number_part (written_as x.as_resources) read.2.numbers numbers_given some in
-            inr (inr (some_as x.as_resources c.0 c.1))
+            let c = has_content (TellsUnder as_resources y.overclaim) number_part number_part.content read.2.numbers numbers_given some in
+            inr (inr (some_as x.as_resources c.0 (sym (numbers_written x.as_resources) ∙ c.1)))
       ]
 
   -- and what they have as IPv4 are whole IPv4 addresses
   pub v4_read : IsResources (2 ^ 128 - 1) x.v4_resources → AreV4 x.v4_resources
-  v4_read kind = by_content (ip i) refl
+  unfolding addresses_format
+  v4_read kind = by_content address_part.content refl
     where
-      by_content : (o : Option (List ℕ)) → ip i ≡ o → AreV4 x.v4_resources
-      by_content None e = subst AreV4 (sym (ap (λ (j : Ip). j.v4) (no_ip i e))) tt
+      by_content : (o : Option (List ℕ)) → address_part.content ≡ o → AreV4 x.v4_resources
+      by_content None e = subst AreV4 (sym (ap (λ (j : Ip). j.v4) (no_ip i (sym (addresses_written i) ∙ e)))) tt
       by_content (Some c) e =
-          let (addresses, (_, (_, (rest, begins)))) = tells_something (TellsUnder ip_resources y.overclaim) address_part (ip i) c read.2.ip e addresses_given in
+          let (addresses, (_, (_, (rest, begins)))) = tells_something (TellsUnder ip_resources y.overclaim) address_part address_part.content c read.2.ip e addresses_given in
           let content_short : Short c = subst (λ (o : Option (List ℕ)). IfSome o Short) e resource_parts.0.short in
-          read_as_v4 i begins.encoded.0 c rest kind e content_short (record { text = begins.text; encoded = begins.encoded.1; parts = begins.parts })
+          read_as_v4 i begins.encoded.0 c rest kind (sym (addresses_written i) ∙ e) content_short (record { text = begins.text; encoded = begins.encoded.1; parts = begins.parts })

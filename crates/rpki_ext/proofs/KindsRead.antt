@@ -30,24 +30,24 @@ module _ {V : Type 0} (read : List ℕ → Option (V × List ℕ)) (encodes : V 
   pub front_again : (c : List ℕ) (v : V) → Means encodes v c → front read c ≡ Some v
   front_again c v m = rw (m.1.parts, law.again v m.1.text m.0 m.1.encoded) refl
 
-module _ {V : Type 0} (kind : ExtensionKind V) (law : Reads kind.reads kind.encodes) where
-  flag_takes : (flag : Flag) (x : Extension) (v : V) → HasOctets x → if_flagged flag x.critical (front kind.reads x.content) ≡ Some v → IsFlagFor flag x.critical × Means kind.encodes v x.content
-  flag_takes (untested written) x v low e = (tt, front_takes kind.reads kind.encodes law x.content v low e)
+module _ {V : Type 0} (kind : ExtensionKind V) (law : Reads kind.format.read kind.format.encodes) where
+  flag_takes : (flag : Flag) (x : Extension) (v : V) → HasOctets x → if_flagged flag x.critical (front kind.format.read x.content) ≡ Some v → IsFlagFor flag x.critical × Means kind.format.encodes v x.content
+  flag_takes (untested written) x v low e = (tt, front_takes kind.format.read kind.format.encodes law x.content v low e)
   flag_takes (required true) x v low e =
       elim (cases_Bool x.critical) [
-        | inl y ↦ (y, front_takes kind.reads kind.encodes law x.content v low (rw y at e))
+        | inl y ↦ (y, front_takes kind.format.read kind.format.encodes law x.content v low (rw y at e))
         | inr n ↦ nothing v (rw n at e)
       ]
   flag_takes (required false) x v low e =
       elim (cases_Bool x.critical) [
         | inl y ↦ nothing v (rw y at e)
-        | inr n ↦ (n, front_takes kind.reads kind.encodes law x.content v low (rw n at e))
+        | inr n ↦ (n, front_takes kind.format.read kind.format.encodes law x.content v low (rw n at e))
       ]
 
-  flag_again : (flag : Flag) (x : Extension) (v : V) → IsFlagFor flag x.critical × Means kind.encodes v x.content → if_flagged flag x.critical (front kind.reads x.content) ≡ Some v
-  flag_again (untested written) x v h = front_again kind.reads kind.encodes law x.content v h.1
-  flag_again (required true) x v h = rw h.0 (front_again kind.reads kind.encodes law x.content v h.1)
-  flag_again (required false) x v h = rw h.0 (front_again kind.reads kind.encodes law x.content v h.1)
+  flag_again : (flag : Flag) (x : Extension) (v : V) → IsFlagFor flag x.critical × Means kind.format.encodes v x.content → if_flagged flag x.critical (front kind.format.read x.content) ≡ Some v
+  flag_again (untested written) x v h = front_again kind.format.read kind.format.encodes law x.content v h.1
+  flag_again (required true) x v h = rw h.0 (front_again kind.format.read kind.format.encodes law x.content v h.1)
+  flag_again (required false) x v h = rw h.0 (front_again kind.format.read kind.format.encodes law x.content v h.1)
 
   -- what is read of an extension is what it tells
   pub tells : IsGiven HasOctets (told kind) (Tells kind)
@@ -75,7 +75,7 @@ module _ {V : Type 0} (kinds : Overclaim → ExtensionKind V) where
   ShowsMode = (m : Overclaim) → mode_by kinds (kinds m).identifier ≡ Some m
 
   -- the step of a kind with modes is lawful where the identifier shows the mode
-  pub modes_law : ShowsMode → ((m : Overclaim) → Reads (kinds m).reads (kinds m).encodes) → IsLawful HasOctets (modes_fold kinds)
+  pub modes_law : ShowsMode → ((m : Overclaim) → Reads (kinds m).format.read (kinds m).format.encodes) → IsLawful HasOctets (modes_fold kinds)
   modes_law shows law = once_law (is_of (identifiers_by_mode kinds)) (told_with_mode kinds) (λ x v. TellsUnder kinds v.0 x v.1) (record {
     takes = λ x v low e.
         let a = bind_some (mode_by kinds x.identifier) (λ m. told (kinds m) x >>= λ c. some {A = Overclaim × V} (m, c)) v e in

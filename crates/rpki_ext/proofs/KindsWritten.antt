@@ -1,12 +1,11 @@
 -- What is written of a kind gives its value, and what is written of all known ones is a sequence.
 use Rattle.std.specs.List.{flat_map, list_any, AllByRecursion, AllZip, list_all, concat}
-use Rattle.std.specs.Prelude.{unwrap_or, bytes_eq, filter, IfSome, ◌≢◌, ◌&&◌}
-use Rattle.std.proofs.Common.{ℕ, Bool, List, Option, [], ◌∷◌, Some, None, ◌≡◌, true, false, cond, ◌++◌, ap, refl, map, subst}
+use Rattle.std.specs.Prelude.{bytes_eq, filter, IfSome, ◌&&◌}
+use Rattle.std.proofs.Common.{ℕ, Bool, List, Option, [], ◌∷◌, Some, None, ◌≡◌, true, false, cond, ◌++◌, ap, refl, map}
 use Rattle.std.proofs.lemmas.Bool.{and_parts}
 use Rattle.rpki_der.specs.Extensions.{OptionalExtension, Extension, extension_of_some, IsExtension, text}
 use Rattle.rpki_der.specs.Primitives.Reading.{is_oid}
 use Rattle.rpki_der.specs.Sequences.{AreEncodings, IsAtMostOne}
-use Rattle.rpki_der.specs.Values.Reading.{◌>>=◌}
 use Rattle.rpki_der.proofs.Answering.{whole_means}
 use Rattle.rpki_der.proofs.ExtensionWritten.{extension_made, extension_content_short, ok_extension}
 use Rattle.rpki_der.proofs.IdentifierReads.{oid_takes}
@@ -15,7 +14,7 @@ use Rattle.rpki_der.proofs.WrittenOctets.{IfShort, all_octets, literal, ok_appen
 use Rattle.rpki_blocks.specs.declared.overclaim.Overclaim.{Overclaim}
 use Rattle.rpki_ext.specs.ExtensionKinds.{known}
 use Rattle.rpki_ext.specs.Kinds.{only, Flag, flag_of, IsFlagFor, required, untested, ExtensionKind, Tells, extension_for, identifiers, Gives, identifiers_by_mode, TellsUnder, GivesUnder, is_of}
-use Rattle.rpki_ext.proofs.LawfulKinds.{IsKind}
+use Rattle.rpki_der.proofs.FormatAnswers.{IsAlone}
 
 abbrev raw : List ℕ → Bool → Option (List ℕ) → OptionalExtension
 raw identifier critical content = record { identifier = identifier; critical = critical; content = content }
@@ -60,58 +59,30 @@ only_ones all (kind ∷ kinds) (p ∷ ps) e s = (record { one = cc; short = s.0 
 
 -- ---- what the extension of a kind tells
 
--- the value, where something is written of it
-abbrev pub kept : {V : Type 0} → Option V → Option (List ℕ) → Option V
-kept v None = None
-kept v (Some c) = v
-
--- a kind of which something is written for every value
-pub kept_all : {V : Type 0} (write : V → List ℕ) (v : Option V) → kept v (v >>= λ w. Some (write w)) ≡ v
-kept_all write None = refl
-kept_all write (Some w) = refl
-
--- a value of which nothing may be written
-pub else_kept : {V : Type 0} (d v : V) (o : Option (List ℕ)) → (o ≡ None → v ≡ d) → v ≡ unwrap_or (kept (Some v) o) d
-else_kept d v None none = none refl
-else_kept d v (Some c) none = refl
-
--- a value whose content isn't None is kept
-pub kept_some : {V : Type 0} (v : V) (o : Option (List ℕ)) → (o ≡ None → ⊥) → kept (Some v) o ≢ None
-kept_some v None some_content = absurd (some_content refl)
-kept_some v (Some c) some_content = λ e. absurd cc
-
 own_flag : (flag : Flag) → IsFlagFor flag (flag_of flag)
 own_flag (required critical) = refl
 own_flag (untested critical) = tt
 
-module _ {V : Type 0} (kind : ExtensionKind V) (is : IsKind kind) (P : Extension → V → Type 0) (says : (x : Extension) (v : V) → x.identifier ≡ kind.identifier → Tells kind x v → P x v) where
-  one : (v : V) → kind.fits v → (o : Option (List ℕ)) → kind.written v ≡ o → IfSome o Short → IsAtMostOne P (written (raw kind.identifier (flag_of kind.flag) o ∷ [])) (kept (Some v) o)
-  one v fits None e short = refl
-  one v fits (Some c) e short = (v, says _ v refl (own_flag kind.flag, whole_means kind.encodes v c (is.made v c fits e short)), refl)
-
-  any : (v : Option V) → IfSome v kind.fits → IfSome (extension_for kind v).content Short → IsAtMostOne P (written (extension_for kind v ∷ [])) (kept v (extension_for kind v).content)
+module _ {V : Type 0} (kind : ExtensionKind V) (is : IsAlone kind.format) (P : Extension → V → Type 0) (says : (x : Extension) (v : V) → x.identifier ≡ kind.identifier → Tells kind x v → P x v) where
+  any : (v : Option V) → IfSome v kind.format.fits → IfSome (extension_for kind v).content Short → IsAtMostOne P (written (extension_for kind v ∷ [])) v
   any None fits short = refl
-  any (Some v) fits short = one v fits (kind.written v) refl short
+  any (Some v) fits short = (v, says _ v refl (own_flag kind.flag, whole_means kind.format.encodes v (kind.format.written v) (is.law.made v fits short.0)), refl)
 
-  told : {ps : List OptionalExtension} {ids : List (List ℕ)} (v : Option V) → IsOnly ps ids (extension_for kind v) → IfSome v kind.fits → (w : Option V) → kept v (extension_for kind v).content ≡ w → IsAtMostOne P (only ids (written ps)) w
-  told {ps} {ids} v h fits w e = rw (only_written ids ps, h.one) (subst (λ (u : Option V). IsAtMostOne P (written (extension_for kind v ∷ [])) u) e (any v fits h.short))
+  told : {ps : List OptionalExtension} {ids : List (List ℕ)} (v : Option V) → IsOnly ps ids (extension_for kind v) → IfSome v kind.format.fits → IsAtMostOne P (only ids (written ps)) v
+  told {ps} {ids} v h fits = rw (only_written ids ps, h.one) (any v fits h.short)
 
 -- the extension of a kind gives its value
-pub gives : {V : Type 0} {ps : List OptionalExtension} (kind : ExtensionKind V) → IsKind kind → (v : Option V) → IsOnly ps (identifiers kind) (extension_for kind v) → IfSome v kind.fits → (w : Option V) → kept v (extension_for kind v).content ≡ w → Gives kind (written ps) w
+pub gives : {V : Type 0} {ps : List OptionalExtension} (kind : ExtensionKind V) → IsAlone kind.format → (v : Option V) → IsOnly ps (identifiers kind) (extension_for kind v) → IfSome v kind.format.fits → Gives kind (written ps) v
 gives kind is v h = told kind is (Tells kind) (λ x u id t. t) v h
 
 -- the part of a kind with modes gives its value under the mode
-pub gives_under : {V : Type 0} {ps : List OptionalExtension} (kinds : Overclaim → ExtensionKind V) (m : Overclaim) → IsKind (kinds m) → (v : Option V) → IsOnly ps (identifiers_by_mode kinds) (extension_for (kinds m) v) → IfSome v (kinds m).fits → (w : Option V) → kept v (extension_for (kinds m) v).content ≡ w → GivesUnder kinds m (written ps) w
+pub gives_under : {V : Type 0} {ps : List OptionalExtension} (kinds : Overclaim → ExtensionKind V) (m : Overclaim) → IsAlone (kinds m).format → (v : Option V) → IsOnly ps (identifiers_by_mode kinds) (extension_for (kinds m) v) → IfSome v (kinds m).format.fits → GivesUnder kinds m (written ps) v
 gives_under kinds m is v h = told (kinds m) is (TellsUnder kinds m) (λ x u id t. (id, t)) v h
 
--- a value of which something is always written
-pub as_it_was : {V : Type 0} (xs : List Extension) (kind : ExtensionKind V) (v : Option V) → kept v (extension_for kind v).content ≡ v → Gives kind xs (kept v (extension_for kind v).content) → Gives kind xs v
-as_it_was {V} xs kind v same h = subst (λ (u : Option V). Gives kind xs u) same h
-
 -- what is written of a value that fits, if short, consists of octets
-pub ok_part : {V : Type 0} (kind : ExtensionKind V) → IsKind kind → (v : Option V) → IfSome v kind.fits → IfSome (extension_for kind v).content IfShort
+pub ok_part : {V : Type 0} (kind : ExtensionKind V) → IsAlone kind.format → (v : Option V) → IfSome v kind.format.fits → IfSome (extension_for kind v).content IfShort
 ok_part kind is None fits = tt
-ok_part kind is (Some v) fits = is.octets v fits
+ok_part kind is (Some v) fits = is.law.octets v fits
 
 -- ---- all parts
 

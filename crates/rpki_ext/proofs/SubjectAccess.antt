@@ -1,51 +1,39 @@
--- Subject Information Access, both ways, and what is written of it.
-use Rattle.std.specs.Prelude.{bytes_eq, IfSome}
-use Rattle.std.specs.List.{concat, flat_map, AllByRecursion, AllZip}
-use Rattle.std.proofs.Common.{ℕ, List, Option, ◌≡◌, Some, refl, cond, ap, ◌∙◌, inl, inr, None, sym, arith, ◌≢◌, ◌++◌, subst, [], true, ◌∷◌}
+-- Subject Information Access is read as it is encoded, and what is written of it encodes it.
+use Rattle.std.specs.Prelude.{bytes_eq, IfSome, ◌||◌, is_some, false}
+use Rattle.std.specs.List.{flat_map, AllByRecursion}
+use Rattle.std.proofs.Common.{ℕ, ◌<◌, ◌≤◌, List, Option, ◌≡◌, Some, refl, cond, ap, ◌∙◌, inl, inr, None, sym, arith, ◌≢◌, ◌++◌, subst, [], true, ◌∷◌, length}
 use Rattle.std.proofs.lemmas.Bool.{cases_Bool}
 use Rattle.std.proofs.lemmas.Slice.Eq.{bytes_eq-Decides}
 use Rattle.std.proofs.lemmas.List.{append-nil}
 use Rattle.std.proofs.lemmas.Option.{IfSome_then}
-use Rattle.rpki_der.specs.Tags.{SEQUENCE, OBJECT_IDENTIFIER}
-use Rattle.rpki_der.specs.Sequences.{AreEncodings, IsFirstOf}
+use Rattle.rpki_der.specs.BasicFormats.{object_identifier}
+use Rattle.rpki_der.specs.Tags.{SEQUENCE}
+use Rattle.rpki_der.specs.Sequences.{IsFirstOf}
 use Rattle.rpki_der.specs.Sequences.Reading.{Shrinks}
-use Rattle.rpki_der.specs.Values.{enc, AreOctets, IsEnc, IsSequence, sequence, sequence_of_some}
-use Rattle.rpki_der.specs.Primitives.{IsObjectIdentifier}
-use Rattle.rpki_der.specs.Skipping.{IsSkippableSequence, levels}
+use Rattle.rpki_der.specs.Values.{AreOctets}
+use Rattle.rpki_der.specs.Skipping.{levels}
 use Rattle.rpki_der.specs.Skipping.Reading.{skip_all_of}
-use Rattle.rpki_der.specs.Reading.{at_end, content, Inside, Reads, ReadsWhole}
-use Rattle.rpki_der.specs.Primitives.Reading.{oid_at}
+use Rattle.rpki_der.specs.Reading.{at_end, ReadsWhole}
 use Rattle.rpki_der.specs.Folding.{first_fold, IsLawful, over, IsFolded}
-use Rattle.rpki_der.proofs.Choices.{content_shrinks}
-use Rattle.rpki_der.proofs.Octets.{some_is, nothing, bind_some, some, AreOctets-after, both_are}
-use Rattle.rpki_der.proofs.Readings.{ended_some, content_reads, same_reads}
+use Rattle.rpki_der.proofs.FormatAnswers.{IsAlone, alone_reads}
+use Rattle.rpki_der.proofs.Octets.{some_is, nothing, bind_some, some, both_are}
+use Rattle.rpki_der.proofs.Readings.{ended_some}
 use Rattle.rpki_der.proofs.SkippingReads.{skip_all_reads}
-use Rattle.rpki_der.proofs.IdentifierReads.{oid_reads}
 use Rattle.rpki_der.proofs.Folding.{first_law, beside_law, over_reads}
-use Rattle.rpki_der.proofs.ValueWritten.{Short, made, content_short, pieces_short}
+use Rattle.rpki_der.proofs.ValueWritten.{Short}
 use Rattle.rpki_der.proofs.WrittenOctets.{IfShort}
-use Rattle.rpki_blocks.proofs.ResourcesWritten.{no_pieces}
-use Rattle.rpki_blocks.proofs.ResourceOctets.{ok_pieces}
 use Rattle.rpki_parts.specs.Uris.Tests.{is_rsync, is_https}
 use Rattle.rpki_parts.specs.Uris.{IsRsync, IsHttps, ArePrintable}
 use Rattle.rpki_parts.proofs.UriTests.{rsync_decides, https_decides}
 use Rattle.rpki_ext.specs.declared.subject_access.AccessMethod.{AccessMethod}
-use Rattle.rpki_ext.specs.SubjectAccess.{description_of, description_at, method_identifier, method_of, location_of, IsAccessDescriptionWithin, HasUri, uri_under, access_fold, Access, uris_of, Uris, access_made, access_of, IsSubjectInformationAccess, subject_information_access_at, description_if, descriptions, HasUris, IsSubjectInformationAccessWithin, subject_information_access_content, subject_information_access}
+use Rattle.rpki_ext.specs.CertificateExtensions.{no_access}
+use Rattle.rpki_ext.specs.SubjectAccess.{Access, AreDescriptionsWithin, Description, GiveAccess, HasUri, HasUris, IsDescription, IsLocationWithin, access_fold, access_made, access_of, description_format, description_if, descriptions, has_uri, location_by, location_of, method_identifier, method_of, subject_information_access_format, uri_under, uris_of, written_all, written_method, written_uri}
 use Rattle.rpki_ext.specs.declared.subject_access.AccessMethod.TheVariants.{CaRepository, RpkiManifest, SignedObject, RpkiNotify}
-use Rattle.rpki_ext.specs.GeneralNames.{IsUniformResourceIdentifier, uri_name_at, rsync_of, https_of}
-use Rattle.rpki_ext.proofs.GeneralNames.{encoded_oid, name_reads, text_is, text_was, uri_name_made}
-use Rattle.rpki_ext.proofs.Pieces.{sequence_pieces, pieces_sequence}
-use Rattle.rpki_ext.proofs.AuthorityAccess.{description_pieces_short, ok_description}
-use Rattle.rpki_ext.proofs.LawfulKinds.{IsKind, AnsweringOrMemory, answering_or_memory}
-
--- what is kept of an AccessDescription: its method and URI, if the method is known
-abbrev pub Description : Type 0
-Description = Option (AccessMethod × List ℕ)
-
--- reading an AccessDescription uses octets up
-pub description_shrinks : Shrinks description_at
-unfolding description_at
-description_shrinks = content_shrinks SEQUENCE description_of
+use Rattle.rpki_ext.specs.GeneralNames.{uri_format, rsync_of, https_of}
+use Rattle.rpki_der.proofs.FormatLaws.{values_made, values_octets, some_octet, some_texts}
+use Rattle.rpki_der.proofs.FormatChoices.{primitive_lawful}
+use Rattle.rpki_ext.proofs.Contents.{constant_oid, sequence_by_lawful}
+use Rattle.rpki_ext.proofs.GeneralNames.{text_is, text_was, uri_alone, uri_fits}
 
 -- ---- methods
 
@@ -76,12 +64,11 @@ method_is id m e =
 pub one_method : (m n : AccessMethod) → method_identifier m ≡ method_identifier n → m ≡ n
 one_method m n e = some_is m n (sym (method_again m) ∙ ap method_of e ∙ method_again n)
 
--- what is written of a method's identifier encodes it
-pub method_encoded : (m : AccessMethod) → IsObjectIdentifier (method_identifier m) (enc OBJECT_IDENTIFIER (method_identifier m))
-method_encoded CaRepository = encoded_oid (method_identifier CaRepository) refl refl (omega arith)
-method_encoded RpkiManifest = encoded_oid (method_identifier RpkiManifest) refl refl (omega arith)
-method_encoded SignedObject = encoded_oid (method_identifier SignedObject) refl refl (omega arith)
-method_encoded RpkiNotify = encoded_oid (method_identifier RpkiNotify) refl refl (omega arith)
+method_fits : (m : AccessMethod) → object_identifier.fits (method_identifier m)
+method_fits CaRepository = constant_oid (method_identifier CaRepository) refl refl
+method_fits RpkiManifest = constant_oid (method_identifier RpkiManifest) refl refl
+method_fits SignedObject = constant_oid (method_identifier SignedObject) refl refl
+method_fits RpkiNotify = constant_oid (method_identifier RpkiNotify) refl refl
 
 unknown_method : (id : List ℕ) → ((m : AccessMethod) → id ≢ method_identifier m) → (r : Option AccessMethod) → method_of id ≡ r → r ≡ None
 unknown_method id h None e = refl
@@ -89,55 +76,47 @@ unknown_method id h (Some m) e = absurd (h m (method_is id m e))
 
 -- ---- descriptions
 
--- a whole description
-abbrev IsDescribed : Description → List ℕ → Type 0
-IsDescribed (Some (method, uri)) c = (name : List ℕ) × IsUniformResourceIdentifier uri name × (c ≡ enc OBJECT_IDENTIFIER (method_identifier method) ++ name)
-IsDescribed None c = (id : List ℕ) × (method : List ℕ) × (rest : List ℕ) × IsObjectIdentifier id method × ((known : AccessMethod) → id ≢ method_identifier known) × IsSkippableSequence rest × (c ≡ method ++ rest)
-
-location_takes : (id text rest : List ℕ) (r : Option AccessMethod) (d : Description) → method_of id ≡ r → AreOctets rest → IsObjectIdentifier id text → location_of r rest ≡ Some d → IsDescribed d (text ++ rest)
-location_takes id text rest (Some m) d is low encoded e =
-    let a = bind_some (uri_name_at rest) (λ uri. at_end uri.1 (some {A = AccessMethod × List ℕ} (m, uri.0))) d e in
+location_takes : (id rest : List ℕ) (r : Option AccessMethod) (d : Description) → method_of id ≡ r → AreOctets rest → location_by r rest ≡ Some d → IsLocationWithin levels id d rest
+location_takes id rest (Some m) d is low e =
+    let a = bind_some (uri_format.read rest) (λ uri. at_end uri.1 (some {A = AccessMethod × List ℕ} (m, uri.0))) d e in
     let g = ended_some a.0.1 (some {A = AccessMethod × List ℕ} (m, a.0.0)) d a.2 in
-    let one = name_reads.takes rest a.0.0 a.0.1 low a.1 in
+    let one = (alone_reads uri_format uri_alone).takes rest a.0.0 a.0.1 low a.1 in
     let used : one.text ≡ rest = sym (append-nil one.text) ∙ sym (ap (λ (r : List ℕ). one.text ++ r) g.0) ∙ sym one.parts in
-    let same : text ≡ enc OBJECT_IDENTIFIER (method_identifier m) = encoded.enc.is ∙ ap (enc OBJECT_IDENTIFIER) (method_is id m is) in
-    subst (λ (x : Description). IsDescribed x (text ++ rest)) g.1 (rest, subst (λ (t : List ℕ). IsUniformResourceIdentifier a.0.0 t) used one.encoded, ap (λ (t : List ℕ). t ++ rest) same)
-location_takes id text rest None d is low encoded e =
+    subst (λ (x : Description). IsLocationWithin levels id x rest) g.1 (method_is id m is, subst (λ (t : List ℕ). uri_format.encodes a.0.0 t) used one.encoded)
+location_takes id rest None d is low e =
     let a = bind_some (skip_all_of rest) (λ u. some {A = Description} None) d e in
-    subst (λ (x : Description). IsDescribed x (text ++ rest)) (some_is {A = Description} None d a.2) (id, text, rest, encoded, (λ m same. nothing {B = ⊥} m (sym is ∙ ap method_of same ∙ method_again m)), skip_all_reads.takes rest a.0 low a.1, refl)
+    subst (λ (x : Description). IsLocationWithin levels id x rest) (some_is {A = Description} None d a.2) ((λ m same. nothing {B = ⊥} m (sym is ∙ ap method_of same ∙ method_again m)), skip_all_reads.takes rest a.0 low a.1)
 
-description_takes : (c : List ℕ) (d : Description) → AreOctets c → description_of c ≡ Some d → IsDescribed d c
-description_takes c d low e =
-    let a = bind_some (oid_at c) (λ method. location_of (method_of method.0) method.1) d e in
-    let one = oid_reads.takes c a.0.0 a.0.1 low a.1 in
-    subst (λ (x : List ℕ). IsDescribed d x) (sym one.parts) (location_takes a.0.0 one.text a.0.1 (method_of a.0.0) d refl (AreOctets-after c one.text a.0.1 one.parts low) one.encoded a.2)
+location_again : (id : List ℕ) (d : Description) (rest : List ℕ) → IsLocationWithin levels id d rest → location_of id rest ≡ Some d
+location_again id (Some (m, uri)) rest s =
+    let whole : uri_format.read rest ≡ some {A = List ℕ × List ℕ} (uri, []) = ap uri_format.read (sym (append-nil rest)) ∙ (alone_reads uri_format uri_alone).again uri rest [] s.1 in
+    rw (s.0, method_again m, whole) refl
+location_again id None rest s = rw (unknown_method id s.0 (method_of id) refl, skip_all_reads.again tt rest s.1) refl
 
-description_again : (d : Description) (c : List ℕ) → IsDescribed d c → description_of c ≡ Some d
-description_again (Some (m, uri)) c s =
-    let whole : uri_name_at s.0 ≡ some {A = List ℕ × List ℕ} (uri, []) = ap uri_name_at (sym (append-nil s.0)) ∙ name_reads.again uri s.0 [] s.1 in
-    rw (s.2, oid_reads.again (method_identifier m) (enc OBJECT_IDENTIFIER (method_identifier m)) s.0 (method_encoded m), method_again m, whole) refl
-description_again None c s =
-    rw (s.6, oid_reads.again s.0 s.1 s.2 s.3, unknown_method s.0 s.4 (method_of s.0) refl, skip_all_reads.again tt s.2 s.5) refl
+location_fits : (d : Description) → IsDescription d → object_identifier.fits (written_method d)
+location_fits (Some (m, uri)) fits = method_fits m
+location_fits None fits = absurd fits
 
-described : (d : Description) (text : List ℕ) → Inside SEQUENCE IsDescribed d text → IsAccessDescriptionWithin levels d text
-described (Some (m, uri)) text (_, (name, encoded, is), sequence) =
-    (name, encoded, subst (λ (c : List ℕ). IsEnc SEQUENCE c text) (is ∙ ap (λ (t : List ℕ). enc OBJECT_IDENTIFIER (method_identifier m) ++ t) (sym (append-nil name))) sequence)
-described None text (_, (id, method, _, encoded, unknown, (elements, behind, skipped), is), sequence) =
-    record { id = id; method = method; elements = elements; method_is = encoded; unknown = unknown; skipped = skipped; sequence = subst (λ (c : List ℕ). IsEnc SEQUENCE c text) (is ∙ ap (λ (t : List ℕ). method ++ t) behind) sequence }
+location_ok : (d : Description) → IsDescription d → IfShort (written_uri d)
+location_ok (Some (m, uri)) fits = uri_alone.law.octets uri fits
+location_ok None fits = absurd fits
 
-is_described : (d : Description) (text : List ℕ) → IsAccessDescriptionWithin levels d text → Inside SEQUENCE IsDescribed d text
-is_described (Some (m, uri)) text s =
-    (enc OBJECT_IDENTIFIER (method_identifier m) ++ s.0, (s.0, s.1, refl), subst (λ (c : List ℕ). IsEnc SEQUENCE c text) (ap (λ (t : List ℕ). enc OBJECT_IDENTIFIER (method_identifier m) ++ t) (append-nil s.0)) s.2)
-is_described None text s =
-    (s.method ++ concat s.elements, (s.id, s.method, concat s.elements, s.method_is, s.unknown, (s.elements, refl, s.skipped), refl), s.sequence)
+location_made : (d : Description) → IsDescription d → Short (written_uri d) → IsLocationWithin levels (written_method d) d (written_uri d)
+location_made (Some (m, uri)) fits short = (refl, uri_alone.law.made uri fits short.0)
+location_made None fits short = absurd fits
 
--- an AccessDescription is read as it is encoded
-pub description_reads : Reads description_at (IsAccessDescriptionWithin levels)
-unfolding description_at
-description_reads =
-    same_reads (content SEQUENCE description_of) (Inside SEQUENCE IsDescribed) (IsAccessDescriptionWithin levels)
-    (content_reads SEQUENCE description_of IsDescribed (record { takes = description_takes; again = description_again }))
-    described is_described
+-- anything may follow an AccessDescription
+pub description_alone : IsAlone (description_format levels)
+unfolding description_format
+description_alone = record {
+  law = sequence_by_lawful location_of (IsLocationWithin levels) IsDescription written_method written_uri (λ id. record { takes = λ rest d low e. location_takes id rest (method_of id) d refl low e; again = location_again id }) location_fits location_ok location_made;
+  none = refl;
+}
+
+-- reading an AccessDescription uses octets up
+pub description_shrinks : Shrinks (description_format levels).read
+unfolding description_format
+description_shrinks octets d rest e = omega (arith, description_alone.law.shorter octets d rest e)
 
 -- ---- URIs
 
@@ -166,6 +145,10 @@ module _ (uri_of : List ℕ → Option (List ℕ)) (IsUri : List ℕ → Type 0)
 abbrev Any : Description → Type 0
 Any d = Unit {0}
 
+one_octet : 0 < (description_format levels).least
+unfolding description_format
+one_octet = omega arith
+
 access_law : IsLawful Any access_fold
 access_law =
     beside_law _ _ (under_law rsync_of IsRsync (text_was is_rsync IsRsync rsync_decides) (text_is is_rsync IsRsync rsync_decides) CaRepository)
@@ -173,50 +156,22 @@ access_law =
     (beside_law _ _ (under_law rsync_of IsRsync (text_was is_rsync IsRsync rsync_decides) (text_is is_rsync IsRsync rsync_decides) SignedObject)
     (under_law https_of IsHttps (text_was is_https IsHttps https_decides) (text_is is_https IsHttps https_decides) RpkiNotify)))
 
-uris_read : ReadsWhole (over description_at access_fold.step access_fold.start) (IsFolded (IsAccessDescriptionWithin levels) access_fold)
-uris_read = over_reads description_at (IsAccessDescriptionWithin levels) Any access_fold description_reads description_shrinks (λ d text s. tt) access_law
+uris_read : ReadsWhole (over (description_format levels).read access_fold.step access_fold.start) (IsFolded (description_format levels).encodes access_fold)
+uris_read = over_reads (description_format levels).read (description_format levels).encodes Any access_fold (alone_reads (description_format levels) description_alone) description_shrinks (λ d text s. tt) access_law
 
 -- ---- the extension
 
-abbrev IsAccess : Access → List ℕ → Type 0
-IsAccess a c = (d : Description) × (ds : List Description) × AreEncodings (IsAccessDescriptionWithin levels) (d ∷ ds) c × access_fold.means (d ∷ ds) (uris_of a)
-
-not_nil : (d : Description) (text rest : List ℕ) → IsAccessDescriptionWithin levels d text → [] ≡ text ++ rest → ⊥
-unfolding enc
-not_nil (Some x) text rest s e = let f : [] ≡ enc SEQUENCE (concat (enc OBJECT_IDENTIFIER (method_identifier x.0) ∷ s.0 ∷ [])) ++ rest = rw s.2.is at e in absurd cc
-not_nil None text rest s e = let f : [] ≡ enc SEQUENCE (concat (s.method ∷ s.elements)) ++ rest = rw s.sequence.is at e in absurd cc
-
-access_from : (b : ℕ) (c : List ℕ) (uris : Uris) (ds : List Description) → AreEncodings (IsAccessDescriptionWithin levels) ds (b ∷ c) → access_fold.means ds uris → IsAccess (access_made uris) (b ∷ c)
-access_from b c uris [] s m = absurd cc
-access_from b c uris (d ∷ ds) s m = (d, ds, s, m)
-
-access_takes : (c : List ℕ) (a : Access) → AreOctets c → access_of c ≡ Some a → IsAccess a c
+access_takes : (c : List ℕ) (a : Access) → AreOctets c → access_of c ≡ Some a → AreDescriptionsWithin levels a c
 access_takes [] a low e = nothing a e
 access_takes (b ∷ c) a low e =
-    let u = bind_some (over description_at access_fold.step access_fold.start (b ∷ c)) (λ uris. some (access_made uris)) a e in
+    let u = bind_some (over (description_format levels).read access_fold.step access_fold.start (b ∷ c)) (λ uris. some (access_made uris)) a e in
     let m = uris_read.takes (b ∷ c) u.0 low u.1 in
-    subst (λ (x : Access). IsAccess x (b ∷ c)) (some_is (access_made u.0) a u.2) (access_from b c u.0 m.0 m.1 m.2)
+    let (repository, (manifest, (object, notify))) = m.2 in
+    subst (λ (x : Access). AreDescriptionsWithin levels x (b ∷ c)) (some_is (access_made u.0) a u.2) (m.0, (m.1, some_texts (description_format levels) description_alone.law description_alone.none one_octet b c m.0 m.1), record { repository = repository; manifest = manifest; object = object; notify = notify })
 
-access_again : (a : Access) (c : List ℕ) → IsAccess a c → access_of c ≡ Some a
-access_again a [] s = absurd (not_nil s.0 s.2.0 s.2.1 s.2.2 s.2.4)
-access_again a (b ∷ c) s = rw (uris_read.again (uris_of a) (b ∷ c) (s.0 ∷ s.1, s.2, s.3)) refl
-
-access_is : (a : Access) (text : List ℕ) → Inside SEQUENCE IsAccess a text → IsSubjectInformationAccess a text
-access_is a text (inside, (first, more, elements, (repository, (manifest, (object, notify)))), sequence) =
-    let (pieces, encoded, is) = sequence_pieces (IsAccessDescriptionWithin levels) (first ∷ more) inside elements in
-    record { first = first; more = more; pieces = pieces; encoded = encoded; sequence = subst (λ (c : List ℕ). IsEnc SEQUENCE c text) is sequence; repository = repository; manifest = manifest; object = object; notify = notify }
-
-is_access : (a : Access) (text : List ℕ) → IsSubjectInformationAccess a text → Inside SEQUENCE IsAccess a text
-is_access a text s =
-    (concat s.pieces, (s.first, s.more, pieces_sequence (IsAccessDescriptionWithin levels) (s.first ∷ s.more) s.pieces s.encoded, (s.repository, (s.manifest, (s.object, s.notify)))), s.sequence)
-
--- a SubjectInfoAccessSyntax is read as it is encoded
-pub subject_information_access_reads : Reads subject_information_access_at IsSubjectInformationAccess
-unfolding subject_information_access_at
-subject_information_access_reads =
-    same_reads (content SEQUENCE access_of) (Inside SEQUENCE IsAccess) IsSubjectInformationAccess
-    (content_reads SEQUENCE access_of IsAccess (record { takes = access_takes; again = access_again }))
-    access_is is_access
+access_again : (a : Access) (c : List ℕ) → AreDescriptionsWithin levels a c → access_of c ≡ Some a
+access_again a [] s = absurd (some_octet (description_format levels) description_alone.law description_alone.none one_octet s.0 s.1.0 s.1.1)
+access_again a (b ∷ c) s = rw (uris_read.again (uris_of a) (b ∷ c) (s.0, s.1.0, (s.2.repository, (s.2.manifest, (s.2.object, s.2.notify))))) refl
 
 -- ---- what is written, method by method
 
@@ -227,35 +182,20 @@ Methods = List (AccessMethod × Option (List ℕ))
 abbrev methods_of : Access → Methods
 methods_of a = (CaRepository, a.ca_repository) ∷ (RpkiManifest, a.rpki_manifest) ∷ (SignedObject, a.signed_object) ∷ (RpkiNotify, a.rpki_notify) ∷ []
 
-abbrev value_of : AccessMethod → Option (List ℕ) → List Description
-value_of method None = []
-value_of method (Some uri) = some (method, uri) ∷ []
-
 abbrev values : Methods → List Description
-values ms = flat_map (λ (m : AccessMethod × Option (List ℕ)). value_of m.0 m.1) ms
+values ms = flat_map (λ (m : AccessMethod × Option (List ℕ)). description_if m.0 m.1) ms
 
-abbrev texts : Methods → List (List ℕ)
-texts ms = flat_map (λ (m : AccessMethod × Option (List ℕ)). description_if m.0 m.1) ms
-
-texts_are : (a : Access) → texts (methods_of a) ≡ descriptions a
-texts_are a = rw append-nil refl
-
--- ---- each description
+values_are : (a : Access) → values (methods_of a) ≡ descriptions a
+values_are a = rw append-nil refl
 
 abbrev ArePrintables : Methods → Type 0
 ArePrintables ms = AllByRecursion (λ (m : AccessMethod × Option (List ℕ)). IfSome m.1 ArePrintable) ms
 
-encoded : (depth : ℕ) (ms : Methods) → ArePrintables ms → AllByRecursion Short (texts ms) → AllZip (IsAccessDescriptionWithin depth) (values ms) (texts ms)
-encoded depth [] p h = tt
-encoded depth ((m, None) ∷ ms) p h = encoded depth ms p.1 h
-encoded depth ((m, Some uri) ∷ ms) p h =
-    let shorts = description_pieces_short (method_identifier m) uri h.0 in
-    ((_, uri_name_made uri p.0 shorts.1, made SEQUENCE _ (omega arith) h.0), encoded depth ms p.1 h.1)
-
-ok_texts : (ms : Methods) → ArePrintables ms → AllByRecursion IfShort (texts ms)
-ok_texts [] p = tt
-ok_texts ((m, None) ∷ ms) p = ok_texts ms p.1
-ok_texts ((m, Some uri) ∷ ms) p = (ok_description (method_identifier m) uri (method_encoded m).enc.octets p.0, ok_texts ms p.1)
+all_fit : (ms : Methods) → ArePrintables ms → AllByRecursion (description_format levels).fits (values ms)
+unfolding description_format
+all_fit [] p = tt
+all_fit ((m, None) ∷ ms) p = all_fit ms p.1
+all_fit ((m, Some uri) ∷ ms) p = (uri_fits uri p.0, all_fit ms p.1)
 
 -- ---- the first of each method
 
@@ -266,7 +206,7 @@ module _ (method : AccessMethod) (IsUri : List ℕ → Type 0) where
   silent : (m : AccessMethod) (text : List ℕ) → (m ≡ method → ⊥) → (uri : List ℕ) → HasUri method IsUri (some (m, text)) uri → ⊥
   silent m text other uri h = other (both_are (m, text) (method, uri) h.0).0
 
-  after_other : (m : AccessMethod) (o : Option (List ℕ)) → (m ≡ method → ⊥) → (ds : List Description) (v : Option (List ℕ)) → IsFirstOf (HasUri method IsUri) v ds → IsFirstOf (HasUri method IsUri) v (value_of m o ++ ds)
+  after_other : (m : AccessMethod) (o : Option (List ℕ)) → (m ≡ method → ⊥) → (ds : List Description) (v : Option (List ℕ)) → IsFirstOf (HasUri method IsUri) v ds → IsFirstOf (HasUri method IsUri) v (description_if m o ++ ds)
   after_other m None other ds v h = h
   after_other m (Some text) other ds None h = (silent m text other, h)
   after_other m (Some text) other ds (Some v) h = (
@@ -290,14 +230,7 @@ module _ (method : AccessMethod) (IsUri : List ℕ → Type 0) where
   first [] (Some uri) after b a is = (some (method, uri), record { before = []; after = values after; is = refl; has = (uri, (refl, is)); none_before = tt }, (refl, is))
   first (m ∷ before) o after b a is = after_other m.0 m.1 b.0 (values (before ++ (method, o) ∷ after)) o (first before o after b.1 a is)
 
--- the URIs are the first ones of these descriptions
-record Firsts (a : Access) (ds : List Description) : Type 0 where
-  repository : IsFirstOf (HasUri CaRepository IsRsync) a.ca_repository ds
-  manifest : IsFirstOf (HasUri RpkiManifest IsRsync) a.rpki_manifest ds
-  object : IsFirstOf (HasUri SignedObject IsRsync) a.signed_object ds
-  notify : IsFirstOf (HasUri RpkiNotify IsHttps) a.rpki_notify ds
-
-firsts : (a : Access) → HasUris a → Firsts a (values (methods_of a))
+firsts : (a : Access) → HasUris a → GiveAccess a (values (methods_of a))
 firsts a h =
     let r : AccessMethod × Option (List ℕ) = (CaRepository, a.ca_repository) in
     let m : AccessMethod × Option (List ℕ) = (RpkiManifest, a.rpki_manifest) in
@@ -318,44 +251,37 @@ printables a h =
     let https : (uri : List ℕ) → IsHttps uri → ArePrintable uri = λ uri u. u.printable in
     (IfSome_then a.ca_repository h.ca_repository_is rsync, (IfSome_then a.rpki_manifest h.rpki_manifest_is rsync, (IfSome_then a.signed_object h.signed_object_is rsync, (IfSome_then a.rpki_notify h.rpki_notify_is https, tt))))
 
-sequence_made : (depth : ℕ) (a : Access) (ds : List Description) (ps : List (List ℕ)) → (AllByRecursion Short ps → AllZip (IsAccessDescriptionWithin depth) ds ps) → Firsts a ds → (c : List ℕ) → sequence_of_some ps ≡ Some c → Short c → IsSubjectInformationAccessWithin depth a c
-sequence_made depth a ds [] zipped f c e h = absurd cc
-sequence_made depth a ds (p ∷ ps) zipped f c e h =
-    let is : sequence (p ∷ ps) ≡ c = some_is (sequence (p ∷ ps)) c e in
-    subst (λ (x : List ℕ). Short x → IsSubjectInformationAccessWithin depth a x) is (λ short. elements ds (zipped (pieces_short (p ∷ ps) (content_short SEQUENCE _ short))) f (made SEQUENCE _ (omega arith) short)) h
-  where
-    elements : (es : List Description) → AllZip (IsAccessDescriptionWithin depth) es (p ∷ ps) → Firsts a es → IsSequence (p ∷ ps) (sequence (p ∷ ps)) → IsSubjectInformationAccessWithin depth a (sequence (p ∷ ps))
-    elements [] zip g enc = elim zip [ ]
-    elements (e ∷ es) zip g enc = record { first = e; more = es; pieces = p ∷ ps; encoded = zip; sequence = enc; repository = g.repository; manifest = g.manifest; object = g.object; notify = g.notify }
+some_there : (r m o n : Option (List ℕ)) → (is_some r || (is_some m || (is_some o || is_some n))) ≡ true → 1 ≤ length (description_if CaRepository r ++ (description_if RpkiManifest m ++ (description_if SignedObject o ++ description_if RpkiNotify n)))
+some_there (Some r) m o n e = omega arith
+some_there None (Some m) o n e = omega arith
+some_there None None (Some o) n e = omega arith
+some_there None None None (Some n) e = omega arith
+some_there None None None None e = absurd cc
 
--- what is written of URIs encodes them, under any bound of depth
-pub subject_information_access_made : (depth : ℕ) (a : Access) → HasUris a → (c : List ℕ) → subject_information_access_content a ≡ Some c → Short c → IsSubjectInformationAccessWithin depth a c
-subject_information_access_made depth a h = rw (← texts_are a) (sequence_made depth a (values (methods_of a)) (texts (methods_of a)) (encoded depth (methods_of a) (printables a h)) (firsts a h))
+fit : (a : Access) → HasUris a → AllByRecursion (description_format levels).fits (descriptions a)
+fit a h = subst (λ (ds : List Description). AllByRecursion (description_format levels).fits ds) (values_are a) (all_fit (methods_of a) (printables a h))
 
--- where there is no URI nothing is written
-all_absent : (ms : Methods) → texts ms ≡ [] → AllByRecursion (λ (m : AccessMethod × Option (List ℕ)). m.1 ≡ None) ms
-all_absent [] e = tt
-all_absent ((m, None) ∷ ms) e = (refl, all_absent ms e)
-all_absent ((m, Some uri) ∷ ms) e = absurd cc
-
--- only where there is no URI nothing is written
-pub no_uris : (a : Access) → subject_information_access_content a ≡ None → a ≡ record { ca_repository = None; rpki_manifest = None; signed_object = None; rpki_notify = None }
-no_uris a e =
-    let (repository, (manifest, (object, (notify, _)))) = all_absent (methods_of a) (texts_are a ∙ no_pieces (descriptions a) e) in
-    λ i. record { ca_repository = repository i; rpki_manifest = manifest i; signed_object = object i; rpki_notify = notify i }
-
--- what is written of URIs, if short, consists of octets
-pub ok_subject_information_access : (a : Access) → HasUris a → IfSome (subject_information_access_content a) IfShort
-ok_subject_information_access a h = rw (← texts_are a) (ok_pieces (texts (methods_of a)) (ok_texts (methods_of a) (printables a h)))
-
--- Subject Information Access is a lawful kind
-pub subject_information_access_is : IsKind subject_information_access
-subject_information_access_is = record {
-  law = subject_information_access_reads;
-  made = λ a c fits e short. subject_information_access_made levels a fits c e short;
-  octets = ok_subject_information_access;
+-- anything may follow a SubjectInfoAccessSyntax
+pub subject_information_access_alone : IsAlone (subject_information_access_format levels)
+unfolding subject_information_access_format
+subject_information_access_alone = record {
+  law = primitive_lawful SEQUENCE access_of (AreDescriptionsWithin levels) (λ a. HasUris a × (has_uri a ≡ true)) (λ a. written_all (descriptions a)) (omega arith) (omega arith) (record { takes = access_takes; again = access_again })
+      (λ a fits. values_octets (description_format levels) description_alone.law (descriptions a) (fit a fits.0))
+      (λ a fits short. (
+        descriptions a,
+        (values_made (description_format levels) description_alone.law (descriptions a) (fit a fits.0) short.0, some_there a.ca_repository a.rpki_manifest a.signed_object a.rpki_notify fits.1),
+        subst (λ (ds : List Description). GiveAccess a ds) (values_are a) (firsts a fits.0),
+      ));
+  none = refl;
 }
 
--- its reader answers both ways, or runs out of memory
-pub subject_information_access_answers : AnsweringOrMemory subject_information_access
-subject_information_access_answers = answering_or_memory subject_information_access subject_information_access_is
+none_there : (r m o n : Option (List ℕ)) → (is_some r || (is_some m || (is_some o || is_some n))) ≡ false → record { ca_repository = r; rpki_manifest = m; signed_object = o; rpki_notify = n } ≡ no_access
+none_there (Some r) m o n e = absurd cc
+none_there None (Some m) o n e = absurd cc
+none_there None None (Some o) n e = absurd cc
+none_there None None None (Some n) e = absurd cc
+none_there None None None None e = refl
+
+-- where there is no URI
+pub no_uris : (a : Access) → has_uri a ≡ false → a ≡ no_access
+no_uris a e = none_there a.ca_repository a.rpki_manifest a.signed_object a.rpki_notify e

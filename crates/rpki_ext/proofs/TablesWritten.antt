@@ -1,13 +1,13 @@
 -- What is written of the kinds in a table gives their values.
 use Rattle.std.specs.List.{AllByRecursion, AllZip}
 use Rattle.std.specs.Prelude.{IfSome}
-use Rattle.std.proofs.Common.{ℕ, List, [], ◌∷◌, refl}
+use Rattle.std.proofs.Common.{ℕ, List, [], ◌∷◌}
 use Rattle.rpki_der.specs.Extensions.{OptionalExtension, Extension}
 use Rattle.rpki_der.proofs.WrittenOctets.{IfShort}
 use Rattle.rpki_ext.specs.KindTables.{KindTable, no_kinds, kind, modes, Values, parts_of}
-use Rattle.rpki_ext.specs.Kinds.{extension_for, identifiers, Gives, identifiers_by_mode, GivesUnder}
+use Rattle.rpki_ext.specs.Kinds.{identifiers, Gives, identifiers_by_mode, GivesUnder}
 use Rattle.rpki_ext.proofs.KindTables.{AreKinds}
-use Rattle.rpki_ext.proofs.KindsWritten.{IsOnly, written, kept, gives, gives_under, ok_part}
+use Rattle.rpki_ext.proofs.KindsWritten.{IsOnly, written, gives, gives_under, ok_part}
 
 -- their identifiers
 abbrev pub identifiers_by_kind : KindTable → List (List (List ℕ))
@@ -18,14 +18,8 @@ identifiers_by_kind (modes ks t) = identifiers_by_mode ks ∷ identifiers_by_kin
 -- the values can be written
 abbrev pub Fit : (t : KindTable) → Values t → Type 0
 Fit no_kinds v = Unit {0}
-Fit (kind k t) v = IfSome v.0 k.fits × Fit t v.1
-Fit (modes ks t) v = IfSome v.0.1 (ks v.0.0).fits × Fit t v.1
-
--- of which something is written
-abbrev pub all_kept : (t : KindTable) → Values t → Values t
-all_kept no_kinds v = tt
-all_kept (kind k t) v = (kept v.0 (extension_for k v.0).content, all_kept t v.1)
-all_kept (modes ks t) v = ((v.0.0, kept v.0.1 (extension_for (ks v.0.0) v.0.1).content), all_kept t v.1)
+Fit (kind k t) v = IfSome v.0 k.format.fits × Fit t v.1
+Fit (modes ks t) v = IfSome v.0.1 (ks v.0.0).format.fits × Fit t v.1
 
 -- the extensions give these values
 abbrev pub AllGiven : (t : KindTable) → List Extension → Values t → Type 0
@@ -34,10 +28,10 @@ AllGiven (kind k t) xs v = Gives k xs v.0 × AllGiven t xs v.1
 AllGiven (modes ks t) xs v = GivesUnder ks v.0.0 xs v.0.1 × AllGiven t xs v.1
 
 -- what is written of a table's values gives these values
-pub table_given : (t : KindTable) → AreKinds t → (all : List OptionalExtension) (v : Values t) → Fit t v → AllZip (IsOnly all) (identifiers_by_kind t) (parts_of t v) → AllGiven t (written all) (all_kept t v)
+pub table_given : (t : KindTable) → AreKinds t → (all : List OptionalExtension) (v : Values t) → Fit t v → AllZip (IsOnly all) (identifiers_by_kind t) (parts_of t v) → AllGiven t (written all) v
 table_given no_kinds is all v fits h = tt
-table_given (kind k t) is all v fits h = (gives k is.0 v.0 h.0 fits.0 _ refl, table_given t is.1 all v.1 fits.1 h.1)
-table_given (modes ks t) is all v fits h = (gives_under ks v.0.0 (is.0.1 v.0.0) v.0.1 h.0 fits.0 _ refl, table_given t is.1 all v.1 fits.1 h.1)
+table_given (kind k t) is all v fits h = (gives k is.0 v.0 h.0 fits.0, table_given t is.1 all v.1 fits.1 h.1)
+table_given (modes ks t) is all v fits h = (gives_under ks v.0.0 (is.0.1 v.0.0) v.0.1 h.0 fits.0, table_given t is.1 all v.1 fits.1 h.1)
 
 -- what is written of a table's values consists of octets
 pub table_octets : (t : KindTable) → AreKinds t → (v : Values t) → Fit t v → AllByRecursion (λ p. IfSome p.content IfShort) (parts_of t v)

@@ -1,13 +1,10 @@
 -- How long what is written of extensions is.
-use Rattle.std.proofs.Common.{Bool, ◌≤◌, ℕ, ◌+◌, ◌-◌, List, [], ◌∷◌, ◌++◌, length, take, drop, arith}
-use Rattle.std.specs.List.{concat}
+use Rattle.std.proofs.Common.{◌≤◌, ℕ, ◌+◌, ◌-◌, List, [], ◌∷◌, ◌++◌, length, take, drop, arith}
 use Rattle.std.proofs.lemmas.List.{length-append, take_rest}
-use Rattle.rpki_der.specs.Tags.{SEQUENCE, OBJECT_IDENTIFIER, OCTET_STRING}
+use Rattle.rpki_der.specs.Tags.{SEQUENCE, OBJECT_IDENTIFIER}
 use Rattle.rpki_der.specs.Values.{enc, nested}
-use Rattle.rpki_der.specs.Primitives.{bool_or_false}
-use Rattle.rpki_der.specs.Extensions.{extension_pieces}
-use Rattle.rpki_ext.specs.GeneralNames.{uri_name}
-use Rattle.rpki_ext.specs.AuthorityAccess.{description}
+use Rattle.rpki_ext.specs.GeneralNames.{uri_format}
+use Rattle.rpki_ext.specs.ExtensionKinds.{description}
 use Rattle.rpki_der.proofs.ValueWritten.{enc_longer}
 
 -- a content isn't longer than inside tags
@@ -21,9 +18,5 @@ inner_longer [] b = omega arith
 inner_longer (t ∷ tags) b = rw (take_rest (t ∷ tags) 1) (enc_longer t (nested tags b))
 
 -- both parts of a description
-pub description_longer : (method uri : List ℕ) → length (enc OBJECT_IDENTIFIER method) + length (uri_name uri) ≤ length (description method uri)
-description_longer method uri = omega (arith, enc_longer SEQUENCE (enc OBJECT_IDENTIFIER method ++ (uri_name uri ++ [])), length-append (enc OBJECT_IDENTIFIER method) (uri_name uri ++ []), length-append (uri_name uri) [])
-
--- what stands inside the SEQUENCE of an extension is longer than its content
-pub content_longer : (id : List ℕ) (critical : Bool) (c : List ℕ) → length c ≤ length (concat (extension_pieces id critical c))
-content_longer id critical c = omega (arith, enc_longer OCTET_STRING c, length-append (enc OCTET_STRING c) [], length-append (bool_or_false critical) (enc OCTET_STRING c ++ []), length-append (enc OBJECT_IDENTIFIER id) (bool_or_false critical ++ (enc OCTET_STRING c ++ [])))
+pub description_longer : (method uri : List ℕ) → length (enc OBJECT_IDENTIFIER method) + length (uri_format.written uri) ≤ length (description method uri)
+description_longer method uri = omega (arith, enc_longer SEQUENCE (enc OBJECT_IDENTIFIER method ++ uri_format.written uri), length-append (enc OBJECT_IDENTIFIER method) (uri_format.written uri))

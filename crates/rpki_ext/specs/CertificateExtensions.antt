@@ -9,11 +9,13 @@ use Rattle.rpki_der.specs.Writers.{Part}
 use Rattle.rpki_blocks.specs.declared.overclaim.Overclaim.{Overclaim}
 use Rattle.rpki_blocks.specs.Resources.{Resources, missing, IsResources}
 use Rattle.rpki_blocks.specs.Addresses.{Ip, addresses}
-use Rattle.rpki_ext.specs.ExtensionKinds.{certificate_kinds, subject_key_identifier, authority_key_identifier, key_usage, extended_key_usage, as_resources, subject_information_access_within, basic_constraints, crl_distribution_points, authority_information_access, certificate_policies_within, ip_resources, known, subject_information_access}
-use Rattle.rpki_ext.specs.SubjectAccess.{Access}
+use Rattle.rpki_ext.specs.ExtensionKinds.{certificate_kinds, subject_key_identifier, authority_key_identifier, key_usage, extended_key_usage, as_resources, subject_information_access_within, basic_constraints, crl_distribution_points, authority_information_access, certificate_policies_within, ip_resources, known, subject_information_access, ArePurposes, HasTwentyOctets}
+use Rattle.rpki_parts.specs.Uris.{IsRsync}
+use Rattle.rpki_ext.specs.ResourceKinds.{are_there, has_addresses}
+use Rattle.rpki_ext.specs.SubjectAccess.{Access, HasUris, has_uri}
 use Rattle.rpki_ext.specs.declared.key_usage.KeyUsage.{KeyUsage}
-use Rattle.rpki_ext.specs.Kinds.{is_of, Gives, GivesUnder}
-use Rattle.rpki_ext.specs.KindTables.{Values, parts_of}
+use Rattle.rpki_ext.specs.Kinds.{is_of, Gives, GivesUnder, kept_if}
+use Rattle.rpki_ext.specs.KindTables.{Values, ◌⨾◌, parts_of}
 pub mod Reading
 pub mod Views
 
@@ -95,39 +97,21 @@ AreExtensions f elements = (xs : List Extension) × AreEncodings IsExtension xs 
 
 -- ---- what is written
 
--- what is written of each kind
+-- what is written of each kind: URIs and resources where there are some
 abbrev pub values_of : ExtensionFields → Values certificate_kinds
-values_of x = (
-  x.basic_ca,
-  (
-    Some x.subject_key_identifier,
-    (
-      x.authority_key_identifier,
-      (
-        Some x.key_usage,
-        (
-          x.extended_key_usage,
-          (
-            x.crl_uri,
-            (
-              x.ca_issuer,
-              (
-                Some x.access,
-                (
-                  Some x.overclaim,
-                  (
-                    (x.overclaim, Some (record { v4 = x.v4_resources; v6 = x.v6_resources })),
-                    ((x.overclaim, Some x.as_resources), tt),
-                  ),
-                ),
-              ),
-            ),
-          ),
-        ),
-      ),
-    ),
-  ),
-)
+values_of x =
+    x.basic_ca
+    ⨾ Some x.subject_key_identifier
+    ⨾ x.authority_key_identifier
+    ⨾ Some x.key_usage
+    ⨾ x.extended_key_usage
+    ⨾ x.crl_uri
+    ⨾ x.ca_issuer
+    ⨾ kept_if has_uri x.access
+    ⨾ Some x.overclaim
+    ⨾ (x.overclaim, kept_if has_addresses (record { v4 = x.v4_resources; v6 = x.v6_resources }))
+    ⨾ (x.overclaim, kept_if are_there x.as_resources)
+    ⨾ tt
 
 -- in the order of the table
 abbrev pub parts : ExtensionFields → List OptionalExtension
@@ -143,12 +127,12 @@ sequence_part x = record { written = extensions x; inside = extensions x }
 
 -- the values can be written
 pub record ExtensionsFit (x : ExtensionFields) : Type 0 where
-  pub subject_key_identifier_is : subject_key_identifier.fits x.subject_key_identifier
-  pub authority_key_identifier_is : IfSome x.authority_key_identifier authority_key_identifier.fits
-  pub extended_key_usage_is : IfSome x.extended_key_usage extended_key_usage.fits
-  pub crl_uri_is : IfSome x.crl_uri crl_distribution_points.fits
-  pub ca_issuer_is : IfSome x.ca_issuer authority_information_access.fits
-  pub access_is : subject_information_access.fits x.access
+  pub subject_key_identifier_is : HasTwentyOctets x.subject_key_identifier
+  pub authority_key_identifier_is : IfSome x.authority_key_identifier HasTwentyOctets
+  pub extended_key_usage_is : IfSome x.extended_key_usage ArePurposes
+  pub crl_uri_is : IfSome x.crl_uri IsRsync
+  pub ca_issuer_is : IfSome x.ca_issuer IsRsync
+  pub access_is : HasUris x.access
   pub v4_is : IsResources (2 ^ 128 - 1) x.v4_resources
   pub v6_is : IsResources (2 ^ 128 - 1) x.v6_resources
   pub as_is : IsResources (2 ^ 32 - 1) x.as_resources

@@ -1,10 +1,10 @@
 -- Kinds of extensions, and what a kind that stands at most once means (RFC 5280 4.1.2.9, 4.2; RFC
 -- 6487 4.8).
-use Rattle.std.specs.Prelude.{◌<◌, ◌^◌, length, Bool, Option, Some, None, ◌≡◌, ℕ, List, bytes_eq, filter, [], ◌∷◌}
+use Rattle.std.specs.Prelude.{◌<◌, ◌^◌, length, Bool, Option, Some, None, ◌≡◌, ℕ, List, bytes_eq, filter, [], ◌∷◌, if◌then◌else◌, option_map}
 use Rattle.std.specs.List.{list_any}
 use Rattle.rpki_der.specs.Extensions.{Extension, OptionalExtension, part_of}
 use Rattle.rpki_der.specs.Sequences.{IsAtMostOne}
-use Rattle.rpki_der.specs.Values.Reading.{◌>>=◌}
+use Rattle.rpki_der.specs.Formats.{Format}
 use Rattle.rpki_der.specs.Writers.{Part}
 use Rattle.rpki_blocks.specs.declared.overclaim.Overclaim.{Overclaim}
 use Rattle.rpki_blocks.specs.declared.overclaim.Overclaim.TheVariants.{Refuse, Trim}
@@ -33,15 +33,12 @@ abbrev pub IsFlagFor : Flag → Bool → Type 0
 IsFlagFor (required wanted) critical = critical ≡ wanted
 IsFlagFor (untested written) critical = Unit {0}
 
--- A kind of extension, of which each value is a V: the identifier that names it and its flag, how a
--- content is encoded and read, and what is written of a value that can be written, if anything.
+-- A kind of extension, of which each value is a V: the identifier that names it, its flag, and the
+-- format of its content
 pub record ExtensionKind (V : Type 0) : Type 1 where
   pub identifier : List ℕ
   pub flag : Flag
-  pub encodes : V → List ℕ → Type 0
-  pub reads : List ℕ → Option (V × List ℕ)
-  pub fits : V → Type 0
-  pub written : V → Option (List ℕ)
+  pub format : Format V
 
 -- every value can be written
 abbrev pub Any : {V : Type 0} → V → Type 0
@@ -64,7 +61,7 @@ identifiers kind = kind.identifier ∷ []
 -- the extension has the flag of the kind, and its content means v: what follows a front that
 -- encodes v in the OCTET STRING is ignored (own)
 abbrev pub Tells : {V : Type 0} → ExtensionKind V → Extension → V → Type 0
-Tells kind x v = IsFlagFor kind.flag x.critical × Means kind.encodes v x.content
+Tells kind x v = IsFlagFor kind.flag x.critical × Means kind.format.encodes v x.content
 
 -- the value that extensions give for a kind: none where none is of the kind, what the only one
 -- tells, and nothing where there are several (RFC 5280 4.2)
@@ -91,9 +88,13 @@ HasOneMeaning {V} encodes = (content : List ℕ) (v w : V) → Means encodes v c
 
 -- ---- what is written
 
+-- a value, where it passes the test
+abbrev pub kept_if : {V : Type 0} → (V → Bool) → V → Option V
+kept_if test v = if test v then Some v else None
+
 -- the extension that is written of a kind's value, if there is one
 abbrev pub extension_for : {V : Type 0} → ExtensionKind V → Option V → OptionalExtension
-extension_for kind v = record { identifier = kind.identifier; critical = flag_of kind.flag; content = v >>= kind.written }
+extension_for kind v = record { identifier = kind.identifier; critical = flag_of kind.flag; content = option_map kind.format.written v }
 
 -- what is written of a kind's value, and what stands inside it
 abbrev pub part : {V : Type 0} → ExtensionKind V → Option V → Part
@@ -101,4 +102,4 @@ part kind v = part_of (extension_for kind v)
 
 -- what is written of a value that fits encodes it, if it has fewer than 2^32 octets
 abbrev pub IsReadAgain : {V : Type 0} → ExtensionKind V → Type 0
-IsReadAgain {V} kind = (v : V) (c : List ℕ) → kind.fits v → kind.written v ≡ Some c → length c < 2 ^ 32 → kind.encodes v c
+IsReadAgain {V} kind = (v : V) → kind.format.fits v → length (kind.format.written v) < 2 ^ 32 → kind.format.encodes v (kind.format.written v)

@@ -1,11 +1,13 @@
 //! Authority Information Access (RFC 6487 4.8.7).
 ghost use Rattle.std.specs.Prelude.{Some, option_map};
-ghost use Rattle.rpki_der.specs.Place.{remaining, Keeps, AnswersOrMemory};
-ghost use Rattle.rpki_der.specs.Place.Reading.{TookBy, ReturnsOrMemory, TookOrMemory};
+ghost use Rattle.rpki_der.specs.Place.{remaining, Keeps};
+ghost use Rattle.rpki_der.specs.Answers.{AnswersOrMemory};
+ghost use Rattle.rpki_der.specs.Place.Reading.{ReturnsOrMemory, TookOrMemory};
 ghost use Rattle.rpki_der.specs.Values.{AreOctets};
 ghost use Rattle.rpki_der.specs.Writers.{Writes};
 ghost use Rattle.rpki_ext.specs.Kinds.{part};
-ghost use Rattle.rpki_ext.specs.AuthorityAccess.{issuers_of, only_description_at, authority_information_access};
+ghost use Rattle.rpki_ext.specs.ExtensionKinds.{issuers_of, authority_information_access};
+ghost use Rattle.rpki_ext.specs.Contents.{identified};
 
 use crate::encode::{put_description, put_nested_extension};
 use crate::names::only_rsync;
@@ -13,23 +15,9 @@ use rpki_der::{Cursor, DecodeError, EncodeError, oid, tag};
 use rpki_parts::Rsync;
 use std::alloc::Global;
 
-// The only description.
-#[tactic(auto, unfolding(crate::specs::AuthorityAccess::only_description_at))]
-fn take_only_description<'a>(cursor: &mut Cursor<'a>) -> Result<Cursor<'a>, DecodeError>
-    ensures reads { TookBy remaining only_description_at cursor.old result cursor.new }
-    ensures keeps { Keeps result cursor.old cursor.new }
-{
-    let mut ahead = cursor.fork();
-    let mut descriptions = ahead.take_sequence()?;
-    let description = descriptions.take_sequence()?;
-    descriptions.finish()?;
-    *cursor = ahead;
-    Ok(description)
-}
-
 // The only rsync URI of a description that says where certificates of issuers are.
 fn issuer_in(alloc: Global, mut description: Cursor<'_>) -> Result<Rsync, DecodeError>
-    ensures { ReturnsOrMemory result (issuers_of (remaining description.entry)) }
+    ensures { ReturnsOrMemory result (identified issuers_of (remaining description.entry)) }
 {
     if description.take_oid()? != oid::AD_CA_ISSUERS {
         return Err(DecodeError::BadValue);
@@ -38,14 +26,16 @@ fn issuer_in(alloc: Global, mut description: Cursor<'_>) -> Result<Rsync, Decode
 }
 
 // Reads as `take_authority_information_access` does, by the reading function.
-#[tactic(auto, unfolding(crate::specs::AuthorityAccess::authority_information_access_at))]
+#[tactic(auto, unfolding(crate::specs::ExtensionKinds::authority_information_access_format))]
 fn read(alloc: Global, cursor: &mut Cursor<'_>) -> Result<Rsync, DecodeError>
-    ensures reads { TookOrMemory authority_information_access.reads cursor.old result cursor.new }
+    ensures reads { TookOrMemory authority_information_access.format.read cursor.old result cursor.new }
     ensures keeps { Keeps result cursor.old cursor.new }
     ensures octets { AreOctets (remaining cursor.old) }
 {
     let mut ahead = cursor.fork();
-    let description = take_only_description(&mut ahead)?;
+    let mut descriptions = ahead.take_sequence()?;
+    let description = descriptions.take_sequence()?;
+    descriptions.finish()?;
     let uri = issuer_in(alloc, description)?;
     *cursor = ahead;
     Ok(uri)
@@ -53,21 +43,19 @@ fn read(alloc: Global, cursor: &mut Cursor<'_>) -> Result<Rsync, DecodeError>
 
 /// Reads the content of Authority Information Access. Returns the only rsync URI among the names of
 /// one description, which says where the issuer's certificate is (RFC 6487 4.8.7).
-#[tactic(auto, using(crate::proofs::AuthorityAccess::authority_information_access_answers))]
+#[tactic(auto, using(rpki_der::proofs::FormatAnswers::answers_or_memory_alone, crate::proofs::ExtensionKinds::authority_information_access_alone))]
 pub fn take_authority_information_access(
     alloc: Global,
     cursor: &mut Cursor<'_>,
 ) -> Result<Rsync, DecodeError>
-    ensures answers { AnswersOrMemory authority_information_access.encodes cursor.old
-        result cursor.new }
-    ensures reads { TookOrMemory authority_information_access.reads cursor.old result cursor.new }
-    ensures keeps { Keeps result cursor.old cursor.new }
+    ensures { AnswersOrMemory authority_information_access.format cursor.old result cursor.new }
 {
     read(alloc, cursor)
 }
 
 /// Appends the extension with one description, which says that the issuer's certificate is at this
 /// URI. Errs with `TooLong` where a content would have 2^32 octets or more.
+#[tactic(auto, unfolding(crate::specs::ExtensionKinds::authority_information_access_format))]
 pub fn encode_authority_information_access(
     alloc: Global,
     out: &mut Vec<u8>,

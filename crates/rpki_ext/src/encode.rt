@@ -5,7 +5,7 @@ ghost use Rattle.rpki_der.specs.Primitives.Reading.{is_oid};
 ghost use Rattle.rpki_der.specs.Values.{nested};
 ghost use Rattle.rpki_der.specs.Extensions.{extension_part};
 ghost use Rattle.rpki_der.specs.Writers.{Writes};
-ghost use Rattle.rpki_ext.specs.AuthorityAccess.{description};
+ghost use Rattle.rpki_ext.specs.ExtensionKinds.{description};
 
 use crate::names::URI;
 use rpki_der::{EncodeError, put_extension, put_oid, put_value, tag};
@@ -49,6 +49,7 @@ pub(crate) fn put_nested_extension(
 }
 
 /// Appends the description of this method with this URI (RFC 5280 4.2.2.1).
+#[tactic(auto, unfolding(crate::specs::GeneralNames::uri_format))]
 pub(crate) fn put_description(
     out: &mut Vec<u8>,
     method: &[u8],

@@ -3,8 +3,7 @@ ghost use Rattle.std.specs.Prelude.{◌≡◌, ◌++◌, OnOk, IfOk, IfSome};
 ghost use Rattle.std.specs.Fn.{FnOnceReturnsAt};
 ghost use Rattle.rpki_der.specs.Writers.{SaysLong, Writes};
 ghost use Rattle.rpki_parts.specs.Uris.{IsRsync, IsHttps};
-ghost use Rattle.rpki_ext.specs.KeyIdentifiers.{HasTwentyOctets};
-ghost use Rattle.rpki_ext.specs.ExtendedKeyUsages.{ArePurposes};
+ghost use Rattle.rpki_ext.specs.ExtensionKinds.{HasTwentyOctets, ArePurposes};
 ghost use Rattle.rpki_ext.specs.CertificateExtensions.{bare, ExtensionsFit, extensions, sequence_part};
 
 use crate::authority_access::put_authority_information_access;

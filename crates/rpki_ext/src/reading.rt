@@ -2,8 +2,7 @@
 ghost use Rattle.std.specs.Prelude.{◌≡◌, ◌≢◌, ◌⊎◌, true, false, OnOk, OnErr, IfErr, Some, None, unwrap_or};
 ghost use Rattle.rpki_der.specs.Place.{remaining, MeansOrMemory, Rejects};
 ghost use Rattle.rpki_der.specs.Place.Reading.{Returns, ReturnsOrMemory, ReturnsOrMemoryBy};
-ghost use Rattle.rpki_der.specs.Extensions.{Extension};
-ghost use Rattle.rpki_der.specs.Extensions.Reading.{extension_at};
+ghost use Rattle.rpki_der.specs.Extensions.{Extension, extension_format};
 ghost use Rattle.rpki_der.specs.Extensions.Views.{extension_view};
 ghost use Rattle.rpki_der.specs.Folding.{over};
 ghost use Rattle.rpki_der.specs.declared.error.DecodeError.TheVariants.{Memory};
@@ -212,6 +211,7 @@ impl ReadExtensions {
 
     // Reads the content of an extension of this kind, where it is the first and has the kind's
     // flag.
+    #[tactic(auto, unfolding(crate::specs::ResourceKinds::addresses_format, crate::specs::ResourceKinds::numbers_format))]
     fn take(&mut self, alloc: Global, kind: Named, content: &mut Cursor<'_>) -> Taken
         ensures { (x : Extension) → Names x.identifier (Some kind)
             → HasFlag (wanted kind) x.critical → is_seen self.old kind ≡ false
@@ -276,7 +276,7 @@ impl ReadExtensions {
     // A sequence of extensions, one after the other.
     fn from_row(alloc: Global, elements: &Cursor<'_>) -> Result<ReadExtensions, DecodeError>
         ensures { ReturnsOrMemoryBy state_of result
-            (over extension_at all_kinds.step all_kinds.start (remaining elements.now)) }
+            (over extension_format.read all_kinds.step all_kinds.start (remaining elements.now)) }
     {
         let mut rest = elements.fork();
         let mut seen = ReadExtensions::nothing();

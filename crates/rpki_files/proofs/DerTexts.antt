@@ -5,8 +5,12 @@ use Rattle.std.proofs.lemmas.List.{get_or-append_right}
 use Rattle.std.proofs.lemmas.Str.{lead_after_ascii}
 use Rattle.rpki.specs.Tags.{OBJECT_IDENTIFIER, SEQUENCE}
 use Rattle.rpki.specs.Values.{IsEnc, enc, length_octets}
-use Rattle.rpki.specs.Algorithms.{Algorithm, IsSignatureAlgorithm, parameters, sha256_with_rsa}
-use Rattle.rpki.specs.SignedDatas.{SignedFields, IsSignedDataContent}
+use Rattle.rpki.specs.Algorithms.{Algorithm, IsSignatureAlgorithm, algorithm_format, sha256_with_rsa}
+use Rattle.rpki.specs.Lists.{certificate_list_content_format, certificate_list_format}
+use Rattle.rpki.specs.SignedDatas.{SignedFields}
+use Rattle.rpki.specs.Skipping.{levels}
+use Rattle.rpki_parts.proofs.SignedFormats.{SignedParts, signed_parts}
+use Rattle.rpki_cert.proofs.CertificateParts.{certificate_parts}
 use Rattle.rpki_files.specs.Contents.{BeginsWithEither}
 use Rattle.rpki_files.specs.PemFiles.{IsObjectOf}
 
@@ -56,25 +60,26 @@ no_text octets h text =
 
 -- the algorithm's encoding has them
 in_algorithm : (a : Algorithm) (b : List ℕ) → IsSignatureAlgorithm a b → HasMark b
-in_algorithm a b h =
-    let identifier = in_value OBJECT_IDENTIFIER sha256_with_rsa h.identifier h.identifier_is.enc (record { before = []; behind = 0x48 ∷ 0x86 ∷ 0xF7 ∷ 0x0D ∷ 0x01 ∷ 0x01 ∷ 0x0B ∷ []; is = refl }) in
-    in_value SEQUENCE _ b h.sequence (around [] h.identifier (parameters a.has_null ++ []) identifier)
+unfolding algorithm_format
+in_algorithm a b (content, (identifier, parameters, is, null, whole), encoded) =
+    let found = in_value OBJECT_IDENTIFIER sha256_with_rsa identifier is.enc (record { before = []; behind = 0x48 ∷ 0x86 ∷ 0xF7 ∷ 0x0D ∷ 0x01 ∷ 0x01 ∷ 0x0B ∷ []; is = refl }) in
+    in_value SEQUENCE content b encoded (same content _ whole (around [] identifier parameters found))
 
 -- signed data has them
-in_signed : (s : SignedFields) (content : List ℕ) → IsSignedDataContent s content → HasMark content
-in_signed s content h =
-    same content _ h.is (around s.message h.algorithm (h.signature ++ []) (in_algorithm s.signature.algorithm h.algorithm h.algorithm_is))
+in_signed : (s : SignedFields) (content : List ℕ) → SignedParts s content → HasMark content
+in_signed s content p = same content _ p.is (around s.message p.algorithm p.signature (in_algorithm s.signature.algorithm p.algorithm p.algorithm_is))
 
 -- a certificate and a list are no texts
 pub no_text_shown : (octets : List ℕ) → BeginsWithEither octets → ¬ IsUtf8 octets
+unfolding certificate_list_format certificate_list_content_format
 no_text_shown octets shown =
     elim shown [
-      | inl certificate ↦
-          let it = certificate.1.1 in
-          no_text octets (same octets _ it.parts (around [] it.text certificate.1.0 (in_value SEQUENCE it.encoded.content it.text it.encoded.enc (in_signed _ it.encoded.content it.encoded.content_is.signed_is))))
-      | inr list ↦
-          let it = list.1.1 in
-          no_text octets (same octets _ it.parts (around [] it.text list.1.0 (in_value SEQUENCE it.encoded.content it.text it.encoded.enc (in_signed _ it.encoded.content it.encoded.content_is.signed_is))))
+      | inl (c, (rest, b)) ↦
+          let it = certificate_parts levels c b.text b.encoded in
+          no_text octets (same octets _ b.parts (around [] b.text rest (in_value SEQUENCE it.content b.text it.enc (in_signed c.signed_data it.content it.signed))))
+      | inr (r, (rest, b)) ↦
+          let (content, (one_algorithm, (signed, fields)), enc) = b.encoded in
+          no_text octets (same octets _ b.parts (around [] b.text rest (in_value SEQUENCE content b.text enc (in_signed r.signed_data content (signed_parts r.signed_data content signed)))))
     ]
 
 -- a file of a certificate or a list is taken as it is

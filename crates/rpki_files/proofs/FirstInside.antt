@@ -1,46 +1,50 @@
 -- The first octet inside the SEQUENCE that a certificate or a list begins with.
 use Rattle.std.specs.Prelude.{Result, Ok, Err, IfSome, IsSomeAnd, slice_get}
 use Rattle.std.specs.Result.{result_ok}
-use Rattle.std.proofs.Common.{◌≡◌, ℕ, List, [], ◌∷◌, refl}
-use Rattle.std.specs.List.{concat}
+use Rattle.std.proofs.Common.{◌≡◌, ℕ, List, [], ◌∷◌, refl, arith}
 use Rattle.rpki.specs.Encoding.{Means}
 use Rattle.rpki.specs.DecodeError.{DecodeError}
 use Rattle.rpki.specs.Place.{Place, remaining, AnswersBy}
 use Rattle.rpki.specs.Tags.{SEQUENCE}
 use Rattle.rpki.specs.Values.{IsEnc}
 use Rattle.rpki_der.proofs.Formats.{unambiguous, one_meant, of_enc, same_enc}
+use Rattle.rpki.specs.Certificates.{certificate_content_format, tbs_content_format, version_format}
+use Rattle.rpki.specs.Lists.{certificate_list_content_format, certificate_list_format, list_content_format, list_format, version_2}
+use Rattle.rpki.specs.Skipping.{levels}
+use Rattle.rpki_der.proofs.FormatLaws.{begins_so}
+use Rattle.rpki_parts.proofs.SignedFormats.{signed_parts}
+use Rattle.rpki_cert.proofs.CertificateFormats.{tbs_content_alone}
+use Rattle.rpki_crl.proofs.ListFormats.{list_content_alone}
 use Rattle.rpki_files.specs.Contents.{BeginsWithCertificate, BeginsWithList, HasFirstInside}
 
 -- of a list it is the tag of its version
 pub list_first : (octets : List ℕ) → BeginsWithList octets → HasFirstInside 0x02 octets
-list_first octets h =
-    let b = h.1.1 in
-    let content = b.encoded.content_is in
-    let tbs = content.fields_are in
-    let fields = tbs.content_is in
+unfolding certificate_list_format certificate_list_content_format list_format list_content_format version_2
+list_first octets (r, (rest, b)) =
+    let (content, (one_algorithm, (signed, (inner, fields, inner_enc))), enc) = b.encoded in
+    let first = begins_so 0x02 (list_content_format levels) refl (omega arith) (list_content_alone levels).law r.fields inner fields in
     record {
-      outer = b.encoded.content;
-      inner = tbs.content;
-      rest = 1 ∷ 1 ∷ concat (fields.algorithm ∷ fields.issuer ∷ fields.this_update ∷ fields.next_update ∷ fields.revoked ∷ fields.extensions ∷ []);
-      begins = (h.1.0, record { text = b.text; encoded = b.encoded.enc; parts = b.parts });
-      inside = (concat (content.signed_is.algorithm ∷ content.signed_is.signature ∷ []), record { text = h.0.signed_data.message; encoded = tbs.enc; parts = content.signed_is.is });
-      first_is = fields.is;
+      outer = content;
+      inner = inner;
+      rest = first.0;
+      begins = (rest, record { text = b.text; encoded = enc; parts = b.parts });
+      inside = (_, record { text = r.signed_data.message; encoded = inner_enc; parts = (signed_parts r.signed_data content signed).is });
+      first_is = first.1;
     }
 
 -- of a certificate it is the tag around its version
 pub certificate_first : (octets : List ℕ) → BeginsWithCertificate octets → HasFirstInside 0xA0 octets
-certificate_first octets h =
-    let b = h.1.1 in
-    let content = b.encoded.content_is in
-    let tbs = content.fields_are in
-    let fields = tbs.content_is in
+unfolding certificate_content_format tbs_content_format version_format
+certificate_first octets (c, (rest, b)) =
+    let (content, (signed, (inner, fields, inner_enc)), enc) = b.encoded in
+    let first = begins_so 0xA0 (tbs_content_format levels) refl (omega arith) tbs_content_alone.law c.fields inner fields in
     record {
-      outer = b.encoded.content;
-      inner = tbs.content;
-      rest = 3 ∷ 2 ∷ 1 ∷ 2 ∷ concat (fields.serial ∷ fields.algorithm ∷ fields.issuer ∷ fields.validity ∷ fields.subject ∷ fields.key ∷ fields.extensions ∷ []);
-      begins = (h.1.0, record { text = b.text; encoded = b.encoded.enc; parts = b.parts });
-      inside = (concat (content.signed_is.algorithm ∷ content.signed_is.signature ∷ []), record { text = h.0.signed_data.message; encoded = tbs.enc; parts = content.signed_is.is });
-      first_is = fields.is;
+      outer = content;
+      inner = inner;
+      rest = first.0;
+      begins = (rest, record { text = b.text; encoded = enc; parts = b.parts });
+      inside = (_, record { text = c.signed_data.message; encoded = inner_enc; parts = (signed_parts c.signed_data content signed).is });
+      first_is = first.1;
     }
 
 -- octets begin with one SEQUENCE at most

@@ -1,8 +1,7 @@
 -- Whether one of the extensions at the front has an identifier, and where extensions stand.
 use Rattle.std.proofs.Common.{◌≡◌, ◌↔◌, ◌<◌, ℕ, List, [], ◌∷◌, ◌++◌, length, Option, Some, refl, sym, ap, subst, ◌∙◌, inl, inr, append_assoc, arith}
 use Rattle.rpki.specs.Encoding.{Begins, Means}
-use Rattle.rpki.specs.Extensions.{Extension, IsExtension}
-use Rattle.rpki.specs.Extensions.Reading.{extension_at}
+use Rattle.rpki.specs.Extensions.{Extension, IsExtension, extension_format}
 use Rattle.rpki.specs.Reading.{Inside, inside}
 use Rattle.rpki.specs.Sequences.{AreEncodings}
 use Rattle.rpki.specs.Tags.{SEQUENCE}
@@ -19,12 +18,12 @@ use Rattle.rpki_files.specs.PolicyPresence.Reading.{behind, rest_at, extensions_
 
 module _ (id octets : List ℕ) where
   -- the first of them, and what stands behind it
-  first_is : (xs : List Extension) (v : Extension) (h : Means (AreEncodings IsExtension) (v ∷ xs) octets) → (b : List ℕ) × (extension_at octets ≡ Some (v, b)) × Means (AreEncodings IsExtension) xs b
+  first_is : (xs : List Extension) (v : Extension) (h : Means (AreEncodings IsExtension) (v ∷ xs) octets) → (b : List ℕ) × (extension_format.read octets ≡ Some (v, b)) × Means (AreEncodings IsExtension) xs b
   first_is xs v h =
       let text = h.1.text in
       let s = h.1.encoded in
       let whole : octets ≡ s.0 ++ (s.1 ++ h.0) = h.1.parts ∙ ap (λ (t : List ℕ). t ++ h.0) s.4 ∙ append_assoc s.0 s.1 h.0 in
-      (s.1 ++ h.0, ap extension_at whole ∙ extension_reads.again v s.0 (s.1 ++ h.0) s.2, (h.0, record { text = s.1; encoded = s.3; parts = refl }))
+      (s.1 ++ h.0, ap extension_format.read whole ∙ extension_reads.again v s.0 (s.1 ++ h.0) s.2, (h.0, record { text = s.1; encoded = s.3; parts = refl }))
 
   -- none stands there
   pub none_there : ((x : Extension) (rest : List ℕ) → Begins IsExtension octets x rest → ⊥) → BeginsWithOne id octets → ⊥
@@ -49,7 +48,7 @@ module _ (id octets : List ℕ) where
     first_has is = (x ∷ [], one_more [] (rest, record { text = []; encoded = refl; parts = refl }), inl is)
 
     -- the first has another one
-    module _ (read : extension_at octets ≡ Some (x, rest)) (other : x.identifier ≡ id → ⊥) where
+    module _ (read : extension_format.read octets ≡ Some (x, rest)) (other : x.identifier ≡ id → ⊥) where
       rest_has : BeginsWithOne id octets → BeginsWithOne id rest
       rest_has ([], means, among) = absurd among
       rest_has (v ∷ xs, means, among) =

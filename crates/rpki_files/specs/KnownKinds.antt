@@ -90,18 +90,18 @@ HasValue {V} encodes content = (v : V) × Means encodes v content
 -- the content is one that extensions of the kind have; of those that aren't known it is any, and
 -- those that lists may not have have none
 abbrev pub HasContent : Kind → List ℕ → Type 0
-HasContent known.BasicConstraints content = HasValue basic_constraints.encodes content
-HasContent known.SubjectKeyIdentifier content = HasValue subject_key_identifier.encodes content
-HasContent known.AuthorityKeyIdentifier content = HasValue authority_key_identifier.encodes content
-HasContent known.KeyUsage content = HasValue key_usage.encodes content
-HasContent known.ExtendedKeyUsage content = HasValue extended_key_usage.encodes content
-HasContent known.CrlDistributionPoints content = HasValue crl_distribution_points.encodes content
-HasContent known.AuthorityInformationAccess content = HasValue authority_information_access.encodes content
-HasContent known.SubjectInformationAccess content = HasValue subject_information_access.encodes content
-HasContent known.CertificatePolicies content = HasValue certificate_policies.encodes content
+HasContent known.BasicConstraints content = HasValue basic_constraints.format.encodes content
+HasContent known.SubjectKeyIdentifier content = HasValue subject_key_identifier.format.encodes content
+HasContent known.AuthorityKeyIdentifier content = HasValue authority_key_identifier.format.encodes content
+HasContent known.KeyUsage content = HasValue key_usage.format.encodes content
+HasContent known.ExtendedKeyUsage content = HasValue extended_key_usage.format.encodes content
+HasContent known.CrlDistributionPoints content = HasValue crl_distribution_points.format.encodes content
+HasContent known.AuthorityInformationAccess content = HasValue authority_information_access.format.encodes content
+HasContent known.SubjectInformationAccess content = HasValue subject_information_access.format.encodes content
+HasContent known.CertificatePolicies content = HasValue certificate_policies.format.encodes content
 HasContent known.IpResources content = HasValue IsIPAddrBlocks content
 HasContent known.AsResources content = HasValue IsASIdentifiers content
-HasContent known.CrlNumber content = HasValue crl_number.encodes content
+HasContent known.CrlNumber content = HasValue crl_number.format.encodes content
 HasContent known.Unknown content = Unit {0}
 HasContent known.NoList content = ⊥
 

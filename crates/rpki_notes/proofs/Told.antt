@@ -1,16 +1,22 @@
 -- The notes of the certificate that octets begin with.
-use Rattle.std.specs.List.{concat}
-use Rattle.std.proofs.Common.{◌≡◌, ◌↔◌, Bool, ℕ, List, [], ◌∷◌, ◌++◌, true, false, if◌then◌else◌, refl, sym, ap, subst, inl, inr, arith}
+use Rattle.std.proofs.Common.{◌≡◌, ◌↔◌, Bool, ℕ, List, [], ◌∷◌, ◌++◌, true, false, if◌then◌else◌, refl, sym, ap, subst, inl, inr}
 use Rattle.std.proofs.lemmas.Bool.{false≢true}
-use Rattle.rpki.specs.Certificates.{CertFields, IsCertificate, version_3}
+use Rattle.std.proofs.lemmas.List.{append-nil}
+use Rattle.rpki.specs.Certificates.{CertFields, IsCertificate}
 use Rattle.rpki.specs.Encoding.{Begins, Means}
 use Rattle.rpki.specs.Extensions.{Extension}
 use Rattle.rpki.specs.Tags.{SEQUENCE}
-use Rattle.rpki.specs.Values.{IsEnc, enc, length_octets}
-use Rattle.rpki_cert.specs.Certificates.Reading.{cert_at}
-use Rattle.rpki_cert.proofs.CertificatesReads.{cert_reads}
+use Rattle.rpki.specs.Values.{IsEnc}
+use Rattle.rpki_der.specs.Skipping.{levels}
+use Rattle.rpki_der.proofs.FormatLaws.{one_meaning}
 use Rattle.rpki_der.proofs.Formats.{one_meant}
-use Rattle.rpki_ext.proofs.OneMeaning.{unambiguous}
+use Rattle.rpki_parts.specs.Algorithms.{algorithm_format}
+use Rattle.rpki_parts.specs.Keys.{public_key_format}
+use Rattle.rpki_parts.specs.Validities.{validity_format}
+use Rattle.rpki_parts.proofs.NameReads.{name_sequence}
+use Rattle.rpki_parts.proofs.SignedFormats.{signed_parts}
+use Rattle.rpki_cert.specs.Certificates.{certificate_content_format, certificate_format, tbs_content_format, version_format}
+use Rattle.rpki_cert.proofs.CertificateFormats.{certificate_lawful}
 use Rattle.rpki_files.specs.PolicyPresence.{StandBefore, tags_before}
 use Rattle.rpki_notes.specs.Notes.{AreNotes, AreThose, Breaks, HaveExtensions, IsNoteOf, every_note}
 use Rattle.rpki_notes.specs.declared.note.Note.{Note}
@@ -43,76 +49,62 @@ module _ {X : Type 0} (P : X → Type 0) where
 -- ---- a certificate and its extensions
 
 -- a value stands before what follows it
-before : (tag : ℕ) (content text more : List ℕ) → IsEnc tag content text → Begins (IsEnc tag) (text ++ more) content more
-before tag content text more is = record { text = text; encoded = is; parts = refl }
+before : (tag : ℕ) (content text more octets : List ℕ) → IsEnc tag content text → octets ≡ text ++ more → Begins (IsEnc tag) octets content more
+before tag content text more octets is e = record { text = text; encoded = is; parts = e }
 
 module _ (octets : List ℕ) (c : CertFields) (m : Means IsCertificate c octets) where
   -- its extensions stand where they have to
   pub extensions_stand : (xs : List Extension) × HaveExtensions xs octets
-  unfolding enc length_octets
+  unfolding certificate_content_format tbs_content_format version_format algorithm_format validity_format public_key_format
   extensions_stand =
-      let outer = m.1.encoded in
-      let whole = outer.content_is in
-      let tbs = whole.fields_are in
-      let f = tbs.content_is in
-      let version : IsEnc 0xA0 (2 ∷ 1 ∷ 2 ∷ []) version_3 = record { octet = omega arith; low_tag = omega arith; octets = (omega arith, (omega arith, (omega arith, tt))); short = omega arith; is = refl } in
-      let fields : StandBefore tags_before (f.extensions ++ []) tbs.content = (
-        2 ∷ 1 ∷ 2 ∷ [],
-        concat (f.serial ∷ f.algorithm ∷ f.issuer ∷ f.validity ∷ f.subject ∷ f.key ∷ f.extensions ∷ []),
-        record { text = version_3; encoded = version; parts = f.is },
+      let (whole, (signed, (inside, fields, data_enc)), enc_is) = m.1.encoded in
+      let (version, _, v, (serial, _, n, (algorithm, _, a, (issuer, _, i, (validity, _, p, (subject, _, s, (key, last, k, tagged, e6), e5), e4), e3), e2), e1), e0) = fields in
+      let (within, (elements, (xs, are, gives), sequence), outer) = tagged in
+      let parts = signed_parts c.signed_data whole signed in (
+        xs,
         (
-          _,
-          _,
-          before _ _ _ _ f.serial_is.number.enc,
-          (
-            _,
-            _,
-            before _ _ _ _ f.algorithm_is.sequence,
-            (
+          elements,
+          record {
+            whole = whole;
+            data_is = inside;
+            rest = last;
+            begins = (m.0, record { text = m.1.text; encoded = enc_is; parts = m.1.parts });
+            data_begins = (parts.algorithm ++ parts.signature, record { text = c.signed_data.message; encoded = data_enc; parts = parts.is });
+            fields_before = (
               _,
               _,
-              before _ _ _ _ f.issuer_is.parts_are.sequence,
+              before _ _ version _ _ v.2 e0,
               (
                 _,
                 _,
-                before _ _ _ _ f.validity_is.sequence,
+                before _ _ serial _ _ n.number.enc e1,
                 (
                   _,
                   _,
-                  before _ _ _ _ f.subject_is.parts_are.sequence,
+                  before _ _ algorithm _ _ a.2 e2,
                   (
                     _,
                     _,
-                    before _ _ _ _ f.key_is.sequence,
-                    refl,
+                    before _ _ issuer _ _ (name_sequence levels i).sequence e3,
+                    (
+                      _,
+                      _,
+                      before _ _ validity _ _ p.2 e4,
+                      (_, _, before _ _ subject _ _ (name_sequence levels s).sequence e5, (_, _, before _ _ key _ _ k.2 e6, refl)),
+                    ),
                   ),
                 ),
               ),
-            ),
-          ),
-        ),
-      ) in
-      let n = f.extensions_is in
-      let inner : IsEnc SEQUENCE f.elements n.0 = subst (λ (e : List ℕ). IsEnc SEQUENCE e n.0) n.2.2 n.2.1 in (
-        f.triples,
-        (
-          f.elements,
-          record {
-            whole = outer.content;
-            data_is = tbs.content;
-            rest = f.extensions ++ [];
-            begins = (m.0, record { text = m.1.text; encoded = outer.enc; parts = m.1.parts });
-            data_begins = (concat (whole.signed_is.algorithm ∷ whole.signed_is.signature ∷ []), record { text = c.signed_data.message; encoded = tbs.enc; parts = whole.signed_is.is });
-            fields_before = fields;
-            elements_begin = ([], record { text = f.extensions; encoded = (n.0, inner, n.1); parts = refl });
+            );
+            elements_begin = ([], record { text = last; encoded = (within, sequence, outer); parts = sym (append-nil last) });
           },
-          f.elements_are,
+          are,
         ),
       )
 
   -- it is the only one
   only_one : (d : CertFields) → Means IsCertificate d octets → d ≡ c
-  only_one d n = one_meant IsCertificate (unambiguous cert_at IsCertificate cert_reads) d c octets n m
+  only_one d n = one_meant IsCertificate (one_meaning (certificate_format levels) refl certificate_lawful) d c octets n m
 
   -- so a note is told by its fields and its extensions
   pub told : (n : Note) (is : Bool) → ((xs : List Extension) → HaveExtensions xs octets → ((is ≡ true) ↔ Breaks n c.fields xs)) → ((is ≡ true) ↔ IsNoteOf octets n)

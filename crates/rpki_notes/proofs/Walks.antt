@@ -1,8 +1,7 @@
 -- A walk over extensions, and one of them that has what is looked for.
 use Rattle.std.proofs.Common.{◌≡◌, ◌↔◌, ℕ, List, [], ◌∷◌, Some, true, refl, sym, ap, subst, ◌∙◌, inl, inr, arith, length}
 use Rattle.rpki.specs.Encoding.{Begins}
-use Rattle.rpki.specs.Extensions.{Extension, IsExtension}
-use Rattle.rpki.specs.Extensions.Reading.{extension_at}
+use Rattle.rpki.specs.Extensions.{Extension, IsExtension, extension_format}
 use Rattle.rpki.specs.Kinds.{is_of}
 use Rattle.rpki.specs.Sequences.{AreEncodings}
 use Rattle.rpki_der.proofs.ExtensionReads.{extension_reads, extension_shrinks}
@@ -13,15 +12,15 @@ use Rattle.rpki_notes.specs.Notes.{HaveOne}
 nothing_there : (xs : List Extension) → AreEncodings IsExtension xs [] → xs ≡ []
 nothing_there [] h = refl
 nothing_there (x ∷ xs) (a, b, is, more, e) =
-    let read : extension_at [] ≡ Some (x, b) = ap extension_at e ∙ extension_reads.again x a b is in
+    let read : extension_format.read [] ≡ Some (x, b) = ap extension_format.read e ∙ extension_reads.again x a b is in
     absurd (omega (arith, extension_shrinks [] x b read))
 
 -- what is read is the first of the extensions
-first_is : (octets : List ℕ) (x : Extension) (rest : List ℕ) → extension_at octets ≡ Some (x, rest) → (xs : List Extension) → AreEncodings IsExtension xs octets
+first_is : (octets : List ℕ) (x : Extension) (rest : List ℕ) → extension_format.read octets ≡ Some (x, rest) → (xs : List Extension) → AreEncodings IsExtension xs octets
     → (more : List Extension) × (xs ≡ x ∷ more) × AreEncodings IsExtension more rest
 first_is octets x rest read [] h = absurd (omega (arith, extension_shrinks octets x rest read, ap length h))
 first_is octets x rest read (y ∷ ys) (a, b, is, more, e) =
-    let again : extension_at octets ≡ Some (y, b) = ap extension_at e ∙ extension_reads.again y a b is in
+    let again : extension_format.read octets ≡ Some (y, b) = ap extension_format.read e ∙ extension_reads.again y a b is in
     let same : (y, b) ≡ (x, rest) = some_is {A = Extension × List ℕ} (y, b) (x, rest) (sym again ∙ read) in (
       ys,
       ap (λ (p : Extension × List ℕ). p.0 ∷ ys) same,
@@ -58,7 +57,7 @@ module _ (ids : List (List ℕ)) (P : Extension → Type 0) where
         let l = left xs are in
         none_begins octets none l.0 l.1 (l.2.0 one)
 
-    module _ (x : Extension) (rest : List ℕ) (read : extension_at octets ≡ Some (x, rest)) where
+    module _ (x : Extension) (rest : List ℕ) (read : extension_format.read octets ≡ Some (x, rest)) where
       -- the first has it
       pub first_has : is_of ids x ≡ true → P x → HaveOne ids P xs
       first_has named has =
@@ -67,7 +66,7 @@ module _ (ids : List (List ℕ)) (P : Extension → Type 0) where
           l.2.1 (subst (λ (ys : List Extension). HaveOne ids P ys) (sym f.1) (inl (named, has)))
 
   -- the first hasn't it
-  pub goes_on : (all octets : List ℕ) (left : IsLookedFor all octets) (x : Extension) (rest : List ℕ) (read : extension_at octets ≡ Some (x, rest))
+  pub goes_on : (all octets : List ℕ) (left : IsLookedFor all octets) (x : Extension) (rest : List ℕ) (read : extension_format.read octets ≡ Some (x, rest))
       → ((is_of ids x ≡ true) × P x → ⊥) → IsLookedFor all rest
   goes_on all octets left x rest read not xs are =
       let l = left xs are in

@@ -6,8 +6,7 @@ use Rattle.std.proofs.Common.{◌≡◌, ◌<◌, ◌^◌, ◌++◌, ℕ, List, 
 use Rattle.std.proofs.lemmas.Bool.{false≢true}
 use Rattle.std.proofs.lemmas.List.{append-nil}
 use Rattle.rpki.specs.Encoding.{Begins}
-use Rattle.rpki.specs.Extensions.{Extension, IsExtension, content_of_some, extension, extension_of_some, extension_pieces}
-use Rattle.rpki.specs.Extensions.Reading.{extension_at}
+use Rattle.rpki.specs.Extensions.{Extension, IsExtension, content_of_some, extension, extension_of_some, extension_format}
 use Rattle.rpki.specs.Overclaim.{Overclaim}
 use Rattle.rpki.specs.Overclaim.TheVariants.{Refuse, Trim}
 use Rattle.rpki.specs.Overclaims.{as_identifier, ip_identifier}
@@ -19,6 +18,7 @@ use Rattle.rpki.specs.Unions.{text_of}
 use Rattle.rpki.specs.Values.{AreOctets, enc, length_octets}
 use Rattle.rpki.specs.Writers.{Writes}
 use Rattle.rpki_der.proofs.ExtensionReads.{extension_reads, extension_shrinks}
+use Rattle.rpki_der.proofs.ExtensionWritten.{extension_encoded, extension_inside_octets}
 use Rattle.rpki_der.proofs.IdentifierReads.{oid_takes}
 use Rattle.rpki_der.proofs.Octets.{AreOctets-parts, some_is}
 use Rattle.rpki_der.proofs.ValueWritten.{flag_made, identifier_made, made, pieces_short}
@@ -36,11 +36,11 @@ module _ (octets : List ℕ) where
   nothing_kept content same empty = record { none = λ e. same ∙ e; is = λ x is. absurd (not_nothing x (subst (λ (b : List ℕ). IsExtension x b) empty is)) }
 
   -- it is the one that is read
-  pub content_read : (y : Extension) (rest : List ℕ) → extension_at octets ≡ Some (y, rest) → IsContentOf octets y.content
+  pub content_read : (y : Extension) (rest : List ℕ) → extension_format.read octets ≡ Some (y, rest) → IsContentOf octets y.content
   content_read y rest read =
       let not_empty : octets ≡ [] → ⊥ = λ empty. omega (arith, extension_shrinks octets y rest read, ap length empty) in
       let same = λ (x : Extension) (is : IsExtension x octets).
-      let again : extension_at octets ≡ Some (x, []) = ap extension_at (sym (append-nil octets)) ∙ extension_reads.again x octets [] is in
+      let again : extension_format.read octets ≡ Some (x, []) = ap extension_format.read (sym (append-nil octets)) ∙ extension_reads.again x octets [] is in
       let one : (y, rest) ≡ (x, []) = some_is {A = Extension × List ℕ} (y, rest) (x, []) (sym read ∙ again) in
       ap (λ (p : Extension × List ℕ). p.0.content) one in
       record { none = λ e. absurd (not_empty e); is = same }
@@ -54,26 +54,10 @@ module _ (octets : List ℕ) where
 
 -- ---- what is written
 
-inside_octets : (tag : ℕ) (content : List ℕ) → AreOctets (enc tag content) → AreOctets content
-unfolding enc
-inside_octets tag content h = (AreOctets-parts (length_octets (length content)) content h.1).1
-
 module _ (id : List ℕ) (oid : IsOid id) where
   -- it is read
   is_written : (content : List ℕ) → length (content_of_some id true (Some content)) < 2 ^ 32 → AreOctets (extension id true content) → IsExtension (record { identifier = id; critical = true; content = content }) (extension id true content)
-  is_written content short octets =
-      let pieces = extension_pieces id true content in
-      let inside = inside_octets SEQUENCE (concat pieces) octets in
-      let (identifier_short, (flag_short, (content_short, _))) = pieces_short pieces (short, inside) in
-      record {
-        identifier = enc OBJECT_IDENTIFIER id;
-        flag = bool_or_false true;
-        content = enc OCTET_STRING content;
-        identifier_is = identifier_made id oid identifier_short;
-        flag_is = flag_made true;
-        content_is = made OCTET_STRING content (omega arith) content_short;
-        sequence = record { octet = omega arith; low_tag = omega arith; octets = inside; short = short; is = refl };
-      }
+  is_written content short octets = extension_encoded (record { identifier = id; critical = true; content = content }) oid (short, extension_inside_octets id true content octets)
 
   module _ (c : Option (List ℕ)) (short : length (content_of_some id true c) < 2 ^ 32) (octets : AreOctets (extension_of_some id true c)) where
     -- an extension was written, or none

@@ -1,17 +1,18 @@
 -- The name of a key is a name.
-use Rattle.std.specs.List.{concat}
-use Rattle.std.proofs.Common.{◌≡◌, ℕ, ◌*◌, ◌/◌, ◌%◌, ◌<◌, true, List, [], ◌∷◌, ◌++◌, length, refl, sym, ap, ◌∙◌, arith, inl, inr}
+use Rattle.std.proofs.Common.{◌≡◌, ℕ, ◌*◌, ◌/◌, ◌%◌, ◌^◌, ◌<◌, true, List, [], ◌∷◌, ◌++◌, length, refl, sym, ap, ◌∙◌, arith, inl, inr}
 use Rattle.std.proofs.lemmas.List.{append-nil, length-append}
 use Rattle.std.proofs.lemmas.Bool.{cases_lt, lt-ltb, le-ltb}
-use Rattle.rpki_der.specs.Values.{AreOctets, enc, length_octets, IsEnc, sequence}
-use Rattle.rpki_der.specs.Skipping.{IsSkippableWithin, IsSkippable}
+use Rattle.rpki_der.specs.Values.{AreOctets, enc, length_octets, IsEnc}
+use Rattle.rpki_der.specs.Skipping.{levels, IsSkippableWithin, IsSkippable}
+use Rattle.rpki_der.specs.Primitives.{IsOid}
+use Rattle.rpki_der.specs.Formats.{tagged}
+use Rattle.rpki_der.proofs.FormatAnswers.{IsAlone, format_laws}
+use Rattle.rpki_der.proofs.FormatLaws.{tagged_lawful}
 use Rattle.rpki_der.specs.Tags.{OBJECT_IDENTIFIER, PRINTABLE_STRING, SEQUENCE, SET}
-use Rattle.rpki_der.proofs.Octets.{AreOctets-append}
-use Rattle.rpki_der.proofs.ValueWritten.{Short, made, content_short, pieces_short, plain_oid}
-use Rattle.rpki_parts.specs.Names.{common_name, Attribute}
-use Rattle.rpki_parts.specs.Names.Reading.{is_name}
-use Rattle.rpki_parts.specs.KeyNames.{digit, hexadecimal, name_of_digits}
-use Rattle.rpki_parts.proofs.NameReads.{IsAttribute, IsPart, AreParts, is_name_again}
+use Rattle.rpki_der.proofs.ValueWritten.{plain_oid}
+use Rattle.rpki_parts.specs.Names.{common_name, Attribute, attribute_format, is_name, rdn_sequence_format, relative_distinguished_name_format}
+use Rattle.rpki_parts.specs.KeyNames.{common_name_format, digit, hexadecimal, key_name_format, name_of_digits}
+use Rattle.rpki_parts.proofs.NameReads.{is_name_again}
 
 digit_small : (n : ℕ) → n < 16 → digit n < 256
 digit_small n h =
@@ -50,43 +51,34 @@ before_digits = SEQUENCE ∷ 51 ∷ set_octets []
 
 -- a key's name is a fixed front and the 40 digits
 pub name-digits : (digits : List ℕ) → length digits ≡ 40 → name_of_digits digits ≡ before_digits ++ digits
+unfolding key_name_format
 name-digits digits e =
     let id : enc OBJECT_IDENTIFIER common_name ≡ OBJECT_IDENTIFIER ∷ 3 ∷ common_name = enc_short OBJECT_IDENTIFIER common_name 3 refl (omega arith) in
     let one : enc PRINTABLE_STRING digits ≡ PRINTABLE_STRING ∷ 40 ∷ digits = enc_short PRINTABLE_STRING digits 40 e (omega arith) in
     let two : enc SEQUENCE (attribute_content digits) ≡ attribute_octets digits = enc_short SEQUENCE (attribute_content digits) 47 (omega arith) (omega arith) in
     let three : enc SET (attribute_octets digits) ≡ set_octets digits = enc_short SET (attribute_octets digits) 49 (omega arith) (omega arith) in
     let four : enc SEQUENCE (set_octets digits) ≡ before_digits ++ digits = enc_short SEQUENCE (set_octets digits) 51 (omega arith) (omega arith) in
-    rw (id, one, append-nil digits, two, three, append-nil digits) four
+    rw (id, one, two, three) four
 
 primitive : (content b : List ℕ) → IsEnc PRINTABLE_STRING content b → IsSkippable b
 unfolding IsSkippableWithin
 primitive content b e = (record { tag = PRINTABLE_STRING; content = content; enc = e }, inl refl)
 
+key_name_alone : IsAlone key_name_format
+unfolding key_name_format
+key_name_alone = record { law = tagged_lawful SEQUENCE (tagged SET common_name_format) (omega arith) (omega arith) (tagged_lawful SET common_name_format (omega arith) (omega arith) (search format_laws)); none = refl }
+
 -- a key's name is a Name
 pub is_name_of_digits : (digits : List ℕ) → length digits ≡ 40 → AreOctets digits → is_name (name_of_digits digits) ≡ true
+unfolding key_name_format rdn_sequence_format relative_distinguished_name_format attribute_format
 is_name_of_digits digits e octets =
-    let whole : Short (before_digits ++ digits) = (omega (arith, length-append before_digits digits), AreOctets-append before_digits digits (omega arith) octets) in
-    let short : Short (name_of_digits digits) = rw (name-digits digits e) whole in
-    let attribute : List ℕ = sequence (enc OBJECT_IDENTIFIER common_name ∷ enc PRINTABLE_STRING digits ∷ []) in
-    let set : List ℕ = enc SET attribute in
-    let one = content_short SEQUENCE (concat (set ∷ [])) short in
-    let two = (pieces_short (set ∷ []) one).0 in
-    let three = content_short SET attribute two in
-    let four = pieces_short (enc OBJECT_IDENTIFIER common_name ∷ enc PRINTABLE_STRING digits ∷ []) (content_short SEQUENCE (concat (enc OBJECT_IDENTIFIER common_name ∷ enc PRINTABLE_STRING digits ∷ [])) three) in
-    let value = made PRINTABLE_STRING digits (omega arith) four.1.0 in
+    let short : length (name_of_digits digits) < 2 ^ 32 = rw (name-digits digits e) (omega (arith, length-append before_digits digits)) in
+    let id : IsOid common_name × AreOctets common_name = (plain_oid 0x55 (4 ∷ 3 ∷ []) (omega arith, (omega arith, (omega arith, tt))), omega arith) in
+    let (set, (attribute, (pieces, (type, value, type_is, value_is, both), attribute_is), set_is), name_is) = key_name_alone.law.made digits (id, octets) short in
     let a : Attribute = record { type_id = common_name; value_tag = PRINTABLE_STRING } in
-    let encoded : IsAttribute a attribute = record {
-      identifier = enc OBJECT_IDENTIFIER common_name;
-      content = digits;
-      value = enc PRINTABLE_STRING digits;
-      identifier_is = record { enc = made OBJECT_IDENTIFIER common_name (omega arith) four.0; oid = plain_oid 0x55 (4 ∷ 3 ∷ []) (omega arith, (omega arith, (omega arith, tt))) };
-      value_is = value;
-      skippable = primitive digits (enc PRINTABLE_STRING digits) value;
-      sequence = made SEQUENCE (concat (enc OBJECT_IDENTIFIER common_name ∷ enc PRINTABLE_STRING digits ∷ [])) (omega arith) three;
-    } in
-    let part : IsPart (a ∷ []) set = record { content = attribute; elements = (attribute, [], encoded, refl, sym (append-nil attribute)); some = omega arith; set = made SET attribute (omega arith) two } in
-    let parts : AreParts ((a ∷ []) ∷ []) (name_of_digits digits) = record { content = concat (set ∷ []); elements = (set, [], part, refl, refl); sequence = made SEQUENCE (concat (set ∷ [])) (omega arith) short } in
-    is_name_again ((a ∷ []) ∷ []) (name_of_digits digits) parts
+    let encoded : (attribute_format levels).encodes a attribute = (pieces, (type, value, type_is, (digits, value_is, primitive digits value value_is), both), attribute_is) in
+    let part : (relative_distinguished_name_format levels).encodes (a ∷ []) set = (attribute, ((attribute, [], encoded, refl, sym (append-nil attribute)), omega arith), set_is) in
+    is_name_again ((a ∷ []) ∷ []) (name_of_digits digits) (set, (set, [], part, refl, sym (append-nil set)), name_is)
 
 -- the name of a key, by its identifier
 pub record IsKeyName (id : List ℕ) : Type 0 where

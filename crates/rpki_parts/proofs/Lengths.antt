@@ -1,6 +1,6 @@
 -- How long what is written is.
 use Rattle.std.specs.Prelude.{nat_le, nat_lt, ◌&&◌}
-use Rattle.std.proofs.Common.{ℕ, ◌+◌, ◌^◌, ◌≤◌, List, [], ◌∷◌, ◌++◌, length, arith, inl, inr}
+use Rattle.std.proofs.Common.{ℕ, ◌+◌, ◌^◌, ◌≤◌, List, ◌∷◌, ◌++◌, length, arith, inl, inr}
 use Rattle.std.proofs.lemmas.List.{length-append}
 use Rattle.rpki_der.specs.Values.{enc, length_octets}
 use Rattle.rpki_der.specs.Times.{Moment, time}
@@ -16,13 +16,13 @@ time_short m =
       | inr f ↦ rw f (omega arith)
     ]
 
--- a content that does not fit makes what it stands in not fit
-pub bits_too_long : (front bits : List ℕ) → 2 ^ 32 ≤ length bits + 1 → 2 ^ 32 ≤ length (front ++ (enc BIT_STRING (0 ∷ bits) ++ []))
-bits_too_long front bits h = omega (arith, length-append front (enc BIT_STRING (0 ∷ bits) ++ []), length-append (enc BIT_STRING (0 ∷ bits)) [], enc_longer BIT_STRING (0 ∷ bits))
+-- bits are shorter than what they stand in
+pub bits_longer : (front bits : List ℕ) → length bits + 1 ≤ length (front ++ enc BIT_STRING (0 ∷ bits))
+bits_longer front bits = omega (arith, length-append front (enc BIT_STRING (0 ∷ bits)), enc_longer BIT_STRING (0 ∷ bits))
 
 -- two Times that are written have at most 34 octets
-pub two_times_short : (m n : Moment) → length (time m ++ (time n ++ [])) ≤ 34
-two_times_short m n = omega (arith, length-append (time m) (time n ++ []), length-append (time n) [], time_short m, time_short n)
+pub two_times_short : (m n : Moment) → length (time m ++ time n) ≤ 34
+two_times_short m n = omega (arith, length-append (time m) (time n), time_short m, time_short n)
 
 -- what is too long stays so behind other octets
 pub longer_behind : (front rest : List ℕ) → 2 ^ 32 ≤ length rest → 2 ^ 32 ≤ length (front ++ rest)

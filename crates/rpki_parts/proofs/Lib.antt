@@ -1,13 +1,8 @@
 pub mod Texts
-pub mod Following
-pub mod AlgorithmReads
-pub mod AlgorithmWritten
-pub mod KeyReads
-pub mod KeyWritten
-pub mod ValidityReads
-pub mod ValidityWritten
 pub mod Lengths
+pub mod PartFormats
 pub mod NameReads
+pub mod DeeperNames
 pub mod NameForms
 pub mod NameTexts
 pub mod NameValues
@@ -16,6 +11,5 @@ pub mod DotSegments
 pub mod UriTests
 pub mod UriParents
 pub mod UriEquivalences
-pub mod SignedDataReads
-pub mod SignedDataWritten
+pub mod SignedFormats
 pub mod KeyNames

@@ -14,12 +14,13 @@ use Rattle.rpki_der.proofs.Octets.{bind_some, some, some_is, both_are, nothing, 
 use Rattle.rpki_der.proofs.Sequences.{sequence_again}
 use Rattle.rpki_der.proofs.ValueReads.{value_again, value_shorter}
 use Rattle.rpki_der.proofs.SequenceWalks.{goes_on, rejected, over_end}
-use Rattle.rpki_parts.specs.Names.{common_name, serial_number, Attribute, IsName}
-use Rattle.rpki_parts.specs.Names.Reading.{attribute_at}
+use Rattle.rpki_der.specs.Skipping.{levels}
+use Rattle.rpki_der.proofs.FormatAnswers.{alone_reads}
+use Rattle.rpki_parts.specs.Names.{common_name, serial_number, Attribute, IsName, attribute_format, name_format, rdn_sequence_format, relative_distinguished_name_format}
 use Rattle.rpki_parts.specs.NameForms.{of_type, IsTextTag, AreNameAttributes, IsRpkiName}
 use Rattle.rpki_parts.specs.NameForms.Reading.{is_text_tag, unseen, seen_with, seen_in}
 use Rattle.rpki_parts.specs.declared.name_forms.ReadAttributes.{ReadAttributes}
-use Rattle.rpki_parts.proofs.NameReads.{IsAttribute, IsPart, AreParts, attribute_reads, attribute_shrinks}
+use Rattle.rpki_parts.proofs.NameReads.{attribute_alone, attribute_shrinks, name_sequence}
 
 -- reading a SET uses octets up
 pub set_shrinks : Shrinks (value_at SET)
@@ -50,16 +51,17 @@ module _ (strict : Bool) where
   next s text c rest part parts was is more (Some t) e = goes_on (value_at SET) (seen_in strict) set_shrinks s text c rest was t (is ∙ e) ∙ more t
 
   -- the walk over a part takes a step for each of its attributes
-  pub in_part : (s : ReadAttributes) (part : List Attribute) (c : List ℕ) → AreEncodings IsAttribute part c → seen_in strict s c ≡ steps (seen_with strict) s part
+  pub in_part : (s : ReadAttributes) (part : List Attribute) (c : List ℕ) → AreEncodings (attribute_format levels).encodes part c → seen_in strict s c ≡ steps (seen_with strict) s part
   unfolding over
-  in_part s part c r = rw (sequence_again attribute_at IsAttribute attribute_reads attribute_shrinks part c r) refl
+  in_part s part c r = rw (sequence_again (attribute_format levels).read (attribute_format levels).encodes (alone_reads (attribute_format levels) (attribute_alone levels)) attribute_shrinks part c r) refl
 
   -- the walk over the parts takes a step for each attribute
-  pub seen_in_parts : (parts : List (List Attribute)) (text : List ℕ) (s : ReadAttributes) → AreEncodings IsPart parts text → over (value_at SET) (seen_in strict) s text ≡ steps (seen_with strict) s (all_of parts)
+  pub seen_in_parts : (parts : List (List Attribute)) (text : List ℕ) (s : ReadAttributes) → AreEncodings (relative_distinguished_name_format levels).encodes parts text → over (value_at SET) (seen_in strict) s text ≡ steps (seen_with strict) s (all_of parts)
+  unfolding relative_distinguished_name_format
   seen_in_parts [] text s r = rw r (over_end (value_at SET) (seen_in strict) s)
-  seen_in_parts (part ∷ parts) text s (a, b, p, more, e) =
-      let was : value_at SET text ≡ some {A = List ℕ × List ℕ} (p.content, b) = ap (value_at SET) e ∙ value_again SET p.content a b p.set in
-      next s text p.content b part parts was (in_part s part p.content p.elements) (λ t. seen_in_parts parts b t more) (steps (seen_with strict) s part) refl ∙ sym (steps_append (seen_with strict) s part (all_of parts))
+  seen_in_parts (part ∷ parts) text s (a, b, (c, (elements, some_are), set), more, e) =
+      let was : value_at SET text ≡ some {A = List ℕ × List ℕ} (c, b) = ap (value_at SET) e ∙ value_again SET c a b set in
+      next s text c b part parts was (in_part s part c elements) (λ t. seen_in_parts parts b t more) (steps (seen_with strict) s part) refl ∙ sym (steps_append (seen_with strict) s part (all_of parts))
 
 -- ---- one attribute more
 
@@ -190,22 +192,32 @@ module _ (strict : Bool) where
       (m.0, m.1, once_is m.0.name (omega arith))
 
   module _ (name c rest : List ℕ) (was : value_at SEQUENCE name ≡ some {A = List ℕ × List ℕ} (c, rest)) where
-    elements : (parts : List (List Attribute)) → AreParts parts name → over (value_at SET) (seen_in strict) nothing_seen c ≡ steps (seen_with strict) nothing_seen (all_of parts)
-    elements parts s =
-        let whole : value_at SEQUENCE name ≡ some {A = List ℕ × List ℕ} (s.content, []) = ap (value_at SEQUENCE) (sym (append-nil name)) ∙ value_again SEQUENCE s.content name [] s.sequence in
-        let same : s.content ≡ c = (both_are {A = List ℕ} {B = List ℕ} (s.content, []) (c, rest) (sym whole ∙ was)).0 in
-        seen_in_parts strict parts c nothing_seen (subst (λ (b : List ℕ). AreEncodings IsPart parts b) same s.elements)
+    elements : (parts : List (List Attribute)) → (rdn_sequence_format levels).encodes parts name → over (value_at SET) (seen_in strict) nothing_seen c ≡ steps (seen_with strict) nothing_seen (all_of parts)
+    unfolding rdn_sequence_format
+    elements parts (content, are, sequence) =
+        let whole : value_at SEQUENCE name ≡ some {A = List ℕ × List ℕ} (content, []) = ap (value_at SEQUENCE) (sym (append-nil name)) ∙ value_again SEQUENCE content name [] sequence in
+        let same : content ≡ c = (both_are {A = List ℕ} {B = List ℕ} (content, []) (c, rest) (sym whole ∙ was)).0 in
+        seen_in_parts strict parts c nothing_seen (subst (λ (b : List ℕ). AreEncodings (relative_distinguished_name_format levels).encodes parts b) same are)
 
     -- a name that passes the walk with a CommonName has the form of the RPKI
     pub form_is : (t : ReadAttributes) → IsName name name → over (value_at SET) (seen_in strict) nothing_seen c ≡ Some t → t.name ≡ true → IsRpkiName strict name
-    form_is t n e named = record { parts = n.parts; parts_are = n.parts_are; attributes_are = attributes_are (all_of n.parts) t (sym (elements n.parts n.parts_are) ∙ e) named }
+    unfolding name_format
+    form_is t ((parts, are), kept) e named = record { parts = parts; parts_are = are; attributes_are = attributes_are (all_of parts) t (sym (elements parts are) ∙ e) named }
 
-    -- a name of the form of the RPKI passes the walk
-    pub is_form : IsRpkiName strict name → (t : ReadAttributes) × (over (value_at SET) (seen_in strict) nothing_seen c ≡ Some t) × (t.name ≡ true)
+    is_form : IsRpkiName strict name → (t : ReadAttributes) × (over (value_at SET) (seen_in strict) nothing_seen c ≡ Some t) × (t.name ≡ true)
     is_form h = let m = are_attributes (all_of h.parts) h.attributes_are in (m.0, elements h.parts h.parts_are ∙ m.1, m.2)
+
+    -- a name of the form of the RPKI passes the walk with a CommonName
+    pub form_named : (t : ReadAttributes) → over (value_at SET) (seen_in strict) nothing_seen c ≡ Some t → IsRpkiName strict name → t.name ≡ true
+    form_named t e h = let m = is_form h in ap (λ s. s.name) (some_is t m.0 (sym e ∙ m.1)) ∙ m.2
+
+    -- and where the walk ends in nothing, the name isn't of that form
+    pub no_form : over (value_at SET) (seen_in strict) nothing_seen c ≡ None → IsRpkiName strict name → ⊥
+    no_form e h = let m = is_form h in nothing m.0 (sym e ∙ m.1)
 
   -- a Name is a SEQUENCE
   pub is_sequence : (name : List ℕ) → IsName name name → value_at SEQUENCE name ≡ None → ⊥
   is_sequence name n e =
-      let whole : value_at SEQUENCE name ≡ some {A = List ℕ × List ℕ} (n.parts_are.content, []) = ap (value_at SEQUENCE) (sym (append-nil name)) ∙ value_again SEQUENCE n.parts_are.content name [] n.parts_are.sequence in
-      nothing {B = ⊥} (n.parts_are.content, []) (sym e ∙ whole)
+      let s = name_sequence _ n in
+      let whole : value_at SEQUENCE name ≡ some {A = List ℕ × List ℕ} (s.content, []) = ap (value_at SEQUENCE) (sym (append-nil name)) ∙ value_again SEQUENCE s.content name [] s.sequence in
+      nothing {B = ⊥} (s.content, []) (sym e ∙ whole)

@@ -4,7 +4,7 @@ use Rattle.std.specs.Prelude.{◌≡◌, ◌≤◌, ◌⊎◌, ℕ, Bool, true, 
 use Rattle.std.specs.List.{AllByRecursion}
 use Rattle.rpki_der.specs.Skipping.{levels}
 use Rattle.rpki_der.specs.Tags.{PRINTABLE_STRING, UTF8_STRING}
-use Rattle.rpki_parts.specs.Names.{common_name, serial_number, Attribute, IsRdnSequenceWithin}
+use Rattle.rpki_parts.specs.Names.{common_name, serial_number, Attribute, rdn_sequence_format}
 pub mod Reading
 
 -- the attributes of this type
@@ -27,7 +27,7 @@ pub record AreNameAttributes (strict : Bool) (attributes : List Attribute) : Typ
 -- the name is of the form that certificates have, in whatever parts its attributes stand (own)
 pub record IsRpkiName (strict : Bool) (name : List ℕ) : Type 0 where
   pub parts : List (List Attribute)
-  pub parts_are : IsRdnSequenceWithin levels parts name
+  pub parts_are : (rdn_sequence_format levels).encodes parts name
   pub attributes_are : AreNameAttributes strict (flat_map (λ part. part) parts)
 
 -- the name of a router has this form in either mode (own)

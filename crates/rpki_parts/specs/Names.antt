@@ -1,12 +1,14 @@
 -- Names (RFC 5280 4.1.2.4).
-use Rattle.std.specs.Prelude.{◌≡◌, ℕ, ◌≤◌, List, [], ◌∷◌, length}
-use Rattle.rpki_der.specs.Values.{IsEnc, IsSequence}
-use Rattle.rpki_der.specs.Primitives.{IsObjectIdentifier}
-use Rattle.rpki_der.specs.Sequences.{AreEncodings}
+use Rattle.std.specs.Prelude.{ℕ, Bool, List, [], ◌∷◌, Option, Some, None, is_some}
+use Rattle.rpki_der.specs.BasicFormats.{object_identifier}
+use Rattle.rpki_der.specs.Choices.{whole}
+use Rattle.rpki_der.specs.FormatChoices.{kept}
+use Rattle.rpki_der.specs.Formats.{Format, SEQUENCE_WITH, SEQUENCE_OF, SET_OF_SOME, ◌∶◌, ◌⨟◌, part}
 use Rattle.rpki_der.specs.Skipping.{levels, IsSkippableWithin}
-use Rattle.rpki_der.specs.Tags.{SEQUENCE, SET}
+use Rattle.rpki_der.specs.Skipping.Reading.{skip_within}
+use Rattle.rpki_der.specs.Values.{IsEnc}
+use Rattle.rpki_der.specs.Values.Reading.{◌>>=◌}
 use Rattle.rpki_der.specs.Writers.{Part}
-pub mod Reading
 
 -- id-at-commonName: 2.5.4.3 (RFC 5280 A.1)
 abbrev pub common_name : List ℕ
@@ -22,45 +24,60 @@ pub record Attribute : Type 0 where
   pub type_id : List ℕ
   pub value_tag : ℕ
 
+-- reads past a value that can be skipped, and gives its identifier octet
+abbrev pub tag_within : ℕ → List ℕ → Option (ℕ × List ℕ)
+tag_within depth [] = None
+tag_within depth (tag ∷ bytes) = do
+  v ← skip_within depth (tag ∷ bytes)
+  Some (tag, v.1)
+
+-- any value that can be skipped, of which the identifier octet is kept; it can't be written
+abbrev pub skipped_value : ℕ → Format ℕ
+skipped_value depth = record {
+  encodes = λ tag b. (content : List ℕ) × IsEnc tag content b × IsSkippableWithin depth b;
+  read = tag_within depth;
+  fits = λ tag. ⊥;
+  written = λ tag. [];
+  inside = λ tag. [];
+  heads = None;
+  least = 1;
+  shut = [];
+}
+
 -- AttributeTypeAndValue ::= SEQUENCE {
 --   type AttributeType, value AttributeValue }   (RFC 5280 4.1.2.4)
 -- of the value no more is tested than that it can be skipped (own)
-pub record IsAttributeTypeAndValueWithin (depth : ℕ) (a : Attribute) (b : List ℕ) : Type 0 where
-  pub identifier : List ℕ
-  pub content : List ℕ
-  pub value : List ℕ
-  pub identifier_is : IsObjectIdentifier a.type_id identifier
-  pub value_is : IsEnc a.value_tag content value
-  pub skippable : IsSkippableWithin depth value
-  pub sequence : IsSequence (identifier ∷ value ∷ []) b
+unfoldable pub attribute_format : ℕ → Format Attribute
+attribute_format depth = SEQUENCE_WITH (λ x. record { type_id = x.0; value_tag = x.1 })
+    ((λ a. a.type_id) ∶ object_identifier
+    ⨟ (λ a. a.value_tag) ∶ skipped_value depth)
 
 -- RelativeDistinguishedName ::= SET SIZE (1..MAX) OF AttributeTypeAndValue   (RFC 5280 4.1.2.4)
 -- the order of the attributes isn't tested (own)
-pub record IsRelativeDistinguishedNameWithin (depth : ℕ) (attributes : List Attribute) (b : List ℕ) : Type 0 where
-  pub content : List ℕ
-  pub elements : AreEncodings (IsAttributeTypeAndValueWithin depth) attributes content
-  pub some : 1 ≤ length attributes
-  pub set : IsEnc SET content b
+unfoldable pub relative_distinguished_name_format : ℕ → Format (List Attribute)
+relative_distinguished_name_format depth = SET_OF_SOME (attribute_format depth)
 
 -- RDNSequence ::= SEQUENCE OF RelativeDistinguishedName   (RFC 5280 4.1.2.4)
-pub record IsRdnSequenceWithin (depth : ℕ) (parts : List (List Attribute)) (b : List ℕ) : Type 0 where
-  pub content : List ℕ
-  pub elements : AreEncodings (IsRelativeDistinguishedNameWithin depth) parts content
-  pub sequence : IsEnc SEQUENCE content b
+unfoldable pub rdn_sequence_format : ℕ → Format (List (List Attribute))
+rdn_sequence_format depth = SEQUENCE_OF (relative_distinguished_name_format depth)
 
 -- Name ::= CHOICE { rdnSequence RDNSequence }   (RFC 5280 4.1.2.4)
 -- kept as it stands
-pub record IsNameWithin (depth : ℕ) (name b : List ℕ) : Type 0 where
-  pub parts : List (List Attribute)
-  pub parts_are : IsRdnSequenceWithin depth parts b
-  pub kept : name ≡ b
+unfoldable pub name_format : ℕ → Format (List ℕ)
+name_format depth = kept (rdn_sequence_format depth)
 
--- a Name under the bound of depth that readers keep
+-- a Name is encoded so
+abbrev pub IsNameWithin : ℕ → List ℕ → List ℕ → Type 0
+IsNameWithin depth = (name_format depth).encodes
+
+-- and so it is under the bound of depth that readers keep
 abbrev pub IsName : List ℕ → List ℕ → Type 0
-IsName name b = IsNameWithin levels name b
+IsName = IsNameWithin levels
 
--- ---- what is written: the octets as they stand
+-- whether the octets are a Name and nothing else
+abbrev pub is_name : List ℕ → Bool
+is_name octets = is_some (whole (rdn_sequence_format levels).read octets)
 
 -- what is written of a Name: its octets as they stand
 abbrev pub name_part : List ℕ → Part
-name_part name = record { written = name; inside = [] }
+name_part = part (name_format levels)

@@ -1,16 +1,15 @@
 -- Data that a signer is asked to sign, and why there is no signed data (RFC 5280 4.1.1.3, 5.1.1.3).
 use Rattle.std.specs.Prelude.{ℕ, ◌^◌, ◌≤◌, List, length, Result, Ok, Err, ◌⊎◌}
-use Rattle.std.specs.List.{concat}
 use Rattle.rpki_der.specs.Tags.{SEQUENCE}
 use Rattle.rpki_der.specs.Values.{enc}
 use Rattle.rpki_parts.specs.Signatures.{SignatureFields}
-use Rattle.rpki_parts.specs.SignedDatas.{signed_pieces}
+use Rattle.rpki_parts.specs.SignedDatas.{signed_content}
 use Rattle.rpki_parts.specs.declared.signature.SigningError.{SigningError}
 use Rattle.rpki_parts.specs.declared.signature.SigningError.TheVariants.{Signer, TooLong, Memory}
 
 -- the content of the signed data of this message with this signature has 2^32 octets or more
 abbrev pub IsTooLongWith : List ℕ → SignatureFields → Type 0
-IsTooLongWith message s = 2 ^ 32 ≤ length (concat (signed_pieces (record { message = message; signature = s })))
+IsTooLongWith message s = 2 ^ 32 ≤ length (signed_content (record { message = message; signature = s }))
 
 -- why there is none although the signer gave this signature
 abbrev pub IsRefusalWith : {E : Type 0} → List ℕ → SignatureFields → SigningError E → Type 0

@@ -1,13 +1,14 @@
 //! The signature algorithm, read and written.
 ghost use Rattle.std.specs.Prelude.{◌≡◌, IfErr};
 ghost use Rattle.rpki_der.specs.declared.error.EncodeError.TheVariants.{Memory};
-ghost use Rattle.rpki_der.specs.Place.{remaining, Keeps, Answers};
+ghost use Rattle.rpki_der.specs.Answers.{Answers};
+ghost use Rattle.rpki_der.specs.Formats.{part};
+ghost use Rattle.rpki_der.specs.Place.{remaining, Keeps};
 ghost use Rattle.rpki_der.specs.Place.Reading.{Took};
 ghost use Rattle.rpki_der.specs.Values.{AreOctets};
 ghost use Rattle.rpki_der.specs.Writers.{Writes};
-ghost use Rattle.rpki_parts.specs.Algorithms.{with_null, without_null, IsSignatureAlgorithm};
-ghost use Rattle.rpki_parts.specs.Algorithms.{sha256_with_rsa, algorithm_part};
-ghost use Rattle.rpki_parts.specs.Algorithms.Reading.{null_or_none, algorithm_at};
+ghost use Rattle.rpki_parts.specs.Algorithms.{algorithm_format, null_or_none, sha256_with_rsa};
+ghost use Rattle.rpki_parts.specs.Algorithms.{with_null, without_null};
 
 use rpki_der::{Cursor, DecodeError, EncodeError, put_value, tag};
 use std::alloc::Global;
@@ -28,7 +29,7 @@ fn identifier() -> &'static [u8]
 // Whether NULL stands next, which is then read.
 #[inline(always)]
 pub(crate) fn take_opt_null(cursor: &mut Cursor<'_>) -> Result<bool, DecodeError>
-    ensures reads { Took null_or_none cursor.old result cursor.new }
+    ensures reads { Took null_or_none.read cursor.old result cursor.new }
     ensures keeps { Keeps result cursor.old cursor.new }
 {
     match cursor.rest() {
@@ -77,9 +78,9 @@ impl RpkiSignatureAlgorithm {
     }
 
     // The algorithm that stands next, by the reading function.
-    #[tactic(auto, unfolding(crate::specs::Algorithms::Reading::algorithm_at))]
+    #[tactic(auto, unfolding(crate::specs::Algorithms::algorithm_format))]
     fn read(cursor: &mut Cursor<'_>) -> Result<RpkiSignatureAlgorithm, DecodeError>
-        ensures reads { Took algorithm_at cursor.old result cursor.new }
+        ensures reads { Took algorithm_format.read cursor.old result cursor.new }
         ensures keeps { Keeps result cursor.old cursor.new }
         ensures octets { AreOctets (remaining cursor.old) }
     {
@@ -95,18 +96,18 @@ impl RpkiSignatureAlgorithm {
     }
 
     /// Reads the AlgorithmIdentifier that stands next. Errs with `BadValue` at another algorithm.
+    #[tactic(auto, using(rpki_der::proofs::FormatAnswers::answers_alone, crate::proofs::PartFormats::algorithm_alone))]
     pub fn x509_take_from(cursor: &mut Cursor<'_>) -> Result<RpkiSignatureAlgorithm, DecodeError>
-        ensures answers { Answers IsSignatureAlgorithm cursor.old result cursor.new }
-        ensures reads { Took algorithm_at cursor.old result cursor.new }
-        ensures keeps { Keeps result cursor.old cursor.new }
+        ensures { Answers algorithm_format cursor.old result cursor.new }
     {
         RpkiSignatureAlgorithm::read(cursor)
     }
 
     /// Appends the AlgorithmIdentifier as it was read or made (RFC 5280 4.1.1.2). The only error is
     /// `Memory`.
+    #[tactic(auto, unfolding(crate::specs::Algorithms::algorithm_format))]
     pub fn x509_encode(&self, _alloc: Global, out: &mut Vec<u8>) -> Result<(), EncodeError>
-        ensures writes { Writes (algorithm_part self.now) out.old.items result out.new.items }
+        ensures writes { Writes (part algorithm_format self.now) out.old.items result out.new.items }
         ensures memory { IfErr result (λ e. e ≡ Memory) }
     {
         if self.has_parameter {

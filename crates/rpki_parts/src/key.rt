@@ -1,12 +1,13 @@
 //! Public keys and their identifiers.
 ghost use Rattle.std.specs.Prelude.{◌≡◌, ◌↔◌, ◌%◌, ◌^◌, ◌<◌, length, IfOk, IfErr, IfSome, IsSome, IsTrue, Some};
 ghost use Rattle.rpki_der.specs.Values.{AreOctets};
-ghost use Rattle.rpki_der.specs.Tags.{OCTET_STRING};
+ghost use Rattle.rpki_der.specs.Answers.{Answers, AnswersOrMemory};
+ghost use Rattle.rpki_der.specs.Formats.{part};
 ghost use Rattle.rpki_der.specs.Writers.{Writes, value};
-ghost use Rattle.rpki_der.specs.Place.{remaining, IsWithin, Keeps, Answers, AnswersOrMemory, MeansOrMemory};
+ghost use Rattle.rpki_der.specs.Place.{remaining, IsWithin, Keeps, MeansOrMemory};
 ghost use Rattle.rpki_der.specs.Place.Reading.{Took, TookBy, TookOrMemory};
-ghost use Rattle.rpki_parts.specs.Keys.{KeyFields, IsPublicKey, key_identifier, IsKeyIdentifier, key_algorithm, key_part};
-ghost use Rattle.rpki_parts.specs.Keys.Reading.{key_identifier_at, format_at, whole_bits_at, public_key_at};
+ghost use Rattle.rpki_parts.specs.Keys.{KeyFields, IsPublicKey, key_identifier};
+ghost use Rattle.rpki_parts.specs.Keys.{key_algorithm_format, key_identifier_format, public_key_format, whole_bits_format};
 ghost use Rattle.rpki_parts.specs.KeyNames.{hexadecimal, subject_name};
 ghost use Rattle.rpki_der.specs.declared.error.EncodeError.TheVariants.{Memory};
 
@@ -96,9 +97,9 @@ impl KeyIdentifier {
     }
 
     // The identifier that stands next, by the reading function.
-    #[tactic(auto, unfolding(crate::specs::Keys::Reading::key_identifier_at))]
+    #[tactic(auto, unfolding(crate::specs::Keys::key_identifier_format))]
     fn read(cursor: &mut Cursor<'_>) -> Result<KeyIdentifier, DecodeError>
-        ensures reads { Took key_identifier_at cursor.old result cursor.new }
+        ensures reads { Took key_identifier_format.read cursor.old result cursor.new }
         ensures keeps { Keeps result cursor.old cursor.new }
         ensures octets { AreOctets (remaining cursor.old) }
     {
@@ -112,17 +113,17 @@ impl KeyIdentifier {
     }
 
     /// Reads the identifier that stands next, an OCTET STRING of 20 octets.
+    #[tactic(auto, using(rpki_der::proofs::FormatAnswers::answers_alone, crate::proofs::PartFormats::key_identifier_alone))]
     pub fn take_from(cursor: &mut Cursor<'_>) -> Result<KeyIdentifier, DecodeError>
-        ensures answers { Answers IsKeyIdentifier cursor.old result cursor.new }
-        ensures reads { Took key_identifier_at cursor.old result cursor.new }
-        ensures keeps { Keeps result cursor.old cursor.new }
+        ensures { Answers key_identifier_format cursor.old result cursor.new }
     {
         KeyIdentifier::read(cursor)
     }
 
     /// Appends the identifier as an OCTET STRING. The only error is `Memory`.
+    #[tactic(auto, unfolding(crate::specs::Keys::key_identifier_format))]
     pub fn encode_ref(&self, alloc: Global, out: &mut Vec<u8>) -> Result<(), EncodeError>
-        ensures writes { Writes (value OCTET_STRING self.now) out.old.items result out.new.items }
+        ensures writes { Writes (part key_identifier_format self.now) out.old.items result out.new.items }
         ensures memory { IfErr result (λ e. e ≡ Memory) }
     {
         self.encode_ref_as(alloc, out, tag::OCTET_STRING)
@@ -177,7 +178,7 @@ pub enum PublicKeyFormat {
 impl PublicKeyFormat {
     // The AlgorithmIdentifier that is written of it.
     fn algorithm(self) -> &'static [u8]
-        ensures { result.now ≡ key_algorithm self }
+        ensures { result.now ≡ key_algorithm_format.written self }
     {
         match self {
             PublicKeyFormat::Rsa => RSA,
@@ -187,10 +188,10 @@ impl PublicKeyFormat {
 }
 
 // The algorithm of the key that stands next.
-#[tactic(auto, unfolding(crate::specs::Keys::Reading::format_at))]
+#[tactic(auto, unfolding(crate::specs::Keys::key_algorithm_format))]
 #[inline(always)]
 fn take_format(cursor: &mut Cursor<'_>) -> Result<PublicKeyFormat, DecodeError>
-    ensures reads { Took format_at cursor.old result cursor.new }
+    ensures reads { Took key_algorithm_format.read cursor.old result cursor.new }
     ensures keeps { Keeps result cursor.old cursor.new }
 {
     let mut ahead = cursor.fork();
@@ -210,10 +211,10 @@ fn take_format(cursor: &mut Cursor<'_>) -> Result<PublicKeyFormat, DecodeError>
 }
 
 // A cursor over the octets of the BIT STRING that stands next, of which no bits are unused.
-#[tactic(auto, unfolding(crate::specs::Keys::Reading::whole_bits_at))]
+#[tactic(auto, unfolding(crate::specs::Keys::whole_bits_format))]
 #[inline(always)]
 pub(crate) fn take_whole_bits<'a>(cursor: &mut Cursor<'a>) -> Result<Cursor<'a>, DecodeError>
-    ensures reads { TookBy remaining whole_bits_at cursor.old result cursor.new }
+    ensures reads { TookBy remaining whole_bits_format.read cursor.old result cursor.new }
     ensures keeps { Keeps result cursor.old cursor.new }
     ensures inside { IfOk result (λ c. IsWithin c cursor.old) }
 {
@@ -256,9 +257,9 @@ impl PublicKey {
     }
 
     // The key that stands next, by the reading function.
-    #[tactic(auto, unfolding(crate::specs::Keys::Reading::public_key_at))]
+    #[tactic(auto, unfolding(crate::specs::Keys::public_key_format))]
     fn read(alloc: Global, cursor: &mut Cursor<'_>) -> Result<PublicKey, DecodeError>
-        ensures reads { TookOrMemory public_key_at cursor.old result cursor.new }
+        ensures reads { TookOrMemory public_key_format.read cursor.old result cursor.new }
         ensures keeps { Keeps result cursor.old cursor.new }
         ensures octets { AreOctets (remaining cursor.old) }
     {
@@ -273,10 +274,9 @@ impl PublicKey {
 
     /// Reads the SubjectPublicKeyInfo that stands next (RFC 5280 4.1.2.7). Errs with `BadValue` at
     /// another algorithm or curve and where bits are unused.
+    #[tactic(auto, using(rpki_der::proofs::FormatAnswers::answers_or_memory_alone, crate::proofs::PartFormats::public_key_alone))]
     pub fn take_from(alloc: Global, cursor: &mut Cursor<'_>) -> Result<PublicKey, DecodeError>
-        ensures answers { AnswersOrMemory IsPublicKey cursor.old result cursor.new }
-        ensures reads { TookOrMemory public_key_at cursor.old result cursor.new }
-        ensures keeps { Keeps result cursor.old cursor.new }
+        ensures { AnswersOrMemory public_key_format cursor.old result cursor.new }
     {
         PublicKey::read(alloc, cursor)
     }
@@ -297,8 +297,9 @@ impl PublicKey {
 
     /// Appends the SubjectPublicKeyInfo, with NULL behind rsaEncryption. Errs with `TooLong` where
     /// its content would have 2^32 octets or more.
+    #[tactic(auto, unfolding(crate::specs::Keys::public_key_format, crate::specs::Keys::whole_bits_format))]
     pub fn encode_ref(&self, alloc: Global, out: &mut Vec<u8>) -> Result<(), EncodeError>
-        ensures { Writes (key_part self.now) out.old.items result out.new.items }
+        ensures { Writes (part public_key_format self.now) out.old.items result out.new.items }
     {
         let mut bits = Vec::new(alloc);
         put_bits(&mut bits, 0, self.bits())?;

@@ -1,16 +1,17 @@
 //! Names, kept as they stand.
 ghost use Rattle.rpki_parts.specs.KeyNames.{digit, hexadecimal, name_of_digits};
 ghost use Rattle.std.specs.Prelude.{◌≡◌, ◌≢◌, ◌<◌, ◌++◌, IfOk, IfErr, OnOk, is_ok, is_some};
-ghost use Rattle.rpki_der.specs.Place.{remaining, Keeps, AnswersOrMemory, MeansOrMemory};
+ghost use Rattle.rpki_der.specs.Answers.{AnswersOrMemory};
+ghost use Rattle.rpki_der.specs.Place.{remaining, Keeps, MeansOrMemory};
 ghost use Rattle.rpki_der.specs.Place.Reading.{Took, TookBy, TookOrMemory};
 ghost use Rattle.rpki_der.specs.Reading.{map_value};
 ghost use Rattle.rpki_der.specs.Sequences.Reading.{sequence_of};
+ghost use Rattle.rpki_der.specs.Skipping.{levels};
 ghost use Rattle.rpki_der.specs.Values.{AreOctets};
 ghost use Rattle.rpki_der.specs.Writers.{Writes};
 ghost use Rattle.rpki_der.specs.declared.error.DecodeError.TheVariants as decoding;
 ghost use Rattle.rpki_der.specs.declared.error.EncodeError.TheVariants.{Memory};
-ghost use Rattle.rpki_parts.specs.Names.{IsName, name_part};
-ghost use Rattle.rpki_parts.specs.Names.Reading.{is_name, tagged_at, attribute_at, part_at, name_at};
+ghost use Rattle.rpki_parts.specs.Names.{IsName, attribute_format, is_name, name_format, name_part, relative_distinguished_name_format, tag_within};
 
 use crate::key::KeyIdentifier;
 use bytes::Bytes;
@@ -33,7 +34,7 @@ pub struct Name {
 
 impl Model for Name {
     ghost use Rattle.std.specs.Prelude.{◌≡◌, List, ℕ, true};
-    ghost use Rattle.rpki_parts.specs.Names.Reading.{is_name};
+    ghost use Rattle.rpki_parts.specs.Names.{is_name};
 
     ghost Value = { List ℕ };
 
@@ -43,8 +44,9 @@ impl Model for Name {
 }
 
 // The identifier octet of the value that stands next and is skipped.
+#[tactic(auto, unfolding(rpki_der::specs::Skipping::Reading::skip_at))]
 fn skip_tagged(cursor: &mut Cursor<'_>) -> Result<u8, DecodeError>
-    ensures reads { Took tagged_at cursor.old result cursor.new }
+    ensures reads { Took (tag_within levels) cursor.old result cursor.new }
     ensures keeps { Keeps result cursor.old cursor.new }
 {
     match cursor.rest() {
@@ -57,10 +59,10 @@ fn skip_tagged(cursor: &mut Cursor<'_>) -> Result<u8, DecodeError>
 }
 
 // The type of the attribute that stands next, and the identifier octet of its value.
-#[tactic(auto, unfolding(crate::specs::Names::Reading::attribute_at))]
+#[tactic(auto, unfolding(crate::specs::Names::attribute_format))]
 pub(crate) fn take_attribute<'a>(cursor: &mut Cursor<'a>) -> Result<(&'a [u8], u8), DecodeError>
-    ensures reads { TookBy (λ x. record { type_id = x.0.now; value_tag = x.1 }) attribute_at
-        cursor.old result cursor.new }
+    ensures reads { TookBy (λ x. record { type_id = x.0.now; value_tag = x.1 })
+        (attribute_format levels).read cursor.old result cursor.new }
     ensures keeps { Keeps result cursor.old cursor.new }
 {
     let mut ahead = cursor.fork();
@@ -73,8 +75,10 @@ pub(crate) fn take_attribute<'a>(cursor: &mut Cursor<'a>) -> Result<(&'a [u8], u
 }
 
 // Whether these are attributes.
+#[tactic(auto, using(rpki_der::proofs::Walks::one_more, rpki_der::proofs::Walks::no_more, rpki_der::proofs::Walks::at_end, crate::proofs::NameReads::attribute_shrinks))]
 fn check_attributes(mut elements: Cursor<'_>) -> Result<(), DecodeError>
-    ensures elements { is_ok result ≡ is_some (sequence_of attribute_at (remaining elements.entry)) }
+    ensures elements { is_ok result
+        ≡ is_some (sequence_of (attribute_format levels).read (remaining elements.entry)) }
     ensures rejected { IfErr result (λ e. e ≢ decoding.Memory) }
 {
     while !elements.is_empty() {
@@ -84,9 +88,10 @@ fn check_attributes(mut elements: Cursor<'_>) -> Result<(), DecodeError>
 }
 
 // Past the SET of at least one attribute that stands next.
-#[tactic(auto, unfolding(crate::specs::Names::Reading::part_at))]
+#[tactic(auto, unfolding(crate::specs::Names::relative_distinguished_name_format))]
 fn skip_part(cursor: &mut Cursor<'_>) -> Result<(), DecodeError>
-    ensures reads { Took (map_value (λ _. tt) part_at) cursor.old result cursor.new }
+    ensures reads { Took (map_value (λ _. tt) (relative_distinguished_name_format levels).read)
+        cursor.old result cursor.new }
     ensures keeps { Keeps result cursor.old cursor.new }
 {
     let mut ahead = cursor.fork();
@@ -100,8 +105,10 @@ fn skip_part(cursor: &mut Cursor<'_>) -> Result<(), DecodeError>
 }
 
 // Whether these are parts of a name.
+#[tactic(auto, using(rpki_der::proofs::Walks::one_made, rpki_der::proofs::Walks::none_made, rpki_der::proofs::Walks::at_end, crate::proofs::NameReads::part_shrinks))]
 fn check_parts(mut elements: Cursor<'_>) -> Result<(), DecodeError>
-    ensures { is_ok result ≡ is_some (sequence_of part_at (remaining elements.entry)) }
+    ensures { is_ok result ≡ is_some
+        (sequence_of (relative_distinguished_name_format levels).read (remaining elements.entry)) }
 {
     while !elements.is_empty() {
         skip_part(&mut elements)?;
@@ -110,7 +117,7 @@ fn check_parts(mut elements: Cursor<'_>) -> Result<(), DecodeError>
 }
 
 // Whether the octets are a name.
-#[tactic(auto, unfolding(crate::specs::Names::Reading::name_of))]
+#[tactic(auto, using(crate::proofs::NameReads::no_sequence, crate::proofs::NameReads::name_ends))]
 fn check_name(mut octets: Cursor<'_>) -> Result<(), DecodeError>
     ensures { is_ok result ≡ is_name (remaining octets.entry) }
 {
@@ -140,6 +147,7 @@ fn put_digits(out: &mut Vec<u8>, octets: &[u8]) -> Result<(), AllocError>
 
 impl Name {
     // The name of the key with this identifier.
+    #[tactic(auto, using(crate::proofs::KeyNames::key_name))]
     pub(crate) fn of_key(alloc: Global, identifier: &KeyIdentifier) -> Result<Name, AllocError>
         ensures { IfOk result (λ n. n ≡ name_of_digits (hexadecimal identifier.now)) }
     {
@@ -150,9 +158,9 @@ impl Name {
     }
 
     // The name that stands next, by the reading function.
-    #[tactic(auto, unfolding(crate::specs::Names::Reading::name_at))]
+    #[tactic(auto, using(crate::proofs::NameReads::name_none, rpki_der::proofs::Answering::took_none_or_memory), unfolding(crate::specs::Names::name_format))]
     fn read(alloc: Global, cursor: &mut Cursor<'_>) -> Result<Name, DecodeError>
-        ensures reads { TookOrMemory name_at cursor.old result cursor.new }
+        ensures reads { TookOrMemory (name_format levels).read cursor.old result cursor.new }
         ensures keeps { Keeps result cursor.old cursor.new }
         ensures octets { AreOctets (remaining cursor.old) }
     {
@@ -168,16 +176,16 @@ impl Name {
     /// Reads the name that stands next: a SEQUENCE of SETs, each of at least one SEQUENCE of an
     /// identifier and a value. It checks of the values only that they can be skipped, and doesn't
     /// check the order in a SET.
+    #[tactic(auto, using(rpki_der::proofs::FormatAnswers::answers_or_memory_alone, crate::proofs::NameReads::name_alone))]
     pub fn take_from(alloc: Global, cursor: &mut Cursor<'_>) -> Result<Name, DecodeError>
-        ensures answers { AnswersOrMemory IsName cursor.old result cursor.new }
-        ensures reads { TookOrMemory name_at cursor.old result cursor.new }
-        ensures keeps { Keeps result cursor.old cursor.new }
+        ensures { AnswersOrMemory (name_format levels) cursor.old result cursor.new }
     {
         Name::read(alloc, cursor)
     }
 
     /// Reads the name that all of the octets are, as [`Name::take_from`] says. Errs with a fault
     /// where they are none, also where one is only their beginning. The name shares the buffer.
+    #[tactic(auto, using(rpki_der::proofs::Answering::all_rejected))]
     pub fn from_bytes(alloc: Global, octets: Bytes) -> Result<Name, DecodeError>
         ensures { MeansOrMemory IsName result octets }
     {
@@ -191,6 +199,7 @@ impl Name {
     }
 
     /// Returns the octets of the SEQUENCE.
+    #[tactic(auto, using(crate::proofs::NameReads::name_is))]
     pub fn as_bytes(&self) -> &[u8]
         ensures octets { result.now ≡ self.now }
         ensures valid { IsName self.now self.now }
@@ -201,6 +210,7 @@ impl Name {
     }
 
     /// Appends the name as it stands. The only error is `Memory`.
+    #[tactic(auto, unfolding(crate::specs::Names::name_format))]
     pub fn encode_ref(&self, _alloc: Global, out: &mut Vec<u8>) -> Result<(), EncodeError>
         ensures writes { Writes (name_part self.now) out.old.items result out.new.items }
         ensures memory { IfErr result (λ e. e ≡ Memory) }

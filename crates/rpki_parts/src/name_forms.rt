@@ -59,6 +59,7 @@ impl ReadAttributes {
     }
 
     // Adds the attributes of a part.
+    #[tactic(auto, using(rpki_der::proofs::SequenceWalks::shorter, rpki_der::proofs::SequenceWalks::rejected, rpki_der::proofs::SequenceWalks::over_end, crate::proofs::NameReads::attribute_shrinks))]
     fn with_part(self, strict: bool, part: &Cursor<'_>) -> Option<ReadAttributes>
         ensures { result ≡ seen_in strict self (remaining part.now) }
     {
@@ -75,6 +76,7 @@ impl ReadAttributes {
     }
 
     // What is seen in these parts of a name.
+    #[tactic(auto, using(rpki_der::proofs::SequenceWalks::shorter, rpki_der::proofs::SequenceWalks::rejected, rpki_der::proofs::SequenceWalks::over_end, crate::proofs::NameForms::set_shrinks))]
     fn in_parts(strict: bool, parts: &Cursor<'_>) -> Option<ReadAttributes>
         ensures { result ≡ over (value_at 0x31) (seen_in strict)
             (record { name = false; number = false }) (remaining parts.now) }
@@ -99,6 +101,7 @@ impl Name {
     /// Checks whether the name has the form that certificates of the RPKI ask for (RFC 6487 4.4,
     /// 4.5): one CommonName, at most one serialNumber and nothing else, as PrintableString, or
     /// where inspection isn't strict, also as UTF8String.
+    #[tactic(auto, using(crate::proofs::NameForms::form_is, crate::proofs::NameForms::form_named, crate::proofs::NameForms::no_form, crate::proofs::NameForms::is_sequence))]
     pub fn inspect_rpki(&self, strict: bool) -> Result<(), InvalidName>
         ensures { IsOk result ↔ IsRpkiName strict self.now }
     {

@@ -1,12 +1,11 @@
 //! Signed data: octets and their signature.
 ghost use Rattle.std.specs.Prelude.{◌≡◌, ◌↔◌, ◌^◌, ◌<◌, ◌++◌, Ok, IfOk, IfErr, IsOk, OnOk, length};
-ghost use Rattle.std.specs.List.{concat};
 ghost use Rattle.rpki_der.specs.Writers.{SaysLong, Writes};
-ghost use Rattle.rpki_der.specs.Place.{remaining, Keeps, AnswersOrMemory};
+ghost use Rattle.rpki_der.specs.Answers.{AnswersOrMemory};
+ghost use Rattle.rpki_der.specs.Place.{remaining, Keeps};
 ghost use Rattle.rpki_der.specs.Place.Reading.{TookOrMemory};
 ghost use Rattle.rpki_der.specs.Values.{AreOctets};
-ghost use Rattle.rpki_parts.specs.SignedDatas.{IsSignedDataContent, signed_part, signed_pieces};
-ghost use Rattle.rpki_parts.specs.SignedDatas.Reading.{signed_content_at};
+ghost use Rattle.rpki_parts.specs.SignedDatas.{signed_content, signed_content_format, signed_part};
 ghost use Rattle.rpki_parts.specs.Signing.{IsRefusalOnceAsked};
 
 use crate::algorithm::RpkiSignatureAlgorithm;
@@ -44,9 +43,9 @@ impl SignedData {
     }
 
     // What stands in the SEQUENCE, by the reading function.
-    #[tactic(auto, unfolding(crate::specs::SignedDatas::Reading::signed_content_at))]
+    #[tactic(auto, unfolding(crate::specs::SignedDatas::signed_content_format))]
     fn read(alloc: Global, content: &mut Cursor<'_>) -> Result<SignedData, DecodeError>
-        ensures reads { TookOrMemory signed_content_at content.old result content.new }
+        ensures reads { TookOrMemory signed_content_format.read content.old result content.new }
         ensures keeps { Keeps result content.old content.new }
         ensures octets { AreOctets (remaining content.old) }
     {
@@ -63,13 +62,12 @@ impl SignedData {
 
     /// Reads what stands in the SEQUENCE: a value, which is kept as it stands, the algorithm, and
     /// the BIT STRING of the signature, of which no bits are unused.
+    #[tactic(auto, using(rpki_der::proofs::FormatAnswers::answers_or_memory_alone, crate::proofs::SignedFormats::signed_content_alone))]
     pub fn from_constructed(
         alloc: Global,
         content: &mut Cursor<'_>,
     ) -> Result<SignedData, DecodeError>
-        ensures answers { AnswersOrMemory IsSignedDataContent content.old result content.new }
-        ensures reads { TookOrMemory signed_content_at content.old result content.new }
-        ensures keeps { Keeps result content.old content.new }
+        ensures { AnswersOrMemory signed_content_format content.old result content.new }
     {
         SignedData::read(alloc, content)
     }
@@ -107,10 +105,11 @@ impl SignedData {
     }
 
     // What follows the octets inside the SEQUENCE: the algorithm and the signature.
+    #[tactic(auto, unfolding(crate::specs::SignedDatas::signed_content_format, crate::specs::Keys::whole_bits_format))]
     fn tail(&self, alloc: Global) -> Result<Vec<u8>, EncodeError>
         ensures ok { IfOk result
-            (λ tail. self.now.message ++ tail.items ≡ concat (signed_pieces self.now)) }
-        ensures too_long { SaysLong result (concat (signed_pieces self.now)) }
+            (λ tail. self.now.message ++ tail.items ≡ signed_content self.now) }
+        ensures too_long { SaysLong result (signed_content self.now) }
     {
         let mut tail = Vec::new(alloc);
         self.signature.algorithm().x509_encode(alloc, &mut tail)?;
@@ -120,8 +119,8 @@ impl SignedData {
 
     // Whether the whole fits.
     fn check_length(&self, alloc: Global) -> Result<(), EncodeError>
-        ensures fits { OnOk result (length (concat (signed_pieces self.now)) < 2 ^ 32) }
-        ensures too_long { SaysLong result (concat (signed_pieces self.now)) }
+        ensures fits { OnOk result (length (signed_content self.now) < 2 ^ 32) }
+        ensures too_long { SaysLong result (signed_content self.now) }
     {
         let tail = self.tail(alloc)?;
         if self.data().len() + tail.len() > MAX_LEN {
@@ -143,7 +142,7 @@ impl SignedData {
         ensures message { IfOk result (λ s. s.message ≡ octets) }
         ensures signed { IfOk result
             (λ s. S.signs signer.now key.now algorithm octets (Ok s.signature)) }
-        ensures fits { IfOk result (λ s. length (concat (signed_pieces s)) < 2 ^ 32) }
+        ensures fits { IfOk result (λ s. length (signed_content s) < 2 ^ 32) }
         ensures rejected { IfErr result
             (IsRefusalOnceAsked octets (S.signs signer.now key.now algorithm octets)) }
     {

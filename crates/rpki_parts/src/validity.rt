@@ -1,11 +1,12 @@
 //! Periods of validity.
 ghost use Rattle.std.specs.Prelude.{◌≡◌, IfErr};
 ghost use Rattle.rpki_der.specs.Values.{AreOctets};
-ghost use Rattle.rpki_der.specs.Place.{remaining, Keeps, Answers};
+ghost use Rattle.rpki_der.specs.Answers.{Answers};
+ghost use Rattle.rpki_der.specs.Formats.{part};
+ghost use Rattle.rpki_der.specs.Place.{remaining, Keeps};
 ghost use Rattle.rpki_der.specs.Place.Reading.{Took};
 ghost use Rattle.rpki_der.specs.declared.error.EncodeError.TheVariants.{Memory};
-ghost use Rattle.rpki_parts.specs.Validities.{IsValidity, validity_part};
-ghost use Rattle.rpki_parts.specs.Validities.Reading.{validity_at};
+ghost use Rattle.rpki_parts.specs.Validities.{validity_format};
 ghost use Rattle.rpki_der.specs.Writers.{Writes};
 
 use rpki_der::{Cursor, DecodeError, EncodeError, Time, put_value, tag};
@@ -57,9 +58,9 @@ impl Validity {
     }
 
     // The period that stands next, by the reading function.
-    #[tactic(auto, unfolding(crate::specs::Validities::Reading::validity_at))]
+    #[tactic(auto, unfolding(crate::specs::Validities::validity_format))]
     fn read(cursor: &mut Cursor<'_>) -> Result<Validity, DecodeError>
-        ensures reads { Took validity_at cursor.old result cursor.new }
+        ensures reads { Took validity_format.read cursor.old result cursor.new }
         ensures keeps { Keeps result cursor.old cursor.new }
         ensures octets { AreOctets (remaining cursor.old) }
     {
@@ -73,17 +74,17 @@ impl Validity {
     }
 
     /// Reads the SEQUENCE of two times that stands next.
+    #[tactic(auto, using(rpki_der::proofs::FormatAnswers::answers_alone, crate::proofs::PartFormats::validity_alone))]
     pub fn take_from(cursor: &mut Cursor<'_>) -> Result<Validity, DecodeError>
-        ensures answers { Answers IsValidity cursor.old result cursor.new }
-        ensures reads { Took validity_at cursor.old result cursor.new }
-        ensures keeps { Keeps result cursor.old cursor.new }
+        ensures { Answers validity_format cursor.old result cursor.new }
     {
         Validity::read(cursor)
     }
 
     /// Appends the SEQUENCE of both times. The only error is `Memory`.
+    #[tactic(auto, unfolding(crate::specs::Validities::validity_format))]
     pub fn encode(&self, alloc: Global, out: &mut Vec<u8>) -> Result<(), EncodeError>
-        ensures writes { Writes (validity_part self.now) out.old.items result out.new.items }
+        ensures writes { Writes (part validity_format self.now) out.old.items result out.new.items }
         ensures memory { IfErr result (λ e. e ≡ Memory) }
     {
         let mut content = Vec::new(alloc);

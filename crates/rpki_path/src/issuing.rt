@@ -1,8 +1,7 @@
 //! What the public clauses give together: a CA below the last member of a valid path is issued.
 ghost use Rattle.std.specs.Prelude.{◌≡◌, ◌^◌, ◌<◌, ℕ, List, length, Option, Ok, Err, IfOk, IfErr};
-ghost use Rattle.std.specs.List.{concat};
 ghost use Rattle.rpki_parts.specs.Signatures.{SignatureFields};
-ghost use Rattle.rpki_parts.specs.SignedDatas.{signed_pieces};
+ghost use Rattle.rpki_parts.specs.SignedDatas.{signed_content};
 ghost use Rattle.rpki_parts.specs.declared.signature.SigningError.{SigningError as Refusal};
 ghost use Rattle.rpki_parts.specs.declared.signature.SigningError.TheVariants.{Memory};
 ghost use Rattle.rpki_cert.specs.Certificates.{CanBeWritten, encoding};
@@ -41,7 +40,7 @@ pub fn issue_below<S: Signer, V: Verifier>(
         → S.signs signer.now key.now tbs.algorithm (encoding tbs) (Err e) → e ≡ Memory }
     requires fits { (s : SignatureFields)
         → S.signs signer.now key.now tbs.algorithm (encoding tbs) (Ok s)
-        → length (concat (signed_pieces (made_with tbs s).signed_data)) < 2 ^ 32 }
+        → length (signed_content (made_with tbs s).signed_data) < 2 ^ 32 }
     requires profile { (s : SignatureFields)
         → S.signs signer.now key.now tbs.algorithm (encoding tbs) (Ok s)
         → MeetsProfile Authority strict (made_with tbs s) }

@@ -8,9 +8,9 @@ use Rattle.rpki_der.specs.Place.{Rejects}
 use Rattle.rpki_der.specs.declared.error.DecodeError.{DecodeError}
 use Rattle.rpki_der.specs.declared.error.DecodeError.TheVariants.{Memory}
 use Rattle.rpki_der.proofs.Readings.{one_reading}
-use Rattle.rpki_parts.specs.Keys.{KeyFields, IsPublicKey}
-use Rattle.rpki_parts.specs.Keys.Reading.{public_key_at}
-use Rattle.rpki_parts.proofs.KeyReads.{public_key_reads}
+use Rattle.rpki_der.proofs.FormatAnswers.{alone_reads}
+use Rattle.rpki_parts.specs.Keys.{KeyFields, IsPublicKey, public_key_format}
+use Rattle.rpki_parts.proofs.PartFormats.{public_key_alone}
 use Rattle.rpki_tal.specs.Digits.{base64_of, without_white_space}
 use Rattle.rpki_tal.specs.Locators.{HasKey}
 
@@ -27,7 +27,7 @@ one_decoding a b bytes other same =
 pub one_key : (k l : KeyFields) (digits : List (List ℕ)) → HasKey k digits → HasKey l digits → k ≡ l
 one_key k l digits h o =
     let same : h.octets ≡ o.octets = one_decoding h.octets o.octets h.are_octets o.are_octets (sym h.digits_are ∙ o.digits_are) in
-    (one_reading public_key_at IsPublicKey public_key_reads h.octets k l [] []
+    (one_reading public_key_format.read IsPublicKey (alone_reads public_key_format public_key_alone) h.octets k l [] []
     (record { text = h.octets; encoded = h.key_is; parts = sym (append-nil h.octets) })
     (record { text = o.octets; encoded = o.key_is; parts = same ∙ sym (append-nil o.octets) })).0
 

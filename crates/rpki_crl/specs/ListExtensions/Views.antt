@@ -2,15 +2,12 @@
 use Rattle.std.specs.Prelude.{◌≡◌, ℕ, List, Option, Some, None, bytes_eq, false}
 use Rattle.std.specs.List.{AllByRecursion}
 use Rattle.rpki_ext.specs.KindTables.{identifiers_of}
-use Rattle.rpki_ext.specs.KeyIdentifiers.{authority_key_identifier}
-use Rattle.rpki_ext.specs.CrlNumbers.{crl_number}
+use Rattle.rpki_ext.specs.ExtensionKinds.{authority_key_identifier, crl_number, list_kinds}
 use Rattle.rpki_crl.specs.declared.extensions.ListKind.{ListKind}
 use Rattle.rpki_crl.specs.declared.extensions.ListKind.TheVariants.{AuthorityKeyIdentifier, CrlNumber}
 use Rattle.rpki_crl.specs.declared.extensions.ReadListExtensions.{ReadListExtensions}
 use Rattle.rpki_crl.specs.declared.extensions.CrlExtensions.{CrlExtensions}
-use Rattle.rpki_ext.specs.ListKinds.{list_kinds}
-use Rattle.rpki_crl.specs.ListExtensions.{ListExtensions}
-use Rattle.rpki_crl.specs.ListExtensions.Reading.{ListSights, list_extensions}
+use Rattle.rpki_crl.specs.ListExtensions.{ListExtensions, ListSights, list_extensions}
 
 -- the kind that an identifier names, or none
 abbrev pub NamesListKind : List ℕ → Option ListKind → Type 0

@@ -2,14 +2,13 @@
 -- each kind, and the fields that this gives.
 use Rattle.std.specs.Prelude.{unwrap_or, Bool, ◌||◌, not, true, false, if◌then◌else◌, Option, Some, None, is_some, ℕ, List, ◌≡◌, bytes_eq}
 use Rattle.std.specs.List.{AllByRecursion}
-use Rattle.rpki_der.specs.Extensions.{Extension}
+use Rattle.rpki_der.specs.Extensions.{Extension, extension_format}
 use Rattle.rpki_der.specs.Folding.{Fold, side_by_side, each_fold, over}
 use Rattle.rpki_der.specs.Values.Reading.{◌>>=◌}
 use Rattle.rpki_der.specs.declared.error.DecodeError.{DecodeError}
 use Rattle.rpki_der.specs.declared.error.DecodeError.TheVariants.{Missing, WrongResources}
 use Rattle.rpki_der.specs.declared.error.Field.{Field}
 use Rattle.rpki_der.specs.declared.error.Field.TheVariants as field
-use Rattle.rpki_der.specs.Extensions.Reading.{extension_at}
 use Rattle.rpki_blocks.specs.declared.overclaim.Overclaim.{Overclaim}
 use Rattle.rpki_blocks.specs.declared.overclaim.Overclaim.TheVariants.{Refuse, Trim}
 use Rattle.rpki_blocks.specs.Resources.{Resources, missing}
@@ -174,4 +173,4 @@ completed (_, (basic_ca, (subject, (authority, (usage, (purposes, (crl_uri, (ca_
 
 -- reads the extensions of a certificate as the fields that they give
 unfoldable pub extensions_of : List ℕ → Option ExtensionFields
-extensions_of octets = over extension_at all_kinds.step all_kinds.start octets >>= completed
+extensions_of octets = over extension_format.read all_kinds.step all_kinds.start octets >>= completed

@@ -21,7 +21,7 @@ if_flagged (untested written) critical v = v
 
 -- with the flag of the kind
 abbrev pub told : {V : Type 0} → ExtensionKind V → Extension → Option V
-told kind x = if_flagged kind.flag x.critical (front kind.reads x.content)
+told kind x = if_flagged kind.flag x.critical (front kind.format.read x.content)
 
 -- a kind that stands at most once
 abbrev pub kind_fold : {V : Type 0} → ExtensionKind V → Fold Extension (Option V)

@@ -3,7 +3,8 @@ use Rattle.std.specs.Prelude.{ℕ, Bool, true, not, ◌&&◌, ◌||◌, ◌==◌
 use Rattle.rpki_der.specs.Folding.{Step, over}
 use Rattle.rpki_der.specs.Tags.{PRINTABLE_STRING, UTF8_STRING}
 use Rattle.rpki_parts.specs.Names.{common_name, serial_number, Attribute}
-use Rattle.rpki_parts.specs.Names.Reading.{attribute_at}
+use Rattle.rpki_der.specs.Skipping.{levels}
+use Rattle.rpki_parts.specs.Names.{attribute_format}
 use Rattle.rpki_parts.specs.declared.name_forms.ReadAttributes.{ReadAttributes}
 
 -- whether the identifier octet is one of a string that may stand
@@ -24,4 +25,4 @@ seen_with strict s a =
 
 -- what was seen, with the attributes of one part more
 abbrev pub seen_in : Bool → Step (List ℕ) ReadAttributes
-seen_in strict s part = over attribute_at (seen_with strict) s part
+seen_in strict s part = over (attribute_format levels).read (seen_with strict) s part

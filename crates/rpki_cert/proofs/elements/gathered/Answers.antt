@@ -1,4 +1,4 @@
-use Rattle.std.proofs.Common.{rules, arith, ◌≡◌, ◌≤◌, ◌<◌, ◌++◌, List, ℕ, [], ap, subst, sym, ◌∙◌, length, get_or}
+use Rattle.std.proofs.Common.{rules, arith, ◌≡◌, ◌≤◌, ◌++◌, List, ℕ, [], ap, subst, sym, ◌∙◌, get_or}
 use Rattle.std.proofs.lemmas.List.{get_or_read}
 use Rattle.rpki_cert.specs.Rearranging.{written}
 use Rattle.rpki_cert.specs.declared.extra.Extra.{Extra}

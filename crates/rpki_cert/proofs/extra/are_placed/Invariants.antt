@@ -1,4 +1,4 @@
-use Rattle.std.proofs.Common.{◌≤◌, take}
+use Rattle.std.proofs.Common.{take}
 use Rattle.rpki_cert.specs.Rearranging.{ArePlaced}
 use Rattle.rpki_cert.proofs.extra.are_placed.Given as goal
 

@@ -4,7 +4,7 @@ use Rattle.rpki_der.specs.Values.{AreOctets}
 use Rattle.rpki_parts.specs.SignedDatas.{signed_data}
 use Rattle.rpki_ext.specs.Kinds.{Means}
 use Rattle.rpki_cert.specs.Certificates.{CertFields, IsCertificate}
-use Rattle.rpki_cert.proofs.CertificatesWritten.{certificate_is}
+use Rattle.rpki_cert.proofs.CertificateFormats.{certificate_is}
 use Rattle.rpki_cert.proofs.ReadAgain.{message_again, certificate_again, read_or_memory, readable}
 use Rattle.rpki_cert.proofs.issue.read_again.Goals as goal
 

@@ -1,4 +1,4 @@
-use Rattle.rpki_cert.proofs.CertificatesWritten.{certificate_is}
+use Rattle.rpki_cert.proofs.CertificateFormats.{certificate_is}
 use Rattle.rpki_cert.proofs.laws.octets_are_kept.Goals as goal
 
 pub returns : goal.returns

@@ -1,4 +1,3 @@
-use Rattle.std.proofs.Common.{length}
 use Rattle.rpki_cert.proofs.Orders.{IsOrderSoFar}
 use Rattle.rpki_cert.proofs.order.is_order.Given as goal
 

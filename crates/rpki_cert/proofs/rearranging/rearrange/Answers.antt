@@ -1,4 +1,4 @@
-use Rattle.std.proofs.Common.{rules, ◌≡◌, ◌<◌, ◌^◌, Err, ap, length}
+use Rattle.std.proofs.Common.{rules, ◌≡◌, Err, ap, length}
 use Rattle.rpki_der.specs.declared.error.EncodeError.{EncodeError}
 use Rattle.rpki_cert.specs.RearrangeErrors.{of_writing}
 use Rattle.rpki_cert.specs.Rearranging.{AreUnknown, IsPlan}

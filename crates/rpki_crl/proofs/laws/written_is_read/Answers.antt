@@ -1,7 +1,7 @@
 use Rattle.rpki_crl.proofs.EntryWritten.{elements_made}
 use Rattle.rpki_crl.proofs.ExampleLists.{some_list, some_list_fits}
 use Rattle.rpki_crl.proofs.SignedLists.{signed_list}
-use Rattle.rpki_crl.proofs.EncodedLists.{list_made}
+use Rattle.rpki_crl.proofs.ListFormats.{list_made}
 use Rattle.rpki_crl.proofs.laws.written_is_read.Goals as goal
 
 pub returns-clause-data : goal.returns-clause-data

@@ -1,6 +1,6 @@
 use Rattle.std.proofs.Common.{◌≡◌, length}
 use Rattle.rpki_der.specs.Place.{remaining}
-use Rattle.rpki_crl.specs.RevokedEntries.Reading.{entries_pass}
+use Rattle.rpki_crl.specs.RevokedEntries.{entries_pass}
 use Rattle.rpki_crl.proofs.revoked.check.Given as goal
 
 abbrev pub invariant-loop-rest : goal.invariant-loop-rest

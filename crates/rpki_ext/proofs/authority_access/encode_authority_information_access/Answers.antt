@@ -4,11 +4,12 @@ use Rattle.rpki_der.specs.Identifiers.{pkix}
 use Rattle.rpki_der.specs.Values.{enc}
 use Rattle.rpki_der.proofs.ValueWritten.{enc_longer}
 use Rattle.rpki_blocks.proofs.Lengths.{passed_long}
-use Rattle.rpki_ext.specs.AuthorityAccess.{ca_issuers, description}
-use Rattle.rpki_ext.proofs.WrittenLengths.{content_longer}
+use Rattle.rpki_ext.specs.ExtensionKinds.{authority_information_access_format, ca_issuers, description}
+use Rattle.rpki_der.proofs.ExtensionWritten.{content_longer}
 use Rattle.rpki_ext.proofs.authority_access.encode_authority_information_access.Goals as goal
 
 pub returns-in_err-put_description : goal.returns-in_err-put_description
+unfolding authority_information_access_format
 returns-in_err-put_description c =
     let elements = description ca_issuers c.args.uri.now in
     record {

@@ -1,7 +1,7 @@
 use Rattle.std.proofs.Common.{rules}
 use Rattle.rpki_der.proofs.IdentifierReads.{oid_takes}
 use Rattle.rpki_blocks.proofs.Lengths.{passed_long}
-use Rattle.rpki_ext.proofs.WrittenLengths.{content_longer}
+use Rattle.rpki_der.proofs.ExtensionWritten.{content_longer}
 use Rattle.rpki_ext.proofs.encode.put_nested_extension.Goals as goal
 
 pub returns-in_err-put_nested : goal.returns-in_err-put_nested

@@ -11,12 +11,12 @@ pub returns-then-eq : goal.returns-then-eq
 returns-then-eq c =
     let wanted = c.args.wanted.now in
     let same = (bytes_eq-Decides c.in-Ok.identifier.now wanted).0 (sym c.eq.ensures ∙ c.if-eq.true) in
-    let found = first_has wanted (remaining c.loop.rest) _ (remaining c.take_extension.new.cursor) c.in-Ok.ensures.answers same in
+    let found = first_has wanted (remaining c.loop.rest) _ (remaining c.take_extension.new.cursor) c.in-Ok.ensures.answers.encoded same in
     ((λ yes. c.loop.invariant.same.0 found), (λ h. refl))
 
 pub returns-in-Err : goal.returns-in-Err
 returns-in-Err c =
-    let none = none_there c.args.wanted.now (remaining c.loop.rest) c.in-Err.ensures.answers.1 in
+    let none = none_there c.args.wanted.now (remaining c.loop.rest) c.in-Err.ensures.answers.encoded.1 in
     ((λ yes. absurd (false≢true yes)), (λ h. absurd (none (c.loop.invariant.same.1 h))))
 
 pub loop-preserved : goal.loop-preserved
@@ -25,10 +25,10 @@ loop-preserved c =
     let old = remaining c.loop.rest in
     let new = remaining c.take_extension.new.cursor in
     let x = extension_view (c.in-Ok.identifier, c.in-Ok.field-0-1, c.in-Ok.field-0-2) in
-    let others = others_have wanted old x new c.in-Ok.ensures.answers c.in-Ok.ensures.reads (λ is. false≢true (sym c.if-eq.false ∙ c.eq.ensures ∙ (bytes_eq-Decides c.in-Ok.identifier.now wanted).1 is)) in
+    let others = others_have wanted old x new c.in-Ok.ensures.answers.encoded c.in-Ok.ensures.answers.reads (λ is. false≢true (sym c.if-eq.false ∙ c.eq.ensures ∙ (bytes_eq-Decides c.in-Ok.identifier.now wanted).1 is)) in
     record {
       same = ((λ h. c.loop.invariant.same.0 (others.1 h)), (λ h. others.0 (c.loop.invariant.same.1 h)));
-      fits = omega (arith, c.loop.invariant.fits, extension_shrinks old x new c.in-Ok.ensures.reads);
+      fits = omega (arith, c.loop.invariant.fits, extension_shrinks old x new c.in-Ok.ensures.answers.reads);
     }
 
 pub returns : goal.returns

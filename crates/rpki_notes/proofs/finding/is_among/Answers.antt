@@ -9,21 +9,21 @@ use Rattle.rpki_notes.proofs.finding.is_among.Goals as goal
 
 pub returns-in-Err : goal.returns-in-Err
 returns-in-Err c xs are =
-    let none = none_read (sought_names c.args.kinds) (HasFault c.args.fault c.args.written.now) (remaining c.args.elements.now) (remaining c.loop-rest.rest) c.loop-rest.invariant xs are c.in-Err.ensures.answers.1 in
+    let none = none_read (sought_names c.args.kinds) (HasFault c.args.fault c.args.written.now) (remaining c.args.elements.now) (remaining c.loop-rest.rest) c.loop-rest.invariant xs are c.in-Err.ensures.answers.encoded.1 in
     ((λ yes. absurd (false≢true yes)), (λ one. absurd (none one)))
 
 pub returns-then-is_found : goal.returns-then-is_found
 returns-then-is_found c xs are =
     let has = c.if-is_found.ensures.0 refl in
-    let found = first_has (sought_names c.args.kinds) (HasFault c.args.fault c.args.written.now) (remaining c.args.elements.now) (remaining c.loop-rest.rest) c.loop-rest.invariant xs are (extension_view c.in-Ok.extension) (remaining c.take_extension.new.cursor) c.in-Ok.ensures.reads has.0 has.1 in
+    let found = first_has (sought_names c.args.kinds) (HasFault c.args.fault c.args.written.now) (remaining c.args.elements.now) (remaining c.loop-rest.rest) c.loop-rest.invariant xs are (extension_view c.in-Ok.extension) (remaining c.take_extension.new.cursor) c.in-Ok.ensures.answers.reads has.0 has.1 in
     ((λ yes. found), (λ one. refl))
 
 pub loop-rest-smaller : goal.loop-rest-smaller
-loop-rest-smaller c = extension_shrinks (remaining c.loop-rest.rest) (extension_view c.in-Ok.extension) (remaining c.take_extension.new.cursor) c.in-Ok.ensures.reads
+loop-rest-smaller c = extension_shrinks (remaining c.loop-rest.rest) (extension_view c.in-Ok.extension) (remaining c.take_extension.new.cursor) c.in-Ok.ensures.answers.reads
 
 pub loop-rest-preserved : goal.loop-rest-preserved
 loop-rest-preserved c =
-    goes_on (sought_names c.args.kinds) (HasFault c.args.fault c.args.written.now) (remaining c.args.elements.now) (remaining c.loop-rest.rest) c.loop-rest.invariant (extension_view c.in-Ok.extension) (remaining c.take_extension.new.cursor) c.in-Ok.ensures.reads (λ has. false≢true (c.if-is_found.ensures.1 has))
+    goes_on (sought_names c.args.kinds) (HasFault c.args.fault c.args.written.now) (remaining c.args.elements.now) (remaining c.loop-rest.rest) c.loop-rest.invariant (extension_view c.in-Ok.extension) (remaining c.take_extension.new.cursor) c.in-Ok.ensures.answers.reads (λ has. false≢true (c.if-is_found.ensures.1 has))
 
 pub returns : goal.returns
 returns c xs are =

@@ -1,11 +1,10 @@
-use Rattle.std.proofs.Common.{rules, ◌≡◌, List, ℕ, ◌++◌, length, ap, ◌∙◌, arith}
+use Rattle.std.proofs.Common.{◌≡◌, length, ap, ◌∙◌, arith}
 use Rattle.std.proofs.lemmas.List.{length-append}
-use Rattle.std.specs.List.{concat}
-use Rattle.rpki_der.specs.Tags.{CONTEXT_CONSTRUCTED, SEQUENCE}
+use Rattle.rpki_der.specs.Tags.{SEQUENCE}
 use Rattle.rpki_der.specs.Values.{enc}
 use Rattle.rpki_der.proofs.TooLong.{passed_long}
 use Rattle.rpki_der.proofs.ValueWritten.{enc_longer}
-use Rattle.rpki_cert.specs.Rearranging.{tbs_content_with, content_with}
+use Rattle.rpki_cert.specs.Rearranging.{tbs_content_with}
 use Rattle.rpki_cert.proofs.frame.Frame.content.Goals as goal
 
 pub returns-in_err-tbs_content-clause-too_long : goal.returns-in_err-tbs_content-clause-too_long

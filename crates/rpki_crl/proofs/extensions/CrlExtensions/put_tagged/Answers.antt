@@ -3,7 +3,7 @@ use Rattle.rpki_der.specs.Tags.{SEQUENCE}
 use Rattle.rpki_der.specs.Values.{enc}
 use Rattle.rpki_der.proofs.TooLong.{passed_long, still_long}
 use Rattle.rpki_crl.specs.ListExtensions.Views.{extensions_view}
-use Rattle.rpki_crl.specs.Lists.{list_sequence}
+use Rattle.rpki_crl.specs.ListExtensions.{list_sequence}
 use Rattle.rpki_crl.proofs.ListsWritten.{elements_longer, sequence_longer}
 use Rattle.rpki_crl.proofs.extensions.CrlExtensions.put_tagged.Goals as goal
 

@@ -1,6 +1,6 @@
 use Rattle.std.proofs.Common.{◌≡◌, ◌+◌, ◌≤◌, Some, length}
 use Rattle.rpki_der.specs.Place.{remaining}
-use Rattle.rpki_crl.specs.RevokedEntries.Reading.{entries_in, entries_pass}
+use Rattle.rpki_crl.specs.RevokedEntries.{entries_in, entries_pass}
 use Rattle.rpki_crl.specs.SerialTables.{looks}
 use Rattle.rpki_crl.proofs.EntrySequences.{spares}
 use Rattle.rpki_crl.proofs.revoked.RevokedCertificates.contains_counted.Given as goal

@@ -1,8 +1,11 @@
-use Rattle.std.proofs.Common.{◌≡◌, ◌++◌, sym}
+use Rattle.std.proofs.Common.{◌≡◌, ◌++◌, subst, sym}
 use Rattle.std.proofs.lemmas.List.{append-nil}
+use Rattle.std.specs.Prelude.{OnOk}
+use Rattle.rpki_der.specs.Writers.{Part}
+use Rattle.rpki_blocks.specs.ResourceExtensions.{as_extension, ip_extension}
 use Rattle.rpki_blocks.proofs.Lengths.{passed_long}
 use Rattle.rpki_ext.specs.CertificateExtensions.{ExtensionFields, extensions}
-use Rattle.rpki_ext.proofs.WritingSteps.{elements_longer, still_long, written_before, grown, grown_on_ok}
+use Rattle.rpki_ext.proofs.WritingSteps.{addresses_longer, addresses_part, elements_longer, numbers_longer, numbers_part, still_long, written_before, grown, grown_on_ok}
 use Rattle.rpki_ext.proofs.extensions.Extensions.append_sequence.Goals as goal
 
 pub returns-in_err-put_basic_constraints-clause-too_long : goal.returns-in_err-put_basic_constraints-clause-too_long
@@ -33,7 +36,7 @@ pub returns-in_err-encode_certificate_policies-clause-too_long : goal.returns-in
 returns-in_err-encode_certificate_policies-clause-too_long c = passed_long c.from_residual-in_err-encode_certificate_policies.result _ _ _ c.from_residual-in_err-encode_certificate_policies.ensures.1 c.in_err-encode_certificate_policies.ensures.too_long (rw (← c.self.view_is) (elements_longer _ 8))
 
 pub returns-in_err-encode_extension-clause-too_long : goal.returns-in_err-encode_extension-clause-too_long
-returns-in_err-encode_extension-clause-too_long c = passed_long c.from_residual-in_err-encode_extension.result _ _ _ c.from_residual-in_err-encode_extension.ensures.1 c.in_err-encode_extension.ensures.too_long (rw (← c.self.view_is) (elements_longer _ 9))
+returns-in_err-encode_extension-clause-too_long c = passed_long c.from_residual-in_err-encode_extension.result _ _ _ c.from_residual-in_err-encode_extension.ensures.1 c.in_err-encode_extension.ensures.too_long (rw (← c.self.view_is) (addresses_longer _))
 
 pub returns-clause-ok : goal.returns-clause-ok
 unfolding extensions
@@ -64,8 +67,10 @@ returns-clause-ok c =
     let s6 = grown f 6 old c.put_crl_distribution_points.new.out.items c.put_authority_information_access.new.out.items s5 (rw c.as_ref-3.ensures.value at c.in_ok-put_authority_information_access.ensures.ok) in
     let s7 = grown f 7 old c.put_authority_information_access.new.out.items c.encode_subject_information_access.new.out.items s6 (rw (c.as_ref-4.ensures.value, c.as_ref-5.ensures.value, c.as_ref-6.ensures.value, c.as_ref-7.ensures.value) at c.in_ok-encode_subject_information_access.ensures.ok) in
     let s8 = grown f 8 old c.encode_subject_information_access.new.out.items c.encode_certificate_policies.new.out.items s7 c.in_ok-encode_certificate_policies.ensures.ok in
-    let s9 = grown f 9 old c.encode_certificate_policies.new.out.items c.encode_extension.new.out.items s8 c.in_ok-encode_extension.ensures.ok in
-    rw (← c.self.view_is) (grown_on_ok c.encode_extension-2.result f 10 old c.encode_extension.new.out.items c.encode_extension-2.new.out.items s9 c.encode_extension-2.ensures.ok)
+    let ninth : c.encode_extension.new.out.items ≡ c.encode_certificate_policies.new.out.items ++ (ip_extension f.overclaim f.v4_resources f.v6_resources).written = c.in_ok-encode_extension.ensures.ok in
+    let s9 = grown f 9 old c.encode_certificate_policies.new.out.items c.encode_extension.new.out.items s8 (subst (λ (p : Part). c.encode_extension.new.out.items ≡ c.encode_certificate_policies.new.out.items ++ p.written) (addresses_part f) ninth) in
+    let tenth : OnOk c.encode_extension-2.result (c.encode_extension-2.new.out.items ≡ c.encode_extension.new.out.items ++ (as_extension f.overclaim f.as_resources).written) = c.encode_extension-2.ensures.ok in
+    rw (← c.self.view_is) (grown_on_ok c.encode_extension-2.result f 10 old c.encode_extension.new.out.items c.encode_extension-2.new.out.items s9 (subst (λ (p : Part). OnOk c.encode_extension-2.result (c.encode_extension-2.new.out.items ≡ c.encode_extension.new.out.items ++ p.written)) (numbers_part f) tenth))
 
 pub returns-clause-too_long : goal.returns-clause-too_long
-returns-clause-too_long c = still_long c.encode_extension-2.result _ _ c.encode_extension-2.ensures.too_long (rw (← c.self.view_is) (elements_longer _ 10))
+returns-clause-too_long c = still_long c.encode_extension-2.result _ _ c.encode_extension-2.ensures.too_long (rw (← c.self.view_is) (numbers_longer _))
