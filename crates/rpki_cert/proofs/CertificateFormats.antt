@@ -27,8 +27,7 @@ use Rattle.rpki_parts.specs.Validities.{validity, validity_format}
 use Rattle.rpki_parts.proofs.NameReads.{name_alone}
 use Rattle.rpki_parts.proofs.PartFormats.{algorithm_alone, algorithm_fits, public_key_alone, public_key_fits, public_key_longer, validity_alone, validity_fits}
 use Rattle.rpki_parts.proofs.SignedFormats.{content_is, signed_enc, signed_lawful, signed_made}
-use Rattle.rpki_ext.specs.CertificateExtensions.{AreExtensions, ExtensionFields, ExtensionsFit, HasResources, extensions, parts}
-use Rattle.rpki_ext.specs.CertificateExtensions.Reading.{extensions_of}
+use Rattle.rpki_ext.specs.CertificateExtensions.{AreExtensions, ExtensionFields, ExtensionsFit, HasResources, extensions, parts, extensions_of}
 use Rattle.rpki_ext.proofs.CertificateExtensions.{extensions_read, fields_given, known_parts, ok_contents}
 use Rattle.rpki_ext.proofs.KindsWritten.{contents_short, elements_made, ok_sequence, written}
 use Rattle.rpki_cert.specs.Certificates.{CertFields, Fits, IsCertificate, IsTbsCertificate, TbsFields, certificate_content_format, certificate_format, encoding, extensions_format, tagged_extensions, tagged_extensions_format, tbs_content, tbs_content_format, tbs_format, version_format}

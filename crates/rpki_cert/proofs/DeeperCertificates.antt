@@ -32,28 +32,20 @@ module _ (d e : ℕ) (le : d ≤ e) where
       (only (identifiers (certificate_policies_within d)) xs) v h
 
   gives : (xs : List Extension) (f : ExtensionFields) → GiveFieldsWithin d xs f → GiveFieldsWithin e xs f
-  gives xs f h = record {
-    passed_over = h.passed_over;
-    basic_constraints_is = h.basic_constraints_is;
-    subject_key_identifier_is = h.subject_key_identifier_is;
-    authority_key_identifier_is = h.authority_key_identifier_is;
-    key_usage_is = h.key_usage_is;
-    extended_key_usage_is = h.extended_key_usage_is;
-    crl_distribution_points_is = h.crl_distribution_points_is;
-    authority_information_access_is = h.authority_information_access_is;
-    access = h.access;
-    subject_information_access_is = gives_access xs h.access h.subject_information_access_is;
-    access_is = h.access_is;
-    certificate_policies_is = gives_policies xs (Some f.overclaim) h.certificate_policies_is;
-    ip = h.ip;
-    ip_resources_is = h.ip_resources_is;
-    v4_is = h.v4_is;
-    v6_is = h.v6_is;
-    numbers = h.numbers;
-    as_resources_is = h.as_resources_is;
-    as_is = h.as_is;
-    some_resources = h.some_resources;
-  }
+  gives xs f h =
+      let (basic, (subject, (authority, (usage, (purposes, (lists, (issuer, (uris, (policy, others))))))))) = h.each_is in
+      record {
+        passed_over = h.passed_over;
+        access = h.access;
+        ip = h.ip;
+        numbers = h.numbers;
+        each_is = (basic, (subject, (authority, (usage, (purposes, (lists, (issuer, (gives_access xs h.access uris, (gives_policies xs (Some f.overclaim) policy, others)))))))));
+        access_is = h.access_is;
+        v4_is = h.v4_is;
+        v6_is = h.v6_is;
+        as_is = h.as_is;
+        some_resources = h.some_resources;
+      }
 
   -- ---- certificates
 

@@ -1,14 +1,14 @@
 -- Extensions in another order, with more among them that are passed over, give the same fields.
 use Rattle.std.specs.List.{AllByRecursion, AllZip}
-use Rattle.std.proofs.Common.{◌≡◌, false, refl, ℕ, zero, suc, ◌≤◌, List, [], ◌∷◌, length, take, drop, Option, Some, arith, subst, sym}
+use Rattle.std.proofs.Common.{◌≡◌, false, refl, ℕ, ◌≤◌, List, [], ◌∷◌, length, Option, arith, subst, sym}
 use Rattle.std.proofs.lemmas.Bool.{or_parts, or_from}
 use Rattle.rpki_der.specs.Extensions.{Extension, IsExtension, extension_format}
 use Rattle.rpki_der.specs.Sequences.{IsAtMostOne}
 use Rattle.rpki_der.proofs.ExtensionReads.{extension_reads}
-use Rattle.rpki_blocks.specs.declared.overclaim.Overclaim.{Overclaim}
-use Rattle.rpki_ext.specs.CertificateExtensions.{ExtensionFields, GiveFields}
-use Rattle.rpki_ext.specs.ExtensionKinds.{known, basic_constraints, subject_key_identifier, authority_key_identifier, key_usage, extended_key_usage, crl_distribution_points, authority_information_access, subject_information_access, certificate_policies, ip_resources, as_resources}
-use Rattle.rpki_ext.specs.Kinds.{ExtensionKind, is_of, only, identifiers, identifiers_by_mode, Tells, TellsUnder, Gives, GivesUnder}
+use Rattle.rpki_ext.specs.CertificateExtensions.{ExtensionFields, GiveFields, values}
+use Rattle.rpki_ext.specs.ExtensionKinds.{known, certificate_kinds}
+use Rattle.rpki_ext.specs.Kinds.{is_of, only, identifiers, identifiers_by_mode, Tells, TellsUnder}
+use Rattle.rpki_ext.specs.KindTables.{KindTable, no_kinds, kind, modes, Values, GiveEach, identifiers_of}
 use Rattle.rpki_ext.proofs.OneMeaning.{unambiguous}
 use Rattle.rpki_cert.specs.Rearranged.{IsPassedOver, IsSomeExtension}
 use Rattle.rpki_cert.proofs.Reordering.{IsReordered, kept, short_same, length_moved, all_moved, all_moved_back, carry}
@@ -21,20 +21,6 @@ IsPassed x = (is_of known x ≡ false) × (x.critical ≡ false)
 -- an extension of no known kind isn't under one of these
 abbrev AreKnown : List (List ℕ) → Type 0
 AreKnown ids = (x : Extension) → is_of known x ≡ false → is_of ids x ≡ false
-
-none_before : (count : ℕ) (ids : List (List ℕ)) (x : Extension) → is_of ids x ≡ false → is_of (take count ids) x ≡ false
-none_before zero ids x e = refl
-none_before (suc count) [] x e = refl
-none_before (suc count) (id ∷ ids) x e = let parts = or_parts _ _ e in or_from _ _ parts.0 (none_before count ids x parts.1)
-
-none_behind : (place : ℕ) (ids : List (List ℕ)) (x : Extension) → is_of ids x ≡ false → is_of (drop place ids) x ≡ false
-none_behind zero ids x e = e
-none_behind (suc place) [] x e = refl
-none_behind (suc place) (id ∷ ids) x e = none_behind place ids x (or_parts _ _ e).1
-
--- these are so many of the known ones, from this place on
-at : (place count : ℕ) → AreKnown (take count (drop place known))
-at place count x e = none_before count (drop place known) x (none_behind place known x e)
 
 -- ---- what a sequence gives
 
@@ -51,32 +37,27 @@ module _ (xs ys : List Extension) (same : SameKinds xs ys) where
   one : {V : Type 0} (P : Extension → V → Type 0) (ids : List (List ℕ)) (v : Option V) → AreKnown ids → IsAtMostOne P (only ids xs) v → IsAtMostOne P (only ids ys) v
   one P ids v in_known h = subst (λ (s : List Extension). IsAtMostOne P s v) (same ids in_known (one_short P (only ids xs) v h)) h
 
-  given : {V : Type 0} (kind : ExtensionKind V) (v : Option V) → AreKnown (identifiers kind) → Gives kind xs v → Gives kind ys v
-  given kind v in_known h = one (Tells kind) (identifiers kind) v in_known h
-
-  given_under : {V : Type 0} (kinds : Overclaim → ExtensionKind V) (mode : Overclaim) (v : Option V) → AreKnown (identifiers_by_mode kinds) → GivesUnder kinds mode xs v → GivesUnder kinds mode ys v
-  given_under kinds mode v in_known h = one (TellsUnder kinds mode) (identifiers_by_mode kinds) v in_known h
+  given : (t : KindTable) (v : Values t) → AreKnown (identifiers_of t) → GiveEach t xs v → GiveEach t ys v
+  given no_kinds v in_known h = tt
+  given (kind k t) v in_known h = (
+    one (Tells k) (identifiers k) v.0 (λ x e. or_from _ _ (or_parts _ _ (in_known x e)).0 refl) h.0,
+    given t v.1 (λ x e. (or_parts _ _ (in_known x e)).1) h.1,
+  )
+  given (modes ks t) v in_known h = (
+    one (TellsUnder ks v.0.0) (identifiers_by_mode ks) v.0.1 (λ x e. let p = or_parts _ _ (in_known x e) in or_from _ _ p.0 (or_from _ _ (or_parts _ _ p.1).0 refl)) h.0,
+    given t v.1 (λ x e. (or_parts _ _ (or_parts _ _ (in_known x e)).1).1) h.1,
+  )
 
   same_fields : (f : ExtensionFields) → AllByRecursion (λ x. is_of known x ≡ false → x.critical ≡ false) ys → GiveFields xs f → GiveFields ys f
   same_fields f passed_over g = record {
     passed_over = passed_over;
-    basic_constraints_is = given basic_constraints f.basic_ca (at 0 1) g.basic_constraints_is;
-    subject_key_identifier_is = given subject_key_identifier (Some f.subject_key_identifier) (at 1 1) g.subject_key_identifier_is;
-    authority_key_identifier_is = given authority_key_identifier f.authority_key_identifier (at 2 1) g.authority_key_identifier_is;
-    key_usage_is = given key_usage (Some f.key_usage) (at 3 1) g.key_usage_is;
-    extended_key_usage_is = given extended_key_usage f.extended_key_usage (at 4 1) g.extended_key_usage_is;
-    crl_distribution_points_is = given crl_distribution_points f.crl_uri (at 5 1) g.crl_distribution_points_is;
-    authority_information_access_is = given authority_information_access f.ca_issuer (at 6 1) g.authority_information_access_is;
     access = g.access;
-    subject_information_access_is = given subject_information_access g.access (at 7 1) g.subject_information_access_is;
-    access_is = g.access_is;
-    certificate_policies_is = given certificate_policies (Some f.overclaim) (at 8 1) g.certificate_policies_is;
     ip = g.ip;
-    ip_resources_is = given_under ip_resources f.overclaim g.ip (at 9 2) g.ip_resources_is;
+    numbers = g.numbers;
+    each_is = given certificate_kinds (values f g.access g.ip g.numbers) (λ x e. e) g.each_is;
+    access_is = g.access_is;
     v4_is = g.v4_is;
     v6_is = g.v6_is;
-    numbers = g.numbers;
-    as_resources_is = given_under as_resources f.overclaim g.numbers (at 11 2) g.as_resources_is;
     as_is = g.as_is;
     some_resources = g.some_resources;
   }

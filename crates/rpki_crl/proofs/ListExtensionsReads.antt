@@ -20,7 +20,7 @@ use Rattle.rpki_der.proofs.WrittenOctets.{literal, ok_append}
 use Rattle.rpki_ext.specs.ExtensionKinds.{authority_key_identifier, crl_number}
 use Rattle.rpki_ext.specs.Kinds.{is_of, Gives}
 use Rattle.rpki_ext.specs.KindTables.{identifiers_of}
-use Rattle.rpki_ext.proofs.ExtensionKinds.{authority_fits, authority_key_identifier_alone, crl_number_alone, list_kinds_are}
+use Rattle.rpki_ext.proofs.CertificateExtensions.{authority_fits, authority_key_identifier_alone, crl_number_alone, list_kinds_are}
 use Rattle.rpki_ext.proofs.KindTables.{table_law}
 use Rattle.rpki_crl.specs.ListExtensions.{AreExtensions, FitListExtensions, GiveListExtensions, ListExtensions, both_seen, list_extensions, list_extensions_format, list_extensions_of, list_fold, list_kinds_with_any_flag, list_sequence, with_any_flag}
 

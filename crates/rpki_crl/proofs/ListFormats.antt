@@ -1,12 +1,12 @@
 -- The formats of revocation lists are lawful.
-use Rattle.std.proofs.Common.{◌≡◌, ℕ, zero, suc, List, [], ◌∷◌, refl, arith}
+use Rattle.std.proofs.Common.{◌≡◌, ℕ, List, [], ◌∷◌, refl, arith}
 use Rattle.rpki_der.specs.BasicFormats.{time_format}
-use Rattle.rpki_der.specs.Formats.{Format, any_octets, shut_then, then}
+use Rattle.rpki_der.specs.Formats.{any_octets, then}
 use Rattle.rpki_der.specs.Skipping.{levels}
 use Rattle.rpki_der.specs.Tags.{CONTEXT_CONSTRUCTED, INTEGER, SEQUENCE}
 use Rattle.rpki_der.specs.Values.{IsEnc, IsValue, enc, length_octets}
 use Rattle.rpki_der.proofs.BasicFormats.{time_lawful}
-use Rattle.rpki_der.proofs.FormatAnswers.{IsAlone, after_alone}
+use Rattle.rpki_der.proofs.FormatAnswers.{IsAlone, then_alone}
 use Rattle.rpki_der.proofs.FormatChoices.{such_that_lawful}
 use Rattle.rpki_der.proofs.FormatLaws.{any_octets_lawful, fields_lawful, only_lawful, tagged_lawful, then_lawful}
 use Rattle.rpki_der.proofs.Formats.{of_enc}
@@ -32,14 +32,6 @@ entries_and_extensions = record {
   law = then_lawful revoked_format tagged_extensions_format refl revoked_lawful (tagged_lawful (CONTEXT_CONSTRUCTED 0) list_extensions_format (omega arith) (omega arith) list_extensions_lawful);
   none = refl;
 }
-
-nothing_shut : (least : ℕ) → shut_then least [] [] ≡ []
-nothing_shut zero = refl
-nothing_shut (suc n) = refl
-
--- formats behind which anything may follow, one after the other
-then_alone : {V W : Type 0} (f : Format V) (g : Format W) → IsAlone f → IsAlone g → IsAlone (then f g)
-then_alone f g F G = record { law = after_alone f g F G.law; none = rw (F.none, G.none) (nothing_shut g.least) }
 
 time_alone : IsAlone time_format
 time_alone = record { law = time_lawful; none = refl }

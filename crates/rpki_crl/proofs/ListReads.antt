@@ -17,7 +17,7 @@ use Rattle.rpki_der.proofs.Readings.{content_reads}
 use Rattle.rpki_der.proofs.Sequences.{sequence_again, elements_are}
 use Rattle.rpki_der.proofs.SequenceWalks.{passed}
 use Rattle.rpki_der.proofs.WrittenOctets.{value_octets}
-use Rattle.rpki_crl.specs.Answers.{AnswersOrAbsentOrMemory}
+use Rattle.rpki_der.specs.Answers.{AnswersOrAbsentOrMemory}
 use Rattle.rpki_crl.specs.RevokedEntries.{AreEntries, AreKept, Entry, FitsRevoked, IsEntry, IsRevokedCertificates, Revoked, entries_in, entries_pass, entry_format, kept_entries, or_no_entries, revoked_format, revoked_of, some_entries}
 use Rattle.rpki_crl.proofs.EntryReads.{entry_reads, entry_shrinks}
 use Rattle.rpki_crl.proofs.EntrySequences.{all_read, entries_are}

@@ -1,4 +1,3 @@
-pub mod Answers
 pub mod RevokedEntries
 pub mod SerialTables
 pub mod SerialBuckets

@@ -6,7 +6,7 @@ ghost use Rattle.rpki_der.specs.Place.Reading.{Returns, ReturnsOrMemory, TookOrM
 ghost use Rattle.rpki_der.specs.Tags.{SEQUENCE};
 ghost use Rattle.rpki_der.specs.Values.{AreOctets};
 ghost use Rattle.rpki_der.specs.Writers.{Writes};
-ghost use Rattle.rpki_crl.specs.Answers.{AnswersOrAbsentOrMemory};
+ghost use Rattle.rpki_der.specs.Answers.{AnswersOrAbsentOrMemory};
 ghost use Rattle.rpki_crl.specs.RevokedEntries.{AreEntries, IsRevoked, entries, entries_pass, no_entries, revoked_format, revoked_of, revoked_part};
 ghost use Rattle.rpki_crl.specs.RevokedEntries.Views.{entry_of};
 ghost use Rattle.rpki_crl.specs.SerialTables.{looks};

@@ -6,7 +6,7 @@ use Rattle.rpki_der.specs.declared.error.DecodeError.TheVariants.{Memory}
 use Rattle.rpki_der.specs.Values.{AreOctets}
 use Rattle.rpki_der.specs.Encoding.{Begins, Means}
 use Rattle.rpki_der.specs.Reading.{Reads}
-use Rattle.rpki_der.specs.Place.{Place, remaining, Rejects, AnswersBy, AnswersOrMemoryBy, MeansOrMemoryBy}
+use Rattle.rpki_der.specs.Place.{Place, remaining, Rejects, ReadsFrontBy, ReadsFrontOrMemoryBy, MeansOrMemoryBy}
 use Rattle.rpki_der.specs.Place.Reading.{TookBy, TookOrMemoryBy, ReturnsBy, ReturnsOrMemoryBy}
 use Rattle.rpki_der.proofs.Octets.{some, nothing}
 use Rattle.rpki_der.proofs.Readings.{one_reading}
@@ -57,13 +57,13 @@ no_front {Y} read encodes law octets e y rest b =
 
 -- a reader that takes what a lawful reading function gives answers both ways
 pub answers : {X Y : Type 0} (view : X → Y) (read : List ℕ → Option (Y × List ℕ)) (encodes : Y → List ℕ → Type 0) → Reads read encodes
-    → (old : Place) (r : Result X DecodeError) (new : Place) → AreOctets (remaining old) → TookBy view read old r new → AnswersBy view encodes old r new
+    → (old : Place) (r : Result X DecodeError) (new : Place) → AreOctets (remaining old) → TookBy view read old r new → ReadsFrontBy view encodes old r new
 answers view read encodes law old (Ok x) new fits e = law.takes (remaining old) (view x) (remaining new) fits e
 answers view read encodes law old (Err d) new fits e = (e.0, no_front read encodes law (remaining old) e.1)
 
 -- a reader that may run out of memory, and takes what such a function gives, answers both ways
 pub answers_or_memory : {X Y : Type 0} (view : X → Y) (read : List ℕ → Option (Y × List ℕ)) (encodes : Y → List ℕ → Type 0) → Reads read encodes
-    → (old : Place) (r : Result X DecodeError) (new : Place) → AreOctets (remaining old) → TookOrMemoryBy view read old r new → AnswersOrMemoryBy view encodes old r new
+    → (old : Place) (r : Result X DecodeError) (new : Place) → AreOctets (remaining old) → TookOrMemoryBy view read old r new → ReadsFrontOrMemoryBy view encodes old r new
 answers_or_memory view read encodes law old (Ok x) new fits e = law.takes (remaining old) (view x) (remaining new) fits e
 answers_or_memory view read encodes law old (Err d) new fits e = rejects d (no_front read encodes law (remaining old)) e
 
@@ -71,7 +71,7 @@ answers_or_memory view read encodes law old (Err d) new fits e = rejects d (no_f
 
 -- a reader at their beginning tells what they mean
 pub front_means : {X Y : Type 0} (view : X → Y) (encodes : Y → List ℕ → Type 0) (old new : Place) (r : Result X DecodeError) (octets : List ℕ)
-    → remaining old ≡ octets → AnswersOrMemoryBy view encodes old r new → MeansOrMemoryBy view (Means encodes) r octets
+    → remaining old ≡ octets → ReadsFrontOrMemoryBy view encodes old r new → MeansOrMemoryBy view (Means encodes) r octets
 front_means view encodes old new (Ok x) octets e a = (remaining new, record { text = a.text; encoded = a.encoded; parts = sym e ∙ a.parts })
 front_means view encodes old new (Err d) octets e a = rejects d (λ none y m. none y m.0 (record { text = m.1.text; encoded = m.1.encoded; parts = e ∙ m.1.parts })) a
 

@@ -1,10 +1,10 @@
 -- Both directions of a reader of a format, from what it took; and the laws by which formats are
 -- found to be lawful.
-use Rattle.std.proofs.Common.{◌≡◌, ◌<◌, ℕ, List, [], Option, Result, Ok, Err, refl, arith, rules}
+use Rattle.std.proofs.Common.{◌≡◌, ◌<◌, ℕ, zero, suc, List, [], Option, Result, Ok, Err, refl, arith, rules}
 use Rattle.rpki_der.specs.declared.error.DecodeError.{DecodeError}
 use Rattle.rpki_der.specs.Values.{AreOctets, IsUnambiguous}
 use Rattle.rpki_der.specs.Reading.{Reads}
-use Rattle.rpki_der.specs.Formats.{Format, Fields, IsLawful, SEQUENCE_WITH, fields, then}
+use Rattle.rpki_der.specs.Formats.{Format, Fields, IsLawful, SEQUENCE_WITH, fields, shut_then, then}
 use Rattle.rpki_der.specs.Tags.{SEQUENCE}
 use Rattle.rpki_der.specs.Answers.{AnswersBy, AnswersOrMemoryBy}
 use Rattle.rpki_der.specs.Place.{Place, remaining, Keeps}
@@ -28,6 +28,14 @@ alone_means f F = one_meaning f F.none F.law
 -- behind a format behind which anything may follow, any may stand
 pub after_alone : {V W : Type 0} (f : Format V) (g : Format W) → IsAlone f → IsLawful g → IsLawful (then f g)
 after_alone f g F G = then_lawful f g (rw F.none refl) F.law G
+
+nothing_shut : (least : ℕ) → shut_then least [] [] ≡ []
+nothing_shut zero = refl
+nothing_shut (suc n) = refl
+
+-- formats behind which anything may follow, one after the other
+pub then_alone : {V W : Type 0} (f : Format V) (g : Format W) → IsAlone f → IsAlone g → IsAlone (then f g)
+then_alone f g F G = record { law = after_alone f g F G.law; none = rw (F.none, G.none) (nothing_shut g.least) }
 
 -- a SEQUENCE of fields that make a record, and of which they are made
 pub sequence_lawful : {R X : Type 0} (make : X → R) (f : Fields R X) → ((x : X) → f.values (make x) ≡ x) → ((r : R) → make (f.values r) ≡ r) → IsLawful f.format → IsLawful (SEQUENCE_WITH make f)

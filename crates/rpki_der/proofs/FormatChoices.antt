@@ -1,11 +1,11 @@
 -- Formats that choose, that test, and that are a content of one's own are lawful.
-use Rattle.std.proofs.Common.{◌≡◌, ℕ, ◌+◌, ◌%◌, ◌^◌, ◌<◌, ◌≤◌, Bool, true, false, cond, List, [], ◌∷◌, ◌++◌, length, Option, Some, None, refl, sym, ap, subst, ◌∙◌, inl, inr, arith, eqb}
+use Rattle.std.proofs.Common.{◌≡◌, Decides, ℕ, ◌+◌, ◌%◌, ◌^◌, ◌<◌, ◌≤◌, Bool, true, false, cond, List, [], ◌∷◌, ◌++◌, length, Option, Some, None, refl, sym, ap, subst, ◌∙◌, inl, inr, arith, eqb}
 use Rattle.std.proofs.lemmas.Bool.{cases_Bool, eq-eqb}
 use Rattle.std.specs.Prelude.{is_some}
 use Rattle.std.proofs.lemmas.List.{append-nil, length-append}
 use Rattle.rpki_der.specs.Choices.{choice, Either, whole}
 use Rattle.rpki_der.specs.Encoding.{BeginsOther}
-use Rattle.rpki_der.specs.FormatChoices.{primitive, CHOICE, such_that, defined_by, image, if_whole, kept}
+use Rattle.rpki_der.specs.FormatChoices.{primitive, CHOICE, such_that, restricted, defined_by, image, if_whole, kept}
 use Rattle.rpki_der.specs.Formats.{Format, IsLawful, Starts, Follows, may_begin, may_follow, either_head}
 use Rattle.rpki_der.specs.Reading.{ReadsWhole, at_end, content, Inside}
 use Rattle.rpki_der.specs.Skipping.Reading.{captured_at}
@@ -14,7 +14,7 @@ use Rattle.rpki_der.specs.Values.Reading.{◌>>=◌}
 use Rattle.rpki_der.proofs.Choices.{choice_reads, content_shrinks, inside_begins}
 use Rattle.rpki_der.proofs.FormatLaws.{begins_with, begins_so, whatever_follows, weaker, follow_at, head_front, head_back}
 use Rattle.rpki_der.proofs.Octets.{AreOctets-append, AreOctets-front, bind_some, both_are, some, if_some}
-use Rattle.rpki_der.proofs.Readings.{before, content_reads, and_then_before, ended_some}
+use Rattle.rpki_der.proofs.Readings.{before, content_reads, same_before, and_then_before, ended_some}
 use Rattle.rpki_der.proofs.SkippingReads.{captured_reads, captured_length}
 use Rattle.rpki_der.proofs.ValueWritten.{Short, enc_longer, made}
 use Rattle.rpki_der.proofs.WrittenOctets.{IfShort, octets_enc, value_octets}
@@ -60,6 +60,18 @@ such_that_lawful {V} passes f F =
           omega (arith, ap length (both_are (b.0, a.0.1) (v, rest) b.2).1, F.shorter octets a.0.0 a.0.1 a.1);
       octets = λ v fits short. F.octets v fits.1 short;
       made = λ v fits short. (fits.0, F.made v fits.1 short);
+    }
+
+-- a format that is restricted by a property, which the test decides
+pub restricted_lawful : {V : Type 0} (test : V → Bool) (P : V → Type 0) (f : Format V) → ((v : V) (text : List ℕ) → f.encodes v text → Decides (test v) (P v)) → IsLawful f → IsLawful (restricted test P f)
+restricted_lawful test P f decides F =
+    let S = such_that_lawful test f F in
+    record {
+      reads = same_before (Follows f.shut) (such_that test f).read (such_that test f).encodes (restricted test P f).encodes S.reads (λ v text s. (s.1, (decides v text s.1).0 s.0)) (λ v text s. ((decides v text s.0).1 s.1, s.0));
+      starts = λ v text s. F.starts v text s.0;
+      shorter = S.shorter;
+      octets = λ v fits short. F.octets v fits.0 short;
+      made = λ v fits short. (F.made v fits.0 short, fits.1);
     }
 
 -- what a function makes of values

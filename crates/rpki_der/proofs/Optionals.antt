@@ -2,7 +2,7 @@
 use Rattle.std.proofs.Common.{◌≡◌, ℕ, eqb, List, [], ◌∷◌, ◌++◌, Option, Some, None, Result, Ok, Err, refl, sym, ap, subst, ◌∙◌, inl, inr}
 use Rattle.std.proofs.lemmas.Bool.{cases_Bool, eq-eqb, ne_eqb, eqb-false}
 use Rattle.rpki_der.specs.declared.error.DecodeError.{DecodeError}
-use Rattle.rpki_der.specs.Place.{Place, remaining, AnswersOrAbsent, AnswersOrAbsentOrMemory}
+use Rattle.rpki_der.specs.Place.{Place, remaining, ReadsFrontOrAbsent, ReadsFrontOrAbsentOrMemory}
 use Rattle.rpki_der.specs.Place.Reading.{Took, TookOrMemory}
 use Rattle.rpki_der.specs.Reading.{optional, map_value, ReadsBefore, Reads, ReadsOrAbsent, Optional, BeginWith}
 use Rattle.rpki_der.specs.Values.Reading.{◌>>=◌}
@@ -87,11 +87,11 @@ module _ {X : Type 0} (t : ℕ) (f : List ℕ → Option (X × List ℕ)) (S : X
   none_begins octets e x rest b = nothing {B = ⊥} (x, rest) (sym e ∙ F.again octets x rest b)
 
   -- a reader that takes such a value answers both ways
-  pub answers_or_absent : (old : Place) (r : Result X DecodeError) (new : Place) → AreOctets (remaining old) → Took f old r new → AnswersOrAbsent t S old r new
+  pub answers_or_absent : (old : Place) (r : Result X DecodeError) (new : Place) → AreOctets (remaining old) → Took f old r new → ReadsFrontOrAbsent t S old r new
   answers_or_absent old (Ok x) new fits e = F.takes (remaining old) x (remaining new) fits e
   answers_or_absent old (Err d) new fits e = (e.0, none_begins (remaining old) e.1)
 
   -- a reader of such a value that may run out of memory answers both ways
-  pub answers_or_absent_or_memory : (old : Place) (r : Result X DecodeError) (new : Place) → AreOctets (remaining old) → TookOrMemory f old r new → AnswersOrAbsentOrMemory t S old r new
+  pub answers_or_absent_or_memory : (old : Place) (r : Result X DecodeError) (new : Place) → AreOctets (remaining old) → TookOrMemory f old r new → ReadsFrontOrAbsentOrMemory t S old r new
   answers_or_absent_or_memory old (Ok x) new fits e = F.takes (remaining old) x (remaining new) fits e
   answers_or_absent_or_memory old (Err d) new fits e = rejects d (none_begins (remaining old)) e

@@ -48,6 +48,19 @@ such_that passes f = record {
   shut = f.shut;
 }
 
+-- only values with a property, which the test tells: a constraint (X.680 49)
+abbrev pub restricted : {V : Type 0} → (V → Bool) → (V → Type 0) → Format V → Format V
+restricted test P f = record {
+  encodes = λ v text. f.encodes v text × P v;
+  read = conversion (λ v. if test v then Some v else None) f.read;
+  fits = λ v. f.fits v × P v;
+  written = f.written;
+  inside = f.inside;
+  heads = f.heads;
+  least = f.least;
+  shut = f.shut;
+}
+
 -- ANY DEFINED BY (X.208): a value, of which nothing but what it decides is kept, and one whose
 -- format it decides, behind which these may not follow
 abbrev pub defined_by : {X Y : Type 0} → Format X → (Y → X) → List ℕ → (X → Format Y) → Format Y

@@ -46,9 +46,9 @@ Rejects _ P = P
 
 -- A reader's answer, seen by view: a value that a front encodes, and the cursor stands behind it;
 -- or no front encodes any value. It takes no memory.
-abbrev pub AnswersBy : {X Y : Type 0} → (X → Y) → (Y → List ℕ → Type 0) → Place → Result X DecodeError → Place → Type 0
-AnswersBy view encodes old (Ok x) new = Begins encodes (remaining old) (view x) (remaining new)
-AnswersBy {X} {Y} view encodes old (Err e) new = (e ≢ Memory) × ((y : Y) (rest : List ℕ) → Begins encodes (remaining old) y rest → ⊥)
+abbrev pub ReadsFrontBy : {X Y : Type 0} → (X → Y) → (Y → List ℕ → Type 0) → Place → Result X DecodeError → Place → Type 0
+ReadsFrontBy view encodes old (Ok x) new = Begins encodes (remaining old) (view x) (remaining new)
+ReadsFrontBy {X} {Y} view encodes old (Err e) new = (e ≢ Memory) × ((y : Y) (rest : List ℕ) → Begins encodes (remaining old) y rest → ⊥)
 
 -- The answer of a reader that answers None at the end and before another identifier, seen by view.
 abbrev pub AnswersOptionalBy : {X Y : Type 0} → (X → Y) → ℕ → (Y → List ℕ → Type 0) → Place → Result (Option X) DecodeError → Place → Type 0
@@ -58,9 +58,9 @@ AnswersOptionalBy {X} {Y} view tag encodes old (Err e) new =
     (e ≢ Memory) × (BeginsOther tag (remaining old) → ⊥) × ((y : Y) (rest : List ℕ) → Begins encodes (remaining old) y rest → ⊥)
 
 -- the answer of a reader that may run out of memory, seen by view
-abbrev pub AnswersOrMemoryBy : {X Y : Type 0} → (X → Y) → (Y → List ℕ → Type 0) → Place → Result X DecodeError → Place → Type 0
-AnswersOrMemoryBy view encodes old (Ok x) new = Begins encodes (remaining old) (view x) (remaining new)
-AnswersOrMemoryBy {X} {Y} view encodes old (Err e) new = Rejects e ((y : Y) (rest : List ℕ) → Begins encodes (remaining old) y rest → ⊥)
+abbrev pub ReadsFrontOrMemoryBy : {X Y : Type 0} → (X → Y) → (Y → List ℕ → Type 0) → Place → Result X DecodeError → Place → Type 0
+ReadsFrontOrMemoryBy view encodes old (Ok x) new = Begins encodes (remaining old) (view x) (remaining new)
+ReadsFrontOrMemoryBy {X} {Y} view encodes old (Err e) new = Rejects e ((y : Y) (rest : List ℕ) → Begins encodes (remaining old) y rest → ⊥)
 
 -- the answer of a reader whose value may be absent, and that may run out of memory, seen by view
 abbrev pub AnswersOptionalOrMemoryBy : {X Y : Type 0} → (X → Y) → ℕ → (Y → List ℕ → Type 0) → Place → Result (Option X) DecodeError → Place → Type 0
@@ -75,14 +75,14 @@ AnswersOptionalOrMemory tag encodes = AnswersOptionalOrMemoryBy (λ x. x) tag en
 
 -- a reader's answer where a value may be absent before another identifier, and what is then read is
 -- a value too
-abbrev pub AnswersOrAbsent : {X : Type 0} → ℕ → (X → List ℕ → Type 0) → Place → Result X DecodeError → Place → Type 0
-AnswersOrAbsent tag encodes old (Ok x) new = BeginsOrAbsent tag encodes (remaining old) x (remaining new)
-AnswersOrAbsent {X} tag encodes old (Err e) new = (e ≢ Memory) × ((x : X) (rest : List ℕ) → BeginsOrAbsent tag encodes (remaining old) x rest → ⊥)
+abbrev pub ReadsFrontOrAbsent : {X : Type 0} → ℕ → (X → List ℕ → Type 0) → Place → Result X DecodeError → Place → Type 0
+ReadsFrontOrAbsent tag encodes old (Ok x) new = BeginsOrAbsent tag encodes (remaining old) x (remaining new)
+ReadsFrontOrAbsent {X} tag encodes old (Err e) new = (e ≢ Memory) × ((x : X) (rest : List ℕ) → BeginsOrAbsent tag encodes (remaining old) x rest → ⊥)
 
 -- the answer of a reader where an absent value is a value too, and that may run out of memory
-abbrev pub AnswersOrAbsentOrMemory : {X : Type 0} → ℕ → (X → List ℕ → Type 0) → Place → Result X DecodeError → Place → Type 0
-AnswersOrAbsentOrMemory tag encodes old (Ok x) new = BeginsOrAbsent tag encodes (remaining old) x (remaining new)
-AnswersOrAbsentOrMemory {X} tag encodes old (Err e) new = Rejects e ((x : X) (rest : List ℕ) → BeginsOrAbsent tag encodes (remaining old) x rest → ⊥)
+abbrev pub ReadsFrontOrAbsentOrMemory : {X : Type 0} → ℕ → (X → List ℕ → Type 0) → Place → Result X DecodeError → Place → Type 0
+ReadsFrontOrAbsentOrMemory tag encodes old (Ok x) new = BeginsOrAbsent tag encodes (remaining old) x (remaining new)
+ReadsFrontOrAbsentOrMemory {X} tag encodes old (Err e) new = Rejects e ((x : X) (rest : List ℕ) → BeginsOrAbsent tag encodes (remaining old) x rest → ⊥)
 
 -- a call's answer on whole octets, seen by view: a value that they encode; or they encode none, or
 -- it ran out of memory

@@ -1,49 +1,220 @@
--- The extensions of a certificate: what a sequence of them gives, both ways, and what is written of
--- their fields.
+-- The extensions of a certificate: the formats of their kinds are lawful; what a sequence of them
+-- gives, both ways; and what is written of their fields.
 use Rattle.std.specs.List.{AllByRecursion, list_all}
-use Rattle.std.specs.Prelude.{unwrap_or, filter, IfSome, is_some, ◌≢◌, ◌^◌, ◌-◌}
-use Rattle.std.proofs.Common.{ℕ, Bool, List, Option, [], ◌∷◌, Some, None, ◌≡◌, true, false, cond, ap, refl, map, sym, subst, inl, inr, Result, Ok, Err, ◌⊎◌, ◌||◌, not, ◌∙◌}
-use Rattle.std.proofs.lemmas.Bool.{cases_Bool, false_from_ne_true, true_from_ne_false}
+use Rattle.std.specs.Prelude.{unwrap_or, filter, IfSome, is_some, ◌≢◌, ◌^◌, ◌-◌, bytes_eq}
+use Rattle.std.proofs.Common.{ℕ, Bool, List, Option, [], ◌∷◌, Some, None, ◌≡◌, true, false, cond, ap, refl, map, sym, subst, inl, inr, Result, Ok, Err, ◌⊎◌, ◌||◌, not, ◌∙◌, length, arith}
+use Rattle.std.proofs.lemmas.Bool.{cases_Bool, false_from_ne_true, true_from_ne_false, eq-eqb}
 use Rattle.std.proofs.lemmas.Option.{IfSome_then}
 use Rattle.rpki_der.specs.Extensions.{OptionalExtension, Extension, IsExtension, extension_format}
 use Rattle.rpki_der.specs.Folding.{IsLawful, IsFolded, over}
 use Rattle.rpki_der.specs.Place.{MeansOrMemory}
 use Rattle.rpki_der.specs.Place.Reading.{ReturnsOrMemory}
 use Rattle.rpki_der.specs.Reading.{ReadsWhole}
-use Rattle.rpki_der.specs.Values.{AreOctets}
+use Rattle.rpki_der.specs.Values.{AreOctets, nested}
 use Rattle.rpki_der.specs.Values.Reading.{◌>>=◌}
 use Rattle.rpki_der.specs.declared.error.DecodeError.{DecodeError}
 use Rattle.rpki_der.proofs.Answering.{rejects}
 use Rattle.rpki_der.proofs.ExtensionReads.{HasOctets, extension_reads, extension_shrinks, extension_octets}
 use Rattle.rpki_der.proofs.Folding.{beside_law, each_law, over_reads}
 use Rattle.rpki_der.proofs.Lists.{weaken}
-use Rattle.rpki_der.proofs.Octets.{some, some_is, nothing, bind_some, chosen}
+use Rattle.rpki_der.proofs.Octets.{some, some_is, nothing, bind_some, chosen, AreOctets-append}
 use Rattle.rpki_der.proofs.ValueWritten.{Short}
-use Rattle.rpki_der.proofs.WrittenOctets.{IfShort}
+use Rattle.rpki_der.proofs.WrittenOctets.{IfShort, literal, value_octets}
 use Rattle.rpki_blocks.specs.Addresses.{Ip, ip_addr_blocks_format}
 use Rattle.rpki_blocks.specs.Prefixes.{AreV4}
 use Rattle.rpki_blocks.specs.Resources.{missing, inherit, IsResources, Resources}
 use Rattle.rpki_blocks.specs.Systems.{as_identifiers_format}
 use Rattle.rpki_blocks.specs.declared.overclaim.Overclaim.{Overclaim}
 use Rattle.rpki_blocks.specs.declared.overclaim.Overclaim.TheVariants.{Refuse, Trim}
-use Rattle.rpki_ext.specs.CertificateExtensions.{bare, ExtensionFields, parts, no_access, no_addresses, GiveFields, ExtensionsFit, HasResources, AreExtensions, values_of}
+use Rattle.rpki_ext.specs.CertificateExtensions.{bare, ExtensionFields, parts, no_access, no_addresses, GiveFields, ExtensionsFit, HasResources, AreExtensions, values_of, under, may_stand, all_kinds, State, ListedFields, listed_under, agreed, completed, extensions_of, state_of, Names, is_seen, wanted, HasFlag}
 use Rattle.rpki_ext.specs.CertificateExtensions.Views.{ip_of}
-use Rattle.rpki_ext.specs.CertificateExtensions.Reading.{under, may_stand, all_kinds, State, ListedFields, listed_under, agreed, completed, extensions_of, state_of, Names, is_seen, wanted, HasFlag}
-use Rattle.rpki_ext.specs.ExtensionKinds.{known, subject_key_identifier, key_usage, certificate_policies, ip_resources, as_resources, certificate_kinds, HasTwentyOctets, authority_information_access_format, basic_constraints_format, certificate_policies_format, crl_distribution_points_format}
-use Rattle.rpki_ext.specs.Kinds.{Gives, is_of, kept_if}
+use Rattle.rpki_ext.specs.ExtensionKinds.{known, subject_key_identifier, key_usage, certificate_policies, ip_resources, as_resources, certificate_kinds, HasTwentyOctets, authority_information_access_format, basic_constraints_format, certificate_policies_format, crl_distribution_points_format, authority_key_identifier_format, key_usage_format, usage_bits, usage_of, ArePurposes, are_purposes, extended_key_usage_format, AreIssuers, ca_issuers, issuers_of, IsPolicyWithin, policy_of, list_kinds}
+use Rattle.rpki_ext.specs.Kinds.{Gives, is_of, kept_if, Any}
 use Rattle.rpki_ext.specs.ResourceKinds.{addresses_format, are_there, has_addresses, numbers_format}
 use Rattle.rpki_ext.specs.SubjectAccess.{Access, HasUris, has_uri, subject_information_access_format}
 use Rattle.rpki_ext.specs.declared.key_usage.KeyUsage.{KeyUsage as Usage}
-use Rattle.rpki_ext.specs.declared.reading.Named.{Named}
-use Rattle.rpki_ext.specs.declared.reading.Named.TheVariants.{BasicConstraints, SubjectKeyIdentifier, AuthorityKeyIdentifier, KeyUsage, ExtendedKeyUsage, CrlDistributionPoints, AuthorityInformationAccess, SubjectInformationAccess, CertificatePolicies, IpResources, AsResources}
-use Rattle.rpki_ext.specs.declared.reading.ReadExtensions.{ReadExtensions}
-use Rattle.rpki_ext.proofs.ExtensionKinds.{kinds_are, purposes_fit, authority_fits, subject_fits, usage_fits}
-use Rattle.rpki_ext.proofs.KindTables.{table_law}
+use Rattle.rpki_ext.specs.declared.extensions.Named.{Named}
+use Rattle.rpki_ext.specs.declared.extensions.Named.TheVariants.{BasicConstraints, SubjectKeyIdentifier, AuthorityKeyIdentifier, KeyUsage, ExtendedKeyUsage, CrlDistributionPoints, AuthorityInformationAccess, SubjectInformationAccess, CertificatePolicies, IpResources, AsResources}
+use Rattle.rpki_ext.specs.declared.extensions.ReadExtensions.{ReadExtensions}
+use Rattle.rpki_ext.proofs.KindTables.{table_law, AreKinds}
 use Rattle.rpki_ext.proofs.KindsWritten.{IsKnown, is_known, all_known, is_in, only_ones, none_unknown, written}
-use Rattle.rpki_ext.proofs.ResourceKinds.{is_there, no_addresses_there, not_there, some_addresses}
+use Rattle.rpki_ext.proofs.ResourceKinds.{is_there, no_addresses_there, not_there, some_addresses, addresses_alone, as_shows, ip_shows, numbers_alone}
 use Rattle.rpki_ext.proofs.ShownModes.{under_mode, mode_under, stays, was}
 use Rattle.rpki_ext.proofs.TablesWritten.{identifiers_by_kind, Fit, table_given, table_octets}
-use Rattle.rpki_ext.proofs.SubjectAccess.{no_uris}
+use Rattle.rpki_ext.proofs.SubjectAccess.{no_uris, subject_information_access_alone}
+use Rattle.rpki_der.proofs.FormatAnswers.{IsAlone, format_laws}
+use Rattle.rpki_der.specs.Tags.{CONTEXT, SEQUENCE, BIT_STRING, CONTEXT_CONSTRUCTED, OBJECT_IDENTIFIER}
+use Rattle.rpki_der.proofs.FormatLaws.{tagged_lawful, any_octets_lawful, values_shrinks, some_read}
+use Rattle.rpki_parts.specs.Keys.{key_identifier_format, twenty_octets}
+use Rattle.rpki_parts.proofs.PartFormats.{twenty_lawful, key_identifier_alone}
+use Rattle.rpki_der.specs.Formats.{any_octets, AreSome, some_of}
+use Rattle.rpki_der.proofs.FormatChoices.{image_lawful, restricted_lawful}
+use Rattle.rpki_ext.specs.declared.key_usage.KeyUsage.TheVariants.{Ca, Ee}
+use Rattle.rpki_der.specs.BasicFormats.{object_identifier, serial_format}
+use Rattle.rpki_der.specs.Primitives.{IsObjectIdentifier}
+use Rattle.rpki_der.specs.Primitives.Reading.{oid_at}
+use Rattle.rpki_der.specs.Sequences.{AreEncodings}
+use Rattle.rpki_der.specs.Sequences.Reading.{Shrinks}
+use Rattle.rpki_der.proofs.BasicFormats.{object_identifier_lawful, serial_lawful}
+use Rattle.rpki_ext.proofs.Contents.{constant_oid, sequence_by_lawful}
+use Rattle.rpki_ext.proofs.GeneralNames.{names_lawful, names_made, names_ok, names_read}
+use Rattle.std.proofs.lemmas.Slice.Eq.{bytes_eq-Decides}
+use Rattle.rpki_parts.specs.Uris.{IsRsync}
+use Rattle.rpki_ext.specs.Contents.{SEQUENCE_BY}
+use Rattle.rpki_ext.specs.GeneralNames.{names_of, uri_format}
+use Rattle.std.proofs.lemmas.List.{append-nil}
+use Rattle.rpki_der.specs.Skipping.{levels}
+use Rattle.rpki_der.specs.Skipping.Reading.{skip_all_of}
+use Rattle.rpki_der.proofs.SkippingReads.{skip_all_reads}
+use Rattle.rpki_blocks.specs.Overclaims.{policy_identifier}
+use Rattle.rpki_blocks.specs.Overclaims.Reading.{mode_of}
+use Rattle.rpki_blocks.proofs.OverclaimReads.{was_named}
+
+-- ---- Basic Constraints
+
+-- anything may follow BasicConstraints
+pub basic_constraints_alone : IsAlone basic_constraints_format
+unfolding basic_constraints_format
+basic_constraints_alone = record { law = search format_laws; none = refl }
+
+-- ---- Subject Key Identifier and Authority Key Identifier
+
+-- anything may follow an AuthorityKeyIdentifier
+pub authority_key_identifier_alone : IsAlone authority_key_identifier_format
+unfolding authority_key_identifier_format
+authority_key_identifier_alone = record { law = tagged_lawful SEQUENCE (twenty_octets (CONTEXT 0)) (omega arith) (omega arith) (twenty_lawful (CONTEXT 0) (omega arith) (omega arith)); none = refl }
+
+-- 20 octets can be written as either
+pub subject_fits : (id : List ℕ) → HasTwentyOctets id → key_identifier_format.fits id
+unfolding key_identifier_format
+subject_fits id h = (eq-eqb (length id) 20 h.1, h.0)
+
+pub authority_fits : (id : List ℕ) → HasTwentyOctets id → authority_key_identifier_format.fits id
+unfolding authority_key_identifier_format
+authority_fits id h = (eq-eqb (length id) 20 h.1, h.0)
+
+-- ---- Key Usage
+
+-- anything may follow a KeyUsage
+pub key_usage_alone : IsAlone key_usage_format
+unfolding key_usage_format
+key_usage_alone = record { law = image_lawful usage_of usage_bits (any_octets BIT_STRING) (any_octets_lawful BIT_STRING (omega arith) (omega arith)); none = refl }
+
+-- every usage can be written
+pub usage_fits : (usage : Usage) → key_usage_format.fits usage
+unfolding key_usage_format
+usage_fits Ca = (refl, literal (usage_bits Ca) refl)
+usage_fits Ee = (refl, literal (usage_bits Ee) refl)
+
+-- ---- Extended Key Usage
+
+-- reading an OBJECT IDENTIFIER uses octets up
+pub oid_shrinks : Shrinks oid_at
+oid_shrinks = values_shrinks object_identifier object_identifier_lawful refl (omega arith)
+
+identifiers_read : ReadsWhole (some_of oid_at) (AreSome IsObjectIdentifier)
+identifiers_read = some_read object_identifier object_identifier_lawful refl (omega arith)
+
+-- octets that pass the test are purposes
+pub kept_purposes : (c : List ℕ) → AreOctets c → are_purposes c ≡ true → ArePurposes c
+kept_purposes c low e = kept (some_of oid_at c) refl e
+  where
+    kept : (o : Option (List (List ℕ))) → some_of oid_at c ≡ o → is_some o ≡ true → ArePurposes c
+    kept None h e = absurd cc
+    kept (Some ids) h e = (ids, identifiers_read.takes c ids low h)
+
+purposes_kept : (c : List ℕ) → ArePurposes c → are_purposes c ≡ true
+purposes_kept c p = rw (identifiers_read.again p.0 c p.1) refl
+
+-- anything may follow an ExtKeyUsageSyntax
+pub extended_key_usage_alone : IsAlone extended_key_usage_format
+unfolding extended_key_usage_format
+extended_key_usage_alone = record {
+  law = restricted_lawful are_purposes ArePurposes (any_octets SEQUENCE) (λ c text s. (kept_purposes c s.octets, purposes_kept c)) (any_octets_lawful SEQUENCE (omega arith) (omega arith));
+  none = refl;
+}
+
+values_octets : (ids : List (List ℕ)) (c : List ℕ) → AreEncodings IsObjectIdentifier ids c → AreOctets c
+values_octets [] c s = rw s tt
+values_octets (id ∷ ids) c s = rw s.4 (AreOctets-append s.0 s.1 (value_octets s.2.enc) (values_octets ids s.1 s.3))
+
+-- purposes can be written
+pub purposes_fit : (c : List ℕ) → ArePurposes c → extended_key_usage_format.fits c
+unfolding extended_key_usage_format
+purposes_fit c p = (values_octets p.0 c p.1.0, p)
+
+-- ---- CRL Distribution Points
+
+-- anything may follow CRLDistributionPoints
+pub crl_distribution_points_alone : IsAlone crl_distribution_points_format
+unfolding crl_distribution_points_format
+crl_distribution_points_alone = record { law = tagged_lawful SEQUENCE _ (omega arith) (omega arith) (tagged_lawful SEQUENCE _ (omega arith) (omega arith) (tagged_lawful (CONTEXT_CONSTRUCTED 0) _ (omega arith) (omega arith) (names_lawful (CONTEXT_CONSTRUCTED 0) (omega arith) (omega arith)))); none = refl }
+
+-- ---- Authority Information Access
+
+issuers_read : (method : List ℕ) → ReadsWhole (issuers_of method) (AreIssuers method)
+issuers_read method = record {
+  takes = λ names v low e. let g = chosen (bytes_eq method ca_issuers) (names_of names) v e in ((bytes_eq-Decides method ca_issuers).0 g.0, names_read.takes names v low g.1);
+  again = λ v names s. rw ((bytes_eq-Decides method ca_issuers).1 s.0) (names_read.again v names s.1);
+}
+
+-- anything may follow an AuthorityInfoAccessSyntax
+pub authority_information_access_alone : IsAlone authority_information_access_format
+unfolding authority_information_access_format
+authority_information_access_alone = record {
+  law = tagged_lawful SEQUENCE (SEQUENCE_BY issuers_of AreIssuers IsRsync (λ uri. ca_issuers) uri_format.written) (omega arith) (omega arith)
+      (sequence_by_lawful issuers_of AreIssuers IsRsync (λ uri. ca_issuers) uri_format.written issuers_read (λ uri r. constant_oid ca_issuers refl refl) names_ok (λ uri r short. (refl, names_made uri r short)));
+  none = refl;
+}
+
+-- ---- Certificate Policies
+
+named_again : (overclaim : Overclaim) → mode_of policy_identifier (policy_identifier overclaim) ≡ Some overclaim
+named_again Refuse = refl
+named_again Trim = refl
+
+policy_fits : (overclaim : Overclaim) → object_identifier.fits (policy_identifier overclaim)
+policy_fits Refuse = constant_oid (policy_identifier Refuse) refl refl
+policy_fits Trim = constant_oid (policy_identifier Trim) refl refl
+
+policy_read : (id : List ℕ) → ReadsWhole (policy_of id) (IsPolicyWithin levels id)
+policy_read id = record {
+  takes = λ rest overclaim low e.
+      let a = bind_some (mode_of policy_identifier id) (λ o. skip_all_of rest >>= λ u. some o) overclaim e in
+      let b = bind_some (skip_all_of rest) (λ u. some a.0) overclaim a.2 in
+      (was_named policy_identifier id (Some a.0) (sym a.1) ∙ ap policy_identifier (some_is a.0 overclaim b.2), skip_all_reads.takes rest b.0 low b.1);
+  again = λ overclaim rest s. rw (s.0, named_again overclaim, skip_all_reads.again tt rest s.1) refl;
+}
+
+-- anything may follow certificatePolicies
+pub certificate_policies_alone : IsAlone (certificate_policies_format levels)
+unfolding certificate_policies_format
+certificate_policies_alone = record {
+  law = tagged_lawful SEQUENCE (SEQUENCE_BY policy_of (IsPolicyWithin levels) Any policy_identifier (λ o. [])) (omega arith) (omega arith)
+      (sequence_by_lawful policy_of (IsPolicyWithin levels) Any policy_identifier (λ o. []) policy_read (λ o fits. policy_fits o) (λ o fits short. tt) (λ o fits short. (refl, ([], refl, tt))));
+  none = refl;
+}
+
+-- what is written of a policy
+pub policy_alone_written : (overclaim : Overclaim) → (certificate_policies_format levels).written overclaim ≡ nested (SEQUENCE ∷ SEQUENCE ∷ OBJECT_IDENTIFIER ∷ []) (policy_identifier overclaim)
+unfolding certificate_policies_format
+policy_alone_written overclaim = rw append-nil refl
+
+-- ---- CRL Number
+
+-- anything may follow a CRLNumber
+pub crl_number_alone : IsAlone serial_format
+crl_number_alone = record { law = serial_lawful; none = refl }
+
+-- ---- tables
+
+-- all kinds that certificates know are lawful
+pub kinds_are : AreKinds certificate_kinds
+kinds_are = (basic_constraints_alone, (key_identifier_alone, (authority_key_identifier_alone, (key_usage_alone, (extended_key_usage_alone, (crl_distribution_points_alone, (authority_information_access_alone, (subject_information_access_alone, (certificate_policies_alone, ((ip_shows, λ m. addresses_alone), ((as_shows, λ m. numbers_alone), tt)))))))))))
+
+-- the kinds of a revocation list's extensions are lawful
+pub list_kinds_are : AreKinds list_kinds
+list_kinds_are = (authority_key_identifier_alone, (crl_number_alone, tt))
 
 -- ---- a second extension of a kind, and one with another flag than its kind's, is refused
 
@@ -132,23 +303,19 @@ give xs (u, (basic_ca, (subject, (authority, (usage, (purposes, (crl_uri, (ca_is
     let same : listed_under mode.0 i.0 n.0 ≡ l.0 = some_is (listed_under mode.0 i.0 n.0) l.0 n.2 in
     subst (λ (g : ExtensionFields). GiveFields xs g) {x = made (listed_under mode.0 i.0 n.0) key.0 used.0} (◌∙◌ {a = made (listed_under mode.0 i.0 n.0) key.0 used.0} {b = made l.0 key.0 used.0} (ap (λ (k : ListedFields). made k key.0 used.0) {x = listed_under mode.0 i.0 n.0} same) (some_is (made l.0 key.0 used.0) f used.2)) (record {
       passed_over = weaken (λ x. may_stand x ≡ true) (λ x. is_of known x ≡ false → x.critical ≡ false) (λ x p. stands (is_of known x) x.critical p) xs others;
-      basic_constraints_is = basic_is;
-      subject_key_identifier_is = subst (λ (v : Option (List ℕ)). Gives subject_key_identifier xs v) key.1 subject_is;
-      authority_key_identifier_is = authority_is;
-      key_usage_is = subst (λ (v : Option Usage). Gives key_usage xs v) used.1 usage_is;
-      extended_key_usage_is = purposes_is;
-      crl_distribution_points_is = crl_is;
-      authority_information_access_is = issuer_is;
       access = access;
-      subject_information_access_is = access_is;
-      access_is = refl {a = unwrap_or access no_access};
-      certificate_policies_is = subst (λ (v : Option Overclaim). Gives certificate_policies xs v) mode.1 policy_is;
       ip = i.0;
-      ip_resources_is = under_mode ip_resources mode.0 _ ip i.0 i.1 ip_is;
+      numbers = n.0;
+      each_is =
+          let subject_given = subst (λ (v : Option (List ℕ)). Gives subject_key_identifier xs v) key.1 subject_is in
+          let usage_given = subst (λ (v : Option Usage). Gives key_usage xs v) used.1 usage_is in
+          let policy_given = subst (λ (v : Option Overclaim). Gives certificate_policies xs v) mode.1 policy_is in
+          let ip_given = under_mode ip_resources mode.0 _ ip i.0 i.1 ip_is in
+          let numbers_given = under_mode as_resources mode.0 _ numbers n.0 n.1 numbers_is in
+          (basic_is, (subject_given, (authority_is, (usage_given, (purposes_is, (crl_is, (issuer_is, (access_is, (policy_given, (ip_given, (numbers_given, tt)))))))))));
+      access_is = refl {a = unwrap_or access no_access};
       v4_is = refl {a = (unwrap_or i.0 no_addresses).v4};
       v6_is = refl {a = (unwrap_or i.0 no_addresses).v6};
-      numbers = n.0;
-      as_resources_is = under_mode as_resources mode.0 _ numbers n.0 n.1 numbers_is;
       as_is = refl {a = unwrap_or n.0 missing};
       some_resources = elim (either (is_some ip) (is_some numbers) t.0) [ inl y ↦ inl (stays mode.0 ip i.0 i.1 y) | inr y ↦ inr (stays mode.0 numbers n.0 n.1 y) ];
     })
@@ -163,12 +330,13 @@ same_fields f access v4 v6 numbers a b c d = λ i. record f { access = (sym a) i
 
 seen_of : (xs : List Extension) (f : ExtensionFields) → GiveFields xs f → (s : State) × all_kinds.means xs s × (completed s ≡ Some f)
 seen_of xs f g =
-    let i = mode_under ip_resources f.overclaim _ g.ip g.ip_resources_is in
-    let n = mode_under as_resources f.overclaim _ g.numbers g.as_resources_is in
+    let (basic, (subject, (authority, (usage, (purposes, (lists, (issuer, (uris, (policy, (ips, (asns, _))))))))))) = g.each_is in
+    let i = mode_under ip_resources f.overclaim _ g.ip ips in
+    let n = mode_under as_resources f.overclaim _ g.numbers asns in
     let there : (is_some i.0 || is_some n.0) ≡ true = some_some i.0 n.0 (elim g.some_resources [ inl y ↦ inl (was f.overclaim i.0 g.ip i.1 y) | inr y ↦ inr (was f.overclaim n.0 g.numbers n.1 y) ]) in
     let stand_all = weaken (λ x. is_of known x ≡ false → x.critical ≡ false) (λ x. may_stand x ≡ true) (λ x p. stand (is_of known x) x.critical p) xs g.passed_over in (
       (tt, (f.basic_ca, (Some f.subject_key_identifier, (f.authority_key_identifier, (Some f.key_usage, (f.extended_key_usage, (f.crl_uri, (f.ca_issuer, (g.access, (Some f.overclaim, (i.0, (n.0, tt)))))))))))),
-      (stand_all, (g.basic_constraints_is, (g.subject_key_identifier_is, (g.authority_key_identifier_is, (g.key_usage_is, (g.extended_key_usage_is, (g.crl_distribution_points_is, (g.authority_information_access_is, (g.subject_information_access_is, (g.certificate_policies_is, (i.2, (n.2, tt)))))))))))),
+      (stand_all, (basic, (subject, (authority, (usage, (purposes, (lists, (issuer, (uris, (policy, (i.2, (n.2, tt)))))))))))),
       rw (there, i.1, n.1) (ap some (same_fields f (unwrap_or g.access no_access) _ _ _ g.access_is g.v4_is g.v6_is g.as_is)),
     )
 
@@ -249,27 +417,16 @@ module _ (x : ExtensionFields) (fits : ExtensionsFit x) (only_v4 : AreV4 x.v4_re
   -- what is written of fields with resources gives these fields, if short
   pub fields_given : HasResources x → AllByRecursion (λ p. IfSome p.content Short) (parts x) → GiveFields (written (parts x)) x
   fields_given some s =
-      let (basic, (key, (authority, (usage, (purposes, (lists, (issuer, (uris, (policies, (ips, (asns, _))))))))))) = table_given certificate_kinds kinds_are (parts x) (values_of x) all_fit (only_ones (parts x) (identifiers_by_kind certificate_kinds) (parts x) (one_each x.overclaim x) s) in
       let addresses_are : i ≡ _ = else_kept has_addresses no_addresses i (no_addresses_there i) in
       record {
         passed_over = none_unknown (parts x) (known_parts x);
-        basic_constraints_is = basic;
-        subject_key_identifier_is = key;
-        authority_key_identifier_is = authority;
-        key_usage_is = usage;
-        extended_key_usage_is = purposes;
-        crl_distribution_points_is = lists;
-        authority_information_access_is = issuer;
         access = _;
-        subject_information_access_is = uris;
-        access_is = else_kept has_uri no_access x.access (no_uris x.access);
-        certificate_policies_is = policies;
         ip = _;
-        ip_resources_is = ips;
+        numbers = _;
+        each_is = table_given certificate_kinds kinds_are (parts x) (values_of x) all_fit (only_ones (parts x) (identifiers_by_kind certificate_kinds) (parts x) (one_each x.overclaim x) s);
+        access_is = else_kept has_uri no_access x.access (no_uris x.access);
         v4_is = ap (λ (j : Ip). j.v4) addresses_are;
         v6_is = ap (λ (j : Ip). j.v6) addresses_are;
-        numbers = _;
-        as_resources_is = asns;
         as_is = else_kept are_there missing x.as_resources (not_there x.as_resources);
         some_resources = elim some [
           | inl four ↦ inl (kept_some has_addresses i (some_addresses (inl four)))

@@ -1,41 +1,19 @@
--- Formats that are restricted by a property, and SEQUENCEs of what an identifier decides, are
--- lawful.
-use Rattle.std.specs.List.{AllByRecursion, flat_map}
-use Rattle.std.proofs.Common.{◌≡◌, ℕ, ◌%◌, ◌^◌, ◌<◌, ◌≤◌, Bool, true, List, [], ◌∷◌, ◌++◌, length, Option, Some, Decides, refl, ap, arith}
-use Rattle.std.proofs.lemmas.List.{length-append}
+-- SEQUENCEs of what an identifier decides are lawful.
+use Rattle.std.proofs.Common.{◌≡◌, ℕ, true, List, ◌++◌, Option, refl, arith}
 use Rattle.rpki_der.specs.BasicFormats.{object_identifier}
 use Rattle.rpki_der.specs.Choices.{AndThen}
-use Rattle.rpki_der.specs.FormatChoices.{primitive, such_that}
-use Rattle.rpki_der.specs.Formats.{AreSome, Follows, Format, IsLawful, Starts, some_of}
+use Rattle.rpki_der.specs.Formats.{IsLawful}
 use Rattle.rpki_der.specs.Primitives.{IsObjectIdentifier}
 use Rattle.rpki_der.specs.Primitives.Reading.{is_oid, oid_at}
-use Rattle.rpki_der.specs.Reading.{Inside, ReadsWhole, content}
-use Rattle.rpki_der.specs.Sequences.{AreEncodings}
-use Rattle.rpki_der.specs.Sequences.Reading.{Shrinks, sequence_of}
+use Rattle.rpki_der.specs.Reading.{ReadsWhole}
 use Rattle.rpki_der.specs.Tags.{OBJECT_IDENTIFIER, SEQUENCE}
-use Rattle.rpki_der.specs.Values.{AreOctets, enc}
-use Rattle.rpki_der.proofs.Choices.{content_shrinks, inside_begins, sequence_reads}
-use Rattle.rpki_der.proofs.FormatAnswers.{IsAlone, alone_reads}
-use Rattle.rpki_der.proofs.FormatChoices.{primitive_lawful, such_that_lawful}
-use Rattle.rpki_der.proofs.FormatLaws.{begins_with}
+use Rattle.rpki_der.specs.Values.{enc}
+use Rattle.rpki_der.proofs.FormatChoices.{primitive_lawful}
 use Rattle.rpki_der.proofs.IdentifierReads.{oid_reads, oid_takes}
-use Rattle.rpki_der.proofs.Octets.{AreOctets-after, AreOctets-append, bind_some, nothing}
-use Rattle.rpki_der.proofs.Readings.{before, content_reads, same_before}
-use Rattle.rpki_der.proofs.ValueWritten.{Short, append_short, enc_longer, identifier_made, made}
-use Rattle.rpki_der.proofs.WrittenOctets.{IfShort, all_octets, literal, octets_enc, ok_append, ok_enc}
-use Rattle.rpki_ext.specs.Contents.{SEQUENCE_BY, identified, restricted}
-
--- a format that is restricted by a property, which the test decides
-pub restricted_lawful : {V : Type 0} (test : V → Bool) (P : V → Type 0) (f : Format V) → ((v : V) (text : List ℕ) → f.encodes v text → Decides (test v) (P v)) → IsLawful f → IsLawful (restricted test P f)
-restricted_lawful test P f decides F =
-    let S = such_that_lawful test f F in
-    record {
-      reads = same_before (Follows f.shut) (such_that test f).read (such_that test f).encodes (restricted test P f).encodes S.reads (λ v text s. (s.1, (decides v text s.1).0 s.0)) (λ v text s. ((decides v text s.0).1 s.1, s.0));
-      starts = λ v text s. F.starts v text s.0;
-      shorter = S.shorter;
-      octets = λ v fits short. F.octets v fits.0 short;
-      made = λ v fits short. (F.made v fits.0 short, fits.1);
-    }
+use Rattle.rpki_der.proofs.Octets.{AreOctets-after, bind_some}
+use Rattle.rpki_der.proofs.ValueWritten.{Short, append_short, identifier_made}
+use Rattle.rpki_der.proofs.WrittenOctets.{IfShort, all_octets, literal, ok_append, ok_enc}
+use Rattle.rpki_ext.specs.Contents.{SEQUENCE_BY, identified}
 
 -- an identifier that is a constant
 pub constant_oid : (id : List ℕ) → is_oid id ≡ true → all_octets id ≡ true → object_identifier.fits id

@@ -1,5 +1,5 @@
 -- What is encoded under one bound of depth is encoded under a greater one.
-use Rattle.std.proofs.Common.{ℕ, ◌≤◌, List, [], ◌∷◌, Some, None}
+use Rattle.std.proofs.Common.{ℕ, ◌≤◌, List, Some, None}
 use Rattle.rpki_der.specs.Skipping.{IsSkippableWithin}
 use Rattle.rpki_der.proofs.Lists.{weaken}
 use Rattle.rpki_der.proofs.SkippingDepths.{deeper}

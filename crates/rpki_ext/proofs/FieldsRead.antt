@@ -72,11 +72,14 @@ module _ (x y : ExtensionFields) (short : Short (extensions x)) (read : AreExten
   resource_parts : IsOnly (parts x) (identifiers_by_mode ip_resources) address_part × IsOnly (parts x) (identifiers_by_mode as_resources) number_part
   resource_parts = let (_, (_, (_, (_, (_, (_, (_, (_, (_, (ips, (asns, _))))))))))) = ones in (ips, asns)
 
+  read_resources : GivesUnder ip_resources y.overclaim read.0 read.2.ip × GivesUnder as_resources y.overclaim read.0 read.2.numbers
+  read_resources = let (_, (_, (_, (_, (_, (_, (_, (_, (_, (ips, (asns, _))))))))))) = read.2.each_is in (ips, asns)
+
   addresses_given : IsAtMostOne (TellsUnder ip_resources y.overclaim) (written (address_part ∷ [])) read.2.ip
-  addresses_given = given ip_resources address_part read.2.ip resource_parts.0 read.2.ip_resources_is
+  addresses_given = given ip_resources address_part read.2.ip resource_parts.0 read_resources.0
 
   numbers_given : IsAtMostOne (TellsUnder as_resources y.overclaim) (written (number_part ∷ [])) read.2.numbers
-  numbers_given = given as_resources number_part read.2.numbers resource_parts.1 read.2.as_resources_is
+  numbers_given = given as_resources number_part read.2.numbers resource_parts.1 read_resources.1
 
   -- fields whose extensions are read have resources
   pub resources_read : HasResources x

@@ -22,8 +22,7 @@ use Rattle.rpki_parts.specs.Uris.Tests.{is_rsync}
 use Rattle.rpki_parts.specs.Uris.{IsRsync, ArePrintable}
 use Rattle.rpki_parts.proofs.UriTests.{all_decides, rsync_decides}
 use Rattle.rpki_ext.specs.GeneralNames.{AreAscii, IsGeneralNames, keep_rsync, names_in, names_of, uri_format}
-use Rattle.rpki_der.proofs.FormatChoices.{primitive_lawful}
-use Rattle.rpki_ext.proofs.Contents.{restricted_lawful}
+use Rattle.rpki_der.proofs.FormatChoices.{primitive_lawful, restricted_lawful}
 use Rattle.rpki_ext.proofs.OnlyElements.{only_from, only_to, one_from, one_to}
 
 ascii_decides : (text : List ℕ) → Decides (list_all is_ascii text) (AreAscii text)

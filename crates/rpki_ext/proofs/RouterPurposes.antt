@@ -10,7 +10,7 @@ use Rattle.rpki_der.proofs.IdentifierReads.{oid_reads}
 use Rattle.rpki_der.proofs.Octets.{bind_some, some, some_is}
 use Rattle.rpki_der.proofs.Sequences.{elements_are, sequence_again}
 use Rattle.rpki_ext.specs.RouterPurposes.{HasRouterPurpose, is_router_purpose, or_router}
-use Rattle.rpki_ext.proofs.ExtensionKinds.{oid_shrinks}
+use Rattle.rpki_ext.proofs.CertificateExtensions.{oid_shrinks}
 
 abbrev any : List (List ℕ) → Bool
 any = list_any is_router_purpose

@@ -7,7 +7,7 @@ use Rattle.rpki_der.specs.Sequences.{IsAtMostOne}
 use Rattle.rpki_der.proofs.Octets.{some, some_is, nothing}
 use Rattle.rpki_blocks.specs.declared.overclaim.Overclaim.{Overclaim}
 use Rattle.rpki_blocks.specs.declared.overclaim.Overclaim.TheVariants.{Refuse, Trim}
-use Rattle.rpki_ext.specs.CertificateExtensions.Reading.{same_mode, under}
+use Rattle.rpki_ext.specs.CertificateExtensions.{same_mode, under}
 use Rattle.rpki_ext.specs.Kinds.{ExtensionKind, TellsUnder}
 
 same_true : (m n : Overclaim) → same_mode m n ≡ true → m ≡ n

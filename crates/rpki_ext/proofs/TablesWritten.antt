@@ -2,10 +2,10 @@
 use Rattle.std.specs.List.{AllByRecursion, AllZip}
 use Rattle.std.specs.Prelude.{IfSome}
 use Rattle.std.proofs.Common.{ℕ, List, [], ◌∷◌}
-use Rattle.rpki_der.specs.Extensions.{OptionalExtension, Extension}
+use Rattle.rpki_der.specs.Extensions.{OptionalExtension}
 use Rattle.rpki_der.proofs.WrittenOctets.{IfShort}
-use Rattle.rpki_ext.specs.KindTables.{KindTable, no_kinds, kind, modes, Values, parts_of}
-use Rattle.rpki_ext.specs.Kinds.{identifiers, Gives, identifiers_by_mode, GivesUnder}
+use Rattle.rpki_ext.specs.KindTables.{KindTable, no_kinds, kind, modes, Values, GiveEach, parts_of}
+use Rattle.rpki_ext.specs.Kinds.{identifiers, identifiers_by_mode}
 use Rattle.rpki_ext.proofs.KindTables.{AreKinds}
 use Rattle.rpki_ext.proofs.KindsWritten.{IsOnly, written, gives, gives_under, ok_part}
 
@@ -21,14 +21,8 @@ Fit no_kinds v = Unit {0}
 Fit (kind k t) v = IfSome v.0 k.format.fits × Fit t v.1
 Fit (modes ks t) v = IfSome v.0.1 (ks v.0.0).format.fits × Fit t v.1
 
--- the extensions give these values
-abbrev pub AllGiven : (t : KindTable) → List Extension → Values t → Type 0
-AllGiven no_kinds xs v = Unit {0}
-AllGiven (kind k t) xs v = Gives k xs v.0 × AllGiven t xs v.1
-AllGiven (modes ks t) xs v = GivesUnder ks v.0.0 xs v.0.1 × AllGiven t xs v.1
-
 -- what is written of a table's values gives these values
-pub table_given : (t : KindTable) → AreKinds t → (all : List OptionalExtension) (v : Values t) → Fit t v → AllZip (IsOnly all) (identifiers_by_kind t) (parts_of t v) → AllGiven t (written all) v
+pub table_given : (t : KindTable) → AreKinds t → (all : List OptionalExtension) (v : Values t) → Fit t v → AllZip (IsOnly all) (identifiers_by_kind t) (parts_of t v) → GiveEach t (written all) v
 table_given no_kinds is all v fits h = tt
 table_given (kind k t) is all v fits h = (gives k is.0 v.0 h.0 fits.0, table_given t is.1 all v.1 fits.1 h.1)
 table_given (modes ks t) is all v fits h = (gives_under ks v.0.0 (is.0.1 v.0.0) v.0.1 h.0 fits.0, table_given t is.1 all v.1 fits.1 h.1)

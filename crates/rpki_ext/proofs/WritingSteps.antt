@@ -1,16 +1,16 @@
 -- How the extensions are written one by one, and what is too long of them.
-use Rattle.std.proofs.Common.{ℕ, zero, suc, ◌≤◌, ◌++◌, Bool, false, List, [], ◌∷◌, length, map, get_or, take, Option, Some, None, Result, Ok, Err, ◌≡◌, refl, sym, subst, ap, ◌∙◌, append_assoc, arith}
-use Rattle.std.specs.Prelude.{OnOk}
+use Rattle.std.proofs.Common.{ℕ, zero, suc, ◌<◌, ◌≤◌, ◌++◌, Bool, false, List, [], ◌∷◌, length, map, get_or, take, Option, Some, None, ◌≡◌, refl, sym, ap, ◌∙◌, append_assoc, arith}
 use Rattle.std.specs.List.{concat}
-use Rattle.std.proofs.lemmas.List.{append-nil, length-append}
-use Rattle.rpki_der.specs.Writers.{Part}
+use Rattle.std.proofs.lemmas.List.{append-nil, get_or-map, length-append, length-map, take_all}
 use Rattle.rpki_der.specs.Extensions.{extension_of_some, content_of_some, OptionalExtension, text, part_of}
 use Rattle.rpki_der.proofs.ExtensionWritten.{extension_longer}
-pub use Rattle.rpki_der.proofs.TooLong.{still_long}
 use Rattle.rpki_blocks.specs.Overclaims.{as_identifier, ip_identifier}
 use Rattle.rpki_blocks.specs.ResourceExtensions.{as_extension, critical, ip_extension}
+use Rattle.rpki_blocks.specs.declared.overclaim.Overclaim.{Overclaim}
+use Rattle.rpki_ext.specs.CertificateExtensions.{ExtensionFields, part_for, parts, extensions}
+use Rattle.rpki_ext.specs.declared.extensions.Named.{Named}
+use Rattle.rpki_ext.specs.declared.extensions.Named.TheVariants.{IpResources, AsResources}
 use Rattle.rpki_ext.proofs.ResourceKinds.{addresses_written, numbers_written}
-use Rattle.rpki_ext.specs.CertificateExtensions.{ExtensionFields, parts, extensions}
 
 -- an extension without content
 abbrev pub nothing : OptionalExtension
@@ -31,19 +31,18 @@ unfolding extensions
 elements_longer x k = longer_at (parts x) k
 
 -- the part of addresses, as it is written
-pub addresses_part : (x : ExtensionFields) → ip_extension x.overclaim x.v4_resources x.v6_resources ≡ part_of (get_or (parts x) 9 nothing)
-addresses_part x = ap (critical (ip_identifier x.overclaim)) (sym (addresses_written (record { v4 = x.v4_resources; v6 = x.v6_resources })))
+pub addresses_part : (x : ExtensionFields) (mode : Overclaim) → ip_extension mode x.v4_resources x.v6_resources ≡ part_of (part_for x (IpResources mode))
+addresses_part x mode = ap (critical (ip_identifier mode)) (sym (addresses_written (record { v4 = x.v4_resources; v6 = x.v6_resources })))
 
 -- the part of AS numbers, as it is written
-pub numbers_part : (x : ExtensionFields) → as_extension x.overclaim x.as_resources ≡ part_of (get_or (parts x) 10 nothing)
-numbers_part x = ap (critical (as_identifier x.overclaim)) (sym (numbers_written x.as_resources))
+pub numbers_part : (x : ExtensionFields) (mode : Overclaim) → as_extension mode x.as_resources ≡ part_of (part_for x (AsResources mode))
+numbers_part x mode = ap (critical (as_identifier mode)) (sym (numbers_written x.as_resources))
 
--- neither is longer than all that is written
-pub addresses_longer : (x : ExtensionFields) → length (ip_extension x.overclaim x.v4_resources x.v6_resources).inside ≤ length (extensions x)
-addresses_longer x = subst (λ (p : Part). length p.inside ≤ length (extensions x)) (sym (addresses_part x)) (elements_longer x 9)
-
-pub numbers_longer : (x : ExtensionFields) → length (as_extension x.overclaim x.as_resources).inside ≤ length (extensions x)
-numbers_longer x = subst (λ (p : Part). length p.inside ≤ length (extensions x)) (sym (numbers_part x)) (elements_longer x 10)
+-- the part of a kind in the order of the table
+pub part_at : (x : ExtensionFields) (kinds : List Named) (i : ℕ) (d : Named) → map (part_for x) kinds ≡ parts x → i < length (parts x) → part_for x (get_or kinds i d) ≡ get_or (parts x) i nothing
+part_at x kinds i d order lt =
+    let in_kinds : i < length kinds = omega (arith, lt, length-map kinds (part_for x), ap length order) in
+    sym (get_or-map (part_for x) kinds i d nothing in_kinds) ∙ ap (λ (ps : List OptionalExtension). get_or ps i nothing) order
 
 -- ---- a sequence that grows
 
@@ -63,7 +62,7 @@ grown f k old prev new before more =
     let one = text (get_or (parts f) k nothing) in
     more ∙ ap (λ (b : List ℕ). b ++ one) before ∙ append_assoc old (written_before f k) one ∙ ap (λ (b : List ℕ). old ++ b) (sym (one_more (parts f) k))
 
--- a part that is appended after an Ok goes on what was written before it
-pub grown_on_ok : {T E : Type 0} (r : Result T E) (f : ExtensionFields) (k : ℕ) (old prev new : List ℕ) → prev ≡ old ++ written_before f k → OnOk r (new ≡ prev ++ text (get_or (parts f) k nothing)) → OnOk r (new ≡ old ++ written_before f (suc k))
-grown_on_ok (Ok x) f k old prev new before more = grown f k old prev new before more
-grown_on_ok (Err e) f k old prev new before more = tt
+-- and so all are written
+pub all_written : (x : ExtensionFields) (k : ℕ) → length (parts x) ≤ k → written_before x k ≡ extensions x
+unfolding extensions
+all_written x k le = ap (λ (ps : List OptionalExtension). concat (map text ps)) (take_all k (parts x) le)

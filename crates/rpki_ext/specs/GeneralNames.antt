@@ -3,14 +3,13 @@ use Rattle.std.specs.Prelude.{ℕ, ◌<◌, List, if◌then◌else◌, Option, S
 use Rattle.std.specs.List.{AllByRecursion, list_all}
 use Rattle.std.specs.Char.{is_ascii}
 use Rattle.rpki_der.specs.Folding.{Step, once, over}
-use Rattle.rpki_der.specs.FormatChoices.{primitive}
+use Rattle.rpki_der.specs.FormatChoices.{primitive, restricted}
 use Rattle.rpki_der.specs.Formats.{Format, any_octets}
 use Rattle.rpki_der.specs.Sequences.{AreEncodings}
 use Rattle.rpki_der.specs.Tags.{CONTEXT}
 use Rattle.rpki_der.specs.Values.Reading.{◌>>=◌}
 use Rattle.rpki_parts.specs.Uris.{IsRsync}
 use Rattle.rpki_parts.specs.Uris.Tests.{is_rsync, is_https}
-use Rattle.rpki_ext.specs.Contents.{restricted}
 use Rattle.rpki_ext.specs.OnlyElements.{IsOnlyWith}
 
 -- each octet is below 80

@@ -1,22 +1,35 @@
-//! What the extensions of a certificate give, and how they are written.
-ghost use Rattle.std.specs.Prelude.{◌≡◌, ◌++◌, OnOk, IfOk, IfSome};
-ghost use Rattle.std.specs.Fn.{FnOnceReturnsAt};
+//! What the extensions of a certificate give, kind by kind: how they are read where they stand, and
+//! how they are written.
+ghost use Rattle.std.specs.Prelude.{◌≡◌, ◌++◌, map, false, OnOk, IfOk, Some};
+ghost use Rattle.rpki_der.specs.Extensions.{Extension, part_of};
+ghost use Rattle.rpki_der.specs.Place.{remaining};
+ghost use Rattle.rpki_der.specs.Place.Reading.{Returns, ReturnsOrMemoryBy};
 ghost use Rattle.rpki_der.specs.Writers.{SaysLong, Writes};
-ghost use Rattle.rpki_parts.specs.Uris.{IsRsync, IsHttps};
-ghost use Rattle.rpki_ext.specs.ExtensionKinds.{HasTwentyOctets, ArePurposes};
-ghost use Rattle.rpki_ext.specs.CertificateExtensions.{bare, ExtensionsFit, extensions, sequence_part};
+ghost use Rattle.rpki_ext.specs.CertificateExtensions.{bare, ExtensionsFit, extensions, sequence_part, Names, wanted, HasFlag, field_of, all_kinds, state_of, is_seen, completed, part_for, parts};
 
-use crate::authority_access::put_authority_information_access;
-use crate::basic_constraints::put_basic_constraints;
-use crate::distribution_points::put_crl_distribution_points;
+use crate::authority_access::{
+    put_authority_information_access, take_authority_information_access,
+};
+use crate::basic_constraints::{put_basic_constraints, take_basic_constraints};
+use crate::distribution_points::{put_crl_distribution_points, take_crl_distribution_points};
 use crate::early_exits::beside;
-use crate::extended_key_usage::{ExtendedKeyUsage, put_extended_key_usage};
-use crate::key_identifiers::{encode_subject_key_identifier, put_authority_key_identifier};
-use crate::key_usage::{KeyUsage, encode_key_usage};
-use crate::policies::encode_certificate_policies;
-use crate::subject_access::encode_subject_information_access;
+use crate::extended_key_usage::{
+    ExtendedKeyUsage, put_extended_key_usage, take_extended_key_usage,
+};
+use crate::kept::{copied, known_https, known_identifier, known_rsync, known_usage};
+use crate::key_identifiers::{
+    encode_subject_key_identifier, put_authority_key_identifier, take_authority_key_identifier,
+    take_subject_key_identifier,
+};
+use crate::key_usage::{KeyUsage, encode_key_usage, take_key_usage};
+use crate::listed_resources::agreed;
+use crate::policies::{encode_certificate_policies, take_certificate_policies};
+use crate::reading::{Taken, keep, uris};
+use crate::subject_access::{
+    Sia, encode_subject_information_access, take_subject_information_access,
+};
 use rpki_blocks::{AsResources, IpResources, Overclaim};
-use rpki_der::{EncodeError, MAX_LEN};
+use rpki_der::{Cursor, DecodeError, EncodeError, Field, MAX_LEN, oid};
 use rpki_parts::{Https, KeyIdentifier, Rsync};
 use std::alloc::{AllocError, Global};
 use std::marker::Model;
@@ -80,55 +93,6 @@ impl Model for Extensions {
       v6_resources = x.v6_resources;
       as_resources = x.as_resources;
     } };
-}
-
-// A copy of what is there.
-fn copied<T: Drop, F: FnOnce(&T) -> Result<T, AllocError>>(
-    value: &Option<T>,
-    copy: F,
-) -> Result<Option<T>, AllocError>
-    requires callable { F.IsAlwaysCallable copy }
-    requires same { (x : _) (r : _) → FnOnceReturnsAt F.FnOnce copy x r → IfOk r (λ y. y ≡ x) }
-    ensures { IfOk result (λ copy. copy ≡ value.now) }
-{
-    match value {
-        Some(value) => Ok(Some(copy(value)?)),
-        None => Ok(None),
-    }
-}
-
-// What a URI, purposes and an identifier keep, where they are there: called for what they ensure.
-
-fn known_rsync(uri: &Option<Rsync>)
-    ensures { IfSome uri.now IsRsync }
-{
-    if let Some(uri) = uri {
-        let _octets = uri.as_bytes();
-    }
-}
-
-fn known_https(uri: &Option<Https>)
-    ensures { IfSome uri.now IsHttps }
-{
-    if let Some(uri) = uri {
-        let _octets = uri.as_bytes();
-    }
-}
-
-fn known_usage(usage: &Option<ExtendedKeyUsage>)
-    ensures { IfSome usage.now ArePurposes }
-{
-    if let Some(usage) = usage {
-        let _octets = usage.as_bytes();
-    }
-}
-
-fn known_identifier(identifier: &Option<KeyIdentifier>)
-    ensures { IfSome identifier.now HasTwentyOctets }
-{
-    if let Some(identifier) = identifier {
-        let _octets = identifier.as_octets();
-    }
 }
 
 impl Extensions {
@@ -251,30 +215,77 @@ impl Extensions {
         })
     }
 
+    // The kinds in the order in which they are written.
+    fn in_order(&self) -> [Named; 11]
+        ensures { map (part_for self.now) result ≡ parts self.now }
+    {
+        [
+            Named::BasicConstraints,
+            Named::SubjectKeyIdentifier,
+            Named::AuthorityKeyIdentifier,
+            Named::KeyUsage,
+            Named::ExtendedKeyUsage,
+            Named::CrlDistributionPoints,
+            Named::AuthorityInformationAccess,
+            Named::SubjectInformationAccess,
+            Named::CertificatePolicies,
+            Named::IpResources(self.overclaim),
+            Named::AsResources(self.overclaim),
+        ]
+    }
+
+    // Appends the extension of this kind, where it is there.
+    fn append(&self, alloc: Global, kind: Named, out: &mut Vec<u8>) -> Result<(), EncodeError>
+        ensures { Writes (part_of (part_for self.now kind)) out.old.items result out.new.items }
+    {
+        match kind {
+            Named::BasicConstraints => put_basic_constraints(alloc, out, self.basic_ca),
+            Named::SubjectKeyIdentifier => {
+                encode_subject_key_identifier(alloc, out, self.subject_key_identifier)
+            }
+            Named::AuthorityKeyIdentifier => {
+                put_authority_key_identifier(alloc, out, self.authority_key_identifier)
+            }
+            Named::KeyUsage => encode_key_usage(alloc, out, self.key_usage),
+            Named::ExtendedKeyUsage => {
+                put_extended_key_usage(alloc, out, self.extended_key_usage.as_ref())
+            }
+            Named::CrlDistributionPoints => {
+                put_crl_distribution_points(alloc, out, self.crl_uri.as_ref())
+            }
+            Named::AuthorityInformationAccess => {
+                put_authority_information_access(alloc, out, self.ca_issuer.as_ref())
+            }
+            Named::SubjectInformationAccess => encode_subject_information_access(
+                alloc,
+                out,
+                self.ca_repository.as_ref(),
+                self.rpki_manifest.as_ref(),
+                self.signed_object.as_ref(),
+                self.rpki_notify.as_ref(),
+            ),
+            Named::CertificatePolicies => encode_certificate_policies(alloc, out, self.overclaim),
+            Named::IpResources(mode) => IpResources::encode_extension(
+                alloc,
+                out,
+                mode,
+                &self.v4_resources,
+                &self.v6_resources,
+            ),
+            Named::AsResources(mode) => self.as_resources.encode_extension(alloc, out, mode),
+        }
+    }
+
     // Appends the extensions, or a front of them where it errs.
     fn append_sequence(&self, alloc: Global, out: &mut Vec<u8>) -> Result<(), EncodeError>
         ensures ok { OnOk result (out.new.items ≡ out.old.items ++ extensions self.now) }
         ensures too_long { SaysLong result (extensions self.now) }
     {
-        let mode = self.overclaim;
-        put_basic_constraints(alloc, out, self.basic_ca)?;
-        encode_subject_key_identifier(alloc, out, self.subject_key_identifier)?;
-        put_authority_key_identifier(alloc, out, self.authority_key_identifier)?;
-        encode_key_usage(alloc, out, self.key_usage)?;
-        put_extended_key_usage(alloc, out, self.extended_key_usage.as_ref())?;
-        put_crl_distribution_points(alloc, out, self.crl_uri.as_ref())?;
-        put_authority_information_access(alloc, out, self.ca_issuer.as_ref())?;
-        encode_subject_information_access(
-            alloc,
-            out,
-            self.ca_repository.as_ref(),
-            self.rpki_manifest.as_ref(),
-            self.signed_object.as_ref(),
-            self.rpki_notify.as_ref(),
-        )?;
-        encode_certificate_policies(alloc, out, mode)?;
-        IpResources::encode_extension(alloc, out, mode, &self.v4_resources, &self.v6_resources)?;
-        self.as_resources.encode_extension(alloc, out, mode)
+        let kinds = self.in_order();
+        for kind in &kinds {
+            self.append(alloc, *kind, out)?;
+        }
+        Ok(())
     }
 
     /// Appends the extensions, one after the other, in one fixed order and each with the flag that
@@ -289,5 +300,255 @@ impl Extensions {
         }
         out.extend_from_slice(&elements)?;
         Ok(())
+    }
+}
+
+// ---- how they are read
+
+/// The kinds of extensions that certificates know (RFC 6487 4.8). Resources have an identifier for
+/// each mode (RFC 8360 4.2).
+#[derive(Clone, Copy)]
+pub(crate) enum Named {
+    BasicConstraints,
+    SubjectKeyIdentifier,
+    AuthorityKeyIdentifier,
+    KeyUsage,
+    ExtendedKeyUsage,
+    CrlDistributionPoints,
+    AuthorityInformationAccess,
+    SubjectInformationAccess,
+    CertificatePolicies,
+    IpResources(Overclaim),
+    AsResources(Overclaim),
+}
+
+impl Named {
+    /// Returns the kind that an identifier names, or `None` where it isn't known.
+    pub(crate) fn of(identifier: &[u8]) -> Option<Named>
+        ensures { Names identifier.now result }
+    {
+        if identifier == oid::CE_BASIC_CONSTRAINTS {
+            Some(Named::BasicConstraints)
+        } else if identifier == oid::CE_SUBJECT_KEY_IDENTIFIER {
+            Some(Named::SubjectKeyIdentifier)
+        } else if identifier == oid::CE_AUTHORITY_KEY_IDENTIFIER {
+            Some(Named::AuthorityKeyIdentifier)
+        } else if identifier == oid::CE_KEY_USAGE {
+            Some(Named::KeyUsage)
+        } else if identifier == oid::CE_EXTENDED_KEY_USAGE {
+            Some(Named::ExtendedKeyUsage)
+        } else if identifier == oid::CE_CRL_DISTRIBUTION_POINTS {
+            Some(Named::CrlDistributionPoints)
+        } else if identifier == oid::PE_AUTHORITY_INFO_ACCESS {
+            Some(Named::AuthorityInformationAccess)
+        } else if identifier == oid::PE_SUBJECT_INFO_ACCESS {
+            Some(Named::SubjectInformationAccess)
+        } else if identifier == oid::CE_CERTIFICATE_POLICIES {
+            Some(Named::CertificatePolicies)
+        } else if identifier == oid::PE_IP_ADDR_BLOCK {
+            Some(Named::IpResources(Overclaim::Refuse))
+        } else if identifier == oid::PE_IP_ADDR_BLOCK_V2 {
+            Some(Named::IpResources(Overclaim::Trim))
+        } else if identifier == oid::PE_AUTONOMOUS_SYS_IDS {
+            Some(Named::AsResources(Overclaim::Refuse))
+        } else if identifier == oid::PE_AUTONOMOUS_SYS_IDS_V2 {
+            Some(Named::AsResources(Overclaim::Trim))
+        } else {
+            None
+        }
+    }
+
+    /// Returns whether it must be critical or must not be, or `None` where the flag isn't tested
+    /// (RFC 6487 4.8).
+    pub(crate) fn must_be_critical(self) -> Option<bool>
+        ensures { result ≡ wanted self }
+    {
+        match self {
+            Named::BasicConstraints | Named::KeyUsage | Named::CertificatePolicies => Some(true),
+            Named::SubjectKeyIdentifier
+            | Named::AuthorityKeyIdentifier
+            | Named::ExtendedKeyUsage
+            | Named::CrlDistributionPoints
+            | Named::AuthorityInformationAccess
+            | Named::SubjectInformationAccess => Some(false),
+            Named::IpResources(_) | Named::AsResources(_) => None,
+        }
+    }
+
+    /// Returns what errors call it.
+    pub(crate) fn field(self) -> Field
+        ensures { result ≡ field_of self }
+    {
+        match self {
+            Named::BasicConstraints => Field::BasicConstraints,
+            Named::SubjectKeyIdentifier => Field::SubjectKeyIdentifier,
+            Named::AuthorityKeyIdentifier => Field::AuthorityKeyIdentifier,
+            Named::KeyUsage => Field::KeyUsage,
+            Named::ExtendedKeyUsage => Field::ExtendedKeyUsage,
+            Named::CrlDistributionPoints => Field::CrlDistributionPoints,
+            Named::AuthorityInformationAccess => Field::AuthorityInformationAccess,
+            Named::SubjectInformationAccess => Field::SubjectInformationAccess,
+            Named::CertificatePolicies => Field::CertificatePolicies,
+            Named::IpResources(_) => Field::IpResources,
+            Named::AsResources(_) => Field::AsResources,
+        }
+    }
+}
+
+/// What the extensions that were seen so far gave.
+#[derive(Drop)]
+pub(crate) struct ReadExtensions {
+    basic_ca: Option<bool>,
+    subject_key_identifier: Option<KeyIdentifier>,
+    authority_key_identifier: Option<KeyIdentifier>,
+    key_usage: Option<KeyUsage>,
+    extended_key_usage: Option<ExtendedKeyUsage>,
+    crl_uri: Option<Rsync>,
+    ca_issuer: Option<Rsync>,
+    access: Option<Sia>,
+    overclaim: Option<Overclaim>,
+    ip_resources: Option<(Overclaim, (Option<IpResources>, Option<IpResources>))>,
+    as_resources: Option<(Overclaim, AsResources)>,
+}
+
+impl ReadExtensions {
+    pub(crate) fn nothing() -> ReadExtensions
+        ensures { state_of result ≡ all_kinds.start }
+    {
+        ReadExtensions {
+            basic_ca: None,
+            subject_key_identifier: None,
+            authority_key_identifier: None,
+            key_usage: None,
+            extended_key_usage: None,
+            crl_uri: None,
+            ca_issuer: None,
+            access: None,
+            overclaim: None,
+            ip_resources: None,
+            as_resources: None,
+        }
+    }
+
+    pub(crate) fn has(&self, kind: Named) -> bool
+        ensures { result ≡ is_seen self.now kind }
+    {
+        match kind {
+            Named::BasicConstraints => self.basic_ca.is_some(),
+            Named::SubjectKeyIdentifier => self.subject_key_identifier.is_some(),
+            Named::AuthorityKeyIdentifier => self.authority_key_identifier.is_some(),
+            Named::KeyUsage => self.key_usage.is_some(),
+            Named::ExtendedKeyUsage => self.extended_key_usage.is_some(),
+            Named::CrlDistributionPoints => self.crl_uri.is_some(),
+            Named::AuthorityInformationAccess => self.ca_issuer.is_some(),
+            Named::SubjectInformationAccess => self.access.is_some(),
+            Named::CertificatePolicies => self.overclaim.is_some(),
+            Named::IpResources(_) => self.ip_resources.is_some(),
+            Named::AsResources(_) => self.as_resources.is_some(),
+        }
+    }
+
+    // Reads the content of an extension of this kind, where it is the first and has the kind's
+    // flag.
+    #[tactic(auto, unfolding(crate::specs::ResourceKinds::addresses_format, crate::specs::ResourceKinds::numbers_format))]
+    pub(crate) fn take(&mut self, alloc: Global, kind: Named, content: &mut Cursor<'_>) -> Taken
+        ensures { (x : Extension) → Names x.identifier (Some kind)
+            → HasFlag (wanted kind) x.critical → is_seen self.old kind ≡ false
+            → x.content ≡ remaining content.old → ReturnsOrMemoryBy (λ _. state_of self.new) result
+            (all_kinds.step (state_of self.old) x) }
+    {
+        match kind {
+            Named::BasicConstraints => self.basic_ca = Some(take_basic_constraints(content)?),
+            Named::SubjectKeyIdentifier => {
+                self.subject_key_identifier = Some(take_subject_key_identifier(content)?);
+            }
+            Named::AuthorityKeyIdentifier => {
+                self.authority_key_identifier = Some(take_authority_key_identifier(content)?);
+            }
+            Named::KeyUsage => self.key_usage = Some(take_key_usage(content)?),
+            Named::ExtendedKeyUsage => {
+                let purposes = take_extended_key_usage(alloc, content)?;
+                keep(&mut self.extended_key_usage, purposes);
+            }
+            Named::CrlDistributionPoints => {
+                let uri = take_crl_distribution_points(alloc, content)?;
+                keep(&mut self.crl_uri, uri);
+            }
+            Named::AuthorityInformationAccess => {
+                let uri = take_authority_information_access(alloc, content)?;
+                keep(&mut self.ca_issuer, uri);
+            }
+            Named::SubjectInformationAccess => {
+                let uris = take_subject_information_access(alloc, content)?;
+                keep(&mut self.access, uris);
+            }
+            Named::CertificatePolicies => {
+                self.overclaim = Some(take_certificate_policies(content)?);
+            }
+            Named::IpResources(mode) => {
+                let read = (mode, IpResources::take_families_from(alloc, content)?);
+                keep(&mut self.ip_resources, read);
+            }
+            Named::AsResources(mode) => {
+                let read = (mode, AsResources::take_from(alloc, content)?);
+                keep(&mut self.as_resources, read);
+            }
+        }
+        Ok(())
+    }
+}
+
+impl Extensions {
+    // What was seen, if all is there that must be, and the identifiers of the resources are those
+    // of the policy.
+    pub(crate) fn complete(seen: ReadExtensions) -> Result<Extensions, DecodeError>
+        ensures { Returns result (completed (state_of seen)) }
+    {
+        let ReadExtensions {
+            basic_ca,
+            subject_key_identifier,
+            authority_key_identifier,
+            key_usage,
+            extended_key_usage,
+            crl_uri,
+            ca_issuer,
+            access,
+            overclaim,
+            ip_resources,
+            as_resources,
+        } = seen;
+        let resources = match agreed(overclaim, ip_resources, as_resources) {
+            Ok(resources) => resources,
+            Err(error) => {
+                drop((extended_key_usage, crl_uri, ca_issuer, access));
+                return Err(error);
+            }
+        };
+        let Some(subject_key_identifier) = subject_key_identifier else {
+            drop((resources, extended_key_usage, crl_uri, ca_issuer, access));
+            return Err(DecodeError::Missing(Field::SubjectKeyIdentifier));
+        };
+        let Some(key_usage) = key_usage else {
+            drop((resources, extended_key_usage, crl_uri, ca_issuer, access));
+            return Err(DecodeError::Missing(Field::KeyUsage));
+        };
+        let (ca_repository, rpki_manifest, signed_object, rpki_notify) = uris(access);
+        Ok(Extensions {
+            basic_ca,
+            subject_key_identifier,
+            authority_key_identifier,
+            key_usage,
+            extended_key_usage,
+            crl_uri,
+            ca_issuer,
+            ca_repository,
+            rpki_manifest,
+            signed_object,
+            rpki_notify,
+            overclaim: resources.overclaim,
+            v4_resources: resources.v4_resources,
+            v6_resources: resources.v6_resources,
+            as_resources: resources.as_resources,
+        })
     }
 }

@@ -11,6 +11,7 @@ mod encode;
 mod extended_key_usage;
 mod extensions;
 mod inspection;
+mod kept;
 mod key_identifiers;
 mod key_usage;
 pub mod laws;

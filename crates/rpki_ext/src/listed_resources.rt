@@ -3,8 +3,7 @@ ghost use Rattle.std.specs.Prelude.{◌≡◌, IfErr, unwrap_or};
 ghost use Rattle.rpki_der.specs.Place.Reading.{Returns};
 ghost use Rattle.rpki_blocks.specs.Addresses.{or_missing};
 ghost use Rattle.rpki_blocks.specs.Resources.{missing};
-ghost use Rattle.rpki_ext.specs.CertificateExtensions.{no_addresses};
-ghost use Rattle.rpki_ext.specs.CertificateExtensions.Reading.{under, agreed, disagreement};
+ghost use Rattle.rpki_ext.specs.CertificateExtensions.{no_addresses, under, agreed, disagreement};
 ghost use Rattle.rpki_ext.specs.CertificateExtensions.Views.{ip_of, ip_in};
 
 use rpki_blocks::{AsResources, Bound, IpResources, Overclaim, Resources};
@@ -21,7 +20,7 @@ pub(crate) struct Listed {
 }
 
 impl Model for Listed {
-    ghost use Rattle.rpki_ext.specs.CertificateExtensions.Reading.{ListedFields};
+    ghost use Rattle.rpki_ext.specs.CertificateExtensions.{ListedFields};
 
     ghost Value = { ListedFields };
 

@@ -4,7 +4,7 @@ use Rattle.std.proofs.Common.{◌≡◌, ℕ, List, sym, subst}
 use Rattle.std.proofs.lemmas.Bool.{false≢true}
 use Rattle.rpki.specs.DecodeError.{DecodeError}
 use Rattle.rpki.specs.DecodeError.TheVariants as decoding
-use Rattle.rpki.specs.Place.{Place, Rejects, AnswersBy, AnswersOrMemoryBy, remaining}
+use Rattle.rpki.specs.Place.{Place, Rejects, ReadsFrontBy, ReadsFrontOrMemoryBy, remaining}
 use Rattle.rpki_files.specs.KnownKinds.{HasValue, SaysWhether}
 
 -- what follows from a rejection is rejected too
@@ -19,7 +19,7 @@ stands e p = p
 
 -- of a reader that may run out of memory, without its value
 pub begins_or_memory : {X Y : Type 0} (view : X → Y) (encodes : Y → List ℕ → Type 0) (old new : Place) (r : Result X DecodeError) (s : Result (Unit {0}) DecodeError)
-    → AnswersOrMemoryBy view encodes old r new → MatchResult r (λ _. IsOk s) (λ e. s ≡ Err e) → SaysWhether s (HasValue encodes (remaining old))
+    → ReadsFrontOrMemoryBy view encodes old r new → MatchResult r (λ _. IsOk s) (λ e. s ≡ Err e) → SaysWhether s (HasValue encodes (remaining old))
 begins_or_memory view encodes old new (Ok x) (Ok u) a h = (view x, (remaining new, a))
 begins_or_memory view encodes old new (Ok x) (Err e) a h = absurd (false≢true h)
 begins_or_memory view encodes old new (Err e) s a h =
@@ -28,6 +28,6 @@ begins_or_memory view encodes old new (Err e) s a h =
 
 -- of a reader that takes no memory, without its value
 pub begins : {X Y : Type 0} (view : X → Y) (encodes : Y → List ℕ → Type 0) (old new : Place) (r : Result X DecodeError) (s : Result (Unit {0}) DecodeError)
-    → AnswersBy view encodes old r new → MatchResult r (λ _. IsOk s) (λ e. s ≡ Err e) → SaysWhether s (HasValue encodes (remaining old))
+    → ReadsFrontBy view encodes old r new → MatchResult r (λ _. IsOk s) (λ e. s ≡ Err e) → SaysWhether s (HasValue encodes (remaining old))
 begins view encodes old new (Ok x) s a h = begins_or_memory view encodes old new (Ok x) s a h
 begins view encodes old new (Err e) s a h = begins_or_memory view encodes old new (Err e) s (stands e a.1) h

@@ -4,7 +4,7 @@ use Rattle.std.specs.Result.{result_ok}
 use Rattle.std.proofs.Common.{◌≡◌, ℕ, List, [], ◌∷◌, refl, arith}
 use Rattle.rpki.specs.Encoding.{Means}
 use Rattle.rpki.specs.DecodeError.{DecodeError}
-use Rattle.rpki.specs.Place.{Place, remaining, AnswersBy}
+use Rattle.rpki.specs.Place.{Place, remaining, ReadsFrontBy}
 use Rattle.rpki.specs.Tags.{SEQUENCE}
 use Rattle.rpki.specs.Values.{IsEnc}
 use Rattle.rpki_der.proofs.Formats.{unambiguous, one_meant, of_enc, same_enc}
@@ -53,13 +53,13 @@ one_content c d octets m n =
     one_meant (IsEnc SEQUENCE) (unambiguous (IsEnc SEQUENCE) (record { value = λ v b e. of_enc e; one = λ v w b p q. (same_enc p q).1 })) c d octets m n
 
 -- a reader that has gone in stands at the one content
-pub entered : (old new : Place) (r : Result Place DecodeError) → AnswersBy remaining (IsEnc SEQUENCE) old r new → (content : List ℕ) → Means (IsEnc SEQUENCE) content (remaining old)
+pub entered : (old new : Place) (r : Result Place DecodeError) → ReadsFrontBy remaining (IsEnc SEQUENCE) old r new → (content : List ℕ) → Means (IsEnc SEQUENCE) content (remaining old)
     → IsSomeAnd (result_ok r) (λ inside. remaining inside ≡ content)
 entered old new (Ok inside) a content m = one_content (remaining inside) content (remaining old) (remaining new, a) m
 entered old new (Err e) a content m = absurd (a.1 content m.0 m.1)
 
 -- and what it stands at is the content
-pub gone_in : (old new : Place) (r : Result Place DecodeError) → AnswersBy remaining (IsEnc SEQUENCE) old r new → IfSome (result_ok r) (λ inside. Means (IsEnc SEQUENCE) (remaining inside) (remaining old))
+pub gone_in : (old new : Place) (r : Result Place DecodeError) → ReadsFrontBy remaining (IsEnc SEQUENCE) old r new → IfSome (result_ok r) (λ inside. Means (IsEnc SEQUENCE) (remaining inside) (remaining old))
 gone_in old new (Ok inside) a = (remaining new, a)
 gone_in old new (Err e) a = tt
 

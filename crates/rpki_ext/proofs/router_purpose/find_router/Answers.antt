@@ -3,7 +3,7 @@ use Rattle.rpki_der.proofs.Octets.{some}
 use Rattle.rpki_der.proofs.SequenceWalks.{shorter, goes_on, ends, over_end, some_left}
 use Rattle.rpki_der.specs.Primitives.Reading.{oid_at}
 use Rattle.rpki_ext.specs.RouterPurposes.{or_router}
-use Rattle.rpki_ext.proofs.ExtensionKinds.{oid_shrinks}
+use Rattle.rpki_ext.proofs.CertificateExtensions.{oid_shrinks}
 use Rattle.rpki_ext.proofs.router_purpose.find_router.Goals as goal
 
 pub loop-rest-smaller : goal.loop-rest-smaller

@@ -1,4 +1,4 @@
-use Rattle.rpki_ext.proofs.ExtensionKinds.{kept_purposes}
+use Rattle.rpki_ext.proofs.CertificateExtensions.{kept_purposes}
 use Rattle.rpki_ext.proofs.extended_key_usage.ExtendedKeyUsage.as_bytes.Goals as goal
 
 pub returns-clause-purposes : goal.returns-clause-purposes

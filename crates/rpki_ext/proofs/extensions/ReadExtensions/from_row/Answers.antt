@@ -5,8 +5,8 @@ use Rattle.rpki_der.proofs.Answering.{rejects, certainly}
 use Rattle.rpki_der.specs.Extensions.{extension_format}
 use Rattle.rpki_der.proofs.SequenceWalks.{goes_on, shorter, rejected, ends, over_end, some_left}
 use Rattle.rpki_der.proofs.ExtensionReads.{extension_shrinks}
-use Rattle.rpki_ext.specs.CertificateExtensions.Reading.{State, all_kinds, state_of}
-use Rattle.rpki_ext.proofs.reading.ReadExtensions.from_row.Goals as goal
+use Rattle.rpki_ext.specs.CertificateExtensions.{State, all_kinds, state_of}
+use Rattle.rpki_ext.proofs.extensions.ReadExtensions.from_row.Goals as goal
 
 pub loop-rest-init : goal.loop-rest-init
 loop-rest-init c = ap (λ (s : State). over extension_format.read all_kinds.step s (remaining c.fork-rest.result)) c.nothing-seen.ensures ∙ ap (λ (p : Place). over extension_format.read all_kinds.step all_kinds.start (remaining p)) c.fork-rest.ensures.same

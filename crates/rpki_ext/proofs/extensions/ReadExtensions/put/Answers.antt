@@ -2,7 +2,7 @@ use Rattle.std.proofs.Common.{refl}
 use Rattle.rpki_der.proofs.Answering.{certainly}
 use Rattle.rpki_der.specs.Extensions.Views.{extension_view}
 use Rattle.rpki_ext.proofs.CertificateExtensions.{rejected}
-use Rattle.rpki_ext.proofs.reading.ReadExtensions.put.Goals as goal
+use Rattle.rpki_ext.proofs.extensions.ReadExtensions.put.Goals as goal
 
 pub returns-in-Err : goal.returns-in-Err
 returns-in-Err c = certainly c.in-Err.error (rejected _ _ _ _ _ c.in-Some.ensures c.in-Err.ensures.rejected)

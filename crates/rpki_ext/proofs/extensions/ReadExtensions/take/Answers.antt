@@ -1,7 +1,7 @@
 use Rattle.std.proofs.Common.{rules, ◌≡◌, Err}
 use Rattle.rpki_der.proofs.Answering.{rejects}
 use Rattle.rpki_ext.proofs.CertificateExtensions.{unread_ip, unread_as}
-use Rattle.rpki_ext.proofs.reading.ReadExtensions.take.Goals as goal
+use Rattle.rpki_ext.proofs.extensions.ReadExtensions.take.Goals as goal
 
 pub returns-in_err-take_families_from-in-IpResources : goal.returns-in_err-take_families_from-in-IpResources
 returns-in_err-take_families_from-in-IpResources c =
