@@ -1,5 +1,5 @@
 //! Sets of numbers.
-ghost use Rattle.std.specs.Prelude.{◌≡◌, ◌+◌, ◌<◌, ◌↔◌, IsTrue, IsFalse, IfOk, List, []};
+ghost use Rattle.std.specs.Prelude.{◌≡◌, ◌+◌, ◌<◌, ◌≤◌, ◌↔◌, IsTrue, IsFalse, IfOk, List, [], vec_len, vec_capacity};
 ghost use Rattle.rpki_blocks.specs.Sets.{is_in, IsSet, IsIntersection, AreIn, Escapes, HaveSameNumbers, Block as Span};
 ghost use Rattle.std.specs.Slice.Iter.{iter_rest};
 ghost use Rattle.std.specs.Iterator.{IsFinite, Drains};
@@ -47,6 +47,8 @@ fn is_set<B: Bound>(blocks: &[Block<B>]) -> bool
 pub(crate) fn merge<B: Bound>(blocks: &mut Vec<Block<B>>)
     ensures union { HaveSameNumbers blocks.new.items blocks.old.items }
     ensures set { IsSet B.greatest blocks.new.items }
+    ensures fewer { vec_len blocks.new ≤ vec_len blocks.old }
+    ensures capacity { vec_capacity blocks.new ≡ vec_capacity blocks.old }
 {
     if !is_set(blocks) {
         sort_and_merge(blocks);
@@ -57,6 +59,8 @@ pub(crate) fn merge<B: Bound>(blocks: &mut Vec<Block<B>>)
 fn sort_and_merge<B: Bound>(blocks: &mut Vec<Block<B>>)
     ensures union { HaveSameNumbers blocks.new.items blocks.old.items }
     ensures set { IsSet B.greatest blocks.new.items }
+    ensures fewer { vec_len blocks.new ≤ vec_len blocks.old }
+    ensures capacity { vec_capacity blocks.new ≡ vec_capacity blocks.old }
 {
     if blocks.is_empty() {
         return;

@@ -1,11 +1,11 @@
 //! Lists of blocks in resources of certificates (RFC 3779 2.2.3.4, 3.2.3.2).
-ghost use Rattle.std.specs.Prelude.{◌++◌, [], ◌∷◌, OnOk};
+ghost use Rattle.std.specs.Prelude.{◌+◌, ◌/◌, ◌<◌, ◌≤◌, max, ◌++◌, [], ◌∷◌, OnOk, vec_len, vec_capacity};
 ghost use Rattle.rpki_der.specs.Formats.{Format};
 ghost use Rattle.rpki_der.specs.Place.{remaining, Keeps};
 ghost use Rattle.rpki_der.specs.Place.Reading.{Took, TookOrMemory, ReturnsOrMemory, ReturnsOrMemoryBy};
 ghost use Rattle.rpki_der.specs.Sequences.Reading.{Shrinks};
 ghost use Rattle.rpki_blocks.specs.Resources.{listed};
-ghost use Rattle.rpki_blocks.specs.Sets.{Block as Span, HaveSameNumbers};
+ghost use Rattle.rpki_blocks.specs.Sets.{Block as Span, HaveSameNumbers, IsSet};
 ghost use Rattle.rpki_blocks.specs.Unions.{resource_choice};
 ghost use Rattle.rpki_blocks.specs.Unions.Reading.{merged, union_of};
 
@@ -27,8 +27,11 @@ pub(crate) trait Elements {
         ensures reads { Took (element self.now).read cursor.old result cursor.new }
         ensures keeps { Keeps result cursor.old cursor.new };
 
-    /// For how many blocks room is made before a sequence of so many octets is read.
-    fn room(&self, octets: usize) -> usize;
+    /// For how many blocks room is made before a sequence of so many octets is read: for one of
+    /// seven octets each at least, which is a whole address of IPv4, and of three at most.
+    fn room(&self, octets: usize) -> usize
+        ensures enough { octets / 7 < result }
+        ensures few { result ≤ octets / 3 + 1 };
 
     /// An element has octets.
     ghost shrinks: { (kind : Self) → Shrinks (element kind).read };
@@ -38,7 +41,12 @@ pub(crate) trait Elements {
 // Elements of five octets are the shortest of which more than 2^7 can be apart, so room grows once
 // as a rule.
 fn make_room<B: Bound>(blocks: &mut Vec<Block<B>>, octets: usize) -> Result<(), AllocError>
-    ensures { HaveSameNumbers blocks.new.items blocks.old.items }
+    ensures union { HaveSameNumbers blocks.new.items blocks.old.items }
+    ensures set { IsSet B.greatest blocks.new.items }
+    ensures room { OnOk result (0 < vec_capacity blocks.old
+        → vec_len blocks.new < vec_capacity blocks.new) }
+    ensures few { vec_capacity blocks.new
+        ≤ max (vec_capacity blocks.old) (vec_len blocks.old + octets / 5 + 1) }
 {
     merge(blocks);
     if blocks.len() > blocks.capacity() / 2 {
