@@ -1,11 +1,12 @@
 //! What the extensions of a certificate give, kind by kind: how they are read where they stand, and
 //! how they are written.
-ghost use Rattle.std.specs.Prelude.{◌≡◌, ◌++◌, map, false, OnOk, IfOk, Some};
+ghost use Rattle.std.specs.Prelude.{◌≡◌, ◌++◌, map, false, if◌then◌else◌, is_some, OnOk, IfErr, IfOk, None, Some};
 ghost use Rattle.rpki_der.specs.Extensions.{Extension, part_of};
 ghost use Rattle.rpki_der.specs.Place.{remaining};
 ghost use Rattle.rpki_der.specs.Place.Reading.{Returns, ReturnsOrMemoryBy};
 ghost use Rattle.rpki_der.specs.Writers.{SaysLong, Writes};
-ghost use Rattle.rpki_ext.specs.CertificateExtensions.{bare, ExtensionsFit, extensions, sequence_part, Names, wanted, HasFlag, field_of, all_kinds, state_of, is_seen, completed, part_for, parts};
+ghost use Rattle.rpki_ext.specs.CertificateExtensions.{bare, ExtensionsFit, extensions, sequence_part, Names, wanted, HasFlag, field_of, all_kinds, state_of, is_seen, ListedFields, agreed, disagreement, completed, part_for, parts};
+ghost use Rattle.rpki_ext.specs.CertificateExtensions.Views.{ip_of};
 
 use crate::authority_access::{
     put_authority_information_access, take_authority_information_access,
@@ -500,9 +501,17 @@ impl ReadExtensions {
 
 impl Extensions {
     // What was seen, if all is there that must be, and the identifiers of the resources are those
-    // of the policy.
+    // of the policy. Else what is wrong of the resources is named, or then the first kind that is
+    // missing.
     pub(crate) fn complete(seen: ReadExtensions) -> Result<Extensions, DecodeError>
-        ensures { Returns result (completed (state_of seen)) }
+        ensures reads { Returns result (completed (state_of seen)) }
+        ensures disagreed { agreed seen.overclaim (ip_of seen.ip_resources) seen.as_resources ≡ None
+            → IfErr result (λ e. e ≡ disagreement seen.overclaim (ip_of seen.ip_resources)
+            seen.as_resources) }
+        ensures missing { (l : ListedFields)
+            → agreed seen.overclaim (ip_of seen.ip_resources) seen.as_resources ≡ Some l
+            → IfErr result (λ e. e ≡ DecodeError.Missing (if is_some seen.subject_key_identifier
+            then Field.KeyUsage else Field.SubjectKeyIdentifier)) }
     {
         let ReadExtensions {
             basic_ca,

@@ -5,7 +5,7 @@ ghost use Rattle.rpki_der.specs.Place.Reading.{ReturnsOrMemory, ReturnsOrMemoryB
 ghost use Rattle.rpki_der.specs.Extensions.{extension_format};
 ghost use Rattle.rpki_der.specs.Extensions.Views.{extension_view};
 ghost use Rattle.rpki_der.specs.Folding.{over};
-ghost use Rattle.rpki_ext.specs.CertificateExtensions.{AreExtensions, no_access, wanted, HasFlag, all_kinds, state_of, is_seen, extensions_of};
+ghost use Rattle.rpki_ext.specs.CertificateExtensions.{AreExtensions, no_access, wanted, HasFlag, field_of, all_kinds, state_of, is_seen, extensions_of};
 ghost use Rattle.rpki_ext.specs.CertificateExtensions.Views.{access_with};
 
 use crate::extensions::{Extensions, Named, ReadExtensions};
@@ -39,7 +39,9 @@ pub(crate) fn keep<T: Drop>(kept: &mut Option<T>, value: T)
 }
 
 // The URIs of Subject Information Access; none where it isn't there.
-pub(crate) fn uris(access: Option<Sia>) -> (Option<Rsync>, Option<Rsync>, Option<Rsync>, Option<Https>)
+pub(crate) fn uris(
+    access: Option<Sia>,
+) -> (Option<Rsync>, Option<Rsync>, Option<Rsync>, Option<Https>)
     ensures { access_with result ≡ unwrap_or access no_access }
 {
     match access {
@@ -49,12 +51,19 @@ pub(crate) fn uris(access: Option<Sia>) -> (Option<Rsync>, Option<Rsync>, Option
 }
 
 impl ReadExtensions {
-    // Rejects a second extension of a kind, and one with another flag than its kind's.
+    // Rejects a second extension of a kind, and one with another flag than its kind's, each under
+    // the kind's name.
     fn check(&self, kind: Named, critical: bool) -> Result<(), DecodeError>
         ensures first { OnOk result (is_seen self.now kind ≡ false) }
         ensures flag { OnOk result (HasFlag (wanted kind) critical) }
         ensures rejected { OnErr result
             ((is_seen self.now kind ≡ true) ⊎ (HasFlag (wanted kind) critical → ⊥)) }
+        ensures second { is_seen self.now kind ≡ true
+            → IfErr result (λ e. e ≡ DecodeError.Duplicate (field_of kind)) }
+        ensures unflagged { is_seen self.now kind ≡ false → critical ≡ false
+            → IfErr result (λ e. e ≡ DecodeError.NotCritical (field_of kind)) }
+        ensures flagged { is_seen self.now kind ≡ false → critical ≡ true
+            → IfErr result (λ e. e ≡ DecodeError.Critical (field_of kind)) }
     {
         if self.has(kind) {
             return Err(DecodeError::Duplicate(kind.field()));
