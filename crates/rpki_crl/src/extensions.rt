@@ -1,12 +1,12 @@
 //! The extensions of a revocation list, in one pass, whatever order they stand in.
-ghost use Rattle.std.specs.Prelude.{◌≡◌, ◌⊎◌};
+ghost use Rattle.std.specs.Prelude.{◌≡◌, ◌⊎◌, true, false, OnOk, OnErr, IfErr};
 ghost use Rattle.rpki_der.specs.Primitives.{IsOid};
 ghost use Rattle.rpki_der.specs.Place.{remaining};
 ghost use Rattle.rpki_der.specs.Place.Reading.{ReturnsBy, ReturnsOrMemoryBy};
 ghost use Rattle.rpki_der.specs.Folding.{over};
 ghost use Rattle.rpki_der.specs.Extensions.{extension_format};
 ghost use Rattle.rpki_crl.specs.ListExtensions.{list_fold, both_seen, list_extensions_of};
-ghost use Rattle.rpki_crl.specs.ListExtensions.Views.{NamesListKind, sights_of, extensions_view};
+ghost use Rattle.rpki_crl.specs.ListExtensions.Views.{NamesListKind, field_of, is_seen, first_unseen, sights_of, extensions_view};
 
 use crate::invalid_extension::InvalidExtension;
 use bytes::Bytes;
@@ -20,6 +20,18 @@ use std::alloc::Global;
 enum ListKind {
     AuthorityKeyIdentifier,
     CrlNumber,
+}
+
+impl ListKind {
+    // What errors call it.
+    fn field(self) -> Field
+        ensures { result ≡ field_of self }
+    {
+        match self {
+            ListKind::AuthorityKeyIdentifier => Field::AuthorityKeyIdentifier,
+            ListKind::CrlNumber => Field::CrlNumber,
+        }
+    }
 }
 
 // The kind that an identifier names; `None` where it isn't known.
@@ -75,6 +87,27 @@ impl ReadListExtensions {
         }
     }
 
+    fn has(&self, kind: ListKind) -> bool
+        ensures { result ≡ is_seen self.now kind }
+    {
+        match kind {
+            ListKind::AuthorityKeyIdentifier => self.authority_key_identifier.is_some(),
+            ListKind::CrlNumber => self.crl_number.is_some(),
+        }
+    }
+
+    // Rejects a second extension of a kind, under the kind's name.
+    fn check(&self, kind: ListKind) -> Result<(), DecodeError>
+        ensures first { OnOk result (is_seen self.now kind ≡ false) }
+        ensures second { OnErr result (is_seen self.now kind ≡ true) }
+        ensures named { IfErr result (λ e. e ≡ DecodeError.Duplicate (field_of kind)) }
+    {
+        if self.has(kind) {
+            return Err(DecodeError::Duplicate(kind.field()));
+        }
+        Ok(())
+    }
+
     // One extension more.
     fn put(
         &mut self,
@@ -95,15 +128,15 @@ impl ReadListExtensions {
         };
         match kind {
             ListKind::AuthorityKeyIdentifier => {
-                if self.authority_key_identifier.is_some() {
-                    return Err(DecodeError::Duplicate(Field::AuthorityKeyIdentifier));
+                if let Err(error) = self.check(ListKind::AuthorityKeyIdentifier) {
+                    return Err(error);
                 }
                 self.authority_key_identifier = Some(take_authority_key_identifier(content)?);
                 Ok(())
             }
             ListKind::CrlNumber => {
-                if self.crl_number.is_some() {
-                    return Err(DecodeError::Duplicate(Field::CrlNumber));
+                if let Err(error) = self.check(ListKind::CrlNumber) {
+                    return Err(error);
                 }
                 self.crl_number = Some(Serial::take_from(content)?);
                 Ok(())
@@ -133,9 +166,10 @@ impl ReadListExtensions {
 }
 
 impl CrlExtensions {
-    // What was seen, if both kinds were.
+    // What was seen, if both kinds were; else the first that wasn't is named.
     fn complete(seen: ReadListExtensions) -> Result<CrlExtensions, DecodeError>
-        ensures { ReturnsBy extensions_view result (both_seen (sights_of seen)) }
+        ensures reads { ReturnsBy extensions_view result (both_seen (sights_of seen)) }
+        ensures named { IfErr result (λ e. e ≡ DecodeError.Missing (field_of (first_unseen seen))) }
     {
         let Some(authority_key_identifier) = seen.authority_key_identifier else {
             return Err(DecodeError::Missing(Field::AuthorityKeyIdentifier));
