@@ -27,7 +27,7 @@ FISHDIR ?= $(DATADIR)/fish/vendor_completions.d
 INSTALL ?= install
 
 # what `./rpki prove` and `./rpki library` build
-tool = crates/rpki_tool/out/rpki_tool
+tool = crates/rpki_command/out/rpki_command
 library = callers/out
 # the number of the library's interface, which stands in its name
 abi = sed -n 's/^.define RPKI_ABI //p' include/rpki.h

@@ -2,14 +2,14 @@
  *
  * A program marks by requests of lengths that nothing else asks for what is to be refused.
  *
- * crates/rpki_refusals makes one call, between BEGIN and END; both are refused, which it doesn't mind. REFUSE=N refuses
- * the Nth request of the call, and REFUSE_REST=1 all that follow it too; with 0 or nothing none is refused. At the end of
- * the process five numbers are written to standard error: the requests of the call, how many of them were refused, how
- * many blocks more were held where the call ended than where it began, how many were held at the end of the process,
- * and how many of the refused requests only gave room back: they asked for less than their block had, by more than the
- * C library rounds.
+ * The program of crates/rpki_vectors makes one call (`call PATH`) between BEGIN and END; both are refused, which it
+ * doesn't mind. REFUSE=N refuses the Nth request of the call, and REFUSE_REST=1 all that follow it too; with 0 or nothing
+ * none is refused. At the end of the process five numbers are written to standard error: the requests of the call, how many
+ * of them were refused, how many blocks more were held where the call ended than where it began, how many were held at
+ * the end of the process, and how many of the refused requests only gave room back: they asked for less than their block
+ * had, by more than the C library rounds.
  *
- * crates/rpki_vectors asks a question over and over. AGAIN is refused for as long as there is another request to refuse:
+ * With test vectors it asks a question over and over. AGAIN is refused for as long as there is another request to refuse:
  * the first alone, the first and all after it, the second alone, and so on. The answer ends with AS_WANTED, or with
  * OUT_OF_MEMORY; they are refused, and a line on standard error says why, where more blocks are held than before, and
  * where memory can't have run out since nothing that was needed was refused. With REFUSE_COUNT=1 the end of the process

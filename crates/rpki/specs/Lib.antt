@@ -66,11 +66,10 @@ pub use Rattle.rpki_parts.specs.declared.key.PublicKeyFormat
 pub use Rattle.rpki_parts.specs.declared.signature.SigningError
 pub use Rattle.rpki_parts.specs.declared.uri.UriError
 pub use Rattle.rpki_parts.specs.declared.valid_at.ValidityError
--- ---- signatures of the RPKI
-pub use Rattle.rpki_rsa.specs.Octets
-pub use Rattle.rpki_rsa.specs.RsaKeys
-pub use Rattle.rpki_rsa.specs.RsaSignatures
--- ---- which keys can be used
+-- ---- keys of the RPKI, and signatures by them
+pub use Rattle.rpki_keys.specs.Octets
+pub use Rattle.rpki_keys.specs.RsaKeys
+pub use Rattle.rpki_keys.specs.RsaSignatures
 pub use Rattle.rpki_keys.specs.Curve
 pub use Rattle.rpki_keys.specs.KeyForms
 pub use Rattle.rpki_keys.specs.declared.form.KeyForm

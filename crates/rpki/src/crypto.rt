@@ -3,8 +3,8 @@
 pub mod keys;
 pub mod rsa;
 
+pub use rpki_keys::RsaVerifier;
 pub use rpki_parts::{
     KeyIdentifier, PublicKey, PublicKeyFormat, RpkiSignatureAlgorithm, Signature,
     SignatureVerificationError, Signer, SigningError, StandIn, Verifier,
 };
-pub use rpki_rsa::RsaVerifier;

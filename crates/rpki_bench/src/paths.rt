@@ -6,9 +6,9 @@ use bytes::Bytes;
 use rpki_cert::Cert;
 use rpki_crl::{Crl, CrlStore};
 use rpki_der::Time;
+use rpki_keys::RsaVerifier;
 use rpki_parts::{Rsync, TalInfo, Verifier};
 use rpki_path::{Leaf, validate_path, validate_path_with};
-use rpki_rsa::RsaVerifier;
 use std::alloc::{AllocError, Global};
 use std::rc::Rc;
 

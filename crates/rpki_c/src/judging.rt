@@ -3,7 +3,7 @@ ghost use Rattle.std.specs.Prelude.{◌≡◌, IfOk, IfErr, Err};
 ghost use Rattle.rpki_cert.specs.Verification.{context};
 ghost use Rattle.rpki_path.specs.Judging.{Judges};
 ghost use Rattle.rpki_revocation.specs.AskedLists.{by_lists};
-ghost use Rattle.rpki_rsa.specs.RsaSignatures.{IsSignedByRsa};
+ghost use Rattle.rpki_keys.specs.RsaSignatures.{IsSignedByRsa};
 ghost use Rattle.rpki_c.specs.Verdicts.{AreStringsOf, DontAddUp, IsUncalled, AnswersListed, AnswersWith, AnswersTrusted, AnswersPath, AnswersStrings, AnswersMembers, Answers};
 
 use crate::lists::lists_of;
@@ -14,10 +14,10 @@ use crate::signatures::answers;
 use crate::strings::{RpkiStrings, cut};
 use bytes::Bytes;
 use rpki_crl::Crl;
+use rpki_keys::RsaVerifier;
 use rpki_parts::Verifier;
 use rpki_path::{GivenPath, Judged, Member, PathError, judge};
 use rpki_revocation::{GivenLists, NobodyAsked};
-use rpki_rsa::RsaVerifier;
 use std::alloc::Global;
 
 // The strings of the caller's octets and lengths.

@@ -1,6 +1,6 @@
 //! Paths for C.
 ghost use Rattle.std.specs.Prelude.{◌≡◌};
-ghost use Rattle.rpki_rsa.specs.RsaSignatures.{IsSignedByRsa};
+ghost use Rattle.rpki_keys.specs.RsaSignatures.{IsSignedByRsa};
 ghost use Rattle.rpki_c.specs.Telling.{acceptance, rejection, IsSameRoom, verdict_of, IsVerdictOn};
 
 use crate::copying::{RpkiAsRange, RpkiIpRange, put_addresses, put_as_numbers};

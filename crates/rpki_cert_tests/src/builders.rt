@@ -1,5 +1,6 @@
 //! Resources that a caller's closure or iterator gives to certificate data.
 
+use crate::samples;
 use rpki_blocks::{Addr, AsBlock, Asn, IpBlock, Prefix};
 use rpki_cert::TbsCert;
 use std::alloc::Global;
@@ -28,12 +29,12 @@ fn build_none(rt: &impl Abort, alloc: Global, tbs: &mut TbsCert) {
 
 #[test]
 fn blocks_are_given(rt: HostRuntime) {
-    let mut tbs = rpki_samples::anchor(rt.alloc()).expect(&rt, "memory");
+    let mut tbs = samples::anchor(rt.alloc()).expect(&rt, "memory");
     build_none(&rt, rt.alloc(), &mut tbs);
     assert!(rt; !tbs.has_ip_resources());
     assert!(rt; !tbs.as_resources().is_present());
     build_all(&rt, rt.alloc(), &mut tbs);
-    let octets = rpki_samples::written(rt.alloc(), &tbs).expect(&rt, "memory");
-    assert!(rt; rpki_samples::has_hash(rt.alloc(), &octets, rpki_samples::ANCHOR_DATA));
+    let octets = samples::written(rt.alloc(), &tbs).expect(&rt, "memory");
+    assert!(rt; samples::has_hash(rt.alloc(), &octets, samples::ANCHOR_DATA));
     drop(tbs);
 }

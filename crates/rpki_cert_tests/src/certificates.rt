@@ -1,5 +1,6 @@
 //! Certificates by each of the ways to read one, what is written of them, and their copies.
 
+use crate::samples;
 use bytes::Bytes;
 use rpki_cert::Cert;
 use rpki_der::{Cursor, DecodeError, EncodeError};
@@ -7,7 +8,7 @@ use std::alloc::{AllocError, Global};
 use std::process::Abort;
 
 fn anchor(rt: &impl Abort, alloc: Global) -> Bytes {
-    rpki_samples::anchor_octets(alloc).expect(rt, "memory")
+    samples::anchor_octets(alloc).expect(rt, "memory")
 }
 
 // The octets, and one more behind them.
@@ -31,7 +32,7 @@ fn assert_same(rt: &impl Abort, alloc: Global, cert: &Cert, octets: &[u8]) {
     assert_eq!(rt; out.first(), Some(&7));
     assert!(rt; out.get(1..) == Some(octets));
     assert_octets(rt, cert.to_captured(alloc), octets);
-    let data = rpki_samples::written(alloc, cert.as_tbs()).expect(rt, "memory");
+    let data = samples::written(alloc, cert.as_tbs()).expect(rt, "memory");
     assert!(rt; cert.signed_data().data() == data.as_slice());
 }
 
@@ -94,7 +95,7 @@ fn a_content_is_a_certificate(rt: HostRuntime) {
 
 #[test]
 fn a_router_is_read(rt: HostRuntime) {
-    let tbs = rpki_samples::router(rt.alloc()).expect(&rt, "memory");
-    let octets = rpki_samples::signed(rt.alloc(), tbs).expect(&rt, "memory");
+    let tbs = samples::router(rt.alloc()).expect(&rt, "memory");
+    let octets = samples::signed(rt.alloc(), tbs).expect(&rt, "memory");
     assert_found(&rt, rt.alloc(), Cert::decode(rt.alloc(), &octets), &octets);
 }

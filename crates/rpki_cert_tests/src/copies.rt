@@ -1,11 +1,11 @@
 //! Each `try_clone` and its answer; those of certificates stand with what is read.
 
+use crate::samples::{self, rsa, uri};
 use bytes::Bytes;
 use rpki_blocks::{AsBlock, AsBlocks, AsResources, Asn};
 use rpki_cert::{ExtendedKeyUsage, TbsCert};
 use rpki_der::{Cursor, EncodeError, Oid, Piece};
 use rpki_parts::{Https, Name, PublicKey, RpkiSignatureAlgorithm, Rsync, Signature, SignedData};
-use rpki_samples::{rsa, uri};
 use std::alloc::Global;
 use std::process::Abort;
 
@@ -141,8 +141,8 @@ fn assert_purposes(rt: &impl Abort, alloc: Global, purposes: &ExtendedKeyUsage, 
 fn of_purposes(rt: HostRuntime) {
     // The purposes of a server and of a router.
     let content = "301406082b0601050507030106082b0601050507031e";
-    let octets = rpki_samples::shared(rt.alloc(), content).expect(&rt, "digits");
-    let kept = rpki_samples::octets(rt.alloc(), "06082b0601050507030106082b0601050507031e");
+    let octets = samples::shared(rt.alloc(), content).expect(&rt, "digits");
+    let kept = samples::octets(rt.alloc(), "06082b0601050507030106082b0601050507031e");
     let kept = kept.expect(&rt, "digits");
     let purposes = ExtendedKeyUsage::take_from(rt.alloc(), &mut Cursor::new(&octets));
     let purposes = purposes.expect(&rt, "purposes");
@@ -156,15 +156,15 @@ fn of_purposes(rt: HostRuntime) {
 // What is written of the copy.
 fn written_copy(rt: &impl Abort, alloc: Global, tbs: &TbsCert) -> Vec<u8> {
     let copy = tbs.try_clone(alloc).expect(rt, "memory");
-    let octets = rpki_samples::written(alloc, &copy).expect(rt, "memory");
+    let octets = samples::written(alloc, &copy).expect(rt, "memory");
     drop(copy);
     octets
 }
 
 #[test]
 fn of_certificate_data(rt: HostRuntime) {
-    let tbs = rpki_samples::router(rt.alloc()).expect(&rt, "memory");
+    let tbs = samples::router(rt.alloc()).expect(&rt, "memory");
     let octets = written_copy(&rt, rt.alloc(), &tbs);
-    assert!(rt; rpki_samples::has_hash(rt.alloc(), &octets, rpki_samples::ROUTER_DATA));
+    assert!(rt; samples::has_hash(rt.alloc(), &octets, samples::ROUTER_DATA));
     drop(tbs);
 }

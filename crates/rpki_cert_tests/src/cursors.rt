@@ -1,5 +1,6 @@
 //! One cursor over several calls.
 
+use crate::samples;
 use bytes::Bytes;
 use rpki_cert::Cert;
 use rpki_der::{Cursor, DecodeError, Serial};
@@ -18,7 +19,7 @@ fn assert_none(rt: &impl Abort, found: Result<Option<Cursor<'_>>, DecodeError>) 
 
 #[test]
 fn a_cursor_goes_on(rt: HostRuntime) {
-    let source = rpki_samples::shared(rt.alloc(), "300302010c040005").expect(&rt, "digits");
+    let source = samples::shared(rt.alloc(), "300302010c040005").expect(&rt, "digits");
     let mut cursor = Cursor::new(&source);
     assert_none(&rt, cursor.take_opt_value(0x02));
     assert_next(&rt, cursor.take_opt_sequence(), b"\x02\x01\x0c");
@@ -44,7 +45,7 @@ fn a_content_ends(rt: HostRuntime) {
 
 #[test]
 fn two_forms_of_a_key_identifier(rt: HostRuntime) {
-    let id = rpki_samples::rsa(b"abc").key_identifier();
+    let id = samples::rsa(b"abc").key_identifier();
     let mut out = Vec::new(rt.alloc());
     id.encode_ref(rt.alloc(), &mut out).expect(&rt, "memory");
     id.encode_ref_as(rt.alloc(), &mut out, 0x80)
@@ -69,7 +70,7 @@ fn is_there(rt: &impl Abort, found: Result<Option<Cert>, DecodeError>) -> bool {
 #[test]
 fn a_certificate_is_taken_where_a_sequence_stands(rt: HostRuntime) {
     let alloc: Global = rt.alloc();
-    let mut octets = rpki_samples::anchor_octets(alloc).expect(&rt, "memory");
+    let mut octets = samples::anchor_octets(alloc).expect(&rt, "memory");
     let mut both = Vec::from_slice(alloc, &octets).expect(&rt, "memory");
     both.push(0).expect(&rt, "memory");
     octets = Bytes::from_vec(both).expect(&rt, "memory");

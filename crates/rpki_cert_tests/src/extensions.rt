@@ -1,5 +1,6 @@
 //! The extensions of a certificate, by themselves.
 
+use crate::samples;
 use rpki_blocks::Overclaim;
 use rpki_der::Cursor;
 use rpki_ext::{Extensions, KeyUsage};
@@ -21,19 +22,19 @@ const ORDERED: &str =
 fn assert_written(rt: &impl Abort, alloc: Global, extensions: &Extensions, digits: &str) {
     let mut out = Vec::new(alloc);
     extensions.encode_row(alloc, &mut out).expect(rt, "memory");
-    assert!(rt; rpki_samples::has_digits(alloc, &out, digits));
+    assert!(rt; samples::has_digits(alloc, &out, digits));
 }
 
 #[test]
 fn bare_extensions_are_written(rt: HostRuntime) {
-    let id = rpki_samples::rsa(b"abc").key_identifier();
+    let id = samples::rsa(b"abc").key_identifier();
     let extensions = Extensions::bare(id, KeyUsage::Ee, Overclaim::Trim);
     assert_written(&rt, rt.alloc(), &extensions, BARE);
     drop(extensions);
 }
 
 fn extensions(rt: &impl Abort, alloc: Global) -> Extensions {
-    let octets = rpki_samples::shared(alloc, UNORDERED).expect(rt, "digits");
+    let octets = samples::shared(alloc, UNORDERED).expect(rt, "digits");
     let cursor = Cursor::new(&octets);
     Extensions::from_row(alloc, &cursor).expect(rt, "extensions")
 }

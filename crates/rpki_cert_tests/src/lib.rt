@@ -1,6 +1,7 @@
-//! Tests of certificates and of the crates below them that no line of questions and answers can
-//! ask: calls with a caller's signer, verifier, closure or iterator, setters, copies, what stands
-//! after a refusal, and calls that may allocate, with enough of it.
+//! What tests are made of (`samples`), and tests of certificates and of the crates below them that
+//! no line of questions and answers can ask: calls with a caller's signer, verifier, closure or
+//! iterator, setters, copies, what stands after a refusal, and calls that may allocate, with enough
+//! of it.
 #![tactic(auto)]
 
 #[cfg(test)]
@@ -19,6 +20,7 @@ mod extensions;
 mod making;
 #[cfg(test)]
 mod refusals;
+pub mod samples;
 #[cfg(test)]
 mod sets;
 #[cfg(test)]

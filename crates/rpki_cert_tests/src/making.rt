@@ -1,5 +1,6 @@
 //! Keys, names, algorithms, times and signed data that are made, and fields that are set.
 
+use crate::samples::{self, day, rsa};
 use bytes::Bytes;
 use rpki_blocks::IpResources;
 use rpki_cert::{ExtendedKeyUsage, KeyUsage, TbsCert};
@@ -9,13 +10,12 @@ use rpki_parts::{
     KeyIdentifier, PublicKey, PublicKeyFormat, RpkiSignatureAlgorithm, Signature, SignedData,
     TalInfo, Validity,
 };
-use rpki_samples::{day, rsa};
 use std::alloc::Global;
 use std::collections::HashSet;
 use std::process::Abort;
 
 fn assert_written(rt: &impl Abort, alloc: Global, out: &[u8], digits: &str) {
-    assert!(rt; rpki_samples::has_digits(alloc, out, digits));
+    assert!(rt; samples::has_digits(alloc, out, digits));
 }
 
 fn router() -> PublicKey {
@@ -153,11 +153,11 @@ fn set_fields(rt: &impl Abort, alloc: Global, tbs: &mut TbsCert) {
 
 #[test]
 fn fields_are_set(rt: HostRuntime) {
-    let mut tbs = rpki_samples::anchor(rt.alloc()).expect(&rt, "memory");
+    let mut tbs = samples::anchor(rt.alloc()).expect(&rt, "memory");
     set_fields(&rt, rt.alloc(), &mut tbs);
-    rpki_samples::set_issuer(rt.alloc(), &mut tbs).expect(&rt, "memory");
-    rpki_samples::set_router(rt.alloc(), &mut tbs).expect(&rt, "memory");
-    let octets = rpki_samples::written(rt.alloc(), &tbs).expect(&rt, "memory");
-    assert!(rt; rpki_samples::has_hash(rt.alloc(), &octets, rpki_samples::ROUTER_DATA));
+    samples::set_issuer(rt.alloc(), &mut tbs).expect(&rt, "memory");
+    samples::set_router(rt.alloc(), &mut tbs).expect(&rt, "memory");
+    let octets = samples::written(rt.alloc(), &tbs).expect(&rt, "memory");
+    assert!(rt; samples::has_hash(rt.alloc(), &octets, samples::ROUTER_DATA));
     drop(tbs);
 }

@@ -1,5 +1,6 @@
 //! What stands after a refusal: a cursor, certificate data, and a vector where memory is refused.
 
+use crate::samples;
 use bytes::Bytes;
 use rpki_blocks::{Addr, Asn, IpBlock};
 use rpki_cert::{Cert, TbsCert};
@@ -72,10 +73,10 @@ fn refuse_blocks(rt: &impl Abort, alloc: Global, tbs: &mut TbsCert) {
 
 #[test]
 fn a_closure_that_fails_changes_nothing(rt: HostRuntime) {
-    let mut tbs = rpki_samples::anchor(rt.alloc()).expect(&rt, "memory");
+    let mut tbs = samples::anchor(rt.alloc()).expect(&rt, "memory");
     refuse_blocks(&rt, rt.alloc(), &mut tbs);
-    let octets = rpki_samples::written(rt.alloc(), &tbs).expect(&rt, "memory");
-    assert!(rt; rpki_samples::has_hash(rt.alloc(), &octets, rpki_samples::ANCHOR_DATA));
+    let octets = samples::written(rt.alloc(), &tbs).expect(&rt, "memory");
+    assert!(rt; samples::has_hash(rt.alloc(), &octets, samples::ANCHOR_DATA));
     drop(tbs);
 }
 
@@ -94,6 +95,6 @@ fn a_vector_stays(rt: HostRuntime) {
     let answer = put_value(&mut out, 0x04, b"\x07");
     assert_left(&rt, answer, &out, 0);
     let before = out.len();
-    let answer = rpki_samples::rsa(b"abc").encode_ref(rt.alloc(), &mut out);
+    let answer = samples::rsa(b"abc").encode_ref(rt.alloc(), &mut out);
     assert_left(&rt, answer, &out, before);
 }

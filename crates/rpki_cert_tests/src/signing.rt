@@ -1,32 +1,32 @@
 //! Certificates are signed, by the stand-in and by signers of a caller's own.
 
+use crate::samples::{self, Refusal, Refusing};
 use bytes::Bytes;
 use rpki_cert::{Cert, TbsCert, round_trip};
 use rpki_parts::{RpkiSignatureAlgorithm, Signature, Signer, SigningError, StandIn};
-use rpki_samples::{Refusal, Refusing};
 use std::alloc::Global;
 use std::cell::{Cell, RefCell};
 use std::process::Abort;
 
 #[test]
 fn an_anchor_is_made(rt: HostRuntime) {
-    let anchor = rpki_samples::anchor_octets(rt.alloc()).expect(&rt, "memory");
+    let anchor = samples::anchor_octets(rt.alloc()).expect(&rt, "memory");
     assert_eq!(rt; anchor.len(), 947);
-    assert!(rt; rpki_samples::has_hash(rt.alloc(), &anchor, rpki_samples::ANCHOR));
+    assert!(rt; samples::has_hash(rt.alloc(), &anchor, samples::ANCHOR));
 }
 
 #[test]
 fn an_end_entity_is_made(rt: HostRuntime) {
-    let tbs = rpki_samples::end_entity(rt.alloc()).expect(&rt, "memory");
-    let end_entity = rpki_samples::signed(rt.alloc(), tbs).expect(&rt, "memory");
-    assert!(rt; rpki_samples::has_hash(rt.alloc(), &end_entity, rpki_samples::END_ENTITY));
+    let tbs = samples::end_entity(rt.alloc()).expect(&rt, "memory");
+    let end_entity = samples::signed(rt.alloc(), tbs).expect(&rt, "memory");
+    assert!(rt; samples::has_hash(rt.alloc(), &end_entity, samples::END_ENTITY));
 }
 
 #[test]
 fn a_router_is_made(rt: HostRuntime) {
-    let tbs = rpki_samples::router(rt.alloc()).expect(&rt, "memory");
-    let router = rpki_samples::signed(rt.alloc(), tbs).expect(&rt, "memory");
-    assert!(rt; rpki_samples::has_hash(rt.alloc(), &router, rpki_samples::ROUTER));
+    let tbs = samples::router(rt.alloc()).expect(&rt, "memory");
+    let router = samples::signed(rt.alloc(), tbs).expect(&rt, "memory");
+    assert!(rt; samples::has_hash(rt.alloc(), &router, samples::ROUTER));
 }
 
 // What the refused call answered; 0 for a certificate.
@@ -43,7 +43,7 @@ fn answered(made: Result<Cert, SigningError<u32>>) -> (u32, &'static str) {
 
 fn assert_refused(rt: &impl Abort, alloc: Global, refusal: Refusal, answer: (u32, &'static str)) {
     let signer = Refusing::new(refusal);
-    let tbs = rpki_samples::anchor(alloc).expect(rt, "memory");
+    let tbs = samples::anchor(alloc).expect(rt, "memory");
     let made = tbs.into_cert(alloc, &signer, &7);
     let (key, name) = answered(made);
     assert_eq!(rt; key, answer.0);
@@ -93,7 +93,7 @@ fn assert_kept(rt: &impl Abort, alloc: Global, signer: &Keeping, cert: &Cert) {
     assert_eq!(rt; signer.calls.get(), 1);
     let signed = signer.signed.try_borrow().expect(rt, "no other borrow");
     assert!(rt; signed.as_slice() == cert.signed_data().data());
-    let written = rpki_samples::written(alloc, cert.as_tbs()).expect(rt, "memory");
+    let written = samples::written(alloc, cert.as_tbs()).expect(rt, "memory");
     assert!(rt; signed.as_slice() == written.as_slice());
     assert_eq!(rt;
         cert.signed_data().signature().value(),
@@ -118,7 +118,7 @@ fn what_is_kept_is_signed_once(rt: HostRuntime) {
         &rt,
         rt.alloc(),
         &signer,
-        rpki_samples::anchor(rt.alloc()).expect(&rt, "memory"),
+        samples::anchor(rt.alloc()).expect(&rt, "memory"),
     );
 }
 
@@ -126,7 +126,7 @@ fn what_is_kept_is_signed_once(rt: HostRuntime) {
 fn read_again(rt: &impl Abort, alloc: Global, mut tbs: TbsCert) -> Cert {
     tbs.set_v4_resources_inherit();
     let made = tbs
-        .into_cert(alloc, &StandIn, &rpki_samples::rsa(b"abc"))
+        .into_cert(alloc, &StandIn, &samples::rsa(b"abc"))
         .expect(rt, "a certificate");
     let again = round_trip::read_again(alloc, &made).expect(rt, "memory");
     drop(made);
@@ -135,9 +135,9 @@ fn read_again(rt: &impl Abort, alloc: Global, mut tbs: TbsCert) -> Cert {
 
 #[test]
 fn a_made_certificate_is_read_again(rt: HostRuntime) {
-    let tbs = rpki_samples::end_entity(rt.alloc()).expect(&rt, "memory");
+    let tbs = samples::end_entity(rt.alloc()).expect(&rt, "memory");
     let cert = read_again(&rt, rt.alloc(), tbs);
     let octets = cert.to_captured(rt.alloc()).expect(&rt, "memory");
-    assert!(rt; rpki_samples::has_hash(rt.alloc(), &octets, rpki_samples::END_ENTITY));
+    assert!(rt; samples::has_hash(rt.alloc(), &octets, samples::END_ENTITY));
     drop(cert);
 }

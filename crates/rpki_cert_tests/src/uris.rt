@@ -1,9 +1,9 @@
 //! URIs: from text and from octets, equal, identical, and their parents.
 
+use crate::samples::uri;
 use bytes::Bytes;
 use rpki_der::Piece;
 use rpki_parts::{Https, Rsync, UriError};
-use rpki_samples::uri;
 use std::alloc::Global;
 use std::process::Abort;
 

@@ -1,15 +1,15 @@
 //! Certificates that are verified with no inspection before it, and the copy of what they hold.
 
+use crate::samples::{self, day};
 use rpki_blocks::{Addr, Asn};
 use rpki_cert::{Cert, ResourceCert, TbsCert, VerificationError};
 use rpki_parts::{StandIn, TalInfo};
-use rpki_samples::day;
 use std::alloc::{AllocError, Global};
 use std::process::Abort;
 
 // The certificate of this data.
 fn certificate(rt: &impl Abort, alloc: Global, tbs: Option<TbsCert>) -> Cert {
-    let octets = rpki_samples::signed(alloc, tbs.expect(rt, "memory"));
+    let octets = samples::signed(alloc, tbs.expect(rt, "memory"));
     Cert::decode_shared(alloc, octets.expect(rt, "memory")).expect(rt, "a certificate")
 }
 
@@ -17,7 +17,7 @@ fn anchor(rt: &impl Abort, alloc: Global) -> ResourceCert {
     let tal = TalInfo::from_name(String::new(alloc)).into_rc(alloc);
     let tal = tal.expect(rt, "memory");
     let now = day(2024).expect(rt, "a day");
-    let cert = certificate(rt, alloc, rpki_samples::anchor(alloc));
+    let cert = certificate(rt, alloc, samples::anchor(alloc));
     let found = cert.verify_ta_at(alloc, tal, true, now, &StandIn);
     found.expect(rt, "an anchor")
 }
@@ -53,9 +53,9 @@ fn an_anchor(rt: HostRuntime) {
 
 fn assert_issued(rt: &impl Abort, alloc: Global, issuer: &ResourceCert) {
     let now = day(2024).expect(rt, "a day");
-    let cert = certificate(rt, alloc, rpki_samples::end_entity(alloc));
+    let cert = certificate(rt, alloc, samples::end_entity(alloc));
     assert_verified(rt, cert.verify_ca_at(alloc, issuer, true, now, &StandIn));
-    let cert = certificate(rt, alloc, rpki_samples::end_entity(alloc));
+    let cert = certificate(rt, alloc, samples::end_entity(alloc));
     assert_verified(rt, cert.verify_ee_at(alloc, issuer, true, now, &StandIn));
 }
 

@@ -1,8 +1,8 @@
 //! Signatures are verified, by the stand-in and by a verifier of a caller's own.
 
+use crate::samples::rsa;
 use bytes::Bytes;
 use rpki_parts::{PublicKey, RpkiSignatureAlgorithm, Signature, SignedData, StandIn, Verifier};
-use rpki_samples::rsa;
 
 fn signed_data(data: &'static [u8], signature: &'static [u8]) -> SignedData {
     let algorithm = RpkiSignatureAlgorithm::default();

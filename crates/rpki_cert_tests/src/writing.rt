@@ -1,5 +1,6 @@
 //! Each writer once, behind what stands in the vector, and lengths that no line can have.
 
+use crate::samples::{self, rsa, uri};
 use bytes::Bytes;
 use rpki_blocks::{AsResources, IpResources};
 use rpki_cert::{KeyUsage, Overclaim, TbsCert};
@@ -13,12 +14,11 @@ use rpki_ext::{
     encode_subject_information_access, encode_subject_key_identifier,
 };
 use rpki_parts::{Https, Rsync};
-use rpki_samples::{rsa, uri};
 use std::alloc::Global;
 use std::process::Abort;
 
 fn assert_written(rt: &impl Abort, alloc: Global, out: &[u8], digits: &str) {
-    assert!(rt; rpki_samples::has_digits(alloc, out, digits));
+    assert!(rt; samples::has_digits(alloc, out, digits));
 }
 
 #[test]
@@ -194,21 +194,21 @@ fn long_uri(rt: &impl Abort, alloc: Global, letters: usize) -> Rsync {
 }
 
 fn assert_read_again(rt: &impl Abort, alloc: Global, octets: Vec<u8>, part: &str) {
-    let part = rpki_samples::octets(alloc, part).expect(rt, "digits");
-    assert!(rt; rpki_samples::contains(&octets, &part));
+    let part = samples::octets(alloc, part).expect(rt, "digits");
+    assert!(rt; samples::contains(&octets, &part));
     let octets = Bytes::from_vec(octets).expect(rt, "memory");
     let again = TbsCert::from_constructed(alloc, &mut Cursor::new(&octets));
     let again = again.expect(rt, "certificate data");
-    let written = rpki_samples::written(alloc, &again).expect(rt, "memory");
+    let written = samples::written(alloc, &again).expect(rt, "memory");
     drop(again);
     assert!(rt; written.as_slice() == octets.as_slice());
 }
 
 fn assert_part(rt: &impl Abort, alloc: Global, letters: usize, part: &str) {
-    let mut tbs = rpki_samples::anchor(alloc).expect(rt, "memory");
+    let mut tbs = samples::anchor(alloc).expect(rt, "memory");
     tbs.set_ca_repository(Some(long_uri(rt, alloc, letters)));
     tbs.set_rpki_manifest(None);
-    let octets = rpki_samples::written(alloc, &tbs).expect(rt, "memory");
+    let octets = samples::written(alloc, &tbs).expect(rt, "memory");
     drop(tbs);
     assert_read_again(rt, alloc, octets, part);
 }

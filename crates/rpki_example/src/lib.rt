@@ -36,3 +36,6 @@ pub fn holds_as(
     let holder = validate_path_with(alloc, store, anchor, cas, None, tal, true, now, &verifier)?;
     Ok(holder.as_resources().contains(asn))
 }
+
+#[cfg(test)]
+mod tests;

@@ -1,3 +1,6 @@
+pub mod OctetNumbers
+pub mod KeyFrames
+pub mod ValidSignatures
 pub mod Field
 pub mod Points
 pub mod Sizes

@@ -10,7 +10,7 @@ use Rattle.rpki_der.specs.Values.{AreOctets, IsEnc}
 use Rattle.rpki_der.proofs.Octets.{nothing, some_is}
 use Rattle.rpki_der.proofs.PrimitiveReads.{unsigned_reads}
 use Rattle.rpki_der.proofs.Readings.{both_reads, inside_reads, whole_reads}
-use Rattle.rpki_rsa.specs.RsaKeys.{IsRsaPublicKey}
+use Rattle.rpki_keys.specs.RsaKeys.{IsRsaPublicKey}
 use Rattle.rpki_keys.specs.RsaNumbers.{rsa_numbers_of}
 
 abbrev AreNumbersOf : List ℕ × List ℕ → List ℕ → Type 0

@@ -8,8 +8,8 @@ use Rattle.std.proofs.lemmas.Nat.{pow-add}
 use Rattle.rpki_der.specs.Primitives.{IsInteger}
 use Rattle.rpki_der.specs.Values.{AreOctets}
 use Rattle.rpki_der.proofs.PrimitiveReads.{last_octet}
-use Rattle.rpki_rsa.specs.Octets.{os2ip}
-use Rattle.rpki_rsa.proofs.OctetNumbers.{pow-256, os2ip-below, os2ip-digits, first-high}
+use Rattle.rpki_keys.specs.Octets.{os2ip}
+use Rattle.rpki_keys.proofs.OctetNumbers.{pow-256, os2ip-below, os2ip-digits, first-high}
 use Rattle.rpki_keys.specs.KeyForms.{HasBits}
 
 -- ---- whether it is odd

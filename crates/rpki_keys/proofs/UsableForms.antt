@@ -3,7 +3,7 @@ use Rattle.std.proofs.Common.{◌≡◌, ℕ, ◌*◌, ◌^◌, ◌≤◌, ◌�
 use Rattle.std.proofs.Math.Nat.{pow-suc}
 use Rattle.rpki_parts.specs.declared.key.PublicKeyFormat.{PublicKeyFormat}
 use Rattle.rpki_parts.specs.declared.key.PublicKeyFormat.TheVariants.{Rsa, EcdsaP256}
-use Rattle.rpki_rsa.specs.RsaKeys.{IsRpkiKey}
+use Rattle.rpki_keys.specs.RsaKeys.{IsRpkiKey}
 use Rattle.rpki_keys.specs.Curve.{IsCurvePoint}
 use Rattle.rpki_keys.specs.KeyForms.{HasBits, IsExponent, AreUsable, AreRsaOf, ArePointOf, AreOfForm, IsUsableForm}
 use Rattle.rpki_keys.specs.declared.form.KeyForm.{KeyForm}

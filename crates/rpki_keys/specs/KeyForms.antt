@@ -3,7 +3,7 @@ use Rattle.std.specs.Prelude.{◌≡◌, ℕ, ◌*◌, ◌%◌, ◌^◌, ◌<◌
 use Rattle.rpki_parts.specs.Keys.{KeyFields}
 use Rattle.rpki_parts.specs.declared.key.PublicKeyFormat.{PublicKeyFormat}
 use Rattle.rpki_parts.specs.declared.key.PublicKeyFormat.TheVariants.{Rsa, EcdsaP256}
-use Rattle.rpki_rsa.specs.RsaKeys.{IsRsaPublicKey, IsRpkiKey}
+use Rattle.rpki_keys.specs.RsaKeys.{IsRsaPublicKey, IsRpkiKey}
 use Rattle.rpki_keys.specs.Curve.{IsCurvePoint, IsUncompressed, IsCompressed}
 use Rattle.rpki_keys.specs.declared.form.KeyForm.{KeyForm}
 use Rattle.rpki_keys.specs.declared.form.KeyForm.TheVariants.{RsaKey, EvenModulus, NoRsaKey, Point, OffCurve, CompressedPoint, NoPoint}

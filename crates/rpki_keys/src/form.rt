@@ -3,9 +3,9 @@ ghost use Rattle.std.specs.Prelude.{◌≡◌, ◌↔◌, IsTrue};
 ghost use Rattle.rpki_keys.specs.KeyForms.{IsUsableKey, IsKeyForm, ArePointOf};
 
 use crate::curve::{is_compressed, is_point, is_uncompressed};
+use crate::key::is_rpki_key;
 use crate::rsa::rsa_form;
 use rpki_parts::{PublicKey, PublicKeyFormat};
-use rpki_rsa::is_rpki_key;
 
 /// What the bits of a public key are, by its algorithm.
 #[derive(Debug, Clone, Copy, PartialEq, Eq)]

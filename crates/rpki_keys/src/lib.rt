@@ -1,11 +1,22 @@
-//! Whether a public key can be a key of the RPKI, and what its bits are. Certificates are read
-//! whatever the bits of their keys say; who uses a key asks here.
+//! Keys of the RPKI, and signatures by them (RFC 7935 2, 3): what the bits of a public key are,
+//! whether the RPKI uses it, and RSASSA-PKCS1-v1_5 with SHA-256 by RSA keys of 2048 bits and the
+//! exponent 65537. Certificates are read whatever the bits of their keys say; who uses a key asks
+//! here. Signatures are verified here, and made elsewhere: this code runs in variable time, which
+//! is harmless where all that it reads is public, and unfit for a private key.
 #![tactic(auto)]
 
 mod curve;
+mod encoding;
 mod form;
+mod key;
 pub mod laws;
+mod octets;
 mod rsa;
+mod verifier;
+mod verifying;
 
 pub use curve::is_point;
 pub use form::{KeyForm, form_of, is_usable};
+pub use key::is_rpki_key;
+pub use verifier::RsaVerifier;
+pub use verifying::verify;

@@ -3,11 +3,11 @@
 use crate::lists;
 use bytes::Bytes;
 use rpki_cert::{KeyUsage, Kind, TbsCert};
+use rpki_cert_tests::samples::{self, day, rsa};
 use rpki_crl::Crl;
 use rpki_parts::{PublicKey, RpkiSignatureAlgorithm, StandIn, Verifier};
 use rpki_path::{GivenPath, Member, judge};
 use rpki_revocation::GivenLists;
-use rpki_samples::{day, rsa};
 use std::alloc::Global;
 use std::cell::Cell;
 use std::process::Abort;
@@ -43,12 +43,10 @@ fn below(
     issuer: &'static [u8],
     usage: KeyUsage,
 ) -> TbsCert {
-    let mut tbs = rpki_samples::bare(alloc, 13, rsa(key), usage).expect(rt, "memory");
-    rpki_samples::set_issuer(alloc, &mut tbs).expect(rt, "memory");
+    let mut tbs = samples::bare(alloc, 13, rsa(key), usage).expect(rt, "memory");
+    samples::set_issuer(alloc, &mut tbs).expect(rt, "memory");
     tbs.set_authority_key_identifier(Some(rsa(issuer).key_identifier()));
-    tbs.set_v4_resources_inherit();
-    tbs.set_v6_resources_inherit();
-    tbs.set_as_resources_inherit();
+    samples::inherit_all(&mut tbs);
     tbs
 }
 
@@ -65,7 +63,7 @@ fn signed(rt: &impl Abort, alloc: Global, tbs: TbsCert, issuer: &'static [u8]) -
 fn authority(rt: &impl Abort, alloc: Global, key: &'static [u8], issuer: &'static [u8]) -> Bytes {
     let mut tbs = below(rt, alloc, key, issuer, KeyUsage::Ca);
     tbs.set_basic_ca(Some(true));
-    rpki_samples::set_places(alloc, &mut tbs).expect(rt, "memory");
+    samples::set_places(alloc, &mut tbs).expect(rt, "memory");
     signed(rt, alloc, tbs, issuer)
 }
 
@@ -87,7 +85,7 @@ fn list(rt: &impl Abort, alloc: Global, key: &'static [u8]) -> Crl {
 // A trust anchor, two CAs and an end entity, each with a key of its own.
 fn members(rt: &impl Abort, alloc: Global) -> [Bytes; 4] {
     [
-        rpki_samples::anchor_octets(alloc).expect(rt, "memory"),
+        samples::anchor_octets(alloc).expect(rt, "memory"),
         authority(rt, alloc, b"first", b"abc"),
         authority(rt, alloc, b"second", b"first"),
         end_entity(rt, alloc, b"last", b"second"),

@@ -2,29 +2,26 @@
 
 use crate::lists;
 use rpki_cert::{Cert, ResourceCert};
+use rpki_cert_tests::samples::{self, day, rsa};
 use rpki_crl::{Crl, RevocationError};
 use rpki_der::Serial;
-use rpki_parts::{StandIn, TalInfo};
+use rpki_parts::StandIn;
 use rpki_revocation::{GivenLists, RevocationSource};
-use rpki_samples::{day, rsa};
 use std::alloc::Global;
 use std::process::Abort;
 
 // The trust anchor, whose key is `abc`.
 fn issuer(rt: &impl Abort, alloc: Global) -> ResourceCert {
-    let octets = rpki_samples::anchor_octets(alloc).expect(rt, "memory");
-    let cert = Cert::decode_shared(alloc, octets).expect(rt, "a certificate");
-    let tal = TalInfo::from_name(String::new(alloc)).into_rc(alloc);
+    let octets = samples::anchor_octets(alloc).expect(rt, "memory");
     let now = day(2024).expect(rt, "a day");
-    cert.validate_ta_at(alloc, tal.expect(rt, "memory"), true, now, &StandIn)
-        .expect(rt, "an anchor")
+    samples::valid_anchor(alloc, octets, now).expect(rt, "an anchor")
 }
 
 // A certificate below it with this serial number.
 fn member(rt: &impl Abort, alloc: Global, serial: u64) -> Cert {
-    let mut tbs = rpki_samples::end_entity(alloc).expect(rt, "memory");
+    let mut tbs = samples::end_entity(alloc).expect(rt, "memory");
     tbs.set_serial_number(Serial::from(serial));
-    let octets = rpki_samples::signed(alloc, tbs).expect(rt, "memory");
+    let octets = samples::signed(alloc, tbs).expect(rt, "memory");
     Cert::decode_shared(alloc, octets).expect(rt, "a certificate")
 }
 

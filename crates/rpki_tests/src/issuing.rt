@@ -2,12 +2,12 @@
 
 use rpki_blocks::{AsBlock, Asn};
 use rpki_cert::{
-    Cert, IssueCaError, KeyUsage, Overclaim, ResourceCert, TbsCert, ValidationError,
-    VerificationError, issue_ca,
+    IssueCaError, KeyUsage, Overclaim, ResourceCert, TbsCert, ValidationError, VerificationError,
+    issue_ca,
 };
+use rpki_cert_tests::samples::{self, Refusal, Refusing, day, rsa};
 use rpki_crl::{Crl, CrlEntry, TbsCertList};
-use rpki_parts::{SigningError, StandIn, TalInfo};
-use rpki_samples::{Refusal, Refusing, day, rsa};
+use rpki_parts::{SigningError, StandIn};
 use std::alloc::Global;
 use std::process::Abort;
 
@@ -19,26 +19,21 @@ fn numbers(rt: &impl Abort, alloc: Global, tbs: &mut TbsCert, low: u32, high: u3
 
 // The octets of the anchor, which has AS1 to AS10.
 fn anchor_octets(rt: &impl Abort, alloc: Global) -> bytes::Bytes {
-    let mut tbs = rpki_samples::anchor(alloc).expect(rt, "memory");
+    let mut tbs = samples::anchor(alloc).expect(rt, "memory");
     numbers(rt, alloc, &mut tbs, 1, 10);
-    rpki_samples::signed(alloc, tbs).expect(rt, "memory")
+    samples::signed(alloc, tbs).expect(rt, "memory")
 }
 
 fn anchor(rt: &impl Abort, alloc: Global) -> ResourceCert {
-    let cert = Cert::decode_shared(alloc, anchor_octets(rt, alloc)).expect(rt, "a certificate");
-    let tal = TalInfo::from_name(String::new(alloc)).into_rc(alloc);
     let now = day(2024).expect(rt, "a day");
-    cert.validate_ta_at(alloc, tal.expect(rt, "memory"), true, now, &StandIn)
-        .expect(rt, "an anchor")
+    samples::valid_anchor(alloc, anchor_octets(rt, alloc), now).expect(rt, "an anchor")
 }
 
 // The data of an authority that lists AS5 to AS20.
 fn authority(rt: &impl Abort, alloc: Global, mode: Overclaim) -> TbsCert {
-    let mut tbs = rpki_samples::bare(alloc, 13, rsa(b"a"), KeyUsage::Ca).expect(rt, "memory");
-    tbs.set_basic_ca(Some(true));
+    let mut tbs = samples::bare(alloc, 13, rsa(b"a"), KeyUsage::Ca).expect(rt, "memory");
     tbs.set_overclaim(mode);
-    rpki_samples::set_issuer(alloc, &mut tbs).expect(rt, "memory");
-    rpki_samples::set_places(alloc, &mut tbs).expect(rt, "memory");
+    samples::set_authority(alloc, &mut tbs).expect(rt, "memory");
     numbers(rt, alloc, &mut tbs, 5, 20);
     tbs
 }

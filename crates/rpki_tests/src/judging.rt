@@ -1,13 +1,13 @@
 //! The verdict on paths: each kind of last member, and a caller's own answer for revocation.
 
 use bytes::Bytes;
-use rpki_cert::{Cert, InspectionError, KeyUsage, Kind, ResourceCert};
+use rpki_cert::{Cert, InspectionError, Kind, ResourceCert};
+use rpki_cert_tests::samples::{self, day};
 use rpki_crl::RevocationError;
 use rpki_der::{Serial, Time};
 use rpki_parts::{StandIn, Verifier};
 use rpki_path::{GivenPath, Judged, Member, PathError, PathFault, judge};
 use rpki_revocation::{NobodyAsked, RevocationSource};
-use rpki_samples::{day, rsa};
 use std::alloc::Global;
 use std::process::Abort;
 
@@ -35,29 +35,11 @@ impl RevocationSource for Revoking {
     }
 }
 
-// An authority with the anchor's key and the serial number 13, which inherits all.
-fn authority(rt: &impl Abort, alloc: Global) -> Bytes {
-    let mut tbs = rpki_samples::bare(alloc, 13, rsa(b"abc"), KeyUsage::Ca).expect(rt, "memory");
-    tbs.set_basic_ca(Some(true));
-    rpki_samples::set_issuer(alloc, &mut tbs).expect(rt, "memory");
-    rpki_samples::set_places(alloc, &mut tbs).expect(rt, "memory");
-    tbs.set_v4_resources_inherit();
-    tbs.set_v6_resources_inherit();
-    tbs.set_as_resources_inherit();
-    rpki_samples::signed(alloc, tbs).expect(rt, "memory")
-}
-
-// A detached end entity's.
-fn end_entity(rt: &impl Abort, alloc: Global) -> Bytes {
-    let tbs = rpki_samples::end_entity(alloc).expect(rt, "memory");
-    rpki_samples::signed(alloc, tbs).expect(rt, "memory")
-}
-
 // A router's, with the serial number 42.
 fn router(rt: &impl Abort, alloc: Global) -> Bytes {
-    let mut tbs = rpki_samples::router(alloc).expect(rt, "memory");
+    let mut tbs = samples::router(alloc).expect(rt, "memory");
     tbs.set_serial_number(Serial::from(42u64));
-    rpki_samples::signed(alloc, tbs).expect(rt, "memory")
+    samples::signed(alloc, tbs).expect(rt, "memory")
 }
 
 // What is answered of the anchor, an authority and this last member, which is to be of this kind.
@@ -68,8 +50,9 @@ fn judged<R: RevocationSource>(
     kind: Kind,
     asked: &R,
 ) -> Result<Judged, PathError> {
-    let anchor = rpki_samples::anchor_octets(alloc).expect(rt, "memory");
-    let strings = [anchor, authority(rt, alloc), last];
+    let anchor = samples::anchor_octets(alloc).expect(rt, "memory");
+    let authority = samples::authority_octets(alloc).expect(rt, "memory");
+    let strings = [anchor, authority, last];
     let members = Member::of_each(alloc, &strings).expect(rt, "memory");
     let path = GivenPath::of(&members, kind).expect(rt, "three members");
     let now = day(2024).expect(rt, "a day");
@@ -102,7 +85,7 @@ fn a_router_is_answered_with_the_authority_above_it(rt: HostRuntime) {
 
 #[test]
 fn an_authority_holds_for_itself(rt: HostRuntime) {
-    let last = authority(&rt, rt.alloc());
+    let last = samples::authority_octets(rt.alloc()).expect(&rt, "memory");
     let answer = judged(&rt, rt.alloc(), last, Kind::Authority, &NobodyAsked);
     let (holder, router) = serials(&rt, answer);
     assert!(rt; holder == Serial::from(13u64));
@@ -111,7 +94,7 @@ fn an_authority_holds_for_itself(rt: HostRuntime) {
 
 #[test]
 fn a_detached_end_entity_holds_for_itself(rt: HostRuntime) {
-    let last = end_entity(&rt, rt.alloc());
+    let last = samples::end_entity_octets(rt.alloc()).expect(&rt, "memory");
     let answer = judged(&rt, rt.alloc(), last, Kind::Detached, &NobodyAsked);
     let (holder, router) = serials(&rt, answer);
     assert!(rt; holder != Serial::from(13u64));
@@ -163,7 +146,7 @@ fn a_source_of_the_callers_own_is_asked_of_the_router(rt: HostRuntime) {
 #[test]
 fn members_are_too_few(rt: HostRuntime) {
     assert!(rt; GivenPath::of(&[], Kind::Authority).is_none());
-    let octets = rpki_samples::anchor_octets(rt.alloc()).expect(&rt, "memory");
+    let octets = samples::anchor_octets(rt.alloc()).expect(&rt, "memory");
     let alone = [Member::of(&octets)];
     assert!(rt; GivenPath::of(&alone, Kind::Anchor).is_some());
     assert!(rt; GivenPath::of(&alone, Kind::Authority).is_some());

@@ -1,6 +1,7 @@
 //! Parts of revocation lists by themselves: an entry, the entries of a list, and the data of a
 //! list.
 
+use rpki_cert_tests::samples;
 use rpki_crl::{CrlEntry, RevokedCertificates, TbsCertList};
 use rpki_der::{Cursor, Serial};
 use std::alloc::{AllocError, Global};
@@ -19,19 +20,19 @@ const ENTRIES: &str =
 
 #[test]
 fn an_entry_is_written(rt: HostRuntime) {
-    let since = rpki_samples::day(2019).expect(&rt, "a day");
+    let since = samples::day(2019).expect(&rt, "a day");
     let mut out = Vec::new(rt.alloc());
     let entry = CrlEntry::new(Serial::from(12u64), since);
     entry.encode(rt.alloc(), &mut out).expect(&rt, "memory");
     let digits = "301202010c170d3139303530313030303030305a";
-    assert!(rt; rpki_samples::has_digits(rt.alloc(), &out, digits));
+    assert!(rt; samples::has_digits(rt.alloc(), &out, digits));
 }
 
 // That these octets are written of the entries.
 fn assert_entries(rt: &impl Abort, alloc: Global, entries: &RevokedCertificates, digits: &str) {
     let mut out = Vec::new(alloc);
     entries.encode_ref(alloc, &mut out).expect(rt, "memory");
-    assert!(rt; rpki_samples::has_digits(alloc, &out, digits));
+    assert!(rt; samples::has_digits(alloc, &out, digits));
 }
 
 #[test]
@@ -42,7 +43,7 @@ fn no_entries_are_written(rt: HostRuntime) {
 }
 
 fn one_entry(rt: &impl Abort, alloc: Global) -> RevokedCertificates {
-    let octets = rpki_samples::shared(alloc, ONE_ENTRY).expect(rt, "digits");
+    let octets = samples::shared(alloc, ONE_ENTRY).expect(rt, "digits");
     RevokedCertificates::take_from(alloc, &mut Cursor::new(&octets)).expect(rt, "entries")
 }
 
@@ -65,13 +66,13 @@ fn entries_are_read(rt: HostRuntime) {
 fn assert_data(rt: &impl Abort, alloc: Global, data: &TbsCertList<RevokedCertificates>) {
     let mut out = Vec::new(alloc);
     data.encode_ref(alloc, &mut out).expect(rt, "memory");
-    assert!(rt; rpki_samples::has_digits(alloc, &out, DATA));
+    assert!(rt; samples::has_digits(alloc, &out, DATA));
     assert!(rt; data.revoked_certs().contains(Serial::from(5u64)));
 }
 
 #[test]
 fn the_data_of_a_list_is_read(rt: HostRuntime) {
-    let octets = rpki_samples::shared(rt.alloc(), DATA).expect(&rt, "digits");
+    let octets = samples::shared(rt.alloc(), DATA).expect(&rt, "digits");
     let data = TbsCertList::take_from(rt.alloc(), &mut Cursor::new(&octets));
     let data = data.expect(&rt, "the data of a list");
     assert_data(&rt, rt.alloc(), &data);

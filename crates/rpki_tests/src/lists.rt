@@ -1,9 +1,9 @@
 //! Revocation lists: from shared octets, fields that are set, and lists under their URIs.
 
+use rpki_cert_tests::samples::{self, uri};
 use rpki_crl::{Crl, CrlEntry, CrlStore, TbsCertList, round_trip};
 use rpki_der::Serial;
 use rpki_parts::{RpkiSignatureAlgorithm, StandIn};
-use rpki_samples::uri;
 use std::alloc::{AllocError, Global};
 use std::process::Abort;
 
@@ -18,13 +18,13 @@ const ONE: &str =
     "3082013030818a020101300d06092a864886f70d01010b0500300d310b3009060355040313023032170d3139303633303038323332325a180f32303531303931313133313433385a30163014020105180f32303530303431353132333033305aa02f302d301f0603551d230418301680144e49fb961f40a1814f493a3580ba98dee1ba149d300a0603551d140403020100300d06092a864886f70d01010b0500038191002f21cb30818a020101300d06092a864886f70d01010b0500300d310b3009060355040313023032170d3139303633303038323332325a180f32303531303931313133313433385a30163014020105180f32303530303431353132333033305aa02f302d301f0603551d230418301680144e49fb961f40a1814f493a3580ba98dee1ba149d300a0603551d140403020100";
 
 fn list(rt: &impl Abort, alloc: Global, digits: &str) -> Crl {
-    let octets = rpki_samples::shared(alloc, digits).expect(rt, "digits");
+    let octets = samples::shared(alloc, digits).expect(rt, "digits");
     Crl::decode_shared(alloc, octets).expect(rt, "a list")
 }
 
 fn assert_kept(rt: &impl Abort, alloc: Global, list: &Crl, digits: &str) {
     let kept = list.to_captured(alloc).expect(rt, "memory");
-    assert!(rt; rpki_samples::has_digits(alloc, kept.as_slice(), digits));
+    assert!(rt; samples::has_digits(alloc, kept.as_slice(), digits));
 }
 
 /// That this is the first of the two lists.
@@ -105,29 +105,29 @@ fn a_store_is_copied(rt: HostRuntime) {
 
 /// The data of the list of the key `abc` with the entries 12 and 42, for ten years.
 pub(crate) fn data(rt: &impl Abort, alloc: Global) -> TbsCertList<Vec<CrlEntry>> {
-    let since = rpki_samples::day(2019).expect(rt, "a day");
+    let since = samples::day(2019).expect(rt, "a day");
     let first = CrlEntry::new(Serial::from(12u64), since);
     let second = CrlEntry::new(Serial::from(42u64), since);
-    let issuer = rpki_samples::rsa(b"abc").to_subject_name(alloc);
+    let issuer = samples::rsa(b"abc").to_subject_name(alloc);
     TbsCertList::new(
         RpkiSignatureAlgorithm::default(),
         issuer.expect(rt, "a name"),
         since,
-        rpki_samples::day(2029).expect(rt, "a day"),
+        samples::day(2029).expect(rt, "a day"),
         Vec::from_slice(alloc, &[first, second]).expect(rt, "memory"),
-        rpki_samples::rsa(b"abc").key_identifier(),
+        samples::rsa(b"abc").key_identifier(),
         Serial::from(12u64),
     )
 }
 
 fn assert_made(rt: &impl Abort, alloc: Global, list: &Crl) {
     let kept = list.to_captured(alloc).expect(rt, "memory");
-    assert!(rt; rpki_samples::has_hash(alloc, kept.as_slice(), MADE));
+    assert!(rt; samples::has_hash(alloc, kept.as_slice(), MADE));
 }
 
 #[test]
 fn a_list_is_made(rt: HostRuntime) {
-    let made = data(&rt, rt.alloc()).into_crl(rt.alloc(), &StandIn, &rpki_samples::rsa(b"abc"));
+    let made = data(&rt, rt.alloc()).into_crl(rt.alloc(), &StandIn, &samples::rsa(b"abc"));
     let made = made.expect(&rt, "a list");
     assert_made(&rt, rt.alloc(), &made);
     drop(made);
@@ -136,7 +136,7 @@ fn a_list_is_made(rt: HostRuntime) {
 // The list of this data, and the same read from its own octets.
 fn read_again(rt: &impl Abort, alloc: Global, data: TbsCertList<Vec<CrlEntry>>) -> Crl {
     let made = data
-        .into_crl(alloc, &StandIn, &rpki_samples::rsa(b"abc"))
+        .into_crl(alloc, &StandIn, &samples::rsa(b"abc"))
         .expect(rt, "a list");
     let again = round_trip::read_again(alloc, &made).expect(rt, "memory");
     drop(made);
@@ -152,7 +152,7 @@ fn a_made_list_is_read_again(rt: HostRuntime) {
 
 // Revokes one number more.
 fn revoke(rt: &impl Abort, entries: &mut Vec<CrlEntry>, number: u64) {
-    let since = rpki_samples::day(2020).expect(rt, "a day");
+    let since = samples::day(2020).expect(rt, "a day");
     let entry = CrlEntry::new(Serial::from(number), since);
     entries.push(entry).expect(rt, "memory");
 }

@@ -1,11 +1,11 @@
 //! Paths below the trust anchor of a locator.
 
 use bytes::Bytes;
-use rpki_cert::{Cert, KeyUsage, ResourceCert};
+use rpki_cert::{Cert, ResourceCert};
+use rpki_cert_tests::samples::{anchor_octets, authority_octets, day};
 use rpki_crl::{CrlStore, RevocationError};
 use rpki_parts::StandIn;
 use rpki_path::{LocatedError, Member, PathError, PathFault, has_locator_key, validate_located};
-use rpki_samples::{anchor_octets, bare, day, rsa, set_issuer, set_places, signed};
 use rpki_tal::Tal;
 use std::alloc::Global;
 use std::process::Abort;
@@ -23,18 +23,6 @@ fn locator(rt: &impl Abort, alloc: Global, file: &[u8]) -> Tal {
 
 fn anchor(rt: &impl Abort, alloc: Global) -> Bytes {
     anchor_octets(alloc).expect(rt, "memory")
-}
-
-// An authority with the anchor's key, which inherits all.
-fn authority(rt: &impl Abort, alloc: Global) -> Bytes {
-    let mut tbs = bare(alloc, 13, rsa(b"abc"), KeyUsage::Ca).expect(rt, "memory");
-    tbs.set_basic_ca(Some(true));
-    set_issuer(alloc, &mut tbs).expect(rt, "memory");
-    set_places(alloc, &mut tbs).expect(rt, "memory");
-    tbs.set_v4_resources_inherit();
-    tbs.set_v6_resources_inherit();
-    tbs.set_as_resources_inherit();
-    signed(alloc, tbs).expect(rt, "memory")
 }
 
 type Located = Result<ResourceCert, LocatedError>;
@@ -87,7 +75,7 @@ fn rejected(rt: &impl Abort, alloc: Global, anchor: &Bytes, cas: &[Bytes]) -> Pa
 #[test]
 fn what_is_wrong_below_it_is_told(rt: HostRuntime) {
     let anchor = anchor(&rt, rt.alloc());
-    let cas = [authority(&rt, rt.alloc())];
+    let cas = [authority_octets(rt.alloc()).expect(&rt, "memory")];
     let error = rejected(&rt, rt.alloc(), &anchor, &cas);
     assert_eq!(rt; error.index, 1);
     assert!(rt; matches!(error.fault, PathFault::Revocation(RevocationError::NoCrl)));

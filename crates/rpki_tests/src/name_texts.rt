@@ -1,11 +1,12 @@
 //! The texts of names: the examples of RFC 4514 4 as far as types go, and the cases of RFC 4514 2.
 
+use rpki_cert_tests::samples;
 use rpki_parts::Name;
 use std::alloc::Global;
 use std::process::Abort;
 
 fn assert_shown(rt: &impl Abort, alloc: Global, digits: &str, text: &str) {
-    let octets = rpki_samples::shared(alloc, digits).expect(rt, "octets");
+    let octets = samples::shared(alloc, digits).expect(rt, "octets");
     let name = Name::from_bytes(alloc, octets).expect(rt, "a name");
     let shown = format!(in alloc; "{name}").expect(rt, "memory");
     assert_eq!(rt; shown.as_str(), text);

@@ -2,9 +2,9 @@
 
 use bytes::Bytes;
 use rpki_cert::{Cert, KeyUsage, ResourceCert};
-use rpki_parts::{Name, StandIn, TalInfo};
-use rpki_path::{is_self_named, names_chain, validate_path};
-use rpki_samples::{anchor_octets, bare, day, rsa, set_places, signed};
+use rpki_cert_tests::samples::{anchor_octets, bare, day, rsa, set_places, signed, valid_anchor};
+use rpki_parts::Name;
+use rpki_path::{is_self_named, names_chain};
 use std::alloc::Global;
 use std::process::Abort;
 
@@ -38,10 +38,8 @@ fn named(rt: &impl Abort, alloc: Global, issuer: &[u8], subject: &[u8]) -> Cert 
 // The trust anchor, validated.
 fn anchor(rt: &impl Abort, alloc: Global) -> ResourceCert {
     let octets = anchor_octets(alloc).expect(rt, "memory");
-    let tal = TalInfo::from_name(String::new(alloc)).into_rc(alloc);
-    let (tal, now) = (tal.expect(rt, "memory"), day(2024).expect(rt, "a day"));
-    let answer = validate_path(alloc, &octets, &[], None, tal, true, now, &StandIn);
-    answer.expect(rt, "a path")
+    let now = day(2024).expect(rt, "a day");
+    valid_anchor(alloc, octets, now).expect(rt, "an anchor")
 }
 
 // Whether names chain from the trust anchor to a certificate with these two names.

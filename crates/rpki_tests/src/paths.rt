@@ -2,37 +2,24 @@
 
 use bytes::Bytes;
 use rpki_blocks::Asn;
-use rpki_cert::{KeyUsage, ResourceCert, VerificationError};
+use rpki_cert::{ResourceCert, VerificationError};
+use rpki_cert_tests::samples::{self, day};
 use rpki_parts::{PublicKey, RpkiSignatureAlgorithm, StandIn, TalInfo, Verifier};
 use rpki_path::{Leaf, PathError, PathFault, validate_path};
-use rpki_samples::{day, rsa};
 use std::alloc::{AllocError, Global};
 use std::process::Abort;
 
 fn anchor(rt: &impl Abort, alloc: Global) -> Bytes {
-    rpki_samples::anchor_octets(alloc).expect(rt, "memory")
-}
-
-// An authority with the anchor's key, which inherits all.
-fn authority(rt: &impl Abort, alloc: Global) -> Bytes {
-    let mut tbs = rpki_samples::bare(alloc, 13, rsa(b"abc"), KeyUsage::Ca).expect(rt, "memory");
-    tbs.set_basic_ca(Some(true));
-    rpki_samples::set_issuer(alloc, &mut tbs).expect(rt, "memory");
-    rpki_samples::set_places(alloc, &mut tbs).expect(rt, "memory");
-    tbs.set_v4_resources_inherit();
-    tbs.set_v6_resources_inherit();
-    tbs.set_as_resources_inherit();
-    rpki_samples::signed(alloc, tbs).expect(rt, "memory")
+    samples::anchor_octets(alloc).expect(rt, "memory")
 }
 
 fn leaf(rt: &impl Abort, alloc: Global) -> Leaf {
-    let tbs = rpki_samples::end_entity(alloc).expect(rt, "memory");
-    Leaf::DetachedEe(rpki_samples::signed(alloc, tbs).expect(rt, "memory"))
+    Leaf::DetachedEe(samples::end_entity_octets(alloc).expect(rt, "memory"))
 }
 
 // So many authorities one below the other.
 fn authorities(rt: &impl Abort, alloc: Global, count: usize) -> Vec<Bytes> {
-    let octets = authority(rt, alloc);
+    let octets = samples::authority_octets(alloc).expect(rt, "memory");
     let mut all = Vec::new(alloc);
     for _ in 0..count {
         let copy: Result<Bytes, AllocError> = octets.clone();
@@ -110,10 +97,8 @@ fn fault(answer: Validated) -> (usize, &'static str) {
 }
 
 fn data_length(rt: &impl Abort, alloc: Global) -> usize {
-    let tbs = rpki_samples::end_entity(alloc).expect(rt, "memory");
-    let length = rpki_samples::written(alloc, &tbs)
-        .expect(rt, "memory")
-        .len();
+    let tbs = samples::end_entity(alloc).expect(rt, "memory");
+    let length = samples::written(alloc, &tbs).expect(rt, "memory").len();
     drop(tbs);
     length
 }

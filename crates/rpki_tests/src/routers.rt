@@ -2,35 +2,20 @@
 
 use crate::lists;
 use bytes::Bytes;
-use rpki_cert::{Cert, InspectionError, ResourceCert, VerificationError};
+use rpki_cert::{InspectionError, VerificationError};
+use rpki_cert_tests::samples::{self, day, rsa};
 use rpki_crl::{CrlStore, RevocationError};
 use rpki_der::Serial;
-use rpki_parts::{StandIn, TalInfo};
+use rpki_parts::StandIn;
 use rpki_path::{PathFault, validate_router};
-use rpki_samples::{day, rsa};
 use std::alloc::Global;
 use std::process::Abort;
 
-fn anchor(rt: &impl Abort, alloc: Global) -> ResourceCert {
-    let octets = rpki_samples::anchor_octets(alloc).expect(rt, "memory");
-    let cert = Cert::decode_shared(alloc, octets).expect(rt, "a certificate");
-    let tal = TalInfo::from_name(String::new(alloc)).into_rc(alloc);
-    let now = day(2024).expect(rt, "a day");
-    cert.validate_ta_at(alloc, tal.expect(rt, "memory"), true, now, &StandIn)
-        .expect(rt, "an anchor")
-}
-
 // The octets of a router's certificate with this serial number.
 fn router(rt: &impl Abort, alloc: Global, serial: u64) -> Bytes {
-    let mut tbs = rpki_samples::router(alloc).expect(rt, "memory");
+    let mut tbs = samples::router(alloc).expect(rt, "memory");
     tbs.set_serial_number(Serial::from(serial));
-    rpki_samples::signed(alloc, tbs).expect(rt, "memory")
-}
-
-// The octets of an end entity's certificate.
-fn end_entity(rt: &impl Abort, alloc: Global) -> Bytes {
-    let tbs = rpki_samples::end_entity(alloc).expect(rt, "memory");
-    rpki_samples::signed(alloc, tbs).expect(rt, "memory")
+    samples::signed(alloc, tbs).expect(rt, "memory")
 }
 
 // The list of the key `abc`, which has the numbers 12 and 42, under the URI that routers name.
@@ -38,7 +23,7 @@ fn store(rt: &impl Abort, alloc: Global) -> CrlStore {
     let list = lists::data(rt, alloc)
         .into_crl(alloc, &StandIn, &rsa(b"abc"))
         .expect(rt, "a list");
-    let under = rpki_samples::uri(alloc, "rsync://example.com/m/p/x.crl").expect(rt, "a URI");
+    let under = samples::uri(alloc, "rsync://example.com/m/p/x.crl").expect(rt, "a URI");
     let mut store = CrlStore::new(alloc);
     let pushed = store.push(under, list);
     assert!(rt; pushed.is_ok());
@@ -54,7 +39,9 @@ fn fault(
     lists: Option<&CrlStore>,
     year: i32,
 ) -> Option<PathFault> {
-    let anchor = anchor(rt, alloc);
+    let anchor = samples::anchor_octets(alloc).expect(rt, "memory");
+    let then = day(2024).expect(rt, "a day");
+    let anchor = samples::valid_anchor(alloc, anchor, then).expect(rt, "an anchor");
     let now = day(year).expect(rt, "a day");
     let answer = validate_router(alloc, octets, &anchor, lists, true, now, &StandIn);
     drop(anchor);
@@ -101,7 +88,7 @@ fn a_router_without_a_list_is_not_found_unrevoked(rt: HostRuntime) {
 
 #[test]
 fn an_end_entity_is_no_router(rt: HostRuntime) {
-    let octets = end_entity(&rt, rt.alloc());
+    let octets = samples::end_entity_octets(rt.alloc()).expect(&rt, "memory");
     let fault = fault(&rt, rt.alloc(), &octets, None, 2024).expect(&rt, "a fault");
     assert!(rt; matches!(&fault, PathFault::Inspect(InspectionError::KeyAlgorithm)));
 }

@@ -2,13 +2,14 @@
 
 use bytes::Bytes;
 use rpki_cert::Cert;
+use rpki_cert_tests::samples;
 use rpki_crl::Crl;
 use rpki_der::{Cursor, DecodeError};
 use std::alloc::{AllocError, Global};
 use std::process::Abort;
 
 fn anchor(rt: &impl Abort, alloc: Global) -> Bytes {
-    rpki_samples::anchor_octets(alloc).expect(rt, "memory")
+    samples::anchor_octets(alloc).expect(rt, "memory")
 }
 
 // Three octets of zeros, then the anchor, then one more.
@@ -22,9 +23,9 @@ fn between_zeros(rt: &impl Abort, alloc: Global) -> Bytes {
 
 fn assert_anchor(rt: &impl Abort, alloc: Global, cert: &Cert) {
     let captured = cert.to_captured(alloc).expect(rt, "memory");
-    assert!(rt; rpki_samples::has_hash(alloc, &captured, rpki_samples::ANCHOR));
-    let written = rpki_samples::written(alloc, cert.as_tbs()).expect(rt, "memory");
-    assert!(rt; rpki_samples::has_hash(alloc, &written, rpki_samples::ANCHOR_DATA));
+    assert!(rt; samples::has_hash(alloc, &captured, samples::ANCHOR));
+    let written = samples::written(alloc, cert.as_tbs()).expect(rt, "memory");
+    assert!(rt; samples::has_hash(alloc, &written, samples::ANCHOR_DATA));
 }
 
 fn assert_anchor_found(rt: &impl Abort, alloc: Global, found: Result<Cert, DecodeError>) {
@@ -80,7 +81,7 @@ fn outliving_list(rt: &impl Abort, alloc: Global, octets: Bytes) -> Result<Crl, 
 
 #[test]
 fn a_list_outlives_its_octets(rt: HostRuntime) {
-    let octets = rpki_samples::shared(rt.alloc(), crate::lists::TWO).expect(&rt, "digits");
+    let octets = samples::shared(rt.alloc(), crate::lists::TWO).expect(&rt, "digits");
     let list = outliving_list(&rt, rt.alloc(), octets);
     let list = list.expect(&rt, "a list");
     crate::lists::assert_two(&rt, rt.alloc(), &list);

@@ -129,54 +129,46 @@ fn tagged(words: &Words<'_>, out: &mut Answer) -> bool {
 }
 
 fn enclosing(words: &Words<'_>, cursor: &mut Cursor<'_>, out: &mut Answer) -> bool {
-    if words.is(0, "sequence") {
-        inside(out, cursor.take_sequence());
-    } else if words.is(0, "optional-sequence") {
-        optional(out, cursor.take_opt_sequence());
-    } else if words.is(0, "octets") {
-        inside(out, cursor.take_octets());
-    } else if words.is(0, "bits") {
-        bits(out, cursor.take_bits());
-    } else if words.is(0, "unsigned") {
-        inside(out, cursor.take_unsigned());
-    } else {
-        return false;
+    match words.at(0) {
+        "sequence" => inside(out, cursor.take_sequence()),
+        "optional-sequence" => optional(out, cursor.take_opt_sequence()),
+        "octets" => inside(out, cursor.take_octets()),
+        "bits" => bits(out, cursor.take_bits()),
+        "unsigned" => inside(out, cursor.take_unsigned()),
+        _ => return false,
     }
     true
 }
 
 fn simple(words: &Words<'_>, cursor: &mut Cursor<'_>, out: &mut Answer) -> bool {
-    if words.is(0, "oid") {
-        identifier(out, cursor.take_oid());
-    } else if words.is(0, "u32") {
-        number(out, cursor.take_u32());
-    } else if words.is(0, "null") {
-        nothing(out, cursor.take_null());
-    } else if words.is(0, "boolean") {
-        flag(out, cursor.take_bool_or_false());
-    } else {
-        return false;
+    match words.at(0) {
+        "oid" => identifier(out, cursor.take_oid()),
+        "u32" => number(out, cursor.take_u32()),
+        "null" => nothing(out, cursor.take_null()),
+        "boolean" => flag(out, cursor.take_bool_or_false()),
+        _ => return false,
     }
     true
 }
 
 fn passed(words: &Words<'_>, cursor: &mut Cursor<'_>, out: &mut Answer) -> bool {
-    if words.is(0, "skip") {
-        nothing(out, cursor.skip_one());
-    } else if words.is(0, "skip-all") {
-        nothing(out, cursor.skip_all());
-    } else if words.is(0, "capture") {
-        let found = cursor.capture_one(out.alloc());
-        read(out, found);
-    } else if words.is(0, "capture-rest") {
-        let found = cursor.capture_rest(out.alloc());
-        read(out, found);
-    } else if words.is(0, "finish") {
-        nothing(out, cursor.fork().finish());
-        out.field("empty");
-        out.yes(cursor.is_empty());
-    } else {
-        return false;
+    match words.at(0) {
+        "skip" => nothing(out, cursor.skip_one()),
+        "skip-all" => nothing(out, cursor.skip_all()),
+        "capture" => {
+            let found = cursor.capture_one(out.alloc());
+            read(out, found);
+        }
+        "capture-rest" => {
+            let found = cursor.capture_rest(out.alloc());
+            read(out, found);
+        }
+        "finish" => {
+            nothing(out, cursor.fork().finish());
+            out.field("empty");
+            out.yes(cursor.is_empty());
+        }
+        _ => return false,
     }
     true
 }

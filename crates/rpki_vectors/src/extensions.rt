@@ -235,37 +235,44 @@ fn sia_by_type(out: &mut Answer, cursor: &mut Cursor<'_>) {
 
 // Each of the next three says whether the kind is one of its own.
 fn of_the_key(words: &Words<'_>, cursor: &mut Cursor<'_>, out: &mut Answer) -> bool {
-    if words.is(1, "subject-key-identifier") {
-        subject_key_identifier(out, take_subject_key_identifier(cursor));
-    } else if words.is(1, "authority-key-identifier") {
-        authority_key_identifier(out, take_authority_key_identifier(cursor));
-    } else if words.is(1, "key-usage") {
-        key_usage(out, take_key_usage(cursor));
-    } else if words.is(1, "extended-key-usage") {
-        let mut again = cursor.fork();
-        let found = take_extended_key_usage(out.alloc(), cursor);
-        read(out, found);
-        usage_by_type(out, &mut again);
-    } else {
-        return false;
+    match words.at(1) {
+        "subject-key-identifier" => subject_key_identifier(
+            out,
+            take_subject_key_identifier(cursor),
+        ),
+        "authority-key-identifier" => authority_key_identifier(
+            out,
+            take_authority_key_identifier(cursor),
+        ),
+        "key-usage" => key_usage(out, take_key_usage(cursor)),
+        "extended-key-usage" => {
+            let mut again = cursor.fork();
+            let found = take_extended_key_usage(out.alloc(), cursor);
+            read(out, found);
+            usage_by_type(out, &mut again);
+        }
+        _ => return false,
     }
     true
 }
 
 fn of_uris(words: &Words<'_>, cursor: &mut Cursor<'_>, out: &mut Answer) -> bool {
-    if words.is(1, "crl-distribution-points") {
-        let found = take_crl_distribution_points(out.alloc(), cursor);
-        crl_distribution_points(out, found);
-    } else if words.is(1, "authority-information-access") {
-        let found = take_authority_information_access(out.alloc(), cursor);
-        authority_information_access(out, found);
-    } else if words.is(1, "subject-information-access") {
-        let mut again = cursor.fork();
-        let found = take_subject_information_access(out.alloc(), cursor);
-        subject_information_access(out, found);
-        sia_by_type(out, &mut again);
-    } else {
-        return false;
+    match words.at(1) {
+        "crl-distribution-points" => {
+            let found = take_crl_distribution_points(out.alloc(), cursor);
+            crl_distribution_points(out, found);
+        }
+        "authority-information-access" => {
+            let found = take_authority_information_access(out.alloc(), cursor);
+            authority_information_access(out, found);
+        }
+        "subject-information-access" => {
+            let mut again = cursor.fork();
+            let found = take_subject_information_access(out.alloc(), cursor);
+            subject_information_access(out, found);
+            sia_by_type(out, &mut again);
+        }
+        _ => return false,
     }
     true
 }

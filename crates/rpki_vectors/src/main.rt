@@ -2,7 +2,7 @@
 //! name files that vectors use, so that `rt try -- data/*` finds them): a vector is a name, a
 //! question and the answer that is wanted, on three adjacent lines. Prints how many vectors of each
 //! file pass, the name and both answers of each that doesn't, and ends with status 1 where one
-//! doesn't.
+//! doesn't. Where the arguments are `call PATH`, it makes that public call instead (`calls`).
 //!
 //! It interprets the questions, since a question that is data needs no proof where a test would be
 //! a function that is proved; the reference program answers the same lines; and each can be asked
@@ -109,6 +109,7 @@
 #![tactic(auto)]
 
 mod answer;
+mod calls;
 mod certificates;
 mod cursors;
 mod extensions;
@@ -143,22 +144,15 @@ use words::Words;
 
 // Each of the next two says whether the question is one of its own.
 fn of_certificates(words: &Words<'_>, out: &mut Answer) -> bool {
-    if words.is(0, "certificate") {
-        certificates::certificate(words, out);
-    } else if words.is(0, "data") {
-        certificates::data(words, out);
-    } else if words.is(0, "make") {
-        making::make(words, out);
-    } else if words.is(0, "inspect") {
-        judging::inspect(words, out);
-    } else if words.is(0, "verify") {
-        validating::verify(words, out);
-    } else if words.is(0, "validate") {
-        validating::validate(words, out);
-    } else if words.is(0, "extension") {
-        extensions::extension(words, out);
-    } else {
-        return false;
+    match words.at(0) {
+        "certificate" => certificates::certificate(words, out),
+        "data" => certificates::data(words, out),
+        "make" => making::make(words, out),
+        "inspect" => judging::inspect(words, out),
+        "verify" => validating::verify(words, out),
+        "validate" => validating::validate(words, out),
+        "extension" => extensions::extension(words, out),
+        _ => return false,
     }
     true
 }
@@ -172,48 +166,28 @@ fn shared(words: &Words<'_>, out: &mut Answer) {
 }
 
 fn of_several(words: &Words<'_>, out: &mut Answer) -> bool {
-    if words.is(0, "compare") {
-        parts::compare(words, out);
-    } else if words.is(0, "sets") {
-        sets::sets(words, out);
-    } else if words.is(0, "write") {
-        writing::write(words, out);
-    } else if words.is(0, "list") {
-        lists::list(words, out);
-    } else if words.is(0, "shared") {
-        shared(words, out);
-    } else if words.is(0, "cut") {
-        lists::cut(words, out);
-    } else if words.is(0, "rearrange") {
-        rearranging::rearrange(words, out);
-    } else if words.is(0, "path") {
-        paths::path(words, out);
-    } else if words.is(0, "names") {
-        paths::names(words, out);
-    } else if words.is(0, "revocation") {
-        revocation::revocation(words, out);
-    } else if words.is(0, "real-path") {
-        signatures::real_path(words, out);
-    } else if words.is(0, "real-revocation") {
-        signatures::real_revocation(words, out);
-    } else if words.is(0, "rsa") {
-        signatures::rsa(words, out);
-    } else if words.is(0, "rsa-key") {
-        signatures::rsa_key(words, out);
-    } else if words.is(0, "key-form") {
-        keys::key_form(words, out);
-    } else if words.is(0, "located") {
-        located::located(words, out);
-    } else if words.is(0, "locator") {
-        locators::locator(words, out);
-    } else if words.is(0, "base64") {
-        locators::base64(words, out);
-    } else if words.is(0, "run") {
-        runs::answer(words, out);
-    } else if words.is(0, "run-unnamed") {
-        runs::answer_unnamed(words, out);
-    } else {
-        return false;
+    match words.at(0) {
+        "compare" => parts::compare(words, out),
+        "sets" => sets::sets(words, out),
+        "write" => writing::write(words, out),
+        "list" => lists::list(words, out),
+        "shared" => shared(words, out),
+        "cut" => lists::cut(words, out),
+        "rearrange" => rearranging::rearrange(words, out),
+        "path" => paths::path(words, out),
+        "names" => paths::names(words, out),
+        "revocation" => revocation::revocation(words, out),
+        "real-path" => signatures::real_path(words, out),
+        "real-revocation" => signatures::real_revocation(words, out),
+        "rsa" => signatures::rsa(words, out),
+        "rsa-key" => signatures::rsa_key(words, out),
+        "key-form" => keys::key_form(words, out),
+        "located" => located::located(words, out),
+        "locator" => locators::locator(words, out),
+        "base64" => locators::base64(words, out),
+        "run" => runs::answer(words, out),
+        "run-unnamed" => runs::answer_unnamed(words, out),
+        _ => return false,
     }
     true
 }
@@ -242,17 +216,34 @@ pub fn line_for(alloc: Global, question: &str) -> Result<Answer, AllocError> {
     }
 }
 
-fn main(rt: HostRuntime) -> io::Result<ExitCode> {
+// The path of the call that is asked for, where one is.
+fn called(rt: &HostRuntime) -> io::Result<Option<String>> {
+    let mut words = env::args(rt)?;
+    let is_call = match words.nth(1) {
+        Some(word) => word.as_str() == "call",
+        None => false,
+    };
+    Ok(if is_call { words.next() } else { None })
+}
+
+fn run_all(rt: &HostRuntime) -> io::Result<ExitCode> {
     let mut all = Tally::new();
-    for file in env::args(&rt)?.skip(1) {
+    for file in env::args(rt)?.skip(1) {
         if file.ends_with(".vectors") {
-            all.add(run_file(&rt, file.as_str())?);
+            all.add(run_file(rt, file.as_str())?);
         }
     }
-    all.print_all(&rt)?;
+    all.print_all(rt)?;
     Ok(if all.is_clean() {
         ExitCode::SUCCESS
     } else {
         ExitCode::FAILURE
     })
+}
+
+fn main(rt: HostRuntime) -> io::Result<ExitCode> {
+    match called(&rt)? {
+        Some(path) => calls::make(&rt, path.as_str()),
+        None => run_all(&rt),
+    }
 }

@@ -203,34 +203,32 @@ fn signed_read(words: &Words<'_>, out: &mut Answer, found: Result<SignedData, De
 
 // Each of the next two says whether the part is one of its own.
 fn dated(words: &Words<'_>, cursor: &mut Cursor<'_>, out: &mut Answer) -> bool {
-    if words.is(0, "serial") {
-        read_plain(out, Serial::take_from(cursor));
-    } else if words.is(0, "time") {
-        read_plain(out, Time::take_from(cursor));
-    } else if words.is(0, "validity") {
-        read_plain(out, Validity::take_from(cursor));
-    } else if words.is(0, "algorithm") {
-        read_plain(out, RpkiSignatureAlgorithm::x509_take_from(cursor));
-    } else {
-        return false;
+    match words.at(0) {
+        "serial" => read_plain(out, Serial::take_from(cursor)),
+        "time" => read_plain(out, Time::take_from(cursor)),
+        "validity" => read_plain(out, Validity::take_from(cursor)),
+        "algorithm" => read_plain(out, RpkiSignatureAlgorithm::x509_take_from(cursor)),
+        _ => return false,
     }
     true
 }
 
 fn keyed(words: &Words<'_>, cursor: &mut Cursor<'_>, out: &mut Answer) -> bool {
-    if words.is(0, "key-identifier") {
-        read_plain(out, KeyIdentifier::take_from(cursor));
-    } else if words.is(0, "name") {
-        let found = Name::take_from(out.alloc(), cursor);
-        read(out, found);
-    } else if words.is(0, "key") {
-        let found = PublicKey::take_from(out.alloc(), cursor);
-        read(out, found);
-    } else if words.is(0, "signed") {
-        let found = SignedData::from_constructed(out.alloc(), cursor);
-        signed_read(words, out, found);
-    } else {
-        return false;
+    match words.at(0) {
+        "key-identifier" => read_plain(out, KeyIdentifier::take_from(cursor)),
+        "name" => {
+            let found = Name::take_from(out.alloc(), cursor);
+            read(out, found);
+        }
+        "key" => {
+            let found = PublicKey::take_from(out.alloc(), cursor);
+            read(out, found);
+        }
+        "signed" => {
+            let found = SignedData::from_constructed(out.alloc(), cursor);
+            signed_read(words, out, found);
+        }
+        _ => return false,
     }
     true
 }
@@ -267,15 +265,14 @@ fn moment(words: &Words<'_>) -> Option<Time> {
 }
 
 fn given(words: &Words<'_>, out: &mut Answer) -> bool {
-    if words.is(0, "number") {
-        let octets = words.octets(out, 1);
-        made(out, Serial::from_slice(&octets));
-    } else if words.is(0, "serial-of") {
-        serial_of(out, hexadecimal(words.at(1)));
-    } else if words.is(0, "moment") {
-        made(out, moment(words));
-    } else {
-        return false;
+    match words.at(0) {
+        "number" => {
+            let octets = words.octets(out, 1);
+            made(out, Serial::from_slice(&octets));
+        }
+        "serial-of" => serial_of(out, hexadecimal(words.at(1))),
+        "moment" => made(out, moment(words)),
+        _ => return false,
     }
     true
 }

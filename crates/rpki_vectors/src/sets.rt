@@ -432,18 +432,13 @@ fn read_asns(words: &Words<'_>, out: &mut Answer) {
 
 /// Answers a question of sets, a prefix or a mode. Returns whether the question is of one.
 pub fn resources(words: &Words<'_>, out: &mut Answer) -> bool {
-    if words.is(0, "addresses") {
-        read_addresses(words, out);
-    } else if words.is(0, "asns") {
-        read_asns(words, out);
-    } else if words.is(0, "prefix") {
-        prefix(out, hexadecimal(words.at(1)), words.small(2));
-    } else if words.is(0, "overclaim") {
-        overclaim(words, out);
-    } else if words.is(0, "mode") {
-        identifiers(out, named_mode(words.at(1)));
-    } else {
-        return false;
+    match words.at(0) {
+        "addresses" => read_addresses(words, out),
+        "asns" => read_asns(words, out),
+        "prefix" => prefix(out, hexadecimal(words.at(1)), words.small(2)),
+        "overclaim" => overclaim(words, out),
+        "mode" => identifiers(out, named_mode(words.at(1))),
+        _ => return false,
     }
     true
 }

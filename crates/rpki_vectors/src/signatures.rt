@@ -2,7 +2,7 @@
 use crate::answer::Answer;
 use crate::words::Words;
 use crate::{paths, revocation};
-use rpki_rsa::{RsaVerifier, is_rpki_key, verify};
+use rpki_keys::{RsaVerifier, is_rpki_key, verify};
 
 /// Answers whether bits are a key of the RPKI.
 pub fn rsa_key(words: &Words<'_>, out: &mut Answer) {

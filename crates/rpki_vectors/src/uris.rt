@@ -164,15 +164,14 @@ fn parent_of(out: &mut Answer, answer: Result<Rsync, BadUri>) {
 
 /// Answers a question of a URI or a parent. Returns whether the question is of one.
 pub fn uri(words: &Words<'_>, out: &mut Answer) -> bool {
-    if words.is(0, "rsync") {
-        rsync_read(words, out);
-    } else if words.is(0, "https") {
-        https_read(words, out);
-    } else if words.is(0, "parent") {
-        let octets = shared_characters(out, words.at(1));
-        parent_of(out, Rsync::from_bytes(octets));
-    } else {
-        return false;
+    match words.at(0) {
+        "rsync" => rsync_read(words, out),
+        "https" => https_read(words, out),
+        "parent" => {
+            let octets = shared_characters(out, words.at(1));
+            parent_of(out, Rsync::from_bytes(octets));
+        }
+        _ => return false,
     }
     true
 }

@@ -1,2 +1,2 @@
 //! Signatures by the RPKI's RSA keys, verified from octets.
-pub use rpki_rsa::{is_rpki_key, verify};
+pub use rpki_keys::{is_rpki_key, verify};

@@ -1,5 +1,5 @@
 use Rattle.std.proofs.Common.{◌<◌, length, arith}
-use Rattle.rpki_rsa.proofs.OctetNumbers.{octets-of-fits}
+use Rattle.rpki_keys.proofs.OctetNumbers.{octets-of-fits}
 use Rattle.rpki_keys.proofs.Sizes.{some-content, zero-digits, some-digits}
 use Rattle.rpki_keys.proofs.rsa.bit_count.Goals as goal
 

@@ -1,0 +1,160 @@
+//! Keys, URIs, and the data of three certificates that another program made too. What may run out
+//! of memory gives none where it does.
+
+use bytes::Bytes;
+use rpki_blocks::{Addr, AsBlock, Asn, IpBlock};
+use rpki_cert::{Cert, ExtendedKeyUsage, KeyUsage, Overclaim, ResourceCert, TbsCert};
+use rpki_der::{Serial, Time};
+use rpki_parts::{PublicKey, PublicKeyFormat, Rsync, StandIn, TalInfo, Validity};
+use std::alloc::Global;
+
+/// Makes the RSA key of these bits.
+pub fn rsa(bits: &'static [u8]) -> PublicKey {
+    PublicKey::new(PublicKeyFormat::Rsa, Bytes::from_static(bits))
+}
+
+/// Makes the rsync URI that the text is.
+pub fn uri(alloc: Global, text: &str) -> Option<Rsync> {
+    Rsync::from_text(alloc, text).ok()
+}
+
+/// Returns the first of May of the year.
+pub fn day(year: i32) -> Option<Time> {
+    Time::utc(year, 5, 1, 0, 0, 0)
+}
+
+/// Makes certificate data for ten years, named after its key, with nothing that may be left out.
+/// The issuer is named after the key `abc`.
+pub fn bare(alloc: Global, serial: u64, key: PublicKey, usage: KeyUsage) -> Option<TbsCert> {
+    let validity = Validity::new(day(2019)?, day(2029)?);
+    let issuer = rsa(b"abc").to_subject_name(alloc).ok()?;
+    let serial = Serial::from(serial);
+    let mode = Overclaim::Trim;
+    TbsCert::new(alloc, serial, issuer, validity, None, key, usage, mode).ok()
+}
+
+/// Sets where a CA publishes.
+pub fn set_places(alloc: Global, tbs: &mut TbsCert) -> Option<()> {
+    tbs.set_ca_repository(Some(uri(alloc, "rsync://example.com/m/p")?));
+    tbs.set_rpki_manifest(Some(uri(alloc, "rsync://example.com/m/p/mft.mft")?));
+    Some(())
+}
+
+fn set_all_resources(alloc: Global, tbs: &mut TbsCert) -> Option<()> {
+    let all = IpBlock::from((Addr::from(0), Addr::from(u128::MAX)));
+    let numbers = AsBlock::from((Asn::MIN, Asn::MAX));
+    tbs.v4_resources_from_iter(alloc, [all]).ok()?;
+    tbs.v6_resources_from_iter(alloc, [all]).ok()?;
+    tbs.as_resources_from_iter(alloc, [numbers]).ok()
+}
+
+fn set_anchor(alloc: Global, tbs: &mut TbsCert) -> Option<()> {
+    tbs.set_basic_ca(Some(true));
+    set_places(alloc, tbs)?;
+    set_all_resources(alloc, tbs)
+}
+
+/// Makes the data of a trust anchor with the key `abc`, serial 12 and all resources.
+pub fn anchor(alloc: Global) -> Option<TbsCert> {
+    let mut tbs = bare(alloc, 12, rsa(b"abc"), KeyUsage::Ca)?;
+    let set = set_anchor(alloc, &mut tbs);
+    set.and(Some(tbs))
+}
+
+/// Sets what names the issuer.
+pub fn set_issuer(alloc: Global, tbs: &mut TbsCert) -> Option<()> {
+    tbs.set_authority_key_identifier(Some(rsa(b"abc").key_identifier()));
+    tbs.set_crl_uri(Some(uri(alloc, "rsync://example.com/m/p/x.crl")?));
+    tbs.set_ca_issuer(Some(uri(alloc, "rsync://example.com/m/ta.cer")?));
+    Some(())
+}
+
+/// Sets resources of each kind to the issuer's.
+pub fn inherit_all(tbs: &mut TbsCert) {
+    tbs.set_v4_resources_inherit();
+    tbs.set_v6_resources_inherit();
+    tbs.set_as_resources_inherit();
+}
+
+/// Makes the data of an end entity under the trust anchor, with the key `a`, serial 9 and inherited
+/// resources.
+pub fn end_entity(alloc: Global) -> Option<TbsCert> {
+    let mut tbs = bare(alloc, 9, rsa(b"a"), KeyUsage::Ee)?;
+    inherit_all(&mut tbs);
+    let set = set_issuer(alloc, &mut tbs);
+    set.and(Some(tbs))
+}
+
+/// Sets what an authority has under the trust anchor, but for resources.
+pub fn set_authority(alloc: Global, tbs: &mut TbsCert) -> Option<()> {
+    tbs.set_basic_ca(Some(true));
+    set_issuer(alloc, tbs)?;
+    set_places(alloc, tbs)
+}
+
+/// Makes the data of an authority under the trust anchor, with the anchor's key, serial 13 and
+/// inherited resources.
+pub fn authority(alloc: Global) -> Option<TbsCert> {
+    let mut tbs = bare(alloc, 13, rsa(b"abc"), KeyUsage::Ca)?;
+    inherit_all(&mut tbs);
+    let set = set_authority(alloc, &mut tbs);
+    set.and(Some(tbs))
+}
+
+/// Sets what only a router has.
+pub fn set_router(alloc: Global, tbs: &mut TbsCert) -> Option<()> {
+    let purposes = ExtendedKeyUsage::create_router(alloc).ok()?;
+    tbs.set_extended_key_usage(Some(purposes));
+    let number = AsBlock::from((Asn::from(50), Asn::from(50)));
+    tbs.as_resources_from_iter(alloc, [number]).ok()
+}
+
+fn set_issued_router(alloc: Global, tbs: &mut TbsCert) -> Option<()> {
+    set_issuer(alloc, tbs)?;
+    set_router(alloc, tbs)
+}
+
+/// Makes the data of a router under the trust anchor, with the key `a`, serial 10 and AS number 50.
+pub fn router(alloc: Global) -> Option<TbsCert> {
+    let key = PublicKey::new(PublicKeyFormat::EcdsaP256, Bytes::from_static(b"a"));
+    let mut tbs = bare(alloc, 10, key, KeyUsage::Ee)?;
+    let set = set_issued_router(alloc, &mut tbs);
+    set.and(Some(tbs))
+}
+
+/// Makes the octets of the certificate that the trust anchor's key signs.
+pub fn signed(alloc: Global, tbs: TbsCert) -> Option<Bytes> {
+    let made = tbs.into_cert(alloc, &StandIn, &rsa(b"abc")).ok()?;
+    let octets = made.to_captured(alloc).ok();
+    drop(made);
+    octets
+}
+
+/// Makes the octets of the trust anchor's certificate.
+pub fn anchor_octets(alloc: Global) -> Option<Bytes> {
+    signed(alloc, anchor(alloc)?)
+}
+
+/// Makes the octets of the authority's certificate.
+pub fn authority_octets(alloc: Global) -> Option<Bytes> {
+    signed(alloc, authority(alloc)?)
+}
+
+/// Makes the octets of the end entity's certificate.
+pub fn end_entity_octets(alloc: Global) -> Option<Bytes> {
+    signed(alloc, end_entity(alloc)?)
+}
+
+/// Reads these octets as a trust anchor that is valid at the moment.
+pub fn valid_anchor(alloc: Global, octets: Bytes, now: Time) -> Option<ResourceCert> {
+    let tal = TalInfo::from_name(String::new(alloc)).into_rc(alloc).ok()?;
+    let cert = Cert::decode_shared(alloc, octets).ok()?;
+    cert.validate_ta_at(alloc, tal, true, now, &StandIn).ok()
+}
+
+/// Writes the octets of the data.
+pub fn written(alloc: Global, tbs: &TbsCert) -> Option<Vec<u8>> {
+    let mut out = Vec::new(alloc);
+    tbs.encode_ref(alloc, &mut out).ok()?;
+    Some(out)
+}

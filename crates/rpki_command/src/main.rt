@@ -1,0 +1,194 @@
+//! The command for people, `rpki show` and `rpki validate`: shows certificates, revocation lists and
+//! locators of files, and validates paths of files.
+#![tactic(auto)]
+
+ghost use Rattle.std.specs.Prelude.{◌≡◌, ◌≢◌, ◌≤◌, IfOk, IfSome, MatchOption, OnOk, string_bytes};
+ghost use Rattle.std.specs.Process.{exit_status};
+ghost use Rattle.rpki_command.specs.AnswerTexts.{MayAnswer};
+ghost use Rattle.rpki_command.specs.CommandLines.Views.{fields_of, word_octets};
+ghost use Rattle.rpki_command.specs.Outcomes.{AsksOfFiles, MayEndWith, RunMayEndWith};
+
+mod answering;
+mod arguments;
+mod as_json;
+mod notes;
+pub mod outcome_laws;
+mod outcomes;
+mod reading;
+mod showing;
+mod verdict_lines;
+mod verdicts;
+mod words;
+
+use answering::answer_request;
+use anyhow::{Context, Result, anyhow};
+use arguments::{Misuse, Request, Setting, Task, read_words};
+use outcomes::{Answer, Outcome, status_of};
+use reading::{read_files, read_locators};
+use rpki::repository::x509::Time;
+use rpki_text::{Characters, moments};
+use std::io;
+use std::io::ErrorKind;
+use std::process::ExitCode;
+use std::rt::Clock;
+use std::time::{SystemTime, UNIX_EPOCH};
+use words::words_of;
+
+const USAGE: &str = "usage: rpki show [-j|--json] [--all] [OPTION].. FILE..
+       rpki validate [-j|--json] [--tal FILE].. [--crl FILE].. [--no-names] [OPTION].. ANCHOR
+           [CA].. [LAST]
+       rpki help | --version
+OPTION: --at MOMENT, --max-size OCTETS (of a file; 67108864 if it is left out), or --lenient
+FILE: a certificate or a revocation list, in DER or PEM; of show and --tal also a trust anchor's
+locator; - for standard input
+LAST: a CA, an end entity or a router
+MOMENT: YYYY-MM-DD, YYYY-MM-DDThh:mm:ssZ or YYYYMMDDhhmmss; the clock's, if it is left out
+Behind -- each word is a file.
+";
+
+const VERSION: &str = "rpki 0.1\n";
+
+fn clock(rt: &impl Clock) -> Result<Time> {
+    let now = SystemTime::now(rt)?;
+    let since = now.duration_since(UNIX_EPOCH).context("the clock")?;
+    moments::from_seconds(since.as_secs()).ok_or(anyhow!("the clock"))
+}
+
+// The moment that is named, or the clock's.
+fn moment(rt: &impl Clock, at: Option<Time>) -> Result<Time>
+    ensures { IfOk result (λ now. IfSome at (λ named. now ≡ named)) }
+{
+    match at {
+        Some(moment) => Ok(moment),
+        None => clock(rt),
+    }
+}
+
+// The text about the command, where that is asked for and nothing of files.
+fn about(task: Task) -> Option<&'static str>
+    ensures { MatchOption result (AsksOfFiles task) (λ text. AsksOfFiles task → ⊥) }
+{
+    match task {
+        Task::Help => Some(USAGE),
+        Task::Version => Some(VERSION),
+        Task::Show | Task::Validate => None,
+    }
+}
+
+// The name of an option that takes a value.
+fn name_of(setting: Setting) -> &'static str {
+    match setting {
+        Setting::Crl => "--crl",
+        Setting::Tal => "--tal",
+        Setting::At => "--at",
+        Setting::MaxSize => "--max-size",
+    }
+}
+
+// Says that a word isn't what it should be.
+fn say_word(rt: &impl Eprint, before: &str, word: &[u8], behind: &str) -> io::Result<()> {
+    let word = Characters(word);
+    eprintln!(rt; "rpki: {before}{word}{behind}")
+}
+
+// Says what is wrong of the command line, unless memory ran out.
+fn say(rt: &impl Eprint, misuse: &Misuse<'_>) -> Result<()>
+    ensures { OnOk result (misuse.now ≢ Misuse.Memory) }
+{
+    match misuse {
+        Misuse::NoTask => eprintln!(rt; "rpki: no command")?,
+        Misuse::Unknown(word) => say_word(rt, "unknown: ", *word, "")?,
+        Misuse::NoValue(setting) => {
+            let option = name_of(*setting);
+            eprintln!(rt; "rpki: {option} wants a value")?
+        }
+        Misuse::NoMoment(text) => say_word(rt, "--at ", *text, ": no moment")?,
+        Misuse::NoSize(text) => say_word(rt, "--max-size ", *text, ": no number of octets")?,
+        Misuse::NoFile => eprintln!(rt; "rpki: no file")?,
+        Misuse::Memory => return Err(anyhow!("out of memory")),
+    }
+    eprint!(rt; "{USAGE}")?;
+    Ok(())
+}
+
+// Prints a text. A reader that has closed its end of a pipe wants no more, and nothing failed.
+fn print(rt: &impl Print, text: &str) -> io::Result<()> {
+    match rt.print(text) {
+        Ok(()) => Ok(()),
+        Err(error) => {
+            if error.kind() == ErrorKind::BrokenPipe {
+                drop(error);
+                return Ok(());
+            }
+            Err(error)
+        }
+    }
+}
+
+// What is answered of the files that the request names.
+fn answered(rt: &HostRuntime, request: &Request<'_>) -> Result<Answer>
+    requires { AsksOfFiles request.now.task }
+    ensures { let request = fields_of request.now in
+        IfOk result (λ answer. MayAnswer request answer.outcome (string_bytes answer.text)) }
+{
+    let now = moment(rt, request.at)?;
+    let files = read_files(rt, &request.files, request.max_size)?;
+    let lists = read_files(rt, &request.lists, request.max_size)?;
+    let locators = read_locators(rt, &request.locators, request.max_size, request.strict)?;
+    Ok(answer_request(rt.alloc(), request, now, &files, &lists, &locators)?)
+}
+
+// Answers what is asked of files, and prints the answer.
+fn answer(rt: &HostRuntime, request: &Request<'_>) -> Result<Outcome>
+    requires { AsksOfFiles request.now.task }
+    ensures { IfOk result (MayEndWith (fields_of request.now)) }
+{
+    let answer = answered(rt, request)?;
+    print(rt, answer.text.as_str())?;
+    Ok(answer.outcome)
+}
+
+// Answers the words of the command line.
+fn run(rt: &HostRuntime, words: &[Vec<u8>]) -> Result<Outcome>
+    ensures { IfOk result (RunMayEndWith (word_octets words.now)) }
+{
+    let request = match read_words(rt.alloc(), words) {
+        Ok(request) => request,
+        Err(misuse) => {
+            say(rt, &misuse)?;
+            return Ok(Outcome::WrongUse);
+        }
+    };
+    if let Some(text) = about(request.task) {
+        print(rt, text)?;
+        return Ok(Outcome::Success);
+    }
+    answer(rt, &request)
+}
+
+fn run_with_arguments(rt: &HostRuntime) -> Result<Outcome> {
+    let words = words_of(rt)?;
+    run(rt, &words)
+}
+
+// Runs the command on the words of the command line: reads the files, and prints what they hold,
+// or the verdict on their path. The exit status is 0 where all files were shown or the path is
+// accepted; 1 where a file is no certificate, list or locator, the path is rejected, or a file
+// given as a list or a locator is none; 2 where the command line has another form; and 3 where a
+// file can't be read, or the clock, memory or an output failed.
+fn command(rt: &HostRuntime) -> ExitCode
+    ensures { exit_status result ≤ 3 }
+{
+    let ended = run_with_arguments(rt);
+    if let Err(error) = &ended {
+        // Where this can't be told, the status still tells it.
+        let _told = eprintln!(rt; "rpki: {error:#}");
+    }
+    let status = status_of(&ended);
+    drop(ended);
+    ExitCode::from(status)
+}
+
+fn main(rt: HostRuntime) -> ExitCode {
+    command(&rt)
+}

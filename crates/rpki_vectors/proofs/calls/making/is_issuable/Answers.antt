@@ -1,0 +1,34 @@
+use Rattle.std.proofs.Common.{◌≡◌, ◌<◌, ◌^◌, ℕ, List, length, true, sym, ap, subst, ◌∙◌}
+use Rattle.rpki_der.specs.Times.{Moment}
+use Rattle.rpki_parts.specs.Algorithms.{Algorithm}
+use Rattle.rpki_parts.specs.Keys.{KeyFields}
+use Rattle.rpki_parts.specs.Signatures.{SignatureFields, IsStandInSignature}
+use Rattle.rpki_parts.specs.SignedDatas.{signed_content}
+use Rattle.rpki_cert.specs.Certificates.{TbsFields, CertFields, CanBeWritten, encoding}
+use Rattle.rpki_cert.specs.Issuing.{made_with}
+use Rattle.rpki_cert.specs.Validation.{IsValidBelow}
+use Rattle.rpki_cert.specs.Verification.{ResourceFields, context}
+use Rattle.rpki_cert.specs.declared.inspect.Kind.TheVariants.{Authority}
+use Rattle.rpki_vectors.specs.Issuable.{IsFit, IsIssuable}
+use Rattle.rpki_vectors.proofs.calls.making.is_issuable.Goals as goal
+
+-- what was made of the fields is what is made of them with any signature that is the same
+made_again : (f : TbsFields) (c : CertFields) (s : SignatureFields) → c.fields ≡ f → c.signed_data.message ≡ encoding f
+    → c.signed_data.signature.algorithm ≡ s.algorithm → c.signed_data.signature.value ≡ s.value → c ≡ made_with f s
+made_again f c s fields message algorithm value =
+    ap (λ (g : TbsFields). let d : CertFields = record { fields = g; signed_data = c.signed_data } in d) fields
+    ∙ ap (λ (m : List ℕ). let d : CertFields = record { fields = f; signed_data = record { message = m; signature = c.signed_data.signature } } in d) message
+    ∙ ap (λ (a : Algorithm). made_with f (record { algorithm = a; value = c.signed_data.signature.value })) algorithm
+    ∙ ap (λ (v : List ℕ). made_with f (record { algorithm = s.algorithm; value = v })) value
+
+-- a certificate that the stand-in signed shows that its fields can be issued
+issuable : (f : TbsFields) (key : KeyFields) (issuer r : ResourceFields) (now : Moment) → CanBeWritten f → r.cert.fields ≡ f → r.cert.signed_data.message ≡ encoding f
+    → (r.cert.signed_data.signature.algorithm ≡ f.algorithm) × IsStandInSignature key f.algorithm (encoding f) r.cert.signed_data.signature.value
+    → length (signed_content r.cert.signed_data) < 2 ^ 32 → IsValidBelow (context IsStandInSignature now true) issuer Authority r.cert r → IsIssuable f key issuer now
+issuable f key issuer r now written fields message signed short valid =
+    let fit : IsFit issuer now r.cert = record { short = short; meets = valid.meets; checks = valid.checks } in
+    record {
+      written = written;
+      fit = λ s algorithm value.
+          subst (IsFit issuer now) (made_again f r.cert s fields message (signed.0 ∙ sym algorithm) (signed.1 ∙ sym value)) fit;
+    }

@@ -1,0 +1,67 @@
+//! All extensions of a certificate.
+
+use crate::calls::asking::{Told, begin, ended, plain, vector};
+use rpki_blocks::Overclaim;
+use rpki_cert_tests::samples::{self, rsa};
+use rpki_der::Cursor;
+use rpki_ext::{Extensions, KeyUsage};
+use std::alloc::Global;
+
+fn bare() -> Extensions {
+    let id = rsa(b"abc").key_identifier();
+    Extensions::bare(id, KeyUsage::Ee, Overclaim::Trim)
+}
+
+// After an error a beginning of the extensions may stand there.
+fn all_written(alloc: Global) -> Option<Told> {
+    let mut out = vector(alloc)?;
+    let extensions = bare();
+    let answer = ended(alloc, extensions.encode_row(alloc, &mut out));
+    drop(extensions);
+    let elements = samples::octets(alloc, WRITTEN)?;
+    let (head, tail) = out.split_first()?;
+    let stands = *head == 0xaa
+        && elements.starts_with(tail)
+        && (answer != "ok" || tail == elements.as_slice());
+    Some(Told::standing(answer, stands))
+}
+
+// The identifier of the subject's key, Key Usage and Certificate Policies, in the order in which
+// they are written.
+const WRITTEN: &str =
+    "301d0603551d0e04160414a9993e364706816aba3e25717850c26c9cd0d89d300e0603551d0f0101ff04040302078030180603551d200101ff040e300c300a06082b06010505070e03";
+
+// The first two, AS1 to AS10 under the second identifier, and Certificate Policies.
+const READ: &str =
+    "301d0603551d0e04160414a9993e364706816aba3e25717850c26c9cd0d89d300e0603551d0f0101ff040403020780301d06082b0601050507011d0101ff040e300ca00a3008300602010102010a30180603551d200101ff040e300c300a06082b06010505070e03";
+
+fn all_read(alloc: Global) -> Option<Told> {
+    let octets = samples::shared(alloc, READ)?;
+    let cursor = Cursor::new(&octets);
+    begin(alloc);
+    let answer = Extensions::from_row(alloc, &cursor);
+    plain(alloc, answer)
+}
+
+fn elements(alloc: Global) -> Option<Extensions> {
+    let octets = samples::shared(alloc, READ)?;
+    Extensions::from_row(alloc, &Cursor::new(&octets)).ok()
+}
+
+fn sequence_copied(alloc: Global) -> Option<Told> {
+    let extensions = elements(alloc)?;
+    begin(alloc);
+    let answer = ended(alloc, extensions.try_clone(alloc));
+    drop(extensions);
+    Some(Told::of(answer))
+}
+
+/// The calls of `rpki_ext`.
+pub fn told(alloc: Global, path: &str) -> Option<Told> {
+    match path {
+        "rpki_ext::Extensions::from_row" => all_read(alloc),
+        "rpki_ext::Extensions::try_clone" => sequence_copied(alloc),
+        "rpki_ext::Extensions::encode_row" => all_written(alloc),
+        _ => None,
+    }
+}

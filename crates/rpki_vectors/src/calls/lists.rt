@@ -1,0 +1,66 @@
+//! The data of revocation lists, and lists that are copied or read again.
+
+use crate::calls::asking::{Told, begin, ended, read, written};
+use crate::calls::inputs::list;
+use crate::calls::stores::read_again;
+use bytes::Bytes;
+use rpki_crl::TbsCertList;
+use rpki_der::Cursor;
+use std::alloc::Global;
+
+// With the table of its serials, which is copied too.
+fn cached_copied(alloc: Global) -> Option<Told> {
+    let mut list = list(alloc)?;
+    let cached = list.cache_serials(alloc);
+    begin(alloc);
+    let answer = ended(alloc, list.try_clone(alloc));
+    drop(list);
+    cached.ok()?;
+    Some(Told::of(answer))
+}
+
+// The data of the list.
+fn data(alloc: Global) -> Option<Bytes> {
+    let list = list(alloc)?;
+    let data = Vec::from_slice(alloc, list.signed_data().data());
+    drop(list);
+    Bytes::from_vec(data.ok()?).ok()
+}
+
+fn data_read(alloc: Global) -> Option<Told> {
+    let octets = data(alloc)?;
+    let mut cursor = Cursor::new(&octets);
+    begin(alloc);
+    let answer = TbsCertList::take_from(alloc, &mut cursor);
+    read(alloc, answer, &cursor)
+}
+
+fn data_written(alloc: Global) -> Option<Told> {
+    let octets = data(alloc)?;
+    let mut out = Vec::from_slice(alloc, b"\xaa").ok()?;
+    let list = list(alloc)?;
+    begin(alloc);
+    let answer = list.as_cert_list().encode_ref(alloc, &mut out);
+    drop(list);
+    written(alloc, answer, &out, octets.as_slice())
+}
+
+fn data_copied(alloc: Global) -> Option<Told> {
+    let list = list(alloc)?;
+    begin(alloc);
+    let answer = ended(alloc, list.as_cert_list().try_clone(alloc));
+    drop(list);
+    Some(Told::of(answer))
+}
+
+/// The calls of lists and of their data.
+pub fn told(alloc: Global, path: &str) -> Option<Told> {
+    match path {
+        "rpki_crl::TbsCertList::take_from" => data_read(alloc),
+        "rpki_crl::TbsCertList::encode_ref" => data_written(alloc),
+        "rpki_crl::TbsCertList::try_clone" => data_copied(alloc),
+        "rpki_crl::Crl::try_clone/cached" => cached_copied(alloc),
+        "rpki_crl::round_trip::read_again" => read_again(alloc),
+        _ => None,
+    }
+}

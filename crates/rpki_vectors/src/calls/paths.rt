@@ -1,0 +1,132 @@
+//! Whole paths, and the line program.
+
+use crate::calls::asking::{Told, begin, end, plain};
+use crate::calls::inputs::{ANCHOR, FIRST, NUMBERS, SECOND, anchor, new_year};
+use bytes::Bytes;
+use rpki_cert::{Kind, ResourceCert};
+use rpki_cert_tests::samples::{router, shared, signed};
+use rpki_der::Time;
+use rpki_lines::{Watched, program};
+use rpki_parts::StandIn;
+use rpki_path::{GivenPath, Member, judge, validate_router};
+use rpki_revocation::NobodyAsked;
+use std::alloc::Global;
+use std::process::ExitCode;
+
+// A list of revoked certificates with serial 12, which is asked for.
+const REVOKED: &[u8] = b"revoked 3014301202010C170D3139303530313030303030305A 0C\n";
+
+const YES: &[u8] = b"yes\n";
+
+const ACCEPTED: &[u8] = b"stand-in signatures\naccepted\nv4 none\nv6 none\nas 3-3\n";
+
+// What the line program is asked about the path of the anchor and the two authorities.
+fn question(alloc: Global) -> Option<Vec<u8>> {
+    let mut text = Vec::from_slice(alloc, b"at 20240101000000\nstrict\n").ok()?;
+    for (kind, digits) in [("ta ", NUMBERS), ("ca ", FIRST), ("ca ", SECOND)] {
+        text.extend_from_slice(kind.as_bytes()).ok()?;
+        text.extend_from_slice(digits.as_bytes()).ok()?;
+        text.push(b'\n').ok()?;
+    }
+    Some(text)
+}
+
+// Room for what is printed, so that the writer itself asks for nothing.
+fn output(alloc: Global) -> Option<Vec<u8>> {
+    Vec::with_capacity(alloc, 100).ok()
+}
+
+// What was answered, and whether that was printed; after a fault nothing is.
+fn judged(answer: &'static str, output: &[u8], wanted: &[u8]) -> Told {
+    let stands = if answer == "ok" {
+        output == wanted
+    } else {
+        output.is_empty()
+    };
+    Told::standing(answer, stands)
+}
+
+fn ended_with(alloc: Global, input: &[u8], wanted: &[u8]) -> Option<Told> {
+    let mut output = output(alloc)?;
+    let mut reader = Watched::new(input);
+    let mut writer = Watched::new(&mut output);
+    begin(alloc);
+    let status = program(alloc, &mut reader, &mut writer);
+    end(alloc);
+    let answer = if status == ExitCode::SUCCESS {
+        "ok"
+    } else if status == ExitCode::from(3) {
+        "3"
+    } else {
+        "another"
+    };
+    let told = judged(answer, &output, wanted);
+    Some(Told { status, ..told })
+}
+
+fn path_program(alloc: Global) -> Option<Told> {
+    let input = question(alloc)?;
+    ended_with(alloc, &input, ACCEPTED)
+}
+
+fn list_program(alloc: Global) -> Option<Told> {
+    ended_with(alloc, REVOKED, YES)
+}
+
+fn router_validated_under(alloc: Global, issuer: &ResourceCert, now: Time) -> Option<Told> {
+    let octets = signed(alloc, router(alloc)?)?;
+    begin(alloc);
+    let answer = validate_router(alloc, &octets, issuer, None, true, now, &StandIn);
+    plain(alloc, answer)
+}
+
+fn router_validated(alloc: Global) -> Option<Told> {
+    let now = new_year()?;
+    let issuer = anchor(alloc, ANCHOR, now)?;
+    let told = router_validated_under(alloc, &issuer, now);
+    drop(issuer);
+    told
+}
+
+fn judged_of(alloc: Global, members: &[Member<'_>], last: Kind, now: Time) -> Option<Told> {
+    let path = GivenPath::of(members, last)?;
+    begin(alloc);
+    let answer = judge(alloc, &path, &NobodyAsked, true, now, &StandIn);
+    plain(alloc, answer)
+}
+
+fn judged_as(alloc: Global, strings: &[Bytes], last: Kind, now: Time) -> Option<Told> {
+    let members = Member::of_each(alloc, strings).ok()?;
+    let told = judged_of(alloc, &members, last, now);
+    drop(members);
+    told
+}
+
+fn path_judged(alloc: Global) -> Option<Told> {
+    let now = new_year()?;
+    let strings = [
+        shared(alloc, NUMBERS)?,
+        shared(alloc, FIRST)?,
+        shared(alloc, SECOND)?,
+    ];
+    judged_as(alloc, &strings, Kind::Authority, now)
+}
+
+// The path of an anchor and a router below it.
+fn router_judged(alloc: Global) -> Option<Told> {
+    let now = new_year()?;
+    let strings = [shared(alloc, ANCHOR)?, signed(alloc, router(alloc)?)?];
+    judged_as(alloc, &strings, Kind::Router, now)
+}
+
+/// The calls of `rpki_path` and `rpki_lines`.
+pub fn told(alloc: Global, path: &str) -> Option<Told> {
+    match path {
+        "rpki_path::validate_router" => router_validated(alloc),
+        "rpki_path::judge" => path_judged(alloc),
+        "rpki_path::judge/router" => router_judged(alloc),
+        "rpki_lines::program" => path_program(alloc),
+        "rpki_lines::program/revoked" => list_program(alloc),
+        _ => None,
+    }
+}

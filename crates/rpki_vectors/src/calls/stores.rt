@@ -1,0 +1,241 @@
+//! Entries, lists that are made, tables of serials, and lists under their URIs.
+
+use crate::calls::asking::{Told, begin, end, ended, plain, read, vector, written_digits};
+use rpki_cert_tests::samples::{day, rsa, shared, uri};
+use rpki_crl::{
+    Crl, CrlEntry, CrlStore, InvalidExtension, RevokedCertificates, TbsCertList, round_trip,
+};
+use rpki_der::{Cursor, Oid, Serial};
+use rpki_parts::{RpkiSignatureAlgorithm, StandIn};
+use std::alloc::Global;
+
+// One entry, as it stands in a list.
+const ONE_ENTRY: &str = "3014301202010c170d3139303530313030303030305a";
+
+fn entry_written(alloc: Global) -> Option<Told> {
+    let entry = CrlEntry::new(Serial::from(12u64), day(2019)?);
+    let mut out = vector(alloc)?;
+    let answer = entry.encode(alloc, &mut out);
+    written_digits(
+        alloc,
+        answer,
+        &out,
+        "301202010c170d3139303530313030303030305a",
+    )
+}
+
+fn empty(alloc: Global) -> Option<Told> {
+    begin(alloc);
+    drop(RevokedCertificates::empty(alloc));
+    end(alloc);
+    Some(Told::of("ok"))
+}
+
+fn revoked(alloc: Global) -> Option<RevokedCertificates> {
+    let octets = shared(alloc, ONE_ENTRY)?;
+    RevokedCertificates::take_from(alloc, &mut Cursor::new(&octets)).ok()
+}
+
+fn sequence_read(alloc: Global) -> Option<Told> {
+    let octets = shared(alloc, ONE_ENTRY)?;
+    let mut cursor = Cursor::new(&octets);
+    begin(alloc);
+    let answer = RevokedCertificates::take_from(alloc, &mut cursor);
+    read(alloc, answer, &cursor)
+}
+
+fn sequence_written(alloc: Global) -> Option<Told> {
+    let entries = revoked(alloc)?;
+    let mut out = vector(alloc)?;
+    let answer = entries.encode_ref(alloc, &mut out);
+    written_digits(alloc, answer, &out, ONE_ENTRY)
+}
+
+fn sequence_copied(alloc: Global) -> Option<Told> {
+    let entries = revoked(alloc)?;
+    begin(alloc);
+    let answer = ended(alloc, entries.try_clone(alloc));
+    drop(entries);
+    Some(Told::of(answer))
+}
+
+fn extension_copied(alloc: Global) -> Option<Told> {
+    let oid = Oid::new(shared(alloc, "551d63")?).ok()?;
+    let extension = InvalidExtension::new(oid);
+    begin(alloc);
+    let answer = extension.try_clone(alloc);
+    plain(alloc, answer)
+}
+
+// Entries of the serials 1 to 8.
+fn eight(alloc: Global) -> Option<Vec<CrlEntry>> {
+    let since = day(2019)?;
+    let mut entries = Vec::new(alloc);
+    for serial in 1..9u64 {
+        entries
+            .push(CrlEntry::new(Serial::from(serial), since))
+            .ok()?;
+    }
+    Some(entries)
+}
+
+// The data of a list with these entries.
+fn data(alloc: Global) -> Option<TbsCertList<Vec<CrlEntry>>> {
+    let since = day(2019)?;
+    let until = day(2029)?;
+    let identifier = rsa(b"abc").key_identifier();
+    let number = Serial::from(12u64);
+    let algorithm = RpkiSignatureAlgorithm::default();
+    let issuer = rsa(b"abc").to_subject_name(alloc).ok()?;
+    let entries = eight(alloc)?;
+    Some(TbsCertList::new(algorithm, issuer, since, until, entries, identifier, number))
+}
+
+fn collected(alloc: Global) -> Option<Told> {
+    let data = data(alloc)?;
+    begin(alloc);
+    let answer = data.to_revoked(alloc);
+    plain(alloc, answer)
+}
+
+fn made(alloc: Global) -> Option<Told> {
+    let key = rsa(b"abc");
+    let data = data(alloc)?;
+    begin(alloc);
+    let answer = data.into_crl(alloc, &StandIn, &key);
+    plain(alloc, answer)
+}
+
+/// A list that was made, and is read from its own octets.
+pub fn read_again(alloc: Global) -> Option<Told> {
+    let key = rsa(b"abc");
+    let Ok(made) = data(alloc)?.into_crl(alloc, &StandIn, &key) else {
+        return None;
+    };
+    begin(alloc);
+    let answer = ended(alloc, round_trip::read_again(alloc, &made));
+    drop(made);
+    Some(Told::of(answer))
+}
+
+fn list(alloc: Global) -> Option<Crl> {
+    let key = rsa(b"abc");
+    data(alloc)?.into_crl(alloc, &StandIn, &key).ok()
+}
+
+// Whether the list answers as it was made, and from a table of its serials or not: a walk looks at
+// all eight entries to tell that one isn't there, a table at four at most.
+fn is_list(list: &Crl, is_cached: bool) -> bool {
+    let (is_in, looks) = list.contains_counted(Serial::from(9u64));
+    let has = list.contains(Serial::from(1u64)) && list.contains(Serial::from(8u64));
+    has && !is_in && if is_cached { looks <= 4 } else { looks == 8 }
+}
+
+fn cached(alloc: Global) -> Option<Told> {
+    let mut list = list(alloc)?;
+    begin(alloc);
+    let answer = ended(alloc, list.cache_serials(alloc));
+    let stands = is_list(&list, answer == "ok");
+    drop(list);
+    Some(Told::standing(answer, stands))
+}
+
+const UNDER: &str = "rsync://example.com/m/x.crl";
+
+// The answer to a push, and whether the pair that was handed back is the one that was pushed.
+fn pushed(alloc: Global, store: &mut CrlStore) -> Option<(&'static str, bool)> {
+    let under = uri(alloc, UNDER)?;
+    let list = list(alloc)?;
+    begin(alloc);
+    match store.push(under, list) {
+        Ok(()) => {
+            end(alloc);
+            Some(("ok", true))
+        }
+        Err((under, list)) => {
+            let is_same = under.as_bytes() == UNDER.as_bytes() && is_list(&list, false);
+            drop(under);
+            drop(list);
+            end(alloc);
+            Some(("pair", is_same))
+        }
+    }
+}
+
+// Whether the store has the list exactly where the push was answered so.
+fn is_stored(alloc: Global, store: &CrlStore, answer: &str, is_cached: bool) -> Option<bool> {
+    let under = uri(alloc, UNDER)?;
+    Some(match store.get(&under) {
+        Some(list) => answer == "ok" && is_list(list, is_cached),
+        None => answer == "pair",
+    })
+}
+
+fn pushed_to(alloc: Global, store: &mut CrlStore, is_cached: bool) -> Option<Told> {
+    let (answer, is_same) = pushed(alloc, store)?;
+    let is_stored = is_stored(alloc, store, answer, is_cached)?;
+    Some(Told::standing(answer, is_same && is_stored))
+}
+
+fn pushed_plain(alloc: Global) -> Option<Told> {
+    let mut store = CrlStore::new(alloc);
+    let told = pushed_to(alloc, &mut store, false);
+    drop(store);
+    told
+}
+
+fn pushed_cached(alloc: Global) -> Option<Told> {
+    let mut store = CrlStore::new(alloc);
+    store.enable_serial_caching();
+    let told = pushed_to(alloc, &mut store, true);
+    drop(store);
+    told
+}
+
+fn store_copied(alloc: Global) -> Option<Told> {
+    let mut store = CrlStore::new(alloc);
+    store.enable_serial_caching();
+    let told = copied_with_list(alloc, &mut store);
+    drop(store);
+    told
+}
+
+fn copied_with_list(alloc: Global, store: &mut CrlStore) -> Option<Told> {
+    let under = uri(alloc, UNDER)?;
+    if store.push(under, list(alloc)?).is_err() {
+        return None;
+    }
+    begin(alloc);
+    let answer = ended(alloc, store.try_clone(alloc));
+    let stands = is_stored(alloc, store, "ok", true)?;
+    Some(Told::standing(answer, stands))
+}
+
+fn of_entries(alloc: Global, path: &str) -> Option<Told> {
+    match path {
+        "rpki_crl::CrlEntry::encode" => entry_written(alloc),
+        "rpki_crl::RevokedCertificates::empty" => empty(alloc),
+        "rpki_crl::RevokedCertificates::take_from" => sequence_read(alloc),
+        "rpki_crl::RevokedCertificates::encode_ref" => sequence_written(alloc),
+        "rpki_crl::RevokedCertificates::try_clone" => sequence_copied(alloc),
+        "rpki_crl::InvalidExtension::try_clone" => extension_copied(alloc),
+        "rpki_crl::TbsCertList::to_revoked" => collected(alloc),
+        "rpki_crl::TbsCertList::into_crl" => made(alloc),
+        _ => None,
+    }
+}
+
+fn of_stores(alloc: Global, path: &str) -> Option<Told> {
+    match path {
+        "rpki_crl::Crl::cache_serials" => cached(alloc),
+        "rpki_crl::CrlStore::push" => pushed_plain(alloc),
+        "rpki_crl::CrlStore::push/cached" => pushed_cached(alloc),
+        "rpki_crl::CrlStore::try_clone" => store_copied(alloc),
+        _ => None,
+    }
+}
+
+/// The calls of entries, of lists that are made, and of stores.
+pub fn told(alloc: Global, path: &str) -> Option<Told> {
+    of_entries(alloc, path).or(of_stores(alloc, path))
+}
