@@ -113,7 +113,7 @@ fn flag(out: &mut Answer, found: Result<bool, DecodeError>) {
     }
 }
 
-// Each of the next four says whether the call is one of its own.
+// Each of the next two says whether the call is one of its own.
 fn tagged(words: &Words<'_>, out: &mut Answer) -> bool {
     let octets = words.bytes(out, 2);
     let mut cursor = Cursor::new(&octets);
@@ -128,31 +128,17 @@ fn tagged(words: &Words<'_>, out: &mut Answer) -> bool {
     true
 }
 
-fn enclosing(words: &Words<'_>, cursor: &mut Cursor<'_>, out: &mut Answer) -> bool {
+fn asked(words: &Words<'_>, cursor: &mut Cursor<'_>, out: &mut Answer) -> bool {
     match words.at(0) {
         "sequence" => inside(out, cursor.take_sequence()),
         "optional-sequence" => optional(out, cursor.take_opt_sequence()),
         "octets" => inside(out, cursor.take_octets()),
         "bits" => bits(out, cursor.take_bits()),
         "unsigned" => inside(out, cursor.take_unsigned()),
-        _ => return false,
-    }
-    true
-}
-
-fn simple(words: &Words<'_>, cursor: &mut Cursor<'_>, out: &mut Answer) -> bool {
-    match words.at(0) {
         "oid" => identifier(out, cursor.take_oid()),
         "u32" => number(out, cursor.take_u32()),
         "null" => nothing(out, cursor.take_null()),
         "boolean" => flag(out, cursor.take_bool_or_false()),
-        _ => return false,
-    }
-    true
-}
-
-fn passed(words: &Words<'_>, cursor: &mut Cursor<'_>, out: &mut Answer) -> bool {
-    match words.at(0) {
         "skip" => nothing(out, cursor.skip_one()),
         "skip-all" => nothing(out, cursor.skip_all()),
         "capture" => {
@@ -176,9 +162,7 @@ fn passed(words: &Words<'_>, cursor: &mut Cursor<'_>, out: &mut Answer) -> bool 
 fn untagged(words: &Words<'_>, out: &mut Answer) -> bool {
     let octets = words.bytes(out, 1);
     let mut cursor = Cursor::new(&octets);
-    let known = enclosing(words, &mut cursor, out)
-        || simple(words, &mut cursor, out)
-        || passed(words, &mut cursor, out);
+    let known = asked(words, &mut cursor, out);
     if known {
         out.left(&cursor);
     }

@@ -233,8 +233,8 @@ fn sia_by_type(out: &mut Answer, cursor: &mut Cursor<'_>) {
     out.yes(found.is_ok());
 }
 
-// Each of the next three says whether the kind is one of its own.
-fn of_the_key(words: &Words<'_>, cursor: &mut Cursor<'_>, out: &mut Answer) -> bool {
+// Says whether the kind is one of these.
+fn of_kind(words: &Words<'_>, cursor: &mut Cursor<'_>, out: &mut Answer) -> bool {
     match words.at(1) {
         "subject-key-identifier" => subject_key_identifier(
             out,
@@ -251,13 +251,6 @@ fn of_the_key(words: &Words<'_>, cursor: &mut Cursor<'_>, out: &mut Answer) -> b
             read(out, found);
             usage_by_type(out, &mut again);
         }
-        _ => return false,
-    }
-    true
-}
-
-fn of_uris(words: &Words<'_>, cursor: &mut Cursor<'_>, out: &mut Answer) -> bool {
-    match words.at(1) {
         "crl-distribution-points" => {
             let found = take_crl_distribution_points(out.alloc(), cursor);
             crl_distribution_points(out, found);
@@ -272,18 +265,9 @@ fn of_uris(words: &Words<'_>, cursor: &mut Cursor<'_>, out: &mut Answer) -> bool
             subject_information_access(out, found);
             sia_by_type(out, &mut again);
         }
+        "basic-constraints" => basic_constraints(out, take_basic_constraints(cursor)),
+        "certificate-policies" => certificate_policies(out, take_certificate_policies(cursor)),
         _ => return false,
-    }
-    true
-}
-
-fn of_the_subject(words: &Words<'_>, cursor: &mut Cursor<'_>, out: &mut Answer) -> bool {
-    if words.is(1, "basic-constraints") {
-        basic_constraints(out, take_basic_constraints(cursor));
-    } else if words.is(1, "certificate-policies") {
-        certificate_policies(out, take_certificate_policies(cursor));
-    } else {
-        return false;
     }
     true
 }
@@ -291,9 +275,7 @@ fn of_the_subject(words: &Words<'_>, cursor: &mut Cursor<'_>, out: &mut Answer) 
 fn content(words: &Words<'_>, out: &mut Answer) -> bool {
     let octets = words.asked(out, 2);
     let mut cursor = Cursor::new(&octets);
-    let known = of_the_key(words, &mut cursor, out)
-        || of_uris(words, &mut cursor, out)
-        || of_the_subject(words, &mut cursor, out);
+    let known = of_kind(words, &mut cursor, out);
     if known {
         out.left(&cursor);
     }

@@ -142,21 +142,6 @@ use std::process::ExitCode;
 use std::{env, io};
 use words::Words;
 
-// Each of the next two says whether the question is one of its own.
-fn of_certificates(words: &Words<'_>, out: &mut Answer) -> bool {
-    match words.at(0) {
-        "certificate" => certificates::certificate(words, out),
-        "data" => certificates::data(words, out),
-        "make" => making::make(words, out),
-        "inspect" => judging::inspect(words, out),
-        "verify" => validating::verify(words, out),
-        "validate" => validating::validate(words, out),
-        "extension" => extensions::extension(words, out),
-        _ => return false,
-    }
-    true
-}
-
 fn shared(words: &Words<'_>, out: &mut Answer) {
     if words.is(1, "list") {
         lists::shared(words, out);
@@ -165,8 +150,16 @@ fn shared(words: &Words<'_>, out: &mut Answer) {
     }
 }
 
+// Says whether the question is one of these.
 fn of_several(words: &Words<'_>, out: &mut Answer) -> bool {
     match words.at(0) {
+        "certificate" => certificates::certificate(words, out),
+        "data" => certificates::data(words, out),
+        "make" => making::make(words, out),
+        "inspect" => judging::inspect(words, out),
+        "verify" => validating::verify(words, out),
+        "validate" => validating::validate(words, out),
+        "extension" => extensions::extension(words, out),
         "compare" => parts::compare(words, out),
         "sets" => sets::sets(words, out),
         "write" => writing::write(words, out),
@@ -193,8 +186,7 @@ fn of_several(words: &Words<'_>, out: &mut Answer) -> bool {
 }
 
 fn answered(words: &Words<'_>, out: &mut Answer) {
-    let known = of_certificates(words, out)
-        || of_several(words, out)
+    let known = of_several(words, out)
         || parts::part(words, out)
         || uris::uri(words, out)
         || sets::resources(words, out)

@@ -201,20 +201,13 @@ fn signed_read(words: &Words<'_>, out: &mut Answer, found: Result<SignedData, De
     }
 }
 
-// Each of the next two says whether the part is one of its own.
-fn dated(words: &Words<'_>, cursor: &mut Cursor<'_>, out: &mut Answer) -> bool {
+// Says whether the part is one of these.
+fn of_part(words: &Words<'_>, cursor: &mut Cursor<'_>, out: &mut Answer) -> bool {
     match words.at(0) {
         "serial" => read_plain(out, Serial::take_from(cursor)),
         "time" => read_plain(out, Time::take_from(cursor)),
         "validity" => read_plain(out, Validity::take_from(cursor)),
         "algorithm" => read_plain(out, RpkiSignatureAlgorithm::x509_take_from(cursor)),
-        _ => return false,
-    }
-    true
-}
-
-fn keyed(words: &Words<'_>, cursor: &mut Cursor<'_>, out: &mut Answer) -> bool {
-    match words.at(0) {
         "key-identifier" => read_plain(out, KeyIdentifier::take_from(cursor)),
         "name" => {
             let found = Name::take_from(out.alloc(), cursor);
@@ -236,7 +229,7 @@ fn keyed(words: &Words<'_>, cursor: &mut Cursor<'_>, out: &mut Answer) -> bool {
 fn taken(words: &Words<'_>, out: &mut Answer) -> bool {
     let octets = words.asked(out, 1);
     let mut cursor = Cursor::new(&octets);
-    let known = dated(words, &mut cursor, out) || keyed(words, &mut cursor, out);
+    let known = of_part(words, &mut cursor, out);
     if known {
         out.left(&cursor);
     }
