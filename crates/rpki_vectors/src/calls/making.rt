@@ -78,13 +78,14 @@ fn is_issuable(
 
 fn issued_below(alloc: Global, issuer: &ResourceCert, key: &PublicKey, now: Time) -> Option<Told> {
     let tbs = authority(alloc)?;
-    if !is_issuable(alloc, &tbs, key, issuer, now) {
+    if is_issuable(alloc, &tbs, key, issuer, now) {
+        begin(alloc);
+        let answer = issue_below(alloc, tbs, &StandIn, key, issuer, true, now, &StandIn);
+        judged(alloc, answer)
+    } else {
         drop(tbs);
-        return None;
+        None
     }
-    begin(alloc);
-    let answer = issue_below(alloc, tbs, &StandIn, key, issuer, true, now, &StandIn);
-    judged(alloc, answer)
 }
 
 // Under the anchor with AS1 to AS10, by either call.

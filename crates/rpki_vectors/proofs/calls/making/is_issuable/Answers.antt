@@ -32,3 +32,11 @@ issuable f key issuer r now written fields message signed short valid =
       fit = λ s algorithm value.
           subst (IsFit issuer now) (made_again f r.cert s fields message (signed.0 ∙ sym algorithm) (signed.1 ∙ sym value)) fit;
     }
+
+pub returns-in-Ok-issue_ca : goal.returns-in-Ok-issue_ca
+returns-in-Ok-issue_ca c short =
+    let issued = c.in-Ok-issue_ca.issued in
+    let says = c.in-Ok-issue_ca.ensures in
+    let fits : length (signed_content issued.cert.signed_data) < 2 ^ 32 = rw c.as_cert.ensures at (c.to_captured.ensures.fits (sym c.is_ok-is_short.ensures.value ∙ short)) in
+    subst (λ (f : TbsFields). IsIssuable f c.args.key.now c.args.issuer.now c.args.now) c.in-Ok.ensures
+    (issuable c.in-Ok.copy c.args.key.now c.args.issuer.now issued c.args.now says.written says.fields says.message says.signed fits says.valid)
