@@ -1,4 +1,5 @@
 mod Cutting
+mod FaultTables
 mod ListsRead
 mod QuestionTerms
 mod Unread

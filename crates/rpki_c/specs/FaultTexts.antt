@@ -1,35 +1,47 @@
--- The names of faults, by their numbers (own).
-use Rattle.std.specs.Prelude.{◌≡◌, ◌⊎◌, ℕ, List, codes}
-use Rattle.rpki_der.specs.ErrorNames.{decode_error_name}
-use Rattle.rpki_ext.specs.Inspection.{inspection_error_name}
-use Rattle.rpki_cert.specs.Verification.{verification_error_name}
-use Rattle.rpki_crl.specs.Revocation.{revocation_error_name}
-use Rattle.rpki_tal.specs.TalErrors.{tal_error_name}
-use Rattle.rpki_tal.specs.declared.tal_error.TalError.{TalError}
-use Rattle.rpki_path.specs.FaultNames.{path_fault_name}
-use Rattle.rpki_path.specs.declared.path_fault.PathFault.{PathFault}
-use Rattle.rpki_path.specs.declared.path_fault.PathFault.TheVariants as path
-use Rattle.rpki_c.specs.FaultNumbers.{path_number, locator_number}
+-- What callers in C are told of a fault's number: the fault's name and its sentence (own).
+use Rattle.std.specs.Prelude.{◌≡◌, ℕ, ◌-◌, ◌%◌, ◌==◌, ◌++◌, ◌&&◌, Bool, if◌then◌else◌, nat_le, nat_lt, List, [], Option, Some, None, find, option_map, slice_get}
+use Rattle.rpki_c.specs.FaultNumbers.{FaultFields, faults, field_names}
+use Rattle.rpki_c.specs.Writing.{IsWritten}
 
--- the library's name of what is wrong of a member
-abbrev pub member_fault_name : PathFault → List ℕ
-member_fault_name (path.Decode e) = decode_error_name e
-member_fault_name (path.Inspect e) = inspection_error_name e
-member_fault_name (path.Verify e) = verification_error_name e
-member_fault_name (path.Revocation e) = revocation_error_name e
-member_fault_name path.Memory = path_fault_name path.Memory
+-- what is told of a fault
+pub record ToldFields : Type 0 where
+  pub name : List ℕ
+  pub sentence : List ℕ
 
--- the numbers of no fault and of a bad call, of the faults that aren't of one of the library's
--- enums, and of those that are named with an identifier there, which a number doesn't tell
-abbrev pub IsPlainName : ℕ → List ℕ → Type 0
-IsPlainName number name =
-    ((number ≡ 0) × (name ≡ codes "None")) ⊎ ((number ≡ 2) × (name ≡ codes "BadCall"))
-    ⊎ ((number ≡ 600) × (name ≡ codes "OtherName")) ⊎ ((number ≡ 601) × (name ≡ codes "OtherKey"))
-    ⊎ ((number ≡ 107) × (name ≡ codes "UnexpectedCritical")) ⊎ ((number ≡ 108) × (name ≡ codes "InvalidExtension"))
+-- of one that speaks of this part, or of none, whose name is empty
+abbrev pub told_fields : FaultFields → List ℕ → ToldFields
+told_fields it part = record { name = it.name; sentence = it.before ++ (part ++ it.behind) }
 
--- the name of the fault that has the number
-abbrev pub IsNameOf : ℕ → List ℕ → Type 0
-IsNameOf number name =
-    IsPlainName number name
-    ⊎ ((e : TalError) × (locator_number e ≡ number) × (name ≡ tal_error_name e))
-    ⊎ ((f : PathFault) × (path_number f ≡ number) × (name ≡ member_fault_name f))
+abbrev pub told_if : Option (List ℕ) → Option FaultFields → Option ToldFields
+told_if (Some part) (Some it) = Some (told_fields it part)
+told_if _ _ = None
+
+-- faults with these numbers speak of a part, and twenty numbers are kept for each
+abbrev pub has_part : ℕ → Bool
+has_part number = nat_le 120 number && nat_lt number 220
+
+-- the number in the table
+abbrev pub first_number : ℕ → ℕ
+first_number number = if has_part number then number - number % 20 else number
+
+abbrev pub part_name : ℕ → Option (List ℕ)
+part_name number = if has_part number then slice_get field_names (number % 20) else Some []
+
+abbrev pub fault_numbered : ℕ → Option FaultFields
+fault_numbered number = find (λ (it : FaultFields). it.number == number) faults
+
+-- of the fault that has the number, and None where none has it
+abbrev pub told : ℕ → Option ToldFields
+told number = told_if (part_name number) (fault_numbered (first_number number))
+
+abbrev pub name_told : ℕ → Option (List ℕ)
+name_told number = option_map (λ (it : ToldFields). it.name) (told number)
+
+abbrev pub sentence_told : ℕ → Option (List ℕ)
+sentence_told number = option_map (λ (it : ToldFields). it.sentence) (told number)
+
+-- the call tells this text and answers that there is no fault; or, where there is no text, it tells
+-- nothing and answers that it is a bad call
+abbrev pub TellsText : Option (List ℕ) → ℕ → List ℕ → List ℕ → ℕ → Type 0
+TellsText None answer old new count = (answer ≡ 2) × (new ≡ old) × (count ≡ 0)
+TellsText (Some text) answer old new count = (answer ≡ 0) × IsWritten text old new count

@@ -1,9 +1,19 @@
-//! Faults as numbers. They are written out, here and in `include/rpki.h`: a number never gets
-//! another meaning.
-ghost use Rattle.std.specs.Prelude.{◌≡◌, ◌≢◌, ◌↔◌, ◌<◌, ◌≤◌};
+//! Faults as callers know them: a table, where each has one line with its number, its name in the
+//! library and its sentence. The numbers are those of `include/rpki.h`; none gets another meaning.
+ghost use Rattle.std.specs.Prelude.{◌≡◌, ◌≢◌, ◌↔◌, ◌<◌, ◌≤◌, ◌/◌, bytes_eq, filter, find, map, option_copied, option_map};
+ghost use Rattle.rpki_der.specs.ErrorNames.{decode_error_name};
+ghost use Rattle.rpki_der.specs.declared.error.DecodeError.{DecodeError as decodings};
 ghost use Rattle.rpki_der.specs.declared.error.DecodeError.TheVariants as decoding;
-ghost use Rattle.rpki_tal.specs.declared.tal_error.TalError.TheVariants as tal;
-ghost use Rattle.rpki_c.specs.FaultNumbers.{field_number, decode_number, inspection_number, verification_number, revocation_number, locator_number, path_number, refusal_number};
+ghost use Rattle.rpki_ext.specs.Inspection.{inspection_error_name};
+ghost use Rattle.rpki_ext.specs.declared.inspection.InspectionError.{InspectionError as inspections};
+ghost use Rattle.rpki_cert.specs.Verification.{verification_error_name};
+ghost use Rattle.rpki_cert.specs.declared.verification_error.VerificationError.{VerificationError as verifications};
+ghost use Rattle.rpki_crl.specs.Revocation.{revocation_error_name};
+ghost use Rattle.rpki_crl.specs.declared.revocation_error.RevocationError.{RevocationError as revocations};
+ghost use Rattle.rpki_tal.specs.TalErrors.{tal_error_name};
+ghost use Rattle.rpki_tal.specs.declared.tal_error.TalError.{TalError as locators};
+ghost use Rattle.rpki_c.specs.FaultNumbers.{fault_fields, faults, field_names, field_number, is_among as among, number_in, number_named, decode_number, inspection_number, verification_number, revocation_number, locator_number, path_number, refusal_number};
+ghost use Rattle.rpki_c.specs.FaultTexts.{name_told};
 
 use crate::refusal::Refusal;
 use rpki_cert::{InspectionError, VerificationError};
@@ -22,6 +32,171 @@ pub(crate) const BAD_CALL: u32 = 2;
 pub(crate) const OTHER_NAME: u32 = 600;
 /// The trust anchor's key isn't the locator's.
 pub(crate) const OTHER_KEY: u32 = 601;
+
+/// A fault: its number, its name in the library and its sentence. If it speaks of a part of a
+/// certificate or list, the part's number is added to its number, and the part's name stands between
+/// two texts.
+#[derive(Clone, Copy)]
+pub(crate) struct Fault {
+    pub(crate) number: u32,
+    pub(crate) name: &'static str,
+    pub(crate) before: &'static str,
+    pub(crate) behind: &'static str,
+}
+
+// Faults, each in a line: the number, the name and the sentence, or its two texts.
+macro_rules! table {
+    ($($number:literal $name:literal $before:literal $($behind:literal)?,)*) => {
+        [$(Fault {
+            number: $number,
+            name: $name,
+            before: $before,
+            behind: concat!("", $($behind)?),
+        }),*]
+    };
+}
+
+// All faults. No sentence has the identifier that a fault names.
+const FAULTS: [Fault; 68] = table! {
+    0 "None" "no fault",
+    1 "Memory" "out of memory",
+    2 "BadCall" "lengths or numbers of the call don't fit",
+    100 "Truncated" "truncated value",
+    101 "BadLength" "bad length",
+    102 "BadTag" "unexpected identifier",
+    103 "BadValue" "bad value",
+    104 "Trailing" "trailing octets",
+    105 "TooDeep" "values nested too deep",
+    106 "AlgorithmMismatch" "signature algorithm mismatch",
+    107 "UnexpectedCritical" "unexpected critical extension",
+    108 "InvalidExtension" "invalid extension",
+    120 "Missing" "missing " "",
+    140 "Duplicate" "duplicate " "",
+    160 "Critical" "" " is critical",
+    180 "NotCritical" "" " is not critical",
+    200 "WrongResources" "wrong identifier of " "",
+    300 "AlgorithmMismatch" "signature algorithm mismatch",
+    301 "Issuer" "invalid issuer",
+    302 "Subject" "invalid subject",
+    303 "KeyAlgorithm" "invalid key algorithm",
+    304 "SubjectKeyIdentifier" "subject key identifier mismatch",
+    305 "ExtendedKeyUsagePresent" "extended key usage present",
+    306 "CaFlagFalse" "CA flag is false",
+    307 "MissingBasicConstraints" "missing basic constraints",
+    308 "KeyUsage" "wrong key usage",
+    309 "MissingCaRepository" "missing CA repository",
+    310 "MissingManifest" "missing manifest",
+    311 "ManifestNotChild" "manifest outside the repository",
+    312 "SignedObjectPresent" "signed object present",
+    313 "AuthorityKeyIdentifier" "authority key identifier mismatch",
+    314 "CrlUriPresent" "CRL URI present",
+    315 "CaIssuerPresent" "CA issuer present",
+    316 "MissingCrlUri" "missing CRL URI",
+    317 "BasicConstraintsPresent" "basic constraints present",
+    318 "CaRepositoryPresent" "CA repository present",
+    319 "ManifestPresent" "manifest present",
+    320 "MissingSignedObject" "missing signed object",
+    321 "MissingExtendedKeyUsage" "missing extended key usage",
+    322 "MissingRouterPurpose" "missing router purpose",
+    323 "SubjectInformationPresent" "subject information access present",
+    324 "IpResourcesPresent" "IP resources present",
+    325 "MissingAsResources" "missing AS resources",
+    326 "InheritedAsResources" "inherited AS resources",
+    400 "NotYetValid" "certificate not yet valid",
+    401 "Expired" "certificate expired",
+    402 "InheritedV4" "inherited IPv4 resources",
+    403 "InheritedV6" "inherited IPv6 resources",
+    404 "InheritedAs" "inherited AS resources",
+    405 "MissingKeyId" "missing authority key identifier",
+    406 "WrongKeyId" "wrong authority key identifier",
+    407 "MissingIssuerUri" "missing URI of the issuer's certificate",
+    408 "BadSignature" "bad signature",
+    409 "OverclaimV4" "overclaimed IPv4 resources",
+    410 "OverclaimV6" "overclaimed IPv6 resources",
+    411 "OverclaimAs" "overclaimed AS resources",
+    500 "NoCrl" "missing revocation list",
+    501 "WrongKeyId" "wrong authority key identifier of the revocation list",
+    502 "BadSignature" "bad signature of the revocation list",
+    503 "Stale" "stale revocation list",
+    504 "Revoked" "certificate revoked",
+    600 "OtherName" "the issuer isn't the subject of the certificate above",
+    601 "OtherKey" "the trust anchor's key isn't the locator's",
+    700 "NoText" "not UTF-8 text",
+    701 "BadUri" "bad URI",
+    702 "NoUri" "no URI",
+    703 "NoKey" "no key",
+    704 "BadKey" "bad key",
+};
+
+// The names of parts, by their numbers.
+const FIELD_NAMES: [&str; 13] = [
+    "BasicConstraints",
+    "SubjectKeyIdentifier",
+    "AuthorityKeyIdentifier",
+    "KeyUsage",
+    "ExtendedKeyUsage",
+    "CrlDistributionPoints",
+    "AuthorityInformationAccess",
+    "SubjectInformationAccess",
+    "CertificatePolicies",
+    "IpResources",
+    "AsResources",
+    "Resources",
+    "CrlNumber",
+];
+
+/// Returns the table.
+#[tactic(auto, unfolding(crate::specs::FaultNumbers::faults))]
+pub(crate) fn all_faults() -> &'static [Fault]
+    ensures { map fault_fields result.now ≡ faults }
+{
+    &FAULTS
+}
+
+/// Returns the names of parts, by their numbers.
+#[tactic(auto, unfolding(crate::specs::FaultNumbers::field_names))]
+pub(crate) fn all_field_names() -> &'static [&'static str]
+    ensures { map (λ name. name.now) result.now ≡ field_names }
+{
+    &FIELD_NAMES
+}
+
+fn is_among(fault: &Fault, hundreds: u32) -> bool
+    ensures { result ≡ among hundreds (fault_fields fault.now) }
+{
+    fault.number == MEMORY || fault.number / 100 == hundreds
+}
+
+// The first fault with this name that is that memory ran out, or has so many hundreds.
+fn fault_named<'a>(faults: &'a [Fault], hundreds: u32, name: &str) -> Option<&'a Fault>
+    ensures { option_copied result ≡ find (λ it. bytes_eq it.name.now name.now)
+        (filter (λ it. among hundreds (fault_fields it)) faults.now) }
+{
+    faults
+        .iter()
+        .filter(|fault| is_among(fault, hundreds))
+        .find(|fault| fault.name == name)
+}
+
+// The fault's number, and 0 where there is none.
+fn number_of(fault: Option<&Fault>) -> u32
+    ensures { result ≡ number_in (option_map fault_fields (option_copied fault.entry)) }
+{
+    match fault {
+        Some(fault) => fault.number,
+        None => NONE,
+    }
+}
+
+// The number of that fault.
+fn named(hundreds: u32, name: &str) -> u32
+    requires { number_named hundreds name.now ≢ 1
+        → (number_named hundreds name.now / 100) ≡ hundreds }
+    ensures number { result ≡ number_named hundreds name.now }
+    ensures hundreds { result ≢ MEMORY → (result / 100) ≡ hundreds }
+{
+    number_of(fault_named(all_faults(), hundreds, name))
+}
 
 fn field(field: Field) -> u32
     ensures number { result ≡ field_number field }
@@ -53,101 +228,23 @@ pub(crate) fn of_decoding(error: &DecodeError) -> u32
     ensures small { result < 300 }
 {
     match error {
-        DecodeError::Truncated => 100,
-        DecodeError::BadLength => 101,
-        DecodeError::BadTag => 102,
-        DecodeError::BadValue => 103,
-        DecodeError::Trailing => 104,
-        DecodeError::TooDeep => 105,
-        DecodeError::AlgorithmMismatch => 106,
-        DecodeError::UnexpectedCritical(_) => 107,
-        DecodeError::InvalidExtension(_) => 108,
         DecodeError::Missing(part) => field(*part) + 120,
         DecodeError::Duplicate(part) => field(*part) + 140,
         DecodeError::Critical(part) => field(*part) + 160,
         DecodeError::NotCritical(part) => field(*part) + 180,
         DecodeError::WrongResources(part) => field(*part) + 200,
         DecodeError::Memory => MEMORY,
+        _ => named(1, error.name()),
     }
 }
 
 /// The number of a fault of inspection.
 pub(crate) fn of_inspection(error: InspectionError) -> u32
     ensures number { result ≡ inspection_number error }
-    ensures fault { result ≢ NONE }
-    ensures no_bad_call { result ≢ BAD_CALL }
     ensures great { 300 ≤ result }
-    ensures small { result < 600 }
+    ensures small { result < 400 }
 {
-    match error {
-        InspectionError::AlgorithmMismatch => 300,
-        InspectionError::Issuer => 301,
-        InspectionError::Subject => 302,
-        InspectionError::KeyAlgorithm => 303,
-        InspectionError::SubjectKeyIdentifier => 304,
-        InspectionError::ExtendedKeyUsagePresent => 305,
-        InspectionError::CaFlagFalse => 306,
-        InspectionError::MissingBasicConstraints => 307,
-        InspectionError::KeyUsage => 308,
-        InspectionError::MissingCaRepository => 309,
-        InspectionError::MissingManifest => 310,
-        InspectionError::ManifestNotChild => 311,
-        InspectionError::SignedObjectPresent => 312,
-        InspectionError::AuthorityKeyIdentifier => 313,
-        InspectionError::CrlUriPresent => 314,
-        InspectionError::CaIssuerPresent => 315,
-        InspectionError::MissingCrlUri => 316,
-        InspectionError::BasicConstraintsPresent => 317,
-        InspectionError::CaRepositoryPresent => 318,
-        InspectionError::ManifestPresent => 319,
-        InspectionError::MissingSignedObject => 320,
-        InspectionError::MissingExtendedKeyUsage => 321,
-        InspectionError::MissingRouterPurpose => 322,
-        InspectionError::SubjectInformationPresent => 323,
-        InspectionError::IpResourcesPresent => 324,
-        InspectionError::MissingAsResources => 325,
-        InspectionError::InheritedAsResources => 326,
-    }
-}
-
-/// The number of a fault of verification.
-pub(crate) fn of_verification(error: &VerificationError) -> u32
-    ensures number { result ≡ verification_number error.now }
-    ensures fault { result ≢ NONE }
-    ensures no_bad_call { result ≢ BAD_CALL }
-    ensures small { result < 600 }
-{
-    match error {
-        VerificationError::NotYetValid => 400,
-        VerificationError::Expired => 401,
-        VerificationError::InheritedV4 => 402,
-        VerificationError::InheritedV6 => 403,
-        VerificationError::InheritedAs => 404,
-        VerificationError::MissingKeyId => 405,
-        VerificationError::WrongKeyId => 406,
-        VerificationError::MissingIssuerUri => 407,
-        VerificationError::BadSignature => 408,
-        VerificationError::OverclaimV4 => 409,
-        VerificationError::OverclaimV6 => 410,
-        VerificationError::OverclaimAs => 411,
-        VerificationError::Memory => MEMORY,
-    }
-}
-
-/// The number of a fault of revocation.
-pub(crate) fn of_revocation(error: RevocationError) -> u32
-    ensures number { result ≡ revocation_number error }
-    ensures fault { result ≢ NONE }
-    ensures no_bad_call { result ≢ BAD_CALL }
-    ensures small { result < 600 }
-{
-    match error {
-        RevocationError::NoCrl => 500,
-        RevocationError::WrongKeyId => 501,
-        RevocationError::BadSignature => 502,
-        RevocationError::Stale => 503,
-        RevocationError::Revoked => 504,
-    }
+    named(3, error.name())
 }
 
 /// The number of a fault of a path's member.
@@ -160,26 +257,9 @@ pub(crate) fn of_path(fault: &PathFault) -> u32
     match fault {
         PathFault::Decode(error) => of_decoding(error),
         PathFault::Inspect(error) => of_inspection(*error),
-        PathFault::Verify(error) => of_verification(error),
-        PathFault::Revocation(error) => of_revocation(*error),
+        PathFault::Verify(error) => named(4, error.name()),
+        PathFault::Revocation(error) => named(5, error.name()),
         PathFault::Memory => MEMORY,
-    }
-}
-
-/// The number of a fault of a locator.
-pub(crate) fn of_locator(error: &TalError) -> u32
-    ensures number { result ≡ locator_number error.now }
-    ensures memory { result ≡ MEMORY ↔ error.now ≡ tal.Memory }
-    ensures fault { result ≢ NONE }
-    ensures no_other { result ≢ OTHER_KEY }
-{
-    match error {
-        TalError::NoText => 700,
-        TalError::BadUri => 701,
-        TalError::NoUri => 702,
-        TalError::NoKey => 703,
-        TalError::BadKey => 704,
-        TalError::Memory => MEMORY,
     }
 }
 
@@ -191,9 +271,22 @@ pub(crate) fn of_refusal(refusal: &Refusal) -> u32
     match refusal {
         Refusal::BadCall => BAD_CALL,
         Refusal::Memory => MEMORY,
-        Refusal::Locator(error) => of_locator(error),
+        Refusal::Locator(error) => named(7, error.name()),
         Refusal::OtherKey => OTHER_KEY,
         Refusal::List(_, error) => of_decoding(error),
         Refusal::Member(error) => of_path(&error.fault),
     }
 }
+
+/// Says that by the number of a fault its name is told, so that faults of other names have other
+/// numbers.
+pub(crate) fn numbers_tell_names()
+    ensures decoding { (e : decodings) → name_told (decode_number e) ≡ Some (decode_error_name e) }
+    ensures inspection { (e : inspections)
+        → name_told (inspection_number e) ≡ Some (inspection_error_name e) }
+    ensures verification { (e : verifications)
+        → name_told (verification_number e) ≡ Some (verification_error_name e) }
+    ensures revocation { (e : revocations)
+        → name_told (revocation_number e) ≡ Some (revocation_error_name e) }
+    ensures locator { (e : locators) → name_told (locator_number e) ≡ Some (tal_error_name e) }
+{}

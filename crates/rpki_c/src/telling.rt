@@ -1,200 +1,61 @@
-//! Names and sentences of faults, from their numbers.
-ghost use Rattle.std.specs.Prelude.{◌≡◌, ◌≢◌, ℕ, List, IfSome};
-ghost use Rattle.rpki_c.specs.FaultNumbers.{field_number, decode_number, inspection_number, verification_number, revocation_number, locator_number, path_number};
+//! What callers are told of a fault's number: the fault's name and its sentence.
+ghost use Rattle.std.specs.Prelude.{◌≡◌, ◌≢◌, ◌==◌, find, option_copied, option_map, slice_get};
+ghost use Rattle.rpki_c.specs.FaultNumbers.{fault_fields};
+ghost use Rattle.rpki_c.specs.FaultTexts.{TellsText, first_number as first, has_part as parted, name_told, part_name as name_of_part, sentence_told, told, told_fields};
 ghost use Rattle.rpki_c.specs.Writing.{IsWritten};
-ghost use Rattle.rpki_c.specs.FaultTexts.{member_fault_name, IsPlainName, IsNameOf};
 
 use crate::copying::put_octets;
-use crate::faults::{BAD_CALL, MEMORY, NONE, OTHER_KEY, OTHER_NAME};
-use rpki_cert::{InspectionError, VerificationError};
-use rpki_crl::RevocationError;
-use rpki_der::{DecodeError, Field};
-use rpki_path::PathFault;
-use rpki_tal::TalError;
+use crate::faults::{BAD_CALL, Fault, MEMORY, NONE, all_faults, all_field_names};
 use std::alloc::Global;
-use std::fmt::Display;
 
-fn field(number: u32) -> Option<Field>
-    ensures { IfSome result (λ it. field_number it ≡ number) }
+// Whether faults with this number speak of a part.
+fn has_part(number: u32) -> bool
+    ensures { result ≡ parted number }
 {
-    match number {
-        0 => Some(Field::BasicConstraints),
-        1 => Some(Field::SubjectKeyIdentifier),
-        2 => Some(Field::AuthorityKeyIdentifier),
-        3 => Some(Field::KeyUsage),
-        4 => Some(Field::ExtendedKeyUsage),
-        5 => Some(Field::CrlDistributionPoints),
-        6 => Some(Field::AuthorityInformationAccess),
-        7 => Some(Field::SubjectInformationAccess),
-        8 => Some(Field::CertificatePolicies),
-        9 => Some(Field::IpResources),
-        10 => Some(Field::AsResources),
-        11 => Some(Field::Resources),
-        12 => Some(Field::CrlNumber),
-        _ => None,
+    120 <= number && number < 220
+}
+
+// The number of the fault in the table.
+fn first_number(number: u32) -> u32
+    ensures { result ≡ first number }
+{
+    if has_part(number) {
+        number - number % 20
+    } else {
+        number
     }
 }
 
-fn decoding(number: u32) -> Option<DecodeError>
-    ensures { IfSome result (λ it. decode_number it ≡ number) }
+fn name_at(names: &[&'static str], place: u32) -> Option<&'static str>
+    ensures { result ≡ slice_get names.now place }
 {
-    match number {
-        100 => Some(DecodeError::Truncated),
-        101 => Some(DecodeError::BadLength),
-        102 => Some(DecodeError::BadTag),
-        103 => Some(DecodeError::BadValue),
-        104 => Some(DecodeError::Trailing),
-        105 => Some(DecodeError::TooDeep),
-        106 => Some(DecodeError::AlgorithmMismatch),
-        120..=139 => Some(DecodeError::Missing(field(number - 120)?)),
-        140..=159 => Some(DecodeError::Duplicate(field(number - 140)?)),
-        160..=179 => Some(DecodeError::Critical(field(number - 160)?)),
-        180..=199 => Some(DecodeError::NotCritical(field(number - 180)?)),
-        200..=219 => Some(DecodeError::WrongResources(field(number - 200)?)),
-        _ => None,
+    names.get(place as usize).copied()
+}
+
+// The name of the part that faults with this number speak of, and an empty one where there is none.
+fn part_name(number: u32) -> Option<&'static str>
+    ensures { option_map (λ name. name.now) result ≡ name_of_part number }
+{
+    if has_part(number) {
+        name_at(all_field_names(), number % 20)
+    } else {
+        Some("")
     }
 }
 
-fn inspection(number: u32) -> Option<InspectionError>
-    ensures { IfSome result (λ it. inspection_number it ≡ number) }
+fn fault_in(faults: &[Fault], number: u32) -> Option<&Fault>
+    ensures { option_copied result ≡ find (λ it. it.number == number) faults.now }
 {
-    match number {
-        300 => Some(InspectionError::AlgorithmMismatch),
-        301 => Some(InspectionError::Issuer),
-        302 => Some(InspectionError::Subject),
-        303 => Some(InspectionError::KeyAlgorithm),
-        304 => Some(InspectionError::SubjectKeyIdentifier),
-        305 => Some(InspectionError::ExtendedKeyUsagePresent),
-        306 => Some(InspectionError::CaFlagFalse),
-        307 => Some(InspectionError::MissingBasicConstraints),
-        308 => Some(InspectionError::KeyUsage),
-        309 => Some(InspectionError::MissingCaRepository),
-        310 => Some(InspectionError::MissingManifest),
-        311 => Some(InspectionError::ManifestNotChild),
-        312 => Some(InspectionError::SignedObjectPresent),
-        313 => Some(InspectionError::AuthorityKeyIdentifier),
-        314 => Some(InspectionError::CrlUriPresent),
-        315 => Some(InspectionError::CaIssuerPresent),
-        316 => Some(InspectionError::MissingCrlUri),
-        317 => Some(InspectionError::BasicConstraintsPresent),
-        318 => Some(InspectionError::CaRepositoryPresent),
-        319 => Some(InspectionError::ManifestPresent),
-        320 => Some(InspectionError::MissingSignedObject),
-        321 => Some(InspectionError::MissingExtendedKeyUsage),
-        322 => Some(InspectionError::MissingRouterPurpose),
-        323 => Some(InspectionError::SubjectInformationPresent),
-        324 => Some(InspectionError::IpResourcesPresent),
-        325 => Some(InspectionError::MissingAsResources),
-        326 => Some(InspectionError::InheritedAsResources),
-        _ => None,
-    }
+    faults.iter().find(|fault| fault.number == number)
 }
 
-fn verification(number: u32) -> Option<VerificationError>
-    ensures { IfSome result (λ it. verification_number it ≡ number) }
+// The fault that has the number, and the name of the part that it speaks of, or an empty one.
+fn fault_told(number: u32) -> Option<(&'static Fault, &'static str)>
+    ensures { option_map (λ it. told_fields (fault_fields it.0.now) it.1.now) result ≡ told number }
 {
-    match number {
-        400 => Some(VerificationError::NotYetValid),
-        401 => Some(VerificationError::Expired),
-        402 => Some(VerificationError::InheritedV4),
-        403 => Some(VerificationError::InheritedV6),
-        404 => Some(VerificationError::InheritedAs),
-        405 => Some(VerificationError::MissingKeyId),
-        406 => Some(VerificationError::WrongKeyId),
-        407 => Some(VerificationError::MissingIssuerUri),
-        408 => Some(VerificationError::BadSignature),
-        409 => Some(VerificationError::OverclaimV4),
-        410 => Some(VerificationError::OverclaimV6),
-        411 => Some(VerificationError::OverclaimAs),
-        _ => None,
-    }
-}
-
-fn revocation(number: u32) -> Option<RevocationError>
-    ensures { IfSome result (λ it. revocation_number it ≡ number) }
-{
-    match number {
-        500 => Some(RevocationError::NoCrl),
-        501 => Some(RevocationError::WrongKeyId),
-        502 => Some(RevocationError::BadSignature),
-        503 => Some(RevocationError::Stale),
-        504 => Some(RevocationError::Revoked),
-        _ => None,
-    }
-}
-
-fn locator(number: u32) -> Option<TalError>
-    ensures { IfSome result (λ it. locator_number it ≡ number) }
-{
-    match number {
-        700 => Some(TalError::NoText),
-        701 => Some(TalError::BadUri),
-        702 => Some(TalError::NoUri),
-        703 => Some(TalError::NoKey),
-        704 => Some(TalError::BadKey),
-        _ => None,
-    }
-}
-
-fn fault(number: u32) -> Option<PathFault>
-    ensures { IfSome result (λ it. path_number it ≡ number) }
-{
-    match number {
-        MEMORY => Some(PathFault::Memory),
-        100..=299 => Some(PathFault::Decode(decoding(number)?)),
-        300..=399 => Some(PathFault::Inspect(inspection(number)?)),
-        400..=499 => Some(PathFault::Verify(verification(number)?)),
-        _ => Some(PathFault::Revocation(revocation(number)?)),
-    }
-}
-
-// The numbers whose faults have no name of the library's, or one with an identifier that a number
-// doesn't tell.
-fn plain(number: u32) -> Option<(&'static str, &'static str)>
-    ensures { IfSome result (λ texts. IsPlainName number texts.0.now) }
-{
-    match number {
-        NONE => Some(("None", "no fault")),
-        BAD_CALL => Some(("BadCall", "lengths or numbers of the call don't fit")),
-        OTHER_KEY => Some(("OtherKey", "the trust anchor's key isn't the locator's")),
-        OTHER_NAME => Some((
-            "OtherName",
-            "the issuer isn't the subject of the certificate above",
-        )),
-        107 => Some(("UnexpectedCritical", "unexpected critical extension")),
-        108 => Some(("InvalidExtension", "invalid extension")),
-        _ => None,
-    }
-}
-
-fn name_of(fault: &PathFault) -> &'static str
-    ensures { result.now ≡ member_fault_name fault.now }
-{
-    match fault {
-        PathFault::Decode(error) => error.name(),
-        PathFault::Inspect(error) => error.name(),
-        PathFault::Verify(error) => error.name(),
-        PathFault::Revocation(error) => error.name(),
-        PathFault::Memory => fault.name(),
-    }
-}
-
-// The name of the fault with this number.
-fn name_numbered(number: u32) -> Option<&'static str>
-    ensures { IfSome result (λ name. IsNameOf number name.now) }
-{
-    if let Some((name, _)) = plain(number) {
-        return Some(name);
-    }
-    if let Some(fault) = locator(number) {
-        let name = fault.name();
-        drop(fault);
-        return Some(name);
-    }
-    let fault = fault(number)?;
-    let name = name_of(&fault);
-    drop(fault);
-    Some(name)
+    let part = part_name(number)?;
+    let fault = fault_in(all_faults(), first_number(number))?;
+    Some((fault, part))
 }
 
 /// Tells the name of the fault with this number, as the library's enums have it: writes as many
@@ -202,24 +63,27 @@ fn name_numbered(number: u32) -> Option<&'static str>
 /// has the number.
 #[unsafe(no_mangle)]
 pub extern "C" fn rpki_fault_name(number: u32, out: &mut [u8], count: &mut u64) -> u32
-    ensures name { result ≡ NONE → (name : List ℕ) × IsNameOf number name
-        × IsWritten name out.old out.new count.new }
+    ensures name { TellsText (name_told number) result out.old out.new count.new }
     ensures at_fault { result ≢ NONE → count.new ≡ 0 }
 {
     *count = 0;
-    match name_numbered(number) {
-        Some(name) => {
-            *count = put_octets(name.as_bytes(), out);
+    match fault_told(number) {
+        Some((fault, _)) => {
+            *count = put_octets(fault.name.as_bytes(), out);
             NONE
         }
         None => BAD_CALL,
     }
 }
 
-fn put_sentence<F: Display>(alloc: Global, fault: &F, out: &mut [u8], count: &mut u64) -> u32
+// Writes the fault's sentence, unless memory runs out.
+fn put_sentence(alloc: Global, fault: &Fault, part: &str, out: &mut [u8], count: &mut u64) -> u32
+    ensures answer { result ≢ MEMORY → result ≡ NONE }
+    ensures sentence { result ≡ NONE → IsWritten
+        (told_fields (fault_fields fault.now) part.now).sentence out.old out.new count.new }
     ensures at_fault { result ≢ NONE → count.new ≡ count.old }
 {
-    match format!(in alloc; "{fault}") {
+    match format!(in alloc; "{}{part}{}", fault.before, fault.behind) {
         Ok(sentence) => {
             *count = put_octets(sentence.as_bytes(), out);
             NONE
@@ -238,24 +102,13 @@ pub extern "C" fn rpki_fault_sentence(
     out: &mut [u8],
     count: &mut u64,
 ) -> u32
+    ensures sentence { result ≢ MEMORY
+        → TellsText (sentence_told number) result out.old out.new count.new }
     ensures at_fault { result ≢ NONE → count.new ≡ 0 }
 {
     *count = 0;
-    if let Some((_, sentence)) = plain(number) {
-        *count = put_octets(sentence.as_bytes(), out);
-        return NONE;
-    }
-    if let Some(fault) = locator(number) {
-        let answer = put_sentence(alloc, &fault, out, count);
-        drop(fault);
-        return answer;
-    }
-    match fault(number) {
-        Some(fault) => {
-            let answer = put_sentence(alloc, &fault, out, count);
-            drop(fault);
-            answer
-        }
+    match fault_told(number) {
+        Some((fault, part)) => put_sentence(alloc, fault, part, out, count),
         None => BAD_CALL,
     }
 }

@@ -175,21 +175,14 @@ resources_rule false = rule "Certificate Policies are missing" "RFC 6487 4.8.9"
 
 -- of octets that should begin with a certificate, and have Certificate Policies or don't
 abbrev pub reading_rule : DecodeError → Bool → RuleFields
-reading_rule decoding.Truncated policies = no_certificate
-reading_rule decoding.BadLength policies = no_certificate
-reading_rule decoding.BadTag policies = no_certificate
-reading_rule decoding.BadValue policies = no_certificate
-reading_rule decoding.Trailing policies = no_certificate
-reading_rule decoding.TooDeep policies = no_certificate
 reading_rule (decoding.Missing field) policies = field_rule "an extension that must be there is missing" field
 reading_rule (decoding.Duplicate field) policies = rule "an extension stands twice" "RFC 5280 4.2"
 reading_rule (decoding.Critical field) policies = field_rule "an extension that must not be critical is" field
 reading_rule (decoding.NotCritical field) policies = field_rule "an extension that must be critical isn't" field
 reading_rule (decoding.UnexpectedCritical oid) policies = rule "an unknown extension is critical" "RFC 6487 4.8"
-reading_rule (decoding.InvalidExtension oid) policies = no_certificate
 reading_rule (decoding.WrongResources field) policies = resources_rule policies
-reading_rule decoding.AlgorithmMismatch policies = no_certificate
 reading_rule decoding.Memory policies = no_memory
+reading_rule e policies = no_certificate
 
 -- octets that don't begin with a list
 abbrev pub no_list : RuleFields
@@ -197,21 +190,11 @@ no_list = rule "it doesn't begin with a list of the profile" "RFC 6487 5"
 
 -- of octets that should begin with a list
 abbrev pub list_rule : DecodeError → RuleFields
-list_rule decoding.Truncated = no_list
-list_rule decoding.BadLength = no_list
-list_rule decoding.BadTag = no_list
-list_rule decoding.BadValue = no_list
-list_rule decoding.Trailing = no_list
-list_rule decoding.TooDeep = no_list
 list_rule (decoding.Missing field) = rule "an extension that must be there is missing" "RFC 6487 5"
 list_rule (decoding.Duplicate field) = rule "an extension stands twice" "RFC 5280 4.2"
-list_rule (decoding.Critical field) = no_list
-list_rule (decoding.NotCritical field) = no_list
-list_rule (decoding.UnexpectedCritical oid) = no_list
 list_rule (decoding.InvalidExtension oid) = rule "a list has no other extensions than two" "RFC 6487 5"
-list_rule (decoding.WrongResources field) = no_list
-list_rule decoding.AlgorithmMismatch = no_list
 list_rule decoding.Memory = no_memory
+list_rule e = no_list
 
 -- of these octets, which should begin with a certificate
 abbrev pub IsReadingRule : DecodeError → List ℕ → RuleFields → Type 0

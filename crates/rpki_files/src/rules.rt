@@ -1,6 +1,6 @@
 //! What a fault means for a person, and the section of the standard that it breaks.
 ghost use Rattle.std.specs.Prelude.{◌≡◌};
-ghost use Rattle.rpki_files.specs.FaultRules.{IsFileRule, IsReadingRule, IsReason, field_section, inspection_rule, key_rule, list_rule, name_rule, no_memory, other_key, reading_rule, reason, resources_rule, revocation_rule, rule_of, tal_rule, verification_rule};
+ghost use Rattle.rpki_files.specs.FaultRules.{IsFileRule, IsReadingRule, IsReason, field_section, inspection_rule, key_rule, list_rule, name_rule, no_memory, other_key, reading_rule, reason, revocation_rule, rule_of, tal_rule, verification_rule};
 
 use crate::policies::has_policies;
 use bytes::Bytes;
@@ -18,6 +18,18 @@ pub struct Rule {
     pub section: &'static str,
 }
 
+// A line for each fault: its name, what it means, and the section that it breaks; and one for others.
+macro_rules! rules {
+    ($fault:ident: $faults:ident;
+        $($name:ident $(($part:tt))? => $says:literal, $section:expr;)*
+        $(_ => $others_say:literal, $others_section:literal;)?) => {
+        match $fault {
+            $($faults::$name $(($part))? => Rule { says: $says, section: $section },)*
+            $(_ => Rule { says: $others_say, section: $others_section },)?
+        }
+    };
+}
+
 fn meaning(says: &'static str, section: &'static str) -> Rule
     ensures { rule_of result ≡ record { says = says.now; section = section.now } }
 {
@@ -30,124 +42,44 @@ fn out_of_memory() -> Rule
     meaning("out of memory", "no section")
 }
 
-// The sentence of a fault of inspection.
-fn inspection_says(fault: InspectionError) -> &'static str
-    ensures { result.now ≡ (inspection_rule fault).says }
-{
-    match fault {
-        InspectionError::AlgorithmMismatch =>
-            "the signature algorithm inside what is signed isn't that of the signature",
-        InspectionError::Issuer => "the issuer's name has another form",
-        InspectionError::Subject => "the subject's name has another form",
-        InspectionError::KeyAlgorithm => "the key has another algorithm",
-        InspectionError::SubjectKeyIdentifier =>
-            "the subject key identifier isn't the SHA-1 hash of the key",
-        InspectionError::ExtendedKeyUsagePresent => "Extended Key Usage must be absent",
-        InspectionError::CaFlagFalse => "Basic Constraints don't say that it is a CA",
-        InspectionError::MissingBasicConstraints => "Basic Constraints are missing",
-        InspectionError::KeyUsage => "the key usage is another",
-        InspectionError::MissingCaRepository => "the URI of the repository is missing",
-        InspectionError::MissingManifest => "the URI of the manifest is missing",
-        InspectionError::ManifestNotChild => "the manifest stands outside the repository",
-        InspectionError::SignedObjectPresent => "the URI of a signed object must be absent",
-        InspectionError::AuthorityKeyIdentifier =>
-            "the authority key identifier of a trust anchor is another key's",
-        InspectionError::CrlUriPresent => "the URI of a revocation list must be absent",
-        InspectionError::CaIssuerPresent => "the URI of the issuer's certificate must be absent",
-        InspectionError::MissingCrlUri => "the URI of the issuer's revocation list is missing",
-        InspectionError::BasicConstraintsPresent => "Basic Constraints must be absent",
-        InspectionError::CaRepositoryPresent => "the URI of a repository must be absent",
-        InspectionError::ManifestPresent => "the URI of a manifest must be absent",
-        InspectionError::MissingSignedObject => "the URI of the signed object is missing",
-        InspectionError::MissingExtendedKeyUsage => "Extended Key Usage is missing",
-        InspectionError::MissingRouterPurpose =>
-            "Extended Key Usage doesn't name the purpose of routers",
-        InspectionError::SubjectInformationPresent => "Subject Information Access must be absent",
-        InspectionError::IpResourcesPresent => "IP resources must be absent",
-        InspectionError::MissingAsResources => "AS resources are missing",
-        InspectionError::InheritedAsResources => "AS resources must not be inherited",
-    }
-}
-
-// The section of a fault of inspection.
-fn inspection_section(fault: InspectionError) -> &'static str
-    ensures { result.now ≡ (inspection_rule fault).section }
-{
-    match fault {
-        InspectionError::AlgorithmMismatch => "RFC 5280 4.1.1.2",
-        InspectionError::Issuer => "RFC 6487 4.4",
-        InspectionError::Subject => "RFC 6487 4.5",
-        InspectionError::KeyAlgorithm => "RFC 6487 4.7",
-        InspectionError::SubjectKeyIdentifier => "RFC 6487 4.8.2",
-        InspectionError::ExtendedKeyUsagePresent => "RFC 6487 4.8.5",
-        InspectionError::CaFlagFalse
-        | InspectionError::MissingBasicConstraints
-        | InspectionError::BasicConstraintsPresent => "RFC 6487 4.8.1",
-        InspectionError::KeyUsage => "RFC 6487 4.8.4",
-        InspectionError::MissingCaRepository
-        | InspectionError::MissingManifest
-        | InspectionError::ManifestNotChild
-        | InspectionError::SignedObjectPresent => "RFC 6487 4.8.8.1",
-        InspectionError::AuthorityKeyIdentifier => "RFC 6487 4.8.3",
-        InspectionError::CrlUriPresent | InspectionError::MissingCrlUri => "RFC 6487 4.8.6",
-        InspectionError::CaIssuerPresent => "RFC 6487 4.8.7",
-        InspectionError::CaRepositoryPresent
-        | InspectionError::ManifestPresent
-        | InspectionError::MissingSignedObject => "RFC 6487 4.8.8.2",
-        InspectionError::MissingExtendedKeyUsage | InspectionError::MissingRouterPurpose =>
-            "RFC 8209 3.1.3.2",
-        InspectionError::SubjectInformationPresent => "RFC 8209 3.1.3.3",
-        InspectionError::IpResourcesPresent => "RFC 8209 3.1.3.4",
-        InspectionError::MissingAsResources | InspectionError::InheritedAsResources =>
-            "RFC 8209 3.1.3.5",
-    }
-}
-
 /// Tells what a fault of inspection means.
 pub fn of_inspection(fault: InspectionError) -> Rule
     ensures { rule_of result ≡ inspection_rule fault }
 {
-    meaning(inspection_says(fault), inspection_section(fault))
-}
-
-// The sentence of a fault of verification.
-fn verification_says(fault: &VerificationError) -> &'static str
-    ensures { result.now ≡ (verification_rule fault.now).says }
-{
-    match fault {
-        VerificationError::NotYetValid => "it isn't valid yet",
-        VerificationError::Expired => "it has expired",
-        VerificationError::InheritedV4 => "a trust anchor inherits IPv4 addresses",
-        VerificationError::InheritedV6 => "a trust anchor inherits IPv6 addresses",
-        VerificationError::InheritedAs => "a trust anchor inherits AS numbers",
-        VerificationError::MissingKeyId => "the authority key identifier is missing",
-        VerificationError::WrongKeyId =>
-            "the authority key identifier isn't that of the certificate above",
-        VerificationError::MissingIssuerUri => "the URI of the issuer's certificate is missing",
-        VerificationError::BadSignature => "the signature isn't that of the key above",
-        VerificationError::OverclaimV4 => "it lists IPv4 addresses that its issuer doesn't hold",
-        VerificationError::OverclaimV6 => "it lists IPv6 addresses that its issuer doesn't hold",
-        VerificationError::OverclaimAs => "it lists AS numbers that its issuer doesn't hold",
-        VerificationError::Memory => "out of memory",
-    }
-}
-
-// The section of a fault of verification.
-fn verification_section(fault: &VerificationError) -> &'static str
-    ensures { result.now ≡ (verification_rule fault.now).section }
-{
-    match fault {
-        VerificationError::NotYetValid | VerificationError::Expired => "RFC 6487 4.6",
-        VerificationError::InheritedV4
-        | VerificationError::InheritedV6
-        | VerificationError::InheritedAs => "RFC 8630 2.3",
-        VerificationError::MissingKeyId | VerificationError::WrongKeyId => "RFC 6487 4.8.3",
-        VerificationError::MissingIssuerUri => "RFC 6487 4.8.7",
-        VerificationError::BadSignature
-        | VerificationError::OverclaimV4
-        | VerificationError::OverclaimV6
-        | VerificationError::OverclaimAs => "RFC 6487 7.2",
-        VerificationError::Memory => "no section",
+    rules! { fault: InspectionError;
+        AlgorithmMismatch =>
+            "the signature algorithm inside what is signed isn't that of the signature",
+            "RFC 5280 4.1.1.2";
+        Issuer => "the issuer's name has another form", "RFC 6487 4.4";
+        Subject => "the subject's name has another form", "RFC 6487 4.5";
+        KeyAlgorithm => "the key has another algorithm", "RFC 6487 4.7";
+        SubjectKeyIdentifier =>
+            "the subject key identifier isn't the SHA-1 hash of the key", "RFC 6487 4.8.2";
+        ExtendedKeyUsagePresent => "Extended Key Usage must be absent", "RFC 6487 4.8.5";
+        CaFlagFalse => "Basic Constraints don't say that it is a CA", "RFC 6487 4.8.1";
+        MissingBasicConstraints => "Basic Constraints are missing", "RFC 6487 4.8.1";
+        KeyUsage => "the key usage is another", "RFC 6487 4.8.4";
+        MissingCaRepository => "the URI of the repository is missing", "RFC 6487 4.8.8.1";
+        MissingManifest => "the URI of the manifest is missing", "RFC 6487 4.8.8.1";
+        ManifestNotChild => "the manifest stands outside the repository", "RFC 6487 4.8.8.1";
+        SignedObjectPresent => "the URI of a signed object must be absent", "RFC 6487 4.8.8.1";
+        AuthorityKeyIdentifier =>
+            "the authority key identifier of a trust anchor is another key's", "RFC 6487 4.8.3";
+        CrlUriPresent => "the URI of a revocation list must be absent", "RFC 6487 4.8.6";
+        CaIssuerPresent => "the URI of the issuer's certificate must be absent", "RFC 6487 4.8.7";
+        MissingCrlUri => "the URI of the issuer's revocation list is missing", "RFC 6487 4.8.6";
+        BasicConstraintsPresent => "Basic Constraints must be absent", "RFC 6487 4.8.1";
+        CaRepositoryPresent => "the URI of a repository must be absent", "RFC 6487 4.8.8.2";
+        ManifestPresent => "the URI of a manifest must be absent", "RFC 6487 4.8.8.2";
+        MissingSignedObject => "the URI of the signed object is missing", "RFC 6487 4.8.8.2";
+        MissingExtendedKeyUsage => "Extended Key Usage is missing", "RFC 8209 3.1.3.2";
+        MissingRouterPurpose =>
+            "Extended Key Usage doesn't name the purpose of routers", "RFC 8209 3.1.3.2";
+        SubjectInformationPresent =>
+            "Subject Information Access must be absent", "RFC 8209 3.1.3.3";
+        IpResourcesPresent => "IP resources must be absent", "RFC 8209 3.1.3.4";
+        MissingAsResources => "AS resources are missing", "RFC 8209 3.1.3.5";
+        InheritedAsResources => "AS resources must not be inherited", "RFC 8209 3.1.3.5";
     }
 }
 
@@ -155,7 +87,22 @@ fn verification_section(fault: &VerificationError) -> &'static str
 pub fn of_verification(fault: &VerificationError) -> Rule
     ensures { rule_of result ≡ verification_rule fault.now }
 {
-    meaning(verification_says(fault), verification_section(fault))
+    rules! { fault: VerificationError;
+        NotYetValid => "it isn't valid yet", "RFC 6487 4.6";
+        Expired => "it has expired", "RFC 6487 4.6";
+        InheritedV4 => "a trust anchor inherits IPv4 addresses", "RFC 8630 2.3";
+        InheritedV6 => "a trust anchor inherits IPv6 addresses", "RFC 8630 2.3";
+        InheritedAs => "a trust anchor inherits AS numbers", "RFC 8630 2.3";
+        MissingKeyId => "the authority key identifier is missing", "RFC 6487 4.8.3";
+        WrongKeyId =>
+            "the authority key identifier isn't that of the certificate above", "RFC 6487 4.8.3";
+        MissingIssuerUri => "the URI of the issuer's certificate is missing", "RFC 6487 4.8.7";
+        BadSignature => "the signature isn't that of the key above", "RFC 6487 7.2";
+        OverclaimV4 => "it lists IPv4 addresses that its issuer doesn't hold", "RFC 6487 7.2";
+        OverclaimV6 => "it lists IPv6 addresses that its issuer doesn't hold", "RFC 6487 7.2";
+        OverclaimAs => "it lists AS numbers that its issuer doesn't hold", "RFC 6487 7.2";
+        Memory => "out of memory", "no section";
+    }
 }
 
 /// Tells what it means that no locator that is given has the trust anchor's key.
@@ -169,22 +116,13 @@ pub fn of_other_key() -> Rule
 pub fn of_tal(fault: &TalError) -> Rule
     ensures { rule_of result ≡ tal_rule fault.now }
 {
-    match fault {
-        TalError::NoText => meaning("the locator isn't UTF-8", "RFC 8630 2.2"),
-        TalError::BadUri => meaning(
-            "a line of the locator's URIs is no rsync or https URI",
-            "RFC 8630 2.2",
-        ),
-        TalError::NoUri => meaning("the locator has no URI", "RFC 8630 2.2"),
-        TalError::NoKey => meaning(
-            "no empty line stands behind the locator's URIs",
-            "RFC 8630 2.2",
-        ),
-        TalError::BadKey => meaning(
-            "what stands behind the locator's empty line is no key in base64",
-            "RFC 8630 2.2",
-        ),
-        TalError::Memory => out_of_memory(),
+    rules! { fault: TalError;
+        NoText => "the locator isn't UTF-8", "RFC 8630 2.2";
+        BadUri => "a line of the locator's URIs is no rsync or https URI", "RFC 8630 2.2";
+        NoUri => "the locator has no URI", "RFC 8630 2.2";
+        NoKey => "no empty line stands behind the locator's URIs", "RFC 8630 2.2";
+        BadKey => "what stands behind the locator's empty line is no key in base64", "RFC 8630 2.2";
+        Memory => "out of memory", "no section";
     }
 }
 
@@ -208,24 +146,13 @@ pub fn of_name(place: usize) -> Rule
 pub fn of_revocation(fault: &RevocationError) -> Rule
     ensures { rule_of result ≡ revocation_rule fault.now }
 {
-    match fault {
-        RevocationError::NoCrl => meaning(
-            "its issuer's list isn't among those given",
-            "RFC 6487 7.2",
-        ),
-        RevocationError::WrongKeyId => meaning(
-            "the list that is asked names another key than its issuer's",
-            "RFC 6487 5",
-        ),
-        RevocationError::BadSignature => meaning(
-            "the signature of its issuer's list isn't that of the issuer's key",
-            "RFC 6487 5",
-        ),
-        RevocationError::Stale => meaning(
-            "its issuer's list isn't current",
-            "RFC 5280 5.1.2.4, 5.1.2.5",
-        ),
-        RevocationError::Revoked => meaning("its issuer has revoked it", "RFC 6487 7.2"),
+    rules! { fault: RevocationError;
+        NoCrl => "its issuer's list isn't among those given", "RFC 6487 7.2";
+        WrongKeyId => "the list that is asked names another key than its issuer's", "RFC 6487 5";
+        BadSignature =>
+            "the signature of its issuer's list isn't that of the issuer's key", "RFC 6487 5";
+        Stale => "its issuer's list isn't current", "RFC 5280 5.1.2.4, 5.1.2.5";
+        Revoked => "its issuer has revoked it", "RFC 6487 7.2";
     }
 }
 
@@ -233,15 +160,9 @@ pub fn of_revocation(fault: &RevocationError) -> Rule
 pub fn of_key(algorithm: PublicKeyFormat) -> Rule
     ensures { rule_of result ≡ key_rule algorithm }
 {
-    match algorithm {
-        PublicKeyFormat::Rsa => meaning(
-            "its key isn't RSA of 2048 bits with the exponent 65537",
-            "RFC 7935 3",
-        ),
-        PublicKeyFormat::EcdsaP256 => meaning(
-            "its key isn't an uncompressed point on the curve P-256",
-            "RFC 8608 3.1",
-        ),
+    rules! { algorithm: PublicKeyFormat;
+        Rsa => "its key isn't RSA of 2048 bits with the exponent 65537", "RFC 7935 3";
+        EcdsaP256 => "its key isn't an uncompressed point on the curve P-256", "RFC 8608 3.1";
     }
 }
 
@@ -266,50 +187,25 @@ fn section_of(field: Field) -> &'static str
     }
 }
 
-// The rule of resources whose identifiers aren't those of the policy: the fault is the same where
-// there is no policy.
-fn of_resources(policies: bool) -> Rule
-    ensures { rule_of result ≡ resources_rule policies }
-{
-    if policies {
-        meaning(
-            "the resources stand under identifiers that its policy doesn't have",
-            "RFC 8360 4.2",
-        )
-    } else {
-        meaning("Certificate Policies are missing", "RFC 6487 4.8.9")
-    }
-}
-
-// What a fault of reading a certificate means, which has Certificate Policies, or hasn't.
+// What a fault of reading a certificate means, which has Certificate Policies, or hasn't. It is the
+// same fault where resources stand under other identifiers than the policy's and where there is no
+// policy.
 fn of_certificate(fault: &DecodeError, policies: bool) -> Rule
     ensures { rule_of result ≡ reading_rule fault.now policies }
 {
-    match fault {
-        DecodeError::Missing(field) => {
-            meaning(
-                "an extension that must be there is missing",
-                section_of(*field),
-            )
-        }
-        DecodeError::Duplicate(_) => meaning("an extension stands twice", "RFC 5280 4.2"),
-        DecodeError::Critical(field) => meaning(
-            "an extension that must not be critical is",
-            section_of(*field),
-        ),
-        DecodeError::NotCritical(field) => meaning(
-            "an extension that must be critical isn't",
-            section_of(*field),
-        ),
-        DecodeError::UnexpectedCritical(_) => {
-            meaning("an unknown extension is critical", "RFC 6487 4.8")
-        }
-        DecodeError::WrongResources(_) => of_resources(policies),
-        DecodeError::Memory => out_of_memory(),
-        _ => meaning(
-            "it doesn't begin with a certificate of the profile",
-            "RFC 6487 4",
-        ),
+    if !policies && matches!(fault, DecodeError::WrongResources(_)) {
+        return meaning("Certificate Policies are missing", "RFC 6487 4.8.9");
+    }
+    rules! { fault: DecodeError;
+        Missing(field) => "an extension that must be there is missing", section_of(*field);
+        Duplicate(_) => "an extension stands twice", "RFC 5280 4.2";
+        Critical(field) => "an extension that must not be critical is", section_of(*field);
+        NotCritical(field) => "an extension that must be critical isn't", section_of(*field);
+        UnexpectedCritical(_) => "an unknown extension is critical", "RFC 6487 4.8";
+        WrongResources(_) =>
+            "the resources stand under identifiers that its policy doesn't have", "RFC 8360 4.2";
+        Memory => "out of memory", "no section";
+        _ => "it doesn't begin with a certificate of the profile", "RFC 6487 4";
     }
 }
 
@@ -324,16 +220,12 @@ pub fn of_reading(fault: &DecodeError, octets: &Bytes) -> Rule
 fn of_list(fault: &DecodeError) -> Rule
     ensures { rule_of result ≡ list_rule fault.now }
 {
-    match fault {
-        DecodeError::Missing(_) => {
-            meaning("an extension that must be there is missing", "RFC 6487 5")
-        }
-        DecodeError::Duplicate(_) => meaning("an extension stands twice", "RFC 5280 4.2"),
-        DecodeError::InvalidExtension(_) => {
-            meaning("a list has no other extensions than two", "RFC 6487 5")
-        }
-        DecodeError::Memory => out_of_memory(),
-        _ => meaning("it doesn't begin with a list of the profile", "RFC 6487 5"),
+    rules! { fault: DecodeError;
+        Missing(_) => "an extension that must be there is missing", "RFC 6487 5";
+        Duplicate(_) => "an extension stands twice", "RFC 5280 4.2";
+        InvalidExtension(_) => "a list has no other extensions than two", "RFC 6487 5";
+        Memory => "out of memory", "no section";
+        _ => "it doesn't begin with a list of the profile", "RFC 6487 5";
     }
 }
 
