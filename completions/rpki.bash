@@ -3,8 +3,8 @@ _rpki() {
     local word=$2 before=$3 options at
     COMPREPLY=()
     case ${COMP_WORDS[1]} in
-        show) options='--json --all --at --lenient --max-size --help' ;;
-        validate) options='--json --tal --crl --no-names --at --lenient --max-size --help' ;;
+        show) options='--output --json --quiet --all --at --lenient --max-size --help' ;;
+        validate) options='--output --json --quiet --tal --crl --no-names --at --lenient --max-size --help' ;;
     esac
     if ((COMP_CWORD == 1)); then
         mapfile -t COMPREPLY < <(compgen -W 'show validate help --version --help' -- "$word")
@@ -16,6 +16,10 @@ _rpki() {
     [[ $word != = ]] || word=''
     case $before in
         --at | --max-size) return ;;
+        -o | --output)
+            mapfile -t COMPREPLY < <(compgen -W 'text json jsonl' -- "$word")
+            return
+            ;;
         --tal | --crl) options='' ;;
     esac
     # behind -- each word is a file

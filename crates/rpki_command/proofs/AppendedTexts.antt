@@ -50,6 +50,11 @@ both_appended P Q R old mid new both p q =
     (λ (failed : mid ≡ None). inr (second.2 ∙ ap more failed)) p)
     (λ (failed : new ≡ None). inr failed) q
 
+-- the text that was formed; where none was, memory has run out
+pub formed_appended : {S E : Type 0} (bytes : S → List ℕ) (old new : Option (List ℕ)) (text : List ℕ) (made : Result S E) → IfOk made (λ s. bytes s ≡ text) → MatchResult made (λ s. Appends old (bytes s) new) (λ _. new ≡ None) → Appends old text new
+formed_appended bytes old new text (Ok s) is appended = subst (λ (l : List ℕ). Appends old l new) is appended
+formed_appended bytes old new text (Err e) is failed = inr failed
+
 such_text : (Holds : List ℕ → Type 0) (text : List ℕ) → AppendsSome Holds (Some []) (Some text) → Holds text
 such_text Holds text p =
     ⊎_elim (λ (some : (t : List ℕ) × Holds t × (Some text ≡ Some t)). let same : some.0 ≡ text = cc in subst Holds same some.1) (λ (none : Some text ≡ None). cc) p

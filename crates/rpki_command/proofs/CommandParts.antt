@@ -1,13 +1,15 @@
 -- The parts of a command line: words are one list of parts at most.
 use Rattle.std.specs.Prelude.{codes, Option, Some, None}
 use Rattle.std.specs.Str.{bytes_eq}
-use Rattle.std.proofs.Common.{◌≡◌, ◌==◌, ◌<◌, ℕ, Bool, true, false, cond, inl, inr, List, [], ◌∷◌, ◌++◌, length, refl, sym, ap, ◌∙◌, subst, lit<, arith}
+use Rattle.std.proofs.Common.{◌≡◌, ◌⊎◌, ◌==◌, ◌<◌, ℕ, Bool, true, false, cond, inl, inr, List, [], ◌∷◌, ◌++◌, length, refl, sym, ap, ◌∙◌, subst, lit<, arith}
 use Rattle.std.proofs.lemmas.Bool.{eqb-true}
 use Rattle.std.proofs.lemmas.Slice.Eq.{bytes_eq-Decides}
 use Rattle.std.proofs.lemmas.List.{append_assoc, append-nil}
+use Rattle.rpki_command.specs.declared.arguments.Format.{Format}
+use Rattle.rpki_command.specs.declared.arguments.Format.TheVariants.{Text, Json, JsonLines}
 use Rattle.rpki_command.specs.declared.arguments.Setting.{Setting}
-use Rattle.rpki_command.specs.declared.arguments.Setting.TheVariants.{Crl, Tal, At, MaxSize}
-use Rattle.rpki_command.specs.CommandLines.{IsOption, LinePart, file, list, locator, at_moment, max_size, lenient, json, all, no_names, help, setting_name, GivesValue, IsPart, AreParts}
+use Rattle.rpki_command.specs.declared.arguments.Setting.TheVariants.{Crl, Tal, At, MaxSize, Output, ShortOutput}
+use Rattle.rpki_command.specs.CommandLines.{IsFormatName, IsOption, LinePart, file, list, locator, at_moment, max_size, output, lenient, json, quiet, all, no_names, help, setting_name, GivesValue, IsPart, AreParts}
 use Rattle.rpki_command.specs.CommandLines.Steps.{BeginsNoPart, IsSetPart, IsSwitch, Joins, IsOptionName}
 use Rattle.rpki_text.proofs.OneMoment.{one_moment}
 
@@ -37,9 +39,13 @@ sort_of word =
     (cond (bytes_eq word (codes "--tal")) (before Tal)
     (cond (bytes_eq word (codes "--at")) (before At)
     (cond (bytes_eq word (codes "--max-size")) (before MaxSize)
+    (cond (bytes_eq word (codes "--output")) (before Output)
+    (cond (bytes_eq word (codes "-o")) (before ShortOutput)
     (cond (bytes_eq word (codes "--lenient")) (single lenient)
     (cond (bytes_eq word (codes "--json")) (single json)
     (cond (bytes_eq word (codes "-j")) (single json)
+    (cond (bytes_eq word (codes "--quiet")) (single quiet)
+    (cond (bytes_eq word (codes "-q")) (single quiet)
     (cond (bytes_eq word (codes "--all")) (single all)
     (cond (bytes_eq word (codes "--no-names")) (single no_names)
     (cond (bytes_eq word (codes "--help")) (single help)
@@ -48,7 +54,9 @@ sort_of word =
     (joining_or Tal (stripped (codes "--tal=") word)
     (joining_or At (stripped (codes "--at=") word)
     (joining_or MaxSize (stripped (codes "--max-size=") word)
-    (single (file word))))))))))))))))
+    (joining_or Output (stripped (codes "--output=") word)
+    (joining_or ShortOutput (stripped (codes "-o=") word)
+    (single (file word))))))))))))))))))))))
 
 -- an option that takes a value
 named : (setting : Setting) → sort_of (setting_name setting) ≡ before setting
@@ -57,6 +65,8 @@ named Crl = refl
 named Tal = refl
 named At = refl
 named MaxSize = refl
+named Output = refl
+named ShortOutput = refl
 
 joined : (setting : Setting) (value : List ℕ) → sort_of (setting_name setting ++ codes "=" ++ value) ≡ joining setting value
 unfolding sort_of stripped joining_or
@@ -64,6 +74,8 @@ joined Crl value = refl
 joined Tal value = refl
 joined At value = refl
 joined MaxSize value = refl
+joined Output value = refl
+joined ShortOutput value = refl
 
 -- a file isn't this option
 unlike : (word option : List ℕ) → (IsOption word → ⊥) → IsOption option → bytes_eq word option ≡ false
@@ -84,21 +96,40 @@ either_none : (b : Bool) (o : Option (List ℕ)) → o ≡ None → cond b o Non
 either_none true o is = is
 either_none false o is = refl
 
--- and doesn't begin with two hyphens
-not_stripped : (cs word : List ℕ) → (IsOption word → ⊥) → stripped (45 ∷ 45 ∷ cs) word ≡ None
+-- and doesn't begin with a hyphen and another character
+not_stripped : (c : ℕ) (cs word : List ℕ) → (IsOption word → ⊥) → stripped (45 ∷ c ∷ cs) word ≡ None
 unfolding stripped
-not_stripped cs [] not_option = refl
-not_stripped cs (w ∷ []) not_option = either_none (w == 45) _ refl
-not_stripped cs (w ∷ v ∷ ws) not_option =
+not_stripped c cs [] not_option = refl
+not_stripped c cs (w ∷ []) not_option = either_none (w == 45) _ refl
+not_stripped c cs (w ∷ v ∷ ws) not_option =
     none_if (w == 45) _ (λ same. let long : 1 < length (w ∷ v ∷ ws) = omega arith in not_option (eqb-true w 45 same, long))
 
 -- a file is a part by itself
 file_sort : (word : List ℕ) → (IsOption word → ⊥) → sort_of word ≡ single (file word)
 unfolding sort_of joining_or
 file_sort word not_option =
-    rw (unlike word (codes "--crl") not_option (refl, lit< tt), unlike word (codes "--tal") not_option (refl, lit< tt), unlike word (codes "--at") not_option (refl, lit< tt), unlike word (codes "--max-size") not_option (refl, lit< tt), unlike word (codes "--lenient") not_option (refl, lit< tt), unlike word (codes "--json") not_option (refl, lit< tt), unlike word (codes "-j") not_option (refl, lit< tt), unlike word (codes "--all") not_option (refl, lit< tt), unlike word (codes "--no-names") not_option (refl, lit< tt), unlike word (codes "--help") not_option (refl, lit< tt), unlike word (codes "-h") not_option (refl, lit< tt), not_stripped (codes "crl=") word not_option, not_stripped (codes "tal=") word not_option, not_stripped (codes "at=") word not_option, not_stripped (codes "max-size=") word not_option) refl
+    rw (unlike word (codes "--crl") not_option (refl, lit< tt), unlike word (codes "--tal") not_option (refl, lit< tt), unlike word (codes "--at") not_option (refl, lit< tt), unlike word (codes "--max-size") not_option (refl, lit< tt), unlike word (codes "--output") not_option (refl, lit< tt), unlike word (codes "-o") not_option (refl, lit< tt), unlike word (codes "--lenient") not_option (refl, lit< tt), unlike word (codes "--json") not_option (refl, lit< tt), unlike word (codes "-j") not_option (refl, lit< tt), unlike word (codes "--quiet") not_option (refl, lit< tt), unlike word (codes "-q") not_option (refl, lit< tt), unlike word (codes "--all") not_option (refl, lit< tt), unlike word (codes "--no-names") not_option (refl, lit< tt), unlike word (codes "--help") not_option (refl, lit< tt), unlike word (codes "-h") not_option (refl, lit< tt), not_stripped 45 (codes "crl=") word not_option, not_stripped 45 (codes "tal=") word not_option, not_stripped 45 (codes "at=") word not_option, not_stripped 45 (codes "max-size=") word not_option, not_stripped 45 (codes "output=") word not_option, not_stripped 111 (codes "=") word not_option) refl
 
 -- ---- a part
+
+-- the format that a text names
+format_of : List ℕ → Option Format
+format_of text =
+    cond (bytes_eq text (codes "text")) (Some Text)
+    (cond (bytes_eq text (codes "json")) (Some Json)
+    (cond (bytes_eq text (codes "jsonl")) (Some JsonLines) None))
+
+named_format : (f : Format) (text : List ℕ) → IsFormatName f text → format_of text ≡ Some f
+unfolding format_of
+named_format Text text h = ap format_of h
+named_format Json text h = ap format_of h
+named_format JsonLines text h = ap format_of h
+
+-- a text names one format at most
+one_format : (f g : Format) (text : List ℕ) → IsFormatName f text → IsFormatName g text → f ≡ g
+one_format f g text h k =
+    let is : Some f ≡ Some g = sym (named_format f text h) ∙ named_format g text k in
+    cc
 
 -- an option with its value is one part
 one_set : (setting : Setting) (value : List ℕ) (p q : LinePart) → IsSetPart setting value p → IsSetPart setting value q → p ≡ q
@@ -106,6 +137,8 @@ one_set Crl value p q h k = h ∙ sym k
 one_set Tal value p q h k = h ∙ sym k
 one_set At value p q h k = h.1 ∙ ap at_moment (one_moment h.0 k.0 value h.3 k.3) ∙ sym k.1
 one_set MaxSize value p q h k = h.1 ∙ ap max_size (sym h.2.1 ∙ k.2.1) ∙ sym k.1
+one_set Output value p q h k = h.1 ∙ ap output (one_format h.0 k.0 value h.2 k.2) ∙ sym k.1
+one_set ShortOutput value p q h k = h.1 ∙ ap output (one_format h.0 k.0 value h.2 k.2) ∙ sym k.1
 
 -- a part is one word of its own sort, or an option with a value, in two words or one
 data Shape : LinePart → List (List ℕ) → Type 0 where
@@ -124,6 +157,11 @@ given setting value part words set (inl is) =
 given setting value part words set (inr is) =
     subst (λ (l : List (List ℕ)). Shape part l) (sym is) (in_one setting (setting_name setting ++ codes "=" ++ value) value part (joined setting value) set)
 
+-- an option that names a format, by either of its names
+given_format : (f : Format) (text : List ℕ) (words : List (List ℕ)) → IsFormatName f text → GivesValue Output text words ⊎ GivesValue ShortOutput text words → Shape (output f) words
+given_format f text words is (inl h) = given Output text (output f) words (f, refl, is) h
+given_format f text words is (inr h) = given ShortOutput text (output f) words (f, refl, is) h
+
 -- the words of a part have its shape
 shape : (part : LinePart) (words : List (List ℕ)) → IsPart part words → Shape part words
 unfolding sort_of
@@ -132,9 +170,12 @@ shape (list name) words h = given Crl name (list name) words refl h
 shape (locator name) words h = given Tal name (locator name) words refl h
 shape (at_moment m) words h = given At h.0 (at_moment m) words (m, refl, h.2, h.3) h.1
 shape (max_size n) words h = given MaxSize h.0 (max_size n) words (n, refl, h.2) h.1
+shape (output f) words h = given_format f h.0 words h.2 h.1
 shape lenient words h = alone_is lenient words (codes "--lenient") h refl
 shape json words (inl h) = alone_is json words (codes "--json") h refl
 shape json words (inr h) = alone_is json words (codes "-j") h refl
+shape quiet words (inl h) = alone_is quiet words (codes "--quiet") h refl
+shape quiet words (inr h) = alone_is quiet words (codes "-q") h refl
 shape all words h = alone_is all words (codes "--all") h refl
 shape no_names words h = alone_is no_names words (codes "--no-names") h refl
 shape help words (inl h) = alone_is help words (codes "--help") h refl
@@ -146,6 +187,8 @@ set_is_part Crl value part words set gives = subst (λ (p : LinePart). IsPart p 
 set_is_part Tal value part words set gives = subst (λ (p : LinePart). IsPart p words) (sym set) gives
 set_is_part At value part words set gives = subst (λ (p : LinePart). IsPart p words) (sym set.1) (value, gives, set.2, set.3)
 set_is_part MaxSize value part words set gives = subst (λ (p : LinePart). IsPart p words) (sym set.1) (value, gives, set.2)
+set_is_part Output value part words set gives = subst (λ (p : LinePart). IsPart p words) (sym set.1) (value, inl gives, set.2)
+set_is_part ShortOutput value part words set gives = subst (λ (p : LinePart). IsPart p words) (sym set.1) (value, inr gives, set.2)
 
 -- words begin with one part at most
 same_front : (p q : LinePart) (a b x y : List (List ℕ)) → Shape p a → Shape q b → a ++ x ≡ b ++ y → (p ≡ q) × (x ≡ y)
@@ -263,9 +306,13 @@ module _ (word : List ℕ) (is_option : IsOption word) (unnamed : (setting : Set
   no_option (locator name) its behind rest is e = not_given Tal name its behind rest is e
   no_option (at_moment m) its behind rest is e = not_given At is.0 its behind rest is.1 e
   no_option (max_size n) its behind rest is e = not_given MaxSize is.0 its behind rest is.1 e
+  no_option (output f) its behind rest (text, inl is, named) e = not_given Output text its behind rest is e
+  no_option (output f) its behind rest (text, inr is, named) e = not_given ShortOutput text its behind rest is e
   no_option lenient its behind rest is e = no_switch lenient cc
   no_option json its behind rest (inl is) e = no_switch json (inl cc)
   no_option json its behind rest (inr is) e = no_switch json (inr cc)
+  no_option quiet its behind rest (inl is) e = no_switch quiet (inl cc)
+  no_option quiet its behind rest (inr is) e = no_switch quiet (inr cc)
   no_option all its behind rest is e = no_switch all cc
   no_option no_names its behind rest is e = no_switch no_names cc
   no_option help its behind rest (inl is) e = no_switch help (inl cc)

@@ -12,6 +12,7 @@ mod PushedValues
 mod PutMembers
 mod ReadFiles
 mod ShownFiles
+mod ShownValues
 mod SingleOutcomes
 mod StrippedTexts
 mod WholeFiles

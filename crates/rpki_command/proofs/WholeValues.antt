@@ -3,12 +3,13 @@ use Rattle.std.specs.Ordering.{nat_cmp, match_ordering}
 use Rattle.std.specs.Cmp.Lexicographic.{slice_cmp}
 use Rattle.std.specs.List.{AllByRecursion}
 use Rattle.std.specs.Prelude.{Option, Some, None, map}
-use Rattle.std.proofs.Common.{◌≡◌, ◌||◌, ◌==◌, if◌then◌else◌, ℕ, ℤ, pos, negsuc, List, [], ◌∷◌, ◌++◌, Bool, true, false, refl, Ordering, Less, Equal, Greater}
+use Rattle.std.proofs.Common.{◌≡◌, ◌<◌, ◌||◌, ◌==◌, if◌then◌else◌, ℕ, zero, suc, ℤ, pos, negsuc, List, [], ◌∷◌, ◌++◌, Bool, true, false, length, get_or, refl, sym, ap, subst, ◌∙◌, arith, Ordering, Less, Equal, Greater}
 use Rattle.std.proofs.lemmas.Bool.{or_parts}
 use Rattle.serde_json.specs.Data.{Data, Members, no_members, member, put, number}
 use Rattle.serde_json.specs.Find.{of_integer}
-use Rattle.serde_json.specs.View.{items_of}
+use Rattle.serde_json.specs.View.{items_of, view}
 use Rattle.serde_json.specs.Written.{has_float, items_have_float, members_have_float}
+use Rattle.serde_json.specs.declared.value.Value.{Value}
 use Rattle.rpki_cert.proofs.Reordering.{all_append}
 use Rattle.rpki_command.specs.JsonValues.{Pair, put_all, count_json, member_of, text_member_if_any, count_member_if_any, object_of, array_of}
 
@@ -98,3 +99,24 @@ count_if_any_whole name n = counted_whole (n == 0) name n
 pub integer_whole : (z : ℤ) → IsWhole (number (of_integer z))
 integer_whole (pos n) = refl
 integer_whole (negsuc n) = refl
+
+-- ---- values in Rust
+
+-- of values, each of which has none
+pub viewed_whole : (vs : List Value) → AllByRecursion (λ v. IsWhole (view v)) vs → AllByRecursion IsWhole (map view vs)
+viewed_whole [] are = tt
+viewed_whole (v ∷ vs) are = (are.0, viewed_whole vs are.1)
+
+-- and the other way round
+pub unviewed_whole : (vs : List Value) → AllByRecursion IsWhole (map view vs) → AllByRecursion (λ v. IsWhole (view v)) vs
+unviewed_whole [] are = tt
+unviewed_whole (v ∷ vs) are = (are.0, unviewed_whole vs are.1)
+
+nth_whole : (vs : List Value) (i : ℕ) (v : Value) → i < length vs → AllByRecursion (λ v. IsWhole (view v)) vs → IsWhole (view (get_or vs i v))
+nth_whole [] i v low are = absurd (omega arith)
+nth_whole (w ∷ vs) zero v low are = are.0
+nth_whole (w ∷ vs) (suc i) v low are = let less : i < length vs = omega arith in nth_whole vs i v less are.1
+
+-- the value at a place
+pub whole_at : (vs : List Value) (i : ℕ) (v : Value) → i < length vs → v ≡ get_or vs i v → AllByRecursion (λ v. IsWhole (view v)) vs → IsWhole (view v)
+whole_at vs i v low there are = let P : Value → Type 0 = λ w. IsWhole (view w) in subst P (sym there) (nth_whole vs i v low are)

@@ -28,10 +28,10 @@ names_whole files = array_whole _ (mapped_whole (λ file. string file.name) (λ 
 
 -- ---- what is said of each file
 
-AllWhole : List Data → Type 0
+unfoldable pub AllWhole : List Data → Type 0
 AllWhole items = AllByRecursion IsWhole items
 
-each_whole : (Says : FileFields → List Data → Type 0) → ((file : FileFields) (items : List Data) → Says file items → AllWhole items) → (files : List FileFields) (items : List Data) → SaysOfEach Says files items → AllWhole items
+pub each_whole : (Says : FileFields → List Data → Type 0) → ((file : FileFields) (items : List Data) → Says file items → AllWhole items) → (files : List FileFields) (items : List Data) → SaysOfEach Says files items → AllWhole items
 unfolding AllWhole
 each_whole Says whole [] items is = subst (λ (l : List Data). AllByRecursion IsWhole l) (sym is) tt
 each_whole Says whole (file ∷ files) items is =
@@ -66,7 +66,7 @@ note_items_whole name (note ∷ notes) = (object_whole _ (then_whole _ _ _ refl 
 note_item_whole : (file : FileFields) (items : List Data) → IsNoteItem file items → AllWhole items
 note_item_whole file items is = subst AllWhole (sym is.2) (note_items_whole file.name is.0)
 
-items_whole : (items : List Data) → AllWhole items → AllByRecursion IsWhole items
+pub items_whole : (items : List Data) → AllWhole items → AllByRecursion IsWhole items
 unfolding AllWhole
 items_whole items are = are
 

@@ -1,5 +1,5 @@
 -- What is answered of the files that a request names.
-use Rattle.std.specs.Prelude.{◌≡◌, ℕ, All, List, [], IfSome, IsFalse, IsTrue}
+use Rattle.std.specs.Prelude.{◌≡◌, ◌≢◌, ℕ, All, List, [], IfSome, IsFalse, IsTrue}
 use Rattle.rpki.specs.RsaSignatures.{IsSignedByRsa}
 use Rattle.rpki.specs.Times.{Moment}
 use Rattle.rpki.specs.Verification.{context}
@@ -7,11 +7,12 @@ use Rattle.rpki_command.specs.CommandLines.{RequestFields}
 use Rattle.rpki_files.specs.Files.{FileFields}
 use Rattle.rpki_verdicts.specs.GivenLocators.{LocatorFields, IsRead, locator_files}
 use Rattle.rpki_verdicts.specs.PathFiles.{QuestionFields}
-use Rattle.rpki_command.specs.JsonAnswers.{AreFilesJson}
+use Rattle.rpki_command.specs.JsonAnswers.{IsJsonOfFiles, is_single}
 use Rattle.rpki_command.specs.JsonVerdicts.{IsJsonOfPath}
 use Rattle.rpki_command.specs.Outcomes.{AreReadOf, EndsBy}
 use Rattle.rpki_command.specs.ShownTexts.{IsTextOfFiles}
 use Rattle.rpki_command.specs.VerdictTexts.{IsTextOfPath}
+use Rattle.rpki_command.specs.declared.arguments.Format.TheVariants.{Text}
 use Rattle.rpki_command.specs.declared.arguments.Task.{Task}
 use Rattle.rpki_command.specs.declared.arguments.Task.TheVariants.{Show, Validate}
 use Rattle.rpki_command.specs.declared.outcomes.Outcome.{Outcome}
@@ -20,7 +21,7 @@ use Rattle.rpki_command.specs.declared.showing.Options.{Options}
 
 -- how a request has files shown at a moment
 abbrev pub options_of : RequestFields → Moment → Options
-options_of r now = record { at = now; strict = r.strict; json = r.json; all = r.all_entries }
+options_of r now = record { at = now; strict = r.strict; all = r.all_entries }
 
 -- what a request asks of a path of files, and of files that are given as lists and as locators, at a
 -- moment
@@ -39,17 +40,18 @@ IsTextBy Validate outcome r now files lists locators text =
     IsTextOfPath (context IsSignedByRsa now r.strict) (question_of r now files lists locators) text
 IsTextBy _ outcome r now files lists locators text = ⊥
 
--- its JSON
+-- its JSON, in the format that is asked
 abbrev pub IsJsonBy : Task → Outcome → RequestFields → Moment → List FileFields → List FileFields
     → List LocatorFields → List ℕ → Type 0
-IsJsonBy Show outcome r now files lists locators text = AreFilesJson (options_of r now) files text
+IsJsonBy Show outcome r now files lists locators text =
+    IsJsonOfFiles r.format (is_single r.files) r.strict files text
 IsJsonBy Validate Unread r now files lists locators text = text ≡ []
 IsJsonBy Validate outcome r now files lists locators text =
-    IsJsonOfPath (context IsSignedByRsa now r.strict) (question_of r now files lists locators) text
+    IsJsonOfPath r.format (context IsSignedByRsa now r.strict) (question_of r now files lists locators) text
 IsJsonBy _ outcome r now files lists locators text = ⊥
 
 -- what is asked may be answered so: at the moment that is named, if one is, by those of its files,
--- lists and locators that could be read
+-- lists and locators that could be read; a quiet run prints nothing
 pub record MayAnswer (r : RequestFields) (outcome : Outcome) (text : List ℕ) : Type 0 where
   pub now : Moment
   pub files : List FileFields
@@ -61,5 +63,6 @@ pub record MayAnswer (r : RequestFields) (outcome : Outcome) (text : List ℕ) :
   pub locators_read : AreReadOf r.locators (locator_files locators)
   pub locators_are : All (IsRead r.strict) locators
   pub ends : EndsBy r now files lists (locator_files locators) outcome
-  pub text_is : IsFalse r.json → IsTextBy r.task outcome r now files lists locators text
-  pub json_is : IsTrue r.json → IsJsonBy r.task outcome r now files lists locators text
+  pub quiet_is : IsTrue r.is_quiet → text ≡ []
+  pub text_is : IsFalse r.is_quiet → r.format ≡ Text → IsTextBy r.task outcome r now files lists locators text
+  pub json_is : IsFalse r.is_quiet → r.format ≢ Text → IsJsonBy r.task outcome r now files lists locators text

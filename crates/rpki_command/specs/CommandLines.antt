@@ -6,8 +6,10 @@ use Rattle.std.specs.Str.{bytes_eq}
 use Rattle.std.specs.Str.Parse.{IsNumeral, digits_value}
 use Rattle.rpki.specs.Times.{Moment, IsMoment}
 use Rattle.rpki_text.specs.MomentTexts.{IsMomentText}
+use Rattle.rpki_command.specs.declared.arguments.Format.{Format}
+use Rattle.rpki_command.specs.declared.arguments.Format.TheVariants.{Text, Json, JsonLines}
 use Rattle.rpki_command.specs.declared.arguments.Setting.{Setting}
-use Rattle.rpki_command.specs.declared.arguments.Setting.TheVariants.{Crl, Tal, At, MaxSize}
+use Rattle.rpki_command.specs.declared.arguments.Setting.TheVariants.{Crl, Tal, At, MaxSize, Output, ShortOutput}
 use Rattle.rpki_command.specs.declared.arguments.Task.{Task}
 use Rattle.rpki_command.specs.declared.arguments.Task.TheVariants.{Show, Validate, Help, Version}
 pub mod Views
@@ -32,6 +34,8 @@ setting_name Crl = codes "--crl"
 setting_name Tal = codes "--tal"
 setting_name At = codes "--at"
 setting_name MaxSize = codes "--max-size"
+setting_name Output = codes "--output"
+setting_name ShortOutput = codes "-o"
 
 -- the words give the option this value: as the next word, or behind `=`
 abbrev pub GivesValue : Setting → List ℕ → List (List ℕ) → Type 0
@@ -42,12 +46,19 @@ GivesValue setting value words =
 abbrev pub IsNumberText : ℕ → List ℕ → Type 0
 IsNumberText n text = IsNumeral 10 text × (digits_value 10 text ≡ n) × (n < 2 ^ 64)
 
+-- the text is the format's name
+abbrev pub IsFormatName : Format → List ℕ → Type 0
+IsFormatName Text text = text ≡ codes "text"
+IsFormatName Json text = text ≡ codes "json"
+IsFormatName JsonLines text = text ≡ codes "jsonl"
+
 -- what stands behind the task: files, and options, some with a value
 pub data LinePart : Type 0 where
   file list locator : List ℕ → LinePart
   at_moment : Moment → LinePart
   max_size : ℕ → LinePart
-  lenient json all no_names help : LinePart
+  output : Format → LinePart
+  lenient json quiet all no_names help : LinePart
 
 -- the words are this part
 abbrev pub IsPart : LinePart → List (List ℕ) → Type 0
@@ -56,8 +67,11 @@ IsPart (list name) words = GivesValue Crl name words
 IsPart (locator name) words = GivesValue Tal name words
 IsPart (at_moment m) words = (text : List ℕ) × GivesValue At text words × IsMoment m × IsMomentText m text
 IsPart (max_size n) words = (text : List ℕ) × GivesValue MaxSize text words × IsNumberText n text
+IsPart (output f) words =
+    (text : List ℕ) × (GivesValue Output text words ⊎ GivesValue ShortOutput text words) × IsFormatName f text
 IsPart lenient words = words ≡ codes "--lenient" ∷ []
 IsPart json words = (words ≡ codes "--json" ∷ []) ⊎ (words ≡ codes "-j" ∷ [])
+IsPart quiet words = (words ≡ codes "--quiet" ∷ []) ⊎ (words ≡ codes "-q" ∷ [])
 IsPart all words = words ≡ codes "--all" ∷ []
 IsPart no_names words = words ≡ codes "--no-names" ∷ []
 IsPart help words = (words ≡ codes "--help" ∷ []) ⊎ (words ≡ codes "-h" ∷ [])
@@ -83,14 +97,16 @@ words_behind words = after_first is_dashes words
 
 -- ---- what they ask
 
--- the task, the moment if one is given, whether names are read strictly, whether JSON and all
--- entries of a list are printed, how many octets a file may have, whether names of issuer and subject
--- have to be the same, the files, and those given as revocation lists and as locators of trust anchors
+-- the task, the moment if one is given, whether names are read strictly, the format of what is
+-- printed, whether nothing is printed, whether all entries of a list are printed, how many octets a
+-- file may have, whether names of issuer and subject have to be the same, the files, and those given
+-- as revocation lists and as locators of trust anchors
 pub record RequestFields : Type 0 where
   pub task : Task
   pub at : Option Moment
   pub strict : Bool
-  pub json : Bool
+  pub format : Format
+  pub is_quiet : Bool
   pub all_entries : Bool
   pub max_size : ℕ
   pub names : Bool
@@ -109,7 +125,8 @@ only_task task =
       task = task;
       at = None;
       strict = true;
-      json = false;
+      format = Text;
+      is_quiet = false;
       all_entries = false;
       max_size = usual_size;
       names = true;
@@ -122,15 +139,17 @@ only_task task =
 abbrev pub with_files : RequestFields → List (List ℕ) → RequestFields
 with_files r more = record r { files = r.files ++ more }
 
--- with what a further part says; of several moments or sizes the last one counts
+-- with what a further part says; of several moments, sizes or formats the last one counts
 abbrev pub with_part : RequestFields → LinePart → RequestFields
 with_part r (file name) = record r { files = r.files ++ name ∷ [] }
 with_part r (list name) = record r { lists = r.lists ++ name ∷ [] }
 with_part r (locator name) = record r { locators = r.locators ++ name ∷ [] }
 with_part r (at_moment m) = record r { at = Some m }
 with_part r (max_size n) = record r { max_size = n }
+with_part r (output f) = record r { format = f }
 with_part r lenient = record r { strict = false }
-with_part r json = record r { json = true }
+with_part r json = record r { format = Json }
+with_part r quiet = record r { is_quiet = true }
 with_part r all = record r { all_entries = true }
 with_part r no_names = record r { names = false }
 with_part r help = record r { task = Help }

@@ -1,5 +1,5 @@
 -- What is shown of files as JSON.
-use Rattle.std.specs.Prelude.{◌≡◌, ℕ, Bool, List}
+use Rattle.std.specs.Prelude.{◌≡◌, ◌==◌, ℕ, Bool, List, [], ◌∷◌, length}
 use Rattle.serde_json.specs.Data.{Data}
 use Rattle.rpki.specs.Certificates.{CertFields, IsCertificate}
 use Rattle.rpki.specs.Lists.{CrlFields, IsCertificateList}
@@ -12,20 +12,20 @@ use Rattle.rpki_files.specs.LocatorFiles.{IsWhyNoLocator}
 use Rattle.rpki_notes.specs.Notes.{AreNotes}
 use Rattle.rpki_notes.specs.declared.note.Note.{Note}
 use Rattle.rpki_command.specs.JsonFiles.{IsCertificateJson, IsLocatorJson, list_json, no_locator_file_json, rejection_json}
-use Rattle.rpki_command.specs.JsonTexts.{json_lines}
+use Rattle.rpki_command.specs.JsonTexts.{values_text}
 use Rattle.rpki_command.specs.ShownTexts.{IsRejection, SaysOfFile, SaysOfOther}
 use Rattle.rpki_command.specs.VerdictTexts.{SaysOfEach}
+use Rattle.rpki_command.specs.declared.arguments.Format.{Format}
 use Rattle.rpki_command.specs.declared.as_json.Shown.{Shown}
 use Rattle.rpki_files.specs.declared.places.Place.{Place}
 use Rattle.rpki_files.specs.declared.rules.Rule.{Rule}
-use Rattle.rpki_command.specs.declared.showing.Options.{Options}
 
 -- a file with so many octets behind its object, as its JSON has it
 abbrev pub IsShown : FileFields → ℕ → Shown → Type 0
 IsShown file left shown = (shown.name.now ≡ file.name) × (shown.whole.now ≡ file.octets) × (shown.left ≡ left)
 
--- the file begins with a certificate, and this is its JSON
-pub record IsCertificateFileJson (options : Options) (file : FileFields) (text : List ℕ) : Type 0 where
+-- the file begins with a certificate, and this is its value
+pub record IsCertificateFileJson (strict : Bool) (file : FileFields) (value : Data) : Type 0 where
   pub cert : CertFields
   pub left : ℕ
   pub begins : BeginsBefore IsCertificate file.octets cert left
@@ -33,61 +33,70 @@ pub record IsCertificateFileJson (options : Options) (file : FileFields) (text :
   pub shown_is : IsShown file left shown
   pub notes : List Note
   pub notes_are : AreNotes file.octets notes
-  pub value : Data
-  pub value_is : IsCertificateJson options.strict shown cert notes value
-  pub text_is : text ≡ json_lines value
+  pub value_is : IsCertificateJson strict shown cert notes value
 
--- the file begins with a list, and this is its JSON
-pub record IsListFileJson (file : FileFields) (text : List ℕ) : Type 0 where
+-- the file begins with a list, and this is its value
+pub record IsListFileJson (file : FileFields) (value : Data) : Type 0 where
   pub list : CrlFields
   pub left : ℕ
   pub begins : BeginsBefore IsCertificateList file.octets list left
   pub shown : Shown
   pub shown_is : IsShown file left shown
-  pub text_is : text ≡ json_lines (list_json shown list.fields)
+  pub value_is : value ≡ list_json shown list.fields
 
--- the file begins with neither a certificate nor a list, but is a locator, and this is its JSON
-pub record IsLocatorFileJson (strict : Bool) (file : FileFields) (text : List ℕ) : Type 0 where
+-- the file begins with neither a certificate nor a list, but is a locator, and this is its value
+pub record IsLocatorFileJson (strict : Bool) (file : FileFields) (value : Data) : Type 0 where
   pub neither : BeginsWithEither file.octets → ⊥
   pub tal : TalFields
   pub is_locator : IsLocator strict tal file.octets
   pub shown : Shown
   pub shown_is : IsShown file 0 shown
-  pub value : Data
   pub value_is : IsLocatorJson shown tal value
-  pub text_is : text ≡ json_lines value
 
--- the JSON of a file that looks like a locator and is none
-pub record IsNoLocatorFileJson (strict : Bool) (file : FileFields) (text : List ℕ) : Type 0 where
+-- the value of a file that looks like a locator and is none
+pub record IsNoLocatorFileJson (strict : Bool) (file : FileFields) (value : Data) : Type 0 where
   pub error : TalError
   pub error_is : IsWhyNoLocator strict file.octets error
   pub rule : Rule
   pub rule_is : rule_of rule ≡ tal_rule error
   pub shown : Shown
   pub shown_is : IsShown file 0 shown
-  pub text_is : text ≡ json_lines (no_locator_file_json shown error rule)
+  pub value_is : value ≡ no_locator_file_json shown error rule
 
--- the JSON of a file that begins with neither, and doesn't look like a locator; how a fault is named,
+-- the value of a file that begins with neither, and doesn't look like a locator; how a fault is named,
 -- no definition says
-pub record IsUnreadFileJson (file : FileFields) (text : List ℕ) : Type 0 where
+pub record IsUnreadFileJson (file : FileFields) (value : Data) : Type 0 where
   pub why : List ℕ
   pub rule : Rule
   pub place : Place
   pub rejection : IsRejection file.octets rule place
   pub shown : Shown
   pub shown_is : IsShown file 0 shown
-  pub text_is : text ≡ json_lines (rejection_json shown why rule place)
+  pub value_is : value ≡ rejection_json shown why rule place
 
--- the JSON of a file that can't be shown
-abbrev pub IsOtherFileJson : Bool → FileFields → List ℕ → Type 0
+-- the value of a file that can't be shown
+abbrev pub IsOtherFileJson : Bool → FileFields → Data → Type 0
 IsOtherFileJson strict = SaysOfOther (IsNoLocatorFileJson strict) IsUnreadFileJson
 
--- the JSON of a file
-abbrev pub IsFileJson : Options → FileFields → List ℕ → Type 0
-IsFileJson options =
-    SaysOfFile options.strict (IsCertificateFileJson options) IsListFileJson
-    (IsLocatorFileJson options.strict) (IsOtherFileJson options.strict)
+-- the value of a file
+abbrev pub IsFileJson : Bool → FileFields → Data → Type 0
+IsFileJson strict =
+    SaysOfFile strict (IsCertificateFileJson strict) IsListFileJson
+    (IsLocatorFileJson strict) (IsOtherFileJson strict)
 
--- the JSON of files, one behind the other
-abbrev pub AreFilesJson : Options → List FileFields → List ℕ → Type 0
-AreFilesJson options files text = SaysOfEach (IsFileJson options) files text
+-- that value alone
+abbrev pub IsFileItem : Bool → FileFields → List Data → Type 0
+IsFileItem strict file items = (value : Data) × IsFileJson strict file value × (items ≡ value ∷ [])
+
+-- the values of files, in their order
+abbrev pub AreFileValues : Bool → List FileFields → List Data → Type 0
+AreFileValues strict files values = SaysOfEach (IsFileItem strict) files values
+
+-- just one file is named
+abbrev pub is_single : List (List ℕ) → Bool
+is_single names = length names == 1
+
+-- the JSON of files in a format, where one is named or others are
+abbrev pub IsJsonOfFiles : Format → Bool → Bool → List FileFields → List ℕ → Type 0
+IsJsonOfFiles format single strict files text =
+    (values : List Data) × AreFileValues strict files values × (text ≡ values_text format single values)

@@ -1,15 +1,18 @@
--- The text of a value of JSON.
+-- The text of values of JSON.
 use Rattle.std.specs.Char.Escape.{encode_utf16}
 use Rattle.std.specs.List.{flat_map}
-use Rattle.std.specs.Prelude.{ℕ, ◌/◌, ◌%◌, ◌==◌, ◌||◌, if◌then◌else◌, List, [], ◌∷◌, ◌++◌}
+use Rattle.std.specs.Prelude.{ℕ, Bool, false, ◌/◌, ◌%◌, ◌==◌, ◌||◌, if◌then◌else◌, List, [], ◌∷◌, ◌++◌}
 use Rattle.std.specs.Str.{chars}
 use Rattle.json.specs.Layout.{pretty}
 use Rattle.json.specs.Tree.{json_tokens}
 use Rattle.rpki.specs.NameTexts.{is_visible}
 use Rattle.rpki.specs.Texts.{hexadecimal}
 use Rattle.serde_json.specs.Data.{Data}
-use Rattle.serde_json.specs.Written.{outline}
+use Rattle.serde_json.specs.Written.{compact_text, outline}
 use Rattle.rpki_text.specs.Pages.{line_feed}
+use Rattle.rpki_command.specs.JsonValues.{array_of}
+use Rattle.rpki_command.specs.declared.arguments.Format.{Format}
+use Rattle.rpki_command.specs.declared.arguments.Format.TheVariants.{Json, JsonLines}
 
 -- ---- in ASCII (RFC 8259 7)
 
@@ -32,3 +35,20 @@ in_ascii text = flat_map ascii_character (chars text)
 -- line end (own; RFC 8259)
 unfoldable pub json_lines : Data → List ℕ
 json_lines d = in_ascii (pretty (json_tokens (outline d))) ++ line_feed
+
+-- a value without floats on one line, and a line end (own; jsonlines.org)
+unfoldable pub json_line : Data → List ℕ
+json_line d = in_ascii (compact_text d) ++ line_feed
+
+-- a value in a format of JSON
+abbrev pub value_text : Format → Data → List ℕ
+value_text JsonLines d = json_line d
+value_text _ d = json_lines d
+
+-- ---- the values of files
+
+-- in a format of JSON: one value after the other; but in `json`, where not just one file is named, one
+-- array of them
+abbrev pub values_text : Format → Bool → List Data → List ℕ
+values_text Json false values = json_lines (array_of values)
+values_text format is_single values = flat_map (value_text format) values

@@ -17,7 +17,7 @@ use Rattle.rpki_verdicts.specs.PathFiles.{QuestionFields, IsAnchorLocator}
 use Rattle.rpki_command.specs.JsonBlocks.{held_items, listed_items}
 use Rattle.rpki_command.specs.JsonKeys.{key_json}
 use Rattle.rpki_command.specs.JsonNotes.{notes_json}
-use Rattle.rpki_command.specs.JsonTexts.{json_lines}
+use Rattle.rpki_command.specs.JsonTexts.{value_text}
 use Rattle.rpki_notes.specs.Notes.{AreNotes}
 use Rattle.rpki_notes.specs.declared.note.Note.{Note}
 use Rattle.rpki_text.specs.KeyTexts.{IsKeyAnswer}
@@ -25,6 +25,7 @@ use Rattle.rpki_text.specs.Pages.{colons_text}
 use Rattle.rpki_text.specs.declared.keys.KeyAnswer.{KeyAnswer}
 use Rattle.rpki_command.specs.JsonValues.{Entries, Pair, Puts, Pushes, flattened, count_json, array_of, member_of, moment_json, text_member, text_member_if_any, object_of, rule_members}
 use Rattle.rpki_command.specs.VerdictTexts.{IsFinding, Leaves, SaysOfEach, file_name_at}
+use Rattle.rpki_command.specs.declared.arguments.Format.{Format}
 use Rattle.rpki_command.specs.declared.verdicts.Finding.{Finding}
 use Rattle.rpki_command.specs.declared.verdicts.Finding.TheVariants.{NotALocator, NotAList, Decided}
 use Rattle.rpki_verdicts.specs.declared.path.Fault.{Fault}
@@ -218,14 +219,16 @@ pub record IsVerdictJson (question : QuestionFields) (finding : Finding) (value 
   pub answer_is : AreAnswerMembers question finding answer
   pub value_is : value ≡ verdict_json question others (of_members ++ of_lists) noted answer
 
--- its text
-pub record IsVerdictLines (question : QuestionFields) (finding : Finding) (text : List ℕ) : Type 0 where
+-- its text in a format of JSON
+pub record IsVerdictLines (format : Format) (question : QuestionFields) (finding : Finding) (text : List ℕ)
+    : Type 0 where
   pub value : Data
   pub value_is : IsVerdictJson question finding value
-  pub text_is : text ≡ json_lines value
+  pub text_is : text ≡ value_text format value
 
 -- the text of the path that the files are
-pub record IsJsonOfPath (x : Context) (question : QuestionFields) (text : List ℕ) : Type 0 where
+pub record IsJsonOfPath (format : Format) (x : Context) (question : QuestionFields) (text : List ℕ)
+    : Type 0 where
   pub finding : Finding
   pub finding_is : IsFinding x question finding
-  pub text_is : IsVerdictLines question finding text
+  pub text_is : IsVerdictLines format question finding text

@@ -1,5 +1,6 @@
 -- The definitions that the contracts of the command cite.
 pub mod CommandLines
+pub mod MisuseTexts
 pub mod Outcomes
 pub mod VerdictTexts
 pub mod NoteLines

@@ -170,10 +170,10 @@ pub record IsUnreadFileText (file : FileFields) (text : List ℕ) : Type 0 where
   pub text_is : text ≡ other_file_text file why (stop_text place.field.now place.octet) rule.says.now rule.section.now
 
 -- what is said of a file that can't be shown: as of a locator that is none where it looks like one
-abbrev pub SaysOfOther : (OfNoLocator OfUnread : FileFields → List ℕ → Type 0) → FileFields → List ℕ → Type 0
-SaysOfOther OfNoLocator OfUnread file text =
-    (IsTrue (looks_like_locator file.octets) × OfNoLocator file text)
-    ⊎ (IsFalse (looks_like_locator file.octets) × OfUnread file text)
+abbrev pub SaysOfOther : {X : Type 0} → (OfNoLocator OfUnread : FileFields → X → Type 0) → FileFields → X → Type 0
+SaysOfOther OfNoLocator OfUnread file said =
+    (IsTrue (looks_like_locator file.octets) × OfNoLocator file said)
+    ⊎ (IsFalse (looks_like_locator file.octets) × OfUnread file said)
 
 -- the text of a file that can't be shown
 abbrev pub IsOtherFileText : Bool → FileFields → List ℕ → Type 0
@@ -182,14 +182,13 @@ IsOtherFileText strict = SaysOfOther (IsNoLocatorFileText strict) IsUnreadFileTe
 -- ---- the whole
 
 -- what is said of a file: of its certificate, of its list, of the locator that it is, or else of none
-abbrev pub SaysOfFile : Bool
-    → (OfCertificate OfList OfLocator OfOther : FileFields → List ℕ → Type 0) → FileFields → List ℕ
-    → Type 0
-SaysOfFile strict OfCertificate OfList OfLocator OfOther file text =
-    OfCertificate file text
-    ⊎ (OfList file text
-    ⊎ (OfLocator file text
-    ⊎ ((CanBeShown strict file.octets → ⊥) × OfOther file text)))
+abbrev pub SaysOfFile : {X : Type 0} → Bool
+    → (OfCertificate OfList OfLocator OfOther : FileFields → X → Type 0) → FileFields → X → Type 0
+SaysOfFile strict OfCertificate OfList OfLocator OfOther file said =
+    OfCertificate file said
+    ⊎ (OfList file said
+    ⊎ (OfLocator file said
+    ⊎ ((CanBeShown strict file.octets → ⊥) × OfOther file said)))
 
 -- the text of a file
 abbrev pub IsFileText : Options → FileFields → List ℕ → Type 0

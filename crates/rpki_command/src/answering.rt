@@ -1,15 +1,16 @@
 //! What is answered of files.
-ghost use Rattle.std.specs.Prelude.{◌≡◌, ◌↔◌, [], All, map, IfOk, IsFalse, IsTrue, string_bytes};
+ghost use Rattle.std.specs.Prelude.{◌≡◌, ◌≢◌, ◌↔◌, [], All, map, IfOk, IsFalse, IsTrue, string_bytes};
 ghost use Rattle.std.specs.Bool.{MatchBool};
 ghost use Rattle.rpki_command.specs.AnswerTexts.{IsJsonBy, IsTextBy, options_of};
 ghost use Rattle.rpki_command.specs.CommandLines.Views.{fields_of};
-ghost use Rattle.rpki_command.specs.JsonAnswers.{AreFilesJson};
+ghost use Rattle.rpki_command.specs.JsonAnswers.{IsJsonOfFiles, is_single};
 ghost use Rattle.rpki_command.specs.Outcomes.{AreAllRead, AreReadOf, AsksOfFiles, EndsBy, IsOutcomeOfShow};
 ghost use Rattle.rpki_command.specs.ShownTexts.{IsTextOfFiles};
 ghost use Rattle.rpki_files.specs.Files.{contents, file_names};
 ghost use Rattle.rpki_verdicts.specs.GivenLocators.{IsRead, locator_files};
 
-use crate::arguments::{Request, Task};
+use crate::arguments::{Format, Request, Task};
+use crate::as_json;
 use crate::outcomes::{Answer, Outcome};
 use crate::showing::{Options, shown};
 use crate::verdicts::validated;
@@ -55,6 +56,41 @@ fn are_all_read(
         && are_locators_read(&request.locators, locators)
 }
 
+// Whether just one file is named.
+fn is_single(names: &[&[u8]]) -> bool
+    ensures { result ≡ is_single (map (λ name. name.now) names.now) }
+{
+    names.len() == 1
+}
+
+// Shows files in the format that is asked.
+fn shown_as(
+    alloc: Global,
+    request: &Request<'_>,
+    now: Time,
+    files: &[Object<'_>],
+) -> Result<Answer, AllocError>
+    ensures outcome { IfOk result (λ answer.
+        IsOutcomeOfShow request.now.strict (contents files.now) answer.outcome) }
+    ensures text { let options = options_of (fields_of request.now) now in
+        request.now.format ≡ Format.Text
+        → IfOk result (λ answer. IsTextOfFiles options files.now (string_bytes answer.text)) }
+    ensures json { let r = fields_of request.now in request.now.format ≢ Format.Text
+        → IfOk result (λ answer. IsJsonOfFiles r.format (is_single r.files) r.strict
+        files.now (string_bytes answer.text)) }
+{
+    if request.format == Format::Text {
+        let options = Options {
+            at: now,
+            strict: request.strict,
+            all: request.all,
+        };
+        return shown(alloc, files, &options);
+    }
+    let is_single = is_single(&request.files);
+    as_json::answer_files(alloc, files, request.strict, request.format, is_single)
+}
+
 // Shows the files that could be read. The outcome is theirs, where all could be.
 fn show(
     alloc: Global,
@@ -67,19 +103,13 @@ fn show(
         (IsOutcomeOfShow request.now.strict (contents files.now) answer.outcome)
         (answer.outcome ≡ Outcome.Unread)) }
     ensures text { let options = options_of (fields_of request.now) now in
-        IsFalse request.now.json
+        request.now.format ≡ Format.Text
         → IfOk result (λ answer. IsTextOfFiles options files.now (string_bytes answer.text)) }
-    ensures json { let options = options_of (fields_of request.now) now in
-        IsTrue request.now.json
-        → IfOk result (λ answer. AreFilesJson options files.now (string_bytes answer.text)) }
+    ensures json { let r = fields_of request.now in request.now.format ≢ Format.Text
+        → IfOk result (λ answer. IsJsonOfFiles r.format (is_single r.files) r.strict
+        files.now (string_bytes answer.text)) }
 {
-    let options = Options {
-        at: now,
-        strict: request.strict,
-        json: request.json,
-        all: request.all,
-    };
-    let answer = shown(alloc, files, &options)?;
+    let answer = shown_as(alloc, request, now, files)?;
     if are_all_read {
         return Ok(answer);
     }
@@ -98,6 +128,65 @@ fn unjudged(alloc: Global) -> Answer
     Answer {
         text: String::new(alloc),
         outcome: Outcome::Unread,
+    }
+}
+
+// Answers what the request asks at this moment, as if it weren't quiet.
+fn whole_answer(
+    alloc: Global,
+    request: &Request<'_>,
+    now: Time,
+    files: &[Object<'_>],
+    lists: &[Object<'_>],
+    locators: &[GivenLocator<'_>],
+) -> Result<Answer, AllocError>
+    requires asks { AsksOfFiles request.now.task }
+    requires files_read { let request = fields_of request.now in AreReadOf request.files files.now }
+    requires lists_read { let request = fields_of request.now in AreReadOf request.lists lists.now }
+    requires locators_read { let request = fields_of request.now in
+        AreReadOf request.locators (locator_files locators.now) }
+    requires locators_are { All (IsRead request.now.strict) locators.now }
+    ensures ends { let request = fields_of request.now in
+        let its = locator_files locators.now in
+        IfOk result (λ answer. EndsBy request now files.now lists.now its answer.outcome) }
+    ensures text { let request = fields_of request.now in
+        request.format ≡ Format.Text → IfOk result (λ answer. IsTextBy request.task answer.outcome
+        request now files.now lists.now locators.now (string_bytes answer.text)) }
+    ensures json { let request = fields_of request.now in
+        request.format ≢ Format.Text → IfOk result (λ answer. IsJsonBy request.task answer.outcome
+        request now files.now lists.now locators.now (string_bytes answer.text)) }
+{
+    let are_all_read = are_all_read(request, files, lists, locators);
+    match request.task {
+        Task::Show => show(alloc, request, now, files, are_all_read),
+        Task::Validate => {
+            if !are_all_read {
+                return Ok(unjudged(alloc));
+            }
+            let question = Question {
+                members: files,
+                lists,
+                locators,
+                names: request.names,
+                strict: request.strict,
+                at: now,
+            };
+            validated(alloc, &question, request.format)
+        }
+        Task::Help | Task::Version => unreachable!(),
+    }
+}
+
+// Leaves the outcome of an answer, and no text.
+fn silenced(alloc: Global, answer: Answer) -> Answer
+    ensures outcome { result.outcome ≡ answer.outcome }
+    ensures text { string_bytes result.text ≡ [] }
+{
+    let Answer { text, outcome } = answer;
+    drop(text);
+    Answer {
+        text: String::new(alloc),
+        outcome,
     }
 }
 
@@ -120,30 +209,18 @@ pub fn answer_request(
     ensures ends { let request = fields_of request.now in
         let its = locator_files locators.now in
         IfOk result (λ answer. EndsBy request now files.now lists.now its answer.outcome) }
-    ensures text { let request = fields_of request.now in
-        IsFalse request.json → IfOk result (λ answer. IsTextBy request.task answer.outcome
+    ensures quiet { IsTrue request.now.quiet
+        → IfOk result (λ answer. string_bytes answer.text ≡ []) }
+    ensures text { let request = fields_of request.now in IsFalse request.is_quiet
+        → request.format ≡ Format.Text → IfOk result (λ answer. IsTextBy request.task answer.outcome
         request now files.now lists.now locators.now (string_bytes answer.text)) }
-    ensures json { let request = fields_of request.now in
-        IsTrue request.json → IfOk result (λ answer. IsJsonBy request.task answer.outcome
+    ensures json { let request = fields_of request.now in IsFalse request.is_quiet
+        → request.format ≢ Format.Text → IfOk result (λ answer. IsJsonBy request.task answer.outcome
         request now files.now lists.now locators.now (string_bytes answer.text)) }
 {
-    let are_all_read = are_all_read(request, files, lists, locators);
-    match request.task {
-        Task::Show => show(alloc, request, now, files, are_all_read),
-        Task::Validate => {
-            if !are_all_read {
-                return Ok(unjudged(alloc));
-            }
-            let question = Question {
-                members: files,
-                lists,
-                locators,
-                names: request.names,
-                strict: request.strict,
-                at: now,
-            };
-            validated(alloc, &question, request.json)
-        }
-        Task::Help | Task::Version => unreachable!(),
+    let answer = whole_answer(alloc, request, now, files, lists, locators)?;
+    if request.quiet {
+        return Ok(silenced(alloc, answer));
     }
+    Ok(answer)
 }

@@ -9,13 +9,15 @@ ghost use Rattle.rpki_command.specs.JsonValues.{Puts, array_of, count_member_if_
 
 mod ascii;
 mod blocks;
+mod files;
 mod key;
 mod notes;
 mod objects;
+mod texts;
 mod verdicts;
 
+pub use files::answer_files;
 use notes::notes_value;
-pub use objects::lines_of;
 use objects::{Members, value_of};
 use rpki::crypto::KeyIdentifier;
 use rpki::repository::cert::{Cert, KeyUsage, Kind, Overclaim, TbsCert};
@@ -32,6 +34,7 @@ use rpki_text::certificate::{Answers, Findings, findings_of};
 use rpki_text::keys::{KeyAnswer, answer_of_locator};
 use serde_json::Value;
 use std::alloc::{AllocError, Global};
+pub use texts::value_text;
 pub use verdicts::path;
 
 /// A file that is shown: its name, its octets in DER, and how many of them stand behind its object.

@@ -22,11 +22,11 @@ mod words;
 
 use answering::answer_request;
 use anyhow::{Context, Result, anyhow};
-use arguments::{Misuse, Request, Setting, Task, read_words};
+use arguments::{Misuse, Request, Task, read_words};
 use outcomes::{Answer, Outcome, status_of};
 use reading::{read_files, read_locators};
 use rpki::repository::x509::Time;
-use rpki_text::{Characters, moments};
+use rpki_text::moments;
 use std::io;
 use std::io::ErrorKind;
 use std::process::ExitCode;
@@ -34,11 +34,12 @@ use std::rt::Clock;
 use std::time::{SystemTime, UNIX_EPOCH};
 use words::words_of;
 
-const USAGE: &str = "usage: rpki show [-j|--json] [--all] [OPTION].. FILE..
-       rpki validate [-j|--json] [--tal FILE].. [--crl FILE].. [--no-names] [OPTION].. ANCHOR
-           [CA].. [LAST]
+const USAGE: &str = "usage: rpki show [--all] [OPTION].. FILE..
+       rpki validate [--tal FILE].. [--crl FILE].. [--no-names] [OPTION].. ANCHOR [CA].. [LAST]
        rpki help | --version
-OPTION: --at MOMENT, --max-size OCTETS (of a file; 67108864 if it is left out), or --lenient
+OPTION: -o|--output FORMAT, -j|--json (-o json), -q|--quiet (the status alone), --at MOMENT,
+--lenient, or --max-size OCTETS (of a file; 67108864 if it is left out)
+FORMAT: text, json, or jsonl (a value on each line)
 FILE: a certificate or a revocation list, in DER or PEM; of show and --tal also a trust anchor's
 locator; - for standard input
 LAST: a CA, an end entity or a router
@@ -75,37 +76,13 @@ fn about(task: Task) -> Option<&'static str>
     }
 }
 
-// The name of an option that takes a value.
-fn name_of(setting: Setting) -> &'static str {
-    match setting {
-        Setting::Crl => "--crl",
-        Setting::Tal => "--tal",
-        Setting::At => "--at",
-        Setting::MaxSize => "--max-size",
-    }
-}
-
-// Says that a word isn't what it should be.
-fn say_word(rt: &impl Eprint, before: &str, word: &[u8], behind: &str) -> io::Result<()> {
-    let word = Characters(word);
-    eprintln!(rt; "rpki: {before}{word}{behind}")
-}
-
 // Says what is wrong of the command line, unless memory ran out.
 fn say(rt: &impl Eprint, misuse: &Misuse<'_>) -> Result<()>
     ensures { OnOk result (misuse.now ≢ Misuse.Memory) }
 {
     match misuse {
-        Misuse::NoTask => eprintln!(rt; "rpki: no command")?,
-        Misuse::Unknown(word) => say_word(rt, "unknown: ", *word, "")?,
-        Misuse::NoValue(setting) => {
-            let option = name_of(*setting);
-            eprintln!(rt; "rpki: {option} wants a value")?
-        }
-        Misuse::NoMoment(text) => say_word(rt, "--at ", *text, ": no moment")?,
-        Misuse::NoSize(text) => say_word(rt, "--max-size ", *text, ": no number of octets")?,
-        Misuse::NoFile => eprintln!(rt; "rpki: no file")?,
         Misuse::Memory => return Err(anyhow!("out of memory")),
+        _ => eprintln!(rt; "rpki: {misuse}")?,
     }
     eprint!(rt; "{USAGE}")?;
     Ok(())

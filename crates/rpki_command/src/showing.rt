@@ -1,8 +1,6 @@
-//! A file for a person or as JSON.
-ghost use Rattle.std.specs.Prelude.{◌≡◌, ◌≢◌, ◌↔◌, false, All, IfOk, IsTrue, IsFalse, MatchResult, OnOk, Some, None, codes, string_bytes};
+//! Files for a person.
+ghost use Rattle.std.specs.Prelude.{◌≢◌, ◌↔◌, All, Bool, IfOk, IsTrue, OnOk, Some, codes, string_bytes};
 ghost use Rattle.hex.specs.Hex.{encode_lower};
-ghost use Rattle.serde_json.specs.View.{view};
-ghost use Rattle.serde_json.specs.Written.{has_float};
 ghost use Rattle.sha2.specs.Sha256.{sha256};
 ghost use Rattle.rpki.specs.Certificates.{IsCertificate};
 ghost use Rattle.rpki.specs.DecodeError.TheVariants as decoding;
@@ -12,20 +10,17 @@ ghost use Rattle.rpki_files.specs.Contents.{BeginsBefore, BeginsWithEither, CanB
 ghost use Rattle.rpki_files.specs.Files.{contents};
 ghost use Rattle.rpki_files.specs.LocatorFiles.{IsWhyNoLocator};
 ghost use Rattle.rpki_notes.specs.Notes.{AreNotes};
-ghost use Rattle.rpki_command.specs.JsonAnswers.{AreFilesJson, IsCertificateFileJson, IsFileJson, IsListFileJson, IsOtherFileJson, IsShown, IsUnreadFileJson};
-ghost use Rattle.rpki_command.specs.JsonTexts.{json_lines};
 ghost use Rattle.rpki_command.specs.Outcomes.{IsOutcomeOfShow};
-ghost use Rattle.rpki_text.specs.Pages.{Appends, AppendsSome, line, line_feed};
+ghost use Rattle.rpki_text.specs.Pages.{Appends, AppendsSome, line};
 ghost use Rattle.rpki_command.specs.ShownTexts.{IsCertificateFileText, IsFileText, IsFurtherText, IsListFileText, IsOtherFileText, IsRejection, IsTextOfFiles, IsUnreadFileText, certificate_file_text, file_lines, left_line, left_text, list_file_text, stop_text};
 ghost use Rattle.rpki_command.specs.VerdictTexts.{SaysOfEach};
 
 mod locators;
 
-use crate::as_json;
 use crate::notes::print_notes;
 use crate::outcomes::{Answer, Outcome};
 use bytes::Bytes;
-use locators::{whole_locator, whole_no_locator};
+use locators::{print_locator, print_no_locator};
 use rpki::der::DecodeError;
 use rpki::repository::tal::TalError;
 use rpki::repository::x509::Time;
@@ -36,7 +31,6 @@ use rpki_files::{
 };
 use rpki_notes::{Note, notes_of};
 use rpki_text::{FileName, Page, certificate, list};
-use serde_json::Value;
 use sha2::{Digest, Sha256};
 use std::alloc::{AllocError, Global};
 use std::fmt;
@@ -46,7 +40,6 @@ use std::fmt;
 pub struct Options {
     pub at: Time,
     pub strict: bool,
-    pub json: bool,
     pub all: bool,
 }
 
@@ -102,29 +95,12 @@ fn ended(page: &mut Page, left: usize)
     }
 }
 
-// Appends the lines of a value, if it was made.
-fn printed(page: &mut Page, made: Result<Value, AllocError>)
-    ensures { MatchResult made
-        (λ value. has_float (view value) ≡ false
-        → Appends page.old (json_lines (view value)) page.new)
-        (λ _. page.new ≡ None) }
-{
-    match made {
-        Ok(value) => {
-            let text = as_json::lines_of(page.alloc(), &value);
-            drop(value);
-            page.formed(text);
-        }
-        Err(_) => page.fail(),
-    }
-}
-
-// What is said of a fault: its text, its rule, and where the reading stops.
+/// What is said of a fault: its text, its rule, and where the reading stops.
 #[derive(Drop)]
-struct Rejection {
-    why: String,
-    rule: Rule,
-    place: Place,
+pub struct Rejection {
+    pub why: String,
+    pub rule: Rule,
+    pub place: Place,
 }
 
 // Whether the octets look like a list.
@@ -137,7 +113,8 @@ fn is_like_list(octets: &Bytes) -> bool
     }
 }
 
-fn rejection_of(
+/// Finds what is said of a fault of a file that begins with neither a certificate nor a list.
+pub fn rejection_of(
     alloc: Global,
     object: &Object<'_>,
     fault: &DecodeError,
@@ -178,50 +155,13 @@ fn print_rejection(page: &mut Page, object: &Object<'_>, it: &Rejection)
     page.line("Standard", it.rule.section);
 }
 
-fn as_shown<'a>(object: &'a Object<'_>, left: usize) -> as_json::Shown<'a>
-    ensures { IsShown object.now left result }
-{
-    as_json::Shown {
-        name: object.name(),
-        whole: object.octets().as_slice(),
-        left,
-    }
-}
-
-fn rejection_json(page: &mut Page, object: &Object<'_>, it: &Rejection)
-    ensures { IsRejection object.now.octets it.now.rule it.now.place
-        → AppendsSome (IsUnreadFileJson object.now) page.old page.new }
-{
-    let file = as_shown(object, 0);
-    let made = as_json::rejected(page.alloc(), &file, it.why.as_str(), it.rule, it.place);
-    printed(page, made);
-}
-
-fn whole_rejection(page: &mut Page, object: &Object<'_>, it: &Rejection, options: &Options)
-    ensures text { IsFalse options.now.json
-        → IsRejection object.now.octets it.now.rule it.now.place
-        → AppendsSome (IsUnreadFileText object.now) page.old page.new }
-    ensures json { IsTrue options.now.json
-        → IsRejection object.now.octets it.now.rule it.now.place
-        → AppendsSome (IsUnreadFileJson object.now) page.old page.new }
-{
-    if options.json {
-        rejection_json(page, object, it);
-    } else {
-        print_rejection(page, object, it);
-    }
-}
-
-fn rejected(page: &mut Page, object: &Object<'_>, fault: &DecodeError, options: &Options)
+fn print_unread(page: &mut Page, object: &Object<'_>, fault: &DecodeError)
     requires { fault.now ≢ decoding.Memory }
-    ensures text { IsFalse options.now.json
-        → AppendsSome (IsUnreadFileText object.now) page.old page.new }
-    ensures json { IsTrue options.now.json
-        → AppendsSome (IsUnreadFileJson object.now) page.old page.new }
+    ensures { AppendsSome (IsUnreadFileText object.now) page.old page.new }
 {
     match rejection_of(page.alloc(), object, fault) {
         Ok(it) => {
-            whole_rejection(page, object, &it, options);
+            print_rejection(page, object, &it);
             drop(it);
         }
         Err(_) => page.fail(),
@@ -247,7 +187,7 @@ fn print_certificate(
     ended(page, left);
 }
 
-fn certificate_json(
+fn noted_certificate(
     page: &mut Page,
     object: &Object<'_>,
     cert: &Cert,
@@ -257,35 +197,9 @@ fn certificate_json(
 )
     ensures { BeginsBefore IsCertificate object.now.octets cert.now left
         → AreNotes object.now.octets notes.now
-        → AppendsSome (IsCertificateFileJson options.now object.now) page.old page.new }
-{
-    let file = as_shown(object, left);
-    let made = as_json::certificate(page.alloc(), &file, cert, notes, options.strict);
-    printed(page, made);
-}
-
-fn noted_certificate(
-    page: &mut Page,
-    object: &Object<'_>,
-    cert: &Cert,
-    notes: &[Note],
-    left: usize,
-    options: &Options,
-)
-    ensures text { IsFalse options.now.json
-        → BeginsBefore IsCertificate object.now.octets cert.now left
-        → AreNotes object.now.octets notes.now
         → AppendsSome (IsCertificateFileText options.now object.now) page.old page.new }
-    ensures json { IsTrue options.now.json
-        → BeginsBefore IsCertificate object.now.octets cert.now left
-        → AreNotes object.now.octets notes.now
-        → AppendsSome (IsCertificateFileJson options.now object.now) page.old page.new }
 {
-    if options.json {
-        certificate_json(page, object, cert, notes, left, options);
-    } else {
-        print_certificate(page, object, cert, notes, left, options);
-    }
+    print_certificate(page, object, cert, notes, left, options);
 }
 
 fn whole_certificate(
@@ -295,12 +209,8 @@ fn whole_certificate(
     left: usize,
     options: &Options,
 )
-    ensures text { IsFalse options.now.json
-        → BeginsBefore IsCertificate object.now.octets cert.now left
+    ensures { BeginsBefore IsCertificate object.now.octets cert.now left
         → AppendsSome (IsCertificateFileText options.now object.now) page.old page.new }
-    ensures json { IsTrue options.now.json
-        → BeginsBefore IsCertificate object.now.octets cert.now left
-        → AppendsSome (IsCertificateFileJson options.now object.now) page.old page.new }
 {
     match notes_of(page.alloc(), object) {
         Ok(notes) => {
@@ -321,51 +231,24 @@ fn print_list(page: &mut Page, object: &Object<'_>, it: &Crl, left: usize, optio
     ended(page, left);
 }
 
-fn list_json(page: &mut Page, object: &Object<'_>, it: &Crl, left: usize)
-    ensures { BeginsBefore IsCertificateList object.now.octets it.now.list left
-        → AppendsSome (IsListFileJson object.now) page.old page.new }
-{
-    let file = as_shown(object, left);
-    let made = as_json::list(page.alloc(), &file, it);
-    printed(page, made);
-}
-
 fn whole_list(page: &mut Page, object: &Object<'_>, it: &Crl, left: usize, options: &Options)
-    ensures text { IsFalse options.now.json
-        → BeginsBefore IsCertificateList object.now.octets it.now.list left
+    ensures { BeginsBefore IsCertificateList object.now.octets it.now.list left
         → AppendsSome (IsListFileText options.now object.now) page.old page.new }
-    ensures json { IsTrue options.now.json
-        → BeginsBefore IsCertificateList object.now.octets it.now.list left
-        → AppendsSome (IsListFileJson object.now) page.old page.new }
 {
-    if options.json {
-        list_json(page, object, it, left);
-    } else {
-        print_list(page, object, it, left, options);
-    }
+    print_list(page, object, it, left, options);
 }
 
-// Says of a file why it can't be shown: why it begins with neither a certificate nor a list, and
+// Says of a file why it can't be shown: why it begins with neither a certificate nor a list, or
 // why it is no locator.
-fn whole_other(
-    page: &mut Page,
-    object: &Object<'_>,
-    fault: &DecodeError,
-    error: &TalError,
-    options: &Options,
-)
+fn print_other(page: &mut Page, object: &Object<'_>, fault: &DecodeError, error: &TalError)
     requires { fault.now ≢ decoding.Memory }
-    ensures text { IsFalse options.now.json
-        → IsWhyNoLocator options.now.strict object.now.octets error.now
-        → AppendsSome (IsOtherFileText options.now.strict object.now) page.old page.new }
-    ensures json { IsTrue options.now.json
-        → IsWhyNoLocator options.now.strict object.now.octets error.now
-        → AppendsSome (IsOtherFileJson options.now.strict object.now) page.old page.new }
+    ensures { (strict : Bool) → IsWhyNoLocator strict object.now.octets error.now
+        → AppendsSome (IsOtherFileText strict object.now) page.old page.new }
 {
     if looks_like_locator(object.octets().as_slice()) {
-        whole_no_locator(page, object, error, options);
+        print_no_locator(page, object, error);
     } else {
-        rejected(page, object, fault, options);
+        print_unread(page, object, fault);
     }
 }
 
@@ -381,20 +264,18 @@ fn show_other(
     requires neither { BeginsWithEither object.now.octets → ⊥ }
     ensures shows { IfOk result (λ shows.
         IsTrue shows ↔ CanBeShown options.now.strict object.now.octets) }
-    ensures text { IsFalse options.now.json → OnOk result
+    ensures text { OnOk result
         (AppendsSome (IsFileText options.now object.now) page.old page.new) }
-    ensures json { IsTrue options.now.json → OnOk result
-        (AppendsSome (IsFileJson options.now object.now) page.old page.new) }
 {
     let octets = object.octets().as_slice();
     match read_locator(page.alloc(), object.name(), octets, options.strict)? {
         Ok(tal) => {
-            whole_locator(page, object, &tal, options);
+            print_locator(page, object, &tal);
             drop(tal);
             Ok(true)
         }
         Err(error) => {
-            whole_other(page, object, fault, &error, options);
+            print_other(page, object, fault, &error);
             drop(error);
             Ok(false)
         }
@@ -406,10 +287,8 @@ fn show_other(
 pub fn show(page: &mut Page, object: &Object<'_>, options: &Options) -> Result<bool, AllocError>
     ensures shows { IfOk result (λ shows.
         IsTrue shows ↔ CanBeShown options.now.strict object.now.octets) }
-    ensures text { IsFalse options.now.json → OnOk result
+    ensures text { OnOk result
         (AppendsSome (IsFileText options.now object.now) page.old page.new) }
-    ensures json { IsTrue options.now.json → OnOk result
-        (AppendsSome (IsFileJson options.now object.now) page.old page.new) }
 {
     match object.content() {
         Content::Certificate(cert, left) => {
@@ -424,26 +303,14 @@ pub fn show(page: &mut Page, object: &Object<'_>, options: &Options) -> Result<b
     }
 }
 
-// Ends the text of a file that another one follows, and of JSON nothing.
-fn gap(page: &mut Page, options: &Options)
-    ensures text { IsFalse options.now.json → Appends page.old line_feed page.new }
-    ensures json { IsTrue options.now.json → page.new ≡ page.old }
-{
-    if !options.json {
-        page.end();
-    }
-}
-
-// Shows a file behind another one.
+// Shows a file behind another one, and an empty line between them.
 fn show_further(page: &mut Page, object: &Object<'_>, options: &Options) -> Result<bool, AllocError>
     ensures shows { IfOk result (λ shows.
         IsTrue shows ↔ CanBeShown options.now.strict object.now.octets) }
-    ensures text { IsFalse options.now.json → OnOk result
+    ensures text { OnOk result
         (AppendsSome (IsFurtherText options.now object.now) page.old page.new) }
-    ensures json { IsTrue options.now.json → OnOk result
-        (AppendsSome (IsFileJson options.now object.now) page.old page.new) }
 {
-    gap(page, options);
+    page.end();
     show(page, object, options)
 }
 
@@ -452,10 +319,7 @@ fn show_more(page: &mut Page, objects: &[Object<'_>], options: &Options) -> Resu
     ensures shows { IfOk result (λ shows.
         IsTrue shows ↔ All (CanBeShown options.now.strict) (contents objects.now)) }
     ensures text { let IsText = SaysOfEach (IsFurtherText options.now) in
-        IsFalse options.now.json → OnOk result
-        (AppendsSome (IsText objects.now) page.old page.new) }
-    ensures json { IsTrue options.now.json → OnOk result
-        (AppendsSome (AreFilesJson options.now objects.now) page.old page.new) }
+        OnOk result (AppendsSome (IsText objects.now) page.old page.new) }
 {
     let mut can_be_shown = true;
     for object in objects {
@@ -469,10 +333,8 @@ fn show_more(page: &mut Page, objects: &[Object<'_>], options: &Options) -> Resu
 fn show_all(page: &mut Page, objects: &[Object<'_>], options: &Options) -> Result<bool, AllocError>
     ensures shows { IfOk result (λ shows.
         IsTrue shows ↔ All (CanBeShown options.now.strict) (contents objects.now)) }
-    ensures text { IsFalse options.now.json → OnOk result
+    ensures text { OnOk result
         (AppendsSome (IsTextOfFiles options.now objects.now) page.old page.new) }
-    ensures json { IsTrue options.now.json → OnOk result
-        (AppendsSome (AreFilesJson options.now objects.now) page.old page.new) }
 {
     let Some((first, more)) = objects.split_first() else {
         return Ok(true);
@@ -482,15 +344,13 @@ fn show_all(page: &mut Page, objects: &[Object<'_>], options: &Options) -> Resul
     Ok(are_more & is_first)
 }
 
-/// Writes the text of the objects, as lines for a person or as JSON. The outcome is success where
-/// each begins with a certificate or a list, or is a locator.
+/// Writes the text of the objects, as lines for a person. The outcome is success where each begins
+/// with a certificate or a list, or is a locator.
 pub fn shown(alloc: Global, objects: &[Object<'_>], options: &Options) -> Result<Answer, AllocError>
     ensures outcome { IfOk result (λ answer.
         IsOutcomeOfShow options.now.strict (contents objects.now) answer.outcome) }
-    ensures text { IsFalse options.now.json → IfOk result (λ answer.
+    ensures text { IfOk result (λ answer.
         IsTextOfFiles options.now objects.now (string_bytes answer.text)) }
-    ensures json { IsTrue options.now.json → IfOk result (λ answer.
-        AreFilesJson options.now objects.now (string_bytes answer.text)) }
 {
     let mut page = Page::new(alloc);
     let can_be_shown = show_all(&mut page, objects, options)?;

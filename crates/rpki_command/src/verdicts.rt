@@ -1,5 +1,5 @@
 //! The verdict on a path, for a person or as JSON.
-ghost use Rattle.std.specs.Prelude.{◌↔◌, All, IfOk, IsTrue, IsFalse, string_bytes};
+ghost use Rattle.std.specs.Prelude.{◌≡◌, ◌≢◌, ◌↔◌, All, IfOk, IsTrue, string_bytes};
 ghost use Rattle.rpki.specs.RsaSignatures.{IsSignedByRsa};
 ghost use Rattle.rpki.specs.Verification.{context};
 ghost use Rattle.rpki_files.specs.Contents.{BeginsWithList};
@@ -10,6 +10,7 @@ ghost use Rattle.rpki_command.specs.JsonVerdicts.{IsJsonOfPath, IsVerdictLines};
 ghost use Rattle.rpki_command.specs.Outcomes.{IsOutcomeOfValidate};
 ghost use Rattle.rpki_command.specs.VerdictTexts.{IsAcceptedFinding, IsFinding, IsTextOfPath};
 
+use crate::arguments::Format;
 use crate::as_json;
 use crate::outcomes::{Answer, Outcome};
 use crate::verdict_lines::verdict_text;
@@ -31,12 +32,14 @@ fn json_text(
     alloc: Global,
     question: &Question<'_, '_>,
     finding: &Finding,
+    format: Format,
 ) -> Result<String, AllocError>
     requires { All (IsRead question.now.strict) question.now.locators }
-    ensures { IfOk result (λ text. IsVerdictLines question.now finding.now (string_bytes text)) }
+    ensures { IfOk result (λ text.
+        IsVerdictLines format question.now finding.now (string_bytes text)) }
 {
     let value = as_json::path(alloc, question, finding)?;
-    let text = as_json::lines_of(alloc, &value);
+    let text = as_json::value_text(alloc, &value, format);
     drop(value);
     text
 }
@@ -85,7 +88,7 @@ fn is_accepted(finding: &Finding) -> bool
 pub fn validated(
     alloc: Global,
     question: &Question<'_, '_>,
-    is_json: bool,
+    format: Format,
 ) -> Result<Answer, AllocError>
     requires { All (IsRead question.now.strict) question.now.locators }
     ensures outcome { let x = context IsSignedByRsa question.now.at question.now.strict in
@@ -94,18 +97,18 @@ pub fn validated(
         let lists = contents question.now.lists in
         IfOk result (λ answer. IsOutcomeOfValidate x d members lists answer.outcome) }
     ensures text { let x = context IsSignedByRsa question.now.at question.now.strict in
-        IsFalse is_json
+        format ≡ Format.Text
         → IfOk result (λ answer. IsTextOfPath x question.now (string_bytes answer.text)) }
     ensures json { let x = context IsSignedByRsa question.now.at question.now.strict in
-        IsTrue is_json
-        → IfOk result (λ answer. IsJsonOfPath x question.now (string_bytes answer.text)) }
+        format ≢ Format.Text
+        → IfOk result (λ answer. IsJsonOfPath format x question.now (string_bytes answer.text)) }
 {
     let finding = find(alloc, question)?;
     let is_accepted = is_accepted(&finding);
-    let text = if is_json {
-        json_text(alloc, question, &finding)
-    } else {
+    let text = if format == Format::Text {
         verdict_text(alloc, question, &finding)
+    } else {
+        json_text(alloc, question, &finding, format)
     };
     drop(finding);
     Ok(Answer {

@@ -2,9 +2,10 @@
 use Rattle.std.specs.Prelude.{◌≡◌, ◌⊎◌, ℕ, List, ◌++◌, codes}
 use Rattle.rpki.specs.Times.{Moment, IsMoment}
 use Rattle.rpki_text.specs.MomentTexts.{IsMomentText}
+use Rattle.rpki_command.specs.declared.arguments.Format.{Format}
 use Rattle.rpki_command.specs.declared.arguments.Setting.{Setting}
-use Rattle.rpki_command.specs.declared.arguments.Setting.TheVariants.{Crl, Tal, At, MaxSize}
-use Rattle.rpki_command.specs.CommandLines.{IsNumberText, LinePart, list, locator, at_moment, max_size, lenient, json, all, no_names, help, IsPart, AreParts, RequestFields, setting_name, with_part, with_parts}
+use Rattle.rpki_command.specs.declared.arguments.Setting.TheVariants.{Crl, Tal, At, MaxSize, Output, ShortOutput}
+use Rattle.rpki_command.specs.CommandLines.{IsFormatName, IsNumberText, LinePart, list, locator, at_moment, max_size, output, lenient, json, quiet, all, no_names, help, IsPart, AreParts, RequestFields, setting_name, with_part, with_parts}
 
 -- the words are a part, and the new request has what it says too
 abbrev pub AddsPart : List (List ℕ) → RequestFields → RequestFields → Type 0
@@ -35,6 +36,8 @@ IsSetPart Crl value part = part ≡ list value
 IsSetPart Tal value part = part ≡ locator value
 IsSetPart At value part = (m : Moment) × (part ≡ at_moment m) × IsMoment m × IsMomentText m value
 IsSetPart MaxSize value part = (n : ℕ) × (part ≡ max_size n) × IsNumberText n value
+IsSetPart Output value part = (f : Format) × (part ≡ output f) × IsFormatName f value
+IsSetPart ShortOutput value part = (f : Format) × (part ≡ output f) × IsFormatName f value
 
 -- the new request has what the option with this value says too
 abbrev pub AddsSet : Setting → List ℕ → RequestFields → RequestFields → Type 0
@@ -46,6 +49,7 @@ AddsSet setting value old new = (part : LinePart) × IsSetPart setting value par
 abbrev pub IsSwitch : LinePart → List ℕ → Type 0
 IsSwitch lenient word = word ≡ codes "--lenient"
 IsSwitch json word = (word ≡ codes "--json") ⊎ (word ≡ codes "-j")
+IsSwitch quiet word = (word ≡ codes "--quiet") ⊎ (word ≡ codes "-q")
 IsSwitch all word = word ≡ codes "--all"
 IsSwitch no_names word = word ≡ codes "--no-names"
 IsSwitch help word = (word ≡ codes "--help") ⊎ (word ≡ codes "-h")

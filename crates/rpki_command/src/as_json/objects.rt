@@ -1,17 +1,14 @@
 //! Objects of JSON.
-ghost use Rattle.std.specs.Prelude.{◌≡◌, [], ℕ, List, false, Some, IfOk, OnOk, string_bytes};
+ghost use Rattle.std.specs.Prelude.{◌≡◌, [], ℕ, List, Some, IfOk, OnOk};
 ghost use Rattle.sha2.specs.Sha256.{sha256};
 ghost use Rattle.serde_json.specs.Data.{object, string};
 ghost use Rattle.serde_json.specs.View.{view, members_view};
-ghost use Rattle.serde_json.specs.Written.{has_float};
 ghost use Rattle.rpki.specs.NameTexts.{name_text};
 ghost use Rattle.rpki.specs.Texts.{serial_text};
-ghost use Rattle.rpki_command.specs.JsonTexts.{json_lines};
 ghost use Rattle.rpki_command.specs.JsonValues.{Puts, member_of, moment_json, object_with, text_member};
 ghost use Rattle.rpki_text.specs.Pages.{Appends, characters_text, colons_text};
 ghost use Rattle.rpki.specs.Digits.{base64_of};
 
-use crate::as_json::ascii::ended_ascii;
 use base64::engine::general_purpose::STANDARD;
 use rpki::crypto::KeyIdentifier;
 use rpki::repository::x509::{Name, Serial, Time};
@@ -31,7 +28,6 @@ pub struct Members {
 impl Model for Members {
     ghost use Rattle.std.specs.Coded.{codes};
     ghost use Rattle.serde_json.specs.contracts.value.Value as value_row;
-    ghost use Rattle.rpki_command.specs.JsonTexts.{json_lines};
     ghost use Rattle.rpki_command.specs.JsonValues.{Entries};
 
     ghost coded = { Prim.hlevel (codes, value_row.the_row.coded) };
@@ -157,13 +153,4 @@ pub fn object_of(alloc: Global, key: &str, value: Value) -> Result<Value, AllocE
     let mut out = Members::new(alloc);
     out.value(key, value)?;
     Ok(out.into_value())
-}
-
-/// Writes a value on lines of its own, in ASCII.
-pub fn lines_of(alloc: Global, value: &Value) -> Result<String, AllocError>
-    ensures { has_float (view value.now) ≡ false
-        → IfOk result (λ text. string_bytes text ≡ json_lines (view value.now)) }
-{
-    let text = value.to_string_pretty(alloc)?;
-    ended_ascii(alloc, text.as_str())
 }

@@ -1,4 +1,4 @@
-use Rattle.std.proofs.Common.{◌++◌, ◌∷◌, [], ℕ, List, refl}
+use Rattle.std.proofs.Common.{◌++◌, ◌∷◌, [], ℕ, List, inl, inr, refl}
 use Rattle.rpki_command.specs.declared.arguments.Setting.TheVariants.{Crl, Tal}
 use Rattle.rpki_command.specs.CommandLines.{list, locator, at_moment, max_size}
 use Rattle.rpki_command.specs.CommandLines.Views.{fields_of}
@@ -27,3 +27,10 @@ pub returns-in-Some-number_of-clause-added : goal.returns-in-Some-number_of-clau
 returns-in-Some-number_of-clause-added c =
     let n = c.in-Some-number_of.size in
     rw c.in-MaxSize.is (max_size n, (n, refl, c.in-Some-number_of.ensures), refl)
+
+pub returns-in-Output-clause-unknown : goal.returns-in-Output-clause-unknown
+returns-in-Output-clause-unknown c =
+    elim c.in-Output.is [
+      | inl is ↦ rw is c.add_format.ensures.unknown
+      | inr is ↦ rw is c.add_format.ensures.unknown
+    ]

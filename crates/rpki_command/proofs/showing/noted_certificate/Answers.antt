@@ -3,8 +3,8 @@ use Rattle.rpki_command.specs.ShownTexts.{IsCertificateFileText, certificate_fil
 use Rattle.rpki_command.proofs.AppendedTexts.{such_appended}
 use Rattle.rpki_command.proofs.showing.noted_certificate.Goals as goal
 
-pub returns-else-options-clause-text : goal.returns-else-options-clause-text
-returns-else-options-clause-text c = λ lines begins notes_are.
+pub returns : goal.returns
+returns c = λ begins notes_are.
     let file = c.args.object.now in
     let o = c.args.options.now in
     let printed = c.print_certificate.ensures in

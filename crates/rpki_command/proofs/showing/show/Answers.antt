@@ -1,5 +1,4 @@
 use Rattle.std.proofs.Common.{inl, inr, refl}
-use Rattle.rpki_command.specs.JsonAnswers.{IsCertificateFileJson, IsFileJson, IsListFileJson}
 use Rattle.rpki_command.specs.ShownTexts.{IsCertificateFileText, IsListFileText, IsFileText}
 use Rattle.rpki_command.proofs.ShownFiles.{some_weaker}
 use Rattle.rpki_command.proofs.showing.show.Goals as goal
@@ -13,8 +12,7 @@ returns-in-Certificate c =
     let is = rw c.in-Certificate.is at c.content.ensures in
     record {
       shows = ((λ yes. inl (inl (c.in-Certificate.cert, (is.0.0, is.0.1)))), (λ shown. refl));
-      text = λ lines. some_weaker (IsCertificateFileText o file) (IsFileText o file) old new (λ text its. inl its) (c.whole_certificate.ensures.text lines is.0);
-      json = λ json. some_weaker (IsCertificateFileJson o file) (IsFileJson o file) old new (λ text its. inl its) (c.whole_certificate.ensures.json json is.0);
+      text = some_weaker (IsCertificateFileText o file) (IsFileText o file) old new (λ text its. inl its) (c.whole_certificate.ensures is.0);
     }
 
 pub returns-in-List : goal.returns-in-List
@@ -26,8 +24,7 @@ returns-in-List c =
     let is = rw c.in-List.is at c.content.ensures in
     record {
       shows = ((λ yes. inl (inr (c.in-List.it.list, (is.0.0, is.0.1)))), (λ shown. refl));
-      text = λ lines. some_weaker (IsListFileText o file) (IsFileText o file) old new (λ text its. inr (inl its)) (c.whole_list.ensures.text lines is.0);
-      json = λ json. some_weaker (IsListFileJson file) (IsFileJson o file) old new (λ text its. inr (inl its)) (c.whole_list.ensures.json json is.0);
+      text = some_weaker (IsListFileText o file) (IsFileText o file) old new (λ text its. inr (inl its)) (c.whole_list.ensures is.0);
     }
 
 pub show_other-requires-clause-fault : goal.show_other-requires-clause-fault

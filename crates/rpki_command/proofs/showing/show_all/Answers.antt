@@ -2,7 +2,6 @@ use Rattle.std.specs.Prelude.{All, IsTrue}
 use Rattle.std.proofs.Common.{rules, ◌≡◌, ◌↔◌, ◌&&◌, ◌∷◌, List, refl, sym, subst}
 use Rattle.rpki_files.specs.Contents.{CanBeShown}
 use Rattle.rpki_files.specs.Files.{FileFields, contents}
-use Rattle.rpki_command.specs.JsonAnswers.{AreFilesJson, IsFileJson}
 use Rattle.rpki_text.specs.Pages.{AppendsSome}
 use Rattle.rpki_command.specs.ShownTexts.{IsFileText, IsFurtherText, IsTextOfFiles}
 use Rattle.rpki_command.specs.VerdictTexts.{SaysOfEach}
@@ -21,7 +20,7 @@ returns-clause-shows c =
     subst (λ (files : List FileFields). IsTrue (are_more && is_first) ↔ All Shows (contents files)) (sym parts) (flag_of_first Shows first.octets (contents more) is_first are_more c.in_ok-is_first.ensures.shows c.in_ok-are_more.ensures.shows)
 
 pub returns-clause-text : goal.returns-clause-text
-returns-clause-text c = λ lines.
+returns-clause-text c =
     let o = c.args.options.now in
     let first = c.in-Some.first.now in
     let more = c.in-Some.more.now in
@@ -30,16 +29,4 @@ returns-clause-text c = λ lines.
     let mid = c.show.new.page in
     let new = c.show_more.new.page in
     subst (λ (files : List FileFields). AppendsSome (IsTextOfFiles o files) old new) (sym parts)
-    (both_appended (IsFileText o first) (SaysOfEach (IsFurtherText o) more) (IsTextOfFiles o (first ∷ more)) old mid new (λ a b its others. (a, b, its, others, refl)) (c.in_ok-is_first.ensures.text lines) (c.in_ok-are_more.ensures.text lines))
-
-pub returns-clause-json : goal.returns-clause-json
-returns-clause-json c = λ json.
-    let o = c.args.options.now in
-    let first = c.in-Some.first.now in
-    let more = c.in-Some.more.now in
-    let parts : c.args.objects.now ≡ first ∷ more = search rules in
-    let old = c.args.page.now in
-    let mid = c.show.new.page in
-    let new = c.show_more.new.page in
-    subst (λ (files : List FileFields). AppendsSome (AreFilesJson o files) old new) (sym parts)
-    (both_appended (IsFileJson o first) (SaysOfEach (IsFileJson o) more) (AreFilesJson o (first ∷ more)) old mid new (λ a b its others. (a, b, its, others, refl)) (c.in_ok-is_first.ensures.json json) (c.in_ok-are_more.ensures.json json))
+    (both_appended (IsFileText o first) (SaysOfEach (IsFurtherText o) more) (IsTextOfFiles o (first ∷ more)) old mid new (λ a b its others. (a, b, its, others, refl)) (c.in_ok-is_first.ensures.text) (c.in_ok-are_more.ensures.text))

@@ -1,27 +1,18 @@
-use Rattle.std.specs.Prelude.{Option}
-use Rattle.std.proofs.Common.{◌≡◌, ◌++◌, ℕ, List, refl, ap, subst}
+use Rattle.std.proofs.Common.{◌≡◌, ◌++◌, ℕ, List, refl, ap}
 use Rattle.std.proofs.lemmas.Result.{on_ok_weaker}
-use Rattle.rpki_text.specs.Pages.{AppendsSome, line_feed}
-use Rattle.rpki_command.specs.JsonAnswers.{IsFileJson}
+use Rattle.rpki_text.specs.Pages.{line_feed}
 use Rattle.rpki_command.specs.ShownTexts.{IsFileText, IsFurtherText}
 use Rattle.rpki_command.proofs.AppendedTexts.{such_appended, both_appended}
 use Rattle.rpki_command.proofs.showing.show_further.Goals as goal
 
 pub returns-clause-text : goal.returns-clause-text
-returns-clause-text c = λ lines.
+returns-clause-text c =
     let o = c.args.options.now in
     let file = c.args.object.now in
     let old = c.args.page.now in
-    let mid = c.gap.new.page in
+    let mid = c.end.new.self in
     let IsGap : List ℕ → Type 0 = λ text. text ≡ line_feed in
-    let gap = such_appended IsGap old mid line_feed refl (c.gap.ensures.text lines) in
+    let gap = such_appended IsGap old mid line_feed refl c.end.ensures in
     on_ok_weaker c.show.result
     (λ its. both_appended IsGap (IsFileText o file) (IsFurtherText o file) old mid c.show.new.page (λ a b is text. (b, text, ap (λ (l : List ℕ). l ++ b) is)) gap its)
-    (c.show.ensures.text lines)
-
-pub returns-clause-json : goal.returns-clause-json
-returns-clause-json c = λ json.
-    let IsIts = IsFileJson c.args.options.now c.args.object.now in
-    on_ok_weaker c.show.result
-    (λ its. subst (λ (page : Option (List ℕ)). AppendsSome IsIts page c.show.new.page) (c.gap.ensures.json json) its)
-    (c.show.ensures.json json)
+    c.show.ensures.text

@@ -1,6 +1,5 @@
 use Rattle.rpki_files.specs.Contents.{CanBeShown}
 use Rattle.rpki_files.specs.Files.{contents}
-use Rattle.rpki_command.specs.JsonAnswers.{IsFileJson}
 use Rattle.rpki_command.specs.ShownTexts.{IsFurtherText}
 use Rattle.rpki_command.proofs.AppendedTexts.{each_more, each_said}
 use Rattle.rpki_command.proofs.FlaggedItems.{flag_of_more, flag_of_all}
@@ -18,10 +17,8 @@ loop-object-preserved c =
     let Shows = CanBeShown c.args.options.now.strict in
     record {
       shows = flag_of_more Shows (contents objects) i file.octets (mapped_low (λ file. file.octets) objects i low) (mapped_there (λ file. file.octets) objects i file low c.object-item.is) l.can_be_shown c.in_ok-shows.shows l.invariant.shows here.shows;
-      text = λ lines.
-          each_more (IsFurtherText c.args.options.now) objects i file c.args.page.now l.page c.show_further.new.page low c.object-item.is (l.invariant.text lines) (here.text lines);
-      json = λ json.
-          each_more (IsFileJson c.args.options.now) objects i file c.args.page.now l.page c.show_further.new.page low c.object-item.is (l.invariant.json json) (here.json json);
+      text =
+          each_more (IsFurtherText c.args.options.now) objects i file c.args.page.now l.page c.show_further.new.page low c.object-item.is l.invariant.text here.text;
     }
 
 pub returns-clause-shows : goal.returns-clause-shows
@@ -31,11 +28,6 @@ returns-clause-shows c =
     flag_of_all (CanBeShown c.args.options.now.strict) (contents objects) l.object-index (mapped_high (λ file. file.octets) objects l.object-index c.loop-object-test.false) l.can_be_shown l.invariant.shows
 
 pub returns-clause-text : goal.returns-clause-text
-returns-clause-text c = λ lines.
+returns-clause-text c =
     let l = c.loop-object in
-    each_said (IsFurtherText c.args.options.now) c.args.objects.now l.object-index c.args.page.now l.page c.loop-object-test.false (l.invariant.text lines)
-
-pub returns-clause-json : goal.returns-clause-json
-returns-clause-json c = λ json.
-    let l = c.loop-object in
-    each_said (IsFileJson c.args.options.now) c.args.objects.now l.object-index c.args.page.now l.page c.loop-object-test.false (l.invariant.json json)
+    each_said (IsFurtherText c.args.options.now) c.args.objects.now l.object-index c.args.page.now l.page c.loop-object-test.false l.invariant.text

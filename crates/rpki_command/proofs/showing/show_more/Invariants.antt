@@ -1,8 +1,7 @@
-use Rattle.std.specs.Prelude.{All, IsFalse, IsTrue}
+use Rattle.std.specs.Prelude.{All, IsTrue}
 use Rattle.std.proofs.Common.{◌↔◌, take}
 use Rattle.rpki_files.specs.Contents.{CanBeShown}
 use Rattle.rpki_files.specs.Files.{contents}
-use Rattle.rpki_command.specs.JsonAnswers.{IsFileJson}
 use Rattle.rpki_text.specs.Pages.{AppendsSome}
 use Rattle.rpki_command.specs.ShownTexts.{IsFurtherText}
 use Rattle.rpki_command.specs.VerdictTexts.{SaysOfEach}
@@ -11,6 +10,5 @@ use Rattle.rpki_command.proofs.showing.show_more.Given as goal
 abbrev pub invariant-loop-object : goal.invariant-loop-object
 invariant-loop-object l = record {
   shows : IsTrue l.can_be_shown ↔ All (CanBeShown l.options.strict) (take l.object-index (contents l.objects));
-  text : IsFalse l.options.json → AppendsSome (SaysOfEach (IsFurtherText l.options) (take l.object-index l.objects)) l.fn.page l.page;
-  json : IsTrue l.options.json → AppendsSome (SaysOfEach (IsFileJson l.options) (take l.object-index l.objects)) l.fn.page l.page;
+  text : AppendsSome (SaysOfEach (IsFurtherText l.options) (take l.object-index l.objects)) l.fn.page l.page;
 }

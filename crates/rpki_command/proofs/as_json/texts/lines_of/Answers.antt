@@ -4,7 +4,7 @@ use Rattle.json.specs.Layout.{pretty}
 use Rattle.serde_json.proofs.Texts.{tokens_from_order}
 use Rattle.rpki_command.specs.JsonTexts.{in_ascii, json_lines}
 use Rattle.rpki_text.specs.Pages.{line_feed}
-use Rattle.rpki_command.proofs.as_json.objects.lines_of.Goals as goal
+use Rattle.rpki_command.proofs.as_json.texts.lines_of.Goals as goal
 
 pub returns : goal.returns
 unfolding json_lines
