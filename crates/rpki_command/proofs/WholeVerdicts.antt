@@ -1,5 +1,6 @@
 -- The value of a verdict has no floats.
 use Rattle.std.specs.List.{AllByRecursion, flat_map}
+use Rattle.std.specs.Option.{option_map}
 use Rattle.std.specs.Prelude.{Option, Some, None, Result, Ok, Err}
 use Rattle.std.proofs.Common.{◌==◌, if◌then◌else◌, ℕ, Bool, true, false, List, [], ◌∷◌, ◌++◌, inl, inr, refl, subst, sym}
 use Rattle.serde_json.specs.Data.{Data, string}
@@ -10,7 +11,9 @@ use Rattle.rpki_verdicts.specs.PathFiles.{QuestionFields}
 use Rattle.rpki.specs.Certificates.{CertFields}
 use Rattle.rpki.specs.Locators.{NamedTal}
 use Rattle.rpki.specs.TalError.{TalError}
+use Rattle.rpki.specs.Times.{Moment}
 use Rattle.rpki.specs.Verification.{ResourceFields}
+use Rattle.rpki_command.specs.JsonDetails.{cause_members, details_members, member_details, order_member}
 use Rattle.rpki_command.specs.JsonValues.{Pair}
 use Rattle.rpki_command.specs.JsonVerdicts.{AreAcceptedMembers, AreAnswerMembers, IsLeftItem, IsNoteItem, IsOtherItem, left_items, left_json, names_json, note_items, fault_json, no_list_json, no_locator_items, no_locator_json, router_json, verdict_json, IsVerdictJson}
 use Rattle.rpki_notes.specs.declared.note.Note.{Note}
@@ -18,6 +21,9 @@ use Rattle.rpki_text.specs.declared.keys.KeyAnswer.{KeyAnswer}
 use Rattle.rpki_command.specs.VerdictTexts.{SaysOfEach}
 use Rattle.rpki_verdicts.specs.declared.path.Fault.{Fault}
 use Rattle.rpki_verdicts.specs.declared.path.Verdict.TheVariants.{Accepted, Rejected}
+use Rattle.rpki_command.specs.declared.details.Cause.{Cause}
+use Rattle.rpki_command.specs.declared.details.Cause.TheVariants.{NoList, OtherKey, NotYetValid, Expired, Other}
+use Rattle.rpki_command.specs.declared.details.Details.{Details}
 use Rattle.rpki_command.specs.declared.verdicts.Finding.{Finding}
 use Rattle.rpki_command.specs.declared.verdicts.Finding.TheVariants.{NotALocator, NotAList, Decided}
 use Rattle.rpki_command.proofs.WholeFiles.{held_whole, key_whole, listed_whole, notes_whole}
@@ -72,10 +78,30 @@ items_whole items are = are
 
 -- ---- the answer
 
-fault_whole : (members : List FileFields) (fault : Fault) → IsWhole (fault_json members fault)
+-- what is told beside a rule
+cause_whole : (cause : Cause) (asked : Moment) (c : CertFields) (above : Option CertFields) → AreWhole (cause_members cause asked c above)
+cause_whole NoList asked c above = both_whole _ _ (text_if_any_whole _ _) (text_if_any_whole _ _)
+cause_whole OtherKey asked c above = both_whole _ _ (text_if_any_whole _ _) (text_if_any_whole _ _)
+cause_whole NotYetValid asked c above = then_whole _ _ _ (integer_whole _) (then_whole _ _ _ (integer_whole _) none_whole)
+cause_whole Expired asked c above = then_whole _ _ _ (integer_whole _) (then_whole _ _ _ (integer_whole _) none_whole)
+cause_whole Other asked c above = none_whole
+
+member_whole : (cause : Cause) (asked : Moment) (member above : Option CertFields) → AreWhole (member_details cause asked member above)
+member_whole cause asked None above = none_whole
+member_whole cause asked (Some c) above = cause_whole cause asked c above
+
+order_whole : (is_turned : Bool) → AreWhole (order_member is_turned)
+order_whole true = then_whole _ _ _ refl none_whole
+order_whole false = none_whole
+
+details_whole : (d : Details) → AreWhole (details_members d)
+details_whole d =
+    both_whole _ _ (member_whole d.cause d.moment (option_map (λ c. c.now) d.member) (option_map (λ c. c.now) d.above)) (order_whole d.is_turned)
+
+fault_whole : (members : List FileFields) (fault : Fault) (details : Details) → IsWhole (fault_json members fault details)
 unfolding fault_json
-fault_whole members fault =
-    object_whole _ (then_whole _ _ _ refl (both_whole _ _ (text_if_any_whole _ _) (then_whole _ _ _ refl (then_whole _ _ _ refl (then_whole _ _ _ refl (then_whole _ _ _ refl none_whole))))))
+fault_whole members fault details =
+    object_whole _ (then_whole _ _ _ refl (both_whole _ _ (text_if_any_whole _ _) (then_whole _ _ _ refl (then_whole _ _ _ refl (then_whole _ _ _ refl (then_whole _ _ _ refl (both_whole _ _ (details_whole details) none_whole)))))))
 
 no_locator_whole : (fault : Fault) → IsWhole (no_locator_json fault)
 unfolding no_locator_json
@@ -100,7 +126,8 @@ answer_whole question NotAList pairs is = subst AreWhole (sym is) (then_whole _ 
 answer_whole question (Decided None) pairs is = subst AreWhole (sym is) (then_whole _ _ _ refl none_whole)
 answer_whole question (Decided (Some (Accepted j))) pairs is =
     subst AreWhole (sym is.pairs_are) (both_whole _ _ (text_if_any_whole _ _) (accepted_whole j.holder j.router is.held is.held_are))
-answer_whole question (Decided (Some (Rejected fault))) pairs is = subst AreWhole (sym is) (then_whole _ _ _ refl (then_whole _ _ _ (fault_whole question.members fault) none_whole))
+answer_whole question (Decided (Some (Rejected fault))) pairs is =
+    subst AreWhole (sym is.2) (then_whole _ _ _ refl (then_whole _ _ _ (subst IsWhole (sym is.1.value_is) (fault_whole question.members fault is.1.details)) none_whole))
 
 -- of the locators that are none
 no_locator_names_whole : (name : List ℕ) (read : Result NamedTal TalError) → AllWhole (no_locator_items name read)

@@ -15,6 +15,7 @@ use Rattle.rpki_files.specs.Files.{FileFields}
 use Rattle.rpki_verdicts.specs.GivenLocators.{LocatorFields}
 use Rattle.rpki_verdicts.specs.PathFiles.{QuestionFields, IsAnchorLocator}
 use Rattle.rpki_command.specs.JsonBlocks.{held_items, listed_items}
+use Rattle.rpki_command.specs.JsonDetails.{details_members}
 use Rattle.rpki_command.specs.JsonKeys.{key_json}
 use Rattle.rpki_command.specs.JsonNotes.{notes_json}
 use Rattle.rpki_command.specs.JsonTexts.{value_text}
@@ -24,8 +25,10 @@ use Rattle.rpki_text.specs.KeyTexts.{IsKeyAnswer}
 use Rattle.rpki_text.specs.Pages.{colons_text}
 use Rattle.rpki_text.specs.declared.keys.KeyAnswer.{KeyAnswer}
 use Rattle.rpki_command.specs.JsonValues.{Entries, Pair, Puts, Pushes, flattened, count_json, array_of, member_of, moment_json, text_member, text_member_if_any, object_of, rule_members}
+use Rattle.rpki_command.specs.RejectionDetails.{AreDetails}
 use Rattle.rpki_command.specs.VerdictTexts.{IsFinding, Leaves, SaysOfEach, file_name_at}
 use Rattle.rpki_command.specs.declared.arguments.Format.{Format}
+use Rattle.rpki_command.specs.declared.details.Details.{Details}
 use Rattle.rpki_command.specs.declared.verdicts.Finding.{Finding}
 use Rattle.rpki_command.specs.declared.verdicts.Finding.TheVariants.{NotALocator, NotAList, Decided}
 use Rattle.rpki_verdicts.specs.declared.path.Fault.{Fault}
@@ -100,15 +103,23 @@ PushesSome Holds old new = (items : List Data) × Holds items × Pushes items ol
 
 -- ---- the answer
 
--- a fault: its member, that member's file, the step, the fault's name, and its rule
-unfoldable pub fault_json : List FileFields → Fault → Data
-fault_json members fault = object_of (flattened (
+-- a fault: its member, that member's file, the step, the fault's name, its rule, and what is told
+-- beside that
+unfoldable pub fault_json : List FileFields → Fault → Details → Data
+fault_json members fault details = object_of (flattened (
     member_of (codes "member") (count_json fault.index)
     ∷ text_member_if_any (codes "file") (file_name_at members fault.index)
     ∷ text_member (codes "step") fault.step.now
     ∷ text_member (codes "fault") fault.name.now
     ∷ rule_members fault.rule
+    ∷ details_members details
     ∷ []))
+
+-- the value of a fault
+pub record IsFaultJson (question : QuestionFields) (fault : Fault) (value : Data) : Type 0 where
+  pub details : Details
+  pub details_are : AreDetails question fault details
+  pub value_is : value ≡ fault_json question.members fault details
 
 -- that the path is accepted, and what its last member holds
 abbrev pub accepted_members : ResourceFields → List Pair
@@ -163,6 +174,10 @@ rejected_members why = flattened (
     ∷ member_of (codes "rejected") why
     ∷ [])
 
+-- that it is rejected for a fault
+abbrev pub AreRejection : QuestionFields → Fault → List Pair → Type 0
+AreRejection question fault pairs = (why : Data) × IsFaultJson question fault why × (pairs ≡ rejected_members why)
+
 -- the trust anchor's locator, where it is found, and what is held
 pub record AreAcceptance (question : QuestionFields) (j : Judged) (pairs : List Pair) : Type 0 where
   pub found : Option LocatorFields
@@ -175,7 +190,7 @@ pub record AreAcceptance (question : QuestionFields) (j : Judged) (pairs : List 
 abbrev pub AreVerdictMembers : QuestionFields → Option Verdict → List Pair → Type 0
 AreVerdictMembers question None pairs = pairs ≡ member_of (codes "accepted") (boolean false)
 AreVerdictMembers question (Some (Accepted j)) pairs = AreAcceptance question j pairs
-AreVerdictMembers question (Some (Rejected fault)) pairs = pairs ≡ rejected_members (fault_json question.members fault)
+AreVerdictMembers question (Some (Rejected fault)) pairs = AreRejection question fault pairs
 
 abbrev pub AreAnswerMembers : QuestionFields → Finding → List Pair → Type 0
 AreAnswerMembers question (NotALocator fault) pairs = pairs ≡ rejected_members (no_locator_json fault)

@@ -2,6 +2,7 @@
 pub mod CommandLines
 pub mod MisuseTexts
 pub mod Outcomes
+pub mod RejectionDetails
 pub mod VerdictTexts
 pub mod NoteLines
 pub mod ShownTexts
@@ -11,6 +12,7 @@ pub mod JsonKeys
 pub mod JsonNotes
 pub mod JsonFiles
 pub mod JsonTexts
+pub mod JsonDetails
 pub mod JsonVerdicts
 pub mod JsonAnswers
 pub mod AnswerTexts

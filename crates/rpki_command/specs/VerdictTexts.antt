@@ -16,6 +16,7 @@ use Rattle.rpki.specs.Texts.{serial_text, time_text}
 use Rattle.rpki.specs.Times.{Moment}
 use Rattle.rpki.specs.Verification.{Context, ResourceFields}
 use Rattle.rpki_command.specs.NoteLines.{notes_lines}
+use Rattle.rpki_command.specs.RejectionDetails.{AreDetails, details_text}
 use Rattle.rpki_notes.specs.Notes.{AreNotes}
 use Rattle.rpki_notes.specs.declared.note.Note.{Note}
 use Rattle.rpki_text.specs.BlockLines.{as_numbers_text, blocks_lines, resources_lines}
@@ -30,6 +31,7 @@ use Rattle.rpki_text.specs.KeyTexts.{IsKeyAnswer, key_text}
 use Rattle.rpki_text.specs.Pages.{colons_text, line, count_text, file_name_text}
 use Rattle.rpki_verdicts.specs.PathAnswers.{IsAcceptance, IsNoLocator, IsVerdictBy}
 use Rattle.rpki_text.specs.declared.keys.KeyAnswer.{KeyAnswer}
+use Rattle.rpki_command.specs.declared.details.Details.{Details}
 use Rattle.rpki_command.specs.declared.verdicts.Finding.{Finding}
 use Rattle.rpki_command.specs.declared.verdicts.Finding.TheVariants.{NotALocator, NotAList, Decided}
 use Rattle.rpki_verdicts.specs.declared.path.Fault.{Fault}
@@ -221,6 +223,12 @@ rejected_text fault name = concat (
 abbrev pub file_name_at : List FileFields → ℕ → Option (List ℕ)
 file_name_at members place = option_map (λ file. file.name) (slice_get members place)
 
+-- the text of a rejected path: the fault, and what its reader needs beside its rule
+pub record IsRejectedText (question : QuestionFields) (fault : Fault) (text : List ℕ) : Type 0 where
+  pub details : Details
+  pub details_are : AreDetails question fault details
+  pub text_is : text ≡ rejected_text fault (file_name_at question.members fault.index) ++ details_text details
+
 -- ---- what is found
 
 -- some file given as a list is none, and nothing is judged
@@ -245,8 +253,7 @@ no_locator_text fault = concat (
 abbrev pub IsOutcomeText : QuestionFields → Option Verdict → List ℕ → Type 0
 IsOutcomeText question None text = text ≡ []
 IsOutcomeText question (Some (Accepted j)) text = IsAcceptanceText question j text
-IsOutcomeText question (Some (Rejected fault)) text =
-    text ≡ rejected_text fault (file_name_at question.members fault.index)
+IsOutcomeText question (Some (Rejected fault)) text = IsRejectedText question fault text
 
 -- the verdict on the path, which there is where there is a file
 abbrev pub IsDecision : Context → QuestionFields → Option Verdict → Type 0

@@ -9,6 +9,7 @@ ghost use Rattle.rpki_command.specs.JsonValues.{Puts, array_of, count_member_if_
 
 mod ascii;
 mod blocks;
+mod details;
 mod files;
 mod key;
 mod notes;

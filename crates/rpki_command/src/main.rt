@@ -11,6 +11,7 @@ ghost use Rattle.rpki_command.specs.Outcomes.{AsksOfFiles, MayEndWith, RunMayEnd
 mod answering;
 mod arguments;
 mod as_json;
+mod details;
 mod notes;
 pub mod outcome_laws;
 mod outcomes;

@@ -9,8 +9,9 @@ ghost use Rattle.rpki_command.specs.NoteLines.{notes_lines};
 ghost use Rattle.rpki_files.specs.Contents.{BeginsBefore};
 ghost use Rattle.rpki_files.specs.SaidKinds.{IsKindOf};
 ghost use Rattle.rpki_verdicts.specs.GivenLocators.{IsRead};
-ghost use Rattle.rpki_command.specs.VerdictTexts.{SaysOfEach, IsFindingText, IsLocatorText, IsMemberPart, IsListPart, IsOutcomeText, IsVerdictText, IsAcceptanceText, IsHeldText, IsMemberText, after_line, anchor_line, checks_text, file_name_at, holder_text, left_of_text, locator_part, locator_text, locators_text, member_text, moment_line, names_line, no_list_text, no_locator_text, other_text, place_text, read_locator_line, reason_text, rejected_text, revocation_text, router_text};
+ghost use Rattle.rpki_command.specs.VerdictTexts.{SaysOfEach, IsFindingText, IsLocatorText, IsMemberPart, IsListPart, IsOutcomeText, IsVerdictText, IsAcceptanceText, IsHeldText, IsMemberText, IsRejectedText, after_line, anchor_line, checks_text, file_name_at, holder_text, left_of_text, locator_part, locator_text, locators_text, member_text, moment_line, names_line, no_list_text, no_locator_text, other_text, place_text, read_locator_line, reason_text, rejected_text, revocation_text, router_text};
 
+use crate::details::details_of;
 use crate::notes::print_notes;
 use crate::verdicts::Finding;
 use rpki::crypto::KeyIdentifier;
@@ -421,7 +422,7 @@ fn print_fault(page: &mut Page, fault: &Fault, name: Option<&str>)
     page.line("Standard", fault.rule.section);
 }
 
-fn print_rejected(page: &mut Page, members: &[Object<'_>], fault: &Fault)
+fn print_named_fault(page: &mut Page, members: &[Object<'_>], fault: &Fault)
     ensures { let name = file_name_at members.now fault.now.index in
         Appends page.old (rejected_text fault.now name) page.new }
 {
@@ -429,6 +430,14 @@ fn print_rejected(page: &mut Page, members: &[Object<'_>], fault: &Fault)
         Some(object) => print_fault(page, fault, Some(object.name())),
         None => print_fault(page, fault, None),
     }
+}
+
+fn print_rejected(page: &mut Page, question: &Question<'_, '_>, fault: &Fault)
+    ensures { AppendsSome (IsRejectedText question.now fault.now) page.old page.new }
+{
+    let details = details_of(question, fault);
+    print_named_fault(page, question.members, fault);
+    page.value(&details);
 }
 
 // That a file given as a list is none.
@@ -469,7 +478,7 @@ fn print_outcome(page: &mut Page, question: &Question<'_, '_>, verdict: &Option<
 {
     match verdict {
         Some(Verdict::Accepted(judged)) => print_accepted(page, question, judged),
-        Some(Verdict::Rejected(fault)) => print_rejected(page, question.members, fault),
+        Some(Verdict::Rejected(fault)) => print_rejected(page, question, fault),
         None => {}
     }
 }

@@ -7,15 +7,17 @@ ghost use Rattle.rpki.specs.Lists.{IsCertificateList};
 ghost use Rattle.rpki_text.specs.KeyTexts.{IsKeyAnswer};
 ghost use Rattle.rpki_command.specs.JsonNotes.{notes_json};
 ghost use Rattle.rpki_command.specs.JsonValues.{Puts, Pushes, array_of, flattened, member_of, object_of, text_member, text_member_if_any};
-ghost use Rattle.rpki_command.specs.JsonVerdicts.{AreAcceptance, AreAcceptedMembers, AreAnswerMembers, AreVerdictMembers, IsLeftItem, IsNoteItem, IsOtherItem, IsVerdictJson, PushesSome, PutsSome, accepted_members, fault_json, has_lists, has_locators, left_items, left_json, names_json, no_list_json, no_locator_items, no_locator_json, no_locators_json, note_items, rejected_members, router_json, tal_members};
+ghost use Rattle.rpki_command.specs.JsonVerdicts.{AreAcceptance, AreAcceptedMembers, AreAnswerMembers, AreRejection, AreVerdictMembers, IsFaultJson, IsLeftItem, IsNoteItem, IsOtherItem, IsVerdictJson, PushesSome, PutsSome, accepted_members, fault_json, has_lists, has_locators, left_items, left_json, names_json, no_list_json, no_locator_items, no_locator_json, no_locators_json, note_items, rejected_members, router_json, tal_members};
 ghost use Rattle.rpki_verdicts.specs.GivenLocators.{IsRead};
 ghost use Rattle.rpki_command.specs.VerdictTexts.{SaysOfEach, file_name_at};
 
 use crate::as_json::blocks::{held, listed};
+use crate::as_json::details::put_details;
 use crate::as_json::key::facts;
 use crate::as_json::notes::notes_value;
 use crate::as_json::objects::Members;
 use crate::as_json::put_rule;
+use crate::details::{Details, details_of};
 use crate::verdict_lines::NO_LIST;
 use crate::verdicts::Finding;
 use rpki::repository::cert::{Cert, ResourceCert};
@@ -267,9 +269,14 @@ fn file_at(out: &mut Members, members: &[Object<'_>], index: usize) -> Result<()
     }
 }
 
-// A fault of a member.
-fn fault_of(alloc: Global, members: &[Object<'_>], fault: &Fault) -> Result<Value, AllocError>
-    ensures { IfOk result (λ made. view made ≡ fault_json members.now fault.now) }
+// A fault of a member, with what is told beside its rule.
+fn fault_of(
+    alloc: Global,
+    members: &[Object<'_>],
+    fault: &Fault,
+    details: &Details<'_>,
+) -> Result<Value, AllocError>
+    ensures { IfOk result (λ made. view made ≡ fault_json members.now fault.now details.now) }
 {
     let mut out = Members::new(alloc);
     out.value("member", Value::from(fault.index as u64))?;
@@ -277,7 +284,20 @@ fn fault_of(alloc: Global, members: &[Object<'_>], fault: &Fault) -> Result<Valu
     out.text("step", fault.step)?;
     out.text("fault", fault.name)?;
     put_rule(&mut out, fault.rule)?;
+    put_details(&mut out, details)?;
     Ok(out.into_value())
+}
+
+// Why a path is rejected.
+fn why_rejected(
+    alloc: Global,
+    question: &Question<'_, '_>,
+    fault: &Fault,
+) -> Result<Value, AllocError>
+    ensures { IfOk result (λ made. IsFaultJson question.now fault.now (view made)) }
+{
+    let details = details_of(question, fault);
+    fault_of(alloc, question.members, fault, &details)
 }
 
 fn put_holder(out: &mut Members, alloc: Global, holder: &ResourceCert) -> Result<(), AllocError>
@@ -392,6 +412,19 @@ fn put_rejected(out: &mut Members, why: Value) -> Result<(), AllocError>
     }
 }
 
+fn put_rejection(
+    out: &mut Members,
+    alloc: Global,
+    question: &Question<'_, '_>,
+    fault: &Fault,
+) -> Result<(), AllocError>
+    ensures { let Are = AreRejection question.now fault.now in
+        OnOk result (PutsSome Are out.old out.new) }
+{
+    let why = why_rejected(alloc, question, fault)?;
+    put_rejected(out, why)
+}
+
 // Whether the path is accepted, and what its last member holds or why it is rejected.
 fn put_verdict(
     out: &mut Members,
@@ -405,10 +438,7 @@ fn put_verdict(
 {
     match verdict {
         Some(Verdict::Accepted(judged)) => put_acceptance(out, alloc, question, judged),
-        Some(Verdict::Rejected(fault)) => {
-            let why = fault_of(alloc, question.members, fault)?;
-            put_rejected(out, why)
-        }
+        Some(Verdict::Rejected(fault)) => put_rejection(out, alloc, question, fault),
         None => out.value("accepted", Value::from(false)),
     }
 }

@@ -10,5 +10,6 @@ returns c =
     (then_put _ _ _ _ _ c.in_ok-file_at.ensures
     (then_put _ _ _ _ _ c.in_ok-text.ensures
     (then_put _ _ _ _ _ c.in_ok-text-2.ensures
-    (last_put _ _ _ c.in_ok-put_rule.ensures)))))
+    (then_put _ _ _ _ _ c.in_ok-put_rule.ensures
+    (last_put _ _ _ c.in_ok-put_details.ensures))))))
     c.into_value.ensures
