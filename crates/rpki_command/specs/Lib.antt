@@ -1,6 +1,7 @@
 -- The definitions that the contracts of the command cite.
 pub mod CommandLines
 pub mod MisuseTexts
+pub mod AboutTexts
 pub mod Outcomes
 pub mod RejectionDetails
 pub mod VerdictTexts

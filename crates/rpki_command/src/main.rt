@@ -4,6 +4,7 @@
 
 ghost use Rattle.std.specs.Prelude.{◌≡◌, ◌≢◌, ◌≤◌, IfOk, IfSome, MatchOption, OnOk, string_bytes};
 ghost use Rattle.std.specs.Process.{exit_status};
+ghost use Rattle.rpki_command.specs.AboutTexts.{about_text};
 ghost use Rattle.rpki_command.specs.AnswerTexts.{MayAnswer};
 ghost use Rattle.rpki_command.specs.CommandLines.Views.{fields_of, word_octets};
 ghost use Rattle.rpki_command.specs.Outcomes.{AsksOfFiles, MayEndWith, RunMayEndWith};
@@ -48,7 +49,7 @@ MOMENT: YYYY-MM-DD, YYYY-MM-DDThh:mm:ssZ or YYYYMMDDhhmmss; the clock's, if it i
 Behind -- each word is a file.
 ";
 
-const VERSION: &str = "rpki 0.1\n";
+const VERSION: &str = "rpki (Gonxebhula) 0.1\n";
 
 fn clock(rt: &impl Clock) -> Result<Time> {
     let now = SystemTime::now(rt)?;
@@ -68,7 +69,8 @@ fn moment(rt: &impl Clock, at: Option<Time>) -> Result<Time>
 
 // The text about the command, where that is asked for and nothing of files.
 fn about(task: Task) -> Option<&'static str>
-    ensures { MatchOption result (AsksOfFiles task) (λ text. AsksOfFiles task → ⊥) }
+    ensures files { MatchOption result (AsksOfFiles task) (λ _. AsksOfFiles task → ⊥) }
+    ensures text { IfSome result (λ text. text.now ≡ about_text task) }
 {
     match task {
         Task::Help => Some(USAGE),

@@ -59,7 +59,7 @@ returns-in-Err c = c.in-Err.ensures.rejected c.in_ok-say-in-Err.ensures
 pub returns-in-Some : goal.returns-in-Some
 returns-in-Some c =
     let r = fields_of c.in-Ok.request in
-    (r, c.in-Ok.ensures.command_line, told r c.in-Some.ensures)
+    (r, c.in-Ok.ensures.command_line, told r c.in-Some.ensures.files)
 
 pub returns : goal.returns
 returns c = run_ends _ (fields_of c.in-Ok.request) c.answer.result c.in-Ok.ensures.command_line c.answer.ensures

@@ -1,0 +1,8 @@
+use Rattle.std.proofs.Common.{refl}
+use Rattle.rpki_command.proofs.about.Goals as goal
+
+pub returns-in-Help-clause-text : goal.returns-in-Help-clause-text
+returns-in-Help-clause-text c = rw c.in-Help.is refl
+
+pub returns-in-Version-clause-text : goal.returns-in-Version-clause-text
+returns-in-Version-clause-text c = rw c.in-Version.is refl

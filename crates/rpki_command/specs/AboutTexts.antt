@@ -1,0 +1,36 @@
+-- The texts about the command (own).
+use Rattle.std.specs.List.{concat}
+use Rattle.std.specs.Prelude.{ℕ, List, [], ◌∷◌, codes}
+use Rattle.rpki_command.specs.declared.arguments.Task.{Task}
+use Rattle.rpki_command.specs.declared.arguments.Task.TheVariants.{Show, Validate, Help, Version}
+
+-- how it is used
+abbrev pub usage_text : List ℕ
+usage_text = concat (
+    codes "usage: rpki show [--all] [OPTION].. FILE..\n"
+    ∷ codes "       rpki validate [--tal FILE].. [--crl FILE].. [--no-names] [OPTION].."
+    ∷ codes " ANCHOR [CA].. [LAST]\n"
+    ∷ codes "       rpki help | --version\n"
+    ∷ codes "OPTION: -o|--output FORMAT, -j|--json (-o json), -q|--quiet (the status alone),"
+    ∷ codes " --at MOMENT,\n"
+    ∷ codes "--lenient, or --max-size OCTETS (of a file; 67108864 if it is left out)\n"
+    ∷ codes "FORMAT: text, json, or jsonl (a value on each line)\n"
+    ∷ codes "FILE: a certificate or a revocation list, in DER or PEM; of show and --tal also a"
+    ∷ codes " trust anchor's\n"
+    ∷ codes "locator; - for standard input\n"
+    ∷ codes "LAST: a CA, an end entity or a router\n"
+    ∷ codes "MOMENT: YYYY-MM-DD, YYYY-MM-DDThh:mm:ssZ or YYYYMMDDhhmmss; the clock's, if it is"
+    ∷ codes " left out\n"
+    ∷ codes "Behind -- each word is a file.\n"
+    ∷ [])
+
+-- its version, with the name of the package, which isn't that of the Rust crate
+abbrev pub version_text : List ℕ
+version_text = codes "rpki (Gonxebhula) 0.1\n"
+
+-- what is printed where nothing is asked of files
+abbrev pub about_text : Task → List ℕ
+about_text Show = []
+about_text Validate = []
+about_text Help = usage_text
+about_text Version = version_text
