@@ -67,8 +67,9 @@ install-lib:
 	$(INSTALL) -m 644 $(library)/librpki.a "$(DESTDIR)$(LIBDIR)/librpki.a"
 	$(INSTALL) -m 755 $(library)/librpki.so "$(DESTDIR)$(LIBDIR)/librpki.so.$$($(abi))"
 	ln -sf "librpki.so.$$($(abi))" "$(DESTDIR)$(LIBDIR)/librpki.so"
-	version=$$(./rpki --version) && { printf '%s\n' "prefix=$(PREFIX)" "libdir=$(LIBDIR)" \
-	    "includedir=$(INCLUDEDIR)" && sed "s|@version@|$${version#rpki }|" callers/c/rpki.pc.in; } \
+	version=$$(./rpki --version) && version=$$(printf '%s\n' "$$version" | sed -n '1s/.* //p') && \
+	    { printf '%s\n' "prefix=$(PREFIX)" "libdir=$(LIBDIR)" \
+	    "includedir=$(INCLUDEDIR)" && sed "s|@version@|$$version|" callers/c/rpki.pc.in; } \
 	    > "$(DESTDIR)$(PKGCONFIGDIR)/rpki.pc"
 	chmod 644 "$(DESTDIR)$(PKGCONFIGDIR)/rpki.pc"
 	$(INSTALL) -d "$(DESTDIR)$(MANDIR)/man3"
