@@ -1,11 +1,10 @@
 //! Extensions that are added to a certificate's.
-ghost use Rattle.std.specs.Prelude.{◌≡◌, ◌↔◌, IsTrue, bytes_eq};
-ghost use Rattle.std.specs.List.{list_any};
-ghost use Rattle.rpki_ext.specs.ExtensionKinds.{known};
+ghost use Rattle.std.specs.Prelude.{◌↔◌, IsTrue};
 ghost use Rattle.rpki_cert.specs.Rearranging.{ArePlaced, AreUnknown};
 
 use bytes::Bytes;
-use rpki_der::{Oid, oid};
+use rpki_der::Oid;
+use rpki_ext::is_known;
 
 /// An extension that is added to those of a certificate, without the critical flag (RFC 5280 4.1).
 #[derive(Drop)]
@@ -17,37 +16,6 @@ pub struct Extra {
     pub oid: Oid,
     /// The content of its OCTET STRING.
     pub value: Bytes,
-}
-
-// The identifiers of the kinds that readers of certificates know (RFC 6487 4.8, RFC 8360 4.2).
-const KNOWN: [&[u8]; 13] = [
-    oid::CE_BASIC_CONSTRAINTS,
-    oid::CE_SUBJECT_KEY_IDENTIFIER,
-    oid::CE_AUTHORITY_KEY_IDENTIFIER,
-    oid::CE_KEY_USAGE,
-    oid::CE_EXTENDED_KEY_USAGE,
-    oid::CE_CRL_DISTRIBUTION_POINTS,
-    oid::PE_AUTHORITY_INFO_ACCESS,
-    oid::PE_SUBJECT_INFO_ACCESS,
-    oid::CE_CERTIFICATE_POLICIES,
-    oid::PE_IP_ADDR_BLOCK,
-    oid::PE_IP_ADDR_BLOCK_V2,
-    oid::PE_AUTONOMOUS_SYS_IDS,
-    oid::PE_AUTONOMOUS_SYS_IDS_V2,
-];
-
-// Whether the identifier is one of these.
-fn is_one_of(identifier: &[u8], ids: &[&[u8]]) -> bool
-    ensures { result ≡ list_any (λ id. bytes_eq identifier.now id.now) ids.now }
-{
-    ids.iter().any(|id| identifier == *id)
-}
-
-// Whether readers of certificates know the kind with this identifier.
-fn is_known(identifier: &[u8]) -> bool
-    ensures { result ≡ list_any (bytes_eq identifier.now) known }
-{
-    is_one_of(identifier, &KNOWN)
 }
 
 /// Returns whether readers know none of the kinds.

@@ -39,5 +39,6 @@ pub use key_identifiers::{
 };
 pub use key_usage::{KeyUsage, encode_key_usage, take_key_usage};
 pub use policies::{encode_certificate_policies, take_certificate_policies};
+pub use reading::is_known;
 pub use rpki_der::take_extension;
 pub use subject_access::{Sia, encode_subject_information_access, take_subject_information_access};

@@ -1,5 +1,6 @@
 //! The extensions of a certificate, in one pass, whatever order they stand in.
-ghost use Rattle.std.specs.Prelude.{◌≡◌, ◌⊎◌, true, false, OnOk, OnErr, IfErr, Some, unwrap_or};
+ghost use Rattle.std.specs.Prelude.{◌≡◌, ◌⊎◌, true, false, OnOk, OnErr, IfErr, Some, unwrap_or, bytes_eq};
+ghost use Rattle.std.specs.List.{list_any};
 ghost use Rattle.rpki_der.specs.Place.{remaining, MeansOrMemory, Rejects};
 ghost use Rattle.rpki_der.specs.Place.Reading.{ReturnsOrMemory, ReturnsOrMemoryBy};
 ghost use Rattle.rpki_der.specs.Extensions.{extension_format};
@@ -7,6 +8,7 @@ ghost use Rattle.rpki_der.specs.Extensions.Views.{extension_view};
 ghost use Rattle.rpki_der.specs.Folding.{over};
 ghost use Rattle.rpki_ext.specs.CertificateExtensions.{AreExtensions, no_access, wanted, HasFlag, field_of, all_kinds, state_of, is_seen, extensions_of};
 ghost use Rattle.rpki_ext.specs.CertificateExtensions.Views.{access_with};
+ghost use Rattle.rpki_ext.specs.ExtensionKinds.{known};
 
 use crate::extensions::{Extensions, Named, ReadExtensions};
 use crate::subject_access::Sia;
@@ -26,6 +28,14 @@ fn pass_over(alloc: Global, identifier: &[u8], critical: bool) -> Result<(), Dec
     }
     let identifier = Bytes::copy_from_slice(alloc, identifier)?;
     Err(DecodeError::UnexpectedCritical(Oid::new(identifier)?))
+}
+
+/// Returns whether readers of certificates know the kind of extension with this identifier (RFC 6487
+/// 4.8, RFC 8360 4.2).
+pub fn is_known(identifier: &[u8]) -> bool
+    ensures { result ≡ list_any (bytes_eq identifier.now) known }
+{
+    Named::of(identifier).is_some()
 }
 
 /// Whether an extension could be taken.

@@ -13,6 +13,7 @@ ghost use Rattle.rpki_notes.specs.Notes.{HaveExtensions, HaveOne};
 use bytes::Bytes;
 use rpki::der::{Cursor, take_extension};
 use rpki::oid;
+use rpki::repository::extension::is_known;
 use rpki_files::extensions_in;
 
 /// The kinds of extensions that are looked at.
@@ -37,23 +38,6 @@ const ADDRESSES: [&[u8]; 2] = [oid::PE_IP_ADDR_BLOCK, oid::PE_IP_ADDR_BLOCK_V2];
 // Those of AS resources (RFC 3779 3.2.1, RFC 8360 4.2.2.3).
 const SYSTEMS: [&[u8]; 2] = [oid::PE_AUTONOMOUS_SYS_IDS, oid::PE_AUTONOMOUS_SYS_IDS_V2];
 
-// Those of all kinds that certificates know (RFC 6487 4.8, RFC 8360 4.2).
-const KNOWN: [&[u8]; 13] = [
-    oid::CE_BASIC_CONSTRAINTS,
-    oid::CE_SUBJECT_KEY_IDENTIFIER,
-    oid::CE_AUTHORITY_KEY_IDENTIFIER,
-    oid::CE_KEY_USAGE,
-    oid::CE_EXTENDED_KEY_USAGE,
-    oid::CE_CRL_DISTRIBUTION_POINTS,
-    oid::PE_AUTHORITY_INFO_ACCESS,
-    oid::PE_SUBJECT_INFO_ACCESS,
-    oid::CE_CERTIFICATE_POLICIES,
-    oid::PE_IP_ADDR_BLOCK,
-    oid::PE_IP_ADDR_BLOCK_V2,
-    oid::PE_AUTONOMOUS_SYS_IDS,
-    oid::PE_AUTONOMOUS_SYS_IDS_V2,
-];
-
 // Whether the identifier is one of these.
 fn is_one_of(identifier: &[u8], ids: &[&[u8]]) -> bool
     ensures { result ≡ list_any (λ id. bytes_eq identifier.now id.now) ids.now }
@@ -69,7 +53,7 @@ impl Kinds {
         match self {
             Kinds::Addresses => is_one_of(identifier, &ADDRESSES),
             Kinds::Systems => is_one_of(identifier, &SYSTEMS),
-            Kinds::Known => is_one_of(identifier, &KNOWN),
+            Kinds::Known => is_known(identifier),
         }
     }
 }
