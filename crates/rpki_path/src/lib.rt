@@ -21,3 +21,4 @@ pub use names::{first_unchained, is_self_named, names_chain};
 pub use path_fault::{PathError, PathFault};
 pub use router::validate_router;
 pub use validating::{Leaf, validate_path, validate_path_with};
+pub use validator::{Role, Validator};

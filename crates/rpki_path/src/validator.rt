@@ -22,11 +22,15 @@ use rpki_revocation::RevocationSource;
 use std::alloc::Global;
 use std::rc::Rc;
 
-// What a member below the trust anchor is.
+/// What a member below the trust anchor is to be. (A router is none: of its certificate no numbers
+/// are held.)
 #[derive(Clone, Copy)]
-pub(crate) enum Role {
+pub enum Role {
+    /// A CA.
     Authority,
+    /// An end entity, which signs an object that its certificate names.
     EndEntity,
+    /// An end entity that signs any object.
     Detached,
 }
 
@@ -49,20 +53,30 @@ fn without<T: Drop, A>(_issuer: T, answer: A) -> A
     answer
 }
 
-/// Who validates: by this check of signatures, at this moment, in this mode, and asking this source
-/// for revocation.
+/// Who validates certificate by certificate: the steps of which [`crate::judge`] and the calls beside
+/// it make a path, for a caller who goes down many paths.
 #[derive(Drop)]
-pub(crate) struct Validator<'r, 'v, R, V> {
-    pub(crate) alloc: Global,
-    pub(crate) asked: &'r R,
-    pub(crate) strict: bool,
-    pub(crate) at: Time,
-    pub(crate) verifier: &'v V,
+pub struct Validator<'r, 'v, R, V> {
+    /// Where memory comes from.
+    pub alloc: Global,
+    /// Who is asked for revocation.
+    pub asked: &'r R,
+    /// Whether the stricter profile is asked for.
+    pub strict: bool,
+    /// The moment.
+    pub at: Time,
+    /// How signatures are verified.
+    pub verifier: &'v V,
 }
 
 impl<'r, 'v, R: RevocationSource, V: Verifier> Validator<'r, 'v, R, V> {
-    // The trust anchor of a path.
-    fn trust_anchor(&self, anchor: &Member<'_>, tal: Rc<TalInfo>) -> Result<ResourceCert, PathFault>
+    /// Validates the trust anchor of a path, and returns what it lists, with the locator's name. Errs
+    /// with what is wrong with it.
+    pub fn trust_anchor(
+        &self,
+        anchor: &Member<'_>,
+        tal: Rc<TalInfo>,
+    ) -> Result<ResourceCert, PathFault>
         ensures ok { let v = self.now in
             let x = context (V.verifies v.verifier.now) v.at v.strict in
             IfOk result (IsTrustAnchor x anchor.now (rc_value tal)) }
@@ -96,8 +110,9 @@ impl<'r, 'v, R: RevocationSource, V: Verifier> Validator<'r, 'v, R, V> {
         }
     }
 
-    // The member that stands below the issuer.
-    fn member(
+    /// Validates the member that stands below an issuer, which was validated before, and asks
+    /// whether it is revoked. Returns what it holds. Errs with the first check that isn't true.
+    pub fn member(
         &self,
         issuer: &ResourceCert,
         given: &Member<'_>,
@@ -215,12 +230,10 @@ impl<'r, 'v, R: RevocationSource, V: Verifier> Validator<'r, 'v, R, V> {
         Ok(())
     }
 
-    /// Validates the router's certificate that the member's octets begin with, below the issuer.
-    pub(crate) fn router(
-        &self,
-        given: &Member<'_>,
-        issuer: &ResourceCert,
-    ) -> Result<Cert, PathFault>
+    /// Validates the router's certificate that the member's octets begin with, below an issuer that
+    /// was validated before, and asks whether it is revoked (RFC 8209 3.3). Errs with the first check
+    /// that isn't true.
+    pub fn router(&self, given: &Member<'_>, issuer: &ResourceCert) -> Result<Cert, PathFault>
         ensures begins { IfOk result (λ c. Means IsCertificate c given.now) }
         ensures under { let v = self.now in
             let x = context (V.verifies v.verifier.now) v.at v.strict in

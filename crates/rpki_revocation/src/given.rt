@@ -60,8 +60,9 @@ fn is_for(list: &Crl, cert: &Cert) -> bool
     cert.as_tbs().authority_key_identifier() == Some(named)
 }
 
-// Whether the time of the list has begun.
-fn has_begun(list: &Crl, now: Time) -> bool
+/// Tells whether the time of the list has begun: its thisUpdate is neither after the moment nor after
+/// its own nextUpdate (RFC 5280 5.1.2.4, 5.1.2.5, 6.3.3).
+pub fn has_begun(list: &Crl, now: Time) -> bool
     ensures { IsTrue result ↔ HasBegun now list.now.list }
 {
     let made = list.as_cert_list().this_update();
@@ -115,10 +116,10 @@ fn supersedes_equal(list: &Crl, kept: &Crl, cert: &Cert) -> bool
     is_later(list, kept)
 }
 
-// Whether a list takes the place of another one: the greater number supersedes (RFC 6487 5). Two
-// different lists never have one number (RFC 5280 5.2.3); where they do, neither may hide that the
-// other revokes the certificate.
-fn supersedes(list: &Crl, kept: &Crl, cert: &Cert) -> bool
+/// Tells whether a list takes the place of another one of the same issuer, where it is asked of the
+/// certificate: the greater number supersedes (RFC 6487 5). Two different lists never have one number
+/// (RFC 5280 5.2.3); where they do, neither may hide that the other revokes the certificate.
+pub fn supersedes(list: &Crl, kept: &Crl, cert: &Cert) -> bool
     ensures { IsTrue result ↔ Supersedes cert.now list.now kept.now }
 {
     match by_number(list, kept) {

@@ -5,5 +5,5 @@ mod given;
 pub mod laws;
 mod source;
 
-pub use given::GivenLists;
+pub use given::{GivenLists, has_begun, supersedes};
 pub use source::{NobodyAsked, RevocationSource};
