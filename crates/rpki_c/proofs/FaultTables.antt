@@ -1,6 +1,6 @@
 -- What is found in the table of the code is found in that of the definitions; the number of each
 -- fault tells its name.
-use Rattle.std.proofs.Common.{◌≡◌, ◌≢◌, ℕ, ◌+◌, ◌/◌, ◌==◌, Bool, true, false, cond, List, [], ◌∷◌, map, filter, find, Option, Some, None, option_map, bytes_eq, refl, sym, ap, ◌∙◌}
+use Rattle.std.proofs.Common.{◌≡◌, ◌≢◌, ℕ, ◌/◌, ◌==◌, Bool, true, false, cond, List, [], ◌∷◌, map, filter, find, Option, Some, option_map, bytes_eq, refl, sym, ap, ◌∙◌}
 use Rattle.rpki_der.specs.ErrorNames.{decode_error_name}
 use Rattle.rpki_der.specs.declared.error.DecodeError.{DecodeError}
 use Rattle.rpki_der.specs.declared.error.DecodeError.TheVariants as decoding
@@ -18,7 +18,7 @@ use Rattle.rpki_crl.specs.declared.revocation_error.RevocationError.TheVariants 
 use Rattle.rpki_tal.specs.TalErrors.{tal_error_name}
 use Rattle.rpki_tal.specs.declared.tal_error.TalError.{TalError}
 use Rattle.rpki_tal.specs.declared.tal_error.TalError.TheVariants as tal
-use Rattle.rpki_c.specs.FaultNumbers.{FaultFields, fault_fields, faults, field_names, is_among, number_in, number_named, decode_number, inspection_number, verification_number, revocation_number, locator_number}
+use Rattle.rpki_c.specs.FaultNumbers.{FaultFields, fault_fields, fault_rows, field_names, is_among, number_in, number_named, decode_number, inspection_number, verification_number, revocation_number, locator_number}
 use Rattle.rpki_c.specs.FaultTexts.{fault_numbered, name_told}
 use Rattle.rpki_c.specs.declared.faults.Fault.{Fault}
 
@@ -36,13 +36,13 @@ filter_of_map {A} {B} f p (x ∷ xs) =
     elim (p (f x)) as (λ b. cond b (f x ∷ filter p (map f xs)) (filter p (map f xs)) ≡ map f (cond b (x ∷ filter (λ (y : A). p (f y)) xs) (filter (λ (y : A). p (f y)) xs)))
     [ true ↦ ap (λ (ys : List B). f x ∷ ys) (filter_of_map f p xs) | false ↦ filter_of_map f p xs ]
 
-pub fault_found : (xs : List Fault) → map fault_fields xs ≡ faults → (n : ℕ) (found : Option Fault) → found ≡ find (λ (it : Fault). it.number == n) xs → option_map fault_fields found ≡ fault_numbered n
+pub fault_found : (xs : List Fault) → map fault_fields xs ≡ fault_rows → (n : ℕ) (found : Option Fault) → found ≡ find (λ (it : Fault). it.number == n) xs → option_map fault_fields found ≡ fault_numbered n
 fault_found xs same n found is =
     ap (option_map fault_fields) is
     ∙ sym (find_of_map fault_fields (λ (it : FaultFields). it.number == n) xs)
     ∙ ap (find (λ (it : FaultFields). it.number == n)) same
 
-pub number_found : (xs : List Fault) → map fault_fields xs ≡ faults → (hundreds : ℕ) (name : List ℕ) (found : Option Fault) → found ≡ find (λ (it : Fault). bytes_eq it.name.now name) (filter (λ (it : Fault). is_among hundreds (fault_fields it)) xs) → number_in (option_map fault_fields found) ≡ number_named hundreds name
+pub number_found : (xs : List Fault) → map fault_fields xs ≡ fault_rows → (hundreds : ℕ) (name : List ℕ) (found : Option Fault) → found ≡ find (λ (it : Fault). bytes_eq it.name.now name) (filter (λ (it : Fault). is_among hundreds (fault_fields it)) xs) → number_in (option_map fault_fields found) ≡ number_named hundreds name
 unfolding number_named
 number_found xs same hundreds name found is =
     let among : FaultFields → Bool = is_among hundreds in
@@ -55,7 +55,7 @@ number_found xs same hundreds name found is =
 -- ---- the number of each fault: its hundreds, and the name that is told by it
 
 pub plain_decoding : (e : DecodeError) → (e ≡ decoding.Memory → ⊥) → ((part : Field) → e ≡ decoding.Missing part → ⊥) → ((part : Field) → e ≡ decoding.Duplicate part → ⊥) → ((part : Field) → e ≡ decoding.Critical part → ⊥) → ((part : Field) → e ≡ decoding.NotCritical part → ⊥) → ((part : Field) → e ≡ decoding.WrongResources part → ⊥) → (decode_number e ≡ number_named 1 (decode_error_name e)) × ((number_named 1 (decode_error_name e) / 100) ≡ 1)
-unfolding number_named faults
+unfolding number_named fault_rows
 plain_decoding decoding.Memory memory missing duplicate critical not_critical wrong = absurd (memory refl)
 plain_decoding (decoding.Missing part) memory missing duplicate critical not_critical wrong = absurd (missing part refl)
 plain_decoding (decoding.Duplicate part) memory missing duplicate critical not_critical wrong = absurd (duplicate part refl)
@@ -65,7 +65,7 @@ plain_decoding (decoding.WrongResources part) memory missing duplicate critical 
 plain_decoding _ memory missing duplicate critical not_critical wrong = (refl, refl)
 
 pub decoding_told : (e : DecodeError) → name_told (decode_number e) ≡ Some (decode_error_name e)
-unfolding number_named faults field_names
+unfolding number_named fault_rows field_names
 decoding_told (decoding.Missing field.BasicConstraints) = refl
 decoding_told (decoding.Duplicate field.BasicConstraints) = refl
 decoding_told (decoding.Critical field.BasicConstraints) = refl
@@ -74,21 +74,21 @@ decoding_told (decoding.WrongResources field.BasicConstraints) = refl
 decoding_told _ = refl
 
 pub inspections : (e : InspectionError) → ((inspection_number e / 100) ≡ 3) × (name_told (inspection_number e) ≡ Some (inspection_error_name e))
-unfolding number_named faults field_names
+unfolding number_named fault_rows field_names
 inspections inspection.AlgorithmMismatch = (refl, refl)
 inspections _ = (refl, refl)
 
 pub verifications : (e : VerificationError) → (verification_number e ≢ 1 → (verification_number e / 100) ≡ 4) × (name_told (verification_number e) ≡ Some (verification_error_name e))
-unfolding number_named faults field_names
+unfolding number_named fault_rows field_names
 verifications verification.Memory = ((λ other. absurd (other refl)), refl)
 verifications _ = ((λ other. refl), refl)
 
 pub revocations : (e : RevocationError) → ((revocation_number e / 100) ≡ 5) × (name_told (revocation_number e) ≡ Some (revocation_error_name e))
-unfolding number_named faults field_names
+unfolding number_named fault_rows field_names
 revocations revocation.NoCrl = (refl, refl)
 revocations _ = (refl, refl)
 
 pub locators : (e : TalError) → (locator_number e ≢ 1 → (locator_number e / 100) ≡ 7) × (name_told (locator_number e) ≡ Some (tal_error_name e))
-unfolding number_named faults field_names
+unfolding number_named fault_rows field_names
 locators tal.Memory = ((λ other. absurd (other refl)), refl)
 locators _ = ((λ other. refl), refl)

@@ -1,9 +1,9 @@
 -- Numbers of a question that no terms have.
-use Rattle.std.proofs.Common.{◌≡◌, ◌≢◌, ℕ, ◌<◌, Bool, true, false, arith, subst}
-use Rattle.rpki_der.specs.Times.{Moment, IsMoment}
+use Rattle.std.proofs.Common.{◌≢◌, ◌<◌, Bool, true, false, arith, subst}
+use Rattle.rpki_der.specs.Times.{IsMoment}
 use Rattle.rpki_cert.specs.declared.inspect.Kind.{Kind}
 use Rattle.rpki_cert.specs.declared.inspect.Kind.TheVariants.{Anchor, Authority, EndEntity, Detached, Router}
-use Rattle.rpki_c.specs.Questions.{question_size, kind_number, choice_number, HasTerms, HasNoTerms}
+use Rattle.rpki_c.specs.Questions.{question_size, kind_number, choice_number, HasNoTerms}
 use Rattle.rpki_c.specs.TimeParts.{moment_of_parts}
 use Rattle.rpki_c.specs.declared.question.RpkiQuestion.{RpkiQuestion}
 

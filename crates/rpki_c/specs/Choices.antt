@@ -45,9 +45,9 @@ uri_field SignedObject x = x.access.signed_object
 uri_field Notify x = x.access.rpki_notify
 
 -- the octets of a URI, and none where there isn't one
-abbrev pub text_of : Option (List ℕ) → List ℕ
-text_of None = []
-text_of (Some uri) = uri
+abbrev pub octets_if_any : Option (List ℕ) → List ℕ
+octets_if_any None = []
+octets_if_any (Some uri) = uri
 
 -- ---- names
 

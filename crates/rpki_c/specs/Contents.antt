@@ -1,5 +1,5 @@
 -- What a caller is told of a certificate and of a revocation list (own).
-use Rattle.std.specs.Prelude.{◌≡◌, ◌⊎◌, ◌+◌, ◌-◌, ◌*◌, ◌^◌, ◌<◌, ℕ, Bool, true, List, length, get_or, slice_range, min, Option, Some, None, replicate}
+use Rattle.std.specs.Prelude.{◌≡◌, ◌⊎◌, ◌+◌, ◌-◌, ◌*◌, ◌^◌, ◌<◌, ℕ, true, List, length, get_or, slice_range, min, Option, Some, None, replicate}
 use Rattle.std.specs.Int.Digits.{number_from_digits}
 use Rattle.rpki_der.specs.Times.{Moment}
 use Rattle.rpki_blocks.specs.Resources.{Resources, missing, inherit, blocks}
@@ -88,10 +88,10 @@ pub record TellsList (f : ListFields Revoked) (it : RpkiList) : Type 0 where
   pub authority_key : it.authority_key ≡ f.extensions.authority_key_identifier
 
 -- the serial number at this place: 20 octets, of which the first is the greatest
-abbrev pub serial_number : List ℕ → ℕ → ℕ
-serial_number serials i = number_from_digits 256 (slice_range serials (20 * i) (20 * i + 20))
+abbrev pub serial_in : List ℕ → ℕ → ℕ
+serial_in serials i = number_from_digits 256 (slice_range serials (20 * i) (20 * i + 20))
 
 -- each answer is 1 where these entries have the serial number at its place, and else 0
-abbrev pub AreAnswers : List Entry → List ℕ → List ℕ → Type 0
-AreAnswers entries serials answers =
-    (i : ℕ) → i < length answers → IsFlag (IsRevoked (serial_number serials i) entries) (get_or answers i 0)
+abbrev pub AreTold : List Entry → List ℕ → List ℕ → Type 0
+AreTold entries serials answers =
+    (i : ℕ) → i < length answers → IsFlag (IsRevoked (serial_in serials i) entries) (get_or answers i 0)

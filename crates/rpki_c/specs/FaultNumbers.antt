@@ -50,8 +50,8 @@ abbrev pub fault : ℕ → String → String → FaultFields
 fault number name sentence = part_fault number name sentence ""
 
 -- all faults; no sentence has the identifier that a fault names
-unfoldable pub faults : List FaultFields
-faults =
+unfoldable pub fault_rows : List FaultFields
+fault_rows =
     fault 0 "None" "no fault" ∷
     fault 1 "Memory" "out of memory" ∷
     fault 2 "BadCall" "lengths or numbers of the call don't fit" ∷
@@ -144,7 +144,7 @@ number_in (Some it) = it.number
 -- the number of the first fault among these that has this name
 unfoldable pub number_named : ℕ → List ℕ → ℕ
 number_named hundreds name =
-    number_in (find (λ it. bytes_eq it.name name) (filter (is_among hundreds) faults))
+    number_in (find (λ it. bytes_eq it.name name) (filter (is_among hundreds) fault_rows))
 
 abbrev pub field_number : Field → ℕ
 field_number field.BasicConstraints = 0

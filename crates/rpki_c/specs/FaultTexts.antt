@@ -1,6 +1,6 @@
 -- What callers in C are told of a fault's number: the fault's name and its sentence (own).
 use Rattle.std.specs.Prelude.{◌≡◌, ℕ, ◌-◌, ◌%◌, ◌==◌, ◌++◌, ◌&&◌, Bool, if◌then◌else◌, nat_le, nat_lt, List, [], Option, Some, None, find, option_map, slice_get}
-use Rattle.rpki_c.specs.FaultNumbers.{FaultFields, faults, field_names}
+use Rattle.rpki_c.specs.FaultNumbers.{FaultFields, fault_rows, field_names}
 use Rattle.rpki_c.specs.Writing.{IsWritten}
 
 -- what is told of a fault
@@ -28,17 +28,17 @@ abbrev pub part_name : ℕ → Option (List ℕ)
 part_name number = if has_part number then slice_get field_names (number % 20) else Some []
 
 abbrev pub fault_numbered : ℕ → Option FaultFields
-fault_numbered number = find (λ (it : FaultFields). it.number == number) faults
+fault_numbered number = find (λ (it : FaultFields). it.number == number) fault_rows
 
 -- of the fault that has the number, and None where none has it
-abbrev pub told : ℕ → Option ToldFields
-told number = told_if (part_name number) (fault_numbered (first_number number))
+abbrev pub told_of : ℕ → Option ToldFields
+told_of number = told_if (part_name number) (fault_numbered (first_number number))
 
 abbrev pub name_told : ℕ → Option (List ℕ)
-name_told number = option_map (λ (it : ToldFields). it.name) (told number)
+name_told number = option_map (λ (it : ToldFields). it.name) (told_of number)
 
 abbrev pub sentence_told : ℕ → Option (List ℕ)
-sentence_told number = option_map (λ (it : ToldFields). it.sentence) (told number)
+sentence_told number = option_map (λ (it : ToldFields). it.sentence) (told_of number)
 
 -- the call tells this text and answers that there is no fault; or, where there is no text, it tells
 -- nothing and answers that it is a bad call

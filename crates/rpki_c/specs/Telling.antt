@@ -4,7 +4,7 @@ use Rattle.rpki_parts.specs.Signatures.{Verifies}
 use Rattle.rpki_cert.specs.Verification.{ResourceFields}
 use Rattle.rpki_path.specs.declared.judging.Judged.{Judged}
 use Rattle.rpki_c.specs.FaultNumbers.{refusal_number}
-use Rattle.rpki_c.specs.Verdicts.{Answers}
+use Rattle.rpki_c.specs.Verdicts.{AnswersQuestion}
 use Rattle.rpki_c.specs.declared.paths.RpkiRoom.{RpkiRoom}
 use Rattle.rpki_c.specs.declared.paths.RpkiVerdict.{RpkiVerdict}
 use Rattle.rpki_c.specs.declared.question.RpkiQuestion.{RpkiQuestion}
@@ -42,7 +42,7 @@ verdict_of members (Ok judged) = acceptance judged.holder
 verdict_of members (Err r) = rejection (refusal_number r) (told_place (refusal_place members r))
 
 -- the verdict on the question's path, by this relation of signatures
-pub record IsVerdictOn (verifies : Verifies) (q : RpkiQuestion) (verdict : RpkiVerdict) : Type 0 where
+pub record IsToldVerdict (verifies : Verifies) (q : RpkiQuestion) (verdict : RpkiVerdict) : Type 0 where
   pub answer : Result Judged Refusal
-  pub answers : Answers verifies q answer
+  pub answers : AnswersQuestion verifies q answer
   pub told : verdict ≡ verdict_of (length q.members.lengths.now) answer

@@ -70,20 +70,20 @@ IsUntrusted strict locator anchor _ = ⊥
 
 -- that the path is accepted, or what is wrong of its first wrong member, where these are asked for
 -- revocation
-abbrev pub Tells : Context → RevocationChecks → PathStrings → Result Judged Refusal → Type 0
-Tells x asked path (Ok judged) = IsAcceptedWith x asked path judged
-Tells x asked path (Err (refusal.Member e)) = Judges x asked path (Err e)
-Tells x asked path _ = ⊥
+abbrev pub AnswersJudged : Context → RevocationChecks → PathStrings → Result Judged Refusal → Type 0
+AnswersJudged x asked path (Ok judged) = IsAcceptedWith x asked path judged
+AnswersJudged x asked path (Err (refusal.Member e)) = Judges x asked path (Err e)
+AnswersJudged x asked path _ = ⊥
 
 -- the octets begin with this list
-abbrev pub BeginsWithList : List ℕ → CrlState → Type 0
-BeginsWithList octets l = Means IsCertificateList l.list octets
+abbrev pub BeginsWithGiven : List ℕ → CrlState → Type 0
+BeginsWithGiven octets l = Means IsCertificateList l.list octets
 
 -- the answer, where the lists with which these octets begin are asked
 abbrev pub AnswersListed : Context → PathStrings → List (List ℕ) → Result Judged Refusal → Type 0
 AnswersListed x path octets r =
     Refused (IsUnreadList octets) r
-    ⊎ ((lists : List CrlState) × AllZip BeginsWithList octets lists × Tells x (by_lists x lists) path r)
+    ⊎ ((lists : List CrlState) × AllZip BeginsWithGiven octets lists × AnswersJudged x (by_lists x lists) path r)
 
 -- the answer, where the caller's lists are asked
 abbrev pub AnswersWith : Context → PathStrings → RpkiStrings → Result Judged Refusal → Type 0
@@ -94,7 +94,7 @@ AnswersWith x path s r =
 -- the answer of a path whose trust anchor is trusted: lists are asked, or nobody is
 abbrev pub AnswersTrusted : Context → RpkiQuestion → Terms → PathStrings → Result Judged Refusal → Type 0
 AnswersTrusted x q t path r =
-    ((t.asks_lists ≡ true) × AnswersWith x path q.lists r) ⊎ ((t.asks_lists ≡ false) × Tells x nobody path r)
+    ((t.asks_lists ≡ true) × AnswersWith x path q.lists r) ⊎ ((t.asks_lists ≡ false) × AnswersJudged x nobody path r)
 
 -- the trust anchor is taken as it is given, or has the locator's key
 abbrev pub IsTrusted : RpkiQuestion → Terms → List ℕ → Type 0
@@ -119,6 +119,6 @@ AnswersMembers verifies q t r =
     ⊎ ((strings : List (List ℕ)) × AreStringsOf q.members strings × AnswersStrings (context verifies t.now t.strict) q t strings r)
 
 -- the answer to a question, by this relation of signatures
-abbrev pub Answers : Verifies → RpkiQuestion → Result Judged Refusal → Type 0
-Answers verifies q r =
+abbrev pub AnswersQuestion : Verifies → RpkiQuestion → Result Judged Refusal → Type 0
+AnswersQuestion verifies q r =
     Refused (IsUncalled (HasNoTerms q)) r ⊎ ((t : Terms) × HasTerms q t × AnswersMembers verifies q t r)

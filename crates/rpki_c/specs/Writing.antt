@@ -10,11 +10,11 @@ abbrev pub written_over : {A : Type 0} → List A → List A → List A
 written_over items old = take (length old) items ++ drop (length items) old
 
 -- both ends in 16 octets, the greatest first
-abbrev pub ip_range : Block → RpkiIpRange
-ip_range it = record { min = to_be_bytes w128 it.min; max = to_be_bytes w128 it.max }
+abbrev pub ip_struct : Block → RpkiIpRange
+ip_struct it = record { min = to_be_bytes w128 it.min; max = to_be_bytes w128 it.max }
 
-abbrev pub as_range : Block → RpkiAsRange
-as_range it = record { min = it.min; max = it.max }
+abbrev pub as_struct : Block → RpkiAsRange
+as_struct it = record { min = it.min; max = it.max }
 
 -- the items stand in the caller's memory, as many as there is room for, and all are counted
 abbrev pub IsWritten : {A : Type 0} → List A → List A → List A → ℕ → Type 0

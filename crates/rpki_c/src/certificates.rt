@@ -5,7 +5,7 @@ ghost use Rattle.rpki_ext.specs.declared.inspection.InspectionError.{InspectionE
 ghost use Rattle.rpki_cert.specs.Certificates.{CertFields, IsCertificate};
 ghost use Rattle.rpki_cert.specs.Profiles.{MeetsProfile, IsFirstFault};
 ghost use Rattle.rpki_cert.specs.declared.inspect.Kind.{Kind as kinds};
-ghost use Rattle.rpki_c.specs.Choices.{family_number, family_field, listed_blocks, uri_number, uri_field, text_of, name_number, name_field};
+ghost use Rattle.rpki_c.specs.Choices.{family_number, family_field, listed_blocks, uri_number, uri_field, octets_if_any, name_number, name_field};
 ghost use Rattle.rpki_c.specs.Contents.{BeginsNoCertificate, state_number, TellsKeys, TellsCertificate};
 ghost use Rattle.rpki_c.specs.FaultNumbers.{inspection_number};
 ghost use Rattle.rpki_c.specs.Writing.{IsWritten};
@@ -352,7 +352,7 @@ pub extern "C" fn rpki_certificate_uri(
     ensures bad_call { (result ≡ BAD_CALL) ↔ 5 < which }
     ensures uri { result ≡ NONE → (u : uris) × (which ≡ uri_number u)
         × (c : CertFields) × Means IsCertificate c octets.now
-        × IsWritten (text_of (uri_field u c.fields.extensions)) out.old out.new count.new }
+        × IsWritten (octets_if_any (uri_field u c.fields.extensions)) out.old out.new count.new }
     ensures at_fault { result ≢ NONE → count.new ≡ 0 }
 {
     *count = 0;

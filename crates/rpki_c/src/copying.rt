@@ -1,6 +1,6 @@
 //! Octets, and ranges of addresses and AS numbers, in the caller's memory.
 ghost use Rattle.std.specs.Prelude.{◌≡◌, length};
-ghost use Rattle.rpki_c.specs.Writing.{written_over, ip_range as range, as_range as systems};
+ghost use Rattle.rpki_c.specs.Writing.{written_over, ip_struct, as_struct};
 
 use rpki_blocks::{AsBlock, AsBlocks, IpBlock, IpBlocks};
 
@@ -21,7 +21,7 @@ pub struct RpkiAsRange {
 }
 
 fn ip_range(block: IpBlock) -> RpkiIpRange
-    ensures { result ≡ range block }
+    ensures { result ≡ ip_struct block }
 {
     RpkiIpRange {
         min: block.min().to_bits().to_be_bytes(),
@@ -30,7 +30,7 @@ fn ip_range(block: IpBlock) -> RpkiIpRange
 }
 
 fn as_range(block: AsBlock) -> RpkiAsRange
-    ensures { result ≡ systems block }
+    ensures { result ≡ as_struct block }
 {
     RpkiAsRange {
         min: block.min().into_u32(),

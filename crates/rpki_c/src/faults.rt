@@ -12,7 +12,7 @@ ghost use Rattle.rpki_crl.specs.Revocation.{revocation_error_name};
 ghost use Rattle.rpki_crl.specs.declared.revocation_error.RevocationError.{RevocationError as revocations};
 ghost use Rattle.rpki_tal.specs.TalErrors.{tal_error_name};
 ghost use Rattle.rpki_tal.specs.declared.tal_error.TalError.{TalError as locators};
-ghost use Rattle.rpki_c.specs.FaultNumbers.{fault_fields, faults, field_names, field_number, is_among as among, number_in, number_named, decode_number, inspection_number, verification_number, revocation_number, locator_number, path_number, refusal_number};
+ghost use Rattle.rpki_c.specs.FaultNumbers.{fault_fields, fault_rows, field_names, field_number, is_among as among, number_in, number_named, decode_number, inspection_number, verification_number, revocation_number, locator_number, path_number, refusal_number};
 ghost use Rattle.rpki_c.specs.FaultTexts.{name_told};
 
 use crate::refusal::Refusal;
@@ -146,9 +146,9 @@ const FIELD_NAMES: [&str; 13] = [
 ];
 
 /// Returns the table.
-#[tactic(auto, unfolding(crate::specs::FaultNumbers::faults))]
+#[tactic(auto, unfolding(crate::specs::FaultNumbers::fault_rows))]
 pub(crate) fn all_faults() -> &'static [Fault]
-    ensures { map fault_fields result.now ≡ faults }
+    ensures { map fault_fields result.now ≡ fault_rows }
 {
     &FAULTS
 }

@@ -4,7 +4,7 @@ ghost use Rattle.rpki_cert.specs.Verification.{context};
 ghost use Rattle.rpki_path.specs.Judging.{Judges};
 ghost use Rattle.rpki_revocation.specs.AskedLists.{by_lists};
 ghost use Rattle.rpki_keys.specs.RsaSignatures.{IsSignedByRsa};
-ghost use Rattle.rpki_c.specs.Verdicts.{AreStringsOf, DontAddUp, IsUncalled, AnswersListed, AnswersWith, AnswersTrusted, AnswersPath, AnswersStrings, AnswersMembers, Answers};
+ghost use Rattle.rpki_c.specs.Verdicts.{AreStringsOf, DontAddUp, IsUncalled, AnswersListed, AnswersWith, AnswersTrusted, AnswersPath, AnswersStrings, AnswersMembers, AnswersQuestion};
 
 use crate::lists::lists_of;
 use crate::locators::ask_locator;
@@ -159,10 +159,10 @@ fn judge_terms(alloc: Global, question: &RpkiQuestion<'_>, terms: Terms) -> Resu
     answer
 }
 
-/// Answers a question about a path, with signatures as the RPKI has them (RSASSA-PKCS1-v1_5 with
+/// AnswersQuestion a question about a path, with signatures as the RPKI has them (RSASSA-PKCS1-v1_5 with
 /// SHA-256).
 pub(crate) fn judge_question(alloc: Global, question: &RpkiQuestion<'_>) -> Result<Judged, Refusal>
-    ensures { Answers IsSignedByRsa question.now result }
+    ensures { AnswersQuestion IsSignedByRsa question.now result }
 {
     match terms_of(question) {
         Some(terms) => judge_terms(alloc, question, terms),
@@ -184,7 +184,7 @@ fn judge_said(
     answer
 }
 
-/// Answers a question about a path that asks no lists, with signatures that the caller has checked:
+/// AnswersQuestion a question about a path that asks no lists, with signatures that the caller has checked:
 /// of each member, whether an octet 1 says that its signature is good.
 pub(crate) fn judge_question_said(
     alloc: Global,

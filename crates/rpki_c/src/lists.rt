@@ -5,8 +5,8 @@ ghost use Rattle.rpki_der.specs.Place.{MeansOrMemoryBy};
 ghost use Rattle.rpki_ext.specs.Kinds.{Means};
 ghost use Rattle.rpki_crl.specs.Lists.{CrlFields, IsCertificateList};
 ghost use Rattle.rpki_crl.specs.RevokedEntries.{IsRevoked};
-ghost use Rattle.rpki_c.specs.Contents.{AreAnswers, IsFlag, TellsList, serial_number, told_count};
-ghost use Rattle.rpki_c.specs.Verdicts.{BeginsNoList, BeginsWithList, IsUnreadList};
+ghost use Rattle.rpki_c.specs.Contents.{AreTold, IsFlag, TellsList, serial_in, told_count};
+ghost use Rattle.rpki_c.specs.Verdicts.{BeginsNoList, BeginsWithGiven, IsUnreadList};
 
 use crate::copying::put_octets;
 use crate::faults::{BAD_CALL, MEMORY, NONE, of_decoding};
@@ -164,7 +164,7 @@ pub extern "C" fn rpki_list_issuer(
 
 // The serial number at this place.
 fn serial_at(serials: &[u8], at: usize) -> Option<Serial>
-    ensures { IfSome result (λ s. s ≡ serial_number serials.now at) }
+    ensures { IfSome result (λ s. s ≡ serial_in serials.now at) }
 {
     let from = at.checked_mul(20)?;
     let to = from.checked_add(20)?;
@@ -187,7 +187,7 @@ fn answer_of(list: &Crl, serial: Serial) -> u8
 
 fn put_answers(list: &Crl, serials: &[u8], answers: &mut [u8]) -> u32
     ensures answers { result ≡ NONE
-        → AreAnswers list.now.list.fields.revoked.entries serials.now answers.new }
+        → AreTold list.now.list.fields.revoked.entries serials.now answers.new }
     ensures fault { result ≢ NONE → result ≡ BAD_CALL }
 {
     for at in 0..answers.len() {
@@ -232,7 +232,7 @@ pub extern "C" fn rpki_list_ask(
 ) -> u32
     ensures bad_call { (length serials.now ≢ 20 * length answers.old) → result ≡ BAD_CALL }
     ensures answers { result ≡ NONE → (l : CrlFields) × Means IsCertificateList l octets.now
-        × AreAnswers l.fields.revoked.entries serials.now answers.new }
+        × AreTold l.fields.revoked.entries serials.now answers.new }
     ensures unread { result ≢ NONE → result ≢ MEMORY → result ≢ BAD_CALL → BeginsNoList octets.now }
 {
     if !add_up(serials, answers) {
@@ -272,7 +272,7 @@ fn append(lists: &mut Vec<Crl>, list: Crl) -> Result<(), AllocError>
 
 /// Reads a list of each of these octets, with its serial numbers in a table.
 pub(crate) fn lists_of(alloc: Global, strings: &[Bytes]) -> Result<Vec<Crl>, Refusal>
-    ensures lists { IfOk result (λ it. AllZip BeginsWithList strings.now it.items) }
+    ensures lists { IfOk result (λ it. AllZip BeginsWithGiven strings.now it.items) }
     ensures unread { IfErr result (IsUnreadList strings.now) }
 {
     let mut lists = Vec::new(alloc);

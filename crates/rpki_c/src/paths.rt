@@ -1,7 +1,7 @@
 //! Paths for C.
 ghost use Rattle.std.specs.Prelude.{◌≡◌};
 ghost use Rattle.rpki_keys.specs.RsaSignatures.{IsSignedByRsa};
-ghost use Rattle.rpki_c.specs.Telling.{acceptance, rejection, IsSameRoom, verdict_of, IsVerdictOn};
+ghost use Rattle.rpki_c.specs.Telling.{acceptance, rejection, IsSameRoom, verdict_of, IsToldVerdict};
 
 use crate::copying::{RpkiAsRange, RpkiIpRange, put_addresses, put_as_numbers};
 use crate::faults::{NONE, of_refusal};
@@ -82,7 +82,7 @@ fn verdict(answer: Result<Judged, Refusal>, members: usize, room: &mut RpkiRoom<
 
 // The verdict on the question's path, by real signatures.
 fn validate(alloc: Global, question: &RpkiQuestion<'_>, room: &mut RpkiRoom<'_>) -> RpkiVerdict
-    ensures verdict { IsVerdictOn IsSignedByRsa question.now result }
+    ensures verdict { IsToldVerdict IsSignedByRsa question.now result }
     ensures room { IsSameRoom room.old room.new }
 {
     let answer = judge_question(alloc, question);
@@ -112,7 +112,7 @@ pub extern "C" fn rpki_path_validate(
     room: &mut RpkiRoom<'_>,
     out: &mut RpkiVerdict,
 ) -> u32
-    ensures verdict { IsVerdictOn IsSignedByRsa question.now out.new }
+    ensures verdict { IsToldVerdict IsSignedByRsa question.now out.new }
     ensures answered { result ≡ out.new.fault }
     ensures room { IsSameRoom room.old room.new }
 {

@@ -1,7 +1,7 @@
 //! What callers are told of a fault's number: the fault's name and its sentence.
 ghost use Rattle.std.specs.Prelude.{◌≡◌, ◌≢◌, ◌==◌, find, option_copied, option_map, slice_get};
 ghost use Rattle.rpki_c.specs.FaultNumbers.{fault_fields};
-ghost use Rattle.rpki_c.specs.FaultTexts.{TellsText, first_number as first, has_part as parted, name_told, part_name as name_of_part, sentence_told, told, told_fields};
+ghost use Rattle.rpki_c.specs.FaultTexts.{TellsText, first_number as first, has_part as parted, name_told, part_name as name_of_part, sentence_told, told_of, told_fields};
 ghost use Rattle.rpki_c.specs.Writing.{IsWritten};
 
 use crate::copying::put_octets;
@@ -51,7 +51,7 @@ fn fault_in(faults: &[Fault], number: u32) -> Option<&Fault>
 
 // The fault that has the number, and the name of the part that it speaks of, or an empty one.
 fn fault_told(number: u32) -> Option<(&'static Fault, &'static str)>
-    ensures { option_map (λ it. told_fields (fault_fields it.0.now) it.1.now) result ≡ told number }
+    ensures { option_map (λ it. told_fields (fault_fields it.0.now) it.1.now) result ≡ told_of number }
 {
     let part = part_name(number)?;
     let fault = fault_in(all_faults(), first_number(number))?;

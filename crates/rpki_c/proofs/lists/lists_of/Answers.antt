@@ -3,7 +3,7 @@ use Rattle.std.proofs.Common.{rules, ◌≡◌, ◌+◌, ◌<◌, ℕ, List, [],
 use Rattle.std.proofs.lemmas.List.{get_or_default, length-append}
 use Rattle.rpki_der.specs.Place.{Rejects}
 use Rattle.rpki_crl.specs.Lists.{CrlState}
-use Rattle.rpki_c.specs.Verdicts.{BeginsNoList, BeginsWithList}
+use Rattle.rpki_c.specs.Verdicts.{BeginsNoList, BeginsWithGiven}
 use Rattle.rpki_c.proofs.ListsRead.{zip_more}
 use Rattle.rpki_c.proofs.lists.lists_of.Goals as goal
 
@@ -21,10 +21,10 @@ loop-octets-preserved c =
     let l = c.loop-octets in
     let strings = c.args.strings.now in
     let item : c.octets-item.result ≡ get_or strings l.octets-index [] = c.octets-item.is ∙ get_or_default strings l.octets-index c.octets-item.result [] c.loop-octets-test.true in
-    let begins : BeginsWithList (get_or strings l.octets-index []) c.in-Ok.list = subst (λ (octets : List ℕ). BeginsWithList octets c.in-Ok.list) item c.in-Ok.ensures in
+    let begins : BeginsWithGiven (get_or strings l.octets-index []) c.in-Ok.list = subst (λ (octets : List ℕ). BeginsWithGiven octets c.in-Ok.list) item c.in-Ok.ensures in
     let appended : c.append.new.lists.items ≡ l.lists.items ++ c.in-Ok.list ∷ [] = c.in_ok-append-in-Ok.ensures in
     record {
-      zipped = subst (λ (items : List CrlState). AllZip BeginsWithList (take (l.octets-index + 1) strings) items) (sym appended)
-          (zip_more BeginsWithList strings l.lists.items l.octets-index [] c.in-Ok.list c.loop-octets-test.true l.invariant.zipped begins);
+      zipped = subst (λ (items : List CrlState). AllZip BeginsWithGiven (take (l.octets-index + 1) strings) items) (sym appended)
+          (zip_more BeginsWithGiven strings l.lists.items l.octets-index [] c.in-Ok.list c.loop-octets-test.true l.invariant.zipped begins);
       count = omega (arith, l.invariant.count, ap (λ (items : List CrlState). length items) appended, length-append l.lists.items (c.in-Ok.list ∷ []));
     }
