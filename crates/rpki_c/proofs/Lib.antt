@@ -2,4 +2,5 @@ mod Cutting
 mod FaultTables
 mod ListsRead
 mod QuestionTerms
+mod Sentences
 mod Unread

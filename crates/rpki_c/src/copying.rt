@@ -1,5 +1,5 @@
 //! Octets, and ranges of addresses and AS numbers, in the caller's memory.
-ghost use Rattle.std.specs.Prelude.{◌≡◌, length};
+ghost use Rattle.std.specs.Prelude.{◌≡◌, ◌++◌, length, take, drop};
 ghost use Rattle.rpki_c.specs.Writing.{written_over, ip_struct, as_struct};
 
 use rpki_blocks::{AsBlock, AsBlocks, IpBlock, IpBlocks};
@@ -66,4 +66,12 @@ pub(crate) fn put_octets(from: &[u8], out: &mut [u8]) -> u64
     let fit = from.len().min(out.len());
     out[..fit].copy_from_slice(&from[..fit]);
     from.len() as u64
+}
+
+/// Writes octets from this place on, as many as there is room for.
+pub(crate) fn put_behind(from: &[u8], at: usize, out: &mut [u8])
+    ensures { out.new ≡ take at out.old ++ written_over from.now (drop at out.old) }
+{
+    let at = at.min(out.len());
+    put_octets(from, &mut out[at..]);
 }

@@ -1,12 +1,11 @@
 //! What callers are told of a fault's number: the fault's name and its sentence.
-ghost use Rattle.std.specs.Prelude.{◌≡◌, ◌≢◌, ◌==◌, find, option_copied, option_map, slice_get};
+ghost use Rattle.std.specs.Prelude.{◌≡◌, ◌≢◌, ◌<◌, ◌^◌, ◌==◌, length, find, option_copied, option_map, slice_get};
 ghost use Rattle.rpki_c.specs.FaultNumbers.{fault_fields};
 ghost use Rattle.rpki_c.specs.FaultTexts.{TellsText, first_number as first, has_part as parted, name_told, part_name as name_of_part, sentence_told, told_of, told_fields};
 ghost use Rattle.rpki_c.specs.Writing.{IsWritten};
 
-use crate::copying::put_octets;
-use crate::faults::{BAD_CALL, Fault, MEMORY, NONE, all_faults, all_field_names};
-use std::alloc::Global;
+use crate::copying::{put_behind, put_octets};
+use crate::faults::{BAD_CALL, Fault, NONE, all_faults, all_field_names};
 
 // Whether faults with this number speak of a part.
 fn has_part(number: u32) -> bool
@@ -76,39 +75,33 @@ pub extern "C" fn rpki_fault_name(number: u32, out: &mut [u8], count: &mut u64) 
     }
 }
 
-// Writes the fault's sentence, unless memory runs out.
-fn put_sentence(alloc: Global, fault: &Fault, part: &str, out: &mut [u8], count: &mut u64) -> u32
-    ensures answer { result ≢ MEMORY → result ≡ NONE }
-    ensures sentence { result ≡ NONE → IsWritten
-        (told_fields (fault_fields fault.now) part.now).sentence out.old out.new count.new }
-    ensures at_fault { result ≢ NONE → count.new ≡ count.old }
+// Writes the fault's sentence, and tells how many octets it has.
+fn put_sentence(fault: &Fault, part: &str, out: &mut [u8]) -> u64
+    requires { length (told_fields (fault_fields fault.now) part.now).sentence < 2 ^ 32 }
+    ensures { IsWritten (told_fields (fault_fields fault.now) part.now).sentence
+        out.old out.new result }
 {
-    match format!(in alloc; "{}{part}{}", fault.before, fault.behind) {
-        Ok(sentence) => {
-            *count = put_octets(sentence.as_bytes(), out);
-            NONE
-        }
-        Err(_) => MEMORY,
-    }
+    let (before, behind) = (fault.before.len(), fault.behind.len());
+    put_octets(fault.before.as_bytes(), out);
+    put_behind(part.as_bytes(), before, out);
+    put_behind(fault.behind.as_bytes(), before + part.len(), out);
+    (before + part.len() + behind) as u64
 }
 
 /// Tells what the fault with this number means, as the library prints it: writes as many octets as
 /// there is room for, and in `count` how many there are. Answers 0, or 2 where no fault has the
 /// number.
 #[unsafe(no_mangle)]
-pub extern "C" fn rpki_fault_sentence(
-    alloc: Global,
-    number: u32,
-    out: &mut [u8],
-    count: &mut u64,
-) -> u32
-    ensures sentence { result ≢ MEMORY
-        → TellsText (sentence_told number) result out.old out.new count.new }
+pub extern "C" fn rpki_fault_sentence(number: u32, out: &mut [u8], count: &mut u64) -> u32
+    ensures sentence { TellsText (sentence_told number) result out.old out.new count.new }
     ensures at_fault { result ≢ NONE → count.new ≡ 0 }
 {
     *count = 0;
     match fault_told(number) {
-        Some((fault, part)) => put_sentence(alloc, fault, part, out, count),
+        Some((fault, part)) => {
+            *count = put_sentence(fault, part, out);
+            NONE
+        }
         None => BAD_CALL,
     }
 }

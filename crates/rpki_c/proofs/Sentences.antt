@@ -1,0 +1,68 @@
+-- Pieces that are written one behind the other, and how long sentences are.
+use Rattle.std.proofs.Common.{◌≡◌, ◌<◌, ◌+◌, ◌^◌, ◌%◌, ◌==◌, nat_lt, ℕ, Bool, true, false, cond, List, [], ◌∷◌, ◌++◌, length, take, drop, find, zero, suc, Option, Some, None, IfSome, slice_get, refl, sym, ap, ◌∙◌, arith}
+use Rattle.std.specs.List.{list_all}
+use Rattle.std.proofs.Math.Seq.{take-nil, drop-nil}
+use Rattle.std.proofs.lemmas.Bool.{and_parts}
+use Rattle.std.proofs.lemmas.Bool.Decides.{Decides-ltb}
+use Rattle.std.proofs.lemmas.List.{length-append, append_assoc}
+use Rattle.rpki_c.specs.FaultNumbers.{FaultFields, fault_rows, field_names}
+use Rattle.rpki_c.specs.FaultTexts.{fault_numbered, first_number, has_part, part_name, told_if, told_of}
+use Rattle.rpki_c.specs.Writing.{written_over}
+
+-- two pieces are written as one where the second is written behind the first
+pub behind_first : {A : Type 0} (a b old : List A) → take (length a) (written_over a old) ++ written_over b (drop (length a) (written_over a old)) ≡ written_over (a ++ b) old
+behind_first {A} [] b old = ap (λ (xs : List A). written_over b (xs ++ old)) (take-nil (length old))
+behind_first {A} (x ∷ a) b [] = drop-nil {A = A} (length b)
+behind_first {A} (x ∷ a) b (o ∷ old) = ap (λ (xs : List A). x ∷ xs) (behind_first a b old)
+
+-- three pieces, each behind the one before
+pub three_pieces : {A : Type 0} (a p b old o1 o2 o3 : List A) → o1 ≡ written_over a old → o2 ≡ take (length a) o1 ++ written_over p (drop (length a) o1) → o3 ≡ take (length a + length p) o2 ++ written_over b (drop (length a + length p) o2) → o3 ≡ written_over (a ++ (p ++ b)) old
+three_pieces {A} a p b old o1 o2 o3 is1 is2 is3 =
+    let first : o2 ≡ written_over (a ++ p) old = is2 ∙ ap (λ (o : List A). take (length a) o ++ written_over p (drop (length a) o)) is1 ∙ behind_first a p old in
+    is3
+    ∙ ap (λ (n : ℕ). take n o2 ++ written_over b (drop n o2)) (sym (length-append a p))
+    ∙ ap (λ (o : List A). take (length (a ++ p)) o ++ written_over b (drop (length (a ++ p)) o)) first
+    ∙ behind_first (a ++ p) b old
+    ∙ ap (λ (xs : List A). written_over xs old) (append_assoc a p b)
+
+-- ---- how long sentences are
+
+-- what is found passes a test that all pass
+found_passes : {X : Type 0} (p q : X → Bool) (xs : List X) → list_all q xs ≡ true → IfSome (find p xs) (λ x. q x ≡ true)
+found_passes p q [] all = tt
+found_passes {X} p q (x ∷ xs) all =
+    let both = and_parts (q x) (list_all q xs) all in
+    elim (p x) as (λ b. IfSome (cond b (Some x) (find p xs)) (λ y. q y ≡ true)) [ true ↦ both.0 | false ↦ found_passes p q xs both.1 ]
+
+got_passes : {X : Type 0} (q : X → Bool) (xs : List X) (i : ℕ) → list_all q xs ≡ true → IfSome (slice_get xs i) (λ x. q x ≡ true)
+got_passes q [] i all = tt
+got_passes q (x ∷ xs) zero all = (and_parts (q x) (list_all q xs) all).0
+got_passes q (x ∷ xs) (suc i) all = got_passes q xs i (and_parts (q x) (list_all q xs) all).1
+
+abbrev has_short_name : List ℕ → Bool
+has_short_name name = nat_lt (length name) 1000
+
+abbrev is_short : FaultFields → Bool
+is_short it = nat_lt (length it.before + length it.behind) 1000
+
+names_are_short : list_all has_short_name field_names ≡ true
+unfolding field_names
+names_are_short = refl
+
+rows_are_short : list_all is_short fault_rows ≡ true
+unfolding fault_rows
+rows_are_short = refl
+
+part_is_short : (n : ℕ) → IfSome (part_name n) (λ part. has_short_name part ≡ true)
+part_is_short n =
+    elim (has_part n) as (λ b. IfSome (cond b (slice_get field_names (n % 20)) (Some [])) (λ part. has_short_name part ≡ true))
+    [ true ↦ got_passes has_short_name field_names (n % 20) names_are_short | false ↦ refl ]
+
+-- a sentence has fewer than 2^32 octets
+pub sentence_is_short : (n : ℕ) → IfSome (told_of n) (λ it. length it.sentence < 2 ^ 32)
+sentence_is_short n = here (part_name n) (fault_numbered (first_number n)) (part_is_short n) (found_passes (λ (it : FaultFields). it.number == first_number n) is_short fault_rows rows_are_short)
+  where
+    here : (part : Option (List ℕ)) (row : Option FaultFields) → IfSome part (λ name. has_short_name name ≡ true) → IfSome row (λ it. is_short it ≡ true) → IfSome (told_if part row) (λ it. length it.sentence < 2 ^ 32)
+    here None row a b = tt
+    here (Some part) None a b = tt
+    here (Some part) (Some row) a b = omega (arith, length-append row.before (part ++ row.behind), length-append part row.behind, (Decides-ltb (length part) 1000).0 a, (Decides-ltb (length row.before + length row.behind) 1000).0 b)
