@@ -1,11 +1,15 @@
-//! What the README's example answers, asked as any caller of the crate `rpki` would.
+//! What the README's examples answer, asked as any caller of the crate `rpki` would.
 
-use crate::holds_as;
+use crate::asking::holds_as;
+use crate::issuing::{Places, issue};
 use bytes::Bytes;
+use rpki::crypto::{PublicKey, PublicKeyFormat, StandIn};
+use rpki::repository::cert::Cert;
 use rpki::repository::crl::CrlStore;
 use rpki::repository::resources::Asn;
 use rpki::repository::tal::TalInfo;
-use rpki::repository::x509::Time;
+use rpki::repository::x509::{Serial, Time, Validity};
+use rpki::uri::Rsync;
 use std::alloc::Global;
 use std::process::Abort;
 
@@ -67,4 +71,55 @@ fn an_anchor_holds_what_it_lists(rt: HostRuntime) {
 fn another_signature_is_rejected(rt: HostRuntime) {
     let anchor = ending(&rt, rt.alloc(), 0x0c);
     assert!(rt; answer(&rt, rt.alloc(), &anchor, 64496).is_none());
+}
+
+fn rsync(rt: &impl Abort, alloc: Global, text: &str) -> Rsync {
+    Rsync::from_text(alloc, text).expect(rt, "an rsync URI")
+}
+
+fn places(rt: &impl Abort, alloc: Global) -> Places {
+    Places {
+        issuer: rsync(rt, alloc, "rsync://rpki.example.net/repo/anchor.cer"),
+        issuer_list: rsync(rt, alloc, "rsync://rpki.example.net/repo/anchor/anchor.crl"),
+        repository: rsync(rt, alloc, "rsync://rpki.example.net/repo/first/"),
+        manifest: rsync(rt, alloc, "rsync://rpki.example.net/repo/first/first.mft"),
+    }
+}
+
+// A certificate that is issued below the anchor, with signatures for tests.
+fn issued(rt: &impl Abort, alloc: Global, anchor: &Cert) -> Cert {
+    let key = PublicKey::new(PublicKeyFormat::Rsa, Bytes::from_static(b"a key"));
+    let from = Time::utc(2027, 5, 1, 0, 0, 0).expect(rt, "a day");
+    let until = Time::utc(2028, 5, 1, 0, 0, 0).expect(rt, "a day");
+    let validity = Validity::new(from, until);
+    let signing_key = anchor.as_tbs().subject_public_key_info();
+    let places = places(rt, alloc);
+    let serial = Serial::from(2u64);
+    let issued = issue(
+        alloc,
+        anchor,
+        &StandIn,
+        signing_key,
+        key,
+        serial,
+        validity,
+        places,
+    );
+    issued.expect(rt, "a certificate")
+}
+
+fn assert_issued(rt: &impl Abort, cert: &Cert, anchor: &Cert) {
+    assert!(rt; cert.inspect_ca(true).is_ok());
+    assert!(rt; cert.verify_signature(anchor, true, &StandIn).is_ok());
+    assert!(rt; cert.as_tbs().serial_number() == Serial::from(2u64));
+}
+
+#[test]
+fn a_certificate_is_issued(rt: HostRuntime) {
+    let octets = ending(&rt, rt.alloc(), 0x0d);
+    let anchor = Cert::decode_shared(rt.alloc(), octets).expect(&rt, "the anchor");
+    let cert = issued(&rt, rt.alloc(), &anchor);
+    assert_issued(&rt, &cert, &anchor);
+    drop(cert);
+    drop(anchor);
 }

@@ -1,6 +1,4 @@
 //! Asks a path of certificates about an AS number, through the crate `rpki`.
-#![tactic(auto)]
-
 ghost use Rattle.std.specs.Prelude.{true};
 ghost use Rattle.rpki.specs.Asking.{by_uri};
 ghost use Rattle.rpki.specs.RsaSignatures.{IsSignedByRsa};
@@ -36,6 +34,3 @@ pub fn holds_as(
     let holder = validate_path_with(alloc, store, anchor, cas, None, tal, true, now, &verifier)?;
     Ok(holder.as_resources().contains(asn))
 }
-
-#[cfg(test)]
-mod tests;

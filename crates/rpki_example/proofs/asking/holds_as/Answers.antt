@@ -5,7 +5,7 @@ use Rattle.rpki.specs.Asking.{RevocationChecks, by_uri}
 use Rattle.rpki.specs.Verification.{Context, context, ResourceFields}
 use Rattle.rpki.specs.Paths.{candidates, IsAccepted}
 use Rattle.rpki_example.specs.Answers.{IsHeld}
-use Rattle.rpki_example.proofs.holds_as.Goals as goal
+use Rattle.rpki_example.proofs.asking.holds_as.Goals as goal
 
 -- what was accepted holds exactly the numbers of the result
 answered : (x : Context) (asked : RevocationChecks) (anchor : List ℕ) (cas : List (List ℕ)) (tal : List ℕ) (asn : ℕ) (r : ResourceFields) (answer : Bool) → answer ≡ is_in asn r.as_numbers → IsAccepted x asked anchor (candidates cas None) tal r → IsHeld x asked anchor cas asn answer
