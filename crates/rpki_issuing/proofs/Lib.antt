@@ -1,0 +1,4 @@
+pub mod ReadSigned
+pub mod SignatureAlone
+pub mod ListSignatures
+pub mod NextEntries

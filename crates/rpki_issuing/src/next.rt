@@ -1,0 +1,152 @@
+//! The next revocation list of an issuer.
+ghost use Rattle.std.specs.Prelude.{◌≡◌, ◌↔◌, IsTrue, IfOk, IfErr, map};
+ghost use Rattle.std.specs.List.{filter};
+ghost use Rattle.rpki_crl.specs.RevokedEntries.{IsRevoked};
+ghost use Rattle.rpki_crl.specs.RevokedEntries.Views.{entry_of};
+ghost use Rattle.rpki_issuing.specs.NextLists.{HasNextEntries, IsNext, IsNoNext};
+ghost use Rattle.rpki_issuing.specs.NextLists.Steps.{keeps};
+
+use rpki_crl::{Crl, CrlEntry, RevokedCertificates, TbsCertList};
+use rpki_der::{EncodeError, Serial, Time};
+use std::alloc::{AllocError, Global};
+use thiserror::Error;
+
+/// Why there is no next list.
+#[derive(Debug, Drop, Error)]
+pub enum NextListError {
+    /// The number isn't greater than the list's before.
+    #[error("the number isn't greater")]
+    Number,
+    /// Memory ran out.
+    #[error("out of memory")]
+    Memory,
+}
+
+impl NextListError {
+    ghost use Rattle.rpki_issuing.specs.NextLists.{next_list_error_name};
+    ghost use Rattle.rpki_issuing.specs.declared.next.NextListError.TheVariants.{Memory};
+
+    /// Returns the variant's name.
+    pub fn name(&self) -> &'static str
+        ensures { result.now ≡ next_list_error_name self.now }
+    {
+        match self {
+            NextListError::Number => "Number",
+            NextListError::Memory => "Memory",
+        }
+    }
+
+    /// Tells whether memory ran out.
+    pub fn is_memory(&self) -> bool
+        ensures { IsTrue result ↔ self.now ≡ Memory }
+    {
+        match self {
+            NextListError::Number => false,
+            NextListError::Memory => true,
+        }
+    }
+}
+
+impl From<AllocError> for NextListError {
+    ghost use Rattle.rpki_issuing.specs.declared.next.NextListError.TheVariants.{Memory};
+
+    ghost from_gives = { λ _ e. e ≡ Memory };
+
+    fn from(_error: AllocError) -> NextListError {
+        NextListError::Memory
+    }
+}
+
+impl From<EncodeError> for NextListError {
+    ghost use Rattle.rpki_issuing.specs.declared.next.NextListError.TheVariants.{Memory};
+
+    ghost from_gives = { λ _ e. e ≡ Memory };
+
+    fn from(_error: EncodeError) -> NextListError {
+        NextListError::Memory
+    }
+}
+
+// Whether an entry has the number.
+fn is_revoked(serial: Serial, entries: &[CrlEntry]) -> bool
+    ensures { IsTrue result ↔ IsRevoked serial (map entry_of entries.now) }
+{
+    for entry in entries {
+        if entry.user_certificate == serial {
+            return true;
+        }
+    }
+    false
+}
+
+// The entries of the list whose certificates aren't gone.
+fn kept(alloc: Global, previous: &Crl, gone: &[Serial]) -> Result<Vec<CrlEntry>, AllocError>
+    ensures { IfOk result (λ entries. map entry_of entries.items
+        ≡ filter (keeps gone.now) previous.now.list.fields.revoked.entries) }
+{
+    let mut entries = Vec::new(alloc);
+    for entry in previous.as_cert_list().revoked_certs().iter() {
+        if !gone.contains(&entry.user_certificate) {
+            entries.push(entry)?;
+        }
+    }
+    Ok(entries)
+}
+
+// The entries of the next list.
+fn next_entries(
+    alloc: Global,
+    previous: &Crl,
+    revoked: &[CrlEntry],
+    gone: &[Serial],
+) -> Result<Vec<CrlEntry>, AllocError>
+    ensures { IfOk result (λ entries. HasNextEntries previous.now.list.fields
+        (map entry_of revoked.now) gone.now (map entry_of entries.items)) }
+{
+    let mut entries = kept(alloc, previous, gone)?;
+    for entry in revoked {
+        if !is_revoked(entry.user_certificate, &entries) {
+            entries.push(*entry)?;
+        }
+    }
+    Ok(entries)
+}
+
+/// Makes the data of the issuer's next list: its number is the one that is given, which has to be
+/// greater than the list's before (RFC 5280 5.2.3). Every entry stays whose certificate isn't gone,
+/// which means that it has expired (RFC 5280 5.1.2.6, 3.3); those of `revoked` come in, and nothing
+/// else. Which certificates have expired is the caller's to know. The issuer's name, its key
+/// identifier and the algorithm stay.
+pub fn next_list(
+    alloc: Global,
+    previous: &Crl,
+    number: Serial,
+    revoked: &[CrlEntry],
+    gone: &[Serial],
+    this_update: Time,
+    next_update: Time,
+) -> Result<TbsCertList<RevokedCertificates>, NextListError>
+    ensures next { IfOk result
+        (IsNext previous.now.list.fields (map entry_of revoked.now) gone.now) }
+    ensures number { IfOk result (λ f. f.extensions.crl_number ≡ number) }
+    ensures this_update { IfOk result (λ f. f.this_update ≡ this_update) }
+    ensures next_update { IfOk result (λ f. f.next_update ≡ next_update) }
+    ensures fault { IfErr result (IsNoNext previous.now.list.fields number) }
+{
+    let old = previous.as_cert_list();
+    if number <= old.crl_number() {
+        return Err(NextListError::Number);
+    }
+    let entries = next_entries(alloc, previous, revoked, gone)?;
+    let issuer = old.issuer().try_clone(alloc)?;
+    let list = TbsCertList::new(
+        old.signature(),
+        issuer,
+        this_update,
+        next_update,
+        entries,
+        *old.authority_key_identifier(),
+        number,
+    );
+    Ok(list.to_revoked(alloc)?)
+}

@@ -1,0 +1,73 @@
+//! What a certificate is issued as.
+ghost use Rattle.std.specs.Prelude.{IfErr, OnOk};
+ghost use Rattle.rpki_cert.specs.Verification.{context};
+ghost use Rattle.rpki_issuing.specs.Roles.{IsValidAs, IsInvalidAs};
+
+use crate::issuing_error::IssuingError;
+use rpki_cert::{Cert, ResourceCert};
+use rpki_der::Time;
+use rpki_parts::Verifier;
+use std::alloc::Global;
+
+/// What a certificate is issued as: of which kind, and below which issuer.
+#[derive(Clone, Copy, Drop)]
+pub enum Role<'i> {
+    /// A trust anchor, which signs itself.
+    Anchor,
+    /// A CA below this one.
+    Authority(&'i ResourceCert),
+    /// An end entity, which signs an object that its certificate names.
+    EndEntity(&'i ResourceCert),
+    /// An end entity that signs any object.
+    Detached(&'i ResourceCert),
+    /// A BGPsec router (RFC 8209).
+    Router(&'i ResourceCert),
+}
+
+impl Role<'_> {
+    /// Validates the certificate in this role, and keeps it: inspects it as one of the kind, and
+    /// then verifies it, as [`Cert::validate_ca_at`] and its siblings do. Errs with the first fault.
+    pub fn validate<V: Verifier>(
+        &self,
+        alloc: Global,
+        cert: &Cert,
+        strict: bool,
+        now: Time,
+        verifier: &V,
+    ) -> Result<(), IssuingError>
+        ensures ok { let x = context (V.verifies verifier.now) now strict in
+            OnOk result (IsValidAs x self.now cert.now) }
+        ensures fault { let x = context (V.verifies verifier.now) now strict in
+            IfErr result (IsInvalidAs x self.now cert.now) }
+    {
+        match *self {
+            Role::Anchor => {
+                cert.inspect_ta(strict)?;
+                cert.verify_ta_ref_at(strict, now, verifier)?;
+                Ok(())
+            }
+            Role::Authority(issuer) => {
+                let copy = cert.try_clone(alloc)?;
+                let valid = copy.validate_ca_at(alloc, issuer, strict, now, verifier)?;
+                drop(valid);
+                Ok(())
+            }
+            Role::EndEntity(issuer) => {
+                let copy = cert.try_clone(alloc)?;
+                let valid = copy.validate_ee_at(alloc, issuer, strict, now, verifier)?;
+                drop(valid);
+                Ok(())
+            }
+            Role::Detached(issuer) => {
+                let copy = cert.try_clone(alloc)?;
+                let valid = copy.validate_detached_ee_at(alloc, issuer, strict, now, verifier)?;
+                drop(valid);
+                Ok(())
+            }
+            Role::Router(issuer) => {
+                cert.validate_router_at(issuer, strict, now, verifier)?;
+                Ok(())
+            }
+        }
+    }
+}
