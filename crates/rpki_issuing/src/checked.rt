@@ -9,6 +9,7 @@ use thiserror::Error;
 /// Signs by another signer, and verifies each signature by this public key before it answers: so
 /// what is made and signed is signed by this key, whatever the signer does. A signer whose one
 /// wrong operation would betray its key is caught too.
+#[derive(Drop)]
 pub struct Checked<S, V> {
     /// Who signs.
     pub signer: S,

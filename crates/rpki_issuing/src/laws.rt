@@ -1,9 +1,16 @@
 //! Laws about what is issued. Each is the contract of a function with no parameters and an empty
 //! body.
 ghost use Rattle.std.specs.Prelude.{ℕ, Bool, List};
+ghost use Rattle.rpki_parts.specs.Conditions.{IsFirstFalse};
 ghost use Rattle.rpki_der.specs.Times.{Moment};
 ghost use Rattle.rpki_cert.specs.Certificates.{TbsFields};
-ghost use Rattle.rpki_cert.specs.Verification.{context};
+ghost use Rattle.rpki_cert.specs.Verification.{context, IsVerified};
+ghost use Rattle.rpki_crl.specs.Lists.{CrlState};
+ghost use Rattle.rpki_crl.specs.Revocation.{IsUnderUri, RevocationCheck, revocation_checks};
+ghost use Rattle.rpki_crl.specs.RevokedEntries.{IsRevoked};
+ghost use Rattle.rpki_crl.specs.Stores.{Stored};
+ghost use Rattle.rpki_crl.specs.declared.revocation_error.RevocationError.TheVariants.{Revoked};
+ghost use Rattle.rpki_issuing.specs.ListReadiness.{LeavesOthers, RevokesItsOwn};
 ghost use Rattle.rpki_issuing.specs.Readiness.{signed_with, IsReady, IsSignatureOf};
 ghost use Rattle.rpki_issuing.specs.Roles.{IsValidAs};
 ghost use Rattle.rpki_issuing.specs.declared.role.Role.{Role};
@@ -17,4 +24,23 @@ pub fn ready_once_signed<V: Verifier>()
         (value : List ℕ) → IsReady now strict role f
         → IsSignatureOf (V.verifies verifier) role f value
         → IsValidAs (context (V.verifies verifier) now strict) role (signed_with f value) }
+{}
+
+/// Says that a list that leaves others and revokes its own (as [`crate::complete_list`] promises)
+/// does so too where it is the first of a store under its URI: [`rpki_crl::CrlStore::check`] is Ok
+/// for each serial number that isn't on it, and else errs with `Revoked`.
+pub fn stored_list_answers<V: Verifier>()
+    ensures unrevoked { (verifier : V) (now : Moment) (strict : Bool) (issuer : TbsFields)
+        (pairs : List Stored) (uri : List ℕ) (crl : CrlState) (serial : ℕ)
+        → let x = context (V.verifies verifier) now strict in
+        IsUnderUri pairs uri crl → LeavesOthers x issuer crl.list
+        → (IsRevoked serial crl.list.fields.revoked.entries → ⊥)
+        → IsVerified (RevocationCheck x issuer serial (IsUnderUri pairs uri)) revocation_checks }
+    ensures revoked { (verifier : V) (now : Moment) (strict : Bool) (issuer : TbsFields)
+        (pairs : List Stored) (uri : List ℕ) (crl : CrlState) (serial : ℕ)
+        → let x = context (V.verifies verifier) now strict in
+        IsUnderUri pairs uri crl → RevokesItsOwn x issuer crl.list
+        → IsRevoked serial crl.list.fields.revoked.entries
+        → IsFirstFalse (RevocationCheck x issuer serial (IsUnderUri pairs uri))
+        revocation_checks Revoked }
 {}
