@@ -121,6 +121,18 @@ pub use Rattle.rpki_crl.specs.ListMaking
 pub use Rattle.rpki_crl.specs.Revocation
 pub use Rattle.rpki_crl.specs.declared.entry.CrlEntry
 pub use Rattle.rpki_crl.specs.declared.revocation_error.RevocationError
+-- ---- issuing where the key is elsewhere
+pub use Rattle.rpki_issuing.specs.IssuingErrors
+pub use Rattle.rpki_issuing.specs.Roles
+pub use Rattle.rpki_issuing.specs.Readiness
+pub use Rattle.rpki_issuing.specs.NextLists
+pub use Rattle.rpki_issuing.specs.ListReadiness
+pub use Rattle.rpki_issuing.specs.CheckedSigners
+pub use Rattle.rpki_issuing.specs.declared.checked.CheckedError
+pub use Rattle.rpki_issuing.specs.declared.issuing_error.IssuingError
+pub use Rattle.rpki_issuing.specs.declared.list_error.ListError
+pub use Rattle.rpki_issuing.specs.declared.next.NextListError
+pub use Rattle.rpki_issuing.specs.declared.role.Role
 -- ---- who answers for revocation
 pub use Rattle.rpki_revocation.specs.Asking
 pub use Rattle.rpki_revocation.specs.AskedLists
