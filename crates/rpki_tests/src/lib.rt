@@ -9,6 +9,8 @@ mod counting;
 #[cfg(test)]
 mod devices;
 #[cfg(test)]
+mod elsewhere;
+#[cfg(test)]
 mod errors;
 #[cfg(test)]
 mod given_lists;

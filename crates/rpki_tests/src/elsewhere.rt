@@ -1,0 +1,277 @@
+//! Certificates and lists whose signatures come from elsewhere: prepared, signed, completed.
+
+use crate::lists::data;
+use rpki_blocks::{AsBlock, Asn};
+use rpki_cert::{Cert, KeyUsage, Overclaim, ResourceCert, TbsCert, ValidationError};
+use rpki_cert_tests::samples::{self, day, rsa};
+use rpki_crl::{Crl, CrlEntry};
+use rpki_der::{Serial, Time};
+use rpki_issuing::{
+    Checked, CheckedError, IssuingError, ListError, NextListError, Prepared, PreparedList, Role,
+    complete, complete_list, next_list, prepare, prepare_list,
+};
+use rpki_parts::{RpkiSignatureAlgorithm, Signature, Signer, SigningError, StandIn};
+use std::alloc::Global;
+use std::process::Abort;
+
+// What the stand-in signs, by the key that the bits are.
+fn signed_by(rt: &impl Abort, alloc: Global, bits: &'static [u8], octets: &[u8]) -> Signature {
+    let key = rsa(bits);
+    let algorithm = RpkiSignatureAlgorithm::default();
+    let signature = StandIn.sign(alloc, &key, algorithm, octets);
+    drop(key);
+    signature.expect(rt, "a signature")
+}
+
+fn now(rt: &impl Abort) -> Time {
+    day(2024).expect(rt, "a day")
+}
+
+fn anchor(rt: &impl Abort, alloc: Global) -> ResourceCert {
+    let octets = samples::anchor_octets(alloc).expect(rt, "memory");
+    samples::valid_anchor(alloc, octets, now(rt)).expect(rt, "an anchor")
+}
+
+fn prepared(rt: &impl Abort, alloc: Global, tbs: &TbsCert, role: &Role<'_>) -> Prepared {
+    let prepared = prepare(alloc, tbs, role, true, now(rt)).expect(rt, "it is ready");
+    let written = samples::written(alloc, tbs).expect(rt, "memory");
+    assert!(rt; prepared.octets() == written.as_slice());
+    prepared
+}
+
+// The name of the fault, of the check that fails where one does.
+fn fault<T>(answer: &Result<T, IssuingError>) -> &'static str {
+    match answer {
+        Ok(_) => "Ok",
+        Err(IssuingError::Invalid(ValidationError::Inspection(error))) => error.name(),
+        Err(IssuingError::Invalid(ValidationError::Verification(error))) => error.name(),
+        Err(error) => error.name(),
+    }
+}
+
+// Completes what was prepared with a signature by these bits.
+fn completed(
+    rt: &impl Abort,
+    alloc: Global,
+    prepared: &Prepared,
+    role: &Role<'_>,
+    bits: &'static [u8],
+) -> Result<Cert, IssuingError> {
+    let signature = signed_by(rt, alloc, bits, prepared.octets());
+    let answer = complete(
+        alloc,
+        prepared,
+        signature.value(),
+        role,
+        true,
+        now(rt),
+        &StandIn,
+    );
+    drop(signature);
+    answer
+}
+
+// That the data is completed in this role by the anchor's key, and by no other key. The certificate
+// has this hash.
+fn assert_completed(rt: &impl Abort, alloc: Global, tbs: &TbsCert, role: &Role<'_>, hash: &str) {
+    let prepared = prepared(rt, alloc, tbs, role);
+    let answer = completed(rt, alloc, &prepared, role, b"abd");
+    assert_eq!(rt; fault(&answer), "BadSignature");
+    drop(answer);
+    let cert = completed(rt, alloc, &prepared, role, b"abc").expect(rt, "it is signed");
+    let kept = cert.to_captured(alloc).expect(rt, "memory");
+    assert!(rt; samples::has_hash(alloc, &kept, hash));
+    drop(cert);
+    drop(prepared);
+}
+
+#[test]
+fn an_end_entity_is_completed(rt: HostRuntime) {
+    let issuer = anchor(&rt, rt.alloc());
+    let tbs = samples::end_entity(rt.alloc()).expect(&rt, "memory");
+    let role = Role::Detached(&issuer);
+    assert_completed(&rt, rt.alloc(), &tbs, &role, samples::END_ENTITY);
+    let answer = prepare(rt.alloc(), &tbs, &Role::EndEntity(&issuer), true, now(&rt));
+    assert_eq!(rt; fault(&answer), "MissingSignedObject");
+    drop(answer);
+    drop(tbs);
+    drop(issuer);
+}
+
+#[test]
+fn a_router_is_completed(rt: HostRuntime) {
+    let issuer = anchor(&rt, rt.alloc());
+    let tbs = samples::router(rt.alloc()).expect(&rt, "memory");
+    assert_completed(
+        &rt,
+        rt.alloc(),
+        &tbs,
+        &Role::Router(&issuer),
+        samples::ROUTER,
+    );
+    drop(tbs);
+    drop(issuer);
+}
+
+#[test]
+fn a_trust_anchor_is_completed(rt: HostRuntime) {
+    let tbs = samples::anchor(rt.alloc()).expect(&rt, "memory");
+    assert_completed(&rt, rt.alloc(), &tbs, &Role::Anchor, samples::ANCHOR);
+    drop(tbs);
+}
+
+// The anchor with AS50 alone.
+fn small_anchor(rt: &impl Abort, alloc: Global) -> ResourceCert {
+    let mut tbs = samples::anchor(alloc).expect(rt, "memory");
+    let number = AsBlock::from((Asn::from(50), Asn::from(50)));
+    tbs.as_resources_from_iter(alloc, [number])
+        .expect(rt, "memory");
+    let octets = samples::signed(alloc, tbs).expect(rt, "memory");
+    samples::valid_anchor(alloc, octets, now(rt)).expect(rt, "an anchor")
+}
+
+// An authority that lists AS50 up to this number, and may not overclaim.
+fn authority(rt: &impl Abort, alloc: Global, up_to: u32) -> TbsCert {
+    let mut tbs = samples::bare(alloc, 13, rsa(b"a"), KeyUsage::Ca).expect(rt, "memory");
+    tbs.set_overclaim(Overclaim::Refuse);
+    samples::set_authority(alloc, &mut tbs).expect(rt, "memory");
+    let numbers = AsBlock::from((Asn::from(50), Asn::from(up_to)));
+    tbs.as_resources_from_iter(alloc, [numbers])
+        .expect(rt, "memory");
+    tbs
+}
+
+#[test]
+fn an_authority_is_completed(rt: HostRuntime) {
+    let issuer = small_anchor(&rt, rt.alloc());
+    let tbs = authority(&rt, rt.alloc(), 50);
+    let role = Role::Authority(&issuer);
+    let prepared = prepared(&rt, rt.alloc(), &tbs, &role);
+    let cert = completed(&rt, rt.alloc(), &prepared, &role, b"abc");
+    assert_eq!(rt; fault(&cert), "Ok");
+    drop(cert);
+    drop(prepared);
+    drop(tbs);
+    drop(issuer);
+}
+
+#[test]
+fn one_that_overclaims_is_not_prepared(rt: HostRuntime) {
+    let issuer = small_anchor(&rt, rt.alloc());
+    let tbs = authority(&rt, rt.alloc(), 51);
+    let answer = prepare(rt.alloc(), &tbs, &Role::Authority(&issuer), true, now(&rt));
+    assert_eq!(rt; fault(&answer), "OverclaimAs");
+    drop(answer);
+    drop(tbs);
+    drop(issuer);
+}
+
+// ---- lists
+
+// The list of the anchor that revokes the numbers 12 and 42; its own number is 12.
+fn list(rt: &impl Abort, alloc: Global) -> Crl {
+    let made = data(rt, alloc).into_crl(alloc, &StandIn, &rsa(b"abc"));
+    made.expect(rt, "a list")
+}
+
+fn next(
+    rt: &impl Abort,
+    alloc: Global,
+    list: &Crl,
+    issuer: &ResourceCert,
+    number: u64,
+) -> Result<PreparedList, NextListError> {
+    let revoked = [CrlEntry::new(Serial::from(5u64), now(rt))];
+    let until = day(2025).expect(rt, "a day");
+    let number = Serial::from(number);
+    let gone = [Serial::from(12u64)];
+    let fields = next_list(alloc, list, number, &revoked, &gone, now(rt), until)?;
+    let prepared = prepare_list(alloc, &fields, issuer, true, now(rt));
+    drop(fields);
+    Ok(prepared.expect(rt, "it is ready"))
+}
+
+fn completed_list(
+    rt: &impl Abort,
+    alloc: Global,
+    prepared: &PreparedList,
+    issuer: &ResourceCert,
+    bits: &'static [u8],
+) -> Result<Crl, ListError> {
+    let signature = signed_by(rt, alloc, bits, prepared.octets());
+    let value = signature.value();
+    let answer = complete_list(alloc, prepared, value, issuer, true, now(rt), &StandIn);
+    drop(signature);
+    answer
+}
+
+fn assert_next(rt: &impl Abort, next: &Crl) {
+    assert!(rt; next.as_cert_list().crl_number() == Serial::from(13u64));
+    assert!(rt; next.contains(Serial::from(42u64)));
+    assert!(rt; next.contains(Serial::from(5u64)));
+    assert!(rt; !next.contains(Serial::from(12u64)));
+}
+
+fn assert_next_is_completed(rt: &impl Abort, alloc: Global, list: &Crl, issuer: &ResourceCert) {
+    let prepared = next(rt, alloc, list, issuer, 13).expect(rt, "a list");
+    let answer = completed_list(rt, alloc, &prepared, issuer, b"abd");
+    assert_eq!(rt; list_fault(&answer), "BadSignature");
+    drop(answer);
+    let next = completed_list(rt, alloc, &prepared, issuer, b"abc").expect(rt, "it is signed");
+    assert_next(rt, &next);
+    drop(next);
+    drop(prepared);
+}
+
+fn list_fault(answer: &Result<Crl, ListError>) -> &'static str {
+    match answer {
+        Ok(_) => "Ok",
+        Err(ListError::Invalid(error)) => error.name(),
+        Err(error) => error.name(),
+    }
+}
+
+#[test]
+fn the_next_list_is_completed(rt: HostRuntime) {
+    let issuer = anchor(&rt, rt.alloc());
+    let list = list(&rt, rt.alloc());
+    assert_next_is_completed(&rt, rt.alloc(), &list, &issuer);
+    let same = next(&rt, rt.alloc(), &list, &issuer, 12);
+    assert!(rt; matches!(&same, Err(NextListError::Number)));
+    drop(same);
+    drop(list);
+    drop(issuer);
+}
+
+// ---- a checked signer
+
+fn checked_answer(
+    alloc: Global,
+    bits: &'static [u8],
+) -> Result<Signature, SigningError<CheckedError<()>>> {
+    let checked = Checked {
+        signer: StandIn,
+        verifier: StandIn,
+        public_key: rsa(b"abc"),
+    };
+    let key = rsa(bits);
+    let answer = checked.sign(alloc, &key, RpkiSignatureAlgorithm::default(), b"message");
+    drop(key);
+    drop(checked);
+    answer
+}
+
+#[test]
+fn a_signature_by_another_key_is_held_back(rt: HostRuntime) {
+    let answer = checked_answer(rt.alloc(), b"abc").expect(&rt, "a signature");
+    assert_eq!(rt; answer.value(), b"abcmessage".as_slice());
+    drop(answer);
+    let answer = checked_answer(rt.alloc(), b"abd");
+    assert!(rt;
+        matches!(
+            &answer,
+            Err(SigningError::Signer(CheckedError::BadSignature))
+        )
+    );
+    drop(answer);
+}
