@@ -37,7 +37,8 @@ pub fn complete<V: Verifier>(
     ensures fault { let x = context (V.verifies verifier.now) now strict in
         IfErr result (IsIncomplete x role.now prepared.now signature.now) }
     ensures ready { IsReady now strict role.now prepared.now
-        → IfErr result (IsSignatureFault (V.verifies verifier.now) role.now prepared.now signature.now) }
+        → IfErr result (IsSignatureFault (V.verifies verifier.now)
+        role.now prepared.now signature.now) }
 {
     // Called for what it ensures alone.
     let _octets = prepared.octets();

@@ -36,8 +36,8 @@ impl Prepared {
         self.unsigned.as_tbs()
     }
 
-    /// Returns what is to be signed: the TBSCertificate with these fields, its identifier and length
-    /// included (RFC 5280 4.1.1.3).
+    /// Returns what is to be signed: the TBSCertificate with these fields, its identifier and
+    /// length included (RFC 5280 4.1.1.3).
     pub fn octets(&self) -> &[u8]
         ensures octets { result.now ≡ encoding self.now }
         ensures written { CanBeWritten self.now }

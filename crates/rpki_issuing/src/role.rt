@@ -26,7 +26,8 @@ pub enum Role<'i> {
 
 impl Role<'_> {
     /// Validates the certificate in this role, and keeps it: inspects it as one of the kind, and
-    /// then verifies it, as [`Cert::validate_ca_at`] and its siblings do. Errs with the first fault.
+    /// then verifies it, as [`Cert::validate_ca_at`] and its siblings do. Errs with the first
+    /// fault.
     pub fn validate<V: Verifier>(
         &self,
         alloc: Global,
