@@ -1,6 +1,6 @@
 -- What a reader's answer says of whether a content begins with a value.
-use Rattle.std.specs.Prelude.{Result, Ok, Err, IsOk, MatchResult}
-use Rattle.std.proofs.Common.{◌≡◌, ℕ, List, sym, subst}
+use Rattle.std.specs.Prelude.{Result, Ok, Err, IsOk, IsTrue, MatchResult, is_ok}
+use Rattle.std.proofs.Common.{◌≡◌, ◌↔◌, ℕ, List, refl, sym, subst}
 use Rattle.std.proofs.lemmas.Bool.{false≢true}
 use Rattle.rpki.specs.DecodeError.{DecodeError}
 use Rattle.rpki.specs.DecodeError.TheVariants as decoding
@@ -31,3 +31,8 @@ pub begins : {X Y : Type 0} (view : X → Y) (encodes : Y → List ℕ → Type 
     → ReadsFrontBy view encodes old r new → MatchResult r (λ _. IsOk s) (λ e. s ≡ Err e) → SaysWhether s (HasValue encodes (remaining old))
 begins view encodes old new (Ok x) s a h = begins_or_memory view encodes old new (Ok x) s a h
 begins view encodes old new (Err e) s a h = begins_or_memory view encodes old new (Err e) s (stands e a.1) h
+
+-- whether such a reader reads a value
+pub read_or_none : {X Y : Type 0} (view : X → Y) (encodes : Y → List ℕ → Type 0) (old new : Place) (r : Result X DecodeError) → ReadsFrontBy view encodes old r new → IsTrue (is_ok r) ↔ HasValue encodes (remaining old)
+read_or_none view encodes old new (Ok x) a = ((λ yes. (view x, (remaining new, a))), (λ has. refl))
+read_or_none view encodes old new (Err e) a = ((λ yes. absurd (false≢true yes)), (λ has. absurd (a.1 has.0 has.1.0 has.1.1)))

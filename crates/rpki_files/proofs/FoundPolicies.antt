@@ -1,4 +1,4 @@
--- Whether one of the extensions at the front has an identifier, and where extensions stand.
+-- Whether one of the extensions at the front is one that is looked for, and where extensions stand.
 use Rattle.std.proofs.Common.{◌≡◌, ◌↔◌, ◌<◌, ℕ, List, [], ◌∷◌, ◌++◌, length, Option, Some, refl, sym, ap, subst, ◌∙◌, inl, inr, append_assoc, arith}
 use Rattle.rpki.specs.Encoding.{Begins, Means}
 use Rattle.rpki.specs.Extensions.{Extension, IsExtension, extension_format}
@@ -11,12 +11,13 @@ use Rattle.rpki_der.proofs.ExtensionReads.{extension_reads, extension_shrinks}
 use Rattle.rpki_der.proofs.Octets.{AreOctets-after, bind_some, some, some_is}
 use Rattle.rpki_der.proofs.Readings.{inside_reads}
 use Rattle.rpki_der.proofs.ValueReads.{value_reads}
-use Rattle.rpki_files.specs.PolicyPresence.{BeginsWithOne, StandBefore, tags_before, HasExtensions}
+use Rattle.rpki_files.specs.PolicyPresence.{AreExtensions, BeginsWithOne, IsWanted, StandBefore, tags_before, HasExtensions}
 use Rattle.rpki_files.specs.PolicyPresence.Reading.{behind, rest_at, extensions_at}
+use Rattle.rpki_files.specs.declared.policies.Wanted.{Wanted}
 
 -- ---- extensions at the front
 
-module _ (id octets : List ℕ) where
+module _ (wanted : Wanted) (octets : List ℕ) where
   -- the first of them, and what stands behind it
   first_is : (xs : List Extension) (v : Extension) (h : Means (AreEncodings IsExtension) (v ∷ xs) octets) → (b : List ℕ) × (extension_format.read octets ≡ Some (v, b)) × Means (AreEncodings IsExtension) xs b
   first_is xs v h =
@@ -26,7 +27,7 @@ module _ (id octets : List ℕ) where
       (s.1 ++ h.0, ap extension_format.read whole ∙ extension_reads.again v s.0 (s.1 ++ h.0) s.2, (h.0, record { text = s.1; encoded = s.3; parts = refl }))
 
   -- none stands there
-  pub none_there : ((x : Extension) (rest : List ℕ) → Begins IsExtension octets x rest → ⊥) → BeginsWithOne id octets → ⊥
+  pub none_there : ((x : Extension) (rest : List ℕ) → Begins IsExtension octets x rest → ⊥) → BeginsWithOne wanted octets → ⊥
   none_there none ([], means, among) = among
   none_there none (v ∷ xs, means, among) =
       let s = means.1.encoded in
@@ -43,13 +44,13 @@ module _ (id octets : List ℕ) where
       },
     )
 
-    -- the first has the identifier
-    pub first_has : x.identifier ≡ id → BeginsWithOne id octets
+    -- the first is one
+    pub first_has : IsWanted wanted x.identifier x.content → BeginsWithOne wanted octets
     first_has is = (x ∷ [], one_more [] (rest, record { text = []; encoded = refl; parts = refl }), inl is)
 
-    -- the first has another one
-    module _ (read : extension_format.read octets ≡ Some (x, rest)) (other : x.identifier ≡ id → ⊥) where
-      rest_has : BeginsWithOne id octets → BeginsWithOne id rest
+    -- the first is none
+    module _ (read : extension_format.read octets ≡ Some (x, rest)) (other : IsWanted wanted x.identifier x.content → ⊥) where
+      rest_has : BeginsWithOne wanted octets → BeginsWithOne wanted rest
       rest_has ([], means, among) = absurd among
       rest_has (v ∷ xs, means, among) =
           let f = first_is xs v means in
@@ -57,19 +58,46 @@ module _ (id octets : List ℕ) where
           let same_first : v ≡ x = ap (λ (p : Extension × List ℕ). p.0) both in
           let same_rest : f.0 ≡ rest = ap (λ (p : Extension × List ℕ). p.1) both in
           elim among [
-            | inl is ↦ absurd (other (sym (ap (λ (y : Extension). y.identifier) same_first) ∙ is))
+            | inl is ↦ absurd (other (subst (λ (y : Extension). IsWanted wanted y.identifier y.content) same_first is))
             | inr more ↦ (xs, subst (λ (b : List ℕ). Means (AreEncodings IsExtension) xs b) same_rest f.2, more)
           ]
 
-      pub others_have : BeginsWithOne id octets ↔ BeginsWithOne id rest
+      pub others_have : BeginsWithOne wanted octets ↔ BeginsWithOne wanted rest
       others_have = (rest_has, λ h. (x ∷ h.0, one_more h.0 h.1, inr h.2))
 
 -- no octets have none
-pub none_of_nothing : (id octets : List ℕ) → length octets < 1 → BeginsWithOne id octets → ⊥
-none_of_nothing id octets few ([], means, among) = among
-none_of_nothing id octets few (v ∷ xs, means, among) =
-    let f = first_is id octets xs v means in
+pub none_of_nothing : (wanted : Wanted) (octets : List ℕ) → length octets < 1 → BeginsWithOne wanted octets → ⊥
+none_of_nothing wanted octets few ([], means, among) = among
+none_of_nothing wanted octets few (v ∷ xs, means, among) =
+    let f = first_is wanted octets xs v means in
     omega (arith, few, extension_shrinks octets v f.0 f.1)
+
+-- ---- extensions, and nothing else
+
+module _ (octets : List ℕ) where
+  -- none stands at the front of octets that are some
+  pub no_extensions : (octets ≡ [] → ⊥) → ((x : Extension) (rest : List ℕ) → Begins IsExtension octets x rest → ⊥) → AreExtensions octets → ⊥
+  no_extensions some none ([], are) = some are
+  no_extensions some none (v ∷ xs, s) = none v s.1 (record { text = s.0; encoded = s.2; parts = s.4 })
+
+  -- what stands behind the first
+  rest_are : (x : Extension) (rest : List ℕ) → extension_format.read octets ≡ Some (x, rest) → AreExtensions octets → AreExtensions rest
+  rest_are x rest read ([], are) =
+      let empty : length octets ≡ 0 = ap length are in
+      absurd (omega (arith, empty, extension_shrinks octets x rest read))
+  rest_are x rest read (v ∷ xs, s) =
+      let again : extension_format.read octets ≡ Some (v, s.1) = ap extension_format.read s.4 ∙ extension_reads.again v s.0 s.1 s.2 in
+      let same = ap (λ (p : Extension × List ℕ). p.1) (some_is {A = Extension × List ℕ} (v, s.1) (x, rest) (sym again ∙ read)) in
+      (xs, subst (AreEncodings IsExtension xs) same s.3)
+
+  -- the first one aside
+  pub are_more : (x : Extension) (rest : List ℕ) → Begins IsExtension octets x rest → extension_format.read octets ≡ Some (x, rest) → AreExtensions rest ↔ AreExtensions octets
+  are_more x rest begins read = ((λ are. (x ∷ are.0, (begins.text, rest, begins.encoded, are.1, begins.parts))), rest_are x rest read)
+
+-- no octets are no extensions
+pub are_none : (octets : List ℕ) → length octets < 1 → AreExtensions octets
+are_none [] few = ([], refl)
+are_none (octet ∷ octets) few = absurd (omega arith)
 
 -- ---- where extensions stand
 

@@ -5,3 +5,4 @@ mod FirstInside
 pub mod FoundPolicies
 pub mod NothingRead
 mod PemLines
+mod Turns

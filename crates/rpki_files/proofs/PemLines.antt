@@ -16,7 +16,7 @@ use Rattle.rpki.specs.Digits.{without_white_space}
 use Rattle.rpki_files.specs.PemFiles.{HasBase64, is_begin_line, is_end_line, lines_behind_begin}
 
 -- an element that passes, where none before it does, is the first
-first_at : {X : Type 0} (p : X → Bool) (xs : List X) (n : ℕ) (x : X) → list_any p (take n xs) ≡ false → n < length xs → x ≡ get_or xs n x → p x ≡ true
+pub first_at : {X : Type 0} (p : X → Bool) (xs : List X) (n : ℕ) (x : X) → list_any p (take n xs) ≡ false → n < length xs → x ≡ get_or xs n x → p x ≡ true
     → (position_or_len p xs ≡ n) × (list_any p xs ≡ true)
 first_at p [] n x none within at passes = absurd (omega arith)
 first_at p (y ∷ ys) zero x none within at passes =
@@ -29,7 +29,7 @@ first_at p (y ∷ ys) (suc n) x none within at passes =
     (rw not_here (omega (arith, later.0)), or_right (p y) (list_any p ys) later.1)
 
 -- one more element that doesn't pass
-none_more : {X : Type 0} (p : X → Bool) (xs : List X) (x : X) → list_any p xs ≡ false → p x ≡ false → list_any p (xs ++ x ∷ []) ≡ false
+pub none_more : {X : Type 0} (p : X → Bool) (xs : List X) (x : X) → list_any p xs ≡ false → p x ≡ false → list_any p (xs ++ x ∷ []) ≡ false
 none_more p [] x none fails = or_from (p x) false fails refl
 none_more p (y ∷ ys) x none fails =
     let parts = or_parts (p y) (list_any p ys) none in

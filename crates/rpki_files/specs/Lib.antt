@@ -8,3 +8,5 @@ pub mod StopPlaces
 pub mod PolicyPresence
 pub mod FaultRules
 pub mod KnownKinds
+pub mod FileSorts
+pub mod SortTexts

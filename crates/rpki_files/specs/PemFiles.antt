@@ -1,14 +1,24 @@
 -- The object of a file: in PEM (RFC 7468), or the file's octets as they are.
 use Rattle.std.specs.List.{after_first, before_first, flat_map, list_any, starts_with}
-use Rattle.std.specs.Prelude.{◌≡◌, ◌⊎◌, ℕ, nat_eq, Bool, IsTrue, List, codes}
+use Rattle.std.specs.Prelude.{◌≡◌, ◌⊎◌, ◌||◌, ℕ, nat_eq, Bool, IsTrue, List, [], ◌∷◌, ◌++◌, codes}
 use Rattle.std.specs.Str.{IsUtf8}
 use Rattle.std.specs.Str.Lines.{lines}
 use Rattle.base64.specs.GeneralPurpose.{IsBytes}
 use Rattle.rpki.specs.Digits.{base64_of, without_white_space}
 
--- a line at which an object begins, and one at which it ends
+-- U+FEFF in UTF-8 (RFC 3629 6), which some editors write at the head of a text
+abbrev pub byte_order_mark : List ℕ
+byte_order_mark = 0xEF ∷ 0xBB ∷ 0xBF ∷ []
+
+-- what a line begins with at which an object begins
+abbrev pub begin_line : List ℕ
+begin_line = codes "-----BEGIN "
+
+-- a line at which an object begins, be there a byte order mark before it (own), and one at which it
+-- ends
 abbrev pub is_begin_line : List ℕ → Bool
-is_begin_line line = starts_with nat_eq line (codes "-----BEGIN ")
+is_begin_line line =
+    starts_with nat_eq line begin_line || starts_with nat_eq line (byte_order_mark ++ begin_line)
 
 abbrev pub is_end_line : List ℕ → Bool
 is_end_line line = starts_with nat_eq line (codes "-----END ")
@@ -31,3 +41,24 @@ pub record IsPemOf (octets file : List ℕ) : Type 0 where
 -- the octets of a file's object: of its first one in PEM, or all of the file's where it isn't in PEM
 abbrev pub IsObjectOf : List ℕ → List ℕ → Type 0
 IsObjectOf file octets = IsPemOf octets file ⊎ ((octets ≡ file) × ((inside : List ℕ) → ¬ IsPemOf inside file))
+
+-- ---- files that are nearly in PEM
+
+-- an object begins at one of a text's lines
+abbrev pub HasBeginLine : List ℕ → Type 0
+HasBeginLine text = IsTrue (list_any is_begin_line (lines text))
+
+-- a text in which an object begins that has no end
+abbrev pub IsUnendedPem : List ℕ → Type 0
+IsUnendedPem file = IsUtf8 file × HasBeginLine file × ((digits : List ℕ) → ¬ HasBase64 digits file)
+
+-- a text in which an object begins, and whose first object has no octets
+abbrev pub IsDamagedPem : List ℕ → Type 0
+IsDamagedPem file = IsUtf8 file × HasBeginLine file × ((octets : List ℕ) → ¬ IsPemOf octets file)
+
+-- a text without the lines of PEM: base64, white space aside, that begins as that of a SEQUENCE of
+-- 128 octets or more does, whose identifier is 30 and whose length begins with 8 (own)
+abbrev pub IsBareBase64 : List ℕ → Type 0
+IsBareBase64 file =
+    IsTrue (starts_with nat_eq file (codes "MI"))
+    × ((octets : List ℕ) × IsBytes octets × (without_white_space file ≡ base64_of octets))

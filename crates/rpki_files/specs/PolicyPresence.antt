@@ -1,23 +1,48 @@
 -- Whether octets that are built as a certificate is have Certificate Policies, be it one of the
--- profile or not.
+-- profile or not, or an extension that only certificates of the RPKI have.
 use Rattle.std.specs.Prelude.{◌≡◌, ◌⊎◌, ℕ, List, [], ◌∷◌}
 use Rattle.rpki.specs.Encoding.{Begins, Means}
 use Rattle.rpki.specs.Extensions.{Extension, IsExtension}
-use Rattle.rpki.specs.ExtensionKinds.{certificate_policies}
+use Rattle.rpki.specs.ExtensionKinds.{as_resources, certificate_policies, ip_resources}
+use Rattle.rpki.specs.Overclaim.TheVariants.{Refuse, Trim}
 use Rattle.rpki.specs.Reading.{Inside}
 use Rattle.rpki.specs.Sequences.{AreEncodings}
 use Rattle.rpki.specs.Tags.{INTEGER, SEQUENCE}
 use Rattle.rpki.specs.Values.{IsEnc}
+use Rattle.rpki_files.specs.KnownKinds.{HasContent}
+use Rattle.rpki_files.specs.declared.kinds.Kind.TheVariants as known
+use Rattle.rpki_files.specs.declared.policies.Wanted.{Wanted}
+use Rattle.rpki_files.specs.declared.policies.Wanted.TheVariants.{Policies, OfRpki}
 pub mod Reading
 
--- one of the extensions has this identifier
-abbrev pub IsAmong : List ℕ → List Extension → Type 0
-IsAmong id [] = ⊥
-IsAmong id (x ∷ xs) = (x.identifier ≡ id) ⊎ IsAmong id xs
+-- the identifiers that resources have (RFC 3779 2.2.1, 3.2.1, RFC 8360 4.2)
+abbrev pub resource_identifiers : List (List ℕ)
+resource_identifiers =
+    (ip_resources Refuse).identifier ∷ (as_resources Refuse).identifier ∷ (ip_resources Trim).identifier
+    ∷ (as_resources Trim).identifier ∷ []
 
--- extensions stand at the front of the octets, one of which has this identifier
-abbrev pub BeginsWithOne : List ℕ → List ℕ → Type 0
-BeginsWithOne id octets = (xs : List Extension) × Means (AreEncodings IsExtension) xs octets × IsAmong id xs
+-- it is one of these
+abbrev pub IsOneOf : List (List ℕ) → List ℕ → Type 0
+IsOneOf [] id = ⊥
+IsOneOf (one ∷ more) id = (id ≡ one) ⊎ IsOneOf more id
+
+-- an extension with this identifier and this content is one that is looked for: Certificate Policies
+-- (RFC 5280 4.2.1.4), or resources or the one policy that a certificate of the RPKI has (RFC 6487
+-- 4.8.9, 4.8.10, 4.8.11)
+abbrev pub IsWanted : Wanted → List ℕ → List ℕ → Type 0
+IsWanted Policies id content = id ≡ certificate_policies.identifier
+IsWanted OfRpki id content =
+    IsOneOf resource_identifiers id
+    ⊎ ((id ≡ certificate_policies.identifier) × HasContent known.CertificatePolicies content)
+
+-- one of the extensions is one that is looked for
+abbrev pub IsAmong : Wanted → List Extension → Type 0
+IsAmong wanted [] = ⊥
+IsAmong wanted (x ∷ xs) = IsWanted wanted x.identifier x.content ⊎ IsAmong wanted xs
+
+-- extensions stand at the front of the octets, one of which is one that is looked for
+abbrev pub BeginsWithOne : Wanted → List ℕ → Type 0
+BeginsWithOne wanted octets = (xs : List Extension) × Means (AreEncodings IsExtension) xs octets × IsAmong wanted xs
 
 -- values with these identifier octets stand at the front, and the rest behind them
 abbrev pub StandBefore : List ℕ → List ℕ → List ℕ → Type 0
@@ -43,6 +68,14 @@ pub record HasExtensions (elements octets : List ℕ) : Type 0 where
 
 -- one of its extensions has the identifier of Certificate Policies (RFC 6487 4.8.9)
 abbrev pub HasPolicies : List ℕ → Type 0
-HasPolicies octets =
-    (elements : List ℕ) × HasExtensions elements octets
-    × BeginsWithOne certificate_policies.identifier elements
+HasPolicies octets = (elements : List ℕ) × HasExtensions elements octets × BeginsWithOne Policies elements
+
+-- the octets are extensions, and nothing else
+abbrev pub AreExtensions : List ℕ → Type 0
+AreExtensions octets = (xs : List Extension) × AreEncodings IsExtension xs octets
+
+-- none of its extensions, which are all well formed, is one that only certificates of the RPKI have
+abbrev pub IsOtherCertificate : List ℕ → Type 0
+IsOtherCertificate octets =
+    (elements : List ℕ) × HasExtensions elements octets × AreExtensions elements
+    × (BeginsWithOne OfRpki elements → ⊥)

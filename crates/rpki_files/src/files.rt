@@ -1,34 +1,40 @@
 //! Files: in DER or in PEM, with what their octets begin with.
-ghost use Rattle.std.specs.Prelude.{◌≡◌, ◌≢◌, ◌↔◌, ℕ, List, IsTrue, IfOk, MatchOption};
+ghost use Rattle.std.specs.List.{starts_with};
+ghost use Rattle.std.specs.Prelude.{◌≡◌, ◌≢◌, ◌↔◌, ◌++◌, ℕ, nat_eq, List, IsTrue, IfOk, MatchOption};
 ghost use Rattle.rpki.specs.Certificates.{IsCertificate};
 ghost use Rattle.rpki.specs.Lists.{IsCertificateList};
 ghost use Rattle.rpki_files.specs.Contents.{BeginsWithEither, BeginsWithList, FindsBefore, IsContent};
-ghost use Rattle.rpki_files.specs.PemFiles.{HasBase64, IsObjectOf, IsPemOf, is_begin_line, is_end_line};
+ghost use Rattle.rpki_files.specs.FileSorts.{IsToldSort};
+ghost use Rattle.rpki_files.specs.PemFiles.{HasBase64, HasBeginLine, IsBareBase64, IsDamagedPem, IsObjectOf, IsPemOf, IsUnendedPem, begin_line, byte_order_mark, is_begin_line, is_end_line};
 
 use crate::contents::{Content, read_content};
+use crate::sorts::{Sort, sort_of};
 use bytes::Bytes;
 use rpki::base64::{octets_of, push_digits};
 use rpki::repository::{Cert, Crl};
 use std::alloc::{AllocError, Global};
 use std::marker::Model;
 
-/// A file: its name, the octets of its object, in DER, and what was read of them.
+/// A file: its name, the octets of its object, in DER, what was read of them, and their sort where
+/// that is neither a certificate nor a list.
 #[derive(Drop)]
 pub struct Object<'a> {
     name: &'a str,
     octets: Bytes,
     content: Content,
+    sort: Option<Sort>,
 }
 
 impl<'a> Model for Object<'a> {
     ghost use Rattle.rpki_files.specs.Files.{FileFields};
     ghost use Rattle.rpki_files.specs.Contents.{IsContent};
+    ghost use Rattle.rpki_files.specs.FileSorts.{IsToldSort};
 
     ghost Value = { FileFields };
 
     ghost view = { λ o. record { name = o.name.now; octets = o.octets } };
 
-    ghost invariant = { λ o. IsContent o.octets o.content };
+    ghost invariant = { λ o. IsContent o.octets o.content × IsToldSort o.octets o.sort };
 }
 
 impl<'a> Object<'a> {
@@ -51,6 +57,14 @@ impl<'a> Object<'a> {
         ensures { IsContent self.now.octets result.now }
     {
         &self.content
+    }
+
+    /// Returns the sort of the octets, where they begin with neither a certificate nor a list and are
+    /// of one.
+    pub fn sort(&self) -> Option<Sort>
+        ensures { IsToldSort self.now.octets result }
+    {
+        self.sort
     }
 
     /// Returns the certificate that the octets begin with, if they begin with one, and how many
@@ -83,11 +97,25 @@ impl<'a> Object<'a> {
     }
 }
 
-// Whether an object of PEM begins at a line.
+// Whether a line begins as one does at which an object of PEM begins.
+fn starts_object(line: &str) -> bool
+    ensures { result ≡ starts_with nat_eq line.now begin_line }
+{
+    line.starts_with("-----BEGIN ")
+}
+
+// Whether it does behind a byte order mark.
+fn starts_marked_object(line: &str) -> bool
+    ensures { result ≡ starts_with nat_eq line.now (byte_order_mark ++ begin_line) }
+{
+    line.starts_with("\u{feff}-----BEGIN ")
+}
+
+// Whether an object of PEM begins at a line, be there a byte order mark before it.
 fn is_begin_line(line: &str) -> bool
     ensures { result ≡ is_begin_line line.now }
 {
-    line.starts_with("-----BEGIN ")
+    starts_object(line) || starts_marked_object(line)
 }
 
 // Whether an object of PEM ends at a line.
@@ -129,6 +157,74 @@ fn from_pem(alloc: Global, file: &[u8]) -> Result<Option<Vec<u8>>, AllocError>
     }
 }
 
+// Whether an object of PEM begins at one of a text's lines.
+fn has_begin_line(text: &str) -> bool
+    ensures { IsTrue result ↔ HasBeginLine text.now }
+{
+    for line in text.lines() {
+        if is_begin_line(line) {
+            return true;
+        }
+    }
+    false
+}
+
+/// Returns whether octets are a text in which an object of PEM begins that has no end.
+pub fn is_unended_pem(alloc: Global, octets: &[u8]) -> Result<bool, AllocError>
+    ensures { IfOk result (λ is. IsTrue is ↔ IsUnendedPem octets.now) }
+{
+    let Ok(text) = str::from_utf8(octets) else {
+        return Ok(false);
+    };
+    if !has_begin_line(text) {
+        return Ok(false);
+    }
+    match base64_in(alloc, text)? {
+        Some(digits) => {
+            drop(digits);
+            Ok(false)
+        }
+        None => Ok(true),
+    }
+}
+
+/// Returns whether octets are a text in which an object of PEM begins that can't be read.
+pub fn is_damaged_pem(alloc: Global, octets: &[u8]) -> Result<bool, AllocError>
+    ensures { IfOk result (λ is. IsTrue is ↔ IsDamagedPem octets.now) }
+{
+    let Ok(text) = str::from_utf8(octets) else {
+        return Ok(false);
+    };
+    if !has_begin_line(text) {
+        return Ok(false);
+    }
+    match from_pem(alloc, octets)? {
+        Some(object) => {
+            drop(object);
+            Ok(false)
+        }
+        None => Ok(true),
+    }
+}
+
+/// Returns whether octets are base64, white space aside, and begin as that of a certificate does.
+pub fn is_bare_base64(alloc: Global, octets: &[u8]) -> Result<bool, AllocError>
+    ensures { IfOk result (λ is. IsTrue is ↔ IsBareBase64 octets.now) }
+{
+    if !octets.starts_with("MI".as_bytes()) {
+        return Ok(false);
+    }
+    let mut digits = Vec::new(alloc);
+    push_digits(&mut digits, octets)?;
+    match octets_of(alloc, &digits)? {
+        Some(object) => {
+            drop(object);
+            Ok(true)
+        }
+        None => Ok(false),
+    }
+}
+
 // The octets of a file's object, in DER or in PEM.
 fn object_octets(alloc: Global, file: Vec<u8>) -> Result<Bytes, AllocError>
     ensures { IfOk result (IsObjectOf file.items) }
@@ -137,7 +233,19 @@ fn object_octets(alloc: Global, file: Vec<u8>) -> Result<Bytes, AllocError>
     Ok(Bytes::from_vec(octets)?)
 }
 
-/// Reads the object of a file, in DER or in PEM, and what it begins with.
+// The sort of octets of which this was read.
+fn told_sort(alloc: Global, octets: &Bytes, content: &Content) -> Result<Option<Sort>, AllocError>
+    requires { IsContent octets.now content.now }
+    ensures { IfOk result (IsToldSort octets.now) }
+{
+    match content {
+        Content::Neither(_) => sort_of(alloc, octets),
+        Content::Certificate(..) | Content::List(..) => Ok(None),
+    }
+}
+
+/// Reads the object of a file, in DER or in PEM, what it begins with, and its sort where that is
+/// neither a certificate nor a list.
 pub fn read_object<'a>(
     alloc: Global,
     name: &'a str,
@@ -150,9 +258,11 @@ pub fn read_object<'a>(
 {
     let octets = object_octets(alloc, file)?;
     let content = read_content(alloc, &octets)?;
+    let sort = told_sort(alloc, &octets, &content)?;
     Ok(Object {
         name,
         octets,
         content,
+        sort,
     })
 }

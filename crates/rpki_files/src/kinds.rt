@@ -4,6 +4,7 @@ ghost use Rattle.rpki.specs.Place.{remaining};
 ghost use Rattle.rpki_files.specs.KnownKinds.{kind_among, place_kinds, resource_kinds, known_in_certificates, known_in_lists, known_kind, kind_name, HasContent, MayHaveFlag, SaysWhether};
 ghost use Rattle.rpki_files.specs.declared.kinds.Kind.TheVariants.{Unknown, NoList};
 
+use crate::expected::Part;
 use rpki::der::{Cursor, DecodeError};
 use rpki::oid;
 use rpki::repository::extension::{
@@ -126,6 +127,46 @@ impl Kind {
             Kind::AsResources => "AS Resources",
             Kind::CrlNumber => "CRL Number",
             Kind::Unknown | Kind::NoList => "an unknown extension",
+        }
+    }
+
+    /// Returns it as a field, with what is wanted there.
+    pub fn part(self) -> Part {
+        Part {
+            field: self.name(),
+            wanted: self.wanted(),
+        }
+    }
+
+    // What is wanted of an extension of this kind. In lists no flag is.
+    fn wanted(self) -> &'static str {
+        match self {
+            Kind::BasicConstraints => {
+                "critical, that it is a CA, and no path length (RFC 6487 4.8.1)"
+            }
+            Kind::SubjectKeyIdentifier => "not critical, 20 octets (RFC 6487 4.8.2)",
+            Kind::AuthorityKeyIdentifier => {
+                "not critical, a key identifier of 20 octets alone (RFC 6487 4.8.3)"
+            }
+            Kind::KeyUsage => {
+                "critical, keyCertSign with cRLSign, or digitalSignature (RFC 6487 4.8.4)"
+            }
+            Kind::ExtendedKeyUsage => "not critical, purposes (RFC 6487 4.8.5)",
+            Kind::CrlDistributionPoints => {
+                "not critical, one point by the rsync URI of a list (RFC 6487 4.8.6)"
+            }
+            Kind::AuthorityInformationAccess => {
+                "not critical, the issuer's certificate by an rsync URI (RFC 6487 4.8.7)"
+            }
+            Kind::SubjectInformationAccess => {
+                "not critical, places by rsync URIs, rpkiNotify by https (RFC 6487 4.8.8)"
+            }
+            Kind::CertificatePolicies => "critical, the policy of the RPKI alone (RFC 6487 4.8.9)",
+            Kind::IpResources => "addresses by family, or inherit (RFC 3779 2.2.3)",
+            Kind::AsResources => "AS numbers, or inherit (RFC 3779 3.2.3)",
+            Kind::CrlNumber => "an INTEGER that isn't negative (RFC 5280 5.2.3)",
+            Kind::Unknown => "not critical (RFC 6487 4.8)",
+            Kind::NoList => "none but two in a list (RFC 6487 5)",
         }
     }
 

@@ -4,6 +4,7 @@
 #![tactic(auto)]
 
 mod contents;
+mod expected;
 mod files;
 mod kinds;
 mod locators;
@@ -11,6 +12,7 @@ mod places;
 mod policies;
 pub mod rules;
 mod saying;
+mod sorts;
 
 pub use contents::{Content, Form, looks_like};
 pub use files::{Object, read_object};
@@ -18,3 +20,4 @@ pub use locators::{looks_like_locator, read_locator};
 pub use places::{Place, place_of};
 pub use policies::extensions_in;
 pub use saying::{is_router, kind_of, said_kind};
+pub use sorts::{Description, Sort, describe};

@@ -2,6 +2,7 @@
 ghost use Rattle.std.specs.Prelude.{◌≡◌, ◌≤◌, length, IfErr, IfOk};
 ghost use Rattle.rpki_files.specs.StopPlaces.{IsStopAt, IsStopWithin};
 
+use crate::expected::{self, Part};
 use crate::kinds::Kind;
 use bytes::Bytes;
 use rpki::crypto::{PublicKey, RpkiSignatureAlgorithm};
@@ -10,11 +11,13 @@ use rpki::repository::extension::Extensions;
 use rpki::repository::x509::{Name, Serial, Time, Validity};
 use std::alloc::{AllocError, Global};
 
-/// The field at which reading stops, and the octet of the file at which that field begins.
+/// The field at which reading stops, the octet of the file at which that field begins, and what is
+/// wanted there.
 #[derive(Clone, Copy)]
 pub struct Place {
     pub field: &'static str,
     pub octet: usize,
+    pub wanted: &'static str,
 }
 
 // Why a walk through the fields ends.
@@ -24,14 +27,24 @@ enum Stop {
     Memory,
 }
 
-fn stopped_at(field: &'static str, octet: usize) -> Stop
+fn place_at(part: Part, octet: usize) -> Place
+    ensures { result.octet ≡ octet }
+{
+    Place {
+        field: part.field,
+        octet,
+        wanted: part.wanted,
+    }
+}
+
+fn stopped_at(part: Part, octet: usize) -> Stop
     ensures { IsStopAt octet result }
 {
-    Stop::At(Place { field, octet })
+    Stop::At(place_at(part, octet))
 }
 
 // Passes over one field, or says where it stands.
-fn past(read: Result<(), DecodeError>, field: &'static str, octet: usize) -> Result<(), Stop>
+fn past(read: Result<(), DecodeError>, part: Part, octet: usize) -> Result<(), Stop>
     ensures { IfErr result (IsStopAt octet) }
 {
     match read {
@@ -42,7 +55,7 @@ fn past(read: Result<(), DecodeError>, field: &'static str, octet: usize) -> Res
             if ran_out {
                 return Err(Stop::Memory);
             }
-            Err(stopped_at(field, octet))
+            Err(stopped_at(part, octet))
         }
     }
 }
@@ -52,6 +65,15 @@ fn at(cursor: &Cursor<'_>) -> usize
 {
     let (from, _) = cursor.span();
     from
+}
+
+// That nothing follows inside a value.
+fn ends(inside: &Cursor<'_>) -> Result<(), DecodeError> {
+    if inside.is_empty() {
+        Ok(())
+    } else {
+        Err(DecodeError::BadValue)
+    }
 }
 
 // An INTEGER that is this one.
@@ -68,7 +90,8 @@ fn version(cursor: &mut Cursor<'_>) -> Result<(), DecodeError>
     ensures { length cursor.new.source ≡ length cursor.old.source }
 {
     let mut outer = cursor.take_value(0xa0)?;
-    number(&mut outer, 2)
+    number(&mut outer, 2)?;
+    ends(&outer)
 }
 
 fn list_version(cursor: &mut Cursor<'_>) -> Result<(), DecodeError>
@@ -121,10 +144,37 @@ fn moment(cursor: &mut Cursor<'_>) -> Result<(), DecodeError>
     Ok(())
 }
 
-fn entries(cursor: &mut Cursor<'_>) -> Result<(), DecodeError>
+// A revoked certificate: its number and a moment, and nothing behind them (RFC 6487 5).
+fn entry(cursor: &mut Cursor<'_>) -> Result<(), DecodeError>
     ensures { length cursor.new.source ≡ length cursor.old.source }
 {
-    let _entries = cursor.take_opt_sequence()?;
+    let mut fields = cursor.take_sequence()?;
+    let _serial = Serial::take_from(&mut fields)?;
+    let _date = Time::take_from(&mut fields)?;
+    ends(&fields)
+}
+
+// The revoked certificates, where they are there.
+fn entries(cursor: &mut Cursor<'_>) -> Result<(), Stop>
+    ensures stop { IfErr result (IsStopWithin (length cursor.old.source)) }
+    ensures source { length cursor.new.source ≡ length cursor.old.source }
+{
+    let octet = at(cursor);
+    let mut rest = match cursor.take_opt_sequence() {
+        Ok(Some(entries)) => entries,
+        Ok(None) => return Ok(()),
+        Err(fault) => {
+            drop(fault);
+            return Err(stopped_at(expected::ENTRIES, octet));
+        }
+    };
+    for _ in 0..u64::MAX {
+        if rest.is_empty() {
+            break;
+        }
+        let octet = at(&rest);
+        past(entry(&mut rest), expected::ENTRY, octet)?;
+    }
     Ok(())
 }
 
@@ -139,14 +189,14 @@ fn sequence_of<'a>(cursor: &mut Cursor<'a>, identifier: u8) -> Result<Cursor<'a>
         Ok(outer) => outer,
         Err(fault) => {
             drop(fault);
-            return Err(stopped_at("the extensions", start));
+            return Err(stopped_at(expected::EXTENSIONS, start));
         }
     };
-    let elements = inside(&mut outer, "the extensions")?;
+    let elements = inside(&mut outer, expected::EXTENSIONS)?;
     if outer.is_empty() {
         Ok(elements)
     } else {
-        Err(stopped_at("the extensions", start))
+        Err(stopped_at(expected::EXTENSIONS, start))
     }
 }
 
@@ -164,16 +214,16 @@ fn extensions(alloc: Global, elements: &Cursor<'_>, is_list: bool) -> Result<(),
             Ok(extension) => extension,
             Err(fault) => {
                 drop(fault);
-                return Err(stopped_at("an extension", octet));
+                return Err(stopped_at(expected::EXTENSION, octet));
             }
         };
         let kind = Kind::of(identifier, is_list);
         if stands_before(elements, kind, is_list, octet) {
-            return Err(stopped_at(kind.name(), octet));
+            return Err(stopped_at(kind.part(), octet));
         }
         past(
             kind.read(alloc, is_list, critical, &mut content),
-            kind.name(),
+            kind.part(),
             octet,
         )?;
     }
@@ -221,7 +271,7 @@ fn ended(cursor: &Cursor<'_>) -> Result<(), Stop>
     if cursor.is_empty() {
         Ok(())
     } else {
-        Err(stopped_at("what follows the extensions", at(cursor)))
+        Err(stopped_at(expected::BEHIND, at(cursor)))
     }
 }
 
@@ -229,23 +279,27 @@ fn of_certificate(alloc: Global, cursor: &mut Cursor<'_>) -> Result<(), Stop>
     ensures { IfErr result (IsStopWithin (length cursor.old.source)) }
 {
     let octet = at(cursor);
-    past(version(cursor), "the version", octet)?;
+    past(version(cursor), expected::VERSION, octet)?;
     let octet = at(cursor);
-    past(serial(cursor), "the serial number", octet)?;
+    past(serial(cursor), expected::SERIAL, octet)?;
     let octet = at(cursor);
-    past(algorithm(cursor), "the signature algorithm", octet)?;
+    past(algorithm(cursor), expected::ALGORITHM, octet)?;
     let octet = at(cursor);
-    past(name(alloc, cursor), "the issuer", octet)?;
+    past(name(alloc, cursor), expected::ISSUER, octet)?;
     let octet = at(cursor);
-    past(validity(cursor), "the validity", octet)?;
+    past(validity(cursor), expected::VALIDITY, octet)?;
     let octet = at(cursor);
-    past(name(alloc, cursor), "the subject", octet)?;
+    past(name(alloc, cursor), expected::SUBJECT, octet)?;
     let octet = at(cursor);
-    past(key(alloc, cursor), "the public key", octet)?;
+    past(key(alloc, cursor), expected::KEY, octet)?;
     let octet = at(cursor);
     let elements = sequence_of(cursor, 0xa3)?;
     extensions(alloc, &elements, false)?;
-    past(all_extensions(alloc, &elements), "the extensions", octet)?;
+    past(
+        all_extensions(alloc, &elements),
+        expected::EXTENSIONS,
+        octet,
+    )?;
     ended(cursor)
 }
 
@@ -253,27 +307,26 @@ fn of_list(alloc: Global, cursor: &mut Cursor<'_>) -> Result<(), Stop>
     ensures { IfErr result (IsStopWithin (length cursor.old.source)) }
 {
     let octet = at(cursor);
-    past(list_version(cursor), "the version", octet)?;
+    past(list_version(cursor), expected::LIST_VERSION, octet)?;
     let octet = at(cursor);
-    past(algorithm(cursor), "the signature algorithm", octet)?;
+    past(algorithm(cursor), expected::ALGORITHM, octet)?;
     let octet = at(cursor);
-    past(name(alloc, cursor), "the issuer", octet)?;
+    past(name(alloc, cursor), expected::ISSUER, octet)?;
     let octet = at(cursor);
-    past(moment(cursor), "this update", octet)?;
+    past(moment(cursor), expected::THIS_UPDATE, octet)?;
     let octet = at(cursor);
-    past(moment(cursor), "next update", octet)?;
-    let octet = at(cursor);
-    past(entries(cursor), "the revoked certificates", octet)?;
+    past(moment(cursor), expected::NEXT_UPDATE, octet)?;
+    entries(cursor)?;
     let octet = at(cursor);
     let elements = sequence_of(cursor, 0xa0)?;
     extensions(alloc, &elements, true)?;
     if !(has(&elements, Kind::AuthorityKeyIdentifier) && has(&elements, Kind::CrlNumber)) {
-        return Err(stopped_at("the extensions", octet));
+        return Err(stopped_at(expected::EXTENSIONS, octet));
     }
     ended(cursor)
 }
 
-fn inside<'a>(cursor: &mut Cursor<'a>, field: &'static str) -> Result<Cursor<'a>, Stop>
+fn inside<'a>(cursor: &mut Cursor<'a>, part: Part) -> Result<Cursor<'a>, Stop>
     ensures stop { IfErr result (IsStopWithin (length cursor.old.source)) }
     ensures source { length cursor.new.source ≡ length cursor.old.source }
     ensures inside { IfOk result (λ c. length c.source ≡ length cursor.old.source) }
@@ -283,7 +336,7 @@ fn inside<'a>(cursor: &mut Cursor<'a>, field: &'static str) -> Result<Cursor<'a>
         Ok(inner) => Ok(inner),
         Err(fault) => {
             drop(fault);
-            Err(stopped_at(field, octet))
+            Err(stopped_at(part, octet))
         }
     }
 }
@@ -293,16 +346,16 @@ fn signature(whole: &mut Cursor<'_>) -> Result<(), Stop>
     ensures { IfErr result (IsStopWithin (length whole.old.source)) }
 {
     let octet = at(whole);
-    past(algorithm(whole), "the algorithm of the signature", octet)?;
-    Err(stopped_at("the signature", at(whole)))
+    past(algorithm(whole), expected::SIGNATURE_ALGORITHM, octet)?;
+    Err(stopped_at(expected::SIGNATURE, at(whole)))
 }
 
 fn fields(alloc: Global, octets: &Bytes, is_list: bool) -> Result<(), Stop>
     ensures { IfErr result (IsStopWithin (length octets.now)) }
 {
     let mut cursor = Cursor::new(octets);
-    let mut whole = inside(&mut cursor, "the outer SEQUENCE")?;
-    let mut data = inside(&mut whole, "what is signed")?;
+    let mut whole = inside(&mut cursor, expected::OUTER)?;
+    let mut data = inside(&mut whole, expected::SIGNED)?;
     if is_list {
         of_list(alloc, &mut data)?;
     } else {
@@ -319,9 +372,6 @@ pub fn place_of(alloc: Global, octets: &Bytes, is_list: bool) -> Result<Place, A
     match fields(alloc, octets, is_list) {
         Err(Stop::At(place)) => Ok(place),
         Err(Stop::Memory) => Err(AllocError),
-        Ok(()) => Ok(Place {
-            field: "the signature",
-            octet: 0,
-        }),
+        Ok(()) => Ok(place_at(expected::SIGNATURE, 0)),
     }
 }

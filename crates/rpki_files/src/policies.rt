@@ -3,15 +3,18 @@
 ghost use Rattle.std.specs.Prelude.{◌≡◌, ◌↔◌, IsTrue, option_map};
 ghost use Rattle.rpki.specs.Place.{remaining};
 ghost use Rattle.rpki.specs.Values.Reading.{value_at};
-ghost use Rattle.rpki_files.specs.PolicyPresence.{BeginsWithOne, HasPolicies};
+ghost use Rattle.rpki_files.specs.KnownKinds.{HasContent};
+ghost use Rattle.rpki_files.specs.PolicyPresence.{AreExtensions, BeginsWithOne, HasPolicies, IsOneOf, IsOtherCertificate, IsWanted, resource_identifiers};
 ghost use Rattle.rpki_files.specs.PolicyPresence.Reading.{extensions_at, rest_at};
 
+use crate::kinds::Kind;
 use bytes::Bytes;
 use rpki::der::{Cursor, tag, take_extension};
 use rpki::oid;
+use rpki::repository::extension::take_certificate_policies;
 
 // The content of the value with this identifier octet that stands next.
-fn content<'a>(fields: &mut Cursor<'a>, identifier: u8) -> Option<Cursor<'a>>
+pub(crate) fn content<'a>(fields: &mut Cursor<'a>, identifier: u8) -> Option<Cursor<'a>>
     ensures { option_map (λ c. (remaining c, remaining fields.new)) result
         ≡ value_at identifier (remaining fields.old) }
 {
@@ -52,16 +55,57 @@ pub fn extensions_in(octets: &Bytes) -> Option<Cursor<'_>>
     }
 }
 
-// Whether an extension with this identifier stands among those at the front.
-fn begins_with_one(elements: &Cursor<'_>, wanted: &[u8]) -> bool
-    ensures { IsTrue result ↔ BeginsWithOne wanted.now (remaining elements.now) }
+// Which extensions are looked for.
+#[derive(Clone, Copy)]
+enum Wanted {
+    // Certificate Policies, be they those of the profile or not.
+    Policies,
+    // Those that only certificates of the RPKI have: resources, and its one policy.
+    OfRpki,
+}
+
+// Whether an identifier is one of the four that resources have (RFC 3779 2.2.1, 3.2.1, RFC 8360 4.2).
+fn is_of_resources(identifier: &[u8]) -> bool
+    ensures { IsTrue result ↔ IsOneOf resource_identifiers identifier.now }
+{
+    identifier == oid::PE_IP_ADDR_BLOCK
+        || identifier == oid::PE_AUTONOMOUS_SYS_IDS
+        || identifier == oid::PE_IP_ADDR_BLOCK_V2
+        || identifier == oid::PE_AUTONOMOUS_SYS_IDS_V2
+}
+
+// Whether the content begins with the policies of the profile.
+fn has_profile_policies(content: &mut Cursor<'_>) -> bool
+    ensures { IsTrue result ↔ HasContent Kind.CertificatePolicies (remaining content.old) }
+{
+    take_certificate_policies(content).is_ok()
+}
+
+impl Wanted {
+    // Whether it is an extension with this identifier and this content.
+    fn is_met(self, identifier: &[u8], content: &mut Cursor<'_>) -> bool
+        ensures { IsTrue result ↔ IsWanted self identifier.now (remaining content.old) }
+    {
+        let is_policies = identifier == oid::CE_CERTIFICATE_POLICIES;
+        match self {
+            Wanted::Policies => is_policies,
+            Wanted::OfRpki => {
+                is_of_resources(identifier) || (is_policies && has_profile_policies(content))
+            }
+        }
+    }
+}
+
+// Whether a wanted extension stands among those at the front.
+fn begins_with_one(elements: &Cursor<'_>, wanted: Wanted) -> bool
+    ensures { IsTrue result ↔ BeginsWithOne wanted (remaining elements.now) }
 {
     let mut rest = elements.fork();
     // Each has an octet at least.
     for _ in 0..elements.rest().len() {
         match take_extension(&mut rest) {
-            Ok((identifier, _, _)) => {
-                if identifier == wanted {
+            Ok((identifier, _, mut content)) => {
+                if wanted.is_met(identifier, &mut content) {
                     return true;
                 }
             }
@@ -74,6 +118,35 @@ fn begins_with_one(elements: &Cursor<'_>, wanted: &[u8]) -> bool
     false
 }
 
+// Whether extensions stand there, and nothing else.
+fn are_extensions(elements: &Cursor<'_>) -> bool
+    ensures { IsTrue result ↔ AreExtensions (remaining elements.now) }
+{
+    let mut rest = elements.fork();
+    // Each has an octet at least.
+    for _ in 0..elements.rest().len() {
+        if rest.is_empty() {
+            return true;
+        }
+        match take_extension(&mut rest) {
+            Ok(_) => {}
+            Err(fault) => {
+                drop(fault);
+                return false;
+            }
+        }
+    }
+    true
+}
+
+// Whether extensions stand there, and nothing else, of which none is one of the RPKI.
+fn are_others(elements: &Cursor<'_>) -> bool
+    ensures { IsTrue result ↔ (AreExtensions (remaining elements.now)
+        × (BeginsWithOne Wanted.OfRpki (remaining elements.now) → ⊥)) }
+{
+    are_extensions(elements) && !begins_with_one(elements, Wanted::OfRpki)
+}
+
 /// Returns whether an extension with the identifier of Certificate Policies stands among those at
 /// the front of a certificate's, be it one of the profile or not.
 pub fn has_policies(octets: &Bytes) -> bool
@@ -82,7 +155,20 @@ pub fn has_policies(octets: &Bytes) -> bool
     // For the proof only: what is read are octets.
     let _octets = Cursor::new(octets).rest();
     match extensions_in(octets) {
-        Some(elements) => begins_with_one(&elements, oid::CE_CERTIFICATE_POLICIES),
+        Some(elements) => begins_with_one(&elements, Wanted::Policies),
+        None => false,
+    }
+}
+
+/// Returns whether octets are built as a certificate is, whose extensions are well formed, and none
+/// of them is one that only certificates of the RPKI have: resources, or its one policy.
+pub fn is_other_certificate(octets: &Bytes) -> bool
+    ensures { IsTrue result ↔ IsOtherCertificate octets.now }
+{
+    // For the proof only: what is read are octets.
+    let _octets = Cursor::new(octets).rest();
+    match extensions_in(octets) {
+        Some(elements) => are_others(&elements),
         None => false,
     }
 }

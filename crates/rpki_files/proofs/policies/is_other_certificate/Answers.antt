@@ -1,0 +1,27 @@
+use Rattle.std.specs.Prelude.{Some}
+use Rattle.std.proofs.Common.{◌≡◌, ℕ, List, sym, subst, ◌∙◌}
+use Rattle.std.proofs.lemmas.Bool.{false≢true}
+use Rattle.rpki.specs.Place.{remaining}
+use Rattle.rpki.specs.Values.{AreOctets}
+use Rattle.rpki_der.proofs.Octets.{nothing, some_is}
+use Rattle.rpki_files.specs.PolicyPresence.{AreExtensions, BeginsWithOne}
+use Rattle.rpki_files.specs.PolicyPresence.Reading.{extensions_at}
+use Rattle.rpki_files.specs.declared.policies.Wanted.TheVariants.{OfRpki}
+use Rattle.rpki_files.proofs.FoundPolicies.{extensions_take, extensions_again}
+use Rattle.rpki_files.proofs.policies.is_other_certificate.Goals as goal
+
+pub returns-in-Some : goal.returns-in-Some
+returns-in-Some c =
+    let octets = c.args.octets.now in
+    let elements = remaining c.in-Some.elements in
+    let found : extensions_at octets ≡ Some elements = sym c.in-Some.ensures in
+    let fits : AreOctets octets = subst AreOctets (c.rest-octets.ensures.remaining ∙ c.new.ensures.all) c.rest-octets.ensures.octets in (
+      (λ yes. let others = c.are_others.ensures.0 yes in (elements, extensions_take octets elements fits found, others.0, others.1)),
+      (λ h. let same : h.0 ≡ elements = some_is h.0 elements (sym (extensions_again octets h.0 h.1) ∙ found) in
+          c.are_others.ensures.1 (subst AreExtensions same h.2, subst (λ (x : List ℕ). BeginsWithOne OfRpki x → ⊥) same h.3)),
+    )
+
+pub returns-in-None : goal.returns-in-None
+returns-in-None c =
+    let octets = c.args.octets.now in
+    ((λ yes. absurd (false≢true yes)), (λ h. nothing h.0 (c.in-None.ensures ∙ extensions_again octets h.0 h.1)))
