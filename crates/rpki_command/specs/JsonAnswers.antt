@@ -1,5 +1,5 @@
 -- What is shown of files as JSON.
-use Rattle.std.specs.Prelude.{◌≡◌, ◌==◌, ℕ, Bool, List, [], ◌∷◌, length}
+use Rattle.std.specs.Prelude.{◌≡◌, ◌==◌, ℕ, Bool, List, [], ◌∷◌, length, Option}
 use Rattle.serde_json.specs.Data.{Data}
 use Rattle.rpki.specs.Certificates.{CertFields, IsCertificate}
 use Rattle.rpki.specs.Lists.{CrlFields, IsCertificateList}
@@ -19,6 +19,7 @@ use Rattle.rpki_command.specs.declared.arguments.Format.{Format}
 use Rattle.rpki_command.specs.declared.as_json.Shown.{Shown}
 use Rattle.rpki_files.specs.declared.places.Place.{Place}
 use Rattle.rpki_files.specs.declared.rules.Rule.{Rule}
+use Rattle.rpki_files.specs.declared.sorts.Sort.{Sort}
 
 -- a file with so many octets behind its object, as its JSON has it
 abbrev pub IsShown : FileFields → ℕ → Shown → Type 0
@@ -67,12 +68,13 @@ pub record IsNoLocatorFileJson (strict : Bool) (file : FileFields) (value : Data
 -- no definition says
 pub record IsUnreadFileJson (file : FileFields) (value : Data) : Type 0 where
   pub why : List ℕ
+  pub sort : Option Sort
   pub rule : Rule
   pub place : Place
-  pub rejection : IsRejection file.octets rule place
+  pub rejection : IsRejection file.octets sort rule place
   pub shown : Shown
   pub shown_is : IsShown file 0 shown
-  pub value_is : value ≡ rejection_json shown why rule place
+  pub value_is : value ≡ rejection_json shown sort why rule place
 
 -- the value of a file that can't be shown
 abbrev pub IsOtherFileJson : Bool → FileFields → Data → Type 0

@@ -3,7 +3,7 @@ use Rattle.std.specs.Option.{option_map}
 use Rattle.std.specs.Prelude.{ℕ, Bool, if◌then◌else◌, List, [], ◌++◌, codes, Option, Some, None}
 use Rattle.rpki.specs.Certificates.{CertFields}
 use Rattle.rpki.specs.Times.{Moment}
-use Rattle.rpki_command.specs.JsonFiles.{uri_member}
+use Rattle.rpki_command.specs.JsonFiles.{sort_members, uri_member}
 use Rattle.rpki_command.specs.JsonValues.{Pair, member_of, moment_json, text_member, text_member_if_any}
 use Rattle.rpki_command.specs.RejectionDetails.{issuer_key, order_text, own_key}
 use Rattle.rpki_command.specs.declared.details.Cause.{Cause}
@@ -37,4 +37,4 @@ order_member is_turned = if is_turned then text_member (codes "order") order_tex
 abbrev pub details_members : Details → List Pair
 details_members d =
     member_details d.cause d.moment (option_map (λ c. c.now) d.member) (option_map (λ c. c.now) d.above)
-    ++ order_member d.is_turned
+    ++ (sort_members d.sort ++ order_member d.is_turned)

@@ -21,6 +21,7 @@ use Rattle.rpki.specs.RevokedEntries.{Entry, Revoked}
 use Rattle.rpki.specs.TalError.{TalError}
 use Rattle.rpki.specs.TalErrors.{tal_error_name}
 use Rattle.rpki.specs.Texts.{serial_text}
+use Rattle.rpki_files.specs.SortTexts.{description}
 use Rattle.rpki_text.specs.CertificateTexts.{AreFindings}
 use Rattle.rpki_text.specs.KeyTexts.{IsLocatorKey}
 use Rattle.rpki_command.specs.JsonBlocks.{listed_items}
@@ -36,6 +37,7 @@ use Rattle.rpki_text.specs.declared.keys.KeyAnswer.{KeyAnswer}
 use Rattle.rpki_command.specs.declared.as_json.Shown.{Shown}
 use Rattle.rpki_files.specs.declared.places.Place.{Place}
 use Rattle.rpki_files.specs.declared.rules.Rule.{Rule}
+use Rattle.rpki_files.specs.declared.sorts.Sort.{Sort}
 
 -- ---- files
 
@@ -201,10 +203,23 @@ no_locator_file_json file error rule = object_of (flattened (
 
 -- ---- a file that is neither
 
--- the fault, what it means and the section of the standard, and where reading stops
-unfoldable pub rejection_json : Shown → List ℕ → Rule → Place → Data
-rejection_json file fault rule place = object_of (flattened (
+-- what a file is, and what to do
+abbrev pub advice_members : List ℕ → List ℕ → List Pair
+advice_members kind advice = flattened (
+    text_member (codes "kind") kind
+    ∷ text_member (codes "advice") advice
+    ∷ [])
+
+-- the sort of a file and what to do, where it is of one
+abbrev pub sort_members : Option Sort → List Pair
+sort_members None = []
+sort_members (Some s) = advice_members (description s).name (description s).advice
+
+-- the sort, the fault, what it means and the section of the standard, and where reading stops
+unfoldable pub rejection_json : Shown → Option Sort → List ℕ → Rule → Place → Data
+rejection_json file sort fault rule place = object_of (flattened (
     head_members file
+    ∷ sort_members sort
     ∷ text_member (codes "fault") fault
     ∷ rule_members rule
     ∷ place_members place

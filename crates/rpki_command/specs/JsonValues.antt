@@ -91,9 +91,10 @@ rule_members rule = flattened (
     ∷ text_member (codes "standard") rule.section.now
     ∷ [])
 
--- the field at which reading stops, and the octet at which that begins
+-- the field at which reading stops, the octet at which that begins, and what is wanted there
 abbrev pub place_members : Place → List Pair
 place_members place = flattened (
     text_member (codes "field") place.field.now
     ∷ member_of (codes "octet") (count_json place.octet)
+    ∷ text_member (codes "wanted") place.wanted.now
     ∷ [])

@@ -1,5 +1,6 @@
 -- What a rejection tells beside its rule, so that its reader can act (own): which list is wanted,
--- which keys differ, which moment is over, and that the files stand the other way round.
+-- which keys differ, which moment is over, what else a file is that is no certificate, and that the
+-- files stand the other way round.
 use Rattle.std.specs.List.{concat}
 use Rattle.std.specs.Option.{option_map}
 use Rattle.std.specs.Prelude.{◌≡◌, ◌↔◌, ◌-◌, ℕ, Bool, IsTrue, if◌then◌else◌, List, [], ◌∷◌, ◌++◌, length, codes, slice_get, Option, Some, None}
@@ -9,7 +10,10 @@ use Rattle.rpki.specs.Kind.TheVariants.{Anchor}
 use Rattle.rpki.specs.Profiles.{MeetsProfile}
 use Rattle.rpki.specs.Texts.{time_text}
 use Rattle.rpki.specs.Times.{Moment}
+use Rattle.rpki_files.specs.FileSorts.{IsToldSort}
 use Rattle.rpki_files.specs.Files.{FileFields}
+use Rattle.rpki_files.specs.SortTexts.{description}
+use Rattle.rpki_files.specs.declared.sorts.Sort.{Sort}
 use Rattle.rpki_text.specs.CertificateTexts.{uri_line}
 use Rattle.rpki_text.specs.Pages.{colons_text, line, line_if_any}
 use Rattle.rpki_verdicts.specs.PathFiles.{QuestionFields}
@@ -61,13 +65,20 @@ TellsOrder strict files is_turned =
     (first : Option CertFields) × (last : Option CertFields) × IsCertificateAt files 0 first
     × IsCertificateAt files (length files - 1) last × (IsTrue is_turned ↔ IsTurned strict first last)
 
+-- the sort of the file at this place, if there is one and it is of one
+abbrev pub IsSortAt : List FileFields → ℕ → Option Sort → Type 0
+IsSortAt files place (Some s) =
+    (file : FileFields) × (slice_get files place ≡ Some file) × IsToldSort file.octets (Some s)
+IsSortAt files place None = (file : FileFields) → slice_get files place ≡ Some file → IsToldSort file.octets None
+
 -- the cause of the fault, the moment that was asked, the certificates of the member at its place and
--- of the one above it, and the order of the files
+-- of the one above it, the sort of that member's file, and the order of the files
 pub record AreDetails (question : QuestionFields) (fault : Fault) (d : Details) : Type 0 where
   pub cause_is : IsCause d.cause fault
   pub moment_is : d.moment ≡ question.at
   pub member_is : IsCertificateAt question.members fault.index (option_map (λ c. c.now) d.member)
   pub above_is : IsCertificateAt question.members (fault.index - 1) (option_map (λ c. c.now) d.above)
+  pub sort_is : IsSortAt question.members fault.index d.sort
   pub order_is : TellsOrder question.strict question.members d.is_turned
 
 -- ---- in lines
@@ -107,8 +118,20 @@ order_text = codes "the files stand from the trust anchor down; here the last on
 abbrev pub order_line : Bool → List ℕ
 order_line is_turned = if is_turned then line (codes "Order") order_text else []
 
+-- what a file of this sort is, and what to do, where it is of one
+abbrev pub sort_line : Option Sort → List ℕ
+sort_line None = []
+sort_line (Some s) = line (codes "Kind") (description s).name
+
+abbrev pub advice_line : Option Sort → List ℕ
+advice_line None = []
+advice_line (Some s) = line (codes "To do") (description s).advice
+
+abbrev pub sort_lines : Option Sort → List ℕ
+sort_lines sort = sort_line sort ++ advice_line sort
+
 -- the lines behind a rejection
 abbrev pub details_text : Details → List ℕ
 details_text d =
     member_details d.cause d.moment (option_map (λ c. c.now) d.member) (option_map (λ c. c.now) d.above)
-    ++ order_line d.is_turned
+    ++ (sort_lines d.sort ++ order_line d.is_turned)

@@ -1,7 +1,7 @@
 -- What is shown of files.
 use Rattle.std.specs.Fmt.{decimal}
 use Rattle.std.specs.List.{concat, flat_map}
-use Rattle.std.specs.Prelude.{◌≡◌, ◌≢◌, ◌≤◌, ◌↔◌, ◌⊎◌, ℕ, Bool, IsTrue, IsFalse, ◌==◌, if◌then◌else◌, List, [], ◌∷◌, ◌++◌, length, codes}
+use Rattle.std.specs.Prelude.{◌≡◌, ◌≢◌, ◌≤◌, ◌↔◌, ◌⊎◌, ℕ, Bool, IsTrue, IsFalse, ◌==◌, if◌then◌else◌, List, [], ◌∷◌, ◌++◌, length, codes, Option, Some, None}
 use Rattle.hex.specs.Hex.{encode_lower}
 use Rattle.sha2.specs.Sha256.{sha256}
 use Rattle.rpki.specs.Certificates.{CertFields, TbsFields, IsCertificate}
@@ -16,13 +16,16 @@ use Rattle.rpki.specs.TalErrors.{tal_error_name}
 use Rattle.rpki.specs.Times.{Moment}
 use Rattle.rpki_text.specs.CertificateTexts.{AreFindings, certificate_text}
 use Rattle.rpki_files.specs.Contents.{BeginsBefore, BeginsWithEither, CanBeShown, LooksLikeList}
-use Rattle.rpki_files.specs.FaultRules.{IsFileRule, rule_of, tal_rule}
+use Rattle.rpki_files.specs.FaultRules.{IsFileRule, RuleFields, rule_of, tal_rule}
+use Rattle.rpki_files.specs.FileSorts.{IsToldSort}
 use Rattle.rpki_files.specs.Files.{FileFields}
 use Rattle.rpki_files.specs.LocatorFiles.{IsWhyNoLocator, looks_like_locator}
+use Rattle.rpki_files.specs.SortTexts.{sort_rule}
 use Rattle.rpki_text.specs.KeyTexts.{IsLocatorKey, locator_key_text}
 use Rattle.rpki_text.specs.ListTexts.{list_text}
 use Rattle.rpki_text.specs.Pages.{line, line_feed, characters_text, colons_text, count_text, file_name_text}
 use Rattle.rpki_command.specs.NoteLines.{notes_lines}
+use Rattle.rpki_command.specs.RejectionDetails.{advice_line, sort_line}
 use Rattle.rpki_command.specs.VerdictTexts.{SaysOfEach}
 use Rattle.rpki_text.specs.declared.certificate.Findings.{Findings}
 use Rattle.rpki_text.specs.declared.keys.KeyAnswer.{KeyAnswer}
@@ -30,6 +33,7 @@ use Rattle.rpki_notes.specs.Notes.{AreNotes}
 use Rattle.rpki_notes.specs.declared.note.Note.{Note}
 use Rattle.rpki_files.specs.declared.places.Place.{Place}
 use Rattle.rpki_files.specs.declared.rules.Rule.{Rule}
+use Rattle.rpki_files.specs.declared.sorts.Sort.{Sort}
 use Rattle.rpki_command.specs.declared.showing.Options.{Options}
 
 -- ---- around an object
@@ -141,33 +145,45 @@ pub record IsNoLocatorFileText (strict : Bool) (file : FileFields) (text : List 
 abbrev pub stop_text : List ℕ → ℕ → List ℕ
 stop_text field octet = field ++ (codes ", from octet " ++ decimal octet)
 
--- a file that begins with neither: its fault, where reading stops, what that means, and what asks it
-unfoldable pub other_file_text : FileFields → List ℕ → List ℕ → List ℕ → List ℕ → List ℕ
-other_file_text file fault stop says section = concat (
+-- a file that begins with neither: its sort, its fault, where reading stops, what is wanted there,
+-- what that means, what asks it, and what to do
+unfoldable pub other_file_text : FileFields → Option Sort → List ℕ → Place → Rule → List ℕ
+other_file_text file sort fault place rule = concat (
     file_lines file
+    ∷ sort_line sort
     ∷ line (codes "Fault") fault
-    ∷ line (codes "Where") stop
-    ∷ line (codes "Why") says
-    ∷ line (codes "Standard") section
+    ∷ line (codes "Where") (stop_text place.field.now place.octet)
+    ∷ line (codes "Wanted") place.wanted.now
+    ∷ line (codes "Why") rule.says.now
+    ∷ line (codes "Standard") rule.section.now
+    ∷ advice_line sort
     ∷ [])
 
--- why octets begin with neither: a fault of reading, its rule, and where reading stops
-pub record IsRejection (octets : List ℕ) (rule : Rule) (place : Place) : Type 0 where
+-- what is said of a file of this sort: the rule of the sort; of one of no sort that of its fault
+abbrev pub IsToldRule : Option Sort → Bool → DecodeError → List ℕ → RuleFields → Type 0
+IsToldRule (Some s) is_list fault octets r = r ≡ sort_rule s
+IsToldRule None is_list fault octets r = IsFileRule is_list fault octets r
+
+-- why octets begin with neither: their sort, a fault of reading, what is said, and where reading
+-- stops
+pub record IsRejection (octets : List ℕ) (sort : Option Sort) (rule : Rule) (place : Place) : Type 0 where
+  pub sort_is : IsToldSort octets sort
   pub fault : DecodeError
   pub not_memory : fault ≢ Memory
   pub is_list : Bool
   pub is_list_by : IsTrue is_list ↔ LooksLikeList octets
-  pub rule_is : IsFileRule is_list fault octets (rule_of rule)
+  pub rule_is : IsToldRule sort is_list fault octets (rule_of rule)
   pub octet_within : place.octet ≤ length octets
 
 -- the text of a file that begins with neither, and doesn't look like a locator; how a fault is named,
 -- no definition says
 pub record IsUnreadFileText (file : FileFields) (text : List ℕ) : Type 0 where
   pub why : List ℕ
+  pub sort : Option Sort
   pub rule : Rule
   pub place : Place
-  pub rejection : IsRejection file.octets rule place
-  pub text_is : text ≡ other_file_text file why (stop_text place.field.now place.octet) rule.says.now rule.section.now
+  pub rejection : IsRejection file.octets sort rule place
+  pub text_is : text ≡ other_file_text file sort why place rule
 
 -- what is said of a file that can't be shown: as of a locator that is none where it looks like one
 abbrev pub SaysOfOther : {X : Type 0} → (OfNoLocator OfUnread : FileFields → X → Type 0) → FileFields → X → Type 0

@@ -1,10 +1,10 @@
 //! Certificates, lists and locators as JSON, with the names that rpki-client gives to what it shows
 //! too.
-ghost use Rattle.std.specs.Prelude.{◌≡◌, codes, map, option_map, IfOk, OnOk};
+ghost use Rattle.std.specs.Prelude.{◌≡◌, codes, map, option_map, string_bytes, IfOk, OnOk};
 ghost use Rattle.serde_json.specs.View.{view};
 ghost use Rattle.rpki.specs.Locators.{uri_text};
 ghost use Rattle.rpki_text.specs.Pages.{colons_text};
-ghost use Rattle.rpki_command.specs.JsonFiles.{IsCertificateJson, IsLocatorJson, answer_word, certificate_json, entry_json, head_members, key_members, list_json, location_json, locator_json, name_members, no_locator_file_json, overclaim_word, profiles_json, rejection_json, type_word, uri_member, uri_members, usage_word};
+ghost use Rattle.rpki_command.specs.JsonFiles.{IsCertificateJson, IsLocatorJson, advice_members, answer_word, certificate_json, entry_json, head_members, key_members, list_json, location_json, locator_json, name_members, no_locator_file_json, overclaim_word, profiles_json, rejection_json, sort_members, type_word, uri_member, uri_members, usage_word};
 ghost use Rattle.rpki_command.specs.JsonValues.{Puts, array_of, count_member_if_any, place_members, rule_members, text_member_if_any};
 
 mod ascii;
@@ -17,6 +17,7 @@ mod objects;
 mod texts;
 mod verdicts;
 
+use crate::showing::Rejection;
 pub use files::answer_files;
 use notes::notes_value;
 use objects::{Members, value_of};
@@ -27,8 +28,8 @@ use rpki::repository::error::InspectionError;
 use rpki::repository::tal::{Tal, TalError, TalUri};
 use rpki::repository::x509::{Serial, Time};
 use rpki::uri::{Https, Rsync};
-use rpki_files::Place;
 use rpki_files::rules::Rule;
+use rpki_files::{Place, Sort, describe};
 use rpki_notes::Note;
 use rpki_text::Page;
 use rpki_text::certificate::{Answers, Findings, findings_of};
@@ -344,29 +345,49 @@ pub fn put_rule(out: &mut Members, rule: Rule) -> Result<(), AllocError>
     out.text("standard", rule.section)
 }
 
-// Puts in the field at which reading stops, and the octet at which that begins.
+// Puts in the field at which reading stops, the octet at which that begins, and what is wanted there.
 fn put_place(out: &mut Members, place: Place) -> Result<(), AllocError>
     ensures { OnOk result (Puts (place_members place) out.old out.new) }
 {
     out.text("field", place.field)?;
-    out.value("octet", Value::from(place.octet as u64))
+    out.value("octet", Value::from(place.octet as u64))?;
+    out.text("wanted", place.wanted)
 }
 
-/// Makes the value of a file that is neither: the fault and its rule, the field at which reading
-/// stops, and the octet at which that begins.
-pub fn rejected(
-    alloc: Global,
-    file: &Shown<'_>,
-    fault: &str,
-    rule: Rule,
-    place: Place,
-) -> Result<Value, AllocError>
-    ensures { IfOk result (λ made. view made ≡ rejection_json file.now fault.now rule place) }
+// Puts in what a file is, and what to do.
+fn put_advice(out: &mut Members, kind: &str, advice: &str) -> Result<(), AllocError>
+    ensures { OnOk result (Puts (advice_members kind.now advice.now) out.old out.new) }
+{
+    out.text("kind", kind)?;
+    out.text("advice", advice)
+}
+
+/// Puts in the sort of a file and what to do, where it is of one.
+#[tactic(auto, unfolding(crate::specs::JsonValues::put_all))]
+pub fn put_sort(out: &mut Members, sort: Option<Sort>) -> Result<(), AllocError>
+    ensures { OnOk result (Puts (sort_members sort) out.old out.new) }
+{
+    match sort {
+        Some(sort) => {
+            let told = describe(sort);
+            put_advice(out, told.name, told.advice)
+        }
+        None => Ok(()),
+    }
+}
+
+/// Makes the value of a file that is neither: its sort, the fault and its rule, the field at which
+/// reading stops, the octet at which that begins, and what is wanted there.
+pub fn rejected(alloc: Global, file: &Shown<'_>, it: &Rejection) -> Result<Value, AllocError>
+    ensures { let why = string_bytes it.now.why in
+        IfOk result (λ made.
+        view made ≡ rejection_json file.now it.now.sort why it.now.rule it.now.place) }
 {
     let mut out = Members::new(alloc);
     head(&mut out, file)?;
-    out.text("fault", fault)?;
-    put_rule(&mut out, rule)?;
-    put_place(&mut out, place)?;
+    put_sort(&mut out, it.sort)?;
+    out.text("fault", it.why.as_str())?;
+    put_rule(&mut out, it.rule)?;
+    put_place(&mut out, it.place)?;
     Ok(out.into_value())
 }

@@ -3,13 +3,13 @@ ghost use Rattle.std.specs.Prelude.{◌≡◌, ◌↔◌, option_map, IsTrue, So
 ghost use Rattle.std.specs.Fmt.{WritesOnOk};
 ghost use Rattle.rpki_text.specs.CertificateTexts.{uri_line};
 ghost use Rattle.rpki_text.specs.Pages.{colons_text, line, line_if_any};
-ghost use Rattle.rpki_command.specs.RejectionDetails.{AreDetails, IsAnchor, IsCause, IsCertificateAt, TellsOrder, bound_text, cause_text, details_text, member_details, order_line, own_key};
+ghost use Rattle.rpki_command.specs.RejectionDetails.{AreDetails, IsAnchor, IsCause, IsCertificateAt, IsSortAt, TellsOrder, bound_text, cause_text, details_text, member_details, order_line, own_key, sort_lines};
 
 use rpki::crypto::KeyIdentifier;
 use rpki::repository::Cert;
 use rpki::repository::x509::Time;
 use rpki::uri::Rsync;
-use rpki_files::Object;
+use rpki_files::{Object, Sort, describe};
 use rpki_text::certificate::write_key_identifier;
 use rpki_text::{Characters, write_line};
 use rpki_verdicts::{Fault, Question};
@@ -32,13 +32,15 @@ pub enum Cause {
 }
 
 /// What is told of a fault beside its rule: its cause, the moment that was asked, the certificates of
-/// the member at its place and of the one above it, and whether the files stand the other way round.
+/// the member at its place and of the one above it, the sort of that member's file, and whether the
+/// files stand the other way round.
 #[derive(Clone, Copy)]
 pub struct Details<'q> {
     pub cause: Cause,
     pub moment: Time,
     pub member: Option<&'q Cert>,
     pub above: Option<&'q Cert>,
+    pub sort: Option<Sort>,
     pub is_turned: bool,
 }
 
@@ -80,6 +82,16 @@ fn certificate_at<'q>(files: &'q [Object<'_>], place: usize) -> Option<&'q Cert>
     }
 }
 
+// The sort of the file at this place.
+fn sort_at(files: &[Object<'_>], place: usize) -> Option<Sort>
+    ensures { IsSortAt files.now place result }
+{
+    match files.get(place) {
+        Some(file) => file.sort(),
+        None => None,
+    }
+}
+
 fn is_anchor(cert: Option<&Cert>, strict: bool) -> bool
     ensures { IsTrue result ↔ IsAnchor strict (option_map (λ c. c.now) cert.entry) }
 {
@@ -111,6 +123,7 @@ pub fn details_of<'q>(question: &Question<'q, '_>, fault: &Fault) -> Details<'q>
         moment: question.at,
         member: certificate_at(files, fault.index),
         above: certificate_at(files, fault.index.saturating_sub(1)),
+        sort: sort_at(files, fault.index),
         is_turned: is_turned(files, question.strict),
     }
 }
@@ -251,6 +264,22 @@ fn write_member<W: fmt::Write>(f: &mut fmt::Formatter<W>, details: &Details<'_>)
     }
 }
 
+// What the member's file is, and what to do, where it is of a sort.
+fn write_sort<W: fmt::Write>(f: &mut fmt::Formatter<W>, sort: Option<Sort>) -> fmt::Result
+    ensures { WritesOnOk W.write_str_gives f.old result (sort_lines sort) f.new }
+{
+    match sort {
+        Some(sort) => {
+            let told = describe(sort);
+            let name = told.name;
+            let advice = told.advice;
+            write_line(f, "Kind", &name)?;
+            write_line(f, "To do", &advice)
+        }
+        None => Ok(()),
+    }
+}
+
 fn write_order<W: fmt::Write>(f: &mut fmt::Formatter<W>, is_turned: bool) -> fmt::Result
     ensures { WritesOnOk W.write_str_gives f.old result (order_line is_turned) f.new }
 {
@@ -267,6 +296,7 @@ impl fmt::Display for Details<'_> {
 
     fn fmt<W: fmt::Write>(&self, f: &mut fmt::Formatter<W>) -> fmt::Result {
         write_member(f, self)?;
+        write_sort(f, self.sort)?;
         write_order(f, self.is_turned)
     }
 }

@@ -7,12 +7,14 @@ ghost use Rattle.rpki.specs.DecodeError.TheVariants as decoding;
 ghost use Rattle.rpki.specs.Lists.{IsCertificateList};
 ghost use Rattle.rpki_text.specs.CertificateTexts.{AreFindings};
 ghost use Rattle.rpki_files.specs.Contents.{BeginsBefore, BeginsWithEither, CanBeShown, LooksLikeList};
+ghost use Rattle.rpki_files.specs.FaultRules.{rule_of};
 ghost use Rattle.rpki_files.specs.Files.{contents};
 ghost use Rattle.rpki_files.specs.LocatorFiles.{IsWhyNoLocator};
 ghost use Rattle.rpki_notes.specs.Notes.{AreNotes};
 ghost use Rattle.rpki_command.specs.Outcomes.{IsOutcomeOfShow};
 ghost use Rattle.rpki_text.specs.Pages.{Appends, AppendsSome, line};
-ghost use Rattle.rpki_command.specs.ShownTexts.{IsCertificateFileText, IsFileText, IsFurtherText, IsListFileText, IsOtherFileText, IsRejection, IsTextOfFiles, IsUnreadFileText, certificate_file_text, file_lines, left_line, left_text, list_file_text, stop_text};
+ghost use Rattle.rpki_command.specs.RejectionDetails.{advice_line, sort_line};
+ghost use Rattle.rpki_command.specs.ShownTexts.{IsCertificateFileText, IsFileText, IsFurtherText, IsListFileText, IsOtherFileText, IsRejection, IsTextOfFiles, IsToldRule, IsUnreadFileText, certificate_file_text, file_lines, left_line, left_text, list_file_text, stop_text};
 ghost use Rattle.rpki_command.specs.VerdictTexts.{SaysOfEach};
 
 mod locators;
@@ -27,7 +29,8 @@ use rpki::repository::x509::Time;
 use rpki::repository::{Cert, Crl};
 use rpki_files::rules::{Rule, of_file};
 use rpki_files::{
-    Content, Form, Object, Place, looks_like, looks_like_locator, place_of, read_locator,
+    Content, Form, Object, Place, Sort, describe, looks_like, looks_like_locator, place_of,
+    read_locator,
 };
 use rpki_notes::{Note, notes_of};
 use rpki_text::{FileName, Page, certificate, list};
@@ -95,10 +98,12 @@ fn ended(page: &mut Page, left: usize)
     }
 }
 
-/// What is said of a fault: its text, its rule, and where the reading stops.
+/// What is said of a fault: its text, the sort of the file, the rule of that sort or else of the
+/// fault, and where the reading stops, with what is wanted there.
 #[derive(Drop)]
 pub struct Rejection {
     pub why: String,
+    pub sort: Option<Sort>,
     pub rule: Rule,
     pub place: Place,
 }
@@ -113,6 +118,22 @@ fn is_like_list(octets: &Bytes) -> bool
     }
 }
 
+// What is said of a file of this sort, or else of its fault.
+fn rule_of_file(sort: Option<Sort>, fault: &DecodeError, octets: &Bytes, is_list: bool) -> Rule
+    ensures { IsToldRule sort is_list fault.now octets.now (rule_of result) }
+{
+    match sort {
+        Some(sort) => {
+            let told = describe(sort);
+            Rule {
+                says: told.says,
+                section: told.section,
+            }
+        }
+        None => of_file(fault, octets, is_list),
+    }
+}
+
 /// Finds what is said of a fault of a file that begins with neither a certificate nor a list.
 pub fn rejection_of(
     alloc: Global,
@@ -120,14 +141,20 @@ pub fn rejection_of(
     fault: &DecodeError,
 ) -> Result<Rejection, AllocError>
     requires { fault.now ≢ decoding.Memory }
-    ensures { IfOk result (λ it. IsRejection object.now.octets it.rule it.place) }
+    ensures { IfOk result (λ it. IsRejection object.now.octets it.sort it.rule it.place) }
 {
     let octets = object.octets();
+    let sort = object.sort();
     let is_list = is_like_list(octets);
     let place = place_of(alloc, octets, is_list)?;
-    let rule = of_file(fault, octets, is_list);
+    let rule = rule_of_file(sort, fault, octets, is_list);
     let why = format!(in alloc; "{fault}")?;
-    Ok(Rejection { why, rule, place })
+    Ok(Rejection {
+        why,
+        sort,
+        rule,
+        place,
+    })
 }
 
 // Where reading stops.
@@ -144,15 +171,38 @@ impl fmt::Display for Stop {
     }
 }
 
+// What a file of this sort is, where it is of one.
+fn print_kind(page: &mut Page, sort: Option<Sort>)
+    ensures { Appends page.old (sort_line sort) page.new }
+{
+    match sort {
+        Some(sort) => page.line("Kind", describe(sort).name),
+        None => {}
+    }
+}
+
+// What to do of a file of this sort, where it is of one.
+fn print_advice(page: &mut Page, sort: Option<Sort>)
+    ensures { Appends page.old (advice_line sort) page.new }
+{
+    match sort {
+        Some(sort) => page.line("To do", describe(sort).advice),
+        None => {}
+    }
+}
+
 fn print_rejection(page: &mut Page, object: &Object<'_>, it: &Rejection)
-    ensures { IsRejection object.now.octets it.now.rule it.now.place
+    ensures { IsRejection object.now.octets it.now.sort it.now.rule it.now.place
         → AppendsSome (IsUnreadFileText object.now) page.old page.new }
 {
     begun(page, object);
+    print_kind(page, it.sort);
     page.line("Fault", it.why.as_str());
     page.line_of("Where", &Stop(it.place));
+    page.line("Wanted", it.place.wanted);
     page.line("Why", it.rule.says);
     page.line("Standard", it.rule.section);
+    print_advice(page, it.sort);
 }
 
 fn print_unread(page: &mut Page, object: &Object<'_>, fault: &DecodeError)

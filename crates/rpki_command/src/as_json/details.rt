@@ -6,7 +6,7 @@ ghost use Rattle.rpki_command.specs.JsonValues.{Puts, text_member_if_any};
 ghost use Rattle.rpki_command.specs.RejectionDetails.{own_key};
 
 use crate::as_json::objects::Members;
-use crate::as_json::rsync;
+use crate::as_json::{put_sort, rsync};
 use crate::details::{Cause, Details, ORDER};
 use rpki::crypto::KeyIdentifier;
 use rpki::repository::Cert;
@@ -114,5 +114,6 @@ pub fn put_details(out: &mut Members, details: &Details<'_>) -> Result<(), Alloc
     ensures { OnOk result (Puts (details_members details.now) out.old out.new) }
 {
     put_member(out, details)?;
+    put_sort(out, details.sort)?;
     put_order(out, details.is_turned)
 }

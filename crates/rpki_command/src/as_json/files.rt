@@ -107,7 +107,7 @@ fn unread_value(
 {
     let it = rejection_of(alloc, object, fault)?;
     let file = as_shown(object, 0);
-    rejected(alloc, &file, it.why.as_str(), it.rule, it.place)
+    rejected(alloc, &file, &it)
 }
 
 // The value of a file that can't be shown: why it begins with neither a certificate nor a list, or

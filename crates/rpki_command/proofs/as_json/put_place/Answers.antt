@@ -4,6 +4,7 @@ use Rattle.rpki_command.proofs.as_json.put_place.Goals as goal
 
 pub returns : goal.returns
 returns c =
-    IfOk-weaker c.value.result _ _ (λ _ last.
+    IfOk-weaker c.text-2.result _ _ (λ _ last.
     then_put _ _ _ _ _ c.in_ok-text.ensures
-    (last_put _ _ _ last)) (rw c.from.ensures at c.value.ensures)
+    (then_put _ _ _ _ _ (rw c.from.ensures at c.in_ok-value.ensures)
+    (last_put _ _ _ last))) c.text-2.ensures

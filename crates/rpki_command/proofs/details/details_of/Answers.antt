@@ -11,6 +11,7 @@ returns c =
       moment = c.question.inside.at;
       member = c.certificate_at.result;
       above = c.certificate_at-2.result;
+      sort = c.sort_at.result;
       is_turned = c.is_turned.result;
     } in
     subst (λ (q : QuestionFields). AreDetails q c.args.fault.now d) c.question.view_is
@@ -19,5 +20,6 @@ returns c =
       moment_is = refl;
       member_is = c.certificate_at.ensures;
       above_is = rw c.saturating_sub.ensures at c.certificate_at-2.ensures;
+      sort_is = c.sort_at.ensures;
       order_is = c.is_turned.ensures;
     })

@@ -1,3 +1,4 @@
+use Rattle.std.specs.Prelude.{string_bytes}
 use Rattle.std.proofs.lemmas.Result.{IfOk-weaker}
 use Rattle.rpki_command.proofs.as_json.files.unread_value.Goals as goal
 
@@ -5,7 +6,8 @@ pub returns : goal.returns
 returns c =
     let it = c.in_ok-it.it in
     IfOk-weaker c.rejected.result _ _ (λ _ is. record {
-      why = c.as_str.result.now;
+      why = string_bytes it.why;
+      sort = it.sort;
       rule = it.rule;
       place = it.place;
       rejection = c.in_ok-it.ensures;
