@@ -11,14 +11,14 @@ use Rattle.rpki_command.proofs.WholeVerdicts.{AllWhole, each_whole, items_whole}
 -- of a file
 file_whole : (strict : Bool) (file : FileFields) (value : Data) → IsFileJson strict file value → IsWhole value
 file_whole strict file value (inl is) =
-    subst IsWhole (sym is.value_is.value_is) (certificate_whole is.shown is.value_is.found is.notes is.cert.fields)
+    subst IsWhole (sym is.value_is.value_is) (certificate_whole is.shown is.value_is.found is.facts is.notes is.cert.fields)
 file_whole strict file value (inr (inl is)) = subst IsWhole (sym is.value_is) (list_whole is.shown is.list.fields)
 file_whole strict file value (inr (inr (inl is))) =
     subst IsWhole (sym is.value_is.value_is) (locator_whole is.shown is.tal is.value_is.key)
 file_whole strict file value (inr (inr (inr (none, inl (looks, is))))) =
     subst IsWhole (sym is.value_is) (no_locator_whole is.shown is.error is.rule)
 file_whole strict file value (inr (inr (inr (none, inr (other, is))))) =
-    subst IsWhole (sym is.value_is) (rejection_whole is.shown is.why is.rule is.place)
+    subst IsWhole (sym is.value_is) (rejection_whole is.shown is.sort is.why is.rule is.place)
 
 item_whole : (strict : Bool) (file : FileFields) (items : List Data) → IsFileItem strict file items → AllWhole items
 unfolding AllWhole

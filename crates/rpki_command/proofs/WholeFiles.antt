@@ -9,6 +9,7 @@ use Rattle.rpki.specs.CertificateExtensions.{ExtensionFields}
 use Rattle.rpki.specs.Certificates.{TbsFields}
 use Rattle.rpki.specs.KeyForm.{KeyForm}
 use Rattle.rpki.specs.KeyForm.TheVariants.{RsaKey, EvenModulus, NoRsaKey, Point, OffCurve, CompressedPoint, NoPoint}
+use Rattle.rpki.specs.Keys.{KeyFields}
 use Rattle.rpki.specs.Lists.{ListFields}
 use Rattle.rpki.specs.Locators.{TalFields}
 use Rattle.rpki.specs.Resources.{Resources, missing, inherit, blocks}
@@ -19,20 +20,24 @@ use Rattle.rpki.specs.Timestamps.{timestamp}
 use Rattle.rpki.specs.Verification.{ResourceFields}
 use Rattle.rpki_cert.proofs.Reordering.{all_append}
 use Rattle.rpki_command.specs.JsonBlocks.{ends_json, block_json, numbers_json, resource_items, listed_items, held_items}
-use Rattle.rpki_command.specs.JsonFiles.{head_members, profiles_json, name_members, key_members, uri_member, uri_members, certificate_json, entry_json, list_json, location_json, locator_json, no_locator_file_json, rejection_json}
+use Rattle.rpki_command.specs.JsonFiles.{head_members, profiles_json, name_members, key_members, uri_member, uri_members, certificate_json, entry_json, list_json, location_json, locator_json, no_locator_file_json, rejection_json, sort_members}
 use Rattle.rpki_command.specs.JsonKeys.{exponent_member, form_members, key_json}
+use Rattle.rpki_command.specs.FactTexts.{fact_json}
 use Rattle.rpki_command.specs.JsonNotes.{note_json, notes_json}
 use Rattle.rpki_command.specs.JsonValues.{Pair}
+use Rattle.rpki_text.specs.KeyTexts.{point_text}
 use Rattle.rpki_text.specs.Pages.{characters_text}
 use Rattle.rpki_command.specs.declared.as_json.Shown.{Shown}
 use Rattle.rpki_text.specs.declared.blocks.Family.{Family}
 use Rattle.rpki_text.specs.declared.blocks.Family.TheVariants.{V4, V6}
+use Rattle.rpki_notes.specs.declared.fact.Fact.{Fact}
 use Rattle.rpki_notes.specs.declared.note.Note.{Note}
 use Rattle.rpki_text.specs.declared.certificate.Answers.{Answers}
 use Rattle.rpki_text.specs.declared.certificate.Findings.{Findings}
 use Rattle.rpki_text.specs.declared.keys.KeyAnswer.{KeyAnswer}
 use Rattle.rpki_files.specs.declared.places.Place.{Place}
 use Rattle.rpki_files.specs.declared.rules.Rule.{Rule}
+use Rattle.rpki_files.specs.declared.sorts.Sort.{Sort}
 use Rattle.rpki_command.proofs.WholeValues.{IsWhole, AreWhole, none_whole, then_whole, both_whole, object_whole, array_whole, mapped_whole, if_whole, integer_whole, text_if_any_whole, count_if_any_whole}
 
 all_whole : (a b : List Data) → AllByRecursion IsWhole a → AllByRecursion IsWhole b → AllByRecursion IsWhole (a ++ b)
@@ -81,7 +86,7 @@ profiles_whole a =
 names_whole : (f : TbsFields) → AreWhole (name_members f)
 unfolding name_members
 names_whole f =
-    then_whole _ _ _ refl (then_whole _ _ _ refl (then_whole _ _ _ refl (then_whole _ _ _ (integer_whole (timestamp f.validity.not_before)) (then_whole _ _ _ (integer_whole (timestamp f.validity.not_after)) none_whole))))
+    then_whole _ _ _ refl (then_whole _ _ _ refl (then_whole _ _ _ refl (then_whole _ _ _ refl (then_whole _ _ _ refl (then_whole _ _ _ (integer_whole (timestamp f.validity.not_before)) (then_whole _ _ _ (integer_whole (timestamp f.validity.not_after)) none_whole))))))
 
 keys_whole : (x : ExtensionFields) → AreWhole (key_members x)
 unfolding key_members
@@ -114,10 +119,10 @@ form_whole OffCurve = none_whole
 form_whole CompressedPoint = none_whole
 form_whole NoPoint = none_whole
 
-pub key_whole : (key : KeyAnswer) → IsWhole (key_json key)
+pub key_whole : (key : KeyFields) (found : KeyAnswer) → IsWhole (key_json key found)
 unfolding key_json
-key_whole key =
-    object_whole _ (then_whole _ _ _ refl (then_whole _ _ _ refl (both_whole _ _ (form_whole key.form) (then_whole _ _ _ refl none_whole))))
+key_whole key found =
+    object_whole _ (then_whole _ _ _ refl (then_whole _ _ _ refl (both_whole _ _ (form_whole found.form) (both_whole _ _ (text_if_any_whole _ (point_text key)) (then_whole _ _ _ refl none_whole)))))
 
 note_whole : (note : Note) → IsWhole (note_json note)
 note_whole note = object_whole _ (then_whole _ _ _ refl (then_whole _ _ _ refl (then_whole _ _ _ refl none_whole)))
@@ -125,10 +130,13 @@ note_whole note = object_whole _ (then_whole _ _ _ refl (then_whole _ _ _ refl (
 pub notes_whole : (notes : List Note) → IsWhole (notes_json notes)
 notes_whole notes = array_whole _ (mapped_whole note_json note_whole notes)
 
-pub certificate_whole : (file : Shown) (found : Findings) (notes : List Note) (f : TbsFields) → IsWhole (certificate_json file found notes f)
+fact_whole : (fact : Fact) → IsWhole (fact_json fact)
+fact_whole fact = object_whole _ (then_whole _ _ _ refl none_whole)
+
+pub certificate_whole : (file : Shown) (found : Findings) (facts : List Fact) (notes : List Note) (f : TbsFields) → IsWhole (certificate_json file found facts notes f)
 unfolding certificate_json
-certificate_whole file found notes f =
-    object_whole _ (both_whole _ _ (head_whole file) (then_whole _ _ _ refl (both_whole _ _ (names_whole f) (both_whole _ _ (keys_whole f.extensions) (then_whole _ _ _ (key_whole found.key) (both_whole _ _ (uris_whole f.extensions) (then_whole _ _ _ (array_whole _ (listed_whole f.extensions)) (then_whole _ _ _ (profiles_whole found.answers) (then_whole _ _ _ (array_whole _ (mapped_whole note_json note_whole notes)) (then_whole _ _ _ refl none_whole))))))))))
+certificate_whole file found facts notes f =
+    object_whole _ (both_whole _ _ (head_whole file) (then_whole _ _ _ refl (both_whole _ _ (names_whole f) (both_whole _ _ (keys_whole f.extensions) (then_whole _ _ _ (key_whole f.key found.key) (both_whole _ _ (uris_whole f.extensions) (then_whole _ _ _ (array_whole _ (listed_whole f.extensions)) (then_whole _ _ _ (profiles_whole found.answers) (then_whole _ _ _ (array_whole _ (mapped_whole fact_json fact_whole facts)) (then_whole _ _ _ (array_whole _ (mapped_whole note_json note_whole notes)) (then_whole _ _ _ refl none_whole)))))))))))
 
 -- ---- a list
 
@@ -149,7 +157,7 @@ location_whole uri = refl
 pub locator_whole : (file : Shown) (tal : TalFields) (key : KeyAnswer) → IsWhole (locator_json file tal key)
 unfolding locator_json
 locator_whole file tal key =
-    object_whole _ (both_whole _ _ (head_whole file) (then_whole _ _ _ refl (then_whole _ _ _ refl (then_whole _ _ _ refl (then_whole _ _ _ (array_whole _ (mapped_whole location_json location_whole tal.uris)) (then_whole _ _ _ (key_whole key) none_whole))))))
+    object_whole _ (both_whole _ _ (head_whole file) (then_whole _ _ _ refl (then_whole _ _ _ refl (then_whole _ _ _ refl (then_whole _ _ _ (array_whole _ (mapped_whole location_json location_whole tal.uris)) (then_whole _ _ _ (key_whole tal.key key) none_whole))))))
 
 pub no_locator_whole : (file : Shown) (error : TalError) (rule : Rule) → IsWhole (no_locator_file_json file error rule)
 unfolding no_locator_file_json
@@ -158,7 +166,11 @@ no_locator_whole file error rule =
 
 -- ---- a file that is neither
 
-pub rejection_whole : (file : Shown) (fault : List ℕ) (rule : Rule) (place : Place) → IsWhole (rejection_json file fault rule place)
+pub sort_whole : (sort : Option Sort) → AreWhole (sort_members sort)
+sort_whole None = none_whole
+sort_whole (Some s) = then_whole _ _ _ refl (then_whole _ _ _ refl none_whole)
+
+pub rejection_whole : (file : Shown) (sort : Option Sort) (fault : List ℕ) (rule : Rule) (place : Place) → IsWhole (rejection_json file sort fault rule place)
 unfolding rejection_json
-rejection_whole file fault rule place =
-    object_whole _ (both_whole _ _ (head_whole file) (then_whole _ _ _ refl (then_whole _ _ _ refl (then_whole _ _ _ refl (then_whole _ _ _ refl (then_whole _ _ _ refl none_whole))))))
+rejection_whole file sort fault rule place =
+    object_whole _ (both_whole _ _ (head_whole file) (both_whole _ _ (sort_whole sort) (then_whole _ _ _ refl (then_whole _ _ _ refl (then_whole _ _ _ refl (then_whole _ _ _ refl (then_whole _ _ _ refl (then_whole _ _ _ refl none_whole))))))))

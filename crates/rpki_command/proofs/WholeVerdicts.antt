@@ -26,7 +26,7 @@ use Rattle.rpki_command.specs.declared.details.Cause.TheVariants.{NoList, OtherK
 use Rattle.rpki_command.specs.declared.details.Details.{Details}
 use Rattle.rpki_command.specs.declared.verdicts.Finding.{Finding}
 use Rattle.rpki_command.specs.declared.verdicts.Finding.TheVariants.{NotALocator, NotAList, Decided}
-use Rattle.rpki_command.proofs.WholeFiles.{held_whole, key_whole, listed_whole, notes_whole}
+use Rattle.rpki_command.proofs.WholeFiles.{held_whole, key_whole, listed_whole, notes_whole, sort_whole}
 use Rattle.rpki_command.proofs.WholeValues.{IsWhole, AreWhole, none_whole, then_whole, both_whole, object_whole, array_whole, mapped_whole, text_if_any_whole, integer_whole}
 
 names_whole : (files : List FileFields) → IsWhole (names_json files)
@@ -96,7 +96,7 @@ order_whole false = none_whole
 
 details_whole : (d : Details) → AreWhole (details_members d)
 details_whole d =
-    both_whole _ _ (member_whole d.cause d.moment (option_map (λ c. c.now) d.member) (option_map (λ c. c.now) d.above)) (order_whole d.is_turned)
+    both_whole _ _ (member_whole d.cause d.moment (option_map (λ c. c.now) d.member) (option_map (λ c. c.now) d.above)) (both_whole _ _ (sort_whole d.sort) (order_whole d.is_turned))
 
 fault_whole : (members : List FileFields) (fault : Fault) (details : Details) → IsWhole (fault_json members fault details)
 unfolding fault_json
@@ -114,7 +114,7 @@ no_list_whole = object_whole _ (then_whole _ _ _ refl (then_whole _ _ _ refl (th
 
 router_whole : (c : CertFields) (key : KeyAnswer) → IsWhole (router_json c key)
 unfolding router_json
-router_whole c key = object_whole _ (then_whole _ _ _ (array_whole _ (listed_whole c.fields.extensions)) (then_whole _ _ _ refl (then_whole _ _ _ (key_whole key) none_whole)))
+router_whole c key = object_whole _ (then_whole _ _ _ (array_whole _ (listed_whole c.fields.extensions)) (then_whole _ _ _ refl (then_whole _ _ _ (key_whole c.fields.key key) none_whole)))
 
 accepted_whole : (holder : ResourceFields) (router : Option CertFields) (pairs : List Pair) → AreAcceptedMembers holder router pairs → AreWhole pairs
 accepted_whole holder None pairs is = subst AreWhole (sym is) (then_whole _ _ _ refl (then_whole _ _ _ (array_whole _ (held_whole holder)) none_whole))

@@ -1,5 +1,5 @@
 -- What is shown of files as JSON.
-use Rattle.std.specs.Prelude.{◌≡◌, ◌==◌, ℕ, Bool, List, [], ◌∷◌, length, Option}
+use Rattle.std.specs.Prelude.{◌≡◌, ◌==◌, ℕ, Bool, List, [], ◌∷◌, length, map, Option}
 use Rattle.serde_json.specs.Data.{Data}
 use Rattle.rpki.specs.Certificates.{CertFields, IsCertificate}
 use Rattle.rpki.specs.Lists.{CrlFields, IsCertificateList}
@@ -9,7 +9,9 @@ use Rattle.rpki_files.specs.Contents.{BeginsBefore, BeginsWithEither}
 use Rattle.rpki_files.specs.FaultRules.{rule_of, tal_rule}
 use Rattle.rpki_files.specs.Files.{FileFields}
 use Rattle.rpki_files.specs.LocatorFiles.{IsWhyNoLocator}
+use Rattle.rpki_notes.specs.Facts.{AreFacts, fact_view}
 use Rattle.rpki_notes.specs.Notes.{AreNotes}
+use Rattle.rpki_notes.specs.declared.fact.Fact.{Fact}
 use Rattle.rpki_notes.specs.declared.note.Note.{Note}
 use Rattle.rpki_command.specs.JsonFiles.{IsCertificateJson, IsLocatorJson, list_json, no_locator_file_json, rejection_json}
 use Rattle.rpki_command.specs.JsonTexts.{values_text}
@@ -32,9 +34,11 @@ pub record IsCertificateFileJson (strict : Bool) (file : FileFields) (value : Da
   pub begins : BeginsBefore IsCertificate file.octets cert left
   pub shown : Shown
   pub shown_is : IsShown file left shown
+  pub facts : List Fact
+  pub facts_are : AreFacts file.octets (map fact_view facts)
   pub notes : List Note
   pub notes_are : AreNotes file.octets notes
-  pub value_is : IsCertificateJson strict shown cert notes value
+  pub value_is : IsCertificateJson strict shown cert facts notes value
 
 -- the file begins with a list, and this is its value
 pub record IsListFileJson (file : FileFields) (value : Data) : Type 0 where

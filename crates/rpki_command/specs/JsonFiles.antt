@@ -27,9 +27,11 @@ use Rattle.rpki_text.specs.KeyTexts.{IsLocatorKey}
 use Rattle.rpki_command.specs.JsonBlocks.{listed_items}
 use Rattle.rpki_command.specs.JsonKeys.{key_json}
 use Rattle.rpki_command.specs.JsonNotes.{notes_json}
-use Rattle.rpki_command.specs.JsonValues.{Pair, moment_json, array_of, member_of, text_member, text_member_if_any, count_member_if_any, object_of, rule_members, place_members, flattened}
+use Rattle.rpki_command.specs.FactTexts.{facts_json}
+use Rattle.rpki_command.specs.JsonValues.{Pair, count_json, moment_json, array_of, member_of, text_member, text_member_if_any, count_member_if_any, object_of, rule_members, place_members, flattened}
 use Rattle.rpki_text.specs.Pages.{characters_text, colons_text}
 use Rattle.rpki.specs.Digits.{base64_of}
+use Rattle.rpki_notes.specs.declared.fact.Fact.{Fact}
 use Rattle.rpki_notes.specs.declared.note.Note.{Note}
 use Rattle.rpki_text.specs.declared.certificate.Answers.{Answers}
 use Rattle.rpki_text.specs.declared.certificate.Findings.{Findings}
@@ -91,10 +93,13 @@ profiles_json a = object_of (flattened (
 
 -- ---- a certificate
 
--- its number, its names and its validity
+-- its version and its algorithm, which are those of every certificate (RFC 6487 4.1, RFC 7935 2), its
+-- number, its names and its validity
 unfoldable pub name_members : TbsFields → List Pair
 name_members f = flattened (
-    text_member (codes "cert_serial") (serial_text f.serial)
+    member_of (codes "version") (count_json 3)
+    ∷ text_member (codes "cert_serial") (serial_text f.serial)
+    ∷ text_member (codes "signature_algorithm") (codes "sha256WithRSAEncryption")
     ∷ text_member (codes "cert_issuer") (name_text f.issuer)
     ∷ text_member (codes "cert_subject") (name_text f.subject)
     ∷ member_of (codes "valid_since") (moment_json f.validity.not_before)
@@ -125,27 +130,28 @@ uri_members x = flattened (
     ∷ uri_member (codes "notify_url") x.access.rpki_notify
     ∷ [])
 
--- a certificate of which this was found, with these notes
-unfoldable pub certificate_json : Shown → Findings → List Note → TbsFields → Data
-certificate_json file found notes f = object_of (flattened (
+-- a certificate of which this was found, with these facts and notes
+unfoldable pub certificate_json : Shown → Findings → List Fact → List Note → TbsFields → Data
+certificate_json file found facts notes f = object_of (flattened (
     head_members file
     ∷ text_member (codes "type") (type_word found.kind)
     ∷ name_members f
     ∷ key_members f.extensions
-    ∷ member_of (codes "key") (key_json found.key)
+    ∷ member_of (codes "key") (key_json f.key found.key)
     ∷ uri_members f.extensions
     ∷ member_of (codes "subordinate_resources") (array_of (listed_items f.extensions))
     ∷ member_of (codes "profiles") (profiles_json found.answers)
+    ∷ member_of (codes "further") (facts_json facts)
     ∷ member_of (codes "notes") (notes_json notes)
     ∷ signature_member
     ∷ []))
 
--- the value of the certificate that a file begins with, with these notes
-pub record IsCertificateJson (strict : Bool) (file : Shown) (c : CertFields) (notes : List Note) (value : Data)
+-- the value of the certificate that a file begins with, with these facts and notes
+pub record IsCertificateJson (strict : Bool) (file : Shown) (c : CertFields) (facts : List Fact) (notes : List Note) (value : Data)
     : Type 0 where
   pub found : Findings
   pub found_is : AreFindings strict c found
-  pub value_is : value ≡ certificate_json file found notes c.fields
+  pub value_is : value ≡ certificate_json file found facts notes c.fields
 
 -- ---- a list
 
@@ -184,7 +190,7 @@ locator_json file tal key = object_of (flattened (
     ∷ text_member (codes "name") file.name.now
     ∷ text_member (codes "ski") (colons_text (key_identifier tal.key))
     ∷ member_of (codes "trust_anchor_locations") (array_of (map location_json tal.uris))
-    ∷ member_of (codes "key") (key_json key)
+    ∷ member_of (codes "key") (key_json tal.key key)
     ∷ []))
 
 -- the value of the locator that a file is

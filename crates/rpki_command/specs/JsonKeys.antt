@@ -3,7 +3,9 @@ use Rattle.std.specs.Prelude.{ℕ, List, [], ◌∷◌, ◌++◌, codes, Option,
 use Rattle.serde_json.specs.Data.{Data, boolean}
 use Rattle.rpki.specs.KeyForm.{KeyForm}
 use Rattle.rpki.specs.KeyForm.TheVariants.{RsaKey, EvenModulus, NoRsaKey, Point, OffCurve, CompressedPoint, NoPoint}
-use Rattle.rpki_command.specs.JsonValues.{Pair, count_json, member_of, text_member, object_of, flattened}
+use Rattle.rpki.specs.Keys.{KeyFields}
+use Rattle.rpki_text.specs.KeyTexts.{point_text}
+use Rattle.rpki_command.specs.JsonValues.{Pair, count_json, member_of, text_member, text_member_if_any, object_of, flattened}
 use Rattle.rpki_text.specs.declared.keys.KeyAnswer.{KeyAnswer}
 
 -- the algorithm of a key of this form
@@ -33,11 +35,13 @@ abbrev pub form_members : KeyForm → List Pair
 form_members (RsaKey count exponent) = member_of (codes "bits") (count_json count) ++ exponent_member exponent
 form_members _ = []
 
--- a key, and whether the RPKI uses it
-unfoldable pub key_json : KeyAnswer → Data
-key_json key = object_of (flattened (
-    text_member (codes "algorithm") (algorithm_word key.form)
-    ∷ text_member (codes "form") (form_word key.form)
-    ∷ form_members key.form
-    ∷ member_of (codes "usable") (boolean key.is_usable)
+-- a key of which this was found: what it is, its point where it is no RSA key, and whether the RPKI
+-- uses it
+unfoldable pub key_json : KeyFields → KeyAnswer → Data
+key_json key found = object_of (flattened (
+    text_member (codes "algorithm") (algorithm_word found.form)
+    ∷ text_member (codes "form") (form_word found.form)
+    ∷ form_members found.form
+    ∷ text_member_if_any (codes "point") (point_text key)
+    ∷ member_of (codes "usable") (boolean found.is_usable)
     ∷ []))

@@ -133,7 +133,7 @@ unfoldable pub router_json : CertFields → KeyAnswer → Data
 router_json c key = object_of (flattened (
     member_of (codes "subordinate_resources") (array_of (listed_items c.fields.extensions))
     ∷ text_member (codes "ski") (colons_text c.fields.extensions.subject_key_identifier)
-    ∷ member_of (codes "key") (key_json key)
+    ∷ member_of (codes "key") (key_json c.fields.key key)
     ∷ []))
 
 -- that the path is accepted, the router that stands last, and what the CA above it holds

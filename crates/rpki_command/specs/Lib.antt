@@ -6,6 +6,7 @@ pub mod Outcomes
 pub mod RejectionDetails
 pub mod VerdictTexts
 pub mod NoteLines
+pub mod FactTexts
 pub mod ShownTexts
 pub mod JsonValues
 pub mod JsonBlocks

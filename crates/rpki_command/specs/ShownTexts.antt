@@ -1,7 +1,7 @@
 -- What is shown of files.
 use Rattle.std.specs.Fmt.{decimal}
 use Rattle.std.specs.List.{concat, flat_map}
-use Rattle.std.specs.Prelude.{◌≡◌, ◌≢◌, ◌≤◌, ◌↔◌, ◌⊎◌, ℕ, Bool, IsTrue, IsFalse, ◌==◌, if◌then◌else◌, List, [], ◌∷◌, ◌++◌, length, codes, Option, Some, None}
+use Rattle.std.specs.Prelude.{◌≡◌, ◌≢◌, ◌≤◌, ◌↔◌, ◌⊎◌, ℕ, Bool, IsTrue, IsFalse, ◌==◌, if◌then◌else◌, List, [], ◌∷◌, ◌++◌, length, map, codes, Option, Some, None}
 use Rattle.hex.specs.Hex.{encode_lower}
 use Rattle.sha2.specs.Sha256.{sha256}
 use Rattle.rpki.specs.Certificates.{CertFields, TbsFields, IsCertificate}
@@ -24,12 +24,15 @@ use Rattle.rpki_files.specs.SortTexts.{sort_rule}
 use Rattle.rpki_text.specs.KeyTexts.{IsLocatorKey, locator_key_text}
 use Rattle.rpki_text.specs.ListTexts.{list_text}
 use Rattle.rpki_text.specs.Pages.{line, line_feed, characters_text, colons_text, count_text, file_name_text}
+use Rattle.rpki_command.specs.FactTexts.{facts_lines}
 use Rattle.rpki_command.specs.NoteLines.{notes_lines}
 use Rattle.rpki_command.specs.RejectionDetails.{advice_line, sort_line}
 use Rattle.rpki_command.specs.VerdictTexts.{SaysOfEach}
 use Rattle.rpki_text.specs.declared.certificate.Findings.{Findings}
 use Rattle.rpki_text.specs.declared.keys.KeyAnswer.{KeyAnswer}
+use Rattle.rpki_notes.specs.Facts.{AreFacts, fact_view}
 use Rattle.rpki_notes.specs.Notes.{AreNotes}
+use Rattle.rpki_notes.specs.declared.fact.Fact.{Fact}
 use Rattle.rpki_notes.specs.declared.note.Note.{Note}
 use Rattle.rpki_files.specs.declared.places.Place.{Place}
 use Rattle.rpki_files.specs.declared.rules.Rule.{Rule}
@@ -54,11 +57,12 @@ left_line left = if left == 0 then [] else line (codes "After its end") (left_te
 
 -- ---- files that begin with an object
 
--- a file that begins with a certificate, of which this was found, with these notes
-unfoldable pub certificate_file_text : FileFields → TbsFields → Moment → Findings → List Note → ℕ → List ℕ
-certificate_file_text file f now found notes left = concat (
+-- a file that begins with a certificate, of which this was found, with these facts and notes
+unfoldable pub certificate_file_text : FileFields → TbsFields → Moment → Findings → List Fact → List Note → ℕ → List ℕ
+certificate_file_text file f now found facts notes left = concat (
     file_lines file
     ∷ certificate_text f now found
+    ∷ facts_lines facts
     ∷ notes_lines notes
     ∷ left_line left
     ∷ [])
@@ -79,9 +83,11 @@ pub record IsCertificateFileText (options : Options) (file : FileFields) (text :
   pub begins : BeginsBefore IsCertificate file.octets cert left
   pub found : Findings
   pub found_is : AreFindings options.strict cert found
+  pub facts : List Fact
+  pub facts_are : AreFacts file.octets (map fact_view facts)
   pub notes : List Note
   pub notes_are : AreNotes file.octets notes
-  pub text_is : text ≡ certificate_file_text file cert.fields options.at found notes left
+  pub text_is : text ≡ certificate_file_text file cert.fields options.at found facts notes left
 
 -- the file begins with a list, and this is its text
 pub record IsListFileText (options : Options) (file : FileFields) (text : List ℕ) : Type 0 where

@@ -10,6 +10,7 @@ ghost use Rattle.rpki_command.specs.JsonValues.{Puts, array_of, count_member_if_
 mod ascii;
 mod blocks;
 mod details;
+mod facts;
 mod files;
 mod key;
 mod notes;
@@ -17,7 +18,8 @@ mod objects;
 mod texts;
 mod verdicts;
 
-use crate::showing::Rejection;
+use crate::showing::{Rejection, Remarks};
+use facts::facts_value;
 pub use files::answer_files;
 use notes::notes_value;
 use objects::{Members, value_of};
@@ -30,7 +32,6 @@ use rpki::repository::x509::{Serial, Time};
 use rpki::uri::{Https, Rsync};
 use rpki_files::rules::Rule;
 use rpki_files::{Place, Sort, describe};
-use rpki_notes::Note;
 use rpki_text::Page;
 use rpki_text::certificate::{Answers, Findings, findings_of};
 use rpki_text::keys::{KeyAnswer, answer_of_locator};
@@ -68,11 +69,13 @@ fn head(out: &mut Members, file: &Shown<'_>) -> Result<(), AllocError>
     left(out, file.left)
 }
 
-// The number of a certificate, its names and its validity.
+// The version of a certificate, its number, its algorithm, its names and its validity.
 fn names(out: &mut Members, fields: &TbsCert) -> Result<(), AllocError>
     ensures { OnOk result (Puts (name_members fields.now) out.old out.new) }
 {
+    out.value("version", Value::from(3u64))?;
     out.serial("cert_serial", fields.serial_number())?;
+    out.text("signature_algorithm", "sha256WithRSAEncryption")?;
     out.name("cert_issuer", fields.issuer())?;
     out.name("cert_subject", fields.subject())?;
     out.moment("valid_since", fields.validity().not_before())?;
@@ -191,42 +194,45 @@ fn known_certificate(
     alloc: Global,
     file: &Shown<'_>,
     found: &Findings,
-    notes: &[Note],
+    remarks: &Remarks<'_>,
     fields: &TbsCert,
 ) -> Result<Value, AllocError>
-    ensures { IfOk result (λ made.
-        view made ≡ certificate_json file.now found.now notes.now fields.now) }
+    ensures { let it = remarks.now in IfOk result (λ made. view made
+        ≡ certificate_json file.now found.now it.facts.now it.notes.now fields.now) }
 {
     let mut out = Members::new(alloc);
     head(&mut out, file)?;
     out.text("type", type_word(found.kind))?;
     names(&mut out, fields)?;
     keys(&mut out, fields)?;
-    let facts = key::facts(alloc, &found.key)?;
+    let facts = key::facts(alloc, fields.subject_public_key_info(), &found.key)?;
     out.value("key", facts)?;
     uris(&mut out, fields)?;
     let items = blocks::listed(alloc, fields)?;
     out.value("subordinate_resources", Value::from(items))?;
     let kinds = profiles(alloc, &found.answers)?;
     out.value("profiles", kinds)?;
-    let noted = notes_value(alloc, notes)?;
+    let further = facts_value(alloc, remarks.facts)?;
+    out.value("further", further)?;
+    let noted = notes_value(alloc, remarks.notes)?;
     out.value("notes", noted)?;
     out.text("signature", "not checked")?;
     Ok(out.into_value())
 }
 
-/// Makes the value of a certificate with its notes.
+/// Makes the value of a certificate with what is said of it beside its fields.
 pub fn certificate(
     alloc: Global,
     file: &Shown<'_>,
     cert: &Cert,
-    notes: &[Note],
+    remarks: &Remarks<'_>,
     strict: bool,
 ) -> Result<Value, AllocError>
-    ensures { IfOk result (λ made. IsCertificateJson strict file.now cert.now notes.now (view made)) }
+    ensures { let it = remarks.now in IfOk result (λ made.
+        IsCertificateJson strict file.now cert.now it.facts.now it.notes.now (view made)) }
 {
     let found = findings_of(cert, strict);
-    known_certificate(alloc, file, &found, notes, cert.as_tbs())
+    known_certificate(alloc, file, &found, remarks, cert.as_tbs())
 }
 
 // A revoked certificate.
@@ -308,7 +314,7 @@ fn known_locator(
     out.identifier("ski", &tal.key_info().key_identifier())?;
     let items = locations(alloc, tal.uris())?;
     out.value("trust_anchor_locations", items)?;
-    let facts = key::facts(alloc, answer)?;
+    let facts = key::facts(alloc, tal.key_info(), answer)?;
     out.value("key", facts)?;
     Ok(out.into_value())
 }

@@ -13,6 +13,7 @@ mod answering;
 mod arguments;
 mod as_json;
 mod details;
+mod facts;
 mod notes;
 pub mod outcome_laws;
 mod outcomes;

@@ -1,5 +1,5 @@
 //! Files for a person.
-ghost use Rattle.std.specs.Prelude.{◌≢◌, ◌↔◌, All, Bool, IfOk, IsTrue, OnOk, Some, codes, string_bytes};
+ghost use Rattle.std.specs.Prelude.{◌≢◌, ◌↔◌, All, Bool, IfOk, IsTrue, OnOk, Some, codes, map, string_bytes};
 ghost use Rattle.hex.specs.Hex.{encode_lower};
 ghost use Rattle.sha2.specs.Sha256.{sha256};
 ghost use Rattle.rpki.specs.Certificates.{IsCertificate};
@@ -10,6 +10,7 @@ ghost use Rattle.rpki_files.specs.Contents.{BeginsBefore, BeginsWithEither, CanB
 ghost use Rattle.rpki_files.specs.FaultRules.{rule_of};
 ghost use Rattle.rpki_files.specs.Files.{contents};
 ghost use Rattle.rpki_files.specs.LocatorFiles.{IsWhyNoLocator};
+ghost use Rattle.rpki_notes.specs.Facts.{AreFacts, fact_view};
 ghost use Rattle.rpki_notes.specs.Notes.{AreNotes};
 ghost use Rattle.rpki_command.specs.Outcomes.{IsOutcomeOfShow};
 ghost use Rattle.rpki_text.specs.Pages.{Appends, AppendsSome, line};
@@ -19,6 +20,7 @@ ghost use Rattle.rpki_command.specs.VerdictTexts.{SaysOfEach};
 
 mod locators;
 
+use crate::facts::print_facts;
 use crate::notes::print_notes;
 use crate::outcomes::{Answer, Outcome};
 use bytes::Bytes;
@@ -32,7 +34,7 @@ use rpki_files::{
     Content, Form, Object, Place, Sort, describe, looks_like, looks_like_locator, place_of,
     read_locator,
 };
-use rpki_notes::{Note, notes_of};
+use rpki_notes::{Fact, Note, facts_of, notes_of};
 use rpki_text::{FileName, Page, certificate, list};
 use sha2::{Digest, Sha256};
 use std::alloc::{AllocError, Global};
@@ -218,23 +220,49 @@ fn print_unread(page: &mut Page, object: &Object<'_>, fault: &DecodeError)
     }
 }
 
+/// What is said of a certificate beside its fields.
+#[derive(Clone, Copy)]
+pub struct Remarks<'a> {
+    pub facts: &'a [Fact<'a>],
+    pub notes: &'a [Note],
+}
+
 #[tactic(auto, unfolding(crate::specs::ShownTexts::certificate_file_text))]
 fn print_certificate(
     page: &mut Page,
     object: &Object<'_>,
     cert: &Cert,
-    notes: &[Note],
+    remarks: &Remarks<'_>,
     left: usize,
     options: &Options,
 )
     ensures { let f = cert.now.fields in
+        let facts = remarks.now.facts.now in
+        let notes = remarks.now.notes.now in
         (found : _) × AreFindings options.now.strict cert.now found × Appends page.old
-        (certificate_file_text object.now f options.now.at found notes.now left) page.new }
+        (certificate_file_text object.now f options.now.at found facts notes left) page.new }
 {
     begun(page, object);
     certificate::certificate(page, cert, options.at, options.strict);
-    print_notes(page, notes);
+    print_facts(page, remarks.facts);
+    print_notes(page, remarks.notes);
     ended(page, left);
+}
+
+fn told_certificate(
+    page: &mut Page,
+    object: &Object<'_>,
+    cert: &Cert,
+    remarks: &Remarks<'_>,
+    left: usize,
+    options: &Options,
+)
+    ensures { BeginsBefore IsCertificate object.now.octets cert.now left
+        → AreFacts object.now.octets (map fact_view remarks.now.facts.now)
+        → AreNotes object.now.octets remarks.now.notes.now
+        → AppendsSome (IsCertificateFileText options.now object.now) page.old page.new }
+{
+    print_certificate(page, object, cert, remarks, left, options);
 }
 
 fn noted_certificate(
@@ -249,7 +277,17 @@ fn noted_certificate(
         → AreNotes object.now.octets notes.now
         → AppendsSome (IsCertificateFileText options.now object.now) page.old page.new }
 {
-    print_certificate(page, object, cert, notes, left, options);
+    match facts_of(page.alloc(), object) {
+        Ok(facts) => {
+            let remarks = Remarks {
+                facts: facts.as_slice(),
+                notes,
+            };
+            told_certificate(page, object, cert, &remarks, left, options);
+            drop(facts);
+        }
+        Err(_) => page.fail(),
+    }
 }
 
 fn whole_certificate(

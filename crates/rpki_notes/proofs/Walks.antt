@@ -9,14 +9,14 @@ use Rattle.rpki_der.proofs.Octets.{some_is}
 use Rattle.rpki_notes.specs.Notes.{HaveOne}
 
 -- no extension stands in no octets
-nothing_there : (xs : List Extension) → AreEncodings IsExtension xs [] → xs ≡ []
+pub nothing_there : (xs : List Extension) → AreEncodings IsExtension xs [] → xs ≡ []
 nothing_there [] h = refl
 nothing_there (x ∷ xs) (a, b, is, more, e) =
     let read : extension_format.read [] ≡ Some (x, b) = ap extension_format.read e ∙ extension_reads.again x a b is in
     absurd (omega (arith, extension_shrinks [] x b read))
 
 -- what is read is the first of the extensions
-first_is : (octets : List ℕ) (x : Extension) (rest : List ℕ) → extension_format.read octets ≡ Some (x, rest) → (xs : List Extension) → AreEncodings IsExtension xs octets
+pub first_is : (octets : List ℕ) (x : Extension) (rest : List ℕ) → extension_format.read octets ≡ Some (x, rest) → (xs : List Extension) → AreEncodings IsExtension xs octets
     → (more : List Extension) × (xs ≡ x ∷ more) × AreEncodings IsExtension more rest
 first_is octets x rest read [] h = absurd (omega (arith, extension_shrinks octets x rest read, ap length h))
 first_is octets x rest read (y ∷ ys) (a, b, is, more, e) =

@@ -2,3 +2,4 @@
 pub mod Notes
 pub mod NoteTexts
 pub mod FaultSearch
+pub mod Facts

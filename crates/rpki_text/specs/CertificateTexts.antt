@@ -20,7 +20,7 @@ use Rattle.rpki.specs.Times.{Moment}
 use Rattle.rpki.specs.Validities.{ValidityFields}
 use Rattle.rpki_files.specs.SaidKinds.{IsKindOf}
 use Rattle.rpki_text.specs.BlockLines.{as_numbers_text, resources_lines}
-use Rattle.rpki_text.specs.KeyTexts.{IsKeyAnswer, key_text}
+use Rattle.rpki_text.specs.KeyTexts.{IsKeyAnswer, key_text, point_text}
 use Rattle.rpki_text.specs.ListTexts.{signature_line}
 use Rattle.rpki_text.specs.Pages.{line, line_if_any, colons_text, characters_text}
 use Rattle.rpki_text.specs.Periods.{end_text}
@@ -105,10 +105,13 @@ uri_line label uri = line_if_any label (option_map characters_text uri)
 
 -- ---- a certificate
 
--- its number and its names
+-- its version and its algorithm, which are those of every certificate (RFC 6487 4.1, RFC 7935 2), its
+-- number and its names
 unfoldable pub names_text : TbsFields → List ℕ
 names_text f = concat (
-    line (codes "Serial number") (serial_text f.serial)
+    line (codes "Version") (codes "3")
+    ∷ line (codes "Serial number") (serial_text f.serial)
+    ∷ line (codes "Signature algorithm") (codes "sha256WithRSAEncryption")
     ∷ line (codes "Issuer") (name_text f.issuer)
     ∷ line (codes "Subject") (name_text f.subject)
     ∷ [])
@@ -125,6 +128,7 @@ validity_text validity now = concat (
 unfoldable pub keys_text : TbsFields → KeyAnswer → List ℕ
 keys_text f key = concat (
     line (codes "Key") (key_text key)
+    ∷ line_if_any (codes "Point") (point_text f.key)
     ∷ line (codes "Subject key identifier") (colons_text f.extensions.subject_key_identifier)
     ∷ line_if_any (codes "Authority key identifier") (option_map colons_text f.extensions.authority_key_identifier)
     ∷ line (codes "Key usage") (usage_text f.extensions.key_usage)

@@ -5,7 +5,9 @@ use Rattle.rpki.specs.KeyForm.{KeyForm}
 use Rattle.rpki.specs.KeyForm.TheVariants.{RsaKey, EvenModulus, NoRsaKey, Point, OffCurve, CompressedPoint, NoPoint}
 use Rattle.rpki.specs.KeyForms.{IsKeyForm, IsUsableKey}
 use Rattle.rpki.specs.Keys.{KeyFields}
-use Rattle.rpki.specs.PublicKeyFormat.TheVariants.{Rsa}
+use Rattle.rpki.specs.PublicKeyFormat.{PublicKeyFormat}
+use Rattle.rpki.specs.PublicKeyFormat.TheVariants.{Rsa, EcdsaP256}
+use Rattle.rpki_text.specs.Pages.{colons_text}
 use Rattle.rpki_text.specs.declared.keys.KeyAnswer.{KeyAnswer}
 
 -- what is found of a key: its form, and whether the RPKI uses it
@@ -40,6 +42,15 @@ asked_text (RsaKey count exponent) = codes "RFC 7935 3 asks 2048 bits, exponent 
 asked_text EvenModulus = codes "RFC 7935 3 asks 2048 bits, exponent 65537"
 asked_text NoRsaKey = codes "RFC 7935 3 asks 2048 bits, exponent 65537"
 asked_text _ = codes "RFC 8608 3.1 asks an uncompressed point of the curve"
+
+-- the octets of an ECDSA key, which are to be a point of the curve (RFC 8608 3.1)
+abbrev pub point_of : PublicKeyFormat → List ℕ → Option (List ℕ)
+point_of Rsa bits = None
+point_of EcdsaP256 bits = Some (colons_text bits)
+
+-- the point of a key, where it is no RSA key
+abbrev pub point_text : KeyFields → Option (List ℕ)
+point_text key = point_of key.format key.bits
 
 -- a key, and what is asked of it where it can't be used
 abbrev pub key_text : KeyAnswer → List ℕ

@@ -3,6 +3,7 @@ ghost use Rattle.std.specs.Prelude.{◌≡◌, ◌++◌, Some, codes, option_map
 ghost use Rattle.std.specs.Fmt.{WritesOnOk};
 ghost use Rattle.rpki.specs.Kind.TheVariants.{Anchor, Authority, EndEntity, Detached, Router};
 ghost use Rattle.rpki.specs.Texts.{serial_text};
+ghost use Rattle.rpki_text.specs.KeyTexts.{point_text};
 ghost use Rattle.rpki_text.specs.Pages.{Appends, line, line_if_any, colons_text};
 ghost use Rattle.rpki_text.specs.CertificateTexts.{IsAnswer, AreAnswers, AreFindings, answer_for, answer_text, certificate_kind_text, kind_line, profiled_kind_text, profile_line, usage_text, policy_text, uri_line, names_text, validity_text, keys_text, places_text, resources_text, details_text, profiles_text, certificate_text};
 
@@ -12,7 +13,7 @@ use crate::lines::{Characters, Colons, write_line};
 use crate::list::write_signature;
 use crate::moments::Period;
 use crate::page::Page;
-use rpki::crypto::KeyIdentifier;
+use rpki::crypto::{KeyIdentifier, PublicKey, PublicKeyFormat};
 use rpki::repository::cert::{Cert, KeyUsage, Kind, Overclaim, TbsCert};
 use rpki::repository::error::InspectionError;
 use rpki::repository::x509::{Serial, Time, Validity};
@@ -185,7 +186,9 @@ fn write_kind<W: fmt::Write>(f: &mut fmt::Formatter<W>, found: &Findings) -> fmt
 fn write_names<W: fmt::Write>(f: &mut fmt::Formatter<W>, fields: &TbsCert) -> fmt::Result
     ensures { WritesOnOk W.write_str_gives f.old result (names_text fields.now) f.new }
 {
+    write_line(f, "Version", &"3")?;
     write_line(f, "Serial number", &fields.serial_number())?;
+    write_line(f, "Signature algorithm", &"sha256WithRSAEncryption")?;
     write_line(f, "Issuer", fields.issuer())?;
     write_line(f, "Subject", fields.subject())
 }
@@ -244,6 +247,17 @@ fn write_authority_key<W: fmt::Write>(
     }
 }
 
+// The line of a router's point.
+fn write_point<W: fmt::Write>(f: &mut fmt::Formatter<W>, key: &PublicKey) -> fmt::Result
+    ensures { WritesOnOk W.write_str_gives f.old result
+        (line_if_any (codes "Point") (point_text key.now)) f.new }
+{
+    match key.algorithm() {
+        PublicKeyFormat::Rsa => Ok(()),
+        PublicKeyFormat::EcdsaP256 => write_line(f, "Point", &Colons(key.bits())),
+    }
+}
+
 #[tactic(auto, unfolding(crate::specs::CertificateTexts::keys_text))]
 fn write_keys<W: fmt::Write>(
     f: &mut fmt::Formatter<W>,
@@ -254,6 +268,7 @@ fn write_keys<W: fmt::Write>(
 {
     let identifier = fields.subject_key_identifier();
     write_line(f, "Key", key)?;
+    write_point(f, fields.subject_public_key_info())?;
     write_key_identifier(f, "Subject key identifier", &identifier)?;
     write_authority_key(f, fields.authority_key_identifier())?;
     write_line(f, "Key usage", &usage_name(fields.key_usage()))

@@ -3,6 +3,7 @@
 
 pub mod blocks;
 pub mod certificate;
+mod identifiers;
 pub mod keys;
 pub mod laws;
 mod lines;
@@ -11,5 +12,6 @@ pub mod moments;
 pub mod names;
 mod page;
 
+pub use identifiers::Identifier;
 pub use lines::{Characters, Colons, FileName, write_line};
 pub use page::Page;

@@ -90,7 +90,8 @@ fn write_octet<W: fmt::Write>(f: &mut fmt::Formatter<W>, octet: u8) -> fmt::Resu
     write!(f, "{octet:02X}")
 }
 
-fn write_colons<W: fmt::Write>(f: &mut fmt::Formatter<W>, octets: &[u8]) -> fmt::Result
+/// Writes octets in hexadecimal, with colons between them.
+pub(crate) fn write_colons<W: fmt::Write>(f: &mut fmt::Formatter<W>, octets: &[u8]) -> fmt::Result
     ensures { WritesOnOk W.write_str_gives f.old result (colons_text octets.now) f.new }
 {
     let Some((first, more)) = octets.split_first() else {

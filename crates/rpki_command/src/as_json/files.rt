@@ -16,13 +16,13 @@ use crate::arguments::Format;
 use crate::as_json::texts::values_text;
 use crate::as_json::{Shown, certificate, list, locator, no_locator, rejected};
 use crate::outcomes::{Answer, Outcome};
-use crate::showing::rejection_of;
+use crate::showing::{Remarks, rejection_of};
 use rpki::der::DecodeError;
 use rpki::repository::tal::{Tal, TalError};
 use rpki::repository::{Cert, Crl};
 use rpki_files::rules::of_tal;
 use rpki_files::{Content, Object, looks_like_locator, read_locator};
-use rpki_notes::notes_of;
+use rpki_notes::{facts_of, notes_of};
 use serde_json::Value;
 use std::alloc::{AllocError, Global};
 
@@ -55,8 +55,13 @@ fn certificate_value(
         → IfOk result (λ made. IsCertificateFileJson strict object.now (view made)) }
 {
     let notes = notes_of(alloc, object)?;
+    let facts = facts_of(alloc, object)?;
     let file = as_shown(object, left);
-    certificate(alloc, &file, cert, &notes, strict)
+    let remarks = Remarks {
+        facts: facts.as_slice(),
+        notes: notes.as_slice(),
+    };
+    certificate(alloc, &file, cert, &remarks, strict)
 }
 
 // The value of the list that a file begins with.

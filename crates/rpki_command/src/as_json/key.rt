@@ -1,11 +1,13 @@
 //! Keys as JSON.
-ghost use Rattle.std.specs.Prelude.{◌≡◌, IfOk, OnOk};
+ghost use Rattle.std.specs.Prelude.{◌≡◌, codes, IfOk, OnOk};
 ghost use Rattle.serde_json.specs.View.{view};
 ghost use Rattle.rpki_command.specs.JsonKeys.{algorithm_word, exponent_member, form_members, form_word, key_json};
-ghost use Rattle.rpki_command.specs.JsonValues.{Puts};
+ghost use Rattle.rpki_command.specs.JsonValues.{Puts, text_member_if_any};
+ghost use Rattle.rpki_text.specs.KeyTexts.{point_text};
 
 use crate::as_json::objects::Members;
 use rpki::crypto::keys::KeyForm;
+use rpki::crypto::{PublicKey, PublicKeyFormat};
 use rpki_text::keys::KeyAnswer;
 use serde_json::Value;
 use std::alloc::{AllocError, Global};
@@ -68,14 +70,27 @@ fn put_form(out: &mut Members, form: KeyForm) -> Result<(), AllocError>
     }
 }
 
-/// Makes the value of a key: what it is, and whether the RPKI uses it.
-pub fn facts(alloc: Global, key: &KeyAnswer) -> Result<Value, AllocError>
-    ensures { IfOk result (λ made. view made ≡ key_json key.now) }
+// The point of an ECDSA key.
+#[tactic(auto, unfolding(crate::specs::JsonValues::put_all))]
+fn put_point(out: &mut Members, key: &PublicKey) -> Result<(), AllocError>
+    ensures { let point = text_member_if_any (codes "point") (point_text key.now) in
+        OnOk result (Puts point out.old out.new) }
+{
+    match key.algorithm() {
+        PublicKeyFormat::Rsa => Ok(()),
+        PublicKeyFormat::EcdsaP256 => out.colons("point", key.bits()),
+    }
+}
+
+/// Makes the value of a key of which this was found: what it is, and whether the RPKI uses it.
+pub fn facts(alloc: Global, key: &PublicKey, found: &KeyAnswer) -> Result<Value, AllocError>
+    ensures { IfOk result (λ made. view made ≡ key_json key.now found.now) }
 {
     let mut out = Members::new(alloc);
-    out.text("algorithm", algorithm_word(key.form))?;
-    out.text("form", form_word(key.form))?;
-    put_form(&mut out, key.form)?;
-    out.value("usable", Value::from(key.is_usable))?;
+    out.text("algorithm", algorithm_word(found.form))?;
+    out.text("form", form_word(found.form))?;
+    put_form(&mut out, found.form)?;
+    put_point(&mut out, key)?;
+    out.value("usable", Value::from(found.is_usable))?;
     Ok(out.into_value())
 }

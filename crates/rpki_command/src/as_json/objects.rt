@@ -12,7 +12,7 @@ ghost use Rattle.rpki.specs.Digits.{base64_of};
 use base64::engine::general_purpose::STANDARD;
 use rpki::crypto::KeyIdentifier;
 use rpki::repository::x509::{Name, Serial, Time};
-use rpki_text::{Page, certificate, names};
+use rpki_text::{Colons, Page, certificate, names};
 use serde_json::{Map, Value, put};
 use sha2::{Digest, Sha256};
 use std::alloc::{AllocError, Global};
@@ -99,14 +99,22 @@ impl Members {
         self.printed(key, page)
     }
 
+    /// Puts in octets in hexadecimal, with colons between them.
+    pub fn colons(&mut self, key: &str, octets: &[u8]) -> Result<(), AllocError>
+        ensures { OnOk result
+            (Puts (text_member key.now (colons_text octets.now)) self.old self.new) }
+    {
+        let mut page = Page::new(self.alloc);
+        page.value(&Colons(octets));
+        self.printed(key, page)
+    }
+
     /// Puts in the identifier of a key.
     pub fn identifier(&mut self, key: &str, it: &KeyIdentifier) -> Result<(), AllocError>
         ensures { OnOk result
             (Puts (text_member key.now (colons_text it.now)) self.old self.new) }
     {
-        let mut page = Page::new(self.alloc);
-        certificate::key_identifier(&mut page, it);
-        self.printed(key, page)
+        self.colons(key, it.as_octets().as_slice())
     }
 
     /// Puts in a distinguished name.

@@ -317,8 +317,9 @@ fn router_of(alloc: Global, cert: &Cert) -> Result<Value, AllocError>
     let items = listed(alloc, cert.as_tbs())?;
     out.value("subordinate_resources", Value::from(items))?;
     out.identifier("ski", &cert.as_tbs().subject_key_identifier())?;
-    let key = answer_of(cert.as_tbs().subject_public_key_info());
-    let told = facts(alloc, &key)?;
+    let key = cert.as_tbs().subject_public_key_info();
+    let answer = answer_of(key);
+    let told = facts(alloc, key, &answer)?;
     out.value("key", told)?;
     Ok(out.into_value())
 }

@@ -15,5 +15,5 @@ returns c =
     (then_put _ _ _ _ _ c.in_ok-text-2.ensures
     (then_put _ _ _ _ _ (rw (c.key_identifier.ensures, c.key_info.ensures) at c.in_ok-identifier.ensures)
     (then_put _ _ _ _ _ (rw (c.in_ok-items.ensures, uris) at c.in_ok-value.ensures)
-    (last_put _ _ _ (rw c.in_ok-facts.ensures at c.in_ok-value-2.ensures)))))))
+    (last_put _ _ _ (rw (c.in_ok-facts.ensures, c.key_info-2.ensures) at c.in_ok-value-2.ensures)))))))
     c.into_value.ensures

@@ -1,22 +1,6 @@
-use Rattle.std.proofs.Common.{refl}
-use Rattle.rpki_command.specs.ShownTexts.{IsCertificateFileText, certificate_file_text}
-use Rattle.rpki_command.proofs.AppendedTexts.{such_appended}
 use Rattle.rpki_command.proofs.showing.noted_certificate.Goals as goal
 
-pub returns : goal.returns
-returns c = λ begins notes_are.
-    let file = c.args.object.now in
-    let o = c.args.options.now in
-    let printed = c.print_certificate.ensures in
-    such_appended (IsCertificateFileText o file) c.args.page.now c.print_certificate.new.page (certificate_file_text file c.args.cert.now.fields o.at printed.0 c.args.notes.now c.args.left)
-    (record {
-      cert = c.args.cert.now;
-      left = c.args.left;
-      begins = begins;
-      found = printed.0;
-      found_is = printed.1;
-      notes = c.args.notes.now;
-      notes_are = notes_are;
-      text_is = refl;
-    })
-    printed.2
+pub returns-in-Ok : goal.returns-in-Ok
+returns-in-Ok c = λ begins notes_are.
+    let facts_are = c.in-Ok.ensures c.args.cert.now (begins.0, begins.1) in
+    c.told_certificate.ensures begins (rw c.as_slice.ensures.value facts_are) notes_are

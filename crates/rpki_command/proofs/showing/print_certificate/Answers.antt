@@ -10,6 +10,7 @@ returns c =
       shown.1,
       then_appended _ _ _ _ _ c.begun.ensures
           (then_appended _ _ _ _ _ shown.2
+          (then_appended _ _ _ _ _ c.print_facts.ensures
           (then_appended _ _ _ _ _ c.print_notes.ensures
-          (last_appended _ _ _ c.ended.ensures))),
+          (last_appended _ _ _ c.ended.ensures)))),
     )

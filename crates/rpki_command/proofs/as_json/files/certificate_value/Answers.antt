@@ -9,7 +9,9 @@ returns c = λ begins.
       begins = begins;
       shown = c.as_shown-file.result;
       shown_is = c.as_shown-file.ensures;
+      facts = c.in_ok-facts.facts.items;
+      facts_are = c.in_ok-facts.ensures c.args.cert.now (begins.0, begins.1);
       notes = c.in_ok-notes.notes.items;
       notes_are = c.in_ok-notes.ensures;
       value_is = is;
-    }) (rw c.deref.ensures.value at c.certificate.ensures)
+    }) (rw (c.as_slice.ensures.value, c.as_slice-2.ensures.value) at c.certificate.ensures)

@@ -9,5 +9,6 @@ returns c =
     (then_put _ _ _ _ _ (rw c.algorithm_word.ensures at c.in_ok-text.ensures)
     (then_put _ _ _ _ _ (rw c.form_word.ensures at c.in_ok-text-2.ensures)
     (then_put _ _ _ _ _ c.in_ok-put_form.ensures
-    (last_put _ _ _ (rw c.from.ensures at c.in_ok-value.ensures)))))
+    (then_put _ _ _ _ _ c.in_ok-put_point.ensures
+    (last_put _ _ _ (rw c.from.ensures at c.in_ok-value.ensures))))))
     c.into_value.ensures

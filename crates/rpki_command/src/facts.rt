@@ -1,0 +1,74 @@
+//! What a certificate says beside the fields that readers keep, for a person.
+ghost use Rattle.std.specs.Prelude.{◌≡◌, Some};
+ghost use Rattle.std.specs.Fmt.{WritesOnOk};
+ghost use Rattle.rpki_command.specs.FactTexts.{fact_label, fact_text, facts_lines};
+ghost use Rattle.rpki_text.specs.Pages.{Appends, line};
+
+use rpki_notes::{Fact, FactKind};
+use rpki_text::{Characters, Identifier, Page, write_line};
+use std::fmt;
+
+/// What is told of a fact: the identifier of an extension, or a URI.
+#[derive(Drop)]
+pub struct Told<'a>(pub Fact<'a>);
+
+impl fmt::Display for Told<'_> {
+    ghost output = { λ told. Some (fact_text told.0) };
+
+    fn fmt<W: fmt::Write>(&self, f: &mut fmt::Formatter<W>) -> fmt::Result {
+        match self.0.kind {
+            FactKind::UnknownExtension => {
+                let identifier = Identifier(self.0.octets);
+                write!(f, "{identifier}")
+            }
+            FactKind::PracticeStatement => {
+                let uri = Characters(self.0.octets);
+                write!(f, "{uri}")
+            }
+        }
+    }
+}
+
+fn label_of(kind: FactKind) -> &'static str
+    ensures { result.now ≡ fact_label kind }
+{
+    match kind {
+        FactKind::UnknownExtension => "Unknown extension",
+        FactKind::PracticeStatement => "Practice statement",
+    }
+}
+
+fn write_fact<W: fmt::Write>(f: &mut fmt::Formatter<W>, fact: &Fact<'_>) -> fmt::Result
+    ensures { let text = line (fact_label fact.now.kind) (fact_text fact.now) in
+        WritesOnOk W.write_str_gives f.old result text f.new }
+{
+    write_line(f, label_of(fact.kind), &Told(*fact))
+}
+
+fn write_facts<W: fmt::Write>(f: &mut fmt::Formatter<W>, facts: &[Fact<'_>]) -> fmt::Result
+    ensures { WritesOnOk W.write_str_gives f.old result (facts_lines facts.now) f.new }
+{
+    for fact in facts {
+        write_fact(f, fact)?;
+    }
+    Ok(())
+}
+
+// The lines of facts.
+#[derive(Drop)]
+struct Facts<'a>(&'a [Fact<'a>]);
+
+impl fmt::Display for Facts<'_> {
+    ghost output = { λ facts. Some (facts_lines facts.0.now) };
+
+    fn fmt<W: fmt::Write>(&self, f: &mut fmt::Formatter<W>) -> fmt::Result {
+        write_facts(f, self.0)
+    }
+}
+
+/// Prints a line for each fact.
+pub fn print_facts(page: &mut Page, facts: &[Fact<'_>])
+    ensures { Appends page.old (facts_lines facts.now) page.new }
+{
+    page.value(&Facts(facts));
+}
