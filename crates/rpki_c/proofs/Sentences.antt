@@ -49,9 +49,9 @@ names_are_short : list_all has_short_name field_names ≡ true
 unfolding field_names
 names_are_short = refl
 
-rows_are_short : list_all is_short fault_rows ≡ true
+faults_are_short : list_all is_short fault_rows ≡ true
 unfolding fault_rows
-rows_are_short = refl
+faults_are_short = refl
 
 part_is_short : (n : ℕ) → IfSome (part_name n) (λ part. has_short_name part ≡ true)
 part_is_short n =
@@ -60,9 +60,9 @@ part_is_short n =
 
 -- a sentence has fewer than 2^32 octets
 pub sentence_is_short : (n : ℕ) → IfSome (told_of n) (λ it. length it.sentence < 2 ^ 32)
-sentence_is_short n = here (part_name n) (fault_numbered (first_number n)) (part_is_short n) (found_passes (λ (it : FaultFields). it.number == first_number n) is_short fault_rows rows_are_short)
+sentence_is_short n = here (part_name n) (fault_numbered (first_number n)) (part_is_short n) (found_passes (λ (it : FaultFields). it.number == first_number n) is_short fault_rows faults_are_short)
   where
-    here : (part : Option (List ℕ)) (row : Option FaultFields) → IfSome part (λ name. has_short_name name ≡ true) → IfSome row (λ it. is_short it ≡ true) → IfSome (told_if part row) (λ it. length it.sentence < 2 ^ 32)
-    here None row a b = tt
+    here : (part : Option (List ℕ)) (line : Option FaultFields) → IfSome part (λ name. has_short_name name ≡ true) → IfSome line (λ it. is_short it ≡ true) → IfSome (told_if part line) (λ it. length it.sentence < 2 ^ 32)
+    here None line a b = tt
     here (Some part) None a b = tt
-    here (Some part) (Some row) a b = omega (arith, length-append row.before (part ++ row.behind), length-append part row.behind, (Decides-ltb (length part) 1000).0 a, (Decides-ltb (length row.before + length row.behind) 1000).0 b)
+    here (Some part) (Some line) a b = omega (arith, length-append line.before (part ++ line.behind), length-append part line.behind, (Decides-ltb (length part) 1000).0 a, (Decides-ltb (length line.before + length line.behind) 1000).0 b)
