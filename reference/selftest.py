@@ -13,6 +13,7 @@ import sys
 from dataclasses import replace
 from pathlib import Path
 
+import folders
 import random_paths as sound
 import reference as ref
 import vectors
@@ -750,6 +751,41 @@ def revocation_below():
     store = [(uri, worked.L), (below, worked.crl(key=worked.K2))]
     yield ('revocation two lists', with_store(store, [ta, cas[0], second]),
            ((3, 3),))
+
+
+@checks
+def folders_of_files():
+    """Which certificates of a folder are accepted below its trust anchor (RFC 6487 7.2)."""
+    anchor = worked.anchor_of(asn=worked.as_set(1, 100)).octets()
+    first = worked.first_ca(asn=worked.as_set(1, 50), overclaim=ref.REFUSE).octets()
+    renewed = worked.first_ca(asn=worked.as_set(1, 10), overclaim=ref.REFUSE).octets()
+    second = worked.second_ca(asn=worked.as_set(40, 50), overclaim=ref.REFUSE).octets()
+    # a circle of keys: K2 signs K3's certificate, and K3 one of K2
+    circle = ref.into_cert(worked.ca_fields(worked.K3, worked.K2, 11, asn=ref.INHERIT), worked.K3).octets()
+    leaf = worked.end_entity(v4=ref.MISSING, v6=ref.MISSING).octets()
+    router = worked.router().octets()
+    lists = [worked.crl(99, key=key).octets() for key in (worked.K1, worked.K2, worked.K3)]
+    revoking = worked.crl(8, key=worked.K2, crl_number=13).octets()
+    older = worked.crl(8, key=worked.K2, crl_number=11).octets()
+    foreign = worked.crl(99, key=worked.K2, signer=worked.K3).octets()
+
+    def accepted(*strings, depth=8):
+        found = folders.accepted(strings, worked.K1, True, worked.NOW, depth=depth)
+        return [(place, sorted(below)) for place, below in found.items()]
+
+    yield 'in order', accepted(anchor, first, second, *lists), [(0, [1, 2])]
+    yield 'in another order', accepted(*lists, second, first, b'0', anchor), [(6, [3, 4])]
+    yield 'no trust anchor', accepted(first, second, *lists), []
+    yield 'no lists', accepted(anchor, first, second), [(0, [])]
+    yield 'a list is missing', accepted(anchor, first, second, *lists[:1]), [(0, [1])]
+    yield 'a foreign list', accepted(anchor, first, second, lists[0], foreign), [(0, [1])]
+    yield 'a later list revokes', accepted(anchor, first, second, *lists, revoking), [(0, [1])]
+    yield 'an older list revokes', accepted(anchor, first, second, *lists, older), [(0, [1, 2])]
+    yield 'a renewal with less', accepted(anchor, renewed, second, *lists), [(0, [1])]
+    yield 'a renewal beside', accepted(anchor, renewed, first, second, *lists), [(0, [1, 2, 3])]
+    yield 'a circle', accepted(anchor, first, second, circle, *lists), [(0, [1, 2, 3])]
+    yield 'too deep', accepted(anchor, first, second, circle, *lists, depth=2), [(0, [1, 2])]
+    yield 'leaves', accepted(anchor, leaf, router, *lists), [(0, [1, 2])]
 
 
 @checks

@@ -1,0 +1,148 @@
+"""Folders of certificates and revocation lists, in no order: to which a valid path leads from the
+trust anchor of a locator (RFC 6487 7.2, RFC 8630 3), by going over all paths.
+
+A list is chosen for each certificate as docs/DECISIONS.md has it: of those that name the issuer's
+key, that this key signed and that have begun, the one with the greatest number; of equal numbers
+one that revokes the certificate, else the later one, else the first. Where none is such, it is the
+first that names the key, which then fails.
+"""
+
+from refusals import Refusal, RevocationError
+from parts import P256, stand_in
+from certificates import decode_cert
+from lists import decode_crl
+from profiles import CA, DETACHED, EE, ROUTER, TA, has_router_purpose, inspect
+from verification import verify
+
+
+def said_kind(f):
+    """What a certificate says that it is."""
+    if f.extended_key_usage is not None and has_router_purpose(f):
+        return ROUTER
+    if f.is_ca():
+        return CA
+    if f.key.format == P256 and f.signed_object is None:
+        return ROUTER
+    return DETACHED if f.signed_object is None else EE
+
+
+def read(decode, octets):
+    """What the octets begin with, or None."""
+    try:
+        return decode(octets)
+    except Refusal:
+        return None
+
+
+def has_begun(tbs, now):
+    return tbs.this_update <= now and tbs.this_update <= tbs.next_update
+
+
+def supersedes(one, other, serial):
+    """Whether one list takes another's place for a serial number."""
+    if one.tbs.crl_number != other.tbs.crl_number:
+        return one.tbs.crl_number > other.tbs.crl_number
+    revokes = one.contains(serial), other.contains(serial)
+    if revokes[0] != revokes[1]:
+        return revokes[0]
+    return one.tbs.this_update > other.tbs.this_update
+
+
+def is_signed(crl, issuer, verifier):
+    signed = crl.signed
+    return verifier(issuer.cert.tbs.key, signed.algorithm, signed.data, signed.signature)
+
+
+def asked_list(lists, cert, issuer, now, verifier):
+    """The list that is asked of a certificate below its issuer, or None."""
+    named = [it for it in lists
+             if it.tbs.authority_key_identifier == cert.tbs.authority_key_identifier]
+    latest = None
+    for it in named:
+        if has_begun(it.tbs, now) and is_signed(it, issuer, verifier):
+            if latest is None or supersedes(it, latest, cert.tbs.serial):
+                latest = it
+    return latest or (named[0] if named else None)
+
+
+def check_lists(lists, cert, issuer, now, verifier):
+    """Errs unless the lists find the certificate unrevoked."""
+    crl = asked_list(lists, cert, issuer, now, verifier)
+    checks = [('NoCrl', lambda: crl is not None),
+              ('WrongKeyId', lambda: crl.tbs.authority_key_identifier ==
+               issuer.cert.tbs.subject_key_identifier),
+              ('BadSignature', lambda: is_signed(crl, issuer, verifier)),
+              ('Stale', lambda: has_begun(crl.tbs, now) and not crl.tbs.is_stale(now)),
+              ('Revoked', lambda: not crl.contains(cert.tbs.serial))]
+    for name, holds in checks:
+        if not holds():
+            raise RevocationError(name)
+
+
+class Folder:
+    """Certificates by their places, and lists."""
+
+    def __init__(self, strings, verifier=stand_in):
+        self.certs = [(place, cert) for place, octets in enumerate(strings)
+                      if (cert := read(decode_cert, octets)) is not None]
+        self.lists = [it for octets in strings if (it := read(decode_crl, octets)) is not None]
+        self.verifier = verifier
+
+    def below(self, issuer):
+        """The certificates that name this one's key as the one that signs them."""
+        key = issuer.cert.tbs.subject_key_identifier
+        return [it for it in self.certs if it[1].tbs.authority_key_identifier == key]
+
+    def judged(self, cert, issuer, strict, now):
+        """What a certificate holds below an issuer; errs where it isn't valid."""
+        kind = said_kind(cert.tbs)
+        inspect(kind, strict, cert)
+        result = verify(kind, cert, issuer, now, self.verifier)
+        check_lists(self.lists, cert, issuer, now, self.verifier)
+        return kind, result
+
+    def anchors(self, key, strict, now):
+        """The trust anchors with the locator's key, each with its place."""
+        for place, cert in self.certs:
+            if cert.tbs.key == key:
+                try:
+                    inspect(TA, strict, cert)
+                    yield place, verify(TA, cert, None, now, self.verifier)
+                except Refusal:
+                    pass
+
+    def reached(self, anchor, strict, now, depth):
+        """How many stand above each certificate at least to which a valid path of at most so many
+        leads below the anchor, and whether a CA stands at the depth with some below it.
+
+        Paths with the same end and the same resources there go on alike, so one of each is kept.
+        """
+        heights, seen, is_bounded = {}, set(), False
+        row = [anchor]
+        for height in range(1, depth + 2):
+            following = []
+            for issuer in row:
+                for place, cert in self.below(issuer):
+                    if height > depth:
+                        is_bounded = True
+                        continue
+                    try:
+                        kind, result = self.judged(cert, issuer, strict, now)
+                    except Refusal:
+                        continue
+                    heights.setdefault(place, height)
+                    state = place, result and (result.v4, result.v6, result.asn)
+                    if kind == CA and state not in seen:
+                        seen.add(state)
+                        following.append(result)
+            row = following
+        return heights, is_bounded
+
+
+def accepted(strings, key, strict, now, verifier=stand_in, depth=32):
+    """The places of the certificates that are accepted below each trust anchor of the key: pairs of
+    the anchor's place and those below it; and of all anchors' places."""
+    folder = Folder(strings, verifier)
+    anchors = list(folder.anchors(key, strict, now))
+    below = {place: set(folder.reached(anchor, strict, now, depth)[0]) for place, anchor in anchors}
+    return below
