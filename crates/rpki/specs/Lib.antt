@@ -150,6 +150,18 @@ pub use Rattle.rpki_path.specs.declared.located.LocatedError
 pub use Rattle.rpki_path.specs.declared.path_fault.PathError
 pub use Rattle.rpki_path.specs.declared.path_fault.PathFault
 pub use Rattle.rpki_path.specs.declared.validating.Leaf
+-- ---- folders
+pub use Rattle.rpki_folder.specs.SaidKinds
+pub use Rattle.rpki_folder.specs.Folders
+pub use Rattle.rpki_folder.specs.Walks
+pub use Rattle.rpki_folder.specs.KeptLines
+pub use Rattle.rpki_folder.specs.Searches
+pub use Rattle.rpki_folder.specs.declared.bounds.Ended
+pub use Rattle.rpki_folder.specs.declared.find.Found
+pub use Rattle.rpki_folder.specs.declared.find.FoundPath
+pub use Rattle.rpki_folder.specs.declared.folder.Added
+pub use Rattle.rpki_folder.specs.declared.lines.Line
+pub use Rattle.rpki_folder.specs.declared.walk_error.WalkError
 -- ---- the line program
 pub use Rattle.rpki_lines.specs.Watching
 pub use Rattle.rpki_lines.specs.HexWords

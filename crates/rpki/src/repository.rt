@@ -3,6 +3,7 @@ pub mod cert;
 pub mod crl;
 pub mod error;
 pub mod extension;
+pub mod folder;
 pub mod issuing;
 pub mod path;
 pub mod resources;

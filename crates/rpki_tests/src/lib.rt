@@ -13,6 +13,8 @@ mod elsewhere;
 #[cfg(test)]
 mod errors;
 #[cfg(test)]
+mod folder;
+#[cfg(test)]
 mod given_lists;
 #[cfg(test)]
 mod inspection;

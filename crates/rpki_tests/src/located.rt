@@ -12,11 +12,13 @@ use std::process::Abort;
 
 // A locator of the key with the bits `abc`, which is the anchor's, and one of `abd`: in base64 a
 // SubjectPublicKeyInfo of rsaEncryption with NULL.
-const OF_ANCHOR: &[u8] = b"rsync://example.com/ta.cer\n\nMBUwDQYJKoZIhvcNAQEBBQADBABhYmM=\n";
+pub(crate) const OF_ANCHOR: &[u8] =
+    b"rsync://example.com/ta.cer\n\nMBUwDQYJKoZIhvcNAQEBBQADBABhYmM=\n";
 
-const OF_OTHER: &[u8] = b"rsync://example.com/ta.cer\n\nMBUwDQYJKoZIhvcNAQEBBQADBABhYmQ=\n";
+pub(crate) const OF_OTHER: &[u8] =
+    b"rsync://example.com/ta.cer\n\nMBUwDQYJKoZIhvcNAQEBBQADBABhYmQ=\n";
 
-fn locator(rt: &impl Abort, alloc: Global, file: &[u8]) -> Tal {
+pub(crate) fn locator(rt: &impl Abort, alloc: Global, file: &[u8]) -> Tal {
     let name = String::from_str(alloc, "example").expect(rt, "memory");
     Tal::read_named(alloc, name, file, true).expect(rt, "a locator")
 }

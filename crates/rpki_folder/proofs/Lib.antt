@@ -1,0 +1,10 @@
+pub mod SaidOnce
+pub mod PathsDown
+pub mod Outcomes
+pub mod Descent
+pub mod Renamed
+pub mod KeyTableSteps
+pub mod FolderSteps
+pub mod KeptLineSteps
+pub mod StepAnswers
+pub mod SearchSteps

@@ -1,0 +1,197 @@
+use Rattle.std.specs.Prelude.{Option, None, Some, Ok}
+use Rattle.std.proofs.Common.{◌≡◌, ◌+◌, ◌-◌, ◌<◌, ◌≤◌, ℕ, List, [], ◌∷◌, ◌++◌, length, take, get_or, refl, sym, ap, subst, ◌∙◌, append_assoc, arith}
+use Rattle.std.proofs.lemmas.Bool.{both_ways}
+use Rattle.std.proofs.lemmas.List.{append-nil, length-append, take_more, take_all}
+use Rattle.std.proofs.lemmas.List.Elements.{Contains-get_or}
+use Rattle.rpki_cert.specs.Certificates.{TbsFields, CertFields}
+use Rattle.rpki_cert.specs.Verification.{context, ResourceFields}
+use Rattle.rpki_revocation.specs.AskedLists.{by_lists}
+use Rattle.rpki_folder.specs.Folders.{octets_at, ArePlacesOf}
+use Rattle.rpki_folder.specs.Walks.{Told, told, TellsBelow}
+use Rattle.rpki_folder.specs.Walks.Steps.{IsOutcome}
+use Rattle.rpki_folder.specs.declared.bounds.Ended.{Ended}
+use Rattle.rpki_folder.proofs.Descent.{SoFar, nothing_yet, passed_over, one_right, ended_there, below_right, went_below, ended_whole, ended_err}
+use Rattle.rpki_folder.proofs.StepAnswers.{popped}
+use Rattle.rpki_folder.proofs.walk.Walk.+descend.Goals as goal
+
+pub loop-place-init : goal.loop-place-init
+loop-place-init g t c =
+    let w = c.args.self.now in
+    let x = context (g.V.Verifier.verifies w.verifier.now) w.at w.strict in (
+      refl {A = List ℕ},
+      (λ v ts heard. (
+        [],
+        subst (λ (l : List Told). g.W.Visitor.became v l c.args.visitor.now) (sym (append-nil ts)) heard,
+        omega arith,
+        nothing_yet x (by_lists x w.folder.now.lists) (g.A.Admission.admits w.admission.now) c.args.issuer.now w.folder.now.certs c.args.trail.now.above.items c.args.depth,
+      )),
+    )
+
+pub loop-place-preserved-then-not-is_admitted : goal.loop-place-preserved-then-not-is_admitted
+loop-place-preserved-then-not-is_admitted g t c = (
+  c.loop-place.invariant.0,
+  (λ v ts heard.
+      let w = c.args.self.now in
+      let x = context (g.V.Verifier.verifies w.verifier.now) w.at w.strict in
+      let asked = by_lists x w.folder.now.lists in
+      let admits = g.A.Admission.admits w.admission.now in
+      let issuer = c.args.issuer.now in
+      let certs = w.folder.now.certs in
+      let above = c.args.trail.now.above.items in
+      let places = c.signed_by-places.result.now in
+      let index = c.loop-place.place-index in
+      let place = get_or places index 0 in
+      let i = c.loop-place.invariant.1 v ts heard in
+      let same = c.deref.ensures.value ∙ c.loop-place.invariant.0 in
+      let never : admits above place → ⊥ = λ a. both_ways c.is_admitted.result c.if-not-is_admitted.true (c.is_admitted.ensures.1 (subst (λ (l : List ℕ). admits l place) (sym same) a)) in (
+        i.0,
+        i.1,
+        i.2,
+        subst (λ (l : List ℕ). SoFar x asked admits issuer certs above c.args.depth l c.loop-place.ended i.0) (sym (take_more places index 0 c.loop-place-test.true))
+            (passed_over x asked admits issuer certs above c.args.depth (take index places) c.loop-place.ended i.0 place i.3 never),
+      )),
+)
+
+pub look_at-requires : goal.look_at-requires
+look_at-requires g t c =
+    let places = c.signed_by-places.result.now in
+    let index = c.loop-place.place-index in
+    c.signed_by-places.ensures.inside (get_or places index 0) (Contains-get_or places index 0 c.loop-place-test.true)
+
+pub loop-place-preserved-in_default : goal.loop-place-preserved-in_default
+loop-place-preserved-in_default g t c = (
+  c.loop-place.invariant.0,
+  (λ v ts heard.
+      let w = c.args.self.now in
+      let x = context (g.V.Verifier.verifies w.verifier.now) w.at w.strict in
+      let asked = by_lists x w.folder.now.lists in
+      let admits = g.A.Admission.admits w.admission.now in
+      let issuer = c.args.issuer.now in
+      let certs = w.folder.now.certs in
+      let above = c.args.trail.now.above.items in
+      let places = c.signed_by-places.result.now in
+      let index = c.loop-place.place-index in
+      let place = get_or places index 0 in
+      let i = c.loop-place.invariant.1 v ts heard in
+      let same = c.deref-in-loop-place.ensures.value ∙ c.loop-place.invariant.0 in
+      let o = c.in_ok-ca.ensures.ok v (ts ++ i.0) i.1 in
+      let item = told above place o.0 in
+      let hears = λ (l : List Told). g.W.Visitor.became v l c.look_at.new.visitor in
+      let outcome : IsOutcome x asked issuer (octets_at certs place) o.0 None = subst (λ (n : Option ResourceFields). IsOutcome x asked issuer (octets_at certs place) o.0 n) c.in_default.is o.2 in
+      let count : length (i.0 ++ item ∷ []) ≡ length i.0 + 1 = length-append i.0 (item ∷ []) in (
+        i.0 ++ item ∷ [],
+        subst (λ (l : List Told). hears l) (append_assoc ts i.0 (item ∷ [])) (subst (λ (l : List ℕ). hears ((ts ++ i.0) ++ told l place o.0 ∷ [])) same o.1),
+        omega (arith, count, i.2, c.if-trail-eq0.false),
+        subst (λ (l : List ℕ). SoFar x asked admits issuer certs above c.args.depth l c.loop-place.ended (i.0 ++ item ∷ [])) (sym (take_more places index 0 c.loop-place-test.true))
+            (ended_there x asked admits issuer certs above c.args.depth c.unambiguous.ensures.certificate (take index places) c.loop-place.ended i.0 place o.0 i.3 outcome),
+      )),
+)
+
+pub returns-in_err-push-clause-tells : goal.returns-in_err-push-clause-tells
+returns-in_err-push-clause-tells g t c = λ v ts heard.
+    let w = c.args.self.now in
+    let x = context (g.V.Verifier.verifies w.verifier.now) w.at w.strict in
+    let asked = by_lists x w.folder.now.lists in
+    let admits = g.A.Admission.admits w.admission.now in
+    let issuer = c.args.issuer.now in
+    let certs = w.folder.now.certs in
+    let above = c.args.trail.now.above.items in
+    let place = get_or c.signed_by-places.result.now c.loop-place.place-index 0 in
+    let i = c.loop-place.invariant.1 v ts heard in
+    let same = c.deref-in-loop-place.ensures.value ∙ c.loop-place.invariant.0 in
+    let o = c.in_ok-ca.ensures.ok v (ts ++ i.0) i.1 in
+    let item = told above place o.0 in
+    let hears = λ (l : List Told). g.W.Visitor.became v l c.look_at.new.visitor in
+    let count : length (i.0 ++ item ∷ []) ≡ length i.0 + 1 = length-append i.0 (item ∷ []) in
+    let few : length (i.0 ++ item ∷ []) ≤ c.args.trail.now.steps = omega (arith, count, i.2, c.if-trail-eq0.false) in (
+      i.0 ++ item ∷ [],
+      subst (λ (l : List Told). hears l) (append_assoc ts i.0 (item ∷ [])) (subst (λ (l : List ℕ). hears ((ts ++ i.0) ++ told l place o.0 ∷ [])) same o.1),
+      omega (arith, count, i.2, c.if-trail-eq0.false),
+      ended_err x asked admits issuer certs above c.args.depth c.unambiguous.ensures.certificate c.args.trail.now.steps (i.0 ++ item ∷ []) few
+          (one_right x asked admits issuer certs above c.args.depth c.unambiguous.ensures.certificate i.0 place o.0 c.in_ok-ca.field-0 i.3.right o.2) c.from_residual-in_err-push.result c.from_residual-in_err-push.ensures.0,
+    )
+
+pub returns-in_err-below-clause-tells : goal.returns-in_err-below-clause-tells
+returns-in_err-below-clause-tells g t c = λ v ts heard.
+    let w = c.args.self.now in
+    let x = context (g.V.Verifier.verifies w.verifier.now) w.at w.strict in
+    let asked = by_lists x w.folder.now.lists in
+    let admits = g.A.Admission.admits w.admission.now in
+    let issuer = c.args.issuer.now in
+    let certs = w.folder.now.certs in
+    let above = c.args.trail.now.above.items in
+    let place = get_or c.signed_by-places.result.now c.loop-place.place-index 0 in
+    let ca = c.in-Some.ca in
+    let i = c.loop-place.invariant.1 v ts heard in
+    let same = c.deref-in-loop-place.ensures.value ∙ c.loop-place.invariant.0 in
+    let o = c.in_ok-ca.ensures.ok v (ts ++ i.0) i.1 in
+    let item = told above place o.0 in
+    let outcome : IsOutcome x asked issuer (octets_at certs place) o.0 (Some ca) = subst (λ (n : Option ResourceFields). IsOutcome x asked issuer (octets_at certs place) o.0 n) c.in-Some.is o.2 in
+    let heard_it = subst (λ (l : List ℕ). g.W.Visitor.became v ((ts ++ i.0) ++ told l place o.0 ∷ []) c.look_at.new.visitor) same o.1 in
+    let b = c.descend-below.ensures.tells v ((ts ++ i.0) ++ item ∷ []) heard_it in
+    let deeper = c.in_ok-push.ensures.items ∙ ap (λ (l : List ℕ). l ++ place ∷ []) c.loop-place.invariant.0 in
+    let below : TellsBelow x asked admits ca certs (above ++ place ∷ []) (c.args.depth - 1) (c.loop-place.trail.steps - 1) c.descend-below.result b.0 = subst (λ (l : List ℕ). TellsBelow x asked admits ca certs l (c.args.depth - 1) (c.loop-place.trail.steps - 1) c.descend-below.result b.0) deeper b.3 in
+    let more = (i.0 ++ item ∷ []) ++ b.0 in
+    let hears = λ (l : List Told). g.W.Visitor.became v l c.descend-below.new.visitor in
+    let count : length more ≡ length i.0 + 1 + length b.0 = omega (arith, length-append (i.0 ++ item ∷ []) b.0, length-append i.0 (item ∷ [])) in
+    let few : length more ≤ c.args.trail.now.steps = omega (arith, count, i.2, b.2, c.if-trail-eq0.false) in (
+      more,
+      subst (λ (l : List Told). hears l) (ap (λ (l : List Told). l ++ b.0) (append_assoc ts i.0 (item ∷ [])) ∙ append_assoc ts (i.0 ++ item ∷ []) b.0) b.1,
+      omega (arith, count, i.2, b.2, c.if-trail-eq0.false),
+      ended_err x asked admits issuer certs above c.args.depth c.unambiguous.ensures.certificate c.args.trail.now.steps more few
+          (below_right x asked admits issuer certs above c.args.depth c.unambiguous.ensures.certificate place o.0 ca outcome (c.loop-place.trail.steps - 1) c.descend-below.result b.0 below i.0 i.3.right) c.from_residual-in_err-below.result c.from_residual-in_err-below.ensures.0,
+    )
+
+pub loop-place-preserved : goal.loop-place-preserved
+loop-place-preserved g t c =
+    let above = c.args.trail.now.above.items in
+    let places = c.signed_by-places.result.now in
+    let index = c.loop-place.place-index in
+    let place = get_or places index 0 in
+    let deeper = c.in_ok-push.ensures.items ∙ ap (λ (l : List ℕ). l ++ place ∷ []) c.loop-place.invariant.0 in (
+      c.pop.ensures.rest ∙ popped c.descend-below.new.trail.above above place (c.in_ok-below.ensures.trail ∙ deeper),
+      (λ v ts heard.
+          let w = c.args.self.now in
+          let x = context (g.V.Verifier.verifies w.verifier.now) w.at w.strict in
+          let asked = by_lists x w.folder.now.lists in
+          let admits = g.A.Admission.admits w.admission.now in
+          let issuer = c.args.issuer.now in
+          let certs = w.folder.now.certs in
+          let ca = c.in-Some.ca in
+          let end = c.in_ok-below.field-0 in
+          let i = c.loop-place.invariant.1 v ts heard in
+          let same = c.deref-in-loop-place.ensures.value ∙ c.loop-place.invariant.0 in
+          let o = c.in_ok-ca.ensures.ok v (ts ++ i.0) i.1 in
+          let item = told above place o.0 in
+          let outcome : IsOutcome x asked issuer (octets_at certs place) o.0 (Some ca) = subst (λ (n : Option ResourceFields). IsOutcome x asked issuer (octets_at certs place) o.0 n) c.in-Some.is o.2 in
+          let heard_it = subst (λ (l : List ℕ). g.W.Visitor.became v ((ts ++ i.0) ++ told l place o.0 ∷ []) c.look_at.new.visitor) same o.1 in
+          let b = c.descend-below.ensures.tells v ((ts ++ i.0) ++ item ∷ []) heard_it in
+          let below : TellsBelow x asked admits ca certs (above ++ place ∷ []) (c.args.depth - 1) (c.loop-place.trail.steps - 1) c.descend-below.result b.0 = subst (λ (l : List ℕ). TellsBelow x asked admits ca certs l (c.args.depth - 1) (c.loop-place.trail.steps - 1) c.descend-below.result b.0) deeper b.3 in
+          let more = (i.0 ++ item ∷ []) ++ b.0 in
+          let hears = λ (l : List Told). g.W.Visitor.became v l c.descend-below.new.visitor in
+          let count : length more ≡ length i.0 + 1 + length b.0 = omega (arith, length-append (i.0 ++ item ∷ []) b.0, length-append i.0 (item ∷ [])) in (
+            more,
+            subst (λ (l : List Told). hears l) (ap (λ (l : List Told). l ++ b.0) (append_assoc ts i.0 (item ∷ [])) ∙ append_assoc ts (i.0 ++ item ∷ []) b.0) b.1,
+            omega (arith, count, i.2, b.2, c.if-trail-eq0.false),
+            subst (λ (l : List ℕ). SoFar x asked admits issuer certs above c.args.depth l c.and-ended.result more) (sym (take_more places index 0 c.loop-place-test.true))
+                (subst (λ (e : Ended). SoFar x asked admits issuer certs above c.args.depth (take index places ++ place ∷ []) e more) (sym c.and-ended.ensures)
+                (went_below x asked admits issuer certs above c.args.depth c.unambiguous.ensures.certificate place o.0 ca outcome (c.loop-place.trail.steps - 1) c.descend-below.result b.0 below (take index places) c.loop-place.ended end i.0 c.in_ok-below.was i.3)),
+          )),
+    )
+
+pub returns-clause-tells : goal.returns-clause-tells
+returns-clause-tells g t c = λ v ts heard.
+    let w = c.args.self.now in
+    let x = context (g.V.Verifier.verifies w.verifier.now) w.at w.strict in
+    let asked = by_lists x w.folder.now.lists in
+    let admits = g.A.Admission.admits w.admission.now in
+    let issuer = c.args.issuer.now in
+    let certs = w.folder.now.certs in
+    let above = c.args.trail.now.above.items in
+    let places = c.signed_by-places.result.now in
+    let i = c.loop-place.invariant.1 v ts heard in
+    let key = c.subject_key_identifier-key.ensures ∙ ap (λ (f : TbsFields). f.extensions.subject_key_identifier) c.as_tbs.ensures ∙ ap (λ (d : CertFields). d.fields.extensions.subject_key_identifier) c.as_cert.ensures in
+    let are : ArePlacesOf certs issuer.cert.fields.extensions.subject_key_identifier places = subst (λ (k : List ℕ). ArePlacesOf certs k places) key c.signed_by-places.ensures in
+    let all : SoFar x asked admits issuer certs above c.args.depth places c.loop-place.ended i.0 = subst (λ (l : List ℕ). SoFar x asked admits issuer certs above c.args.depth l c.loop-place.ended i.0) (take_all c.loop-place.place-index places c.loop-place-test.false) i.3 in
+    let few : length i.0 ≤ c.args.trail.now.steps = omega (arith, i.2) in
+    (i.0, i.1, i.2, ended_whole x asked admits issuer certs above c.args.depth c.unambiguous.ensures.certificate c.args.trail.now.steps i.0 few places c.loop-place.ended are all (Ok c.loop-place.ended) refl)

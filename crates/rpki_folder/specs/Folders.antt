@@ -1,0 +1,55 @@
+-- Folders of certificates and revocation lists, in no order (own).
+use Rattle.std.specs.Prelude.{◌≡◌, ◌<◌, ℕ, List, [], ◌∷◌, ◌++◌, length, map, Some, Contains, slice_index_or}
+use Rattle.rpki_ext.specs.Kinds.{Means}
+use Rattle.rpki_cert.specs.Certificates.{CertFields, IsCertificate}
+use Rattle.rpki_cert.specs.declared.inspect.Kind.TheVariants.{Authority}
+use Rattle.rpki_crl.specs.Lists.{CrlFields, CrlState, IsCertificateList}
+use Rattle.rpki_folder.specs.declared.folder.Added.{Added}
+use Rattle.rpki_folder.specs.declared.folder.Added.TheVariants.{Certificate, List as list, Neither}
+use Rattle.rpki_path.specs.Paths.{Candidate, candidate}
+
+-- what a contract sees of a Folder: the octets that begin with certificates, and the revocation
+-- lists, both in the order in which they were added. A certificate's place is its index
+pub record FolderFields : Type 0 where
+  pub certs : List (List ℕ)
+  pub lists : List CrlState
+
+abbrev pub empty : FolderFields
+empty = record { certs = []; lists = [] }
+
+-- with one certificate more, or one list
+abbrev pub with_cert : FolderFields → List ℕ → FolderFields
+with_cert f octets = record { certs = f.certs ++ octets ∷ []; lists = f.lists }
+
+abbrev pub with_list : FolderFields → CrlState → FolderFields
+with_list f l = record { certs = f.certs; lists = f.lists ++ l ∷ [] }
+
+-- the octets at the place; none where there is no such place
+abbrev pub octets_at : List (List ℕ) → ℕ → List ℕ
+octets_at certs place = slice_index_or certs place []
+
+-- the CAs at these places
+abbrev pub cas_at : List (List ℕ) → List ℕ → List Candidate
+cas_at certs places = map (λ place. candidate Authority (octets_at certs place)) places
+
+-- the octets begin with a certificate that names this key as the one that signs it
+pub record NamesSigner (key octets : List ℕ) : Type 0 where
+  pub cert : CertFields
+  pub begins : Means IsCertificate cert octets
+  pub names : cert.fields.extensions.authority_key_identifier ≡ Some key
+
+-- these are the places of the certificates that name the key as the one that signs them
+pub record ArePlacesOf (certs : List (List ℕ)) (key places : List ℕ) : Type 0 where
+  pub inside : (place : ℕ) → Contains places place → place < length certs
+  pub only : (place : ℕ) → Contains places place → NamesSigner key (octets_at certs place)
+  pub all : (place : ℕ) → place < length certs → NamesSigner key (octets_at certs place) → Contains places place
+
+-- what was added of the octets, and at which place
+abbrev pub IsAdded : List ℕ → FolderFields → FolderFields → Added → Type 0
+IsAdded octets old new (Certificate place) =
+    (new ≡ with_cert old octets) × (place ≡ length old.certs)
+IsAdded octets old new list =
+    (l : CrlState) × Means IsCertificateList l.list octets × (new ≡ with_list old l)
+IsAdded octets old new Neither =
+    (new ≡ old) × ((c : CertFields) → Means IsCertificate c octets → ⊥)
+    × ((l : CrlFields) → Means IsCertificateList l octets → ⊥)

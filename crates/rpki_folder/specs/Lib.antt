@@ -1,0 +1,7 @@
+pub mod SaidKinds
+pub mod KeyTables
+pub mod Folders
+pub mod Walks
+pub mod WalkFaults
+pub mod KeptLines
+pub mod Searches

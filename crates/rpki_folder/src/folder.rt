@@ -1,0 +1,160 @@
+//! Folders of certificates and revocation lists.
+ghost use Rattle.std.specs.Prelude.{◌≡◌, ◌≢◌, length, IfOk, OnOk, OnErr};
+ghost use Rattle.rpki_ext.specs.Kinds.{Means};
+ghost use Rattle.rpki_cert.specs.Certificates.{CertFields, IsCertificate};
+ghost use Rattle.rpki_der.specs.declared.error.DecodeError.TheVariants.{Memory};
+ghost use Rattle.rpki_folder.specs.Folders.{empty, with_cert, with_list, ArePlacesOf, IsAdded};
+
+use crate::filed::Filed;
+use crate::keys::KeyTable;
+use bytes::Bytes;
+use rpki_cert::{Cert, laws};
+use rpki_crl::Crl;
+use rpki_der::DecodeError;
+use rpki_parts::KeyIdentifier;
+use std::alloc::{AllocError, Global};
+use std::marker::Model;
+
+/// What was added of a file's octets.
+#[derive(Clone, Copy, Debug, PartialEq, Eq)]
+pub enum Added {
+    /// The certificate that they begin with, at this place.
+    Certificate(usize),
+    /// The revocation list that they begin with.
+    List,
+    /// Nothing: they begin with neither.
+    Neither,
+}
+
+/// Certificates and revocation lists, which are added in any order, and are found by the key that
+/// signed them. A certificate's place is its index in the order in which certificates were added.
+#[derive(Drop)]
+pub struct Folder {
+    alloc: Global,
+    certs: Vec<Filed>,
+    lists: Vec<Crl>,
+    by_signer: KeyTable,
+}
+
+impl Model for Folder {
+    ghost use Rattle.std.specs.Prelude.{ℕ, List};
+    ghost use Rattle.rpki_folder.specs.Folders.{FolderFields, ArePlacesOf};
+    ghost use Rattle.rpki_folder.specs.KeyTables.{places_in};
+
+    ghost Value = { FolderFields };
+
+    ghost view = { λ f. record { certs = f.certs.items; lists = f.lists.items } };
+
+    ghost invariant = { λ f. (key : List ℕ)
+        → ArePlacesOf f.certs.items key (places_in f.by_signer.places key) };
+}
+
+// Lets a fault go, unless it is that memory ran out.
+fn rejects(fault: DecodeError) -> Result<(), AllocError>
+    ensures { OnOk result (fault ≢ Memory) }
+{
+    let is_memory = fault.is_memory();
+    drop(fault);
+    if is_memory { Err(AllocError) } else { Ok(()) }
+}
+
+impl Folder {
+    /// Makes a folder without certificates and lists, which grows by this allocator.
+    pub fn new(alloc: Global) -> Folder
+        ensures { result ≡ empty }
+    {
+        Folder {
+            alloc,
+            certs: Vec::new(alloc),
+            lists: Vec::new(alloc),
+            by_signer: KeyTable::new(alloc),
+        }
+    }
+
+    /// Adds octets and the certificate that they begin with, and returns its place. The certificate
+    /// and the octets are kept; where the one was read of the other, they share their buffer. Errs
+    /// where memory runs out, and the folder is then as it was.
+    pub fn add_cert(&mut self, octets: Bytes, cert: Cert) -> Result<usize, AllocError>
+        requires { Means IsCertificate cert octets }
+        ensures ok { OnOk result (self.new ≡ with_cert self.old octets) }
+        ensures place { IfOk result (λ place. place ≡ length self.old.certs) }
+        ensures err { OnErr result (self.new ≡ self.old) }
+    {
+        laws::unambiguous();
+        let place = self.certs.len();
+        self.certs.try_reserve(1)?;
+        if let Some(key) = cert.as_tbs().authority_key_identifier() {
+            self.by_signer.add(&key, place)?;
+        }
+        match self.certs.push(Filed::new(octets, cert)) {
+            Ok(()) => Ok(place),
+            Err(_) => unreachable!(),
+        }
+    }
+
+    /// Adds a revocation list. It is asked by walking its entries, unless its serial numbers are
+    /// cached ([`Crl::cache_serials`]). Errs where memory runs out, and the folder is then as it was.
+    pub fn add_list(&mut self, list: Crl) -> Result<(), AllocError>
+        ensures ok { OnOk result (self.new ≡ with_list self.old list) }
+        ensures err { OnErr result (self.new ≡ self.old) }
+    {
+        self.lists.push(list)?;
+        Ok(())
+    }
+
+    /// Adds the certificate or the revocation list with which octets begin, and tells which it was. A
+    /// list's serial numbers are cached. Errs where memory runs out, and the folder is then as it was.
+    pub fn add(&mut self, octets: Bytes) -> Result<Added, AllocError>
+        ensures ok { IfOk result (IsAdded octets self.old self.new) }
+        ensures err { OnErr result (self.new ≡ self.old) }
+    {
+        match Cert::decode_shared(self.alloc, octets.clone()?) {
+            Ok(cert) => Ok(Added::Certificate(self.add_cert(octets, cert)?)),
+            Err(fault) => {
+                rejects(fault)?;
+                self.add_other(octets)
+            }
+        }
+    }
+
+    // Adds the list with which octets begin that begin with no certificate.
+    fn add_other(&mut self, octets: Bytes) -> Result<Added, AllocError>
+        requires { (c : CertFields) → Means IsCertificate c octets → ⊥ }
+        ensures ok { IfOk result (IsAdded octets self.old self.new) }
+        ensures err { OnErr result (self.new ≡ self.old) }
+    {
+        match Crl::decode_shared(self.alloc, octets) {
+            Ok(mut list) => {
+                list.cache_serials(self.alloc)?;
+                self.add_list(list)?;
+                Ok(Added::List)
+            }
+            Err(fault) => {
+                rejects(fault)?;
+                Ok(Added::Neither)
+            }
+        }
+    }
+
+    /// Returns the certificates, each at its place.
+    pub fn certs(&self) -> &[Filed]
+        ensures { result.now ≡ self.now.certs }
+    {
+        &self.certs
+    }
+
+    /// Returns the revocation lists.
+    pub fn lists(&self) -> &[Crl]
+        ensures { result.now ≡ self.now.lists }
+    {
+        &self.lists
+    }
+
+    /// Returns the places of the certificates that name this key as the one that signs them (RFC 5280
+    /// 4.2.1.1), the one that was added first in front.
+    pub fn signed_by(&self, key: &KeyIdentifier) -> &[usize]
+        ensures { ArePlacesOf self.now.certs key.now result.now }
+    {
+        self.by_signer.get(key)
+    }
+}

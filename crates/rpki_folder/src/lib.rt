@@ -1,0 +1,26 @@
+//! Folders of certificates and revocation lists, in no order, and the walk down from a trust anchor.
+#![tactic(auto)]
+
+mod admission;
+mod bounds;
+mod filed;
+mod find;
+mod folder;
+mod keys;
+pub mod laws;
+mod lines;
+mod saying;
+mod visitor;
+mod walk;
+mod walk_error;
+
+pub use admission::{Admission, AllAdmitted};
+pub use bounds::{Bounds, Ended};
+pub use filed::Filed;
+pub use find::{Found, FoundPath};
+pub use folder::{Added, Folder};
+pub use lines::{Line, Lines};
+pub use saying::{is_router, said_kind};
+pub use visitor::{Accepted, Visitor};
+pub use walk::Walk;
+pub use walk_error::WalkError;

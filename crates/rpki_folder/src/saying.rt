@@ -1,0 +1,47 @@
+//! What a certificate says that it is.
+ghost use Rattle.std.specs.Prelude.{◌↔◌, IsTrue, IsSomeAnd};
+ghost use Rattle.rpki_ext.specs.RouterPurposes.{HasRouterPurpose};
+ghost use Rattle.rpki_folder.specs.SaidKinds.{SaysRouter, SaysKind};
+
+use rpki_cert::{Kind, TbsCert};
+use rpki_parts::PublicKeyFormat;
+
+// Whether a further purpose of the key is that of routers (RFC 8209 3.1.3.2).
+fn has_router_purpose(tbs: &TbsCert) -> bool
+    ensures { IsTrue result ↔ IsSomeAnd tbs.now.extensions.extended_key_usage HasRouterPurpose }
+{
+    match tbs.extended_key_usage() {
+        Some(purposes) => purposes.inspect_router().is_ok(),
+        None => false,
+    }
+}
+
+/// Returns whether the certificate says that it is a BGPsec router's, be it of the profile or not:
+/// it names the purpose of routers, or it has a key on a curve, which only routers have (RFC 8209
+/// 3.1, RFC 8608), and says neither that it is a CA nor that it signs an object.
+pub fn is_router(tbs: &TbsCert) -> bool
+    ensures { IsTrue result ↔ SaysRouter tbs.now }
+{
+    if has_router_purpose(tbs) {
+        return true;
+    }
+    match tbs.subject_public_key_info().algorithm() {
+        PublicKeyFormat::Rsa => false,
+        PublicKeyFormat::EcdsaP256 => !tbs.is_ca() && tbs.signed_object().is_none(),
+    }
+}
+
+/// Returns the kind that the certificate says that it is of, below a trust anchor.
+pub fn said_kind(tbs: &TbsCert) -> Kind
+    ensures { SaysKind result tbs.now }
+{
+    if is_router(tbs) {
+        Kind::Router
+    } else if tbs.is_ca() {
+        Kind::Authority
+    } else if tbs.signed_object().is_some() {
+        Kind::EndEntity
+    } else {
+        Kind::Detached
+    }
+}

@@ -1,0 +1,394 @@
+//! The walk down from a trust anchor.
+ghost use Rattle.std.specs.Prelude.{◌≡◌, ◌≢◌, ◌+◌, ◌++◌, ◌∷◌, [], ◌<◌, ◌≤◌, List, length, Result, Ok, Err, IfOk, IfErr, OnOk, OnErr};
+ghost use Rattle.std.proofs.Common.{rc_value};
+ghost use Rattle.rpki_ext.specs.Kinds.{Means};
+ghost use Rattle.rpki_cert.specs.Certificates.{IsCertificate};
+ghost use Rattle.rpki_cert.specs.declared.inspect.Kind.TheVariants.{Router};
+ghost use Rattle.rpki_path.specs.LocatedPaths.{IsLocatedFault};
+ghost use Rattle.rpki_path.specs.declared.judging.Judged.{Judged};
+ghost use Rattle.rpki_path.specs.declared.path_fault.PathFault.{PathFault as Fault};
+ghost use Rattle.rpki_path.specs.declared.path_fault.PathFault.TheVariants.{Memory};
+ghost use Rattle.rpki_cert.specs.Verification.{context};
+ghost use Rattle.rpki_revocation.specs.AskedLists.{by_lists};
+ghost use Rattle.rpki_path.specs.Paths.{Finds};
+ghost use Rattle.rpki_path.specs.Paths.Steps.{kind_of, IsIssuedBy, demand_under};
+ghost use Rattle.rpki_path.specs.Routers.{IsRouterUnder, router_demand};
+ghost use Rattle.rpki_folder.specs.Folders.{octets_at};
+ghost use Rattle.rpki_folder.specs.Walks.{Root, at_anchor, members_at, LeadsTo, Told, told, Tells, TellsBelow, IsWhyNone};
+ghost use Rattle.rpki_folder.specs.Walks.Steps.{IsAnswer, IsOutcome, Hands, IsAtTop};
+
+use crate::admission::Admission;
+use crate::bounds::{Bounds, Ended};
+use crate::folder::Folder;
+use crate::saying::said_kind;
+use crate::visitor::{Accepted, Visitor};
+use crate::walk_error::WalkError;
+use rpki_cert::{Cert, Kind, ResourceCert, laws};
+use rpki_der::Time;
+use rpki_ext::beside;
+use rpki_parts::{TalInfo, Verifier};
+use rpki_path::{LocatedError, Member, PathError, PathFault, Role, Validator, has_locator_key};
+use rpki_revocation::{GivenLists, NobodyAsked};
+use rpki_tal::Tal;
+use std::alloc::{AllocError, Global};
+use std::rc::Rc;
+
+/// A walk down through a folder: which certificates are looked at, how far, and when.
+#[derive(Drop)]
+pub struct Walk<'w, A, V> {
+    /// Where memory comes from.
+    pub alloc: Global,
+    /// The certificates and the lists, which are asked for revocation
+    /// ([`rpki_revocation::GivenLists`]).
+    pub folder: &'w Folder,
+    /// Which certificates are let in.
+    pub admission: &'w A,
+    /// How far the walk goes.
+    pub bounds: Bounds,
+    /// Whether the stricter profile is asked for.
+    pub strict: bool,
+    /// The moment.
+    pub at: Time,
+    /// How signatures are verified.
+    pub verifier: &'w V,
+}
+
+// Where a walk is: the places of the CAs above, from the top down, and the steps that are left.
+#[derive(Drop)]
+struct Trail {
+    above: Vec<usize>,
+    steps: usize,
+}
+
+// An answer on the trust anchor, as one on the path.
+fn at_top<T: Drop>(answer: Result<T, PathFault>) -> Result<T, LocatedError>
+    ensures ok { IfOk result (λ r. answer ≡ Ok r) }
+    ensures err { IfErr result (λ e. IsAtTop e answer) }
+{
+    match answer {
+        Ok(value) => Ok(value),
+        Err(fault) => Err(LocatedError::Path(PathError { index: 0, fault })),
+    }
+}
+
+// The locator's name, which is shared.
+fn name_of(tal: &Tal) -> Result<Rc<TalInfo>, PathFault>
+    ensures ok { IfOk result (λ info. rc_value info ≡ tal.now.name) }
+    ensures memory { IfErr result (λ e. e ≡ Memory) }
+{
+    Ok(tal.info().clone()?)
+}
+
+// Tells what is wrong with a certificate, unless memory ran out.
+fn reject<W: Visitor>(
+    above: &[usize],
+    place: usize,
+    fault: PathFault,
+    visitor: &mut W,
+) -> Result<(), AllocError>
+    ensures ok { (v : W) (ts : List Told) → W.became v ts visitor.old
+        → OnOk result (W.became v (ts ++ told above.now place (Err fault) ∷ []) visitor.new) }
+    ensures no_memory { OnOk result (fault ≢ Memory) }
+    ensures err { (v : W) (ts : List Told) → W.became v ts visitor.old → OnErr result (W.became v ts visitor.new) }
+{
+    if fault.is_memory() {
+        drop(fault);
+        return Err(AllocError);
+    }
+    visitor.tell(above, place, Err(fault))
+}
+
+impl<'w, A: Admission, V: Verifier> Walk<'w, A, V> {
+    // The certificate at a place, as a member of this role below an issuer.
+    fn member(
+        &self,
+        issuer: &ResourceCert,
+        place: usize,
+        role: Role,
+    ) -> Result<ResourceCert, PathFault>
+        requires { place < length self.now.folder.now.certs }
+        ensures ok { let w = self.now in
+            let x = context (V.verifies w.verifier.now) w.at w.strict in
+            let asked = by_lists x w.folder.now.lists in
+            IfOk result (IsIssuedBy x asked issuer.now (kind_of role) (octets_at w.folder.now.certs place)) }
+        ensures fault { let w = self.now in
+            let x = context (V.verifies w.verifier.now) w.at w.strict in
+            let asked = by_lists x w.folder.now.lists in
+            IfErr result (Finds x (demand_under x asked issuer.now (kind_of role)) (octets_at w.folder.now.certs place)) }
+    {
+        let lists = GivenLists::new(self.folder.lists());
+        let validator = Validator {
+            alloc: self.alloc,
+            asked: &lists,
+            strict: self.strict,
+            at: self.at,
+            verifier: self.verifier,
+        };
+        validator.member(issuer, &self.folder.certs()[place].member(), role)
+    }
+
+    // The certificate at a place, as a router's below an issuer.
+    fn router(&self, issuer: &ResourceCert, place: usize) -> Result<Cert, PathFault>
+        requires { place < length self.now.folder.now.certs }
+        ensures begins { let w = self.now in
+            IfOk result (λ c. Means IsCertificate c (octets_at w.folder.now.certs place)) }
+        ensures ok { let w = self.now in
+            let x = context (V.verifies w.verifier.now) w.at w.strict in
+            let asked = by_lists x w.folder.now.lists in
+            IfOk result (IsRouterUnder x asked issuer.now) }
+        ensures fault { let w = self.now in
+            let x = context (V.verifies w.verifier.now) w.at w.strict in
+            let asked = by_lists x w.folder.now.lists in
+            IfErr result (Finds x (router_demand x asked issuer.now) (octets_at w.folder.now.certs place)) }
+    {
+        let lists = GivenLists::new(self.folder.lists());
+        let validator = Validator {
+            alloc: self.alloc,
+            asked: &lists,
+            strict: self.strict,
+            at: self.at,
+            verifier: self.verifier,
+        };
+        validator.router(&self.folder.certs()[place].member(), issuer)
+    }
+
+    // Tells the answer on the certificate at a place that is judged as a member, and returns that
+    // where it is accepted.
+    fn tell_member<W: Visitor>(
+        &self,
+        issuer: &ResourceCert,
+        above: &[usize],
+        place: usize,
+        role: Role,
+        visitor: &mut W,
+    ) -> Result<Option<ResourceCert>, AllocError>
+        requires { place < length self.now.folder.now.certs }
+        ensures ok { let w = self.now in
+            let x = context (V.verifies w.verifier.now) w.at w.strict in
+            let asked = by_lists x w.folder.now.lists in
+            let octets = octets_at w.folder.now.certs place in
+            (v : W) (ts : List Told) → W.became v ts visitor.old → IfOk result (λ member.
+            (verdict : Result Judged Fault) × W.became v (ts ++ told above.now place verdict ∷ []) visitor.new
+            × IsAnswer x asked issuer.now octets (kind_of role) verdict × Hands verdict member) }
+        ensures err { (v : W) (ts : List Told) → W.became v ts visitor.old → OnErr result (W.became v ts visitor.new) }
+    {
+        match self.member(issuer, place, role) {
+            Ok(member) => {
+                let test = visitor.tell(above, place, Ok(Accepted::member(&member)));
+                let (member, ()) = beside(member, test)?;
+                Ok(Some(member))
+            }
+            Err(fault) => {
+                reject(above, place, fault, visitor)?;
+                Ok(None)
+            }
+        }
+    }
+
+    // Tells the answer on the certificate at a place that is judged as a router's.
+    fn tell_router<W: Visitor>(
+        &self,
+        issuer: &ResourceCert,
+        above: &[usize],
+        place: usize,
+        visitor: &mut W,
+    ) -> Result<(), AllocError>
+        requires { place < length self.now.folder.now.certs }
+        ensures ok { let w = self.now in
+            let x = context (V.verifies w.verifier.now) w.at w.strict in
+            let asked = by_lists x w.folder.now.lists in
+            let octets = octets_at w.folder.now.certs place in
+            (v : W) (ts : List Told) → W.became v ts visitor.old → OnOk result (
+            (verdict : Result Judged Fault) × W.became v (ts ++ told above.now place verdict ∷ []) visitor.new
+            × IsAnswer x asked issuer.now octets Router verdict) }
+        ensures err { (v : W) (ts : List Told) → W.became v ts visitor.old → OnErr result (W.became v ts visitor.new) }
+    {
+        match self.router(issuer, place) {
+            Ok(cert) => {
+                let test = visitor.tell(above, place, Ok(Accepted::router(issuer, &cert)));
+                drop(cert);
+                test
+            }
+            Err(fault) => reject(above, place, fault, visitor),
+        }
+    }
+
+    // Judges the certificate at a place below an issuer as what it says that it is, tells the answer,
+    // and returns the CA below which the walk goes on.
+    fn look_at<W: Visitor>(
+        &self,
+        issuer: &ResourceCert,
+        above: &[usize],
+        place: usize,
+        visitor: &mut W,
+    ) -> Result<Option<ResourceCert>, AllocError>
+        requires { place < length self.now.folder.now.certs }
+        ensures ok { let w = self.now in
+            let x = context (V.verifies w.verifier.now) w.at w.strict in
+            let asked = by_lists x w.folder.now.lists in
+            let octets = octets_at w.folder.now.certs place in
+            (v : W) (ts : List Told) → W.became v ts visitor.old → IfOk result (λ next.
+            (verdict : Result Judged Fault) × W.became v (ts ++ told above.now place verdict ∷ []) visitor.new
+            × IsOutcome x asked issuer.now octets verdict next) }
+        ensures err { (v : W) (ts : List Told) → W.became v ts visitor.old → OnErr result (W.became v ts visitor.new) }
+    {
+        match said_kind(self.folder.certs()[place].cert().as_tbs()) {
+            Kind::Authority => self.tell_member(issuer, above, place, Role::Authority, visitor),
+            Kind::EndEntity => {
+                drop(self.tell_member(issuer, above, place, Role::EndEntity, visitor)?);
+                Ok(None)
+            }
+            Kind::Detached => {
+                drop(self.tell_member(issuer, above, place, Role::Detached, visitor)?);
+                Ok(None)
+            }
+            Kind::Router => {
+                self.tell_router(issuer, above, place, visitor)?;
+                Ok(None)
+            }
+            Kind::Anchor => unreachable!(),
+        }
+    }
+
+    // The walk below an issuer, for this depth.
+    fn descend<W: Visitor>(
+        &self,
+        issuer: &ResourceCert,
+        trail: &mut Trail,
+        depth: usize,
+        visitor: &mut W,
+    ) -> Result<Ended, AllocError>
+        ensures tells { let w = self.now in
+            let x = context (V.verifies w.verifier.now) w.at w.strict in
+            let asked = by_lists x w.folder.now.lists in
+            let admits = A.admits w.admission.now in
+            (v : W) (ts : List Told) → W.became v ts visitor.old → (more : List Told) × W.became v (ts ++ more) visitor.new
+            × (length more + trail.new.steps ≤ trail.old.steps)
+            × TellsBelow x asked admits issuer.now w.folder.now.certs trail.old.above.items depth trail.old.steps result more }
+        ensures trail { OnOk result (trail.new.above.items ≡ trail.old.above.items) }
+    {
+        laws::unambiguous();
+        let key = issuer.as_cert().as_tbs().subject_key_identifier();
+        let mut ended = Ended::Whole;
+        let places = self.folder.signed_by(&key);
+        for &place in places {
+            if !self.admission.is_admitted(&trail.above, place) {
+                continue;
+            }
+            if depth == 0 {
+                return Ok(Ended::TooDeep);
+            }
+            if trail.steps == 0 {
+                return Ok(Ended::OutOfSteps);
+            }
+            trail.steps -= 1;
+            let Some(ca) = self.look_at(issuer, &trail.above, place, visitor)? else {
+                continue;
+            };
+            trail.above.push(place)?;
+            let below = self.descend(&ca, trail, depth - 1, visitor);
+            drop(ca);
+            trail.above.pop();
+            ended = ended.and(below?);
+        }
+        Ok(ended)
+    }
+
+    /// Walks below an issuer that was validated before. Each certificate of the folder that names the
+    /// key of an accepted CA as the one that signs it, and that is let in there, is judged as what it
+    /// says that it is ([`said_kind`]), and the visitor is told the verdict: that of
+    /// [`rpki_path::judge`] on the path that leads to it, with the folder's lists. Certificates of one
+    /// key, as renewals that lie side by side, are each judged, and so are those below each of them.
+    /// Returns whether everything was looked at; a bound that was met is told. Errs where memory runs
+    /// out; what was told before is right.
+    pub fn below<W: Visitor>(
+        &self,
+        issuer: &ResourceCert,
+        visitor: &mut W,
+    ) -> Result<Ended, AllocError>
+        ensures tells { let w = self.now in
+            let x = context (V.verifies w.verifier.now) w.at w.strict in
+            let asked = by_lists x w.folder.now.lists in
+            let admits = A.admits w.admission.now in
+            (more : List Told) × W.became visitor.old more visitor.new
+            × TellsBelow x asked admits issuer.now w.folder.now.certs [] w.bounds.depth w.bounds.steps result more }
+    {
+        let mut trail = Trail {
+            above: Vec::new(self.alloc),
+            steps: self.bounds.steps,
+        };
+        let ended = self.descend(issuer, &mut trail, self.bounds.depth, visitor);
+        drop(trail);
+        ended
+    }
+
+    // What the trust anchor holds, which has to have the locator's key.
+    fn validated_anchor(&self, tal: &Tal, anchor: &Member<'_>) -> Result<ResourceCert, LocatedError>
+        ensures ok { let w = self.now in
+            let x = context (V.verifies w.verifier.now) w.at w.strict in
+            let asked = by_lists x w.folder.now.lists in
+            IfOk result (LeadsTo x asked (at_anchor tal.now anchor.now) []) }
+        ensures fault { let w = self.now in
+            let x = context (V.verifies w.verifier.now) w.at w.strict in
+            let asked = by_lists x w.folder.now.lists in
+            IfErr result (IsLocatedFault x asked tal.now.tal anchor.now []) }
+    {
+        laws::unambiguous();
+        if !at_top(has_locator_key(self.alloc, anchor, tal))? {
+            return Err(LocatedError::OtherKey);
+        }
+        let validator = Validator {
+            alloc: self.alloc,
+            asked: &NobodyAsked,
+            strict: self.strict,
+            at: self.at,
+            verifier: self.verifier,
+        };
+        let name = at_top(name_of(tal))?;
+        at_top(validator.trust_anchor(anchor, name))
+    }
+
+    /// Validates the trust anchor, which has to have the locator's key (RFC 8630 3), and returns what
+    /// it holds. Errs with what is wrong with it, or where memory runs out.
+    pub fn trust_anchor(&self, tal: &Tal, anchor: &Member<'_>) -> Result<ResourceCert, WalkError>
+        ensures ok { let w = self.now in
+            let x = context (V.verifies w.verifier.now) w.at w.strict in
+            let asked = by_lists x w.folder.now.lists in
+            IfOk result (LeadsTo x asked (at_anchor tal.now anchor.now) []) }
+        ensures fault { let w = self.now in
+            let x = context (V.verifies w.verifier.now) w.at w.strict in
+            let asked = by_lists x w.folder.now.lists in
+            IfErr result (IsWhyNone x asked tal.now anchor.now) }
+    {
+        Ok(self.validated_anchor(tal, anchor)?)
+    }
+
+    /// Walks down from the trust anchor of a locator: validates it ([`Walk::trust_anchor`]), and walks
+    /// below it ([`Walk::below`]). The trust anchor itself isn't told. Errs with what is wrong with
+    /// it, and then nothing was told; or where memory runs out.
+    pub fn from_anchor<W: Visitor>(
+        &self,
+        tal: &Tal,
+        anchor: &Member<'_>,
+        visitor: &mut W,
+    ) -> Result<Ended, WalkError>
+        // Each verdict is right, and where the walk ended, it looked at each path that its end says.
+        ensures tells { let w = self.now in
+            let x = context (V.verifies w.verifier.now) w.at w.strict in
+            let asked = by_lists x w.folder.now.lists in
+            let admits = A.admits w.admission.now in
+            let root = at_anchor tal.now anchor.now in
+            (more : List Told) × W.became visitor.old more visitor.new
+            × Tells x asked admits root w.folder.now.certs [] w.bounds.depth w.bounds.steps result more }
+        // The trust anchor is wrong so.
+        ensures fault { let w = self.now in
+            let x = context (V.verifies w.verifier.now) w.at w.strict in
+            let asked = by_lists x w.folder.now.lists in
+            IfErr result (IsWhyNone x asked tal.now anchor.now) }
+    {
+        let issuer = self.trust_anchor(tal, anchor)?;
+        let ended = self.below(&issuer, visitor);
+        drop(issuer);
+        Ok(ended?)
+    }
+}

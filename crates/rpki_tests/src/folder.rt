@@ -1,0 +1,219 @@
+//! Folders: loops of keys, bounds that are met, and what is kept of verdicts.
+
+use crate::lists;
+use crate::located::{OF_ANCHOR, OF_OTHER, locator};
+use bytes::Bytes;
+use rpki_cert::Cert;
+use rpki_cert_tests::samples::{self, day, rsa};
+use rpki_crl::{Crl, RevocationError};
+use rpki_folder::{Added, AllAdmitted, Bounds, Ended, Folder, Found, Line, Lines, Walk, WalkError};
+use rpki_parts::StandIn;
+use rpki_path::{Member, PathFault};
+use std::alloc::Global;
+use std::process::Abort;
+
+// A list of the anchor's key that revokes nothing.
+fn list(rt: &impl Abort, alloc: Global) -> Crl {
+    let mut data = lists::data(rt, alloc);
+    data.set_revoked_certs(Vec::new(alloc));
+    data.set_this_update(day(2019).expect(rt, "a day"));
+    data.set_next_update(day(2029).expect(rt, "a day"));
+    data.into_crl(alloc, &StandIn, &rsa(b"abc"))
+        .expect(rt, "a list")
+}
+
+// Its octets.
+fn list_octets(rt: &impl Abort, alloc: Global) -> Bytes {
+    let list = list(rt, alloc);
+    let octets = list.to_captured(alloc).expect(rt, "memory");
+    drop(list);
+    octets
+}
+
+// An authority that has the anchor's key, so that it also is below itself.
+fn authority(rt: &impl Abort, alloc: Global) -> Bytes {
+    samples::authority_octets(alloc).expect(rt, "memory")
+}
+
+fn end_entity(rt: &impl Abort, alloc: Global) -> Bytes {
+    samples::end_entity_octets(alloc).expect(rt, "memory")
+}
+
+fn add(rt: &impl Abort, folder: &mut Folder, octets: Bytes) -> Added {
+    folder.add(octets).expect(rt, "memory")
+}
+
+// Walks down from the anchor, and returns how the walk ended, with the lines.
+fn walked(
+    rt: &impl Abort,
+    alloc: Global,
+    folder: &Folder,
+    depth: usize,
+    steps: usize,
+) -> (Ended, Lines) {
+    let mut lines = Lines::new(alloc, folder.certs().len()).expect(rt, "memory");
+    let tal = locator(rt, alloc, OF_ANCHOR);
+    let anchor = samples::anchor_octets(alloc).expect(rt, "memory");
+    let walk = Walk {
+        alloc,
+        folder,
+        admission: &AllAdmitted,
+        bounds: Bounds { depth, steps },
+        strict: true,
+        at: day(2024).expect(rt, "a day"),
+        verifier: &StandIn,
+    };
+    let ended = walk.from_anchor(&tal, &Member::of(&anchor), &mut lines);
+    let ended = ended.expect(rt, "an anchor");
+    drop(tal);
+    (ended, lines)
+}
+
+// How many CAs stand above an accepted certificate; or the step and the name of its fault.
+fn line(lines: &Lines, place: usize) -> (usize, &'static str) {
+    match lines.as_slice().get(place) {
+        None => (0, "none"),
+        Some(Line::Unseen) => (0, "unseen"),
+        Some(Line::Accepted(above)) => (above.len(), "accepted"),
+        Some(Line::Rejected(step, fault)) => (*step, fault.name()),
+    }
+}
+
+#[test]
+fn a_loop_of_keys_ends_at_the_depth(rt: HostRuntime) {
+    let alloc = rt.alloc();
+    let mut folder = Folder::new(alloc);
+    assert!(rt; add(&rt, &mut folder, authority(&rt, alloc)) == Added::Certificate(0));
+    assert!(rt; add(&rt, &mut folder, list_octets(&rt, alloc)) == Added::List);
+    let (ended, lines) = walked(&rt, alloc, &folder, 3, 100);
+    assert!(rt; ended == Ended::TooDeep);
+    assert!(rt; line(&lines, 0) == (0, "accepted"));
+    drop(lines);
+    drop(folder);
+}
+
+#[test]
+fn a_loop_of_keys_ends_with_the_steps(rt: HostRuntime) {
+    let alloc = rt.alloc();
+    let mut folder = Folder::new(alloc);
+    for _ in 0..40 {
+        add(&rt, &mut folder, authority(&rt, alloc));
+    }
+    folder.add_list(list(&rt, alloc)).expect(&rt, "memory");
+    let (ended, lines) = walked(&rt, alloc, &folder, 20, 30);
+    assert!(rt; ended == Ended::OutOfSteps);
+    assert!(rt; line(&lines, 0) == (0, "accepted"));
+    drop(lines);
+    drop(folder);
+}
+
+#[test]
+fn the_order_of_a_folder_does_not_matter(rt: HostRuntime) {
+    let alloc = rt.alloc();
+    let mut folder = Folder::new(alloc);
+    assert!(rt; add(&rt, &mut folder, Bytes::from_static(b"\x30\x00")) == Added::Neither);
+    assert!(rt; add(&rt, &mut folder, list_octets(&rt, alloc)) == Added::List);
+    let octets = end_entity(&rt, alloc);
+    let shared = octets.clone().expect(&rt, "memory");
+    let cert = Cert::decode_shared(alloc, shared).expect(&rt, "a certificate");
+    assert_eq!(rt; folder.add_cert(octets, cert).expect(&rt, "memory"), 0);
+    let (ended, lines) = walked(&rt, alloc, &folder, 3, 100);
+    assert!(rt; ended == Ended::Whole);
+    assert!(rt; line(&lines, 0) == (0, "accepted"));
+    assert!(rt; line(&lines, 1) == (0, "none"));
+    drop(lines);
+    drop(folder);
+}
+
+#[test]
+fn without_a_list_nothing_is_accepted(rt: HostRuntime) {
+    let alloc = rt.alloc();
+    let mut folder = Folder::new(alloc);
+    add(&rt, &mut folder, end_entity(&rt, alloc));
+    let (ended, lines) = walked(&rt, alloc, &folder, 3, 100);
+    assert!(rt; ended == Ended::Whole);
+    assert!(rt; line(&lines, 0) == (1, "Revocation"));
+    assert!(rt;
+        matches!(
+            lines.as_slice().get(0),
+            Some(Line::Rejected(_, PathFault::Revocation(RevocationError::NoCrl)))
+        )
+    );
+    drop(lines);
+    drop(folder);
+}
+
+// Below the trust anchor of this locator, what is found of the first certificate.
+fn found(rt: &impl Abort, alloc: Global, folder: &Folder, file: &[u8]) -> Result<Found, WalkError> {
+    let tal = locator(rt, alloc, file);
+    let anchor = samples::anchor_octets(alloc).expect(rt, "memory");
+    let walk = Walk {
+        alloc,
+        folder,
+        admission: &AllAdmitted,
+        bounds: Bounds { depth: 3, steps: 9 },
+        strict: true,
+        at: day(2024).expect(rt, "a day"),
+        verifier: &StandIn,
+    };
+    let found = walk.find(&tal, &Member::of(&anchor), 0);
+    drop(tal);
+    found
+}
+
+#[test]
+fn a_path_is_found(rt: HostRuntime) {
+    let alloc = rt.alloc();
+    let mut folder = Folder::new(alloc);
+    add(&rt, &mut folder, end_entity(&rt, alloc));
+    let found_none = found(&rt, alloc, &folder, OF_ANCHOR).expect(&rt, "an anchor");
+    assert!(rt; matches!(&found_none, Found::NotFound(Ended::Whole)));
+    drop(found_none);
+    add(&rt, &mut folder, list_octets(&rt, alloc));
+    let found_one = found(&rt, alloc, &folder, OF_ANCHOR).expect(&rt, "an anchor");
+    assert!(rt; matches!(&found_one, Found::Valid(path) if path.above.is_empty()));
+    drop(found_one);
+    drop(folder);
+}
+
+#[test]
+fn an_anchor_of_another_key_begins_no_walk(rt: HostRuntime) {
+    let alloc = rt.alloc();
+    let folder = Folder::new(alloc);
+    let Err(error) = found(&rt, alloc, &folder, OF_OTHER) else {
+        rt.abort()
+    };
+    assert!(rt; !error.is_memory());
+    drop(error);
+    drop(folder);
+}
+
+#[test]
+fn a_walk_begins_below_an_issuer(rt: HostRuntime) {
+    let alloc = rt.alloc();
+    let mut folder = Folder::new(alloc);
+    add(&rt, &mut folder, end_entity(&rt, alloc));
+    add(&rt, &mut folder, list_octets(&rt, alloc));
+    let mut lines = Lines::new(alloc, 1).expect(&rt, "memory");
+    let tal = locator(&rt, alloc, OF_ANCHOR);
+    let anchor = samples::anchor_octets(alloc).expect(&rt, "memory");
+    let walk = Walk {
+        alloc,
+        folder: &folder,
+        admission: &AllAdmitted,
+        bounds: Bounds { depth: 1, steps: 1 },
+        strict: true,
+        at: day(2024).expect(&rt, "a day"),
+        verifier: &StandIn,
+    };
+    let issuer = walk
+        .trust_anchor(&tal, &Member::of(&anchor))
+        .expect(&rt, "an anchor");
+    let ended = walk.below(&issuer, &mut lines).expect(&rt, "memory");
+    assert!(rt; ended == Ended::Whole);
+    assert!(rt; line(&lines, 0) == (0, "accepted"));
+    drop(issuer);
+    drop(lines);
+    drop(tal);
+    drop(folder);
+}
