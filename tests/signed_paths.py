@@ -243,7 +243,8 @@ class Package:
     def answer(self, question, _files):
         at = datetime(*question.moment(), tzinfo=timezone.utc)
         try:
-            held = self.rpki.validate(question.members, last=self.last[question.kinds[-1]], at=at)
+            last = self.last[question.kinds[-1]]
+            held = self.rpki.validate(question.members, last=last, lists=None, at=at)
         except self.rpki.Fault as fault:
             return Answer(fault.member, self.known.checked(fault.number, fault.name))
         four, six = (tuple((int(low), int(high)) for low, high in it.ranges)

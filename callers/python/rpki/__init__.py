@@ -446,7 +446,7 @@ def validate(
     members: Sequence[Octets | Certificate],
     *,
     last: Kind,
-    lists: Sequence[Octets | RevocationList] | None = None,
+    lists: Sequence[Octets | RevocationList] | None,
     locator: Octets | None = None,
     at: datetime | None = None,
     strict: bool = True,
@@ -458,9 +458,9 @@ def validate(
     router's certificate the answer is what the member above it holds. Signatures are checked (RFC
     7935). Whether the RPKI uses the last member's own key isn't asked; `rpki validate` asks it.
 
-    `lists` are revocation lists, in any order: then each member below the trust anchor has to be
-    unrevoked by the latest list of its issuer that has begun. With None, nothing of revocation is
-    asked.
+    `lists` are revocation lists, in any order: each member below the trust anchor has to be unrevoked
+    by the latest list of its issuer that has begun. They have to be given; `lists=None` says that
+    nothing of revocation is asked, so that a revoked member is accepted.
 
     `locator` is the file of a trust anchor locator (RFC 8630): then the trust anchor has to have its
     key. With None, the trust anchor is taken as given.

@@ -144,7 +144,7 @@ class Paths(unittest.TestCase):
         self.assertFalse(held.ipv6 or held.as_numbers)
 
     def test_inherited(self) -> None:
-        held = validate(self.members[:3], last=Kind.AUTHORITY, at=self.noon)
+        held = validate(self.members[:3], last=Kind.AUTHORITY, lists=None, at=self.noon)
         listed = Certificate(self.members[1])
         self.assertEqual((held.ipv4, held.ipv6), (listed.ipv4, listed.ipv6))
         self.assertEqual(held.as_numbers, listed.as_numbers)
@@ -161,12 +161,12 @@ class Paths(unittest.TestCase):
         self.assertTrue(validate([*members], lists=[*lists], locator=key, **asked).ipv4)
         for other in (5, None, "text", "", False):
             with self.assertRaises(TypeError):
-                validate([cast(Any, other)], **asked)
+                validate([cast(Any, other)], lists=None, **asked)
             with self.assertRaises(TypeError):
                 validate(self.members, lists=[cast(Any, other)], **asked)
         for no_locator in (5, "text", "", False):
             with self.assertRaises(TypeError):
-                validate(self.members, locator=cast(Any, no_locator), **asked)
+                validate(self.members, lists=None, locator=cast(Any, no_locator), **asked)
 
     def rejects(
         self,
@@ -176,7 +176,7 @@ class Paths(unittest.TestCase):
         members: list[bytes],
         **asked: Any,
     ) -> None:
-        given: dict[str, Any] = {"last": Kind.AUTHORITY, "at": self.noon, **asked}
+        given: dict[str, Any] = {"last": Kind.AUTHORITY, "lists": None, "at": self.noon, **asked}
         with self.assertRaises(kind) as caught:
             validate(members, **given)
         self.assertEqual((caught.exception.name, caught.exception.member), (name, member))
@@ -194,7 +194,8 @@ class Paths(unittest.TestCase):
         folder = TOP / "tests" / "files" / "named"
         named = [(folder / it).read_bytes() for it in ("ta.cer", "ca_other_case.cer")]
         self.rejects("OtherName", rpki.NamesFault, 1, named)
-        self.assertTrue(validate(named, last=Kind.AUTHORITY, at=self.noon, chain_names=False))
+        asked: dict[str, Any] = {"last": Kind.AUTHORITY, "lists": None, "at": self.noon}
+        self.assertTrue(validate(named, chain_names=False, **asked))
 
     def test_locators(self) -> None:
         path = self.members[1:3]
@@ -202,7 +203,7 @@ class Paths(unittest.TestCase):
         self.rejects("NoUri", rpki.LocatorFault, None, self.members[:1], locator=b"\n")
         latin = b"# \xe9\n" + octets("anchor.tal")
         asked: dict[str, Any] = {"last": Kind.AUTHORITY, "locator": latin, "at": self.noon}
-        self.assertTrue(validate(self.members[:1], strict=False, **asked))
+        self.assertTrue(validate(self.members[:1], lists=None, strict=False, **asked))
         for strict in (True, 1 << 32, None):
             members = self.members[:1]
             self.rejects("NoText", rpki.LocatorFault, None, members, locator=latin, strict=strict)
@@ -220,6 +221,11 @@ class Paths(unittest.TestCase):
             validate(self.members[:2], last=Kind.AUTHORITY, lists=lists, at=self.noon)
         self.assertEqual((caught.exception.member, caught.exception.revocation_list), (None, 1))
 
+    def test_lists_are_asked_for(self) -> None:
+        without: Any = validate
+        with self.assertRaises(TypeError):
+            without(self.members, last=Kind.END_ENTITY, at=self.noon)
+
     def test_wrong_calls(self) -> None:
         wrong: list[tuple[list[bytes], Kind]] = [
             ([], Kind.AUTHORITY),
@@ -229,9 +235,9 @@ class Paths(unittest.TestCase):
         for members, last in wrong:
             text = "too few members, or the last of several is to be a trust anchor"
             with self.assertRaisesRegex(ValueError, text):
-                validate(members, last=last, at=self.noon)
+                validate(members, last=last, lists=None, at=self.noon)
         with self.assertRaises(ValueError):
-            validate(self.members, last=Kind.END_ENTITY, at=datetime(2026, 6, 1))
+            validate(self.members, last=Kind.END_ENTITY, lists=None, at=datetime(2026, 6, 1))
 
     def test_moments_without_offset_or_year(self) -> None:
         class Zone(tzinfo):
@@ -245,12 +251,13 @@ class Paths(unittest.TestCase):
         none += [datetime.max.replace(tzinfo=west), datetime.min.replace(tzinfo=east)]
         for at in none:
             with self.assertRaises(ValueError):
-                validate(self.members, last=Kind.END_ENTITY, at=at)
+                validate(self.members, last=Kind.END_ENTITY, lists=None, at=at)
 
     def test_other_time_zones(self) -> None:
         west = timezone(timedelta(hours=-12))
         last_moment = END.astimezone(west)
-        self.assertTrue(validate(self.members, last=Kind.END_ENTITY, at=last_moment).ipv4)
+        held = validate(self.members, last=Kind.END_ENTITY, lists=None, at=last_moment)
+        self.assertTrue(held.ipv4)
 
     def test_threads(self) -> None:
         found: list[bool] = []

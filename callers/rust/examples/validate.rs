@@ -7,7 +7,7 @@
 //! compared with a locator's where one is.
 //! Ends with 0 where the path is accepted, with 1 where it is rejected, and with 2 where the words
 //! or a file are not as above, or the verdict can't be written.
-use gonxebhula::{Fault, FaultKind, Holdings, Kind, Moment, Path, Place};
+use gonxebhula::{Fault, FaultKind, Holdings, Kind, Moment, Path, Place, Revocation};
 use std::env;
 use std::ffi::{OsStr, OsString};
 use std::fs::File;
@@ -119,10 +119,12 @@ fn run(mut words: &[OsString]) -> Result<ExitCode, String> {
     let members: Vec<Vec<u8>> = files.iter().map(contents).collect::<Result<_, _>>()?;
     let members: Vec<&[u8]> = members.iter().map(Vec::as_slice).collect();
     let lists: Vec<&[u8]> = lists.iter().map(Vec::as_slice).collect();
-    let mut path = Path::new(&members, last);
-    if !lists.is_empty() {
-        path = path.lists(&lists);
-    }
+    let asked = if lists.is_empty() {
+        Revocation::NotAsked
+    } else {
+        Revocation::ByLists(&lists)
+    };
+    let mut path = Path::new(&members, last, asked);
     if let Some(file) = &locator {
         path = path.locator(file);
     }

@@ -2,14 +2,13 @@
 //! library librpki.
 //!
 //! ```no_run
-//! use gonxebhula::{Kind, Moment, Path};
+//! use gonxebhula::{Kind, Moment, Path, Revocation};
 //!
 //! # fn main() -> Result<(), Box<dyn std::error::Error>> {
 //! let anchor = std::fs::read("anchor.cer")?;
 //! let first = std::fs::read("first.cer")?;
 //! let list = std::fs::read("first.crl")?;
-//! let held = Path::new(&[&anchor, &first], Kind::Authority)
-//!     .lists(&[&list])
+//! let held = Path::new(&[&anchor, &first], Kind::Authority, Revocation::ByLists(&[&list]))
 //!     .validate(Moment::now())?;
 //! for (min, max) in held.ipv4 {
 //!     println!("{min} to {max}");
@@ -304,12 +303,22 @@ impl RevocationList {
     }
 }
 
+/// What is asked about revocation. It has no default, since either choice decides what is accepted.
+#[derive(Clone, Copy, Debug)]
+pub enum Revocation<'a> {
+    /// These revocation lists, in any order: each member below the trust anchor has to be unrevoked by
+    /// the latest list of its issuer that has begun.
+    ByLists(&'a [&'a [u8]]),
+    /// Nothing: a revoked member is accepted.
+    NotAsked,
+}
+
 /// A path of certificates, and what is asked of it.
 #[derive(Clone, Debug)]
 pub struct Path<'a> {
     members: &'a [&'a [u8]],
     last: Kind,
-    lists: Option<&'a [&'a [u8]]>,
+    revocation: Revocation<'a>,
     locator: Option<&'a [u8]>,
     strict: bool,
     chain_names: bool,
@@ -317,23 +326,16 @@ pub struct Path<'a> {
 
 impl<'a> Path<'a> {
     /// Makes a path of these certificates, in order, the trust anchor first. The last one is judged as
-    /// of this kind.
-    pub fn new(members: &'a [&'a [u8]], last: Kind) -> Path<'a> {
+    /// of this kind, and this is asked about revocation.
+    pub fn new(members: &'a [&'a [u8]], last: Kind, revocation: Revocation<'a>) -> Path<'a> {
         Path {
             members,
             last,
-            lists: None,
+            revocation,
             locator: None,
             strict: true,
             chain_names: true,
         }
-    }
-
-    /// Asks these revocation lists, in any order: each member below the trust anchor has to be
-    /// unrevoked by the latest list of its issuer that has begun.
-    pub fn lists(mut self, lists: &'a [&'a [u8]]) -> Path<'a> {
-        self.lists = Some(lists);
-        self
     }
 
     /// Asks that the trust anchor has the key of this file of a locator (RFC 8630).
@@ -362,7 +364,10 @@ impl<'a> Path<'a> {
         let question = sys::Question {
             members: self.members,
             last: self.last as u32,
-            lists: self.lists,
+            lists: match self.revocation {
+                Revocation::ByLists(lists) => Some(lists),
+                Revocation::NotAsked => None,
+            },
             locator: self.locator,
             strict: self.strict,
             now: now.0,

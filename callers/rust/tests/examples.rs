@@ -1,6 +1,7 @@
 //! Tests the crate over the files of examples/, whose contents examples/make.sh says.
 use gonxebhula::{
-    Certificate, Fault, FaultKind, Kind, Moment, Path, Place, Resources, RevocationList, Uri,
+    Certificate, Fault, FaultKind, Kind, Moment, Path, Place, Resources, Revocation,
+    RevocationList, Uri,
 };
 use std::net::{Ipv4Addr, Ipv6Addr};
 
@@ -104,9 +105,8 @@ fn other_octets_are_rejected() {
 fn a_path_is_accepted() {
     let (members, lists) = example();
     let (members, lists, locator) = (slices(&members), slices(&lists), octets("anchor.tal"));
-    let path = Path::new(&members, Kind::EndEntity)
-        .lists(&lists)
-        .locator(&locator);
+    let asked = Revocation::ByLists(&lists);
+    let path = Path::new(&members, Kind::EndEntity, asked).locator(&locator);
     let held = path.validate(at(NOON)).unwrap();
     let (min, max) = (Ipv4Addr::new(10, 1, 2, 0), Ipv4Addr::new(10, 1, 2, 255));
     assert_eq!(held.ipv4, [(min, max)]);
@@ -124,33 +124,35 @@ fn paths_are_rejected() {
     let (members, lists) = example();
     let (members, lists) = (slices(&members), slices(&lists));
     let (revoked, tampered) = (octets("revoked.crl"), octets("tampered.cer"));
-    let path = Path::new(&members[..3], Kind::Authority);
+    let under = |asked| Path::new(&members[..3], Kind::Authority, asked);
+    let path = under(Revocation::NotAsked);
     let late = [2036, 1, 1, 0, 0, 1];
     let anchors = Some(Place::Member(0));
     rejected(&path, late, "Expired", anchors);
     assert!(path.validate(at([2036, 1, 1, 0, 0, 0])).is_ok());
     let revoking = [lists[0], revoked.as_slice()];
     let fault = rejected(
-        &path.clone().lists(&revoking),
+        &under(Revocation::ByLists(&revoking)),
         NOON,
         "Revoked",
         Some(Place::Member(2)),
     );
     assert_eq!(fault.to_string(), "member 2: certificate revoked (Revoked)");
     rejected(
-        &path.clone().lists(&[]),
+        &under(Revocation::ByLists(&[])),
         NOON,
         "NoCrl",
         Some(Place::Member(1)),
     );
     let others = [lists[0], members[0]];
-    let fault = path.clone().lists(&others).validate(at(NOON)).unwrap_err();
+    let path = under(Revocation::ByLists(&others));
+    let fault = path.validate(at(NOON)).unwrap_err();
     assert_eq!(
         (fault.kind(), fault.place()),
         (FaultKind::Decode, Some(Place::List(1)))
     );
     let other = [members[0], members[1], tampered.as_slice()];
-    let path = Path::new(&other, Kind::Authority);
+    let path = Path::new(&other, Kind::Authority, Revocation::NotAsked);
     let fault = rejected(&path, NOON, "BadSignature", Some(Place::Member(2)));
     assert_eq!(fault.kind(), FaultKind::Verification);
 }
@@ -159,10 +161,11 @@ fn paths_are_rejected() {
 fn locators_are_asked() {
     let (members, _) = example();
     let (members, locator) = (slices(&members), octets("anchor.tal"));
-    let path = Path::new(&members[1..3], Kind::Authority).locator(&locator);
+    let asked = Revocation::NotAsked;
+    let path = Path::new(&members[1..3], Kind::Authority, asked).locator(&locator);
     let fault = rejected(&path, NOON, "OtherKey", Some(Place::Member(0)));
     assert_eq!(fault.kind(), FaultKind::Locator);
-    let path = Path::new(&members[..1], Kind::Authority).locator(b"\n");
+    let path = Path::new(&members[..1], Kind::Authority, asked).locator(b"\n");
     rejected(&path, NOON, "NoUri", None);
 }
 
@@ -170,14 +173,16 @@ fn locators_are_asked() {
 fn wrong_calls_are_told() {
     let anchor = octets("anchor.cer");
     let members = [anchor.as_slice()];
-    let too_few = Path::new(&members, Kind::EndEntity).validate(at(NOON));
+    let asked = Revocation::NotAsked;
+    let too_few = Path::new(&members, Kind::EndEntity, asked).validate(at(NOON));
     assert_eq!(too_few.unwrap_err().kind(), FaultKind::BadCall);
-    let no_day = Path::new(&members, Kind::Authority).validate(at([2026, 2, 29, 0, 0, 0]));
+    let no_day = Path::new(&members, Kind::Authority, asked).validate(at([2026, 2, 29, 0, 0, 0]));
     assert_eq!(no_day.unwrap_err().kind(), FaultKind::BadCall);
-    assert!(Path::new(&[], Kind::Authority).validate(at(NOON)).is_err());
+    let no_member = Path::new(&[], Kind::Authority, asked);
+    assert!(no_member.validate(at(NOON)).is_err());
     let first = octets("first.cer");
     let both = [anchor.as_slice(), first.as_slice()];
-    let below = Path::new(&both, Kind::TrustAnchor).validate(at(NOON));
+    let below = Path::new(&both, Kind::TrustAnchor, asked).validate(at(NOON));
     assert_eq!(
         below.unwrap_err().to_string(),
         "there are too few members, the last of several is to be a trust anchor, \
@@ -204,7 +209,7 @@ fn moments_are_those_of_the_calendar() {
 fn moments_behind_the_calendar_are_none() {
     let anchor = octets("anchor.cer");
     let members = [anchor.as_slice()];
-    let path = Path::new(&members, Kind::TrustAnchor);
+    let path = Path::new(&members, Kind::TrustAnchor, Revocation::NotAsked);
     let noon = 1_780_315_200;
     assert_eq!(Moment::from_timestamp(noon), at(NOON));
     assert!(path.validate(Moment::from_timestamp(noon)).is_ok());
@@ -233,7 +238,8 @@ fn values_go_between_threads() {
         for _ in 0..4 {
             scope.spawn(|| {
                 let (members, lists) = (slices(&members), slices(&lists));
-                let path = Path::new(&members, Kind::EndEntity).lists(&lists);
+                let asked = Revocation::ByLists(&lists);
+                let path = Path::new(&members, Kind::EndEntity, asked);
                 assert!((0..10).all(|_| path.validate(at(NOON)).is_ok()));
             });
         }
