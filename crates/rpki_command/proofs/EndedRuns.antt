@@ -1,28 +1,76 @@
 -- How runs end.
-use Rattle.std.specs.Prelude.{Result, Ok, Err, IfOk}
-use Rattle.std.proofs.Common.{ℕ, List}
+use Rattle.std.specs.Prelude.{Result, Ok, Err, IfOk, IsOkAnd}
+use Rattle.std.proofs.Common.{◌≡◌, ℕ, List, inl, inr, refl, subst, sym}
 use Rattle.rpki.specs.RsaSignatures.{IsSignedByRsa}
+use Rattle.rpki.specs.Times.{Moment}
 use Rattle.rpki.specs.Verification.{Context, context}
 use Rattle.rpki_files.specs.Files.{contents}
+use Rattle.rpki_verdicts.specs.GivenLocators.{locator_files}
 use Rattle.rpki_verdicts.specs.PathFiles.{Demands}
+use Rattle.rpki_command.specs.AboutTexts.{about_text}
 use Rattle.rpki_command.specs.CommandLines.{RequestFields, IsCommandLine}
-use Rattle.rpki_command.specs.Outcomes.{IsOutcomeOf, MayEndWith, RunMayEndWith, demands_by}
+use Rattle.rpki_command.specs.Outcomes.{AsksOfFiles, IsOutcomeOf, demands_by, run_status}
+use Rattle.rpki_command.specs.ReadFiles.{Reads}
+use Rattle.rpki_command.specs.Runs.{IsAnswer, IsMomentBy, RunEnds, TaskEnds}
 use Rattle.rpki_command.specs.declared.arguments.Task.{Task}
 use Rattle.rpki_command.specs.declared.arguments.Task.TheVariants.{Show, Validate, Help, Version}
+use Rattle.rpki_command.specs.declared.outcomes.Ended.{Ended}
 use Rattle.rpki_command.specs.declared.outcomes.Outcome.{Outcome}
 use Rattle.rpki_command.specs.declared.outcomes.Outcome.TheVariants.{Success, Rejection, WrongUse, Unread}
 
 -- what files hold never makes a run end as wrong use
-never_wrong : (task : Task) (x : Context) (d : Demands) (files lists : List (List ℕ)) → IsOutcomeOf task x d files lists WrongUse → ⊥
-never_wrong Show x d files lists h = h
-never_wrong Validate x d files lists h = h
-never_wrong Help x d files lists h = cc
-never_wrong Version x d files lists h = cc
+no_misuse : (task : Task) (x : Context) (d : Demands) (files lists : List (List ℕ)) → IsOutcomeOf task x d files lists WrongUse → ⊥
+no_misuse Show x d files lists h = h
+no_misuse Validate x d files lists h = h
+no_misuse Help x d files lists h = cc
+no_misuse Version x d files lists h = cc
 
--- a run that is asked what these words ask
-pub run_ends : {E : Type 0} (words : List (List ℕ)) (r : RequestFields) (ended : Result Outcome E) → IsCommandLine r words → IfOk ended (MayEndWith r) → IfOk ended (RunMayEndWith words)
-run_ends words r (Ok Success) line may = (r, line, may)
-run_ends words r (Ok Rejection) line may = (r, line, may)
-run_ends words r (Ok WrongUse) line may = absurd (never_wrong r.task (context IsSignedByRsa may.now r.strict) (demands_by r may.locators) (contents may.files) (contents may.lists) may.ends.1)
-run_ends words r (Ok Unread) line may = (r, line, may)
-run_ends words r (Err e) line may = tt
+module _ (reads : Reads) (tells : Moment → Type 0) (words : List (List ℕ)) (r : RequestFields) (line : IsCommandLine r words) where
+  -- a text about the command
+  about_ends : (task : Task) → (AsksOfFiles task → ⊥) → TaskEnds task reads tells r Success (about_text task)
+  about_ends Show none = absurd (none (inl refl))
+  about_ends Validate none = absurd (none (inr refl))
+  about_ends Help none = (refl, refl)
+  about_ends Version none = (refl, refl)
+
+  pub run_about : (AsksOfFiles r.task → ⊥) → RunEnds reads tells words Success (about_text r.task)
+  run_about none = (r, line, about_ends r.task none)
+
+  -- the answer of files
+  answer_ends : (task : Task) → AsksOfFiles task → (now : Moment) (outcome : Outcome) (text : List ℕ) → IsMomentBy tells r.at now → IsAnswer reads r now outcome text → TaskEnds task reads tells r outcome text
+  answer_ends Show asks now outcome text moment answer = (now, moment, answer)
+  answer_ends Validate asks now outcome text moment answer = (now, moment, answer)
+  answer_ends Help (inl e) now outcome text moment answer = cc
+  answer_ends Help (inr e) now outcome text moment answer = cc
+  answer_ends Version (inl e) now outcome text moment answer = cc
+  answer_ends Version (inr e) now outcome text moment answer = cc
+
+  module _ (asks : AsksOfFiles r.task) (now : Moment) (moment : IsMomentBy tells r.at now) where
+    -- is no wrong use
+    pub answer_is_use : (text : List ℕ) → IsAnswer reads r now WrongUse text → ⊥
+    answer_is_use text answer = no_misuse r.task (context IsSignedByRsa now r.strict) (demands_by r (locator_files answer.locators)) (contents answer.files) (contents answer.lists) answer.ends.1
+
+    pub run_answer : (outcome : Outcome) (text : List ℕ) → IsAnswer reads r now outcome text → RunEnds reads tells words outcome text
+    run_answer Success text answer = (r, line, answer_ends r.task asks now Success text moment answer)
+    run_answer Rejection text answer = (r, line, answer_ends r.task asks now Rejection text moment answer)
+    run_answer WrongUse text answer = absurd (answer_is_use text answer)
+    run_answer Unread text answer = (r, line, answer_ends r.task asks now Unread text moment answer)
+
+-- ---- what the status tells
+
+as_misuse : {F : Type 0} (Ends : Outcome → Type 0) (settled : Result Outcome F) → IfOk settled Ends → run_status settled ≡ 2 → Ends WrongUse
+as_misuse Ends (Ok Success) ends told = cc
+as_misuse Ends (Ok Rejection) ends told = cc
+as_misuse Ends (Ok WrongUse) ends told = ends
+as_misuse Ends (Ok Unread) ends told = cc
+as_misuse Ends (Err why) ends told = cc
+
+module _ {E F : Type 0} (Ran : Outcome → List ℕ → Type 0) (Wrote : Ended → List ℕ → Type 0) where
+  settled_ends : (ran : Result Ended E) (settled : Result Outcome F) → IfOk ran (λ e. (text : List ℕ) × Ran e.outcome text × Wrote e text) → IfOk settled (λ outcome. IsOkAnd ran (λ e. outcome ≡ e.outcome)) → IfOk settled (λ outcome. (text : List ℕ) × Ran outcome text)
+  settled_ends (Ok e) (Ok outcome) ends same = (ends.0, subst (λ (o : Outcome). Ran o ends.0) (sym same) ends.1)
+  settled_ends (Err why) (Ok outcome) ends same = absurd same
+  settled_ends ran (Err why) ends same = tt
+
+  -- where it is 2
+  pub told_misuse : (ran : Result Ended E) (settled : Result Outcome F) → IfOk ran (λ e. (text : List ℕ) × Ran e.outcome text × Wrote e text) → IfOk settled (λ outcome. IsOkAnd ran (λ e. outcome ≡ e.outcome)) → run_status settled ≡ 2 → (text : List ℕ) × Ran WrongUse text
+  told_misuse ran settled ends same told = as_misuse (λ outcome. (text : List ℕ) × Ran outcome text) settled (settled_ends ran settled ends same) told

@@ -18,3 +18,4 @@ mod StrippedTexts
 mod WholeFiles
 mod WholeValues
 mod WholeVerdicts
+mod WrittenTexts

@@ -1,18 +1,16 @@
 -- What is answered of the files that a request names.
-use Rattle.std.specs.Prelude.{◌≡◌, ◌≢◌, ℕ, All, List, [], IfSome, IsFalse, IsTrue}
+use Rattle.std.specs.Prelude.{◌≡◌, ℕ, List, []}
 use Rattle.rpki.specs.RsaSignatures.{IsSignedByRsa}
 use Rattle.rpki.specs.Times.{Moment}
 use Rattle.rpki.specs.Verification.{context}
 use Rattle.rpki_command.specs.CommandLines.{RequestFields}
 use Rattle.rpki_files.specs.Files.{FileFields}
-use Rattle.rpki_verdicts.specs.GivenLocators.{LocatorFields, IsRead, locator_files}
+use Rattle.rpki_verdicts.specs.GivenLocators.{LocatorFields}
 use Rattle.rpki_verdicts.specs.PathFiles.{QuestionFields}
 use Rattle.rpki_command.specs.JsonAnswers.{IsJsonOfFiles, is_single}
 use Rattle.rpki_command.specs.JsonVerdicts.{IsJsonOfPath}
-use Rattle.rpki_command.specs.Outcomes.{AreReadOf, EndsBy}
 use Rattle.rpki_command.specs.ShownTexts.{IsTextOfFiles}
 use Rattle.rpki_command.specs.VerdictTexts.{IsTextOfPath}
-use Rattle.rpki_command.specs.declared.arguments.Format.TheVariants.{Text}
 use Rattle.rpki_command.specs.declared.arguments.Task.{Task}
 use Rattle.rpki_command.specs.declared.arguments.Task.TheVariants.{Show, Validate}
 use Rattle.rpki_command.specs.declared.outcomes.Outcome.{Outcome}
@@ -49,20 +47,3 @@ IsJsonBy Validate Unread r now files lists locators text = text ≡ []
 IsJsonBy Validate outcome r now files lists locators text =
     IsJsonOfPath r.format (context IsSignedByRsa now r.strict) (question_of r now files lists locators) text
 IsJsonBy _ outcome r now files lists locators text = ⊥
-
--- what is asked may be answered so: at the moment that is named, if one is, by those of its files,
--- lists and locators that could be read; a quiet run prints nothing
-pub record MayAnswer (r : RequestFields) (outcome : Outcome) (text : List ℕ) : Type 0 where
-  pub now : Moment
-  pub files : List FileFields
-  pub lists : List FileFields
-  pub locators : List LocatorFields
-  pub now_is : IfSome r.at (λ at. now ≡ at)
-  pub files_read : AreReadOf r.files files
-  pub lists_read : AreReadOf r.lists lists
-  pub locators_read : AreReadOf r.locators (locator_files locators)
-  pub locators_are : All (IsRead r.strict) locators
-  pub ends : EndsBy r now files lists (locator_files locators) outcome
-  pub quiet_is : IsTrue r.is_quiet → text ≡ []
-  pub text_is : IsFalse r.is_quiet → r.format ≡ Text → IsTextBy r.task outcome r now files lists locators text
-  pub json_is : IsFalse r.is_quiet → r.format ≢ Text → IsJsonBy r.task outcome r now files lists locators text

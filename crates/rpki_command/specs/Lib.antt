@@ -3,6 +3,7 @@ pub mod CommandLines
 pub mod MisuseTexts
 pub mod AboutTexts
 pub mod Outcomes
+pub mod ReadFiles
 pub mod RejectionDetails
 pub mod VerdictTexts
 pub mod NoteLines
@@ -18,3 +19,4 @@ pub mod JsonDetails
 pub mod JsonVerdicts
 pub mod JsonAnswers
 pub mod AnswerTexts
+pub mod Runs

@@ -1,5 +1,5 @@
 -- How a run of the command ends, and its exit status (own). What a file holds are octets, in DER.
-use Rattle.std.specs.Prelude.{◌≡◌, ◌⊎◌, ℕ, Bool, List, [], ◌∷◌, All, Result, Ok, Err, IfSome}
+use Rattle.std.specs.Prelude.{◌≡◌, ◌⊎◌, ℕ, Bool, List, [], All, Result, Ok, Err}
 use Rattle.rpki.specs.RsaSignatures.{IsSignedByRsa}
 use Rattle.rpki.specs.Times.{Moment}
 use Rattle.rpki.specs.Judged.{Judged}
@@ -10,7 +10,7 @@ use Rattle.rpki_command.specs.declared.outcomes.Outcome.{Outcome}
 use Rattle.rpki_command.specs.declared.outcomes.Outcome.TheVariants.{Success, Rejection, WrongUse, Unread}
 use Rattle.rpki_verdicts.specs.declared.path.Verdict.TheVariants.{Accepted, Rejected}
 use Rattle.rpki_verdicts.specs.declared.path.Fault.{Fault}
-use Rattle.rpki_command.specs.CommandLines.{RequestFields, IsCommandLine}
+use Rattle.rpki_command.specs.CommandLines.{RequestFields}
 use Rattle.rpki_files.specs.Contents.{BeginsWithList, CanBeShown}
 use Rattle.rpki_files.specs.Files.{FileFields, file_names, contents}
 use Rattle.rpki_files.specs.LocatorFiles.{AreLocator}
@@ -61,14 +61,7 @@ IsOutcomeOf Show x d files lists outcome = IsOutcomeOfShow x.strict files outcom
 IsOutcomeOf Validate x d files lists outcome = IsOutcomeOfValidate x d files lists outcome
 IsOutcomeOf _ x d files lists outcome = outcome ≡ Success
 
--- ---- a run
-
--- the files are those of these names that could be read, in their order
-abbrev pub AreReadOf : List (List ℕ) → List FileFields → Type 0
-AreReadOf [] files = files ≡ []
-AreReadOf (name ∷ names) files =
-    ((file : FileFields) × (more : List FileFields) × (file.name ≡ name) × AreReadOf names more × (files ≡ file ∷ more))
-    ⊎ AreReadOf names files
+-- ---- what is asked of files
 
 -- of a request, all files, lists and locators could be read
 abbrev pub AreAllRead : RequestFields → List FileFields → List FileFields → List FileFields → Type 0
@@ -87,22 +80,3 @@ EndsBy r now files lists locators outcome =
     AreAllRead r files lists locators
     × IsOutcomeOf r.task (context IsSignedByRsa now r.strict) (demands_by r locators)
     (contents files) (contents lists) outcome
-
--- a run that is asked this may end so: at the moment that is named, if one is, and by those of its
--- files, lists and locators that could be read; which these are and what they hold, no contract can say
-pub record MayEndWith (r : RequestFields) (outcome : Outcome) : Type 0 where
-  pub now : Moment
-  pub files : List FileFields
-  pub lists : List FileFields
-  pub locators : List FileFields
-  pub now_is : IfSome r.at (λ at. now ≡ at)
-  pub files_read : AreReadOf r.files files
-  pub lists_read : AreReadOf r.lists lists
-  pub locators_read : AreReadOf r.locators locators
-  pub ends : EndsBy r now files lists locators outcome
-
--- a run on these words may end so: with wrong use exactly where they are no command line, else as
--- one that is asked what they ask
-abbrev pub RunMayEndWith : List (List ℕ) → Outcome → Type 0
-RunMayEndWith words WrongUse = (r : RequestFields) → IsCommandLine r words → ⊥
-RunMayEndWith words outcome = (r : RequestFields) × IsCommandLine r words × MayEndWith r outcome

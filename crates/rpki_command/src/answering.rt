@@ -1,13 +1,14 @@
 //! What is answered of files.
-ghost use Rattle.std.specs.Prelude.{◌≡◌, ◌≢◌, ◌↔◌, [], All, map, IfOk, IsFalse, IsTrue, string_bytes};
+ghost use Rattle.std.specs.Prelude.{◌≡◌, ◌≢◌, ◌↔◌, [], map, IfOk, IsFalse, IsTrue, string_bytes};
 ghost use Rattle.std.specs.Bool.{MatchBool};
 ghost use Rattle.rpki_command.specs.AnswerTexts.{IsJsonBy, IsTextBy, options_of};
 ghost use Rattle.rpki_command.specs.CommandLines.Views.{fields_of};
 ghost use Rattle.rpki_command.specs.JsonAnswers.{IsJsonOfFiles, is_single};
-ghost use Rattle.rpki_command.specs.Outcomes.{AreAllRead, AreReadOf, AsksOfFiles, EndsBy, IsOutcomeOfShow};
+ghost use Rattle.rpki_command.specs.Outcomes.{AreAllRead, AsksOfFiles, EndsBy, IsOutcomeOfShow};
+ghost use Rattle.rpki_command.specs.ReadFiles.{AreGiven, AreNamed};
 ghost use Rattle.rpki_command.specs.ShownTexts.{IsTextOfFiles};
 ghost use Rattle.rpki_files.specs.Files.{contents, file_names};
-ghost use Rattle.rpki_verdicts.specs.GivenLocators.{IsRead, locator_files};
+ghost use Rattle.rpki_verdicts.specs.GivenLocators.{locator_files};
 
 use crate::arguments::{Format, Request, Task};
 use crate::as_json;
@@ -21,7 +22,7 @@ use std::alloc::{AllocError, Global};
 
 // Whether all files of these names could be read, of which these could be.
 fn are_read(names: &[&[u8]], files: &[Object<'_>]) -> bool
-    requires { AreReadOf (map (λ name. name.now) names.now) files.now }
+    requires { AreNamed (map (λ name. name.now) names.now) files.now }
     ensures { IsTrue result ↔ (file_names files.now ≡ map (λ name. name.now) names.now) }
 {
     files.len() == names.len()
@@ -30,7 +31,7 @@ fn are_read(names: &[&[u8]], files: &[Object<'_>]) -> bool
 // Whether all files of these names could be read, which are given as locators, of which these could
 // be.
 fn are_locators_read(names: &[&[u8]], locators: &[GivenLocator<'_>]) -> bool
-    requires { AreReadOf (map (λ name. name.now) names.now) (locator_files locators.now) }
+    requires { AreNamed (map (λ name. name.now) names.now) (locator_files locators.now) }
     ensures { let named = file_names (locator_files locators.now) in
         IsTrue result ↔ (named ≡ map (λ name. name.now) names.now) }
 {
@@ -44,10 +45,7 @@ fn are_all_read(
     lists: &[Object<'_>],
     locators: &[GivenLocator<'_>],
 ) -> bool
-    requires files_read { let request = fields_of request.now in AreReadOf request.files files.now }
-    requires lists_read { let request = fields_of request.now in AreReadOf request.lists lists.now }
-    requires locators_read { let request = fields_of request.now in
-        AreReadOf request.locators (locator_files locators.now) }
+    requires { AreGiven (fields_of request.now) files.now lists.now locators.now }
     ensures { let its = locator_files locators.now in
         IsTrue result ↔ AreAllRead (fields_of request.now) files.now lists.now its }
 {
@@ -141,11 +139,7 @@ fn whole_answer(
     locators: &[GivenLocator<'_>],
 ) -> Result<Answer, AllocError>
     requires asks { AsksOfFiles request.now.task }
-    requires files_read { let request = fields_of request.now in AreReadOf request.files files.now }
-    requires lists_read { let request = fields_of request.now in AreReadOf request.lists lists.now }
-    requires locators_read { let request = fields_of request.now in
-        AreReadOf request.locators (locator_files locators.now) }
-    requires locators_are { All (IsRead request.now.strict) locators.now }
+    requires given { AreGiven (fields_of request.now) files.now lists.now locators.now }
     ensures ends { let request = fields_of request.now in
         let its = locator_files locators.now in
         IfOk result (λ answer. EndsBy request now files.now lists.now its answer.outcome) }
@@ -190,8 +184,8 @@ fn silenced(alloc: Global, answer: Answer) -> Answer
     }
 }
 
-/// Answers what the request asks at this moment, when these of its files, lists and locators could be
-/// read.
+/// Answers what the request asks at this moment, where these of its files, lists and locators could
+/// be read.
 pub fn answer_request(
     alloc: Global,
     request: &Request<'_>,
@@ -201,11 +195,7 @@ pub fn answer_request(
     locators: &[GivenLocator<'_>],
 ) -> Result<Answer, AllocError>
     requires asks { AsksOfFiles request.now.task }
-    requires files_read { let request = fields_of request.now in AreReadOf request.files files.now }
-    requires lists_read { let request = fields_of request.now in AreReadOf request.lists lists.now }
-    requires locators_read { let request = fields_of request.now in
-        AreReadOf request.locators (locator_files locators.now) }
-    requires locators_are { All (IsRead request.now.strict) locators.now }
+    requires given { AreGiven (fields_of request.now) files.now lists.now locators.now }
     ensures ends { let request = fields_of request.now in
         let its = locator_files locators.now in
         IfOk result (λ answer. EndsBy request now files.now lists.now its answer.outcome) }

@@ -2,6 +2,8 @@
 ghost use Rattle.std.specs.Prelude.{◌≡◌, IsFalse, IsTrue};
 ghost use Rattle.rpki_command.specs.Outcomes.{run_status};
 
+use std::io;
+
 /// How a run ends that doesn't fail.
 #[derive(Clone, Copy, Debug, PartialEq, Eq)]
 pub enum Outcome {
@@ -16,11 +18,18 @@ pub enum Outcome {
     Unread,
 }
 
-/// What is printed, and how the run ends.
+/// What is written, and how the run ends.
 #[derive(Drop)]
 pub struct Answer {
     pub text: String,
     pub outcome: Outcome,
+}
+
+/// How a run ended, and whether all of its text could be written.
+#[derive(Drop)]
+pub struct Ended {
+    pub outcome: Outcome,
+    pub written: io::Result<()>,
 }
 
 impl Outcome {

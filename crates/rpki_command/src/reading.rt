@@ -1,102 +1,42 @@
-//! The octets of files, and what is said of those that can't be read.
-ghost use Rattle.std.specs.Prelude.{◌≡◌, ◌≤◌, [], ◌∷◌, ◌++◌, All, List, length, map, IfOk, IfSome, OnOk};
+//! The files that a request names, and what is said of those that can't be read.
+ghost use Rattle.std.specs.Prelude.{◌≡◌, ◌≢◌, [], ◌∷◌, ◌++◌, All, List, Some, map, IfErr, IfOk, MatchOption, OnOk};
 ghost use Rattle.rpki_files.specs.Files.{FileFields};
-ghost use Rattle.rpki_command.specs.Outcomes.{AreReadOf};
+ghost use Rattle.rpki_command.specs.ReadFiles.{AreFilesRead, AreObjectsRead, IsFileRead, IsObjectRead, IsUnread};
 ghost use Rattle.rpki_verdicts.specs.GivenLocators.{LocatorFields, IsRead, locator_files};
 
 use crate::arguments::is;
+use crate::files::{FileSource, Unread};
 use rpki_files::{Object, read_object};
 use rpki_text::Characters;
 use rpki_verdicts::GivenLocator;
 use std::alloc::{AllocError, Global};
-use std::fs::File;
-use std::io::{ErrorKind, Read};
-use std::{fmt, io};
-
-/// Why a file can't be read.
-#[derive(Drop)]
-enum Unread {
-    /// Its name isn't UTF-8, so it can't be opened here.
-    OtherName,
-    /// It has more than this many octets.
-    TooLong(u64),
-    Failed(io::Error),
-}
-
-impl fmt::Display for Unread {
-    fn fmt<W: fmt::Write>(&self, f: &mut fmt::Formatter<W>) -> fmt::Result {
-        match self {
-            Unread::OtherName => f.write_str("a file whose name isn't UTF-8 can't be opened"),
-            Unread::TooLong(most) => {
-                write!(f, "more than {most} octets (--max-size sets the limit)")
-            }
-            Unread::Failed(error) => write_failure(f, error),
-        }
-    }
-}
-
-fn write_failure<W: fmt::Write>(f: &mut fmt::Formatter<W>, error: &io::Error) -> fmt::Result {
-    let kind = error.kind();
-    if kind == ErrorKind::NotFound {
-        return f.write_str("no such file or directory");
-    }
-    if kind == ErrorKind::IsADirectory {
-        return f.write_str("is a directory");
-    }
-    if kind == ErrorKind::PermissionDenied {
-        return f.write_str("permission denied");
-    }
-    write!(f, "{error}")
-}
-
-// All octets of a source that has no more than so many.
-fn all_octets<R: Read + Drop>(alloc: Global, source: R, most: u64) -> Result<Vec<u8>, Unread>
-    ensures { IfOk result (λ octets. length octets.items ≤ most) }
-{
-    let mut octets = Vec::new(alloc);
-    let mut bounded = source.take(most.saturating_add(1));
-    let read = bounded.read_to_end(&mut octets);
-    drop(bounded);
-    match read {
-        Err(error) => Err(Unread::Failed(error)),
-        Ok(_) => {
-            if octets.len() as u64 > most {
-                return Err(Unread::TooLong(most));
-            }
-            Ok(octets)
-        }
-    }
-}
-
-// The octets of a file, or of standard input for `-`.
-fn octets_of(rt: &HostRuntime, name: &str, most: u64) -> Result<Vec<u8>, Unread>
-    ensures { IfOk result (λ octets. length octets.items ≤ most) }
-{
-    if name == "-" {
-        return all_octets(rt.alloc(), rt.stdin(), most);
-    }
-    match File::open(rt, name) {
-        Ok(file) => all_octets(rt.alloc(), file, most),
-        Err(error) => Err(Unread::Failed(error)),
-    }
-}
+use std::io::Write;
 
 // Says why a file can't be read. Where this can't be told, the exit status still tells it.
-fn tell(rt: &impl Eprint, name: &[u8], why: &Unread) {
+fn tell<E: Write>(err: &mut E, name: &[u8], why: &Unread) {
     if is(name, "-") {
-        let _told = eprintln!(rt; "rpki: standard input: {why}");
+        let _told = writeln!(err, "rpki: standard input: {why}");
         return;
     }
     let name = Characters(name);
-    let _told = eprintln!(rt; "rpki: {name}: {why}");
+    let _told = writeln!(err, "rpki: {name}: {why}");
 }
 
 // What the file of this name holds, or why it can't be read.
-fn octets_by<'a>(rt: &HostRuntime, name: &'a [u8], most: u64) -> Result<(&'a str, Vec<u8>), Unread>
-    ensures { IfOk result (λ read. read.0.now ≡ name.now) }
+fn octets_by<'a, F: FileSource>(
+    alloc: Global,
+    files: &F,
+    name: &'a [u8],
+    most: u64,
+) -> Result<(&'a str, Vec<u8>), Unread>
+    ensures name { IfOk result (λ read. read.0.now ≡ name.now) }
+    ensures octets { IfOk result (λ read.
+        F.reads files.now name.now most (Some read.1.items)) }
+    ensures unread { IfErr result (λ why.
+        why ≢ Unread.Memory → IsUnread (F.reads files.now) most name.now) }
 {
     match str::from_utf8(name) {
-        Ok(text) => match octets_of(rt, text, most) {
+        Ok(text) => match files.read_file(alloc, text, most) {
             Ok(octets) => Ok((text, octets)),
             Err(why) => Err(why),
         },
@@ -105,20 +45,24 @@ fn octets_by<'a>(rt: &HostRuntime, name: &'a [u8], most: u64) -> Result<(&'a str
 }
 
 // The object of a file; where it can't be read, that is said, and there is none.
-fn read_file<'a>(
-    rt: &HostRuntime,
+fn read_named<'a, F: FileSource, E: Write>(
+    alloc: Global,
+    files: &F,
+    err: &mut E,
     name: &'a [u8],
     most: u64,
 ) -> Result<Option<Object<'a>>, AllocError>
-    ensures { IfOk result (λ read. IfSome read (λ object. object.name ≡ name.now)) }
+    ensures { let reads = F.reads files.now in IfOk result (λ read.
+        MatchOption read (IsUnread reads most name.now) (IsObjectRead reads most name.now)) }
 {
-    match octets_by(rt, name, most) {
-        Ok((text, octets)) => match read_object(rt.alloc(), text, octets) {
+    match octets_by(alloc, files, name, most) {
+        Ok((text, octets)) => match read_object(alloc, text, octets) {
             Ok(object) => Ok(Some(object)),
             Err(error) => Err(error),
         },
+        Err(Unread::Memory) => Err(AllocError),
         Err(why) => {
-            tell(rt, name, &why);
+            tell(err, name, &why);
             drop(why);
             Ok(None)
         }
@@ -126,16 +70,19 @@ fn read_file<'a>(
 }
 
 // Reads a file and pushes its object, if it can be read.
-fn push_file<'a>(
-    rt: &HostRuntime,
+fn push_file<'a, F: FileSource, E: Write>(
+    alloc: Global,
+    files: &F,
+    err: &mut E,
     all: &mut Vec<Object<'a>>,
     name: &'a [u8],
     most: u64,
 ) -> Result<(), AllocError>
-    ensures { OnOk result ((its : List FileFields) × AreReadOf (name.now ∷ []) its
+    ensures { OnOk result ((its : List FileFields)
+        × AreObjectsRead (F.reads files.now) most (name.now ∷ []) its
         × (all.new.items ≡ all.old.items ++ its)) }
 {
-    match read_file(rt, name, most) {
+    match read_named(alloc, files, err, name, most) {
         Ok(Some(object)) => {
             all.push(object)?;
             Ok(())
@@ -145,24 +92,28 @@ fn push_file<'a>(
     }
 }
 
-// The locator that a file is given as, or what is wrong of it; where it can't be read, that is said,
-// and there is none.
-fn read_locator<'a>(
-    rt: &HostRuntime,
+// The locator that a file is given as, or what is wrong of it; where it can't be read, that is
+// said, and there is none.
+fn read_locator<'a, F: FileSource, E: Write>(
+    alloc: Global,
+    files: &F,
+    err: &mut E,
     name: &'a [u8],
     most: u64,
     strict: bool,
 ) -> Result<Option<GivenLocator<'a>>, AllocError>
-    ensures name { IfOk result (λ read. IfSome read (λ l. l.file.name ≡ name.now)) }
-    ensures read { IfOk result (λ read. IfSome read (IsRead strict)) }
+    ensures { let reads = F.reads files.now in IfOk result (λ read.
+        MatchOption read (IsUnread reads most name.now)
+        (λ l. IsFileRead reads most name.now l.file × IsRead strict l)) }
 {
-    match octets_by(rt, name, most) {
-        Ok((text, octets)) => match GivenLocator::read(rt.alloc(), text, octets, strict) {
+    match octets_by(alloc, files, name, most) {
+        Ok((text, octets)) => match GivenLocator::read(alloc, text, octets, strict) {
             Ok(locator) => Ok(Some(locator)),
             Err(error) => Err(error),
         },
+        Err(Unread::Memory) => Err(AllocError),
         Err(why) => {
-            tell(rt, name, &why);
+            tell(err, name, &why);
             drop(why);
             Ok(None)
         }
@@ -170,18 +121,20 @@ fn read_locator<'a>(
 }
 
 // Reads a file and pushes the locator that it is given as, if it can be read.
-fn push_locator<'a>(
-    rt: &HostRuntime,
+fn push_locator<'a, F: FileSource, E: Write>(
+    alloc: Global,
+    files: &F,
+    err: &mut E,
     all: &mut Vec<GivenLocator<'a>>,
     name: &'a [u8],
     most: u64,
     strict: bool,
 ) -> Result<(), AllocError>
     ensures { OnOk result ((its : List LocatorFields)
-        × AreReadOf (name.now ∷ []) (locator_files its) × All (IsRead strict) its
-        × (all.new.items ≡ all.old.items ++ its)) }
+        × AreFilesRead (F.reads files.now) most (name.now ∷ []) (locator_files its)
+        × All (IsRead strict) its × (all.new.items ≡ all.old.items ++ its)) }
 {
-    match read_locator(rt, name, most, strict) {
+    match read_locator(alloc, files, err, name, most, strict) {
         Ok(Some(locator)) => {
             all.push(locator)?;
             Ok(())
@@ -191,37 +144,42 @@ fn push_locator<'a>(
     }
 }
 
-/// Reads the files of these names as locators, each of so many octets at most, and says of each that
-/// can't be read why. Errs only where memory runs out.
-pub fn read_locators<'a>(
-    rt: &HostRuntime,
+/// Reads the files of these names as locators, each of so many octets at most, and says of each
+/// that can't be read why. Errs only where memory runs out.
+pub fn read_locators<'a, F: FileSource, E: Write>(
+    alloc: Global,
+    files: &F,
+    err: &mut E,
     names: &[&'a [u8]],
     most: u64,
     strict: bool,
 ) -> Result<Vec<GivenLocator<'a>>, AllocError>
-    ensures named { IfOk result (λ all.
-        AreReadOf (map (λ name. name.now) names.now) (locator_files all.items)) }
+    ensures files { let reads = F.reads files.now in IfOk result (λ all.
+        AreFilesRead reads most (map (λ name. name.now) names.now) (locator_files all.items)) }
     ensures read { IfOk result (λ all. All (IsRead strict) all.items) }
 {
-    let mut all = Vec::new(rt.alloc());
+    let mut all = Vec::new(alloc);
     for name in names {
-        push_locator(rt, &mut all, *name, most, strict)?;
+        push_locator(alloc, files, err, &mut all, *name, most, strict)?;
     }
     Ok(all)
 }
 
 /// Reads the files of these names, each of so many octets at most, and says of each that can't be
 /// read why. Errs only where memory runs out.
-pub fn read_files<'a>(
-    rt: &HostRuntime,
+pub fn read_files<'a, F: FileSource, E: Write>(
+    alloc: Global,
+    files: &F,
+    err: &mut E,
     names: &[&'a [u8]],
     most: u64,
 ) -> Result<Vec<Object<'a>>, AllocError>
-    ensures { IfOk result (λ all. AreReadOf (map (λ name. name.now) names.now) all.items) }
+    ensures { let reads = F.reads files.now in IfOk result (λ all.
+        AreObjectsRead reads most (map (λ name. name.now) names.now) all.items) }
 {
-    let mut all = Vec::new(rt.alloc());
+    let mut all = Vec::new(alloc);
     for name in names {
-        push_file(rt, &mut all, *name, most)?;
+        push_file(alloc, files, err, &mut all, *name, most)?;
     }
     Ok(all)
 }

@@ -1,13 +1,15 @@
 use Rattle.std.proofs.Common.{◌+◌, List, ℕ, Bor, map, take, sym, subst}
 use Rattle.rpki_files.specs.Files.{FileFields}
-use Rattle.rpki_command.specs.Outcomes.{AreReadOf}
+use Rattle.rpki_command.specs.ReadFiles.{AreObjectsRead, IsObjectRead, IsUnread}
 use Rattle.rpki_command.proofs.ReadFiles.{more_read}
 use Rattle.rpki_command.proofs.reading.read_files.Goals as goal
 
 pub loop-name-preserved : goal.loop-name-preserved
-loop-name-preserved c =
+loop-name-preserved g c =
+    let reads = g.F.FileSource.reads c.args.files.now in
+    let most = c.args.most in
     let names = c.args.names.now in
     let i = c.loop-name.name-index in
     let its = c.in_ok-push_file.ensures in
-    subst (λ (l : List FileFields). AreReadOf (map (λ name. name.now) (take (i + 1) names)) l) (sym its.2)
-    (more_read (λ (name : Bor (List ℕ)). name.now) names i _ c.loop-name-test.true c.loop-name.all.items its.0 c.loop-name.invariant its.1)
+    subst (λ (l : List FileFields). AreObjectsRead reads most (map (λ name. name.now) (take (i + 1) names)) l) (sym its.2)
+    (more_read (IsObjectRead reads most) (IsUnread reads most) (λ (name : Bor (List ℕ)). name.now) names i _ c.loop-name-test.true c.loop-name.all.items its.0 c.loop-name.invariant its.1)

@@ -1,5 +1,5 @@
 use Rattle.std.proofs.Common.{refl}
-use Rattle.rpki_command.proofs.about.Goals as goal
+use Rattle.rpki_command.proofs.about.text_about.Goals as goal
 
 pub returns-in-Help-clause-text : goal.returns-in-Help-clause-text
 returns-in-Help-clause-text c = rw c.in-Help.is refl

@@ -1,0 +1,67 @@
+-- How a run of the command ends, and what it writes, by what reading files gives and by what a clock
+-- tells (own).
+use Rattle.std.specs.Prelude.{◌≡◌, ◌≢◌, ℕ, List, [], ◌++◌, codes, Option, Some, None, IsFalse, IsTrue}
+use Rattle.std.specs.Io.KnownBytes.{Appends}
+use Rattle.rpki.specs.Times.{Moment}
+use Rattle.rpki_files.specs.Files.{FileFields}
+use Rattle.rpki_verdicts.specs.GivenLocators.{LocatorFields, locator_files}
+use Rattle.rpki_command.specs.AboutTexts.{usage_text, version_text}
+use Rattle.rpki_command.specs.AnswerTexts.{IsTextBy, IsJsonBy}
+use Rattle.rpki_command.specs.CommandLines.{RequestFields, IsCommandLine}
+use Rattle.rpki_command.specs.MisuseTexts.{misuse_text}
+use Rattle.rpki_command.specs.Outcomes.{EndsBy}
+use Rattle.rpki_command.specs.ReadFiles.{Reads, AreRead}
+use Rattle.rpki_command.specs.declared.arguments.Format.TheVariants.{Text}
+use Rattle.rpki_command.specs.declared.arguments.Misuse.{Misuse}
+use Rattle.rpki_command.specs.declared.arguments.Task.{Task}
+use Rattle.rpki_command.specs.declared.arguments.Task.TheVariants.{Show, Validate, Help, Version}
+use Rattle.rpki_command.specs.declared.outcomes.Outcome.{Outcome}
+use Rattle.rpki_command.specs.declared.outcomes.Outcome.TheVariants.{Success, WrongUse}
+
+-- ---- what is asked of files
+
+-- the answer to a request at a moment, where reading files gives this: it is that of those of its
+-- files, lists and locators that can be read; and a quiet run has no text
+pub record IsAnswer (reads : Reads) (r : RequestFields) (now : Moment) (outcome : Outcome) (text : List ℕ) : Type 0 where
+  pub files : List FileFields
+  pub lists : List FileFields
+  pub locators : List LocatorFields
+  pub are_read : AreRead reads r files lists locators
+  pub ends : EndsBy r now files lists (locator_files locators) outcome
+  pub quiet_is : IsTrue r.is_quiet → text ≡ []
+  pub text_is : IsFalse r.is_quiet → r.format ≡ Text → IsTextBy r.task outcome r now files lists locators text
+  pub json_is : IsFalse r.is_quiet → r.format ≢ Text → IsJsonBy r.task outcome r now files lists locators text
+
+-- the moment that is named, or else one that the clock tells
+abbrev pub IsMomentBy : (Moment → Type 0) → Option Moment → Moment → Type 0
+IsMomentBy tells None now = tells now
+IsMomentBy tells (Some named) now = now ≡ named
+
+-- ---- a run
+
+-- what is asked ends so, with this text: a text about the command, or the answer of files
+abbrev pub TaskEnds : Task → Reads → (Moment → Type 0) → RequestFields → Outcome → List ℕ → Type 0
+TaskEnds Help reads tells r outcome text = (outcome ≡ Success) × (text ≡ usage_text)
+TaskEnds Version reads tells r outcome text = (outcome ≡ Success) × (text ≡ version_text)
+TaskEnds _ reads tells r outcome text = (now : Moment) × IsMomentBy tells r.at now × IsAnswer reads r now outcome text
+
+-- a run on these words ends so, with this text: with wrong use and none exactly where they are no
+-- command line, else as what they ask does
+abbrev pub RunEnds : Reads → (Moment → Type 0) → List (List ℕ) → Outcome → List ℕ → Type 0
+RunEnds reads tells words WrongUse text = ((r : RequestFields) → IsCommandLine r words → ⊥) × (text ≡ [])
+RunEnds reads tells words outcome text =
+    (r : RequestFields) × IsCommandLine r words × TaskEnds r.task reads tells r outcome text
+
+-- it ends so, with some text
+abbrev pub RunEndsAs : Reads → (Moment → Type 0) → List (List ℕ) → Outcome → Type 0
+RunEndsAs reads tells words outcome = (text : List ℕ) × RunEnds reads tells words outcome text
+
+-- ---- words that are no command line
+
+-- what is said: what is wrong, in a line, and then how the command is used
+abbrev pub misuse_message : Misuse → List ℕ
+misuse_message misuse = (codes "rpki: " ++ misuse_text misuse ++ codes "\n") ++ usage_text
+
+-- what was written since is what is said of one thing that is wrong
+abbrev pub SaysMisuse : Option (List ℕ) → Option (List ℕ) → Type 0
+SaysMisuse before after = (misuse : Misuse) × Appends before after (misuse_message misuse)

@@ -1,0 +1,40 @@
+//! The texts about the command.
+ghost use Rattle.std.specs.Prelude.{◌≡◌, IfSome, MatchOption};
+ghost use Rattle.rpki_command.specs.AboutTexts.{about_text, usage_text};
+ghost use Rattle.rpki_command.specs.Outcomes.{AsksOfFiles};
+
+use crate::arguments::Task;
+
+const USAGE: &str = "usage: rpki show [--all] [OPTION].. FILE..
+       rpki validate [--tal FILE].. [--crl FILE].. [--no-names] [OPTION].. ANCHOR [CA].. [LAST]
+       rpki help | --version
+OPTION: -o|--output FORMAT, -j|--json (-o json), -q|--quiet (the status alone), --at MOMENT,
+--lenient, or --max-size OCTETS (of a file; 67108864 if it is left out)
+FORMAT: text, json, or jsonl (a value on each line)
+FILE: a certificate or a revocation list, in DER or PEM; of show and --tal also a trust anchor's
+locator; - for standard input
+LAST: a CA, an end entity or a router
+MOMENT: YYYY-MM-DD, YYYY-MM-DDThh:mm:ssZ or YYYYMMDDhhmmss; the clock's, if it is left out
+Behind -- each word is a file.
+";
+
+const VERSION: &str = "rpki (Gonxebhula) 0.1\n";
+
+/// Returns the text that says how the command is used.
+pub fn usage() -> &'static str
+    ensures { result.now ≡ usage_text }
+{
+    USAGE
+}
+
+/// Returns the text about the command, where that is asked for and nothing of files.
+pub fn text_about(task: Task) -> Option<&'static str>
+    ensures files { MatchOption result (AsksOfFiles task) (λ _. AsksOfFiles task → ⊥) }
+    ensures text { IfSome result (λ text. text.now ≡ about_text task) }
+{
+    match task {
+        Task::Help => Some(USAGE),
+        Task::Version => Some(VERSION),
+        Task::Show | Task::Validate => None,
+    }
+}

@@ -1,0 +1,115 @@
+//! A run of the command: from its words, over files and a clock, to what it writes.
+ghost use Rattle.std.specs.Prelude.{◌≡◌, ◌≢◌, List, ℕ, IfOk, OnErr, OnOk, string_bytes};
+ghost use Rattle.std.specs.Io.KnownBytes.{Appends};
+ghost use Rattle.rpki_command.specs.CommandLines.Views.{fields_of, word_octets};
+ghost use Rattle.rpki_command.specs.Outcomes.{AsksOfFiles};
+ghost use Rattle.rpki_command.specs.Runs.{IsAnswer, RunEnds, SaysMisuse, misuse_message};
+
+use crate::about::{text_about, usage};
+use crate::answering::answer_request;
+use crate::arguments::{Misuse, Request, read_words};
+use crate::clock::{MomentSource, moment};
+use crate::files::FileSource;
+use crate::outcomes::{Answer, Ended, Outcome};
+use crate::reading::{read_files, read_locators};
+use anyhow::{Result, anyhow};
+use rpki::repository::x509::Time;
+use std::alloc::{AllocError, Global};
+use std::io;
+use std::io::Write;
+
+// Says what is wrong of the command line, unless memory ran out.
+fn say<E: Write>(err: &mut E, misuse: &Misuse<'_>) -> Result<()>
+    ensures memory { OnOk result (misuse.now ≢ Misuse.Memory) }
+    ensures said { OnOk result
+        (Appends (E.contents err.old) (E.contents err.new) (misuse_message misuse.now)) }
+{
+    if let Misuse::Memory = misuse {
+        return Err(anyhow!("out of memory"));
+    }
+    writeln!(err, "rpki: {misuse}")?;
+    err.write_all(usage().as_bytes())?;
+    Ok(())
+}
+
+// What is answered of the files that the request names.
+fn answered<F: FileSource, E: Write>(
+    alloc: Global,
+    files: &F,
+    err: &mut E,
+    request: &Request<'_>,
+    now: Time,
+) -> Result<Answer, AllocError>
+    requires { AsksOfFiles request.now.task }
+    ensures { let request = fields_of request.now in IfOk result (λ answer.
+        IsAnswer (F.reads files.now) request now answer.outcome (string_bytes answer.text)) }
+{
+    let most = request.max_size;
+    let members = read_files(alloc, files, err, &request.files, most)?;
+    let lists = read_files(alloc, files, err, &request.lists, most)?;
+    let locators = read_locators(alloc, files, err, &request.locators, most, request.strict)?;
+    answer_request(alloc, request, now, &members, &lists, &locators)
+}
+
+/// Answers at this moment what a request asks of files, as reading them gives them, and writes the
+/// answer; of each that can't be read it says why. Errs where memory runs out, and has written
+/// nothing.
+pub fn answer<F: FileSource, O: Write, E: Write>(
+    alloc: Global,
+    files: &F,
+    out: &mut O,
+    err: &mut E,
+    request: &Request<'_>,
+    now: Time,
+) -> Result<Ended, AllocError>
+    requires { AsksOfFiles request.now.task }
+    ensures answer { let request = fields_of request.now in
+        IfOk result (λ ended. (text : List ℕ)
+        × IsAnswer (F.reads files.now) request now ended.outcome text
+        × OnOk ended.written (Appends (O.contents out.old) (O.contents out.new) text)) }
+    ensures unwritten { OnErr result (out.new ≡ out.old) }
+{
+    let Answer { text, outcome } = answered(alloc, files, err, request, now)?;
+    let written = out.write_all(text.as_bytes());
+    drop(text);
+    Ok(Ended { outcome, written })
+}
+
+/// Answers the words of a command line: writes what they ask, of files as reading them gives them,
+/// at the moment that they name, or else at the one that the clock tells; or says what is wrong of
+/// them. Errs where memory runs out, or where the clock or what says it fails, and has written
+/// nothing.
+pub fn run<S: FileSource + MomentSource, O: Write, E: Write>(
+    alloc: Global,
+    system: &S,
+    out: &mut O,
+    err: &mut E,
+    words: &[Vec<u8>],
+) -> Result<Ended>
+    ensures ended { let words = word_octets words.now in IfOk result (λ ended. (text : List ℕ)
+        × RunEnds (S.reads system.now) (S.tells system.now) words ended.outcome text
+        × OnOk ended.written (Appends (O.contents out.old) (O.contents out.new) text)) }
+    ensures said { IfOk result (λ ended. ended.outcome ≡ Outcome.WrongUse
+        → SaysMisuse (E.contents err.old) (E.contents err.new)) }
+    ensures unwritten { OnErr result (out.new ≡ out.old) }
+{
+    let request = match read_words(alloc, words) {
+        Ok(request) => request,
+        Err(misuse) => {
+            say(err, &misuse)?;
+            return Ok(Ended {
+                outcome: Outcome::WrongUse,
+                written: Ok(()),
+            });
+        }
+    };
+    if let Some(text) = text_about(request.task) {
+        let written = out.write_all(text.as_bytes());
+        return Ok(Ended {
+            outcome: Outcome::Success,
+            written,
+        });
+    }
+    let now = moment(system, request.at)?;
+    Ok(answer(alloc, system, out, err, &request, now)?)
+}
