@@ -16,6 +16,7 @@ mod ShownValues
 mod SingleOutcomes
 mod StrippedTexts
 mod WholeFiles
+mod WholeSources
 mod WholeValues
 mod WholeVerdicts
 mod WrittenTexts
