@@ -8,12 +8,12 @@ use Rattle.rpki_files.specs.Files.{contents}
 use Rattle.rpki_verdicts.specs.GivenLocators.{locator_files}
 use Rattle.rpki_verdicts.specs.PathFiles.{Demands}
 use Rattle.rpki_command.specs.AboutTexts.{about_text}
-use Rattle.rpki_command.specs.CommandLines.{RequestFields, IsCommandLine}
+use Rattle.rpki_arguments.specs.CommandLines.{RequestFields, IsCommandLine}
 use Rattle.rpki_command.specs.Outcomes.{AsksOfFiles, IsOutcomeOf, demands_by, run_status}
 use Rattle.rpki_command.specs.ReadFiles.{Reads}
 use Rattle.rpki_command.specs.Runs.{IsAnswer, IsMomentBy, RunEnds, TaskEnds}
-use Rattle.rpki_command.specs.declared.arguments.Task.{Task}
-use Rattle.rpki_command.specs.declared.arguments.Task.TheVariants.{Show, Validate, Help, Version}
+use Rattle.rpki_arguments.specs.declared.arguments.Task.{Task}
+use Rattle.rpki_arguments.specs.declared.arguments.Task.TheVariants.{Show, Validate, Help, Version}
 use Rattle.rpki_command.specs.declared.outcomes.Ended.{Ended}
 use Rattle.rpki_command.specs.declared.outcomes.Outcome.{Outcome}
 use Rattle.rpki_command.specs.declared.outcomes.Outcome.TheVariants.{Success, Rejection, WrongUse, Unread}

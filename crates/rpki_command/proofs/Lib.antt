@@ -1,11 +1,7 @@
 -- Lemmas of the command's proofs.
-mod AddedParts
 mod AppendedTexts
-mod AroundDashes
-mod CommandParts
 mod EndedRuns
 mod FlaggedItems
-mod OneRequest
 mod PartsOfEach
 mod PushedItems
 mod PushedValues
@@ -14,7 +10,6 @@ mod ReadFiles
 mod ShownFiles
 mod ShownValues
 mod SingleOutcomes
-mod StrippedTexts
 mod WholeFiles
 mod WholeSources
 mod WholeValues

@@ -4,7 +4,7 @@ use Rattle.std.proofs.Common.{◌≡◌, ◌+◌, ◌<◌, ◌≤◌, ◌∷◌,
 use Rattle.std.proofs.lemmas.List.{length-map, map_more}
 use Rattle.rpki_files.specs.Files.{FileFields, file_names}
 use Rattle.rpki_verdicts.specs.GivenLocators.{LocatorFields, locator_files}
-use Rattle.rpki_command.specs.CommandLines.{RequestFields}
+use Rattle.rpki_arguments.specs.CommandLines.{RequestFields}
 use Rattle.rpki_command.specs.ReadFiles.{Reads, IsFileRead, IsObjectRead, IsUnread, AreReadOf, AreFilesRead, AreObjectsRead, AreNamed, AreRead, AreGiven}
 
 module _ (Is : List ℕ → FileFields → Type 0) (Cannot : List ℕ → Type 0) where

@@ -3,7 +3,7 @@ use Rattle.std.specs.Prelude.{◌≡◌, ℕ, List, []}
 use Rattle.rpki.specs.RsaSignatures.{IsSignedByRsa}
 use Rattle.rpki.specs.Times.{Moment}
 use Rattle.rpki.specs.Verification.{context}
-use Rattle.rpki_command.specs.CommandLines.{RequestFields}
+use Rattle.rpki_arguments.specs.CommandLines.{RequestFields}
 use Rattle.rpki_files.specs.Files.{FileFields}
 use Rattle.rpki_verdicts.specs.GivenLocators.{LocatorFields}
 use Rattle.rpki_verdicts.specs.PathFiles.{QuestionFields}
@@ -11,8 +11,8 @@ use Rattle.rpki_command.specs.JsonAnswers.{IsJsonOfFiles, is_single}
 use Rattle.rpki_command.specs.JsonVerdicts.{IsJsonOfPath}
 use Rattle.rpki_command.specs.ShownTexts.{IsTextOfFiles}
 use Rattle.rpki_command.specs.VerdictTexts.{IsTextOfPath}
-use Rattle.rpki_command.specs.declared.arguments.Task.{Task}
-use Rattle.rpki_command.specs.declared.arguments.Task.TheVariants.{Show, Validate}
+use Rattle.rpki_arguments.specs.declared.arguments.Task.{Task}
+use Rattle.rpki_arguments.specs.declared.arguments.Task.TheVariants.{Show, Validate}
 use Rattle.rpki_command.specs.declared.outcomes.Outcome.{Outcome}
 use Rattle.rpki_command.specs.declared.outcomes.Outcome.TheVariants.{Unread}
 use Rattle.rpki_command.specs.declared.showing.Options.{Options}

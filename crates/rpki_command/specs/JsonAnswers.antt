@@ -17,7 +17,7 @@ use Rattle.rpki_command.specs.JsonFiles.{IsCertificateJson, IsLocatorJson, list_
 use Rattle.rpki_command.specs.JsonTexts.{values_text}
 use Rattle.rpki_command.specs.ShownTexts.{IsRejection, SaysOfFile, SaysOfOther}
 use Rattle.rpki_command.specs.VerdictTexts.{SaysOfEach}
-use Rattle.rpki_command.specs.declared.arguments.Format.{Format}
+use Rattle.rpki_arguments.specs.declared.arguments.Format.{Format}
 use Rattle.rpki_command.specs.declared.as_json.Shown.{Shown}
 use Rattle.rpki_files.specs.declared.places.Place.{Place}
 use Rattle.rpki_files.specs.declared.rules.Rule.{Rule}

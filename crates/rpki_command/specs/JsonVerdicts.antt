@@ -27,7 +27,7 @@ use Rattle.rpki_text.specs.declared.keys.KeyAnswer.{KeyAnswer}
 use Rattle.rpki_command.specs.JsonValues.{Entries, Pair, Puts, Pushes, flattened, count_json, array_of, member_of, moment_json, text_member, text_member_if_any, object_of, rule_members}
 use Rattle.rpki_command.specs.RejectionDetails.{AreDetails}
 use Rattle.rpki_command.specs.VerdictTexts.{IsFinding, Leaves, SaysOfEach, file_name_at}
-use Rattle.rpki_command.specs.declared.arguments.Format.{Format}
+use Rattle.rpki_arguments.specs.declared.arguments.Format.{Format}
 use Rattle.rpki_command.specs.declared.details.Details.{Details}
 use Rattle.rpki_command.specs.declared.verdicts.Finding.{Finding}
 use Rattle.rpki_command.specs.declared.verdicts.Finding.TheVariants.{NotALocator, NotAList, Decided}

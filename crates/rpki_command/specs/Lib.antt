@@ -1,6 +1,4 @@
 -- The definitions that the contracts of the command cite.
-pub mod CommandLines
-pub mod MisuseTexts
 pub mod AboutTexts
 pub mod Outcomes
 pub mod ReadFiles

@@ -4,7 +4,7 @@ use Rattle.std.specs.Str.{IsUtf8}
 use Rattle.rpki_files.specs.Files.{FileFields}
 use Rattle.rpki_files.specs.PemFiles.{IsObjectOf}
 use Rattle.rpki_verdicts.specs.GivenLocators.{LocatorFields, IsRead, locator_files}
-use Rattle.rpki_command.specs.CommandLines.{RequestFields}
+use Rattle.rpki_arguments.specs.CommandLines.{RequestFields}
 
 -- ---- a file
 

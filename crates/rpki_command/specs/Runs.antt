@@ -7,14 +7,14 @@ use Rattle.rpki_files.specs.Files.{FileFields}
 use Rattle.rpki_verdicts.specs.GivenLocators.{LocatorFields, locator_files}
 use Rattle.rpki_command.specs.AboutTexts.{usage_text, version_text}
 use Rattle.rpki_command.specs.AnswerTexts.{IsTextBy, IsJsonBy}
-use Rattle.rpki_command.specs.CommandLines.{RequestFields, IsCommandLine}
-use Rattle.rpki_command.specs.MisuseTexts.{misuse_text}
+use Rattle.rpki_arguments.specs.CommandLines.{RequestFields, IsCommandLine}
+use Rattle.rpki_arguments.specs.MisuseTexts.{misuse_text}
 use Rattle.rpki_command.specs.Outcomes.{EndsBy}
 use Rattle.rpki_command.specs.ReadFiles.{Reads, AreRead}
-use Rattle.rpki_command.specs.declared.arguments.Format.TheVariants.{Text}
-use Rattle.rpki_command.specs.declared.arguments.Misuse.{Misuse}
-use Rattle.rpki_command.specs.declared.arguments.Task.{Task}
-use Rattle.rpki_command.specs.declared.arguments.Task.TheVariants.{Show, Validate, Help, Version}
+use Rattle.rpki_arguments.specs.declared.arguments.Format.TheVariants.{Text}
+use Rattle.rpki_arguments.specs.declared.arguments.Misuse.{Misuse}
+use Rattle.rpki_arguments.specs.declared.arguments.Task.{Task}
+use Rattle.rpki_arguments.specs.declared.arguments.Task.TheVariants.{Show, Validate, Help, Version}
 use Rattle.rpki_command.specs.declared.outcomes.Outcome.{Outcome}
 use Rattle.rpki_command.specs.declared.outcomes.Outcome.TheVariants.{Success, WrongUse}
 

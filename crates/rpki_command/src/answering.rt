@@ -2,7 +2,7 @@
 ghost use Rattle.std.specs.Prelude.{◌≡◌, ◌≢◌, ◌↔◌, [], map, IfOk, IsFalse, IsTrue, string_bytes};
 ghost use Rattle.std.specs.Bool.{MatchBool};
 ghost use Rattle.rpki_command.specs.AnswerTexts.{IsJsonBy, IsTextBy, options_of};
-ghost use Rattle.rpki_command.specs.CommandLines.Views.{fields_of};
+ghost use Rattle.rpki_arguments.specs.CommandLines.Views.{fields_of};
 ghost use Rattle.rpki_command.specs.JsonAnswers.{IsJsonOfFiles, is_single};
 ghost use Rattle.rpki_command.specs.Outcomes.{AreAllRead, AsksOfFiles, EndsBy, IsOutcomeOfShow};
 ghost use Rattle.rpki_command.specs.ReadFiles.{AreGiven, AreNamed};
@@ -10,12 +10,12 @@ ghost use Rattle.rpki_command.specs.ShownTexts.{IsTextOfFiles};
 ghost use Rattle.rpki_files.specs.Files.{contents, file_names};
 ghost use Rattle.rpki_verdicts.specs.GivenLocators.{locator_files};
 
-use crate::arguments::{Format, Request, Task};
 use crate::as_json;
 use crate::outcomes::{Answer, Outcome};
 use crate::showing::{Options, shown};
 use crate::verdicts::validated;
 use rpki::repository::x509::Time;
+use rpki_arguments::{Format, Request, Task};
 use rpki_files::Object;
 use rpki_verdicts::{GivenLocator, Question};
 use std::alloc::{AllocError, Global};

@@ -5,12 +5,11 @@
 ghost use Rattle.std.specs.Prelude.{◌≡◌, ◌≢◌, ◌↔◌, ◌⊎◌, ◌≤◌, IfOk, IsErr, IsErrAnd, IsOkAnd};
 ghost use Rattle.std.specs.IoError.{error_kind};
 ghost use Rattle.std.specs.Process.{exit_status};
-ghost use Rattle.rpki_command.specs.CommandLines.Views.{word_octets};
+ghost use Rattle.rpki_arguments.specs.CommandLines.Views.{word_octets};
 ghost use Rattle.rpki_command.specs.Runs.{RunEndsAs};
 
 mod about;
 mod answering;
-mod arguments;
 mod as_json;
 mod clock;
 mod details;

@@ -5,7 +5,7 @@ ghost use Rattle.rpki.specs.Times.{Moment};
 ghost use Rattle.rpki.specs.Verification.{context};
 ghost use Rattle.rpki_verdicts.specs.PathFiles.{Demands};
 ghost use Rattle.rpki_command.specs.Outcomes.{IsOutcomeOf};
-ghost use Rattle.rpki_command.specs.declared.arguments.Task.{Task};
+ghost use Rattle.rpki_arguments.specs.declared.arguments.Task.{Task};
 ghost use Rattle.rpki_command.specs.declared.outcomes.Outcome.{Outcome};
 
 use rpki_verdicts::one_answer;

@@ -4,7 +4,6 @@ ghost use Rattle.rpki_files.specs.Files.{FileFields};
 ghost use Rattle.rpki_command.specs.ReadFiles.{AreFilesRead, AreObjectsRead, IsFileRead, IsObjectRead, IsUnread};
 ghost use Rattle.rpki_verdicts.specs.GivenLocators.{LocatorFields, IsRead, locator_files};
 
-use crate::arguments::is;
 use crate::files::{FileSource, Unread};
 use rpki_files::{Object, read_object};
 use rpki_text::Characters;
@@ -14,7 +13,7 @@ use std::io::Write;
 
 // Says why a file can't be read. Where this can't be told, the exit status still tells it.
 fn tell<E: Write>(err: &mut E, name: &[u8], why: &Unread) {
-    if is(name, "-") {
+    if name == b"-".as_slice() {
         let _told = writeln!(err, "rpki: standard input: {why}");
         return;
     }

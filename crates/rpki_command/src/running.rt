@@ -1,19 +1,19 @@
 //! A run of the command: from its words, over files and a clock, to what it writes.
 ghost use Rattle.std.specs.Prelude.{◌≡◌, ◌≢◌, List, ℕ, IfOk, OnErr, OnOk, string_bytes};
 ghost use Rattle.std.specs.Io.KnownBytes.{Appends};
-ghost use Rattle.rpki_command.specs.CommandLines.Views.{fields_of, word_octets};
+ghost use Rattle.rpki_arguments.specs.CommandLines.Views.{fields_of, word_octets};
 ghost use Rattle.rpki_command.specs.Outcomes.{AsksOfFiles};
 ghost use Rattle.rpki_command.specs.Runs.{IsAnswer, RunEnds, SaysMisuse, misuse_message};
 
 use crate::about::{text_about, usage};
 use crate::answering::answer_request;
-use crate::arguments::{Misuse, Request, read_words};
 use crate::clock::{MomentSource, moment};
 use crate::files::FileSource;
 use crate::outcomes::{Answer, Ended, Outcome};
 use crate::reading::{read_files, read_locators};
 use anyhow::{Result, anyhow};
 use rpki::repository::x509::Time;
+use rpki_arguments::{Misuse, Request, read_words};
 use std::alloc::{AllocError, Global};
 use std::io;
 use std::io::Write;

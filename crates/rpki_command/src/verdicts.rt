@@ -10,10 +10,10 @@ ghost use Rattle.rpki_command.specs.JsonVerdicts.{IsJsonOfPath, IsVerdictLines};
 ghost use Rattle.rpki_command.specs.Outcomes.{IsOutcomeOfValidate};
 ghost use Rattle.rpki_command.specs.VerdictTexts.{IsAcceptedFinding, IsFinding, IsTextOfPath};
 
-use crate::arguments::Format;
 use crate::as_json;
 use crate::outcomes::{Answer, Outcome};
 use crate::verdict_lines::verdict_text;
+use rpki_arguments::Format;
 use rpki_files::Object;
 use rpki_verdicts::{Fault, Question, Verdict, first_no_locator, judge};
 use std::alloc::{AllocError, Global};

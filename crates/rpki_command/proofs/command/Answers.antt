@@ -1,7 +1,7 @@
 use Rattle.std.specs.Prelude.{OnOk}
 use Rattle.std.specs.Io.KnownBytes.{Appends}
 use Rattle.std.proofs.Common.{◌∙◌, sym}
-use Rattle.rpki_command.specs.CommandLines.Views.{word_octets}
+use Rattle.rpki_arguments.specs.CommandLines.Views.{word_octets}
 use Rattle.rpki_command.specs.Runs.{RunEnds}
 use Rattle.rpki_command.proofs.EndedRuns.{told_misuse}
 use Rattle.rpki_command.proofs.command.Goals as goal

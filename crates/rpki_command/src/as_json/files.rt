@@ -12,7 +12,6 @@ ghost use Rattle.rpki_command.specs.JsonAnswers.{AreFileValues, IsCertificateFil
 ghost use Rattle.rpki_command.specs.JsonVerdicts.{PushesSome};
 ghost use Rattle.rpki_command.specs.Outcomes.{IsOutcomeOfShow};
 
-use crate::arguments::Format;
 use crate::as_json::texts::values_text;
 use crate::as_json::{Shown, certificate, list, locator, no_locator, rejected};
 use crate::outcomes::{Answer, Outcome};
@@ -20,6 +19,7 @@ use crate::showing::{Remarks, rejection_of};
 use rpki::der::DecodeError;
 use rpki::repository::tal::{Tal, TalError};
 use rpki::repository::{Cert, Crl};
+use rpki_arguments::Format;
 use rpki_files::rules::of_tal;
 use rpki_files::{Content, Object, looks_like_locator, read_locator};
 use rpki_notes::{facts_of, notes_of};

@@ -7,8 +7,8 @@ ghost use Rattle.rpki_command.specs.JsonTexts.{json_line, json_lines, value_text
 ghost use Rattle.rpki_command.specs.JsonValues.{array_of};
 ghost use Rattle.rpki_text.specs.Pages.{Appends};
 
-use crate::arguments::Format;
 use crate::as_json::ascii::ended_ascii;
+use rpki_arguments::Format;
 use rpki_text::Page;
 use serde_json::Value;
 use std::alloc::{AllocError, Global};

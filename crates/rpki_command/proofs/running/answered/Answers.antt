@@ -1,4 +1,4 @@
-use Rattle.rpki_command.specs.CommandLines.Views.{fields_of}
+use Rattle.rpki_arguments.specs.CommandLines.Views.{fields_of}
 use Rattle.rpki_command.specs.ReadFiles.{AreRead}
 use Rattle.rpki_command.proofs.ReadFiles.{are_given}
 use Rattle.rpki_command.proofs.running.answered.Goals as goal

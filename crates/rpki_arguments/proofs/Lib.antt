@@ -1,0 +1,6 @@
+-- Lemmas of the proofs about the command line.
+mod AddedParts
+mod AroundDashes
+mod CommandParts
+mod OneRequest
+mod StrippedTexts

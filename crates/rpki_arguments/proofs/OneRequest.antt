@@ -1,0 +1,77 @@
+-- The request that a command line asks: one at most.
+use Rattle.std.specs.Prelude.{codes, Option, Some, None, cond}
+use Rattle.std.specs.Str.{bytes_eq}
+use Rattle.std.proofs.Common.{◌≡◌, ℕ, inl, inr, List, [], ◌∷◌, sym, ap, ◌∙◌, subst}
+use Rattle.rpki_arguments.specs.declared.arguments.Task.{Task}
+use Rattle.rpki_arguments.specs.declared.arguments.Task.TheVariants.{Show, Validate, Help, Version}
+use Rattle.rpki_arguments.specs.CommandLines.{IsTaskName, LinePart, AreParts, RequestFields, only_task, with_files, with_parts, words_before, words_behind, Suits, IsCommandLine}
+use Rattle.rpki_arguments.specs.CommandLines.Steps.{AddsParts}
+use Rattle.rpki_arguments.proofs.CommandParts.{one_list}
+
+-- the task that a word names
+task_of : List ℕ → Option Task
+task_of word =
+    cond (bytes_eq word (codes "show")) (Some Show)
+    (cond (bytes_eq word (codes "validate")) (Some Validate)
+    (cond (bytes_eq word (codes "help")) (Some Help)
+    (cond (bytes_eq word (codes "--help")) (Some Help)
+    (cond (bytes_eq word (codes "-h")) (Some Help)
+    (cond (bytes_eq word (codes "--version")) (Some Version)
+    (cond (bytes_eq word (codes "-V")) (Some Version) None))))))
+
+names : (task : Task) (word : List ℕ) → IsTaskName task word → task_of word ≡ Some task
+unfolding task_of
+names Show word h = ap task_of h
+names Validate word h = ap task_of h
+names Help word (inl h) = ap task_of h
+names Help word (inr (inl h)) = ap task_of h
+names Help word (inr (inr h)) = ap task_of h
+names Version word (inl h) = ap task_of h
+names Version word (inr h) = ap task_of h
+
+-- a word names one task at most
+one_task : (task other : Task) (word another : List ℕ) → word ≡ another → IsTaskName task word → IsTaskName other another → other ≡ task
+one_task task other word another e h k =
+    let is : Some other ≡ Some task = sym (names other another k) ∙ ap task_of (sym e) ∙ names task word h in
+    cc
+
+-- there are no words
+pub no_words : (words : List (List ℕ)) → words ≡ [] → (r : RequestFields) → IsCommandLine r words → ⊥
+no_words words e r h = let is : [] ≡ h.first ∷ h.rest = sym e ∙ h.words_are in cc
+
+module _ (words : List (List ℕ)) (first : List ℕ) (rest : List (List ℕ)) (words_are : words ≡ first ∷ rest) where
+  -- the first of a command line is this first, and so are those behind it
+  same_words : (r : RequestFields) (h : IsCommandLine r words) → (first ≡ h.first) × (rest ≡ h.rest)
+  same_words r h = let is : first ∷ rest ≡ h.first ∷ h.rest = sym words_are ∙ h.words_are in (cc, cc)
+
+  -- the first names no task
+  pub no_task : ((task : Task) → IsTaskName task first → ⊥) → (r : RequestFields) → IsCommandLine r words → ⊥
+  no_task none r h = none h.task (subst (λ (w : List ℕ). IsTaskName h.task w) (sym (same_words r h).0) h.task_is)
+
+  -- those behind it are no parts
+  pub no_parts : ((parts : List LinePart) → AreParts parts (words_before rest) → ⊥) → (r : RequestFields) → IsCommandLine r words → ⊥
+  no_parts none r h = none h.parts (subst (λ (l : List (List ℕ)). AreParts h.parts (words_before l)) (sym (same_words r h).1) h.parts_are)
+
+  module _ (task : Task) (task_is : IsTaskName task first) (mid r : RequestFields) (adds : AddsParts (words_before rest) (only_task task) mid) (files : r ≡ with_files mid (words_behind rest)) where
+    all_asked : r ≡ with_files (with_parts (only_task task) adds.0) (words_behind rest)
+    all_asked = files ∙ ap (λ (m : RequestFields). with_files m (words_behind rest)) adds.2
+
+    -- it asks this
+    pub asks : Suits r.task r → IsCommandLine r words
+    asks suits = record { first = first; rest = rest; words_are = words_are; task = task; task_is = task_is; parts = adds.0; parts_are = adds.1; asks = all_asked; suits = suits }
+
+    -- it asks nothing else
+    pub only : (other : RequestFields) → IsCommandLine other words → other ≡ r
+    only other h =
+        let same = same_words other h in
+        let tasks = one_task task h.task first h.first same.0 task_is h.task_is in
+        let parts = one_list adds.0 h.parts (words_before rest) adds.1 (subst (λ (l : List (List ℕ)). AreParts h.parts (words_before l)) (sym same.1) h.parts_are) in
+        h.asks
+        ∙ ap (λ (t : Task). with_files (with_parts (only_task t) h.parts) (words_behind h.rest)) tasks
+        ∙ ap (λ (l : List LinePart). with_files (with_parts (only_task task) l) (words_behind h.rest)) parts
+        ∙ ap (λ (l : List (List ℕ)). with_files (with_parts (only_task task) adds.0) (words_behind l)) (sym same.1)
+        ∙ sym all_asked
+
+    -- the task doesn't suit what it asks
+    pub unsuited : (Suits r.task r → ⊥) → (other : RequestFields) → IsCommandLine other words → ⊥
+    unsuited not other h = not (subst (λ (q : RequestFields). Suits q.task q) (only other h) h.suits)

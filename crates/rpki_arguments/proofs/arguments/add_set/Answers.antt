@@ -1,0 +1,36 @@
+use Rattle.std.proofs.Common.{◌++◌, ◌∷◌, [], ℕ, List, inl, inr, refl}
+use Rattle.rpki_arguments.specs.declared.arguments.Setting.TheVariants.{Crl, Tal}
+use Rattle.rpki_arguments.specs.CommandLines.{list, locator, at_moment, max_size}
+use Rattle.rpki_arguments.specs.CommandLines.Views.{fields_of}
+use Rattle.rpki_arguments.proofs.AddedParts.{value_pushed}
+use Rattle.rpki_arguments.proofs.arguments.add_set.Goals as goal
+
+pub returns-in-Crl-clause-added : goal.returns-in-Crl-clause-added
+returns-in-Crl-clause-added c =
+    let old = fields_of c.args.request.now in
+    let value = c.args.value.now in
+    rw c.in-Crl.is (value_pushed c.push_name.result old Crl value (list value) refl (λ (l : List (List ℕ)). record old { lists = l }) _ (old.lists ++ value ∷ []) refl c.push_name.ensures.added)
+
+pub returns-in-Tal-clause-added : goal.returns-in-Tal-clause-added
+returns-in-Tal-clause-added c =
+    let old = fields_of c.args.request.now in
+    let value = c.args.value.now in
+    rw c.in-Tal.is (value_pushed c.push_name-in-Tal.result old Tal value (locator value) refl (λ (l : List (List ℕ)). record old { locators = l }) _ (old.locators ++ value ∷ []) refl c.push_name-in-Tal.ensures.added)
+
+pub returns-in-Some-clause-added : goal.returns-in-Some-clause-added
+returns-in-Some-clause-added c =
+    let m = c.in-Some.moment in
+    let is = c.in-Some.ensures.some in
+    rw c.in-At.is (at_moment m, (m, refl, is.0, is.1), refl)
+
+pub returns-in-Some-number_of-clause-added : goal.returns-in-Some-number_of-clause-added
+returns-in-Some-number_of-clause-added c =
+    let n = c.in-Some-number_of.size in
+    rw c.in-MaxSize.is (max_size n, (n, refl, c.in-Some-number_of.ensures), refl)
+
+pub returns-in-Output-clause-unknown : goal.returns-in-Output-clause-unknown
+returns-in-Output-clause-unknown c =
+    elim c.in-Output.is [
+      | inl is ↦ rw is c.add_format.ensures.unknown
+      | inr is ↦ rw is c.add_format.ensures.unknown
+    ]

@@ -1,0 +1,29 @@
+use Rattle.std.proofs.Common.{rules, ℕ, List}
+use Rattle.rpki_arguments.specs.declared.arguments.Misuse.TheVariants.{Memory}
+use Rattle.rpki_arguments.specs.declared.arguments.Setting.{Setting}
+use Rattle.rpki_arguments.specs.CommandLines.{IsOption}
+use Rattle.rpki_arguments.specs.CommandLines.Steps.{Joins}
+use Rattle.rpki_arguments.specs.CommandLines.Views.{fields_of}
+use Rattle.rpki_arguments.proofs.AddedParts.{file_added, joined_added, joined_rejected}
+use Rattle.rpki_arguments.proofs.CommandParts.{no_option}
+use Rattle.rpki_arguments.proofs.arguments.add_word.Goals as goal
+
+pub returns-then-not-is_option-clause-added : goal.returns-then-not-is_option-clause-added
+returns-then-not-is_option-clause-added c =
+    file_added c.push_name.result (fields_of c.args.request.now) _ c.args.word.now c.push_name.ensures.added (search rules)
+
+pub returns-in-Some-clause-added : goal.returns-in-Some-clause-added
+returns-in-Some-clause-added c =
+    let joins : Joins c.in-Some.setting c.in-Some.value.now c.args.word.now = search rules in
+    joined_added c.add_set.result (fields_of c.args.request.now) (fields_of c.add_set.new.request) c.in-Some.setting c.in-Some.value.now c.args.word.now joins c.add_set.ensures.added
+
+pub returns-in-Some-clause-unknown : goal.returns-in-Some-clause-unknown
+returns-in-Some-clause-unknown c =
+    let joins : Joins c.in-Some.setting c.in-Some.value.now c.args.word.now = search rules in
+    joined_rejected c.add_set.result Memory c.in-Some.setting c.in-Some.value.now c.args.word.now joins c.add_set.ensures.unknown
+
+pub returns-else-switch-clause-unknown : goal.returns-else-switch-clause-unknown
+returns-else-switch-clause-unknown c = λ not_memory.
+    let is_option : IsOption c.args.word.now = search rules in
+    let unjoined : (setting : Setting) (value : List ℕ) → Joins setting value c.args.word.now → ⊥ = c.in_default.ensures.unknown in
+    no_option c.args.word.now is_option c.requires unjoined c.if-switch.ensures.unknown

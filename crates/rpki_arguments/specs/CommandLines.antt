@@ -1,0 +1,183 @@
+-- Which words behind the program's name are a command line, and what it asks (own). A word is the
+-- octets that the system has.
+use Rattle.std.specs.List.{before_first, after_first}
+use Rattle.std.specs.Prelude.{◌≡◌, ◌≢◌, ◌<◌, ◌^◌, ◌⊎◌, ℕ, List, [], ◌∷◌, ◌++◌, length, slice_index, Option, Some, None, Bool, true, false, fold, codes}
+use Rattle.std.specs.Str.{bytes_eq}
+use Rattle.std.specs.Str.Parse.{IsNumeral, digits_value}
+use Rattle.rpki.specs.Times.{Moment, IsMoment}
+use Rattle.rpki_text.specs.MomentTexts.{IsMomentText}
+use Rattle.rpki_arguments.specs.declared.arguments.Format.{Format}
+use Rattle.rpki_arguments.specs.declared.arguments.Format.TheVariants.{Text, Json, JsonLines}
+use Rattle.rpki_arguments.specs.declared.arguments.Setting.{Setting}
+use Rattle.rpki_arguments.specs.declared.arguments.Setting.TheVariants.{Crl, Tal, At, MaxSize, Output, ShortOutput}
+use Rattle.rpki_arguments.specs.declared.arguments.Task.{Task}
+use Rattle.rpki_arguments.specs.declared.arguments.Task.TheVariants.{Show, Validate, Help, Version}
+pub mod Views
+pub mod Steps
+
+-- ---- words
+
+-- the word is the task's name
+abbrev pub IsTaskName : Task → List ℕ → Type 0
+IsTaskName Show word = word ≡ codes "show"
+IsTaskName Validate word = word ≡ codes "validate"
+IsTaskName Help word = (word ≡ codes "help") ⊎ ((word ≡ codes "--help") ⊎ (word ≡ codes "-h"))
+IsTaskName Version word = (word ≡ codes "--version") ⊎ (word ≡ codes "-V")
+
+-- the word begins with a hyphen, and isn't the hyphen alone, which is standard input
+abbrev pub IsOption : List ℕ → Type 0
+IsOption word = (slice_index word 0 ≡ 0x2D) × (1 < length word)
+
+-- the name of an option that takes a value
+abbrev pub setting_name : Setting → List ℕ
+setting_name Crl = codes "--crl"
+setting_name Tal = codes "--tal"
+setting_name At = codes "--at"
+setting_name MaxSize = codes "--max-size"
+setting_name Output = codes "--output"
+setting_name ShortOutput = codes "-o"
+
+-- the words give the option this value: as the next word, or behind `=`
+abbrev pub GivesValue : Setting → List ℕ → List (List ℕ) → Type 0
+GivesValue setting value words =
+    (words ≡ setting_name setting ∷ value ∷ []) ⊎ (words ≡ (setting_name setting ++ codes "=" ++ value) ∷ [])
+
+-- the text is a number below 2^64 in decimal digits
+abbrev pub IsNumberText : ℕ → List ℕ → Type 0
+IsNumberText n text = IsNumeral 10 text × (digits_value 10 text ≡ n) × (n < 2 ^ 64)
+
+-- the text is the format's name
+abbrev pub IsFormatName : Format → List ℕ → Type 0
+IsFormatName Text text = text ≡ codes "text"
+IsFormatName Json text = text ≡ codes "json"
+IsFormatName JsonLines text = text ≡ codes "jsonl"
+
+-- what stands behind the task: files, and options, some with a value
+pub data LinePart : Type 0 where
+  file list locator : List ℕ → LinePart
+  at_moment : Moment → LinePart
+  max_size : ℕ → LinePart
+  output : Format → LinePart
+  lenient json quiet all no_names help : LinePart
+
+-- the words are this part
+abbrev pub IsPart : LinePart → List (List ℕ) → Type 0
+IsPart (file name) words = (words ≡ name ∷ []) × (IsOption name → ⊥)
+IsPart (list name) words = GivesValue Crl name words
+IsPart (locator name) words = GivesValue Tal name words
+IsPart (at_moment m) words = (text : List ℕ) × GivesValue At text words × IsMoment m × IsMomentText m text
+IsPart (max_size n) words = (text : List ℕ) × GivesValue MaxSize text words × IsNumberText n text
+IsPart (output f) words =
+    (text : List ℕ) × (GivesValue Output text words ⊎ GivesValue ShortOutput text words) × IsFormatName f text
+IsPart lenient words = words ≡ codes "--lenient" ∷ []
+IsPart json words = (words ≡ codes "--json" ∷ []) ⊎ (words ≡ codes "-j" ∷ [])
+IsPart quiet words = (words ≡ codes "--quiet" ∷ []) ⊎ (words ≡ codes "-q" ∷ [])
+IsPart all words = words ≡ codes "--all" ∷ []
+IsPart no_names words = words ≡ codes "--no-names" ∷ []
+IsPart help words = (words ≡ codes "--help" ∷ []) ⊎ (words ≡ codes "-h" ∷ [])
+
+-- the words are these parts, one after the other, in any order
+abbrev pub AreParts : List LinePart → List (List ℕ) → Type 0
+AreParts [] words = words ≡ []
+AreParts (part ∷ parts) words =
+    (front : List (List ℕ)) × (rest : List (List ℕ)) × IsPart part front × AreParts parts rest
+    × (words ≡ front ++ rest)
+
+-- the word `--`
+abbrev pub is_dashes : List ℕ → Bool
+is_dashes word = bytes_eq word (codes "--")
+
+-- the words before the first `--`
+abbrev pub words_before : List (List ℕ) → List (List ℕ)
+words_before words = before_first is_dashes words
+
+-- those behind it, which are files however they begin
+abbrev pub words_behind : List (List ℕ) → List (List ℕ)
+words_behind words = after_first is_dashes words
+
+-- ---- what they ask
+
+-- the task, the moment if one is given, whether names are read strictly, the format of what is
+-- printed, whether nothing is printed, whether all entries of a list are printed, how many octets a
+-- file may have, whether names of issuer and subject have to be the same, the files, and those given
+-- as revocation lists and as locators of trust anchors
+pub record RequestFields : Type 0 where
+  pub task : Task
+  pub at : Option Moment
+  pub strict : Bool
+  pub format : Format
+  pub is_quiet : Bool
+  pub all_entries : Bool
+  pub max_size : ℕ
+  pub names : Bool
+  pub files : List (List ℕ)
+  pub lists : List (List ℕ)
+  pub locators : List (List ℕ)
+
+-- how many octets a file may have where no word says it: 64 MiB
+abbrev pub usual_size : ℕ
+usual_size = 67_108_864
+
+-- a task, and nothing more
+abbrev pub only_task : Task → RequestFields
+only_task task =
+    record {
+      task = task;
+      at = None;
+      strict = true;
+      format = Text;
+      is_quiet = false;
+      all_entries = false;
+      max_size = usual_size;
+      names = true;
+      files = [];
+      lists = [];
+      locators = [];
+    }
+
+-- with more files
+abbrev pub with_files : RequestFields → List (List ℕ) → RequestFields
+with_files r more = record r { files = r.files ++ more }
+
+-- with what a further part says; of several moments, sizes or formats the last one counts
+abbrev pub with_part : RequestFields → LinePart → RequestFields
+with_part r (file name) = record r { files = r.files ++ name ∷ [] }
+with_part r (list name) = record r { lists = r.lists ++ name ∷ [] }
+with_part r (locator name) = record r { locators = r.locators ++ name ∷ [] }
+with_part r (at_moment m) = record r { at = Some m }
+with_part r (max_size n) = record r { max_size = n }
+with_part r (output f) = record r { format = f }
+with_part r lenient = record r { strict = false }
+with_part r json = record r { format = Json }
+with_part r quiet = record r { is_quiet = true }
+with_part r all = record r { all_entries = true }
+with_part r no_names = record r { names = false }
+with_part r help = record r { task = Help }
+
+-- with what these parts say, one after the other
+abbrev pub with_parts : RequestFields → List LinePart → RequestFields
+with_parts r parts = fold with_part r parts
+
+-- nothing is said that only a path is asked about: no lists, no locators, and not that names are left
+-- out
+abbrev pub AsksNoPath : RequestFields → Type 0
+AsksNoPath r = (r.lists ≡ []) × (r.locators ≡ []) × (r.names ≡ true)
+
+-- what the task wants: files, and no option that only the other task takes
+abbrev pub Suits : Task → RequestFields → Type 0
+Suits Show r = (r.files ≢ []) × AsksNoPath r
+Suits Validate r = (r.files ≢ []) × (r.all_entries ≡ false)
+Suits _ r = Unit {0}
+
+-- the words are a command line that asks this: the name of a task, then parts, and perhaps `--` and
+-- files
+pub record IsCommandLine (r : RequestFields) (words : List (List ℕ)) : Type 0 where
+  pub first : List ℕ
+  pub rest : List (List ℕ)
+  pub words_are : words ≡ first ∷ rest
+  pub task : Task
+  pub task_is : IsTaskName task first
+  pub parts : List LinePart
+  pub parts_are : AreParts parts (words_before rest)
+  pub asks : r ≡ with_files (with_parts (only_task task) parts) (words_behind rest)
+  pub suits : Suits r.task r

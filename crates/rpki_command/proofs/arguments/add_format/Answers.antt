@@ -1,8 +1,0 @@
-use Rattle.std.proofs.Common.{refl}
-use Rattle.rpki_command.specs.CommandLines.{output}
-use Rattle.rpki_command.proofs.arguments.add_format.Goals as goal
-
-pub returns-in-Some-clause-added : goal.returns-in-Some-clause-added
-returns-in-Some-clause-added c =
-    let format = c.in-Some.format in
-    (output format, (format, refl, c.in-Some.ensures.named), refl)

@@ -1,8 +1,0 @@
-use Rattle.std.proofs.Common.{◌≡◌, ◌<◌, ℕ, [], false, get_or}
-use Rattle.rpki_command.specs.CommandLines.{is_dashes}
-use Rattle.rpki_command.specs.CommandLines.Views.{word_octets}
-use Rattle.rpki_command.proofs.arguments.around_dashes.Given as goal
-
--- no word so far is `--`
-abbrev pub invariant-loop-place : goal.invariant-loop-place
-invariant-loop-place l = (k : ℕ) → k < l.place → is_dashes (get_or (word_octets l.words) k []) ≡ false
