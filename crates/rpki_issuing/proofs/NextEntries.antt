@@ -1,25 +1,22 @@
 -- Which entries the next list has.
 use Rattle.std.specs.Prelude.{Bool, true, false, not, ◌||◌, nat_eq, cond, Contains}
-use Rattle.std.specs.List.{filter, list_any}
-use Rattle.std.proofs.Common.{◌≡◌, ◌⊎◌, ◌<◌, ℕ, zero, suc, List, [], ◌∷◌, ◌++◌, length, get_or, map, refl, sym, ap, subst, ◌∙◌, inl, inr, arith}
+use Rattle.std.specs.List.{AllByRecursion, filter, list_any}
+use Rattle.std.proofs.Common.{◌≡◌, ◌⊎◌, ◌<◌, ℕ, zero, suc, List, [], ◌∷◌, ◌++◌, length, get_or, map, sym, ap, subst, ◌∙◌, inl, inr, arith}
 use Rattle.std.proofs.lemmas.Bool.{cases_Bool, eq-eqb, eqb-true, false≢true}
 use Rattle.std.proofs.lemmas.List.{map-append, map-id}
 use Rattle.std.proofs.lemmas.List.Elements.{Contains-append_left, Contains-push, Contains-push_cases}
 use Rattle.std.specs.Iterator.{Drains}
-use Rattle.std.specs.Ordering.{MatchOrdering, nat_cmp, is_le}
-use Rattle.std.specs.declared.cmp.Ordering.{Ordering}
-use Rattle.std.specs.declared.cmp.Ordering.TheVariants.{Less, Equal, Greater}
-use Rattle.std.proofs.lemmas.Cmp.{ranked}
 use Rattle.std.specs.declared.vec.IntoIter.{IntoIter}
 use Rattle.std.specs.Vec.Iter.{into_iter_items, into_iter_len, into_iter_steps}
 use Rattle.std.proofs.lemmas.Iterator.{items_from_drains}
 use Rattle.std.proofs.lemmas.Iterator.Adapters.{YieldsList-from_vec}
 use Rattle.rpki_der.specs.Times.{Moment}
+use Rattle.rpki_parts.specs.ValidAt.{IsNotAfter}
 use Rattle.rpki_crl.specs.Lists.{ListFields}
 use Rattle.rpki_crl.specs.RevokedEntries.{Entry, Revoked, IsRevoked}
 use Rattle.rpki_crl.specs.RevokedEntries.Views.{entry_of}
 use Rattle.rpki_crl.specs.declared.entry.CrlEntry.{CrlEntry}
-use Rattle.rpki_issuing.specs.NextLists.{IsKept, HasNextEntries, IsNext}
+use Rattle.rpki_issuing.specs.NextLists.{IsKept, HasAtMostTwentyOctets, HasNextEntries, IsNext, NextCheck, next_checks}
 use Rattle.rpki_issuing.specs.NextLists.Steps.{keeps}
 
 -- ---- elements of lists
@@ -169,15 +166,6 @@ module _ (old : ListFields Revoked) (gone : List ℕ) where
 
 -- ---- the next list
 
--- a number that isn't the other one or below it is greater
-pub greater_number : (a b : ℕ) → is_le (nat_cmp a b) ≡ false → b < a
-greater_number a b off = go (nat_cmp a b) (ranked a b (nat_cmp a b) refl) off
-  where
-    go : (r : Ordering) → MatchOrdering r (a < b) (a ≡ b) (b < a) → is_le r ≡ false → b < a
-    go Less m off = absurd (false≢true (sym off))
-    go Equal m off = absurd (false≢true (sym off))
-    go Greater m off = m
-
 -- the entries that are given by a vector are its own
 pub given_by : {Z : Type 0} (s : IntoIter CrlEntry Z) (all items : List CrlEntry) (es : List Entry) → into_iter_items s ≡ all → into_iter_len s ≡ length all
     → Drains (into_iter_steps {X = CrlEntry} {Z = Z}) s items → es ≡ map entry_of items → es ≡ map entry_of all
@@ -185,14 +173,19 @@ given_by {Z} s all items es left len drains is =
     let given = items_from_drains items (drains.1.0, drains.1.1, λ _. (drains.0, drains.1.2)) (YieldsList-from_vec all left len) in
     is ∙ ap (map entry_of) (sym (map-id items) ∙ given)
 
--- what is made of these entries, with a greater number
+-- what is made of these entries, with a number and moments that were checked
 pub next_made : (old : ListFields Revoked) (added : List Entry) (gone : List ℕ) (es : List Entry) (number : ℕ) (this_update next_update : Moment) (t : ListFields Revoked)
     → t ≡ record { algorithm = old.algorithm; issuer = old.issuer; this_update = this_update; next_update = next_update; revoked = t.revoked; extensions = record { authority_key_identifier = old.extensions.authority_key_identifier; crl_number = number } }
-    → t.revoked.entries ≡ es → HasNextEntries old added gone es → old.extensions.crl_number < number → IsNext old added gone t
-next_made old added gone es number this_update next_update t is same has greater = record {
-  number_is_greater = omega (arith, greater, ap (λ (f : ListFields Revoked). f.extensions.crl_number) is);
+    → t.revoked.entries ≡ es → HasNextEntries old added gone es → AllByRecursion (NextCheck old number this_update next_update) next_checks → IsNext old added gone t
+next_made old added gone es number this_update next_update t is same has checks = record {
+  number_is_greater = subst (λ (n : ℕ). old.extensions.crl_number < n) (sym numbers) checks.0;
+  number_is_short = subst HasAtMostTwentyOctets (sym numbers) checks.1.0;
+  updates_are_in_order = subst (λ (f : ListFields Revoked). IsNotAfter f.this_update f.next_update) (sym is) checks.1.1.0;
   entries = subst (λ (fs : List Entry). HasNextEntries old added gone fs) (sym same) has;
   algorithm_is = ap (λ (f : ListFields Revoked). f.algorithm) is;
   issuer_is = ap (λ (f : ListFields Revoked). f.issuer) is;
   identifier_is = ap (λ (f : ListFields Revoked). f.extensions.authority_key_identifier) is;
 }
+  where
+    numbers : t.extensions.crl_number ≡ number
+    numbers = ap (λ (f : ListFields Revoked). f.extensions.crl_number) is

@@ -1,6 +1,6 @@
 //! Laws about what is issued. Each is the contract of a function with no parameters and an empty
 //! body.
-ghost use Rattle.std.specs.Prelude.{ℕ, Bool, List};
+ghost use Rattle.std.specs.Prelude.{◌↔◌, ◌^◌, ◌<◌, ℕ, Bool, List};
 ghost use Rattle.rpki_parts.specs.Conditions.{IsFirstFalse};
 ghost use Rattle.rpki_der.specs.Times.{Moment};
 ghost use Rattle.rpki_cert.specs.Certificates.{TbsFields};
@@ -11,6 +11,7 @@ ghost use Rattle.rpki_crl.specs.RevokedEntries.{IsRevoked};
 ghost use Rattle.rpki_crl.specs.Stores.{Stored};
 ghost use Rattle.rpki_crl.specs.declared.revocation_error.RevocationError.TheVariants.{Revoked};
 ghost use Rattle.rpki_issuing.specs.ListReadiness.{LeavesOthers, RevokesItsOwn};
+ghost use Rattle.rpki_issuing.specs.NextLists.{HasAtMostTwentyOctets};
 ghost use Rattle.rpki_issuing.specs.Readiness.{signed_with, IsReady, IsSignatureOf};
 ghost use Rattle.rpki_issuing.specs.Roles.{IsValidAs};
 ghost use Rattle.rpki_issuing.specs.declared.role.Role.{Role};
@@ -43,4 +44,10 @@ pub fn stored_list_answers<V: Verifier>()
         → IsRevoked serial crl.list.fields.revoked.entries
         → IsFirstFalse (RevocationCheck x issuer serial (IsUnderUri pairs uri))
         revocation_checks Revoked }
+{}
+
+/// Says which numbers have at most 20 octets as an INTEGER (RFC 5280 5.2.3, X.690 8.3): those below
+/// 2^159, since the first bit is the sign's.
+pub fn twenty_octets()
+    ensures { (n : ℕ) → HasAtMostTwentyOctets n ↔ (n < 2 ^ 159) }
 {}

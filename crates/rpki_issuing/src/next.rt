@@ -1,9 +1,11 @@
 //! The next revocation list of an issuer.
-ghost use Rattle.std.specs.Prelude.{◌≡◌, ◌↔◌, IsTrue, IfOk, IfErr, map};
+ghost use Rattle.std.specs.Prelude.{◌≡◌, ◌↔◌, ◌^◌, ◌<◌, length, IsTrue, IfOk, IfErr, map};
+ghost use Rattle.std.specs.Int.Digits.{number_from_digits};
 ghost use Rattle.std.specs.List.{filter};
+ghost use Rattle.rpki_parts.specs.Conditions.{Tests};
 ghost use Rattle.rpki_crl.specs.RevokedEntries.{IsRevoked};
 ghost use Rattle.rpki_crl.specs.RevokedEntries.Views.{entry_of};
-ghost use Rattle.rpki_issuing.specs.NextLists.{HasNextEntries, IsNext, IsNoNext};
+ghost use Rattle.rpki_issuing.specs.NextLists.{HasAtMostTwentyOctets, HasNextEntries, IsNext, NextCheck, next_checks, IsNoNext};
 ghost use Rattle.rpki_issuing.specs.NextLists.Steps.{keeps};
 
 use rpki_crl::{Crl, CrlEntry, RevokedCertificates, TbsCertList};
@@ -17,6 +19,12 @@ pub enum NextListError {
     /// The number isn't greater than the list's before.
     #[error("the number isn't greater")]
     Number,
+    /// The number has more than 20 octets as an INTEGER: it is 2^159 or more.
+    #[error("the number is too long")]
+    LongNumber,
+    /// The next update is before this one.
+    #[error("the next update is before this one")]
+    UpdateOrder,
     /// Memory ran out.
     #[error("out of memory")]
     Memory,
@@ -32,6 +40,8 @@ impl NextListError {
     {
         match self {
             NextListError::Number => "Number",
+            NextListError::LongNumber => "LongNumber",
+            NextListError::UpdateOrder => "UpdateOrder",
             NextListError::Memory => "Memory",
         }
     }
@@ -41,8 +51,8 @@ impl NextListError {
         ensures { IsTrue result ↔ self.now ≡ Memory }
     {
         match self {
-            NextListError::Number => false,
             NextListError::Memory => true,
+            _ => false,
         }
     }
 }
@@ -112,11 +122,50 @@ fn next_entries(
     Ok(entries)
 }
 
+// Whether the number of these 20 octets, the greatest first, is below 2^159: the first bit, which
+// is the sign of an INTEGER, isn't set.
+fn begins_low(octets: &[u8]) -> bool
+    requires { length octets.now ≡ 20 }
+    ensures { IsTrue result ↔ (number_from_digits 256 octets.now < 2 ^ 159) }
+{
+    octets[0] < 128
+}
+
+// Whether the number has at most 20 octets as an INTEGER.
+fn is_short(number: Serial) -> bool
+    ensures { IsTrue result ↔ HasAtMostTwentyOctets number }
+{
+    begins_low(&number.octets())
+}
+
+// Whether the number and the moments are those of a next list.
+fn check(
+    old: &TbsCertList<RevokedCertificates>,
+    number: Serial,
+    this_update: Time,
+    next_update: Time,
+) -> Result<(), NextListError>
+    ensures { Tests (NextCheck old.now number this_update next_update) next_checks result }
+{
+    if number <= old.crl_number() {
+        return Err(NextListError::Number);
+    }
+    if !is_short(number) {
+        return Err(NextListError::LongNumber);
+    }
+    if next_update < this_update {
+        return Err(NextListError::UpdateOrder);
+    }
+    Ok(())
+}
+
 /// Makes the data of the issuer's next list: its number is the one that is given, which has to be
-/// greater than the list's before (RFC 5280 5.2.3). Every entry stays whose certificate isn't gone,
-/// which means that it has expired (RFC 5280 5.1.2.6, 3.3); those of `revoked` come in, and nothing
-/// else. Which certificates have expired is the caller's to know. The issuer's name, its key
-/// identifier and the algorithm stay.
+/// greater than the list's before and has at most 20 octets (RFC 5280 5.2.3), and its next update
+/// isn't before this one. Every entry stays whose certificate isn't gone, which means that it has
+/// expired (RFC 5280 5.1.2.6, 3.3); those of `revoked` come in, and nothing else. Which
+/// certificates have expired is the caller's to know. The issuer's name, its key identifier and the
+/// algorithm stay. Errs with the first of these conditions on the number and the moments that
+/// doesn't hold, or where memory runs out.
 pub fn next_list(
     alloc: Global,
     previous: &Crl,
@@ -131,12 +180,11 @@ pub fn next_list(
     ensures number { IfOk result (λ f. f.extensions.crl_number ≡ number) }
     ensures this_update { IfOk result (λ f. f.this_update ≡ this_update) }
     ensures next_update { IfOk result (λ f. f.next_update ≡ next_update) }
-    ensures fault { IfErr result (IsNoNext previous.now.list.fields number) }
+    ensures fault { IfErr result
+        (IsNoNext previous.now.list.fields number this_update next_update) }
 {
     let old = previous.as_cert_list();
-    if number <= old.crl_number() {
-        return Err(NextListError::Number);
-    }
+    check(old, number, this_update, next_update)?;
     let entries = next_entries(alloc, previous, revoked, gone)?;
     let issuer = old.issuer().try_clone(alloc)?;
     let list = TbsCertList::new(
