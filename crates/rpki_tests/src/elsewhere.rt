@@ -4,7 +4,7 @@ use crate::lists::data;
 use rpki_blocks::{AsBlock, Asn};
 use rpki_cert::{Cert, KeyUsage, Overclaim, ResourceCert, TbsCert, ValidationError};
 use rpki_cert_tests::samples::{self, day, rsa};
-use rpki_crl::{Crl, CrlEntry};
+use rpki_crl::{Crl, CrlEntry, RevokedCertificates, TbsCertList};
 use rpki_der::{Serial, Time};
 use rpki_issuing::{
     Checked, CheckedError, IssuingError, ListError, NextListError, Prepared, PreparedList, Role,
@@ -40,7 +40,7 @@ fn prepared(rt: &impl Abort, alloc: Global, tbs: &TbsCert, role: &Role<'_>) -> P
 }
 
 // The name of the fault, of the check that fails where one does.
-fn fault<T>(answer: &Result<T, IssuingError>) -> &'static str {
+pub(crate) fn fault<T>(answer: &Result<T, IssuingError>) -> &'static str {
     match answer {
         Ok(_) => "Ok",
         Err(IssuingError::Invalid(ValidationError::Inspection(error))) => error.name(),
@@ -174,6 +174,21 @@ fn list(rt: &impl Abort, alloc: Global) -> Crl {
     made.expect(rt, "a list")
 }
 
+// The data of the next list, with this number, until the first of May of this year: 5 comes in, and
+// 12 is gone.
+fn next_fields(
+    rt: &impl Abort,
+    alloc: Global,
+    list: &Crl,
+    number: Serial,
+    until: i32,
+) -> Result<TbsCertList<RevokedCertificates>, NextListError> {
+    let revoked = [CrlEntry::new(Serial::from(5u64), now(rt))];
+    let gone = [Serial::from(12u64)];
+    let until = day(until).expect(rt, "a day");
+    next_list(alloc, list, number, &revoked, &gone, now(rt), until)
+}
+
 fn next(
     rt: &impl Abort,
     alloc: Global,
@@ -181,11 +196,7 @@ fn next(
     issuer: &ResourceCert,
     number: u64,
 ) -> Result<PreparedList, NextListError> {
-    let revoked = [CrlEntry::new(Serial::from(5u64), now(rt))];
-    let until = day(2025).expect(rt, "a day");
-    let number = Serial::from(number);
-    let gone = [Serial::from(12u64)];
-    let fields = next_list(alloc, list, number, &revoked, &gone, now(rt), until)?;
+    let fields = next_fields(rt, alloc, list, Serial::from(number), 2025)?;
     let prepared = prepare_list(alloc, &fields, issuer, true, now(rt));
     drop(fields);
     Ok(prepared.expect(rt, "it is ready"))
@@ -223,7 +234,7 @@ fn assert_next_is_completed(rt: &impl Abort, alloc: Global, list: &Crl, issuer: 
     drop(prepared);
 }
 
-fn list_fault(answer: &Result<Crl, ListError>) -> &'static str {
+pub(crate) fn list_fault(answer: &Result<Crl, ListError>) -> &'static str {
     match answer {
         Ok(_) => "Ok",
         Err(ListError::Invalid(error)) => error.name(),
@@ -241,6 +252,55 @@ fn the_next_list_is_completed(rt: HostRuntime) {
     drop(same);
     drop(list);
     drop(issuer);
+}
+
+// That there is no next list with this number until this year, for this reason.
+fn assert_no_next(
+    rt: &impl Abort,
+    alloc: Global,
+    list: &Crl,
+    number: Serial,
+    until: i32,
+    fault: &str,
+) {
+    let Err(error) = next_fields(rt, alloc, list, number, until) else {
+        rt.abort()
+    };
+    assert_eq!(rt; error.name(), fault);
+    drop(error);
+}
+
+// The number with this first octet of 20, and 0 behind it or 255.
+fn long_number(rt: &impl Abort, first: u8, others: u8) -> Serial {
+    let mut octets = [others; 20];
+    octets[0] = first;
+    Serial::from_slice(&octets).expect(rt, "a number")
+}
+
+#[test]
+fn the_number_has_at_most_twenty_octets(rt: HostRuntime) {
+    let list = list(&rt, rt.alloc());
+    let greatest = long_number(&rt, 127, 255);
+    let fields = next_fields(&rt, rt.alloc(), &list, greatest, 2025).expect(&rt, "a list");
+    assert!(rt; fields.crl_number() == greatest);
+    drop(fields);
+    for (first, others) in [(128, 0), (255, 255)] {
+        let number = long_number(&rt, first, others);
+        assert_no_next(&rt, rt.alloc(), &list, number, 2025, "LongNumber");
+    }
+    drop(list);
+}
+
+#[test]
+fn the_next_update_is_not_before_this_one(rt: HostRuntime) {
+    let list = list(&rt, rt.alloc());
+    let number = Serial::from(13u64);
+    let fields = next_fields(&rt, rt.alloc(), &list, number, 2024).expect(&rt, "a list");
+    assert!(rt; fields.this_update() == fields.next_update());
+    drop(fields);
+    assert_no_next(&rt, rt.alloc(), &list, number, 2023, "UpdateOrder");
+    assert_no_next(&rt, rt.alloc(), &list, Serial::from(12u64), 2023, "Number");
+    drop(list);
 }
 
 // ---- a checked signer

@@ -37,6 +37,8 @@ mod names;
 #[cfg(test)]
 mod paths;
 #[cfg(test)]
+mod real_signatures;
+#[cfg(test)]
 mod routers;
 #[cfg(test)]
 mod shared;
