@@ -1,7 +1,9 @@
 # Prints the path of each public call of the files that may answer out of memory, as
 # CRATE::TYPE::CALL or CRATE::MODULE::CALL, one a line: its signature names an allocator, a vector
-# that it appends to, or the error of a request that was refused, or it hands back what could not be
-# stored. First come the lib.rt of the crates, whose public modules are parts of the paths.
+# that it appends to, the error of a request that was refused, or one of those of a walk down a path
+# or a folder, which has the allocator; or it hands back what could not be stored. So do the calls of
+# public types that sign, or are told what a walk finds. First come the lib.rt of the crates, whose
+# public modules are parts of the paths.
 
 # The crate of a file, and its module.
 function crate_of(file,    parts, n) {
@@ -34,6 +36,7 @@ function type_of(line) {
     if (line ~ /^</)
         line = behind(line)
     sub(/^ */, "", line)
+    sub(/^(Signer|Visitor) for /, "", line)
     if (line ~ / for /)
         return ""
     sub(/[< {].*/, "", line)
@@ -41,7 +44,8 @@ function type_of(line) {
 }
 
 function asks(text) {
-    return text ~ /alloc: Global|AllocError|&mut Vec<u8>|Result<\(\), \([A-Z][a-z]+, [A-Z][a-z]+\)>/
+    return text ~ /alloc: Global|AllocError|&mut Vec<u8>|Result<\(\), \([A-Z][a-z]+, [A-Z][a-z]+\)>/ ||
+        text ~ /, (PathFault|WalkError)>/
 }
 
 function tell(file, type, name,    path) {
@@ -53,7 +57,7 @@ function tell(file, type, name,    path) {
     print path name
 }
 
-FNR == 1 { type = ""; signature = "" }
+FNR == 1 { type = ""; signature = ""; is_trait = 0 }
 
 /^pub mod / {
     name = $3
@@ -61,14 +65,23 @@ FNR == 1 { type = ""; signature = "" }
     is_public[crate_of(FILENAME), name] = 1
 }
 
-/^impl/ { type = type_of($0) }
+/^pub struct / {
+    name = $3
+    sub(/[<;({].*/, "", name)
+    is_public_type[FILENAME, name] = 1
+}
 
-/^}/ { type = "" }
+/^impl/ {
+    type = type_of($0)
+    is_trait = $0 ~ /(Signer|Visitor) for / && (FILENAME, type) in is_public_type
+}
 
-/^(    )?pub (const )?fn / {
+/^}/ { type = ""; is_trait = 0 }
+
+/^(    )?pub (const )?fn / || (is_trait && /^    fn /) {
     signature = " "
     name = $0
-    sub(/^ *pub (const )?fn /, "", name)
+    sub(/^ *(pub )?(const )?fn /, "", name)
     sub(/[<(].*/, "", name)
 }
 

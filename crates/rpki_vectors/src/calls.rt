@@ -6,7 +6,9 @@ mod asking;
 mod blocks;
 mod copies;
 mod extensions;
+mod folders;
 mod inputs;
+mod issuing;
 mod lists;
 mod making;
 mod parts;
@@ -32,6 +34,8 @@ fn told(alloc: Global, path: &str) -> Option<Told> {
         .or(lists::told(alloc, path))
         .or(stores::told(alloc, path))
         .or(paths::told(alloc, path))
+        .or(issuing::told(alloc, path))
+        .or(folders::told(alloc, path))
 }
 
 /// Makes the call of this public path, as `rpki_cert::Cert::take_from`, and prints `ok` or the name

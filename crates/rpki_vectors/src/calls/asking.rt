@@ -3,6 +3,8 @@
 use rpki_cert::{IssueCaError, ValidationError, VerificationError};
 use rpki_cert_tests::samples;
 use rpki_der::{Cursor, DecodeError, EncodeError};
+use rpki_folder::WalkError;
+use rpki_issuing::{CheckedError, IssuingError, ListError, NextListError};
 use rpki_parts::SigningError;
 use rpki_path::{PathError, PathFault};
 use std::alloc::{AllocError, Global};
@@ -106,6 +108,36 @@ impl Fault for PathFault {
 impl Fault for PathError {
     fn told(&self) -> &'static str {
         self.fault.name()
+    }
+}
+
+impl Fault for WalkError {
+    fn told(&self) -> &'static str {
+        if self.is_memory() { "Memory" } else { "Anchor" }
+    }
+}
+
+impl Fault for SigningError<CheckedError<()>> {
+    fn told(&self) -> &'static str {
+        self.name()
+    }
+}
+
+impl Fault for IssuingError {
+    fn told(&self) -> &'static str {
+        self.name()
+    }
+}
+
+impl Fault for ListError {
+    fn told(&self) -> &'static str {
+        self.name()
+    }
+}
+
+impl Fault for NextListError {
+    fn told(&self) -> &'static str {
+        self.name()
     }
 }
 

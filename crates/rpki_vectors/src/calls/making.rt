@@ -12,8 +12,8 @@ use rpki_parts::{PublicKey, StandIn};
 use rpki_path::issuing::issue_below;
 use std::alloc::Global;
 
-// The data of an authority under the anchor with AS1 to AS10, which lists AS5 to AS20.
-fn authority(alloc: Global) -> Option<TbsCert> {
+/// The data of an authority with the key `a` under the anchor, which lists AS5 to AS20.
+pub fn authority(alloc: Global) -> Option<TbsCert> {
     let mut tbs = samples::bare(alloc, 13, rsa(b"a"), KeyUsage::Ca)?;
     let set = set_authority(alloc, &mut tbs);
     set.and(Some(tbs))

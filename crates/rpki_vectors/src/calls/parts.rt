@@ -1,8 +1,8 @@
 //! Names and signed data.
 
-use crate::calls::asking::{Told, begin, plain};
+use crate::calls::asking::{Told, begin, ended, plain};
 use rpki_cert_tests::samples::{self, rsa};
-use rpki_parts::{Name, RpkiSignatureAlgorithm, Signature, SignedData, StandIn};
+use rpki_parts::{Name, RpkiSignatureAlgorithm, Signature, SignedData, Signer, StandIn};
 use std::alloc::Global;
 
 // The CommonName of the identifier of the key of the bits `abc`.
@@ -37,12 +37,25 @@ fn signed(alloc: Global) -> Option<Told> {
     plain(alloc, answer)
 }
 
+fn signed_alone(alloc: Global) -> Option<Told> {
+    let key = rsa(b"abc");
+    let algorithm = RpkiSignatureAlgorithm::default();
+    begin(alloc);
+    let answer = StandIn.sign(alloc, &key, algorithm, b"message");
+    let stands = match &answer {
+        Ok(signature) => signature.value() == b"abcmessage".as_slice(),
+        Err(_) => true,
+    };
+    Some(Told::standing(ended(alloc, answer), stands))
+}
+
 /// The calls of `rpki_parts`.
 pub fn told(alloc: Global, path: &str) -> Option<Told> {
     match path {
         "rpki_parts::Name::from_bytes" => name_whole(alloc),
         "rpki_parts::Signature::try_clone" => signature_copied(alloc),
         "rpki_parts::SignedData::sign" => signed(alloc),
+        "rpki_parts::StandIn::sign" => signed_alone(alloc),
         _ => None,
     }
 }

@@ -1,14 +1,15 @@
 //! Whole paths, and the line program.
 
-use crate::calls::asking::{Told, begin, end, plain};
-use crate::calls::inputs::{ANCHOR, FIRST, NUMBERS, SECOND, anchor, new_year};
+use crate::calls::asking::{Told, begin, end, ended, plain};
+use crate::calls::inputs::{ANCHOR, FIRST, NUMBERS, SECOND, anchor, locator, new_year};
 use bytes::Bytes;
+use rpki_blocks::Asn;
 use rpki_cert::{Kind, ResourceCert};
 use rpki_cert_tests::samples::{router, shared, signed};
-use rpki_der::Time;
+use rpki_der::{Serial, Time};
 use rpki_lines::{Watched, program};
 use rpki_parts::StandIn;
-use rpki_path::{GivenPath, Member, judge, validate_router};
+use rpki_path::{GivenPath, Member, Role, Validator, judge, validate_router};
 use rpki_revocation::NobodyAsked;
 use std::alloc::Global;
 use std::process::ExitCode;
@@ -119,9 +120,79 @@ fn router_judged(alloc: Global) -> Option<Told> {
     judged_as(alloc, &strings, Kind::Router, now)
 }
 
+// ---- step by step
+
+type Steps<'a> = Validator<'a, 'a, NobodyAsked, StandIn>;
+
+fn steps<'a>(alloc: Global, now: Time) -> Steps<'a> {
+    Validator {
+        alloc,
+        asked: &NobodyAsked,
+        strict: true,
+        at: now,
+        verifier: &StandIn,
+    }
+}
+
+fn anchor_step(alloc: Global) -> Option<Told> {
+    let octets = shared(alloc, NUMBERS)?;
+    let tal = locator(alloc)?;
+    let steps = steps(alloc, new_year()?);
+    begin(alloc);
+    let answer = steps.trust_anchor(&Member::of(&octets), tal);
+    let stands = match &answer {
+        Ok(holder) => holder.tal().name() == "example",
+        Err(_) => true,
+    };
+    Some(Told::standing(ended(alloc, answer), stands))
+}
+
+fn member_below(alloc: Global, issuer: &ResourceCert, now: Time) -> Option<Told> {
+    let octets = shared(alloc, FIRST)?;
+    let steps = steps(alloc, now);
+    begin(alloc);
+    let answer = steps.member(issuer, &Member::of(&octets), Role::Authority);
+    let stands = match &answer {
+        Ok(holder) => holder.as_resources().contains(Asn::from(10)),
+        Err(_) => true,
+    };
+    Some(Told::standing(ended(alloc, answer), stands))
+}
+
+fn member_step(alloc: Global) -> Option<Told> {
+    let now = new_year()?;
+    let issuer = anchor(alloc, NUMBERS, now)?;
+    let told = member_below(alloc, &issuer, now);
+    drop(issuer);
+    told
+}
+
+fn router_below(alloc: Global, issuer: &ResourceCert, now: Time) -> Option<Told> {
+    let octets = signed(alloc, router(alloc)?)?;
+    let steps = steps(alloc, now);
+    begin(alloc);
+    let answer = steps.router(&Member::of(&octets), issuer);
+    let stands = match &answer {
+        Ok(cert) => cert.as_tbs().serial_number() == Serial::from(10u64),
+        Err(_) => true,
+    };
+    Some(Told::standing(ended(alloc, answer), stands))
+}
+
+fn router_step(alloc: Global) -> Option<Told> {
+    let now = new_year()?;
+    let issuer = anchor(alloc, ANCHOR, now)?;
+    let told = router_below(alloc, &issuer, now);
+    drop(issuer);
+    told
+}
+
 /// The calls of `rpki_path` and `rpki_lines`.
 pub fn told(alloc: Global, path: &str) -> Option<Told> {
     match path {
+        "rpki_path::Validator::trust_anchor" => anchor_step(alloc),
+        "rpki_path::Validator::member" => member_step(alloc),
+        "rpki_path::Validator::router" => router_step(alloc),
         "rpki_path::validate_router" => router_validated(alloc),
         "rpki_path::judge" => path_judged(alloc),
         "rpki_path::judge/router" => router_judged(alloc),

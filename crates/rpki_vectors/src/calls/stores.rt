@@ -79,16 +79,20 @@ fn eight(alloc: Global) -> Option<Vec<CrlEntry>> {
     Some(entries)
 }
 
-// The data of a list with these entries.
-fn data(alloc: Global) -> Option<TbsCertList<Vec<CrlEntry>>> {
+// The data of a list with these entries, of the key that the bits are.
+fn data_of(alloc: Global, bits: &'static [u8]) -> Option<TbsCertList<Vec<CrlEntry>>> {
     let since = day(2019)?;
     let until = day(2029)?;
-    let identifier = rsa(b"abc").key_identifier();
+    let identifier = rsa(bits).key_identifier();
     let number = Serial::from(12u64);
     let algorithm = RpkiSignatureAlgorithm::default();
-    let issuer = rsa(b"abc").to_subject_name(alloc).ok()?;
+    let issuer = rsa(bits).to_subject_name(alloc).ok()?;
     let entries = eight(alloc)?;
     Some(TbsCertList::new(algorithm, issuer, since, until, entries, identifier, number))
+}
+
+fn data(alloc: Global) -> Option<TbsCertList<Vec<CrlEntry>>> {
+    data_of(alloc, b"abc")
 }
 
 fn collected(alloc: Global) -> Option<Told> {
@@ -118,9 +122,14 @@ pub fn read_again(alloc: Global) -> Option<Told> {
     Some(Told::of(answer))
 }
 
+/// The list of the key that the bits are, with the number 12: it revokes the numbers 1 to 8.
+pub fn list_by(alloc: Global, bits: &'static [u8]) -> Option<Crl> {
+    let key = rsa(bits);
+    data_of(alloc, bits)?.into_crl(alloc, &StandIn, &key).ok()
+}
+
 fn list(alloc: Global) -> Option<Crl> {
-    let key = rsa(b"abc");
-    data(alloc)?.into_crl(alloc, &StandIn, &key).ok()
+    list_by(alloc, b"abc")
 }
 
 // Whether the list answers as it was made, and from a table of its serials or not: a walk looks at

@@ -1,0 +1,383 @@
+//! Folders, the walk down through one, and what is kept of it.
+
+use crate::calls::asking::{Told, begin, end, ended, name_of};
+use crate::calls::inputs::{ANCHOR, anchor, new_year};
+use crate::calls::making::authority;
+use crate::calls::stores::list_by;
+use bytes::Bytes;
+use rpki_cert::{Cert, KeyUsage, ResourceCert, TbsCert};
+use rpki_cert_tests::samples::{self, rsa, shared};
+use rpki_crl::Crl;
+use rpki_folder::{
+    Accepted, Added, AllAdmitted, Bounds, Ended, Folder, Found, Line, Lines, Visitor, Walk,
+    WalkError,
+};
+use rpki_parts::StandIn;
+use rpki_path::{Member, PathFault};
+use rpki_tal::Tal;
+use std::alloc::{AllocError, Global};
+
+// ---- what is added
+
+// A list's octets.
+fn list_octets(alloc: Global) -> Option<Bytes> {
+    let list = list_by(alloc, b"abc")?;
+    let octets = list.to_captured(alloc).ok();
+    drop(list);
+    octets
+}
+
+// The data of an end entity of this serial below the key that the bits are.
+fn leaf(alloc: Global, serial: u64, bits: &'static [u8]) -> Option<TbsCert> {
+    let mut tbs = samples::bare(alloc, serial, rsa(b"b"), KeyUsage::Ee)?;
+    let set = samples::set_issuer(alloc, &mut tbs);
+    tbs.set_as_resources_inherit();
+    tbs.set_authority_key_identifier(Some(rsa(bits).key_identifier()));
+    set.and(Some(tbs))
+}
+
+// An end entity's octets.
+fn end_entity(alloc: Global, serial: u64, bits: &'static [u8]) -> Option<Bytes> {
+    let made = leaf(alloc, serial, bits)?
+        .into_cert(alloc, &StandIn, &rsa(bits))
+        .ok()?;
+    let octets = made.to_captured(alloc).ok();
+    drop(made);
+    octets
+}
+
+// Whether the folder has so many certificates, of which each names the anchor's key as the one that
+// signs it, and so many lists.
+fn has(folder: &Folder, certs: usize, lists: usize) -> bool {
+    let named = folder.signed_by(&rsa(b"abc").key_identifier());
+    folder.certs().len() == certs && named.len() == certs && folder.lists().len() == lists
+}
+
+fn empty(alloc: Global) -> Option<Told> {
+    begin(alloc);
+    let folder = Folder::new(alloc);
+    let stands = has(&folder, 0, 0);
+    drop(folder);
+    end(alloc);
+    Some(Told::standing("ok", stands))
+}
+
+// What was answered, and whether the folder is what it has to be.
+type Outcome = Option<(&'static str, bool)>;
+
+// Lets the folder go, and then marks the end: after an error it may keep room that it asked for.
+fn ended_without(alloc: Global, folder: Folder, outcome: Outcome) -> Option<Told> {
+    drop(folder);
+    end(alloc);
+    let (answer, stands) = outcome?;
+    Some(Told::standing(answer, stands))
+}
+
+// Puts four certificates and a list into a folder, so that the next one wants more room.
+fn begun(alloc: Global, folder: &mut Folder) -> Option<()> {
+    for serial in 9..13u64 {
+        folder.add(end_entity(alloc, serial, b"abc")?).ok()?;
+    }
+    folder.add_list(list_by(alloc, b"abc")?).ok()
+}
+
+// Whether a folder that had so many certificates and lists is what it has to be after this answer.
+fn is_added(
+    folder: &Folder,
+    answer: &Result<Added, AllocError>,
+    certs: usize,
+    lists: usize,
+) -> bool {
+    match answer {
+        Ok(Added::Certificate(place)) => *place == certs && has(folder, certs + 1, lists),
+        Ok(Added::List) => has(folder, certs, lists + 1),
+        Ok(Added::Neither) => has(folder, certs, lists),
+        Err(_) => has(folder, certs, lists),
+    }
+}
+
+fn add(alloc: Global, folder: &mut Folder, octets: Bytes, wanted: Added) -> Outcome {
+    let (certs, lists) = (folder.certs().len(), folder.lists().len());
+    begin(alloc);
+    let answer = folder.add(octets);
+    let is_wanted = match &answer {
+        Ok(added) => *added == wanted,
+        Err(_) => true,
+    };
+    let stands = is_wanted && is_added(folder, &answer, certs, lists);
+    Some((name_of(&answer), stands))
+}
+
+fn first_added(alloc: Global) -> Option<Told> {
+    let octets = end_entity(alloc, 9, b"abc")?;
+    let mut folder = Folder::new(alloc);
+    let outcome = add(alloc, &mut folder, octets, Added::Certificate(0));
+    ended_without(alloc, folder, outcome)
+}
+
+fn add_beside(alloc: Global, folder: &mut Folder, octets: Bytes, wanted: Added) -> Outcome {
+    begun(alloc, folder)?;
+    add(alloc, folder, octets, wanted)
+}
+
+// To a folder with certificates and a list.
+fn added_beside(alloc: Global, octets: Bytes, wanted: Added) -> Option<Told> {
+    let mut folder = Folder::new(alloc);
+    let outcome = add_beside(alloc, &mut folder, octets, wanted);
+    ended_without(alloc, folder, outcome)
+}
+
+fn add_read(alloc: Global, folder: &mut Folder, octets: Bytes) -> Outcome {
+    begun(alloc, folder)?;
+    let shared = octets.clone().ok()?;
+    let cert = Cert::decode_shared(alloc, shared).ok()?;
+    begin(alloc);
+    let answer = folder.add_cert(octets, cert);
+    let stands = match &answer {
+        Ok(place) => *place == 4 && has(folder, 5, 1),
+        Err(_) => has(folder, 4, 1),
+    };
+    Some((name_of(&answer), stands))
+}
+
+// A certificate that was read.
+fn read_added(alloc: Global) -> Option<Told> {
+    let octets = end_entity(alloc, 13, b"abc")?;
+    let mut folder = Folder::new(alloc);
+    let outcome = add_read(alloc, &mut folder, octets);
+    ended_without(alloc, folder, outcome)
+}
+
+fn add_list(alloc: Global, folder: &mut Folder, list: Crl) -> Outcome {
+    begin(alloc);
+    let answer = folder.add_list(list);
+    let stands = match &answer {
+        Ok(()) => has(folder, 0, 1),
+        Err(_) => has(folder, 0, 0),
+    };
+    Some((name_of(&answer), stands))
+}
+
+fn list_added(alloc: Global) -> Option<Told> {
+    let list = list_by(alloc, b"abc")?;
+    let mut folder = Folder::new(alloc);
+    let outcome = add_list(alloc, &mut folder, list);
+    ended_without(alloc, folder, outcome)
+}
+
+// ---- lines
+
+fn lines_made(alloc: Global) -> Option<Told> {
+    begin(alloc);
+    let answer = Lines::new(alloc, 9);
+    let stands = match &answer {
+        Ok(lines) => lines.as_slice().len() == 9,
+        Err(_) => true,
+    };
+    Some(Told::standing(ended(alloc, answer), stands))
+}
+
+// How many CAs stand above an accepted certificate; 8 where it was rejected below the trust anchor,
+// and 9 where nothing was told.
+fn kept(lines: &Lines, place: usize) -> usize {
+    match lines.as_slice().get(place) {
+        Some(Line::Accepted(above)) => above.len(),
+        Some(Line::Rejected(1, PathFault::Revocation(_))) => 8,
+        Some(Line::Unseen) => 9,
+        _ => 10,
+    }
+}
+
+// Lets the lines go, and then marks the end: they keep what was told before memory ran out.
+fn ended_beside(alloc: Global, lines: Lines, outcome: Outcome) -> Option<Told> {
+    drop(lines);
+    end(alloc);
+    let (answer, stands) = outcome?;
+    Some(Told::standing(answer, stands))
+}
+
+fn tell(alloc: Global, lines: &mut Lines, issuer: &ResourceCert) -> Outcome {
+    let accepted = Accepted {
+        holder: issuer,
+        router: None,
+    };
+    begin(alloc);
+    let answer = lines.tell(&[7], 0, Ok(accepted));
+    let is_told = kept(lines, 0) == if answer.is_ok() { 1 } else { 9 };
+    Some((name_of(&answer), is_told && kept(lines, 1) == 9))
+}
+
+fn line_told(alloc: Global) -> Option<Told> {
+    let issuer = anchor(alloc, ANCHOR, new_year()?)?;
+    let told = line_told_of(alloc, &issuer);
+    drop(issuer);
+    told
+}
+
+fn line_told_of(alloc: Global, issuer: &ResourceCert) -> Option<Told> {
+    let mut lines = Lines::new(alloc, 2).ok()?;
+    let outcome = tell(alloc, &mut lines, issuer);
+    ended_beside(alloc, lines, outcome)
+}
+
+// ---- the walk
+
+// A locator of the key with the bits `abc`, which is the anchor's.
+const LOCATOR: &[u8] = b"rsync://example.com/ta.cer\n\nMBUwDQYJKoZIhvcNAQEBBQADBABhYmM=\n";
+
+fn locator(alloc: Global) -> Option<Tal> {
+    let name = String::from_str(alloc, "example").ok()?;
+    Tal::read_named(alloc, name, LOCATOR, true).ok()
+}
+
+// An authority, an end entity below it, one below the anchor, and one there that its list revokes.
+fn fill(alloc: Global, folder: &mut Folder) -> Option<()> {
+    let octets = [
+        samples::signed(alloc, authority(alloc)?)?,
+        end_entity(alloc, 9, b"a")?,
+        end_entity(alloc, 9, b"abc")?,
+        end_entity(alloc, 5, b"abc")?,
+    ];
+    for one in octets {
+        folder.add(one).ok()?;
+    }
+    folder.add_list(list_by(alloc, b"abc")?).ok()?;
+    folder.add_list(list_by(alloc, b"a")?).ok()
+}
+
+// Whether the lines are those of the whole folder, or, where memory ran out, some of them.
+fn are_kept(lines: &Lines, is_whole: bool) -> bool {
+    let is_line = |place: usize, wanted: usize| {
+        let line = kept(lines, place);
+        line == wanted || !is_whole && line == 9
+    };
+    is_line(0, 0) && is_line(1, 1) && is_line(2, 0) && is_line(3, 8)
+}
+
+type Down<'w> = Walk<'w, AllAdmitted, StandIn>;
+
+fn anchor_taken(alloc: Global, walk: &Down<'_>, tal: &Tal, anchor: &Member<'_>) -> Option<Told> {
+    begin(alloc);
+    let answer = walk.trust_anchor(tal, anchor);
+    let stands = match &answer {
+        Ok(holder) => holder.tal().name() == "example",
+        Err(_) => true,
+    };
+    Some(Told::standing(ended(alloc, answer), stands))
+}
+
+fn walk_from(
+    alloc: Global,
+    walk: &Down<'_>,
+    tal: &Tal,
+    anchor: &Member<'_>,
+    lines: &mut Lines,
+) -> Outcome {
+    begin(alloc);
+    let answer = walk.from_anchor(tal, anchor, lines);
+    let stands = match &answer {
+        Ok(how) => *how == Ended::Whole && are_kept(lines, true),
+        Err(_) => are_kept(lines, false),
+    };
+    Some((name_of(&answer), stands))
+}
+
+fn walked_from(alloc: Global, walk: &Down<'_>, tal: &Tal, anchor: &Member<'_>) -> Option<Told> {
+    let mut lines = Lines::new(alloc, 4).ok()?;
+    let outcome = walk_from(alloc, walk, tal, anchor, &mut lines);
+    ended_beside(alloc, lines, outcome)
+}
+
+fn walk_below(alloc: Global, walk: &Down<'_>, issuer: &ResourceCert, lines: &mut Lines) -> Outcome {
+    begin(alloc);
+    let answer = walk.below(issuer, lines);
+    let stands = match &answer {
+        Ok(how) => *how == Ended::Whole && are_kept(lines, true),
+        Err(_) => are_kept(lines, false),
+    };
+    Some((name_of(&answer), stands))
+}
+
+fn walked_below(alloc: Global, walk: &Down<'_>, issuer: &ResourceCert) -> Option<Told> {
+    let mut lines = Lines::new(alloc, 4).ok()?;
+    let outcome = walk_below(alloc, walk, issuer, &mut lines);
+    ended_beside(alloc, lines, outcome)
+}
+
+fn walked(alloc: Global, walk: &Down<'_>, tal: &Tal, anchor: &Member<'_>) -> Option<Told> {
+    let issuer = walk.trust_anchor(tal, anchor).ok()?;
+    let told = walked_below(alloc, walk, &issuer);
+    drop(issuer);
+    told
+}
+
+// Whether the end entity below the authority was found.
+fn is_found(answer: &Result<Found, WalkError>) -> bool {
+    match answer {
+        Ok(Found::Valid(path)) => path.above.as_slice() == [0].as_slice(),
+        Ok(Found::NotFound(_)) => false,
+        Err(_) => true,
+    }
+}
+
+fn found(alloc: Global, walk: &Down<'_>, tal: &Tal, anchor: &Member<'_>) -> Option<Told> {
+    begin(alloc);
+    let answer = walk.find(tal, anchor, 1);
+    let stands = is_found(&answer);
+    Some(Told::standing(ended(alloc, answer), stands))
+}
+
+fn down(alloc: Global, path: &str, folder: &Folder, tal: &Tal) -> Option<Told> {
+    let octets = shared(alloc, ANCHOR)?;
+    let anchor = Member::of(&octets);
+    let walk = Walk {
+        alloc,
+        folder,
+        admission: &AllAdmitted,
+        bounds: Bounds { depth: 3, steps: 9 },
+        strict: true,
+        at: new_year()?,
+        verifier: &StandIn,
+    };
+    match path {
+        "rpki_folder::Walk::trust_anchor" => anchor_taken(alloc, &walk, tal, &anchor),
+        "rpki_folder::Walk::from_anchor" => walked_from(alloc, &walk, tal, &anchor),
+        "rpki_folder::Walk::below" => walked(alloc, &walk, tal, &anchor),
+        "rpki_folder::Walk::find" => found(alloc, &walk, tal, &anchor),
+        _ => None,
+    }
+}
+
+fn down_filled(alloc: Global, path: &str, folder: &mut Folder, tal: &Tal) -> Option<Told> {
+    fill(alloc, folder)?;
+    down(alloc, path, folder, tal)
+}
+
+fn of_walk(alloc: Global, path: &str) -> Option<Told> {
+    let tal = locator(alloc)?;
+    let mut folder = Folder::new(alloc);
+    let told = down_filled(alloc, path, &mut folder, &tal);
+    drop(folder);
+    drop(tal);
+    told
+}
+
+/// The calls of `rpki_folder`.
+pub fn told(alloc: Global, path: &str) -> Option<Told> {
+    match path {
+        "rpki_folder::Folder::new" => empty(alloc),
+        "rpki_folder::Folder::add" => first_added(alloc),
+        "rpki_folder::Folder::add/beside" => {
+            added_beside(alloc, end_entity(alloc, 13, b"abc")?, Added::Certificate(4))
+        }
+        "rpki_folder::Folder::add/list" => { added_beside(alloc, list_octets(alloc)?, Added::List) }
+        "rpki_folder::Folder::add/neither" => {
+            added_beside(alloc, shared(alloc, "3000")?, Added::Neither)
+        }
+        "rpki_folder::Folder::add_cert" => read_added(alloc),
+        "rpki_folder::Folder::add_list" => list_added(alloc),
+        "rpki_folder::Lines::new" => lines_made(alloc),
+        "rpki_folder::Lines::tell" => line_told(alloc),
+        _ => of_walk(alloc, path),
+    }
+}
