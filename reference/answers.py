@@ -1,6 +1,7 @@
 """What the reference answers to each question of the vectors, in their words."""
 
 import answer_words as show
+import folders
 import keys
 import reference as ref
 import rsa
@@ -282,8 +283,13 @@ def path_line(members, strict, now, verifier=ref.stand_in, store=None):
         return show.held(ref.validate_path(members, strict, now, verifier,
                                            store=store))
     except ref.PathError as e:
-        inside = '' if e.stage == 'decode' else f' {e.fault}'
-        return refused(f'{e.index} {e.stage}{inside}')
+        return refused_of(e)
+
+
+def refused_of(e):
+    """What was wrong with a member of a path."""
+    inside = '' if e.stage == 'decode' else f' {e.fault}'
+    return refused(f'{e.index} {e.stage}{inside}')
 
 
 def path(words):
@@ -462,6 +468,33 @@ def base64_of_line(words):
     return 'none' if octets is None else f'ok {show.hexed(octets)}'
 
 
+# ----------------------------------------------------------------- folders ---
+
+def folder(words, verifier=ref.stand_in):
+    """The walk down from a locator's trust anchor, by going over all paths."""
+    now, kind_and_digits = show.moment_of(words.at(2)), words.at(6).partition(':')
+    strict, depth, most = words.at(1) == 'strict', int(words.at(3)), int(words.at(4))
+    key = ref.decode_locator(words.octets(5), True).key
+    strings = [show.octets_of(word) for word in words.words[7:]]
+    octets = show.octets_of(kind_and_digits[2])
+    try:
+        if ref.decode_cert(octets).tbs.key != key:
+            return refused('locator OtherKey')
+    except ref.DecodeError:
+        pass
+    try:
+        anchor = ref.validate_path([(ref.TA, octets)], strict, now, verifier)
+    except ref.PathError as e:
+        return refused_of(e)
+    found = folders.Folder(strings, verifier)
+    verdicts, steps, is_bounded = found.looked_at(anchor, strict, now, depth)
+    if steps > most:
+        return 'out'
+    return ' '.join(['deep' if is_bounded else 'whole',
+                     *(NO[verdicts[place]] if place in verdicts else '-'
+                       for place, _ in found.certs)])
+
+
 WORDS = {
     'certificate': certificate, 'data': data, 'make': make,
     'inspect': inspect, 'verify': verify, 'validate': validate,
@@ -472,7 +505,8 @@ WORDS = {
     'real-revocation': lambda w: revocation(w, rsa.verifier),
     'rsa': lambda w: show.yes(rsa.verify(*map(w.octets, (1, 2, 3)))),
     'rsa-key': lambda w: show.yes(rsa.is_rpki_key(w.octets(1))),
-    'key-form': key_form, 'locator': locator,
+    'key-form': key_form, 'locator': locator, 'folder': folder,
+    'real-folder': lambda w: folder(w, rsa.verifier),
     'base64': base64_of_line,
     **PARTS, **URIS, **RESOURCES, **DER,
 }

@@ -138,6 +138,32 @@ class Folder:
             row = following
         return heights, is_bounded
 
+    def looked_at(self, anchor, strict, now, depth):
+        """What a walk of this depth looks at: the places of the certificates that stand below the
+        end of a valid path of fewer than so many, each with whether it is accepted below one; how
+        many pairs there are of such a path and a certificate below it; and whether a CA stands at
+        the depth with some below it.
+
+        Paths with the same end and the same resources there are counted together.
+        """
+        verdicts, steps, row = {}, 0, {None: (anchor, 1)}
+        for _ in range(depth):
+            following = {}
+            for issuer, count in row.values():
+                for place, cert in self.below(issuer):
+                    steps += count
+                    verdicts.setdefault(place, False)
+                    try:
+                        kind, result = self.judged(cert, issuer, strict, now)
+                    except Refusal:
+                        continue
+                    verdicts[place] = True
+                    if kind == CA:
+                        state = place, result.v4, result.v6, result.asn
+                        following[state] = result, following.get(state, (None, 0))[1] + count
+            row = following
+        return verdicts, steps, any(self.below(issuer) for issuer, _ in row.values())
+
 
 def accepted(strings, key, strict, now, verifier=stand_in, depth=32):
     """The places of the certificates that are accepted below each trust anchor of the key: pairs of

@@ -24,6 +24,7 @@ from typing import Callable, NamedTuple
 
 import answers
 import questions as q
+import questions_folders
 import questions_locators
 import questions_parts as p
 import vectors
@@ -72,6 +73,8 @@ BLOCKS = {
                         q.rearrange_question, most=4000),
     'revocation': Block('paths that ask revocation lists', 300,
                         q.revocation_question, most=9000),
+    'folders': Block('walks through folders', 20,
+                     questions_folders.folder_question, most=24000),
 }
 
 

@@ -2,7 +2,7 @@
 missing, foreign, stale or damaged, wrong issuers, routers and end entities.
 
 Every function takes a `random.Random`. Signatures are RSA's (RFC 7935), by keys that the `openssl`
-command makes.
+command makes, or the stand-in's.
 """
 
 import base64
@@ -61,6 +61,16 @@ class Signer:
 
     def signed(self, message):
         return ref.SignedData(message, True, self.sign(message)).octets()
+
+
+class StandInSigner:
+    """A key of these bits, and what the stand-in signs by it."""
+
+    def __init__(self, bits):
+        self.key = ref.Key(ref.RSA, bits)
+
+    def signed(self, message):
+        return ref.stand_in_sign(self.key, True, message).octets()
 
 
 def blocks(low, high):
@@ -213,6 +223,12 @@ class Maker:
             self.files[f'again{len(self.files)}{name[-4:]}'] = self.files[name]
 
 
+def locator_of(key):
+    """A locator of a trust anchor with this key (RFC 8630)."""
+    info = base64.b64encode(ref.put_key(key)).decode()
+    return f'rsync://example.com/m/ta.cer\n\n{info}\n'.encode()
+
+
 def random_folder(rng, pool):
     """A folder's files by their names, in a random order; and the locator of its trust anchor."""
     maker = Maker(rng, pool)
@@ -225,6 +241,5 @@ def random_folder(rng, pool):
     names = list(maker.files)
     shuffled = rng.sample(names, len(names))
     files = {f'{place:02}-{name}': maker.files[name] for place, name in enumerate(shuffled)}
-    info = base64.b64encode(ref.put_key(maker.keys[0].key)).decode()
-    locator = f'rsync://example.com/m/ta.cer\n\n{info}\n'.encode()
-    return files, locator, maker.keys[0].key
+    key = maker.keys[0].key
+    return files, locator_of(key), key

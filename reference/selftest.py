@@ -787,6 +787,23 @@ def folders_of_files():
     yield 'too deep', accepted(anchor, first, second, circle, *lists, depth=2), [(0, [1, 2])]
     yield 'leaves', accepted(anchor, leaf, router, *lists), [(0, [1, 2])]
 
+    def looked_at(*strings, depth):
+        folder = folders.Folder(strings)
+        (_, root), = folder.anchors(worked.K1, True, worked.NOW)
+        verdicts, steps, is_bounded = folder.looked_at(root, True, worked.NOW, depth)
+        return sorted(verdicts.items()), steps, is_bounded
+
+    yield ('whole, looked at', looked_at(anchor, first, second, leaf, *lists, depth=2),
+           ([(1, True), (2, True), (3, True)], 3, False))
+    yield ('nothing, looked at', looked_at(anchor, first, *lists, depth=0), ([], 0, True))
+    yield ('without lists, looked at', looked_at(anchor, first, second, depth=8),
+           ([(1, False)], 1, False))
+    # the renewal and the first have the key of one that is below both
+    yield ('beside, looked at', looked_at(anchor, renewed, first, second, *lists, depth=8),
+           ([(1, True), (2, True), (3, True)], 4, False))
+    yield ('a circle, looked at', looked_at(anchor, first, second, circle, *lists, depth=4),
+           ([(1, True), (2, True), (3, True)], 4, True))
+
 
 @checks
 def deeper_qualifiers():

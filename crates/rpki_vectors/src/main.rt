@@ -52,6 +52,11 @@
 //!   key KEY (all of a SubjectPublicKeyInfo) is that key, `none` where KEY is `-`.
 //! - `located YYYYMMDDhhmmss MODE STORE LOCATOR ta:HEX ca:HEX .. ee:HEX`: as `revocation`, where the
 //!   path is that of the locator's trust anchor; and whether that has the locator's key.
+//! - `folder MODE YYYYMMDDhhmmss DEPTH STEPS LOCATOR ta:HEX HEX HEX ..`: the walk down from the
+//!   locator's trust anchor, of at most this depth and so many steps, through a folder with what
+//!   these octets are; `real-folder` with RSA signatures. An answer tells how it ended (`whole`,
+//!   `deep`, `out`), and, but for `out`, of each certificate in its place whether it was accepted,
+//!   `-` where no verdict was told.
 //! - `base64 TEXT`: the octets that the digits of a line stand for.
 //!
 //! Revocation lists:
@@ -113,6 +118,7 @@ mod calls;
 mod certificates;
 mod cursors;
 mod extensions;
+mod folders;
 mod judging;
 mod keys;
 mod lists;
@@ -176,6 +182,8 @@ fn of_several(words: &Words<'_>, out: &mut Answer) -> bool {
         "rsa-key" => signatures::rsa_key(words, out),
         "key-form" => keys::key_form(words, out),
         "located" => located::located(words, out),
+        "folder" => folders::folder(words, out),
+        "real-folder" => signatures::real_folder(words, out),
         "locator" => locators::locator(words, out),
         "base64" => locators::base64(words, out),
         "run" => runs::answer(words, out),

@@ -40,7 +40,8 @@ pub fn leaf(out: &mut Answer, words: &Words<'_>) -> Option<Leaf> {
     named(out, last, "detached").map(|octets| Leaf::DetachedEe(octets))
 }
 
-fn refused(out: &mut Answer, error: &PathError) {
+/// Appends the member that was refused, and why.
+pub fn refused(out: &mut Answer, error: &PathError) {
     out.text("refused ");
     out.count(error.index);
     match &error.fault {

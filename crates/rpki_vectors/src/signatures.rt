@@ -1,7 +1,7 @@
 //! Signatures by RSA keys, and whole paths with them.
 use crate::answer::Answer;
 use crate::words::Words;
-use crate::{paths, revocation};
+use crate::{folders, paths, revocation};
 use rpki_keys::{RsaVerifier, is_rpki_key, verify};
 
 /// Answers whether bits are a key of the RPKI.
@@ -27,4 +27,9 @@ pub fn real_path(words: &Words<'_>, out: &mut Answer) {
 /// What such a path answers where the lists of a store are asked.
 pub fn real_revocation(words: &Words<'_>, out: &mut Answer) {
     revocation::judged(words, out, &RsaVerifier);
+}
+
+/// What a walk through a folder answers with RSA signatures.
+pub fn real_folder(words: &Words<'_>, out: &mut Answer) {
+    folders::judged(words, out, &RsaVerifier);
 }

@@ -89,8 +89,9 @@ fn is_added(
     lists: usize,
 ) -> bool {
     match answer {
-        Ok(Added::Certificate(place)) => *place == certs && has(folder, certs + 1, lists),
-        Ok(Added::List) => has(folder, certs, lists + 1),
+        Ok(Added::Certificate(place)) => *place == certs
+            && has(folder, certs.saturating_add(1), lists),
+        Ok(Added::List) => has(folder, certs, lists.saturating_add(1)),
         Ok(Added::Neither) => has(folder, certs, lists),
         Err(_) => has(folder, certs, lists),
     }
@@ -378,6 +379,7 @@ pub fn told(alloc: Global, path: &str) -> Option<Told> {
         "rpki_folder::Folder::add_list" => list_added(alloc),
         "rpki_folder::Lines::new" => lines_made(alloc),
         "rpki_folder::Lines::tell" => line_told(alloc),
-        _ => of_walk(alloc, path),
+        _ if path.starts_with("rpki_folder::Walk::") => of_walk(alloc, path),
+        _ => None,
     }
 }

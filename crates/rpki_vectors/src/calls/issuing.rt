@@ -110,8 +110,10 @@ fn of_authority(alloc: Global, issuer: &ResourceCert, is_signed: bool) -> Option
 
 // ---- lists
 
+type Fields = TbsCertList<RevokedCertificates>;
+
 // The list's number is 12, and it revokes the numbers 1 to 8. One of them is gone, and 9 comes in.
-fn next(alloc: Global, list: &Crl) -> Result<TbsCertList<RevokedCertificates>, NextListError> {
+fn next(alloc: Global, list: &Crl) -> Result<Fields, NextListError> {
     let (Some(since), Some(until)) = (day(2023), day(2025)) else {
         return Err(NextListError::UpdateOrder);
     };
@@ -121,7 +123,7 @@ fn next(alloc: Global, list: &Crl) -> Result<TbsCertList<RevokedCertificates>, N
     next_list(alloc, list, number, &revoked, &gone, since, until)
 }
 
-fn is_next(answer: &Result<TbsCertList<RevokedCertificates>, NextListError>) -> bool {
+fn is_next(answer: &Result<Fields, NextListError>) -> bool {
     match answer {
         Ok(fields) => {
             let revoked = fields.revoked_certs();
@@ -148,8 +150,6 @@ fn is_list_prepared(answer: &Result<PreparedList, ListError>, wanted: &[u8]) -> 
         Err(_) => true,
     }
 }
-
-type Fields = TbsCertList<RevokedCertificates>;
 
 fn list_prepared(alloc: Global, fields: &Fields, issuer: &ResourceCert) -> Option<Told> {
     let now = new_year()?;
@@ -245,17 +245,20 @@ fn below(alloc: Global, path: &str, issuer: &ResourceCert) -> Option<Told> {
     }
 }
 
+fn below_anchor(alloc: Global, path: &str) -> Option<Told> {
+    let issuer = anchor(alloc, ANCHOR, new_year()?)?;
+    let told = below(alloc, path, &issuer);
+    drop(issuer);
+    told
+}
+
 /// The calls of `rpki_issuing`.
 pub fn told(alloc: Global, path: &str) -> Option<Told> {
     match path {
         "rpki_issuing::Role::validate/anchor" => anchor_validated(alloc),
         "rpki_issuing::next_list" => next_made(alloc),
         "rpki_issuing::Checked::sign" => checked_signed(alloc),
-        _ => {
-            let issuer = anchor(alloc, ANCHOR, new_year()?)?;
-            let told = below(alloc, path, &issuer);
-            drop(issuer);
-            told
-        }
+        _ if path.starts_with("rpki_issuing::") => below_anchor(alloc, path),
+        _ => None,
     }
 }
