@@ -48,7 +48,8 @@ fn answered<F: FileSource, E: Write>(
     let members = read_files(alloc, files, err, &request.files, most)?;
     let lists = read_files(alloc, files, err, &request.lists, most)?;
     let locators = read_locators(alloc, files, err, &request.locators, most, request.strict)?;
-    answer_request(alloc, request, now, &members, &lists, &locators)
+    let answer = answer_request(alloc, request, now, &members, &lists, &locators)?;
+    Ok(answer)
 }
 
 /// Answers at this moment what a request asks of files, as reading them gives them, and writes the
