@@ -5,4 +5,7 @@ mod FirstInside
 pub mod FoundPolicies
 pub mod NothingRead
 mod PemLines
+mod KindsSeen
+mod StopWalks
+mod StopsWithin
 mod Turns

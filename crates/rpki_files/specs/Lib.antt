@@ -8,5 +8,6 @@ pub mod StopPlaces
 pub mod PolicyPresence
 pub mod FaultRules
 pub mod KnownKinds
+pub mod PartTexts
 pub mod FileSorts
 pub mod SortTexts

@@ -1,103 +1,130 @@
-//! The fields at which reading may stop, and what is wanted there.
+//! The parts at which reading may stop, and what is wanted there.
+ghost use Rattle.std.specs.Prelude.{◌≡◌};
+ghost use Rattle.rpki_files.specs.PartTexts.{field_text, part_text};
 
-/// A field, by its name, and what has to stand there.
+use crate::kinds::Kind;
+
+/// A field that is read as a whole.
 #[derive(Clone, Copy)]
-pub struct Part {
-    pub field: &'static str,
-    pub wanted: &'static str,
+pub enum Field {
+    /// The version of a certificate.
+    Version,
+    /// The version of a list.
+    ListVersion,
+    Serial,
+    /// The signature algorithm inside what is signed.
+    Algorithm,
+    Issuer,
+    Validity,
+    Subject,
+    Key,
+    ThisUpdate,
+    NextUpdate,
+    /// The signature algorithm beside the signature.
+    SignatureAlgorithm,
 }
 
-pub const OUTER: Part = Part {
-    field: "the outer SEQUENCE",
-    wanted: "a SEQUENCE that ends within the file (RFC 5280 4.1, 5.1)",
-};
+/// A part of a certificate or of a list at which reading may stop.
+#[derive(Clone, Copy)]
+pub enum Part {
+    /// The SEQUENCE around all.
+    Outer,
+    /// The SEQUENCE that is signed.
+    Signed,
+    Field(Field),
+    /// The SEQUENCE of the revoked certificates.
+    Entries,
+    /// One of the revoked certificates.
+    Entry,
+    /// The extensions inside their tags, and all of them together.
+    Extensions,
+    /// An extension that isn't well formed.
+    Extension,
+    /// An extension of this kind.
+    Kind(Kind),
+    /// What stands where the extensions, or what is signed, have to end.
+    Behind,
+    Signature,
+}
 
-pub const SIGNED: Part = Part {
-    field: "what is signed",
-    wanted: "a SEQUENCE (RFC 5280 4.1, 5.1)",
-};
+impl Field {
+    fn name(self) -> &'static str
+        ensures { result.now ≡ (field_text self).name }
+    {
+        match self {
+            Field::Version => "the version",
+            Field::ListVersion => "the version",
+            Field::Serial => "the serial number",
+            Field::Algorithm => "the signature algorithm",
+            Field::Issuer => "the issuer",
+            Field::Validity => "the validity",
+            Field::Subject => "the subject",
+            Field::Key => "the public key",
+            Field::ThisUpdate => "this update",
+            Field::NextUpdate => "next update",
+            Field::SignatureAlgorithm => "the algorithm of the signature",
+        }
+    }
 
-pub const VERSION: Part = Part {
-    field: "the version",
-    wanted: "version 3: 2 inside [0], and nothing behind it (RFC 6487 4.1)",
-};
+    fn wanted(self) -> &'static str
+        ensures { result.now ≡ (field_text self).wanted }
+    {
+        match self {
+            Field::Version => "version 3: 2 inside [0], and nothing behind it (RFC 6487 4.1)",
+            Field::ListVersion => "version 2: the INTEGER 1 (RFC 6487 5)",
+            Field::Serial => {
+                "an INTEGER that isn't negative, of 20 octets at most (RFC 5280 4.1.2.2)"
+            }
+            Field::Algorithm => "sha256WithRSAEncryption (RFC 7935 2)",
+            Field::Issuer => "a Name (RFC 5280 4.1.2.4)",
+            Field::Validity => "two times to the second, UTCTime before 2050 (RFC 5280 4.1.2.5)",
+            Field::Subject => "a Name (RFC 5280 4.1.2.6)",
+            Field::Key => "an RSA key or one on the curve P-256 (RFC 7935 3, RFC 8608 3.1)",
+            Field::ThisUpdate => "a time to the second, UTCTime before 2050 (RFC 5280 5.1.2.4)",
+            Field::NextUpdate => "a time to the second, UTCTime before 2050 (RFC 5280 5.1.2.5)",
+            Field::SignatureAlgorithm => "sha256WithRSAEncryption (RFC 7935 2)",
+        }
+    }
+}
 
-pub const LIST_VERSION: Part = Part {
-    field: "the version",
-    wanted: "version 2: the INTEGER 1 (RFC 6487 5)",
-};
+impl Part {
+    /// Returns its name.
+    pub fn name(self) -> &'static str
+        ensures { result.now ≡ (part_text self).name }
+    {
+        match self {
+            Part::Outer => "the outer SEQUENCE",
+            Part::Signed => "what is signed",
+            Part::Field(field) => field.name(),
+            Part::Entries => "the revoked certificates",
+            Part::Entry => "a revoked certificate",
+            Part::Extensions => "the extensions",
+            Part::Extension => "an extension",
+            Part::Kind(kind) => kind.name(),
+            Part::Behind => "what follows the extensions",
+            Part::Signature => "the signature",
+        }
+    }
 
-pub const SERIAL: Part = Part {
-    field: "the serial number",
-    wanted: "an INTEGER that isn't negative, of 20 octets at most (RFC 5280 4.1.2.2)",
-};
-
-pub const ALGORITHM: Part = Part {
-    field: "the signature algorithm",
-    wanted: "sha256WithRSAEncryption (RFC 7935 2)",
-};
-
-pub const ISSUER: Part = Part {
-    field: "the issuer",
-    wanted: "a Name (RFC 5280 4.1.2.4)",
-};
-
-pub const VALIDITY: Part = Part {
-    field: "the validity",
-    wanted: "two times to the second, UTCTime before 2050 (RFC 5280 4.1.2.5)",
-};
-
-pub const SUBJECT: Part = Part {
-    field: "the subject",
-    wanted: "a Name (RFC 5280 4.1.2.6)",
-};
-
-pub const KEY: Part = Part {
-    field: "the public key",
-    wanted: "an RSA key or one on the curve P-256 (RFC 7935 3, RFC 8608 3.1)",
-};
-
-pub const THIS_UPDATE: Part = Part {
-    field: "this update",
-    wanted: "a time to the second, UTCTime before 2050 (RFC 5280 5.1.2.4)",
-};
-
-pub const NEXT_UPDATE: Part = Part {
-    field: "next update",
-    wanted: "a time to the second, UTCTime before 2050 (RFC 5280 5.1.2.5)",
-};
-
-pub const ENTRIES: Part = Part {
-    field: "the revoked certificates",
-    wanted: "a SEQUENCE (RFC 5280 5.1.2.6)",
-};
-
-pub const ENTRY: Part = Part {
-    field: "a revoked certificate",
-    wanted: "a serial number and a time, and nothing behind them (RFC 6487 5)",
-};
-
-pub const EXTENSIONS: Part = Part {
-    field: "the extensions",
-    wanted: "a SEQUENCE of all that must be there (RFC 6487 4.8, 5)",
-};
-
-pub const EXTENSION: Part = Part {
-    field: "an extension",
-    wanted: "an identifier, a flag where it is true, and an OCTET STRING (RFC 5280 4.1)",
-};
-
-pub const BEHIND: Part = Part {
-    field: "what follows the extensions",
-    wanted: "nothing (RFC 5280 4.1, 5.1)",
-};
-
-pub const SIGNATURE_ALGORITHM: Part = Part {
-    field: "the algorithm of the signature",
-    wanted: "sha256WithRSAEncryption (RFC 7935 2)",
-};
-
-pub const SIGNATURE: Part = Part {
-    field: "the signature",
-    wanted: "a BIT STRING of whole octets, and nothing behind it (RFC 5280 4.1.1.3, 5.1.1.3)",
-};
+    /// Returns what has to stand there, with the section that asks it.
+    pub fn wanted(self) -> &'static str
+        ensures { result.now ≡ (part_text self).wanted }
+    {
+        match self {
+            Part::Outer => "a SEQUENCE that ends within the file (RFC 5280 4.1, 5.1)",
+            Part::Signed => "a SEQUENCE (RFC 5280 4.1, 5.1)",
+            Part::Field(field) => field.wanted(),
+            Part::Entries => "a SEQUENCE (RFC 5280 5.1.2.6)",
+            Part::Entry => "a serial number and a time, and nothing behind them (RFC 6487 5)",
+            Part::Extensions => "a SEQUENCE of all that must be there (RFC 6487 4.8, 5)",
+            Part::Extension => {
+                "an identifier, a flag where it is true, and an OCTET STRING (RFC 5280 4.1)"
+            }
+            Part::Kind(kind) => kind.wanted(),
+            Part::Behind => "nothing (RFC 5280 4.1, 5.1)",
+            Part::Signature => {
+                "a BIT STRING of whole octets, and nothing behind it (RFC 5280 4.1.1.3, 5.1.1.3)"
+            }
+        }
+    }
+}

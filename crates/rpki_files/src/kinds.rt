@@ -1,10 +1,9 @@
 //! The kinds of extensions: their names, and whether one may stand as it stands.
 ghost use Rattle.std.specs.Prelude.{◌≡◌, ◌++◌, ◌↔◌, IsTrue, IsOk, MatchResult};
 ghost use Rattle.rpki.specs.Place.{remaining};
-ghost use Rattle.rpki_files.specs.KnownKinds.{kind_among, place_kinds, resource_kinds, known_in_certificates, known_in_lists, known_kind, kind_name, HasContent, MayHaveFlag, SaysWhether};
+ghost use Rattle.rpki_files.specs.KnownKinds.{kind_among, place_kinds, resource_kinds, known_in_certificates, known_in_lists, known_kind, kind_name, kind_wanted, HasContent, MayHaveFlag, SaysWhether};
 ghost use Rattle.rpki_files.specs.declared.kinds.Kind.TheVariants.{Unknown, NoList};
 
-use crate::expected::Part;
 use rpki::der::{Cursor, DecodeError};
 use rpki::oid;
 use rpki::repository::extension::{
@@ -130,16 +129,10 @@ impl Kind {
         }
     }
 
-    /// Returns it as a field, with what is wanted there.
-    pub fn part(self) -> Part {
-        Part {
-            field: self.name(),
-            wanted: self.wanted(),
-        }
-    }
-
-    // What is wanted of an extension of this kind. In lists no flag is.
-    fn wanted(self) -> &'static str {
+    /// Returns what is wanted of an extension of this kind. In lists no flag is.
+    pub fn wanted(self) -> &'static str
+        ensures { result.now ≡ kind_wanted self }
+    {
         match self {
             Kind::BasicConstraints => {
                 "critical, that it is a CA, and no path length (RFC 6487 4.8.1)"
@@ -234,7 +227,7 @@ impl Kind {
 }
 
 // Whether a value was read.
-fn without_value<T: Drop>(read: Result<T, DecodeError>) -> Result<(), DecodeError>
+pub(crate) fn without_value<T: Drop>(read: Result<T, DecodeError>) -> Result<(), DecodeError>
     ensures { MatchResult read (λ _. IsOk result) (λ e. result ≡ Err e) }
 {
     let value = read?;

@@ -1,18 +1,30 @@
 //! Where the reading of a file stops.
-ghost use Rattle.std.specs.Prelude.{◌≡◌, ◌≤◌, length, IfErr, IfOk};
-ghost use Rattle.rpki_files.specs.StopPlaces.{IsStopAt, IsStopWithin};
+ghost use Rattle.std.specs.Prelude.{◌≡◌, ◌≢◌, ◌≤◌, ◌<◌, ◌↔◌, ◌++◌, ◌∷◌, ◌+◌, false, true, false, List, [], length, map, Contains, IfErr, IfOk, IsErr, IsTrue, OnOk};
+ghost use Rattle.rpki.specs.DecodeError.TheVariants as decoding;
+ghost use Rattle.rpki.specs.Extensions.{Extension, IsExtension};
+ghost use Rattle.rpki.specs.Certificates.{version_format};
+ghost use Rattle.rpki.specs.Lists.{version_2};
+ghost use Rattle.rpki.specs.Place.{Keeps, remaining};
+ghost use Rattle.rpki.specs.Place.Reading.{Took};
+ghost use Rattle.rpki.specs.Values.{AreOctets};
+ghost use Rattle.rpki.specs.RevokedEntries.{AreEntries, Entry, IsEntry, entry_format};
+ghost use Rattle.rpki.specs.Tags.{SEQUENCE};
+ghost use Rattle.rpki_files.specs.KnownKinds.{SaysWhether, known_kind};
+ghost use Rattle.rpki_files.specs.PartTexts.{part_text};
+ghost use Rattle.rpki_files.specs.StopPlaces.{AnswersWhether, AreComplete, AreFields, AreIncomplete, AreOfKinds, EncodesSome, HasBoth, HasTag, IsField, IsNext, IsSecond, IsStop, IsStopPlace, MayStand, MayStandAs, Opens, Passes, ReadsEntries, ReadsExtensions, ReadsSigned, ReadsToExtensions, StopsAmong, StopsAmongElements, StopsAt, StopsAtEntries, StopsAtExtension, StopsAtExtensions, StopsBefore, StopsBeforeExtensions, StopsBehind, StopsInEntries, StopsInExtensions, StopsInSigned, StopsInside, extensions_tag, kind_of};
 
-use crate::expected::{self, Part};
-use crate::kinds::Kind;
+use crate::expected::{Field, Part};
+use crate::kinds::{Kind, without_value};
 use bytes::Bytes;
 use rpki::crypto::{PublicKey, RpkiSignatureAlgorithm};
 use rpki::der::{Cursor, DecodeError, tag, take_extension};
+use rpki::repository::crl::CrlEntry;
 use rpki::repository::extension::Extensions;
 use rpki::repository::x509::{Name, Serial, Time, Validity};
 use std::alloc::{AllocError, Global};
 
-/// The field at which reading stops, the octet of the file at which that field begins, and what is
-/// wanted there.
+/// The part at which reading stops, the octet of the file at which it stops, and what is wanted
+/// there.
 #[derive(Clone, Copy)]
 pub struct Place {
     pub field: &'static str,
@@ -20,358 +32,515 @@ pub struct Place {
     pub wanted: &'static str,
 }
 
-// Why a walk through the fields ends.
+// Why a walk through the parts ends.
 #[derive(Clone, Copy)]
 enum Stop {
-    At(Place),
+    At(Part, usize),
     Memory,
 }
 
-fn place_at(part: Part, octet: usize) -> Place
-    ensures { result.octet ≡ octet }
-{
-    Place {
-        field: part.field,
-        octet,
-        wanted: part.wanted,
-    }
-}
-
-fn stopped_at(part: Part, octet: usize) -> Stop
-    ensures { IsStopAt octet result }
-{
-    Stop::At(place_at(part, octet))
-}
-
-// Passes over one field, or says where it stands.
-fn past(read: Result<(), DecodeError>, part: Part, octet: usize) -> Result<(), Stop>
-    ensures { IfErr result (IsStopAt octet) }
-{
-    match read {
-        Ok(()) => Ok(()),
-        Err(fault) => {
-            let ran_out = fault.is_memory();
-            drop(fault);
-            if ran_out {
-                return Err(Stop::Memory);
-            }
-            Err(stopped_at(part, octet))
-        }
-    }
-}
-
+// The octet at which a cursor stands.
 fn at(cursor: &Cursor<'_>) -> usize
-    ensures { result ≤ length cursor.now.source }
+    ensures octet { result ≡ cursor.now.from }
+    ensures order { cursor.now.from ≤ cursor.now.to }
+    ensures within { cursor.now.to ≤ length cursor.now.source }
 {
     let (from, _) = cursor.span();
     from
 }
 
-// That nothing follows inside a value.
-fn ends(inside: &Cursor<'_>) -> Result<(), DecodeError> {
-    if inside.is_empty() {
+// The stop for a fault of reading.
+fn stopped(fault: DecodeError, part: Part, octet: usize) -> Stop
+    ensures { IsStop (λ stop from. (stop ≡ part) × (from ≡ octet)
+        × (fault ≢ decoding.Memory)) result }
+{
+    let ran_out = fault.is_memory();
+    drop(fault);
+    if ran_out {
+        Stop::Memory
+    } else {
+        Stop::At(part, octet)
+    }
+}
+
+// The inside of the value with this identifier octet that has to stand next.
+fn opened<'a>(cursor: &mut Cursor<'a>, identifier: u8, part: Part) -> Result<Cursor<'a>, Stop>
+    ensures stop { IfErr result (IsStop (StopsBefore (HasTag identifier) part cursor.old)) }
+    ensures read { IfOk result (λ inner. Opens identifier cursor.old inner cursor.new) }
+{
+    let octet = at(cursor);
+    match cursor.take_value(identifier) {
+        Ok(inner) => {
+            // For the proof only: they stand within the file.
+            let _behind = at(cursor);
+            let _inside = at(&inner);
+            Ok(inner)
+        }
+        Err(fault) => Err(stopped(fault, part, octet)),
+    }
+}
+
+// The value in which a cursor stands ends there.
+fn ended(cursor: &Cursor<'_>) -> Result<(), Stop>
+    ensures stop { IfErr result (IsStop (StopsBehind cursor.now)) }
+    ensures end { OnOk result (cursor.now.from ≡ cursor.now.to) }
+{
+    let (from, end) = cursor.span();
+    if from == end {
         Ok(())
     } else {
-        Err(DecodeError::BadValue)
+        Err(Stop::At(Part::Behind, from))
     }
 }
 
-// An INTEGER that is this one.
-fn number(cursor: &mut Cursor<'_>, wanted: u8) -> Result<(), DecodeError>
-    ensures { length cursor.new.source ≡ length cursor.old.source }
-{
-    match cursor.take_value(tag::INTEGER)?.rest() {
-        [octet] if *octet == wanted => Ok(()),
-        _ => Err(DecodeError::BadValue),
-    }
-}
-
+// Version 3: 2 inside [0].
+#[tactic(auto, unfolding(rpki_cert::specs::Certificates::version_format))]
 fn version(cursor: &mut Cursor<'_>) -> Result<(), DecodeError>
-    ensures { length cursor.new.source ≡ length cursor.old.source }
+    ensures reads { Took version_format.read cursor.old result cursor.new }
+    ensures keeps { Keeps result cursor.old cursor.new }
+    ensures octets { AreOctets (remaining cursor.old) }
 {
-    let mut outer = cursor.take_value(0xa0)?;
-    number(&mut outer, 2)?;
-    ends(&outer)
+    let mut ahead = cursor.fork();
+    let mut tagged = ahead.take_value(tag::CONTEXT_CONSTRUCTED)?;
+    let number = tagged.take_value(tag::INTEGER)?;
+    if number.rest() != [2].as_slice() {
+        return Err(DecodeError::BadValue);
+    }
+    tagged.finish()?;
+    *cursor = ahead;
+    Ok(())
 }
 
+// Version 2: 1.
+#[tactic(auto, unfolding(rpki_crl::specs::Lists::version_2))]
 fn list_version(cursor: &mut Cursor<'_>) -> Result<(), DecodeError>
-    ensures { length cursor.new.source ≡ length cursor.old.source }
+    ensures reads { Took version_2.read cursor.old result cursor.new }
+    ensures keeps { Keeps result cursor.old cursor.new }
+    ensures octets { AreOctets (remaining cursor.old) }
 {
-    number(cursor, 1)
-}
-
-fn serial(cursor: &mut Cursor<'_>) -> Result<(), DecodeError>
-    ensures { length cursor.new.source ≡ length cursor.old.source }
-{
-    let _serial = Serial::take_from(cursor)?;
+    let mut ahead = cursor.fork();
+    let number = ahead.take_value(tag::INTEGER)?;
+    if number.rest() != [1].as_slice() {
+        return Err(DecodeError::BadValue);
+    }
+    *cursor = ahead;
     Ok(())
 }
 
-fn algorithm(cursor: &mut Cursor<'_>) -> Result<(), DecodeError>
-    ensures { length cursor.new.source ≡ length cursor.old.source }
+// Reads a field.
+fn take_field(alloc: Global, field: Field, cursor: &mut Cursor<'_>) -> Result<(), DecodeError>
+    ensures { AnswersWhether (IsField field) cursor.old result cursor.new }
 {
-    let _algorithm = RpkiSignatureAlgorithm::x509_take_from(cursor)?;
+    match field {
+        Field::Version => version(cursor),
+        Field::ListVersion => list_version(cursor),
+        Field::Serial => without_value(Serial::take_from(cursor)),
+        Field::Algorithm => without_value(RpkiSignatureAlgorithm::x509_take_from(cursor)),
+        Field::Issuer => without_value(Name::take_from(alloc, cursor)),
+        Field::Validity => without_value(Validity::take_from(cursor)),
+        Field::Subject => without_value(Name::take_from(alloc, cursor)),
+        Field::Key => without_value(PublicKey::take_from(alloc, cursor)),
+        Field::ThisUpdate => without_value(Time::take_from(cursor)),
+        Field::NextUpdate => without_value(Time::take_from(cursor)),
+        Field::SignatureAlgorithm => without_value(RpkiSignatureAlgorithm::x509_take_from(cursor)),
+    }
+}
+
+// Passes over a field.
+fn past(alloc: Global, field: Field, cursor: &mut Cursor<'_>) -> Result<(), Stop>
+    ensures stop { IfErr result
+        (IsStop (StopsBefore (IsField field) (Part.Field field) cursor.old)) }
+    ensures read { OnOk result (Passes (IsField field) cursor.old cursor.new) }
+{
+    let octet = at(cursor);
+    match take_field(alloc, field, cursor) {
+        Ok(()) => {
+            // For the proof only: it stands within the file.
+            let _behind = at(cursor);
+            Ok(())
+        }
+        Err(fault) => Err(stopped(fault, Part::Field(field), octet)),
+    }
+}
+
+// Passes over these fields.
+fn past_all(alloc: Global, fields: &[Field], cursor: &mut Cursor<'_>) -> Result<(), Stop>
+    ensures stop { IfErr result (IsStop (StopsAmong fields.now cursor.old)) }
+    ensures read { OnOk result (Passes (AreFields fields.now) cursor.old cursor.new) }
+{
+    // For the proof only: the first stands within the file.
+    let _first = at(cursor);
+    for field in fields {
+        past(alloc, *field, cursor)?;
+    }
     Ok(())
 }
 
-fn name(alloc: Global, cursor: &mut Cursor<'_>) -> Result<(), DecodeError>
-    ensures { length cursor.new.source ≡ length cursor.old.source }
+// Passes over a revoked certificate.
+fn next_entry(rest: &mut Cursor<'_>) -> Result<(), Stop>
+    ensures stop { IfErr result
+        (IsStop (StopsBefore (EncodesSome entry_format) Part.Entry rest.old)) }
+    ensures read { OnOk result ((entry : Entry) × Passes (IsEntry entry) rest.old rest.new) }
+    ensures shrinks { OnOk result (length (remaining rest.new) < length (remaining rest.old)) }
 {
-    let name = Name::take_from(alloc, cursor)?;
-    drop(name);
-    Ok(())
+    let octet = at(rest);
+    match CrlEntry::take_from(rest) {
+        Ok(_) => {
+            // For the proof only: it stands within the file.
+            let _behind = at(rest);
+            Ok(())
+        }
+        Err(fault) => Err(stopped(fault, Part::Entry, octet)),
+    }
 }
 
-fn validity(cursor: &mut Cursor<'_>) -> Result<(), DecodeError>
-    ensures { length cursor.new.source ≡ length cursor.old.source }
+// The revoked certificates in their SEQUENCE.
+fn each_entry(inside: &Cursor<'_>) -> Result<(), Stop>
+    ensures stop { IfErr result (IsStop (StopsInEntries inside.now)) }
+    ensures read { OnOk result ((entries : List Entry) × AreEntries entries (remaining inside.now)) }
 {
-    let _validity = Validity::take_from(cursor)?;
+    let mut rest = inside.fork();
+    // For the proof only: the first stands within the file.
+    let _first = at(&rest);
+    while !rest.is_empty() {
+        next_entry(&mut rest)?;
+    }
     Ok(())
-}
-
-fn key(alloc: Global, cursor: &mut Cursor<'_>) -> Result<(), DecodeError>
-    ensures { length cursor.new.source ≡ length cursor.old.source }
-{
-    let key = PublicKey::take_from(alloc, cursor)?;
-    drop(key);
-    Ok(())
-}
-
-fn moment(cursor: &mut Cursor<'_>) -> Result<(), DecodeError>
-    ensures { length cursor.new.source ≡ length cursor.old.source }
-{
-    let _time = Time::take_from(cursor)?;
-    Ok(())
-}
-
-// A revoked certificate: its number and a moment, and nothing behind them (RFC 6487 5).
-fn entry(cursor: &mut Cursor<'_>) -> Result<(), DecodeError>
-    ensures { length cursor.new.source ≡ length cursor.old.source }
-{
-    let mut fields = cursor.take_sequence()?;
-    let _serial = Serial::take_from(&mut fields)?;
-    let _date = Time::take_from(&mut fields)?;
-    ends(&fields)
 }
 
 // The revoked certificates, where they are there.
 fn entries(cursor: &mut Cursor<'_>) -> Result<(), Stop>
-    ensures stop { IfErr result (IsStopWithin (length cursor.old.source)) }
-    ensures source { length cursor.new.source ≡ length cursor.old.source }
+    ensures stop { IfErr result (IsStop (StopsAtEntries cursor.old)) }
+    ensures read { OnOk result (ReadsEntries cursor.old cursor.new) }
 {
     let octet = at(cursor);
-    let mut rest = match cursor.take_opt_sequence() {
-        Ok(Some(entries)) => entries,
-        Ok(None) => return Ok(()),
-        Err(fault) => {
-            drop(fault);
-            return Err(stopped_at(expected::ENTRIES, octet));
+    match cursor.take_opt_sequence() {
+        Ok(Some(inside)) => {
+            // For the proof only: they stand within the file.
+            let _behind = at(cursor);
+            let _first = at(&inside);
+            each_entry(&inside)
         }
-    };
-    for _ in 0..u64::MAX {
-        if rest.is_empty() {
-            break;
-        }
-        let octet = at(&rest);
-        past(entry(&mut rest), expected::ENTRY, octet)?;
+        Ok(None) => Ok(()),
+        Err(fault) => Err(stopped(fault, Part::Entries, octet)),
     }
-    Ok(())
 }
 
-// The extensions inside their tags.
-fn sequence_of<'a>(cursor: &mut Cursor<'a>, identifier: u8) -> Result<Cursor<'a>, Stop>
-    ensures stop { IfErr result (IsStopWithin (length cursor.old.source)) }
-    ensures source { length cursor.new.source ≡ length cursor.old.source }
-    ensures inside { IfOk result (λ c. length c.source ≡ length cursor.old.source) }
+const CERTIFICATE_FIELDS: &[Field] = &[
+    Field::Version,
+    Field::Serial,
+    Field::Algorithm,
+    Field::Issuer,
+    Field::Validity,
+    Field::Subject,
+    Field::Key,
+];
+
+const LIST_FIELDS: &[Field] = &[
+    Field::ListVersion,
+    Field::Algorithm,
+    Field::Issuer,
+    Field::ThisUpdate,
+    Field::NextUpdate,
+];
+
+// Passes over the fields before the extensions.
+fn before_extensions(alloc: Global, cursor: &mut Cursor<'_>, is_list: bool) -> Result<(), Stop>
+    ensures stop { IfErr result (IsStop (StopsBeforeExtensions is_list cursor.old)) }
+    ensures read { OnOk result (ReadsToExtensions is_list cursor.old cursor.new) }
 {
-    let start = at(cursor);
-    let mut outer = match cursor.take_value(identifier) {
-        Ok(outer) => outer,
-        Err(fault) => {
-            drop(fault);
-            return Err(stopped_at(expected::EXTENSIONS, start));
-        }
-    };
-    let elements = inside(&mut outer, expected::EXTENSIONS)?;
-    if outer.is_empty() {
-        Ok(elements)
+    if is_list {
+        past_all(alloc, LIST_FIELDS, cursor)?;
+        entries(cursor)
     } else {
-        Err(stopped_at(expected::EXTENSIONS, start))
+        past_all(alloc, CERTIFICATE_FIELDS, cursor)
     }
 }
 
-// The extensions, each of which is well formed, may stand there, and means something.
-fn extensions(alloc: Global, elements: &Cursor<'_>, is_list: bool) -> Result<(), Stop>
-    ensures { IfErr result (IsStopWithin (length elements.now.source)) }
+// Whether it is one of these kinds.
+fn is_among(kind: Kind, kinds: &[Kind]) -> bool
+    ensures { IsTrue result ↔ Contains kinds.now kind }
 {
-    let mut rest = elements.fork();
-    for _ in 0..u64::MAX {
-        if rest.is_empty() {
-            break;
-        }
-        let octet = at(&rest);
-        let (identifier, critical, mut content) = match take_extension(&mut rest) {
-            Ok(extension) => extension,
-            Err(fault) => {
-                drop(fault);
-                return Err(stopped_at(expected::EXTENSION, octet));
-            }
-        };
-        let kind = Kind::of(identifier, is_list);
-        if stands_before(elements, kind, is_list, octet) {
-            return Err(stopped_at(kind.part(), octet));
-        }
-        past(
-            kind.read(alloc, is_list, critical, &mut content),
-            kind.part(),
-            octet,
-        )?;
-    }
-    Ok(())
-}
-
-// Whether an extension of this kind stands before this octet.
-fn stands_before(elements: &Cursor<'_>, kind: Kind, is_list: bool, octet: usize) -> bool {
-    if kind == Kind::Unknown {
-        return false;
-    }
-    let mut rest = elements.fork();
-    for _ in 0..u64::MAX {
-        if at(&rest) >= octet {
-            break;
-        }
-        match take_extension(&mut rest) {
-            Ok((identifier, _, _)) if Kind::of(identifier, is_list) == kind => return true,
-            Ok(_) => {}
-            Err(fault) => {
-                drop(fault);
-                return false;
-            }
+    for other in kinds {
+        if *other == kind {
+            return true;
         }
     }
     false
 }
 
-// What the extensions of a certificate give together.
-fn all_extensions(alloc: Global, elements: &Cursor<'_>) -> Result<(), DecodeError> {
-    let given = Extensions::from_row(alloc, elements)?;
-    drop(given);
+// Whether it is a known kind that is among these.
+fn is_second(kind: Kind, kinds: &[Kind]) -> bool
+    ensures { IsTrue result ↔ IsSecond kinds.now kind }
+{
+    kind != Kind::Unknown && is_among(kind, kinds)
+}
+
+// Whether an extension of this kind may stand behind those of these kinds.
+fn may_stand(
+    alloc: Global,
+    kind: Kind,
+    is_list: bool,
+    critical: bool,
+    content: &mut Cursor<'_>,
+    kinds: &[Kind],
+) -> Result<(), DecodeError>
+    ensures { SaysWhether result
+        (MayStandAs is_list kinds.now kind critical (remaining content.old)) }
+{
+    if is_second(kind, kinds) {
+        return Err(DecodeError::BadValue);
+    }
+    kind.read(alloc, is_list, critical, content)
+}
+
+// The kind of an extension with this identifier, where it may stand behind those of these kinds.
+fn placed(
+    alloc: Global,
+    identifier: &[u8],
+    critical: bool,
+    content: &mut Cursor<'_>,
+    octet: usize,
+    is_list: bool,
+    kinds: &[Kind],
+) -> Result<Kind, Stop>
+    ensures stop { let kind = known_kind is_list identifier.now in
+        IfErr result (IsStop (λ stop from. (stop ≡ Part.Kind kind) × (from ≡ octet)
+        × (MayStandAs is_list kinds.now kind critical (remaining content.old) → ⊥))) }
+    ensures read { IfOk result (λ kind. (kind ≡ known_kind is_list identifier.now)
+        × MayStandAs is_list kinds.now kind critical (remaining content.old)) }
+{
+    let kind = Kind::of(identifier, is_list);
+    match may_stand(alloc, kind, is_list, critical, content, kinds) {
+        Ok(()) => Ok(kind),
+        Err(fault) => Err(stopped(fault, Part::Kind(kind), octet)),
+    }
+}
+
+// The extension that stands next, where it may stand behind those of these kinds. Returns its kind.
+fn next_extension(
+    alloc: Global,
+    rest: &mut Cursor<'_>,
+    is_list: bool,
+    kinds: &[Kind],
+) -> Result<Kind, Stop>
+    ensures stop { IfErr result (IsStop (StopsAtExtension is_list kinds.now rest.old)) }
+    ensures read { IfOk result (λ kind. (x : Extension) × IsNext is_list kinds.now x kind
+        × Passes (IsExtension x) rest.old rest.new) }
+    ensures shrinks { OnOk result (length (remaining rest.new) < length (remaining rest.old)) }
+{
+    let octet = at(rest);
+    match take_extension(rest) {
+        Ok((identifier, critical, mut content)) => {
+            // For the proof only: it stands within the file.
+            let _behind = at(rest);
+            placed(
+                alloc,
+                identifier,
+                critical,
+                &mut content,
+                octet,
+                is_list,
+                kinds,
+            )
+        }
+        Err(fault) => Err(stopped(fault, Part::Extension, octet)),
+    }
+}
+
+// The next extension, whose kind is kept.
+fn keep_next(
+    alloc: Global,
+    rest: &mut Cursor<'_>,
+    is_list: bool,
+    kinds: &mut Vec<Kind>,
+) -> Result<(), Stop>
+    ensures stop { IfErr result (IsStop (StopsAtExtension is_list kinds.old.items rest.old)) }
+    ensures read { OnOk result ((x : Extension) × MayStand is_list kinds.old.items x
+        × Passes (IsExtension x) rest.old rest.new
+        × (kinds.new.items ≡ kinds.old.items ++ kind_of is_list x ∷ [])) }
+    ensures shrinks { OnOk result (length (remaining rest.new) < length (remaining rest.old)) }
+{
+    let kind = next_extension(alloc, rest, is_list, kinds)?;
+    match kinds.push(kind) {
+        Ok(()) => Ok(()),
+        Err(_) => Err(Stop::Memory),
+    }
+}
+
+// The extensions in their SEQUENCE, each of which may stand behind those before it. Keeps their
+// kinds.
+fn each_extension(
+    alloc: Global,
+    inside: &Cursor<'_>,
+    is_list: bool,
+    kinds: &mut Vec<Kind>,
+) -> Result<(), Stop>
+    requires { kinds.old.items ≡ [] }
+    ensures stop { IfErr result (IsStop (StopsInExtensions is_list inside.now)) }
+    ensures read { OnOk result (AreOfKinds is_list kinds.new.items (remaining inside.now)) }
+{
+    let mut rest = inside.fork();
+    // For the proof only: the first stands within the file.
+    let _first = at(&rest);
+    while !rest.is_empty() {
+        keep_next(alloc, &mut rest, is_list, kinds)?;
+    }
     Ok(())
 }
 
-// Whether an extension of this kind of a list's stands in the sequence.
-fn has(elements: &Cursor<'_>, kind: Kind) -> bool {
-    let (_, end) = elements.span();
-    stands_before(elements, kind, true, end)
-}
-
-fn ended(cursor: &Cursor<'_>) -> Result<(), Stop>
-    ensures { IfErr result (IsStopWithin (length cursor.now.source)) }
+// The extensions of a list are of two kinds, and both must be there.
+fn list_complete(kinds: &[Kind], octet: usize) -> Result<(), Stop>
+    ensures stop { IfErr result (IsStop (λ stop from. (HasBoth kinds.now → ⊥)
+        × (stop ≡ Part.Extensions) × (from ≡ octet))) }
+    ensures both { OnOk result (HasBoth kinds.now) }
 {
-    if cursor.is_empty() {
+    if is_among(Kind::AuthorityKeyIdentifier, kinds) && is_among(Kind::CrlNumber, kinds) {
         Ok(())
     } else {
-        Err(stopped_at(expected::BEHIND, at(cursor)))
+        Err(Stop::At(Part::Extensions, octet))
     }
 }
 
-fn of_certificate(alloc: Global, cursor: &mut Cursor<'_>) -> Result<(), Stop>
-    ensures { IfErr result (IsStopWithin (length cursor.old.source)) }
+// The extensions of a certificate give all its fields.
+fn certificate_complete(alloc: Global, inside: &Cursor<'_>, octet: usize) -> Result<(), Stop>
+    ensures stop { IfErr result (IsStop (λ stop from.
+        (AreComplete false (remaining inside.now) → ⊥)
+        × (stop ≡ Part.Extensions) × (from ≡ octet))) }
+    ensures all { OnOk result (AreComplete false (remaining inside.now)) }
 {
-    let octet = at(cursor);
-    past(version(cursor), expected::VERSION, octet)?;
-    let octet = at(cursor);
-    past(serial(cursor), expected::SERIAL, octet)?;
-    let octet = at(cursor);
-    past(algorithm(cursor), expected::ALGORITHM, octet)?;
-    let octet = at(cursor);
-    past(name(alloc, cursor), expected::ISSUER, octet)?;
-    let octet = at(cursor);
-    past(validity(cursor), expected::VALIDITY, octet)?;
-    let octet = at(cursor);
-    past(name(alloc, cursor), expected::SUBJECT, octet)?;
-    let octet = at(cursor);
-    past(key(alloc, cursor), expected::KEY, octet)?;
-    let octet = at(cursor);
-    let elements = sequence_of(cursor, 0xa3)?;
-    extensions(alloc, &elements, false)?;
-    past(
-        all_extensions(alloc, &elements),
-        expected::EXTENSIONS,
-        octet,
-    )?;
-    ended(cursor)
-}
-
-fn of_list(alloc: Global, cursor: &mut Cursor<'_>) -> Result<(), Stop>
-    ensures { IfErr result (IsStopWithin (length cursor.old.source)) }
-{
-    let octet = at(cursor);
-    past(list_version(cursor), expected::LIST_VERSION, octet)?;
-    let octet = at(cursor);
-    past(algorithm(cursor), expected::ALGORITHM, octet)?;
-    let octet = at(cursor);
-    past(name(alloc, cursor), expected::ISSUER, octet)?;
-    let octet = at(cursor);
-    past(moment(cursor), expected::THIS_UPDATE, octet)?;
-    let octet = at(cursor);
-    past(moment(cursor), expected::NEXT_UPDATE, octet)?;
-    entries(cursor)?;
-    let octet = at(cursor);
-    let elements = sequence_of(cursor, 0xa0)?;
-    extensions(alloc, &elements, true)?;
-    if !(has(&elements, Kind::AuthorityKeyIdentifier) && has(&elements, Kind::CrlNumber)) {
-        return Err(stopped_at(expected::EXTENSIONS, octet));
-    }
-    ended(cursor)
-}
-
-fn inside<'a>(cursor: &mut Cursor<'a>, part: Part) -> Result<Cursor<'a>, Stop>
-    ensures stop { IfErr result (IsStopWithin (length cursor.old.source)) }
-    ensures source { length cursor.new.source ≡ length cursor.old.source }
-    ensures inside { IfOk result (λ c. length c.source ≡ length cursor.old.source) }
-{
-    let octet = at(cursor);
-    match cursor.take_sequence() {
-        Ok(inner) => Ok(inner),
-        Err(fault) => {
-            drop(fault);
-            Err(stopped_at(part, octet))
+    match Extensions::from_row(alloc, inside) {
+        Ok(extensions) => {
+            drop(extensions);
+            Ok(())
         }
+        Err(fault) => Err(stopped(fault, Part::Extensions, octet)),
     }
 }
 
-// The algorithm and the signature, which follow what is signed.
-fn signature(whole: &mut Cursor<'_>) -> Result<(), Stop>
-    ensures { IfErr result (IsStopWithin (length whole.old.source)) }
+// All that must be there is among extensions of these kinds, which were read.
+fn complete(
+    alloc: Global,
+    inside: &Cursor<'_>,
+    is_list: bool,
+    kinds: &[Kind],
+    octet: usize,
+) -> Result<(), Stop>
+    requires { AreOfKinds is_list kinds.now (remaining inside.now) }
+    ensures stop { IfErr result (IsStop (λ stop from. AreIncomplete is_list (remaining inside.now)
+        × (stop ≡ Part.Extensions) × (from ≡ octet))) }
+    ensures all { OnOk result (AreComplete is_list (remaining inside.now)) }
 {
-    let octet = at(whole);
-    past(algorithm(whole), expected::SIGNATURE_ALGORITHM, octet)?;
-    Err(stopped_at(expected::SIGNATURE, at(whole)))
-}
-
-fn fields(alloc: Global, octets: &Bytes, is_list: bool) -> Result<(), Stop>
-    ensures { IfErr result (IsStopWithin (length octets.now)) }
-{
-    let mut cursor = Cursor::new(octets);
-    let mut whole = inside(&mut cursor, expected::OUTER)?;
-    let mut data = inside(&mut whole, expected::SIGNED)?;
     if is_list {
-        of_list(alloc, &mut data)?;
+        list_complete(kinds, octet)
     } else {
-        of_certificate(alloc, &mut data)?;
+        certificate_complete(alloc, inside, octet)
     }
-    signature(&mut whole)
 }
 
-/// Tells where the reading of a file stops that is neither a certificate nor a list: the first
-/// field that has not the form that it must have.
-pub fn place_of(alloc: Global, octets: &Bytes, is_list: bool) -> Result<Place, AllocError>
-    ensures { IfOk result (λ place. place.octet ≤ length octets.now) }
+// The extensions in their SEQUENCE, in a field that begins at this octet. Keeps their kinds.
+fn elements_into(
+    alloc: Global,
+    inside: &Cursor<'_>,
+    is_list: bool,
+    octet: usize,
+    kinds: &mut Vec<Kind>,
+) -> Result<(), Stop>
+    requires { kinds.old.items ≡ [] }
+    ensures stop { IfErr result (IsStop (StopsAmongElements is_list octet inside.now)) }
+    ensures all { OnOk result (AreComplete is_list (remaining inside.now)) }
 {
-    match fields(alloc, octets, is_list) {
-        Err(Stop::At(place)) => Ok(place),
+    each_extension(alloc, inside, is_list, kinds)?;
+    complete(alloc, inside, is_list, kinds, octet)
+}
+
+// The extensions in their SEQUENCE, in a field that begins at this octet.
+fn elements(alloc: Global, inside: &Cursor<'_>, is_list: bool, octet: usize) -> Result<(), Stop>
+    ensures stop { IfErr result (IsStop (StopsAmongElements is_list octet inside.now)) }
+    ensures all { OnOk result (AreComplete is_list (remaining inside.now)) }
+{
+    let mut kinds = Vec::new(alloc);
+    let read = elements_into(alloc, inside, is_list, octet, &mut kinds);
+    drop(kinds);
+    read
+}
+
+// The tag of the extensions: [3], or of a list's [0].
+fn extensions_tag(is_list: bool) -> u8
+    ensures { result ≡ extensions_tag is_list }
+{
+    if is_list {
+        tag::CONTEXT_CONSTRUCTED
+    } else {
+        tag::CONTEXT_CONSTRUCTED + 3
+    }
+}
+
+// The extensions inside their two tags.
+fn extensions(alloc: Global, cursor: &mut Cursor<'_>, is_list: bool) -> Result<(), Stop>
+    ensures stop { IfErr result (IsStop (StopsAtExtensions is_list cursor.old)) }
+    ensures read { OnOk result (ReadsExtensions is_list cursor.old cursor.new) }
+{
+    let octet = at(cursor);
+    let mut tagged = opened(cursor, extensions_tag(is_list), Part::Extensions)?;
+    let inside = opened(&mut tagged, tag::SEQUENCE, Part::Extensions)?;
+    elements(alloc, &inside, is_list, octet)?;
+    ended(&tagged)
+}
+
+// What is signed, to its end.
+fn signed(alloc: Global, cursor: &mut Cursor<'_>, is_list: bool) -> Result<(), Stop>
+    ensures stop { IfErr result (IsStop (StopsInSigned is_list cursor.old)) }
+    ensures read { OnOk result (ReadsSigned is_list cursor.old) }
+{
+    before_extensions(alloc, cursor, is_list)?;
+    extensions(alloc, cursor, is_list)?;
+    ended(cursor)
+}
+
+// What stands in the outer SEQUENCE, down to the signature. Returns where that begins.
+fn inside(alloc: Global, outer: &mut Cursor<'_>, is_list: bool) -> Result<usize, Stop>
+    ensures stop { IfErr result (IsStop (StopsInside is_list outer.old)) }
+    ensures read { IfOk result (StopsInside is_list outer.old Part.Signature) }
+{
+    let mut first = opened(outer, tag::SEQUENCE, Part::Signed)?;
+    signed(alloc, &mut first, is_list)?;
+    past(alloc, Field::SignatureAlgorithm, outer)?;
+    Ok(at(outer))
+}
+
+// The whole, down to the signature. Returns where that begins.
+fn signature_at(alloc: Global, octets: &Bytes, is_list: bool) -> Result<usize, Stop>
+    ensures stop { IfErr result (IsStop (StopsAt is_list octets.now)) }
+    ensures read { IfOk result (StopsAt is_list octets.now Part.Signature) }
+{
+    let mut file = Cursor::new(octets);
+    let mut outer = opened(&mut file, tag::SEQUENCE, Part::Outer)?;
+    inside(alloc, &mut outer, is_list)
+}
+
+// What is told of a part.
+fn told(part: Part, octet: usize) -> Place
+    ensures octet { result.octet ≡ octet }
+    ensures field { result.field.now ≡ (part_text part).name }
+    ensures wanted { result.wanted.now ≡ (part_text part).wanted }
+{
+    Place {
+        field: part.name(),
+        octet,
+        wanted: part.wanted(),
+    }
+}
+
+/// Tells where the reading of octets as a certificate, or as a list, stops: the first part that has
+/// not the form that it must have, or else the signature. Errs only where memory runs out.
+pub fn place_of(alloc: Global, octets: &Bytes, is_list: bool) -> Result<Place, AllocError>
+    ensures stops { IfOk result (IsStopPlace is_list octets.now) }
+    ensures within { IfOk result (λ place. place.octet ≤ length octets.now) }
+{
+    match signature_at(alloc, octets, is_list) {
+        Ok(octet) => Ok(told(Part::Signature, octet)),
+        Err(Stop::At(part, octet)) => Ok(told(part, octet)),
         Err(Stop::Memory) => Err(AllocError),
-        Ok(()) => Ok(place_at(expected::SIGNATURE, 0)),
     }
 }

@@ -1,4 +1,4 @@
-use Rattle.std.proofs.Common.{◌≡◌, ◌≢◌, ℕ, List, Bool, refl, sym, ◌∙◌}
+use Rattle.std.proofs.Common.{◌≢◌, ℕ, List, Bool, refl, sym, ◌∙◌}
 use Rattle.std.proofs.lemmas.Bool.{false≢true}
 use Rattle.rpki.specs.LocatorFaults.{RejectsTal}
 use Rattle.rpki.specs.TalError.{TalError}

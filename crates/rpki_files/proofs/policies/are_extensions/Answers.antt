@@ -1,4 +1,4 @@
-use Rattle.std.proofs.Common.{◌≡◌, [], refl, length, sym, ◌∙◌, arith}
+use Rattle.std.proofs.Common.{◌≡◌, [], refl, sym, ◌∙◌, arith}
 use Rattle.std.proofs.lemmas.Bool.{false≢true}
 use Rattle.rpki.specs.Extensions.Views.{extension_view}
 use Rattle.rpki.specs.Place.{remaining}

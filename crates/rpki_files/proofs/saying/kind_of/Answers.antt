@@ -1,4 +1,4 @@
-use Rattle.std.proofs.Common.{inl, inr, refl, subst}
+use Rattle.std.proofs.Common.{inr, subst}
 use Rattle.rpki.specs.Certificates.{TbsFields}
 use Rattle.rpki.specs.Kind.TheVariants.{Anchor}
 use Rattle.rpki.specs.Profiles.{Lacks, faults}

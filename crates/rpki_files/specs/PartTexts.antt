@@ -1,0 +1,54 @@
+-- What is told of the parts at which reading may stop: a table, in the order in which the types name
+-- them.
+use Prim.Native.String.{String}
+use Rattle.std.specs.Prelude.{ℕ, List, codes}
+use Rattle.rpki_files.specs.KnownKinds.{kind_name, kind_wanted}
+use Rattle.rpki_files.specs.declared.expected.Field.{Field}
+use Rattle.rpki_files.specs.declared.expected.Field.TheVariants as field
+use Rattle.rpki_files.specs.declared.expected.Part.{Part}
+use Rattle.rpki_files.specs.declared.expected.Part.TheVariants as part
+
+-- its name, and what has to stand there, with the section that asks it
+pub record PartFields : Type 0 where
+  pub name : List ℕ
+  pub wanted : List ℕ
+
+-- these
+abbrev pub told : String → String → PartFields
+told name wanted = record { name = codes name; wanted = codes wanted }
+
+-- of a field
+abbrev pub field_text : Field → PartFields
+field_text field.Version = told "the version" "version 3: 2 inside [0], and nothing behind it (RFC 6487 4.1)"
+field_text field.ListVersion = told "the version" "version 2: the INTEGER 1 (RFC 6487 5)"
+field_text field.Serial =
+    told "the serial number" "an INTEGER that isn't negative, of 20 octets at most (RFC 5280 4.1.2.2)"
+field_text field.Algorithm = told "the signature algorithm" "sha256WithRSAEncryption (RFC 7935 2)"
+field_text field.Issuer = told "the issuer" "a Name (RFC 5280 4.1.2.4)"
+field_text field.Validity =
+    told "the validity" "two times to the second, UTCTime before 2050 (RFC 5280 4.1.2.5)"
+field_text field.Subject = told "the subject" "a Name (RFC 5280 4.1.2.6)"
+field_text field.Key =
+    told "the public key" "an RSA key or one on the curve P-256 (RFC 7935 3, RFC 8608 3.1)"
+field_text field.ThisUpdate =
+    told "this update" "a time to the second, UTCTime before 2050 (RFC 5280 5.1.2.4)"
+field_text field.NextUpdate =
+    told "next update" "a time to the second, UTCTime before 2050 (RFC 5280 5.1.2.5)"
+field_text field.SignatureAlgorithm =
+    told "the algorithm of the signature" "sha256WithRSAEncryption (RFC 7935 2)"
+
+-- of a part
+abbrev pub part_text : Part → PartFields
+part_text part.Outer = told "the outer SEQUENCE" "a SEQUENCE that ends within the file (RFC 5280 4.1, 5.1)"
+part_text part.Signed = told "what is signed" "a SEQUENCE (RFC 5280 4.1, 5.1)"
+part_text (part.Field f) = field_text f
+part_text part.Entries = told "the revoked certificates" "a SEQUENCE (RFC 5280 5.1.2.6)"
+part_text part.Entry =
+    told "a revoked certificate" "a serial number and a time, and nothing behind them (RFC 6487 5)"
+part_text part.Extensions = told "the extensions" "a SEQUENCE of all that must be there (RFC 6487 4.8, 5)"
+part_text part.Extension =
+    told "an extension" "an identifier, a flag where it is true, and an OCTET STRING (RFC 5280 4.1)"
+part_text (part.Kind k) = record { name = kind_name k; wanted = kind_wanted k }
+part_text part.Behind = told "what follows the extensions" "nothing (RFC 5280 4.1, 5.1)"
+part_text part.Signature =
+    told "the signature" "a BIT STRING of whole octets, and nothing behind it (RFC 5280 4.1.1.3, 5.1.1.3)"
