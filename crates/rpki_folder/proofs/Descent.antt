@@ -1,7 +1,7 @@
 -- What a walk below an issuer has told so far, child by child.
 use Rattle.std.specs.List.{AllByRecursion}
-use Rattle.std.specs.Prelude.{Option, None, Some, IsSome, IsOk, IsErr, Any, Contains, IfOk, Result, Ok, Err}
-use Rattle.std.proofs.Common.{◌≡◌, ◌≢◌, ◌⊎◌, ◌+◌, ◌-◌, ◌<◌, ◌≤◌, ℕ, zero, suc, List, [], ◌∷◌, ◌++◌, length, get_or, refl, sym, subst, ap, ◌∙◌, inl, inr, append_assoc, arith}
+use Rattle.std.specs.Prelude.{Option, None, Some, IsSome, IsOk, IsErr, Contains, IfOk, Result, Ok, Err}
+use Rattle.std.proofs.Common.{◌≡◌, ◌⊎◌, ◌+◌, ◌-◌, ◌<◌, ◌≤◌, ℕ, zero, suc, List, [], ◌∷◌, ◌++◌, length, refl, sym, subst, ap, ◌∙◌, inl, inr, append_assoc, arith}
 use Rattle.std.proofs.lemmas.List.{append-nil, get_or_past}
 use Rattle.std.proofs.lemmas.List.Elements.{Contains-push_cases, Contains-append_left, Contains-append_right, Contains-push}
 use Rattle.rpki_der.specs.Values.{IsUnambiguous, enc}
@@ -15,12 +15,12 @@ use Rattle.rpki_cert.proofs.CertificateFormats.{certificate_is}
 use Rattle.rpki_revocation.specs.Asking.{RevocationChecks}
 use Rattle.rpki_path.specs.declared.judging.Judged.{Judged}
 use Rattle.rpki_path.specs.declared.path_fault.PathFault.{PathFault}
-use Rattle.rpki_path.specs.Paths.{Candidate, candidate}
+use Rattle.rpki_path.specs.Paths.{Candidate}
 use Rattle.rpki_path.specs.Paths.Steps.{IsIssuedBy}
 use Rattle.rpki_folder.specs.declared.bounds.Ended.{Ended}
 use Rattle.rpki_folder.specs.declared.bounds.Ended.TheVariants.{Whole, TooDeep, OutOfSteps}
 use Rattle.rpki_folder.specs.Folders.{octets_at, NamesSigner, ArePlacesOf}
-use Rattle.rpki_folder.specs.Walks.{Root, members_at, LeadsTo, IsReached, Told, told, IsRight, IsTold, worse, Covers, AreAdmitted, IsComplete, Tells, TellsBelow}
+use Rattle.rpki_folder.specs.Walks.{Root, members_at, LeadsTo, IsReached, Told, told, IsRight, IsTold, worse, Covers, AreAdmitted, IsComplete, TellsBelow}
 use Rattle.rpki_folder.specs.Walks.Steps.{IsAnswer, IsOutcome}
 use Rattle.rpki_folder.proofs.PathsDown.{members_next, leads_further}
 use Rattle.rpki_folder.proofs.Outcomes.{head_of, right_answer, outcome_ok, outcome_goes_on, reached_passes, reached_names}

@@ -1,10 +1,10 @@
 -- One place more in a table of places by key.
-use Rattle.std.specs.Prelude.{Bool, true, false, Option, None, Some, cond, bytes_eq, if◌then◌else◌, unwrap_or, option_map}
+use Rattle.std.specs.Prelude.{Bool, true, false, Option, Some, cond, bytes_eq, if◌then◌else◌, unwrap_or, option_map}
 use Rattle.std.specs.BTreeMap.{BTreeMap, get, is_at}
 use Rattle.std.specs.Cmp.Lexicographic.{slice_cmp}
 use Rattle.std.specs.Ordering.{nat_cmp}
 use Rattle.std.specs.Global.{Vec}
-use Rattle.std.proofs.Common.{◌≡◌, ℕ, List, [], ◌∷◌, ◌++◌, Result, Ok, Err, OnErr, refl, sym, ap, subst, ◌∙◌}
+use Rattle.std.proofs.Common.{◌≡◌, ℕ, List, [], ◌∷◌, ◌++◌, Result, Ok, Err, OnErr, refl, ap, subst, ◌∙◌}
 use Rattle.std.proofs.lemmas.Map.Text.{is_eq-slice_cmp}
 use Rattle.std.proofs.lemmas.Slice.Eq.{bytes_eq-Decides}
 use Rattle.rpki_folder.specs.KeyTables.{places_in, with_place}

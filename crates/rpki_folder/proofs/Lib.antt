@@ -8,3 +8,7 @@ pub mod FolderSteps
 pub mod KeptLineSteps
 pub mod StepAnswers
 pub mod SearchSteps
+pub mod PickedLists
+pub mod ListPlaces
+pub mod IssuersList
+pub mod UnaskedSteps

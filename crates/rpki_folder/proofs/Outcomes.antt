@@ -1,7 +1,6 @@
 -- What the outcome of a step means of the paths that go through its certificate.
-use Rattle.std.specs.List.{AllByRecursion}
-use Rattle.std.specs.Prelude.{Option, None, Some, IsSome, IsOk, IsErr, Any}
-use Rattle.std.proofs.Common.{◌≡◌, ◌≢◌, ◌+◌, ◌<◌, ◌≤◌, ℕ, List, [], ◌∷◌, ◌++◌, Result, Ok, Err, length, refl, sym, subst, ap, ◌∙◌, append_assoc}
+use Rattle.std.specs.Prelude.{Option, None, Some, IsSome, IsOk, IsErr}
+use Rattle.std.proofs.Common.{◌≡◌, ℕ, List, [], ◌∷◌, ◌++◌, Result, Ok, Err, refl, sym, subst, ap, ◌∙◌, append_assoc}
 use Rattle.std.proofs.lemmas.List.{append-nil}
 use Rattle.rpki_der.specs.Values.{IsUnambiguous}
 use Rattle.rpki_cert.specs.Certificates.{IsCertificate}
@@ -15,10 +14,10 @@ use Rattle.rpki_path.specs.Paths.{Candidate, candidate}
 use Rattle.rpki_path.specs.Judging.{IsRouterIfAny}
 use Rattle.rpki_folder.specs.Folders.{octets_at, cas_at, NamesSigner}
 use Rattle.rpki_folder.specs.SaidKinds.{BeginsWithKind}
-use Rattle.rpki_folder.specs.Walks.{Root, members_at, LeadsTo, IsAcceptedAs, IsReached, Told, told, IsRight, IsRightOf, IsTold}
+use Rattle.rpki_folder.specs.Walks.{Root, members_at, LeadsTo, IsAcceptedAs, IsReached, IsRightOf}
 use Rattle.rpki_folder.specs.Walks.Steps.{IsAnswer, GoesOn, IsOutcome}
 use Rattle.rpki_folder.proofs.SaidOnce.{begins_one}
-use Rattle.rpki_folder.proofs.PathsDown.{members_more, members_next, leads_further, no_fault, names_signer, says_authority, no_router_fault, router_names_signer}
+use Rattle.rpki_folder.proofs.PathsDown.{members_more, leads_further, no_fault, names_signer, says_authority, no_router_fault, router_names_signer}
 
 -- the first of these places
 abbrev pub head_of : List ℕ → ℕ → ℕ

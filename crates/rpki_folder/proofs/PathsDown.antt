@@ -1,34 +1,32 @@
 -- Valid paths from a locator that go on through a folder.
 use Rattle.std.specs.List.{AllByRecursion}
 use Rattle.std.specs.Prelude.{Option, None, Some, IsSome, IfSome}
-use Rattle.std.proofs.Common.{◌≡◌, ◌≢◌, ◌⊎◌, ◌↔◌, ◌+◌, ◌<◌, ◌≤◌, ℕ, List, [], ◌∷◌, ◌++◌, Result, Ok, Err, length, map, refl, sym, subst, ap, ◌∙◌, inl, inr, append_assoc, arith}
+use Rattle.std.proofs.Common.{◌≡◌, ◌≢◌, ◌+◌, ◌<◌, ◌≤◌, ℕ, List, [], ◌∷◌, ◌++◌, Ok, length, refl, sym, subst, ap, ◌∙◌, append_assoc, arith}
 use Rattle.std.proofs.lemmas.List.{map-append, length-append}
 use Rattle.rpki_der.specs.Values.{IsUnambiguous}
-use Rattle.rpki_der.proofs.Formats.{one_meant}
-use Rattle.rpki_ext.specs.Kinds.{Means}
-use Rattle.rpki_cert.specs.Certificates.{TbsFields, CertFields, IsCertificate}
+use Rattle.rpki_cert.specs.Certificates.{CertFields, IsCertificate}
 use Rattle.rpki_cert.specs.Profiles.{MeetsProfile}
 use Rattle.rpki_cert.specs.Verification.{Context, ResourceFields, IsVerified, issued_checks}
 use Rattle.rpki_cert.specs.declared.inspect.Kind.{Kind}
-use Rattle.rpki_cert.specs.declared.inspect.Kind.TheVariants.{Anchor, Authority, EndEntity, Detached, Router}
+use Rattle.rpki_cert.specs.declared.inspect.Kind.TheVariants.{Authority}
 use Rattle.rpki_revocation.specs.Asking.{RevocationChecks}
 use Rattle.rpki_path.specs.declared.judging.Judged.{Judged}
 use Rattle.rpki_path.specs.declared.path_fault.PathFault.{PathFault}
 use Rattle.rpki_path.specs.declared.path_fault.PathFault.TheVariants.{Decode, Inspect, Verify, Revocation, Memory}
 use Rattle.rpki_path.specs.declared.path_fault.PathError.{PathError}
-use Rattle.rpki_path.specs.Paths.{Path, Member, Candidate, candidate, IsMember, IsAccepted, IsPathOf, HasHeld, last, certificate_at, CheckBelow, Finds, UnlessMemory, IsNoValidPath}
+use Rattle.rpki_path.specs.Paths.{Path, Member, Candidate, candidate, IsAccepted, HasHeld, last, certificate_at, CheckBelow, Finds, UnlessMemory, IsNoValidPath}
 use Rattle.rpki_path.specs.Paths.Steps.{IsIssuedBy, demand_under}
-use Rattle.rpki_path.specs.Routers.{IsRouterUnder, router_demand}
+use Rattle.rpki_path.specs.Routers.{router_demand}
 use Rattle.rpki_path.specs.GivenPaths.{PathStrings}
-use Rattle.rpki_path.specs.Judging.{IsRouterIfAny, IsAcceptedWith}
-use Rattle.rpki_path.specs.LocatedPaths.{IsAcceptedFrom, BeginsWithKey}
+use Rattle.rpki_path.specs.Judging.{IsRouterIfAny}
+use Rattle.rpki_path.specs.LocatedPaths.{BeginsWithKey}
 use Rattle.rpki_path.proofs.LongerPaths.{extended, above, there, all_at}
 use Rattle.rpki_path.proofs.LocatedPaths.{located_headline}
 use Rattle.rpki_path.proofs.ValidPaths.{one_more}
 use Rattle.rpki_path.proofs.Rejections.{one_path, GoesOn, goes_on, fault_there, no_valid_path}
 use Rattle.rpki_path.proofs.Verdicts.{wrong_below}
 use Rattle.rpki_folder.specs.Folders.{octets_at, cas_at, NamesSigner}
-use Rattle.rpki_folder.specs.SaidKinds.{SaysKind, BeginsWithKind}
+use Rattle.rpki_folder.specs.SaidKinds.{BeginsWithKind}
 use Rattle.rpki_folder.specs.Walks.{Root, members_at, LeadsTo}
 use Rattle.rpki_folder.proofs.SaidOnce.{authority_says}
 
@@ -59,7 +57,7 @@ unless_holds (Revocation e) apart h = h
 unless_holds Memory apart h = absurd (apart refl)
 
 -- a value that is there, and is this one
-some_is : {X : Type 0} (o : Option X) (x : X) → IsSome o → IfSome o (λ y. y ≡ x) → o ≡ Some x
+pub some_is : {X : Type 0} (o : Option X) (x : X) → IsSome o → IfSome o (λ y. y ≡ x) → o ≡ Some x
 some_is None x some is = absurd cc
 some_is (Some y) x some is = ap (λ (z : _). Some z) is
 

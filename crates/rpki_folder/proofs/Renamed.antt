@@ -1,7 +1,6 @@
 -- The same certificates at other places.
 use Rattle.std.proofs.Common.{◌≡◌, ℕ, List, [], ◌∷◌, ◌++◌, map, refl, sym, ap, subst, ◌∙◌}
 use Rattle.rpki_cert.specs.Verification.{Context}
-use Rattle.rpki_cert.specs.declared.inspect.Kind.{Kind}
 use Rattle.rpki_cert.specs.declared.inspect.Kind.TheVariants.{Authority}
 use Rattle.rpki_revocation.specs.Asking.{RevocationChecks}
 use Rattle.rpki_path.specs.Paths.{Candidate, candidate}

@@ -1,15 +1,14 @@
 -- A certificate says that it is of one kind, and a CA of the profile that it is a CA.
-use Rattle.std.proofs.Common.{◌≡◌, ◌⊎◌, ◌≢◌, ℕ, Bool, true, false, List, [], ◌∷◌, ◌++◌, refl, sym, subst, ap, inl, inr}
+use Rattle.std.proofs.Common.{◌≡◌, ℕ, Bool, true, false, List, refl, subst, inl, inr}
 use Rattle.std.specs.Prelude.{Option, None, Some, IsSome, IsNone, IsSomeAnd}
 use Rattle.rpki_der.specs.Values.{IsUnambiguous}
 use Rattle.rpki_der.proofs.Formats.{one_meant}
-use Rattle.rpki_ext.specs.Kinds.{Means}
 use Rattle.rpki_ext.specs.RouterPurposes.{HasRouterPurpose}
 use Rattle.rpki_cert.specs.Certificates.{TbsFields, CertFields, IsCertificate}
 use Rattle.rpki_cert.specs.Profiles.{MeetsProfile}
 use Rattle.rpki_cert.specs.declared.inspect.Kind.{Kind}
 use Rattle.rpki_cert.specs.declared.inspect.Kind.TheVariants.{Anchor, Authority, EndEntity, Detached, Router}
-use Rattle.rpki_folder.specs.SaidKinds.{SaysAuthority, SaysRouter, SaysKind, BeginsWithKind}
+use Rattle.rpki_folder.specs.SaidKinds.{SaysAuthority, SaysKind, BeginsWithKind}
 
 both : {X : Type 0} (o : Option X) → IsSome o → IsNone o → ⊥
 both None some none = absurd cc

@@ -1,7 +1,7 @@
 -- What is found of one certificate, verdict by verdict.
 use Rattle.std.specs.List.{AllByRecursion}
-use Rattle.std.specs.Prelude.{Option, None, Some, Result, Ok, Err, IsOk, Any}
-use Rattle.std.proofs.Common.{◌≡◌, ◌+◌, ◌<◌, ℕ, suc, List, [], ◌∷◌, ◌++◌, length, get_or, refl, sym, ap, subst, ◌∙◌, arith}
+use Rattle.std.specs.Prelude.{Option, None, Some, Result, Ok, IsOk}
+use Rattle.std.proofs.Common.{◌≡◌, ℕ, List, [], ◌∷◌, ◌++◌, subst}
 use Rattle.std.proofs.lemmas.List.Elements.{Contains-append_left, Contains-push, All-from_recursion}
 use Rattle.rpki_cert.specs.Verification.{Context}
 use Rattle.rpki_revocation.specs.Asking.{RevocationChecks}

@@ -1,7 +1,6 @@
 -- What a step answers, from what its calls answer.
-use Rattle.std.specs.Prelude.{Option, None, Some, Result, Ok, Err, IsOk, IsErr, Any}
-use Rattle.std.specs.List.{AllByRecursion}
-use Rattle.std.proofs.Common.{◌≡◌, ◌≢◌, ◌+◌, ◌-◌, ◌<◌, ◌≤◌, ℕ, Bool, List, [], ◌∷◌, ◌++◌, length, take, get_or, IfOk, IfErr, refl, sym, ap, subst, ◌∙◌, inl, inr, arith}
+use Rattle.std.specs.Prelude.{Result, Ok, Err}
+use Rattle.std.proofs.Common.{◌≡◌, ◌≢◌, ◌+◌, ◌-◌, ◌<◌, ◌≤◌, ℕ, Bool, List, [], ◌∷◌, ◌++◌, length, take, get_or, IfOk, IfErr, ap, subst, ◌∙◌, inl, arith}
 use Rattle.std.specs.Global.{Vec}
 use Rattle.std.proofs.lemmas.List.{get_or_default, take-append-le, take_all, length-append}
 use Rattle.rpki_der.specs.Values.{IsUnambiguous}
@@ -9,7 +8,6 @@ use Rattle.rpki_cert.specs.Certificates.{IsCertificate}
 use Rattle.rpki_cert.specs.Verification.{Context, ResourceFields}
 use Rattle.rpki_revocation.specs.Asking.{RevocationChecks}
 use Rattle.rpki_tal.specs.Locators.{NamedTal}
-use Rattle.rpki_path.specs.declared.judging.Judged.{Judged}
 use Rattle.rpki_path.specs.declared.located.LocatedError.{LocatedError}
 use Rattle.rpki_path.specs.declared.located.LocatedError.TheVariants.{OtherKey, Path as path}
 use Rattle.rpki_path.specs.declared.path_fault.PathFault.{PathFault}

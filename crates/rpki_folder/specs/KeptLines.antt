@@ -1,7 +1,6 @@
 -- The lines that are kept of the verdicts on the certificates of a folder (own).
-use Rattle.std.specs.Prelude.{◌≡◌, ◌+◌, ◌<◌, ◌≤◌, ℕ, List, [], length, Any, Result, Ok, Err, IsOk, slice_index_or}
+use Rattle.std.specs.Prelude.{◌≡◌, ◌+◌, ◌<◌, ◌≤◌, ℕ, List, [], length, Any, Err, IsOk, slice_index_or}
 use Rattle.std.specs.List.{AllByRecursion}
-use Rattle.rpki_path.specs.declared.path_fault.PathFault.{PathFault}
 use Rattle.rpki_folder.specs.Walks.{Told, IsTold}
 use Rattle.rpki_folder.specs.declared.lines.Line.{Line}
 use Rattle.rpki_folder.specs.declared.lines.Line.TheVariants.{Unseen, Accepted, Rejected}

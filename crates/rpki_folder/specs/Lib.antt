@@ -1,6 +1,7 @@
 pub mod SaidKinds
 pub mod KeyTables
 pub mod Folders
+pub mod IssuerLists
 pub mod Walks
 pub mod WalkFaults
 pub mod KeptLines

@@ -4,6 +4,7 @@ ghost use Rattle.rpki_ext.specs.Kinds.{Means};
 ghost use Rattle.rpki_cert.specs.Certificates.{CertFields, IsCertificate};
 ghost use Rattle.rpki_der.specs.declared.error.DecodeError.TheVariants.{Memory};
 ghost use Rattle.rpki_folder.specs.Folders.{empty, with_cert, with_list, ArePlacesOf, IsAdded};
+ghost use Rattle.rpki_folder.specs.KeyTables.{list_places};
 
 use crate::filed::Filed;
 use crate::keys::KeyTable;
@@ -34,19 +35,23 @@ pub struct Folder {
     certs: Vec<Filed>,
     lists: Vec<Crl>,
     by_signer: KeyTable,
+    lists_by_signer: KeyTable,
 }
 
 impl Model for Folder {
     ghost use Rattle.std.specs.Prelude.{ℕ, List};
     ghost use Rattle.rpki_folder.specs.Folders.{FolderFields, ArePlacesOf};
-    ghost use Rattle.rpki_folder.specs.KeyTables.{places_in};
+    ghost use Rattle.std.specs.Prelude.{◌≡◌};
+    ghost use Rattle.rpki_folder.specs.KeyTables.{places_in, list_places};
 
     ghost Value = { FolderFields };
 
     ghost view = { λ f. record { certs = f.certs.items; lists = f.lists.items } };
 
-    ghost invariant = { λ f. (key : List ℕ)
-        → ArePlacesOf f.certs.items key (places_in f.by_signer.places key) };
+    ghost invariant = { λ f. ((key : List ℕ)
+        → ArePlacesOf f.certs.items key (places_in f.by_signer.places key))
+        × ((key : List ℕ)
+        → places_in f.lists_by_signer.places key ≡ list_places key f.lists.items) };
 }
 
 // Lets a fault go, unless it is that memory ran out.
@@ -68,6 +73,7 @@ impl Folder {
             certs: Vec::new(alloc),
             lists: Vec::new(alloc),
             by_signer: KeyTable::new(alloc),
+            lists_by_signer: KeyTable::new(alloc),
         }
     }
 
@@ -98,8 +104,14 @@ impl Folder {
         ensures ok { OnOk result (self.new ≡ with_list self.old list) }
         ensures err { OnErr result (self.new ≡ self.old) }
     {
-        self.lists.push(list)?;
-        Ok(())
+        let place = self.lists.len();
+        self.lists.try_reserve(1)?;
+        let key = *list.as_cert_list().authority_key_identifier();
+        self.lists_by_signer.add(&key, place)?;
+        match self.lists.push(list) {
+            Ok(()) => Ok(()),
+            Err(_) => unreachable!(),
+        }
     }
 
     /// Adds the certificate or the revocation list with which octets begin, and tells which it was. A
@@ -156,5 +168,13 @@ impl Folder {
         ensures { ArePlacesOf self.now.certs key.now result.now }
     {
         self.by_signer.get(key)
+    }
+
+    /// Returns the places of the revocation lists that name this key as the one that signs them (RFC
+    /// 5280 5.2.1), in their order.
+    pub(crate) fn lists_of(&self, key: &KeyIdentifier) -> &[usize]
+        ensures { result.now ≡ list_places key.now self.now.lists }
+    {
+        self.lists_by_signer.get(key)
     }
 }

@@ -6,6 +6,7 @@ mod bounds;
 mod filed;
 mod find;
 mod folder;
+mod issuer_lists;
 mod keys;
 pub mod laws;
 mod lines;

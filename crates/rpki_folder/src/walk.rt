@@ -9,17 +9,20 @@ ghost use Rattle.rpki_path.specs.declared.judging.Judged.{Judged};
 ghost use Rattle.rpki_path.specs.declared.path_fault.PathFault.{PathFault as Fault};
 ghost use Rattle.rpki_path.specs.declared.path_fault.PathFault.TheVariants.{Memory};
 ghost use Rattle.rpki_cert.specs.Verification.{context};
+ghost use Rattle.rpki_revocation.specs.Asking.{nobody};
 ghost use Rattle.rpki_revocation.specs.AskedLists.{by_lists};
 ghost use Rattle.rpki_path.specs.Paths.{Finds};
 ghost use Rattle.rpki_path.specs.Paths.Steps.{kind_of, IsIssuedBy, demand_under};
 ghost use Rattle.rpki_path.specs.Routers.{IsRouterUnder, router_demand};
-ghost use Rattle.rpki_folder.specs.Folders.{octets_at};
+ghost use Rattle.rpki_folder.specs.Folders.{octets_at, ArePlacesOf};
+ghost use Rattle.rpki_folder.specs.IssuerLists.{AreIssuers};
 ghost use Rattle.rpki_folder.specs.Walks.{Root, at_anchor, members_at, LeadsTo, Told, told, Tells, TellsBelow, IsWhyNone};
 ghost use Rattle.rpki_folder.specs.Walks.Steps.{IsAnswer, IsOutcome, Hands, IsAtTop};
 
 use crate::admission::Admission;
 use crate::bounds::{Bounds, Ended};
 use crate::folder::Folder;
+use crate::issuer_lists::IssuerLists;
 use crate::saying::said_kind;
 use crate::visitor::{Accepted, Visitor};
 use crate::walk_error::WalkError;
@@ -28,7 +31,7 @@ use rpki_der::Time;
 use rpki_ext::beside;
 use rpki_parts::{TalInfo, Verifier};
 use rpki_path::{LocatedError, Member, PathError, PathFault, Role, Validator, has_locator_key};
-use rpki_revocation::{GivenLists, NobodyAsked};
+use rpki_revocation::NobodyAsked;
 use rpki_tal::Tal;
 use std::alloc::{AllocError, Global};
 use std::rc::Rc;
@@ -99,14 +102,45 @@ fn reject<W: Visitor>(
 }
 
 impl<'w, A: Admission, V: Verifier> Walk<'w, A, V> {
-    // The certificate at a place, as a member of this role below an issuer.
-    fn member(
+    // The certificate at a place, as a member of this role below an issuer, where nobody is asked.
+    fn unasked_member(
         &self,
         issuer: &ResourceCert,
         place: usize,
         role: Role,
     ) -> Result<ResourceCert, PathFault>
         requires { place < length self.now.folder.now.certs }
+        ensures ok { let w = self.now in
+            let x = context (V.verifies w.verifier.now) w.at w.strict in
+            let octets = octets_at w.folder.now.certs place in
+            IfOk result (IsIssuedBy x nobody issuer.now (kind_of role) octets) }
+        ensures fault { let w = self.now in
+            let x = context (V.verifies w.verifier.now) w.at w.strict in
+            let octets = octets_at w.folder.now.certs place in
+            IfErr result (Finds x (demand_under x nobody issuer.now (kind_of role)) octets) }
+    {
+        let validator = Validator {
+            alloc: self.alloc,
+            asked: &NobodyAsked,
+            strict: self.strict,
+            at: self.at,
+            verifier: self.verifier,
+        };
+        validator.member(issuer, &self.folder.certs()[place].member(), role)
+    }
+
+    // The same, where the issuer's lists are asked.
+    fn member(
+        &self,
+        issuer: &ResourceCert,
+        lists: &IssuerLists<'_>,
+        place: usize,
+        role: Role,
+    ) -> Result<ResourceCert, PathFault>
+        requires place { place < length self.now.folder.now.certs }
+        requires kept { let w = self.now in
+            let x = context (V.verifies w.verifier.now) w.at w.strict in
+            AreIssuers x w.folder.now.lists issuer.now.cert.fields lists.now }
         ensures ok { let w = self.now in
             let x = context (V.verifies w.verifier.now) w.at w.strict in
             let asked = by_lists x w.folder.now.lists in
@@ -116,20 +150,46 @@ impl<'w, A: Admission, V: Verifier> Walk<'w, A, V> {
             let asked = by_lists x w.folder.now.lists in
             IfErr result (Finds x (demand_under x asked issuer.now (kind_of role)) (octets_at w.folder.now.certs place)) }
     {
-        let lists = GivenLists::new(self.folder.lists());
+        let member = self.unasked_member(issuer, place, role)?;
+        let test = lists.ask(member.as_cert(), self.at);
+        let (member, ()) = beside(member, test)?;
+        Ok(member)
+    }
+
+    // The certificate at a place, as a router's below an issuer, where nobody is asked.
+    fn unasked_router(&self, issuer: &ResourceCert, place: usize) -> Result<Cert, PathFault>
+        requires { place < length self.now.folder.now.certs }
+        ensures begins { let w = self.now in
+            IfOk result (λ c. Means IsCertificate c (octets_at w.folder.now.certs place)) }
+        ensures ok { let w = self.now in
+            let x = context (V.verifies w.verifier.now) w.at w.strict in
+            IfOk result (IsRouterUnder x nobody issuer.now) }
+        ensures fault { let w = self.now in
+            let x = context (V.verifies w.verifier.now) w.at w.strict in
+            let octets = octets_at w.folder.now.certs place in
+            IfErr result (Finds x (router_demand x nobody issuer.now) octets) }
+    {
         let validator = Validator {
             alloc: self.alloc,
-            asked: &lists,
+            asked: &NobodyAsked,
             strict: self.strict,
             at: self.at,
             verifier: self.verifier,
         };
-        validator.member(issuer, &self.folder.certs()[place].member(), role)
+        validator.router(&self.folder.certs()[place].member(), issuer)
     }
 
-    // The certificate at a place, as a router's below an issuer.
-    fn router(&self, issuer: &ResourceCert, place: usize) -> Result<Cert, PathFault>
-        requires { place < length self.now.folder.now.certs }
+    // The same, where the issuer's lists are asked.
+    fn router(
+        &self,
+        issuer: &ResourceCert,
+        lists: &IssuerLists<'_>,
+        place: usize,
+    ) -> Result<Cert, PathFault>
+        requires place { place < length self.now.folder.now.certs }
+        requires kept { let w = self.now in
+            let x = context (V.verifies w.verifier.now) w.at w.strict in
+            AreIssuers x w.folder.now.lists issuer.now.cert.fields lists.now }
         ensures begins { let w = self.now in
             IfOk result (λ c. Means IsCertificate c (octets_at w.folder.now.certs place)) }
         ensures ok { let w = self.now in
@@ -141,15 +201,10 @@ impl<'w, A: Admission, V: Verifier> Walk<'w, A, V> {
             let asked = by_lists x w.folder.now.lists in
             IfErr result (Finds x (router_demand x asked issuer.now) (octets_at w.folder.now.certs place)) }
     {
-        let lists = GivenLists::new(self.folder.lists());
-        let validator = Validator {
-            alloc: self.alloc,
-            asked: &lists,
-            strict: self.strict,
-            at: self.at,
-            verifier: self.verifier,
-        };
-        validator.router(&self.folder.certs()[place].member(), issuer)
+        let cert = self.unasked_router(issuer, place)?;
+        let test = lists.ask(&cert, self.at);
+        let (cert, ()) = beside(cert, test)?;
+        Ok(cert)
     }
 
     // Tells the answer on the certificate at a place that is judged as a member, and returns that
@@ -157,12 +212,16 @@ impl<'w, A: Admission, V: Verifier> Walk<'w, A, V> {
     fn tell_member<W: Visitor>(
         &self,
         issuer: &ResourceCert,
+        lists: &IssuerLists<'_>,
         above: &[usize],
         place: usize,
         role: Role,
         visitor: &mut W,
     ) -> Result<Option<ResourceCert>, AllocError>
-        requires { place < length self.now.folder.now.certs }
+        requires place { place < length self.now.folder.now.certs }
+        requires kept { let w = self.now in
+            let x = context (V.verifies w.verifier.now) w.at w.strict in
+            AreIssuers x w.folder.now.lists issuer.now.cert.fields lists.now }
         ensures ok { let w = self.now in
             let x = context (V.verifies w.verifier.now) w.at w.strict in
             let asked = by_lists x w.folder.now.lists in
@@ -172,7 +231,7 @@ impl<'w, A: Admission, V: Verifier> Walk<'w, A, V> {
             × IsAnswer x asked issuer.now octets (kind_of role) verdict × Hands verdict member) }
         ensures err { (v : W) (ts : List Told) → W.became v ts visitor.old → OnErr result (W.became v ts visitor.new) }
     {
-        match self.member(issuer, place, role) {
+        match self.member(issuer, lists, place, role) {
             Ok(member) => {
                 let test = visitor.tell(above, place, Ok(Accepted::member(&member)));
                 let (member, ()) = beside(member, test)?;
@@ -189,11 +248,15 @@ impl<'w, A: Admission, V: Verifier> Walk<'w, A, V> {
     fn tell_router<W: Visitor>(
         &self,
         issuer: &ResourceCert,
+        lists: &IssuerLists<'_>,
         above: &[usize],
         place: usize,
         visitor: &mut W,
     ) -> Result<(), AllocError>
-        requires { place < length self.now.folder.now.certs }
+        requires place { place < length self.now.folder.now.certs }
+        requires kept { let w = self.now in
+            let x = context (V.verifies w.verifier.now) w.at w.strict in
+            AreIssuers x w.folder.now.lists issuer.now.cert.fields lists.now }
         ensures ok { let w = self.now in
             let x = context (V.verifies w.verifier.now) w.at w.strict in
             let asked = by_lists x w.folder.now.lists in
@@ -203,7 +266,7 @@ impl<'w, A: Admission, V: Verifier> Walk<'w, A, V> {
             × IsAnswer x asked issuer.now octets Router verdict) }
         ensures err { (v : W) (ts : List Told) → W.became v ts visitor.old → OnErr result (W.became v ts visitor.new) }
     {
-        match self.router(issuer, place) {
+        match self.router(issuer, lists, place) {
             Ok(cert) => {
                 let test = visitor.tell(above, place, Ok(Accepted::router(issuer, &cert)));
                 drop(cert);
@@ -218,11 +281,15 @@ impl<'w, A: Admission, V: Verifier> Walk<'w, A, V> {
     fn look_at<W: Visitor>(
         &self,
         issuer: &ResourceCert,
+        lists: &IssuerLists<'_>,
         above: &[usize],
         place: usize,
         visitor: &mut W,
     ) -> Result<Option<ResourceCert>, AllocError>
-        requires { place < length self.now.folder.now.certs }
+        requires place { place < length self.now.folder.now.certs }
+        requires kept { let w = self.now in
+            let x = context (V.verifies w.verifier.now) w.at w.strict in
+            AreIssuers x w.folder.now.lists issuer.now.cert.fields lists.now }
         ensures ok { let w = self.now in
             let x = context (V.verifies w.verifier.now) w.at w.strict in
             let asked = by_lists x w.folder.now.lists in
@@ -233,24 +300,95 @@ impl<'w, A: Admission, V: Verifier> Walk<'w, A, V> {
         ensures err { (v : W) (ts : List Told) → W.became v ts visitor.old → OnErr result (W.became v ts visitor.new) }
     {
         match said_kind(self.folder.certs()[place].cert().as_tbs()) {
-            Kind::Authority => self.tell_member(issuer, above, place, Role::Authority, visitor),
+            Kind::Authority => self.tell_member(
+                issuer,
+                lists,
+                above,
+                place,
+                Role::Authority,
+                visitor,
+            ),
             Kind::EndEntity => {
-                drop(self.tell_member(issuer, above, place, Role::EndEntity, visitor)?);
+                drop(self.tell_member(issuer, lists, above, place, Role::EndEntity, visitor)?);
                 Ok(None)
             }
             Kind::Detached => {
-                drop(self.tell_member(issuer, above, place, Role::Detached, visitor)?);
+                drop(self.tell_member(issuer, lists, above, place, Role::Detached, visitor)?);
                 Ok(None)
             }
             Kind::Router => {
-                self.tell_router(issuer, above, place, visitor)?;
+                self.tell_router(issuer, lists, above, place, visitor)?;
                 Ok(None)
             }
             Kind::Anchor => unreachable!(),
         }
     }
 
-    // The walk below an issuer, for this depth.
+    // What is kept of the folder's lists for an issuer.
+    fn lists_of(&self, issuer: &ResourceCert) -> Result<IssuerLists<'_>, AllocError>
+        ensures { let w = self.now in
+            let x = context (V.verifies w.verifier.now) w.at w.strict in
+            IfOk result (AreIssuers x w.folder.now.lists issuer.now.cert.fields) }
+    {
+        let key = issuer.as_cert().as_tbs().subject_key_identifier();
+        let places = self.folder.lists_of(&key);
+        let (alloc, now, verifier) = (self.alloc, self.at, self.verifier);
+        IssuerLists::new(alloc, self.folder.lists(), places, issuer, now, verifier)
+    }
+
+    // The walk below an issuer with these lists, to the certificates at these places, for this depth.
+    #[cycle(descend)]
+    fn each_below<W: Visitor>(
+        &self,
+        issuer: &ResourceCert,
+        lists: &IssuerLists<'_>,
+        places: &[usize],
+        trail: &mut Trail,
+        depth: usize,
+        visitor: &mut W,
+    ) -> Result<Ended, AllocError>
+        requires kept { let w = self.now in
+            let x = context (V.verifies w.verifier.now) w.at w.strict in
+            AreIssuers x w.folder.now.lists issuer.now.cert.fields lists.now }
+        requires places { let key = issuer.now.cert.fields.extensions.subject_key_identifier in
+            ArePlacesOf self.now.folder.now.certs key places.now }
+        ensures tells { let w = self.now in
+            let x = context (V.verifies w.verifier.now) w.at w.strict in
+            let asked = by_lists x w.folder.now.lists in
+            let admits = A.admits w.admission.now in
+            (v : W) (ts : List Told) → W.became v ts visitor.old → (more : List Told) × W.became v (ts ++ more) visitor.new
+            × (length more + trail.new.steps ≤ trail.old.steps)
+            × TellsBelow x asked admits issuer.now w.folder.now.certs trail.old.above.items depth trail.old.steps result more }
+        ensures trail { OnOk result (trail.new.above.items ≡ trail.old.above.items) }
+    {
+        laws::unambiguous();
+        let mut ended = Ended::Whole;
+        for &place in places {
+            if !self.admission.is_admitted(&trail.above, place) {
+                continue;
+            }
+            if depth == 0 {
+                return Ok(Ended::TooDeep);
+            }
+            if trail.steps == 0 {
+                return Ok(Ended::OutOfSteps);
+            }
+            trail.steps -= 1;
+            let Some(ca) = self.look_at(issuer, lists, &trail.above, place, visitor)? else {
+                continue;
+            };
+            trail.above.push(place)?;
+            let below = self.descend(&ca, trail, depth - 1, visitor);
+            drop(ca);
+            trail.above.pop();
+            ended = ended.and(below?);
+        }
+        Ok(ended)
+    }
+
+    // The walk below an issuer, for this depth. Where nothing stands below it, its lists aren't
+    // verified.
+    #[cycle(descend)]
     fn descend<W: Visitor>(
         &self,
         issuer: &ResourceCert,
@@ -269,29 +407,14 @@ impl<'w, A: Admission, V: Verifier> Walk<'w, A, V> {
     {
         laws::unambiguous();
         let key = issuer.as_cert().as_tbs().subject_key_identifier();
-        let mut ended = Ended::Whole;
         let places = self.folder.signed_by(&key);
-        for &place in places {
-            if !self.admission.is_admitted(&trail.above, place) {
-                continue;
-            }
-            if depth == 0 {
-                return Ok(Ended::TooDeep);
-            }
-            if trail.steps == 0 {
-                return Ok(Ended::OutOfSteps);
-            }
-            trail.steps -= 1;
-            let Some(ca) = self.look_at(issuer, &trail.above, place, visitor)? else {
-                continue;
-            };
-            trail.above.push(place)?;
-            let below = self.descend(&ca, trail, depth - 1, visitor);
-            drop(ca);
-            trail.above.pop();
-            ended = ended.and(below?);
+        if places.is_empty() {
+            return Ok(Ended::Whole);
         }
-        Ok(ended)
+        let lists = self.lists_of(issuer)?;
+        let ended = self.each_below(issuer, &lists, places, trail, depth, visitor);
+        drop(lists);
+        ended
     }
 
     /// Walks below an issuer that was validated before. Each certificate of the folder that names the

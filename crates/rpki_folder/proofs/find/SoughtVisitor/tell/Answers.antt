@@ -1,8 +1,7 @@
 use Rattle.std.specs.Prelude.{Result, Ok, Err, IsOk}
-use Rattle.std.proofs.Common.{◌≡◌, sym, ap, subst, ◌∙◌}
+use Rattle.std.proofs.Common.{sym, ap, subst, ◌∙◌}
 use Rattle.rpki_path.specs.declared.judging.Judged.{Judged}
 use Rattle.rpki_path.specs.declared.path_fault.PathFault.{PathFault}
-use Rattle.rpki_folder.specs.Searches.{IsSought}
 use Rattle.rpki_folder.specs.Walks.{told}
 use Rattle.rpki_folder.proofs.SearchSteps.{sought_still, sought_now}
 use Rattle.rpki_folder.proofs.find.SoughtVisitor.tell.Goals as goal

@@ -3,7 +3,7 @@ use Rattle.std.specs.BTreeMap.{BTreeMap, get}
 use Rattle.std.specs.Cmp.Lexicographic.{slice_cmp}
 use Rattle.std.specs.Global.{Vec}
 use Rattle.std.specs.Ordering.{nat_cmp}
-use Rattle.std.proofs.Common.{◌≡◌, ℕ, List, [], ◌∷◌, ◌++◌, refl, sym, ap, subst, ◌∙◌}
+use Rattle.std.proofs.Common.{◌≡◌, ℕ, List, [], ◌∷◌, ◌++◌, refl, ap, subst, ◌∙◌}
 use Rattle.rpki_folder.specs.KeyTables.{places_in, with_place}
 use Rattle.rpki_folder.proofs.KeyTableSteps.{listed, Sets, place_added, place_kept, on_err}
 use Rattle.rpki_folder.proofs.keys.KeyTable.add.Goals as goal

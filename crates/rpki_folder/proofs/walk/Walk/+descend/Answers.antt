@@ -1,6 +1,6 @@
-use Rattle.std.specs.Prelude.{Option, None, Some, Ok}
-use Rattle.std.proofs.Common.{◌≡◌, ◌+◌, ◌-◌, ◌<◌, ◌≤◌, ℕ, List, [], ◌∷◌, ◌++◌, length, take, get_or, refl, sym, ap, subst, ◌∙◌, append_assoc, arith}
-use Rattle.std.proofs.lemmas.Bool.{both_ways}
+use Rattle.std.specs.Prelude.{Option, None, Some, Ok, Bool, true, ◌==◌}
+use Rattle.std.proofs.Common.{◌≡◌, ◌+◌, ◌-◌, ◌≤◌, ℕ, List, [], ◌∷◌, ◌++◌, length, take, get_or, refl, sym, ap, subst, ◌∙◌, append_assoc, arith}
+use Rattle.std.proofs.lemmas.Bool.{both_ways, eqb-true}
 use Rattle.std.proofs.lemmas.List.{append-nil, length-append, take_more, take_all}
 use Rattle.std.proofs.lemmas.List.Elements.{Contains-get_or}
 use Rattle.rpki_cert.specs.Certificates.{TbsFields, CertFields}
@@ -10,12 +10,13 @@ use Rattle.rpki_folder.specs.Folders.{octets_at, ArePlacesOf}
 use Rattle.rpki_folder.specs.Walks.{Told, told, TellsBelow}
 use Rattle.rpki_folder.specs.Walks.Steps.{IsOutcome}
 use Rattle.rpki_folder.specs.declared.bounds.Ended.{Ended}
+use Rattle.rpki_folder.specs.declared.bounds.Ended.TheVariants.{Whole}
 use Rattle.rpki_folder.proofs.Descent.{SoFar, nothing_yet, passed_over, one_right, ended_there, below_right, went_below, ended_whole, ended_err}
 use Rattle.rpki_folder.proofs.StepAnswers.{popped}
 use Rattle.rpki_folder.proofs.walk.Walk.+descend.Goals as goal
 
-pub loop-place-init : goal.loop-place-init
-loop-place-init g t c =
+pub each_below-loop-place-init : goal.each_below-loop-place-init
+each_below-loop-place-init g t c =
     let w = c.args.self.now in
     let x = context (g.V.Verifier.verifies w.verifier.now) w.at w.strict in (
       refl {A = List ℕ},
@@ -27,8 +28,8 @@ loop-place-init g t c =
       )),
     )
 
-pub loop-place-preserved-then-not-is_admitted : goal.loop-place-preserved-then-not-is_admitted
-loop-place-preserved-then-not-is_admitted g t c = (
+pub each_below-loop-place-preserved-then-not-is_admitted : goal.each_below-loop-place-preserved-then-not-is_admitted
+each_below-loop-place-preserved-then-not-is_admitted g t c = (
   c.loop-place.invariant.0,
   (λ v ts heard.
       let w = c.args.self.now in
@@ -38,7 +39,7 @@ loop-place-preserved-then-not-is_admitted g t c = (
       let issuer = c.args.issuer.now in
       let certs = w.folder.now.certs in
       let above = c.args.trail.now.above.items in
-      let places = c.signed_by-places.result.now in
+      let places = c.args.places.now in
       let index = c.loop-place.place-index in
       let place = get_or places index 0 in
       let i = c.loop-place.invariant.1 v ts heard in
@@ -52,14 +53,17 @@ loop-place-preserved-then-not-is_admitted g t c = (
       )),
 )
 
-pub look_at-requires : goal.look_at-requires
-look_at-requires g t c =
-    let places = c.signed_by-places.result.now in
+pub each_below-look_at-requires : goal.each_below-look_at-requires
+each_below-look_at-requires g t c =
+    let places = c.args.places.now in
     let index = c.loop-place.place-index in
-    c.signed_by-places.ensures.inside (get_or places index 0) (Contains-get_or places index 0 c.loop-place-test.true)
+    record {
+      place = c.requires.places.inside (get_or places index 0) (Contains-get_or places index 0 c.loop-place-test.true);
+      kept = c.requires.kept;
+    }
 
-pub loop-place-preserved-in_default : goal.loop-place-preserved-in_default
-loop-place-preserved-in_default g t c = (
+pub each_below-loop-place-preserved-in_default : goal.each_below-loop-place-preserved-in_default
+each_below-loop-place-preserved-in_default g t c = (
   c.loop-place.invariant.0,
   (λ v ts heard.
       let w = c.args.self.now in
@@ -69,7 +73,7 @@ loop-place-preserved-in_default g t c = (
       let issuer = c.args.issuer.now in
       let certs = w.folder.now.certs in
       let above = c.args.trail.now.above.items in
-      let places = c.signed_by-places.result.now in
+      let places = c.args.places.now in
       let index = c.loop-place.place-index in
       let place = get_or places index 0 in
       let i = c.loop-place.invariant.1 v ts heard in
@@ -87,8 +91,8 @@ loop-place-preserved-in_default g t c = (
       )),
 )
 
-pub returns-in_err-push-clause-tells : goal.returns-in_err-push-clause-tells
-returns-in_err-push-clause-tells g t c = λ v ts heard.
+pub each_below-returns-in_err-push-clause-tells : goal.each_below-returns-in_err-push-clause-tells
+each_below-returns-in_err-push-clause-tells g t c = λ v ts heard.
     let w = c.args.self.now in
     let x = context (g.V.Verifier.verifies w.verifier.now) w.at w.strict in
     let asked = by_lists x w.folder.now.lists in
@@ -96,7 +100,7 @@ returns-in_err-push-clause-tells g t c = λ v ts heard.
     let issuer = c.args.issuer.now in
     let certs = w.folder.now.certs in
     let above = c.args.trail.now.above.items in
-    let place = get_or c.signed_by-places.result.now c.loop-place.place-index 0 in
+    let place = get_or c.args.places.now c.loop-place.place-index 0 in
     let i = c.loop-place.invariant.1 v ts heard in
     let same = c.deref-in-loop-place.ensures.value ∙ c.loop-place.invariant.0 in
     let o = c.in_ok-ca.ensures.ok v (ts ++ i.0) i.1 in
@@ -111,8 +115,8 @@ returns-in_err-push-clause-tells g t c = λ v ts heard.
           (one_right x asked admits issuer certs above c.args.depth c.unambiguous.ensures.certificate i.0 place o.0 c.in_ok-ca.field-0 i.3.right o.2) c.from_residual-in_err-push.result c.from_residual-in_err-push.ensures.0,
     )
 
-pub returns-in_err-below-clause-tells : goal.returns-in_err-below-clause-tells
-returns-in_err-below-clause-tells g t c = λ v ts heard.
+pub each_below-returns-in_err-below-clause-tells : goal.each_below-returns-in_err-below-clause-tells
+each_below-returns-in_err-below-clause-tells g t c = λ v ts heard.
     let w = c.args.self.now in
     let x = context (g.V.Verifier.verifies w.verifier.now) w.at w.strict in
     let asked = by_lists x w.folder.now.lists in
@@ -120,7 +124,7 @@ returns-in_err-below-clause-tells g t c = λ v ts heard.
     let issuer = c.args.issuer.now in
     let certs = w.folder.now.certs in
     let above = c.args.trail.now.above.items in
-    let place = get_or c.signed_by-places.result.now c.loop-place.place-index 0 in
+    let place = get_or c.args.places.now c.loop-place.place-index 0 in
     let ca = c.in-Some.ca in
     let i = c.loop-place.invariant.1 v ts heard in
     let same = c.deref-in-loop-place.ensures.value ∙ c.loop-place.invariant.0 in
@@ -142,10 +146,10 @@ returns-in_err-below-clause-tells g t c = λ v ts heard.
           (below_right x asked admits issuer certs above c.args.depth c.unambiguous.ensures.certificate place o.0 ca outcome (c.loop-place.trail.steps - 1) c.descend-below.result b.0 below i.0 i.3.right) c.from_residual-in_err-below.result c.from_residual-in_err-below.ensures.0,
     )
 
-pub loop-place-preserved : goal.loop-place-preserved
-loop-place-preserved g t c =
+pub each_below-loop-place-preserved : goal.each_below-loop-place-preserved
+each_below-loop-place-preserved g t c =
     let above = c.args.trail.now.above.items in
-    let places = c.signed_by-places.result.now in
+    let places = c.args.places.now in
     let index = c.loop-place.place-index in
     let place = get_or places index 0 in
     let deeper = c.in_ok-push.ensures.items ∙ ap (λ (l : List ℕ). l ++ place ∷ []) c.loop-place.invariant.0 in (
@@ -179,8 +183,31 @@ loop-place-preserved g t c =
           )),
     )
 
-pub returns-clause-tells : goal.returns-clause-tells
-returns-clause-tells g t c = λ v ts heard.
+pub each_below-returns-clause-tells : goal.each_below-returns-clause-tells
+each_below-returns-clause-tells g t c = λ v ts heard.
+    let w = c.args.self.now in
+    let x = context (g.V.Verifier.verifies w.verifier.now) w.at w.strict in
+    let asked = by_lists x w.folder.now.lists in
+    let admits = g.A.Admission.admits w.admission.now in
+    let issuer = c.args.issuer.now in
+    let certs = w.folder.now.certs in
+    let above = c.args.trail.now.above.items in
+    let places = c.args.places.now in
+    let i = c.loop-place.invariant.1 v ts heard in
+    let all : SoFar x asked admits issuer certs above c.args.depth places c.loop-place.ended i.0 = subst (λ (l : List ℕ). SoFar x asked admits issuer certs above c.args.depth l c.loop-place.ended i.0) (take_all c.loop-place.place-index places c.loop-place-test.false) i.3 in
+    let few : length i.0 ≤ c.args.trail.now.steps = omega (arith, i.2) in
+    (i.0, i.1, i.2, ended_whole x asked admits issuer certs above c.args.depth c.unambiguous.ensures.certificate c.args.trail.now.steps i.0 few places c.loop-place.ended c.requires.places all (Ok c.loop-place.ended) refl)
+
+-- the places of the issuer's key
+there : (certs : List (List ℕ)) (key own : List ℕ) (places : List ℕ) → key ≡ own → ArePlacesOf certs key places → ArePlacesOf certs own places
+there certs key own places is are = subst (λ (k : List ℕ). ArePlacesOf certs k places) is are
+
+none_there : (places : List ℕ) (b : Bool) → b ≡ (length places == 0) → b ≡ true → places ≡ []
+none_there [] b is test = refl
+none_there (p ∷ places) b is test = let zero : length (p ∷ places) ≡ 0 = eqb-true (length (p ∷ places)) 0 (sym is ∙ test) in absurd (omega (arith, zero))
+
+pub descend-returns-then-is_empty-clause-tells : goal.descend-returns-then-is_empty-clause-tells
+descend-returns-then-is_empty-clause-tells g t c = λ v ts heard.
     let w = c.args.self.now in
     let x = context (g.V.Verifier.verifies w.verifier.now) w.at w.strict in
     let asked = by_lists x w.folder.now.lists in
@@ -189,9 +216,31 @@ returns-clause-tells g t c = λ v ts heard.
     let certs = w.folder.now.certs in
     let above = c.args.trail.now.above.items in
     let places = c.signed_by-places.result.now in
-    let i = c.loop-place.invariant.1 v ts heard in
+    let own = issuer.cert.fields.extensions.subject_key_identifier in
     let key = c.subject_key_identifier-key.ensures ∙ ap (λ (f : TbsFields). f.extensions.subject_key_identifier) c.as_tbs.ensures ∙ ap (λ (d : CertFields). d.fields.extensions.subject_key_identifier) c.as_cert.ensures in
-    let are : ArePlacesOf certs issuer.cert.fields.extensions.subject_key_identifier places = subst (λ (k : List ℕ). ArePlacesOf certs k places) key c.signed_by-places.ensures in
-    let all : SoFar x asked admits issuer certs above c.args.depth places c.loop-place.ended i.0 = subst (λ (l : List ℕ). SoFar x asked admits issuer certs above c.args.depth l c.loop-place.ended i.0) (take_all c.loop-place.place-index places c.loop-place-test.false) i.3 in
-    let few : length i.0 ≤ c.args.trail.now.steps = omega (arith, i.2) in
-    (i.0, i.1, i.2, ended_whole x asked admits issuer certs above c.args.depth c.unambiguous.ensures.certificate c.args.trail.now.steps i.0 few places c.loop-place.ended are all (Ok c.loop-place.ended) refl)
+    let are = there certs c.subject_key_identifier-key.result own places key c.signed_by-places.ensures in
+    let none : places ≡ [] = none_there places c.is_empty.result c.is_empty.ensures c.if-is_empty.true in
+    let few : length {A = Told} [] ≤ c.args.trail.now.steps = omega arith in (
+      [],
+      subst (λ (l : List Told). g.W.Visitor.became v l c.args.visitor.now) (sym (append-nil ts)) heard,
+      omega arith,
+      ended_whole x asked admits issuer certs above c.args.depth c.unambiguous.ensures.certificate c.args.trail.now.steps [] few [] Whole (subst (λ (l : List ℕ). ArePlacesOf certs own l) none are)
+          (nothing_yet x asked admits issuer certs above c.args.depth) (Ok Whole) refl,
+    )
+
+pub descend-returns-in_err-lists-clause-tells : goal.descend-returns-in_err-lists-clause-tells
+descend-returns-in_err-lists-clause-tells g t c = λ v ts heard.
+    let w = c.args.self.now in
+    let x = context (g.V.Verifier.verifies w.verifier.now) w.at w.strict in
+    let asked = by_lists x w.folder.now.lists in
+    let admits = g.A.Admission.admits w.admission.now in
+    let issuer = c.args.issuer.now in
+    let certs = w.folder.now.certs in
+    let above = c.args.trail.now.above.items in
+    let few : length {A = Told} [] ≤ c.args.trail.now.steps = omega arith in (
+      [],
+      subst (λ (l : List Told). g.W.Visitor.became v l c.args.visitor.now) (sym (append-nil ts)) heard,
+      omega arith,
+      ended_err x asked admits issuer certs above c.args.depth c.unambiguous.ensures.certificate c.args.trail.now.steps [] few
+          (nothing_yet x asked admits issuer certs above c.args.depth).right c.from_residual.result c.from_residual.ensures.0,
+    )

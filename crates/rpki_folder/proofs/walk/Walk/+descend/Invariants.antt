@@ -1,4 +1,4 @@
-use Rattle.std.proofs.Common.{◌≡◌, ◌+◌, ◌≤◌, List, ◌++◌, length, take}
+use Rattle.std.proofs.Common.{◌≡◌, ◌+◌, ◌*◌, ◌≤◌, List, ◌++◌, length, take}
 use Rattle.rpki_cert.specs.Verification.{context}
 use Rattle.rpki_revocation.specs.AskedLists.{by_lists}
 use Rattle.rpki_folder.specs.Walks.{Told}
@@ -6,10 +6,13 @@ use Rattle.rpki_folder.proofs.Descent.{SoFar}
 use Rattle.rpki_folder.proofs.walk.Walk.+descend.Given as goal
 
 abbrev pub decreases-descend : goal.decreases-descend
-decreases-descend g l = l.depth
+decreases-descend g l = 2 * l.depth + 1
 
-abbrev pub invariant-loop-place : goal.invariant-loop-place
-invariant-loop-place g l =
+abbrev pub decreases-each_below : goal.decreases-each_below
+decreases-each_below g l = 2 * l.depth
+
+abbrev pub invariant-each_below-loop-place : goal.invariant-each_below-loop-place
+invariant-each_below-loop-place g l =
     let w = l.self in
     let x = context (g.V.Verifier.verifies w.verifier.now) w.at w.strict in
     (l.trail.above.items ≡ l.fn.trail.above.items)

@@ -1,5 +1,5 @@
 use Rattle.std.specs.Prelude.{Option, None, Some}
-use Rattle.std.proofs.Common.{◌≡◌, ◌++◌, [], refl, sym, subst, ◌∙◌}
+use Rattle.std.proofs.Common.{refl, sym, subst, ◌∙◌}
 use Rattle.rpki_cert.specs.Verification.{context}
 use Rattle.rpki_revocation.specs.AskedLists.{by_lists}
 use Rattle.rpki_folder.specs.Searches.{IsSought}

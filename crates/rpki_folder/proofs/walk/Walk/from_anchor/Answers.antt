@@ -1,4 +1,4 @@
-use Rattle.std.proofs.Common.{List, [], arith}
+use Rattle.std.proofs.Common.{[], arith}
 use Rattle.rpki_cert.specs.Verification.{context}
 use Rattle.rpki_revocation.specs.AskedLists.{by_lists}
 use Rattle.rpki_folder.specs.Walks.{at_anchor, IsComplete}

@@ -1,27 +1,38 @@
-use Rattle.std.proofs.Common.{◌≡◌, ℕ, List, IfOk, IfErr, subst, ◌∙◌}
-use Rattle.rpki_ext.specs.Kinds.{Means}
-use Rattle.rpki_cert.specs.Certificates.{IsCertificate}
-use Rattle.rpki_cert.specs.Verification.{context}
-use Rattle.rpki_crl.specs.Lists.{CrlState}
+use Rattle.std.proofs.Common.{rules, ◌≡◌, Err}
+use Rattle.rpki_parts.specs.Conditions.{IsFirstFalse}
+use Rattle.rpki_cert.specs.Verification.{context, IsVerified}
+use Rattle.rpki_crl.specs.Revocation.{revocation_checks}
 use Rattle.rpki_revocation.specs.AskedLists.{by_lists}
-use Rattle.rpki_path.specs.Paths.{Finds}
-use Rattle.rpki_path.specs.Routers.{router_demand}
+use Rattle.rpki_path.specs.declared.path_fault.PathFault.TheVariants.{Revocation}
 use Rattle.rpki_folder.specs.Folders.{octets_at}
-use Rattle.rpki_folder.proofs.StepAnswers.{octets_here}
+use Rattle.rpki_folder.proofs.IssuersList.{as_all}
+use Rattle.rpki_folder.proofs.UnaskedSteps.{router_names_issuer, router_not_revoked, router_is_revoked}
 use Rattle.rpki_folder.proofs.walk.Walk.router.Goals as goal
 
-pub returns-clause-begins : goal.returns-clause-begins
-returns-clause-begins g c =
-    let certs = c.args.self.now.folder.now.certs in
-    let octets : c.member.result ≡ octets_at certs c.args.place = c.member.ensures ∙ octets_here certs c.certs.result.now c.args.place c.index-certs-place.result c.certs.ensures c.index-certs-place.is c.requires in
-    subst (λ (o : List ℕ). IfOk c.router.result (λ d. Means IsCertificate d o)) octets c.router.ensures.begins
-
-pub returns-clause-fault : goal.returns-clause-fault
-returns-clause-fault g c =
+pub returns-in_err-cert-2-clause-fault : goal.returns-in_err-cert-2-clause-fault
+returns-in_err-cert-2-clause-fault g c =
     let w = c.args.self.now in
     let x = context (g.V.Verifier.verifies w.verifier.now) w.at w.strict in
+    let lists = w.folder.now.lists in
+    let octets = octets_at w.folder.now.certs c.args.place in
     let issuer = c.args.issuer.now in
-    let certs = w.folder.now.certs in
-    let octets : c.member.result ≡ octets_at certs c.args.place = c.member.ensures ∙ octets_here certs c.certs.result.now c.args.place c.index-certs-place.result c.certs.ensures c.index-certs-place.is c.requires in
-    subst (λ (ls : List CrlState). IfErr c.router.result (Finds x (router_demand x (by_lists x ls) issuer) (octets_at certs c.args.place))) (c.new-lists.ensures ∙ c.lists.ensures)
-    (subst (λ (o : List ℕ). IfErr c.router.result (Finds x (router_demand x (by_lists x c.new-lists.result) issuer) o)) octets c.router.ensures.fault)
+    let cert = c.in_ok-cert.cert in
+    let e = c.in_err-cert-2.field-0.0 in
+    let same : c.from_residual-in_err-cert-2.result ≡ Err (Revocation e) = search rules in
+    let below = router_names_issuer x (by_lists x lists) issuer octets cert c.in_ok-cert.ensures.ok in
+    let tests = as_all x lists issuer.cert.fields cert below c.args.lists.now c.requires.kept c.ask-test.result c.ask-test.ensures in
+    let first : IsFirstFalse (by_lists x lists issuer.cert.fields cert) revocation_checks e = rw c.in_err-cert-2.ensures.rejected at tests in
+    rw same (router_is_revoked x (by_lists x lists) issuer octets cert c.in_ok-cert.ensures.ok c.in_ok-cert.ensures.begins e first)
+
+pub returns-clause-ok : goal.returns-clause-ok
+returns-clause-ok g c =
+    let w = c.args.self.now in
+    let x = context (g.V.Verifier.verifies w.verifier.now) w.at w.strict in
+    let lists = w.folder.now.lists in
+    let octets = octets_at w.folder.now.certs c.args.place in
+    let issuer = c.args.issuer.now in
+    let cert = c.in_ok-cert.cert in
+    let below = router_names_issuer x (by_lists x lists) issuer octets cert c.in_ok-cert.ensures.ok in
+    let tests = as_all x lists issuer.cert.fields cert below c.args.lists.now c.requires.kept c.ask-test.result c.ask-test.ensures in
+    let free : IsVerified (by_lists x lists issuer.cert.fields cert) revocation_checks = rw c.in_ok-cert-2.ensures.ok.1 at tests in
+    rw c.in_ok-cert-2.ensures.ok.0 (router_not_revoked x (by_lists x lists) issuer octets cert c.in_ok-cert.ensures.ok free)

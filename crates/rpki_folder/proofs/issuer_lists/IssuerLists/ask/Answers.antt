@@ -1,0 +1,15 @@
+use Rattle.std.proofs.Common.{◌≡◌, List, [], ◌∷◌, map, refl, sym, ap, ◌∙◌, inl}
+use Rattle.rpki_crl.specs.Lists.{CrlState}
+use Rattle.rpki_revocation.specs.AskedLists.Steps.{HaveNone}
+use Rattle.rpki_folder.specs.IssuerLists.{IssuerFields}
+use Rattle.rpki_folder.proofs.issuer_lists.IssuerLists.ask.Goals as goal
+
+none_left : (lists : List CrlState) → HaveNone (λ _. Unit {0}) lists → lists ≡ []
+none_left [] none = refl
+none_left (l ∷ lists) none = absurd (none.0 tt)
+
+pub returns-in_default : goal.returns-in_default
+returns-in_default c =
+    let given = ap (λ rs. map (λ r. r.now) rs) c.deref.ensures.value in
+    let none = none_left (map (λ r. r.now) c.deref.result.now) c.in_default.ensures in
+    inl (sym (ap (λ (k : IssuerFields). k.eligible) c.self.view_is) ∙ sym given ∙ none, ap (λ (k : IssuerFields). k.otherwise) c.self.view_is)

@@ -1,0 +1,74 @@
+-- What is kept of lists for one issuer, so that each is verified once, and not once for each
+-- certificate below the issuer (own).
+use Rattle.std.specs.Prelude.{◌≡◌, ◌⊎◌, List, [], ◌∷◌, Some, Result, Ok, Err}
+use Rattle.rpki_der.specs.Times.{Moment}
+use Rattle.rpki_parts.specs.Conditions.{IsFirstFalse}
+use Rattle.rpki_parts.specs.Signatures.{Verifies}
+use Rattle.rpki_parts.specs.ValidAt.{IsNotAfter}
+use Rattle.rpki_cert.specs.Certificates.{TbsFields, CertFields}
+use Rattle.rpki_cert.specs.Verification.{Context, IsSignedBy}
+use Rattle.rpki_crl.specs.Lists.{CrlState}
+use Rattle.rpki_crl.specs.Revocation.{NamesIssuer, revocation_checks}
+use Rattle.rpki_crl.specs.declared.revocation_error.RevocationError.{RevocationError}
+use Rattle.rpki_crl.specs.declared.revocation_error.RevocationError.TheVariants.{Stale, Revoked}
+use Rattle.rpki_revocation.specs.AskedLists.{HasBegun, IsEligible, Revokes, IsLatest, by_lists}
+use Rattle.rpki_revocation.specs.AskedLists.Steps.{HaveNone}
+
+-- the second list has those elements of the first that have P, in their order
+abbrev pub ArePicked : {X : Type 0} → (X → Type 0) → List X → List X → Type 0
+ArePicked {X} P [] picked = picked ≡ []
+ArePicked {X} P (x ∷ xs) picked =
+    ((rest : List X) × P x × (picked ≡ x ∷ rest) × ArePicked P xs rest)
+    ⊎ ((P x → ⊥) × ArePicked P xs picked)
+
+-- the issuer's key signed the list, and its time has begun
+abbrev pub IsCurrent : Verifies → Moment → TbsFields → CrlState → Type 0
+IsCurrent verifies now issuer l =
+    IsSignedBy verifies issuer.key l.list.signed_data × HasBegun now l.list
+
+-- the list can be asked of the certificates below the issuer
+abbrev pub CanBeAsked : Verifies → Moment → TbsFields → CrlState → Type 0
+CanBeAsked verifies now issuer l =
+    NamesIssuer issuer l.list × IsCurrent verifies now issuer l
+
+-- the certificate names the issuer's key as the one that signs it
+abbrev pub IsBelow : TbsFields → CertFields → Type 0
+IsBelow issuer c =
+    c.fields.extensions.authority_key_identifier ≡ Some issuer.extensions.subject_key_identifier
+
+-- what is kept: the lists that can be asked, and what a certificate fails where there are none
+pub record IssuerFields : Type 0 where
+  pub eligible : List CrlState
+  pub otherwise : RevocationError
+
+-- where none of the lists is eligible, each certificate below the issuer fails this check first
+abbrev pub FailsWithout : Context → List CrlState → TbsFields → RevocationError → Type 0
+FailsWithout x lists issuer e = (c : CertFields) → IsBelow issuer c
+    → HaveNone (IsEligible x.verifies x.now issuer c) lists
+    → IsFirstFalse (by_lists x lists issuer c) revocation_checks e
+
+-- they are what is to be kept of the lists for the issuer
+pub record AreIssuers (x : Context) (lists : List CrlState) (issuer : TbsFields) (kept : IssuerFields) : Type 0 where
+  pub eligible : ArePicked (CanBeAsked x.verifies x.now issuer) lists kept.eligible
+  pub otherwise : FailsWithout x lists issuer kept.otherwise
+
+-- ---- one certificate
+
+-- of these lists the one that is asked of the certificate
+abbrev pub IsLatestOf : CertFields → List CrlState → CrlState → Type 0
+IsLatestOf c lists l = IsLatest (λ _. Unit {0}) c lists l
+
+-- a check that the certificate fails, as this list says
+abbrev pub FailsBy : Moment → CertFields → CrlState → RevocationError → Type 0
+FailsBy now c l Stale = IsNotAfter now l.list.fields.next_update → ⊥
+FailsBy now c l Revoked = IsNotAfter now l.list.fields.next_update × Revokes c l
+FailsBy now c l e = ⊥
+
+-- what is answered of a certificate by what was kept
+abbrev pub IsAnswered : {T : Type 0} → IssuerFields → Moment → CertFields → Result T RevocationError → Type 0
+IsAnswered kept now c (Ok v) =
+    (l : CrlState) × IsLatestOf c kept.eligible l
+    × IsNotAfter now l.list.fields.next_update × (Revokes c l → ⊥)
+IsAnswered kept now c (Err e) =
+    ((kept.eligible ≡ []) × (e ≡ kept.otherwise))
+    ⊎ ((l : CrlState) × IsLatestOf c kept.eligible l × FailsBy now c l e)
