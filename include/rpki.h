@@ -11,6 +11,8 @@
  *   - The list that is asked of a member is that of crates/rpki_revocation/specs/AskedLists.antt,
  *     whatever the order of the lists.
  *   - The fault of a rejected path is that of the first wrong member, whose place is the index.
+ *   - Of a folder each line is right. Each certificate is accepted to which a valid path leads that
+ *     was looked at (crates/rpki_c/specs/FolderFates.antt).
  *   - What is written of a certificate's or list's fields is theirs.
  * Only tested is that the caller's memory then holds those ranges, entries and places.
  *
@@ -143,7 +145,7 @@ enum rpki_fault {
     /* The issuer isn't the subject of the member above it; of an anchor, its own subject. */
     RPKI_OTHER_NAME = 600,
 
-    /* The anchor's key isn't the locator's. */
+    /* The anchor's key isn't the locator's; of a folder, that of no certificate is. */
     RPKI_OTHER_KEY = 601,
 
     /* The octets aren't a trust anchor locator. */
@@ -388,6 +390,73 @@ uint32_t rpki_path_signatures(const struct rpki_strings *members, struct rpki_si
  * RPKI_ASK_NOBODY. */
 uint32_t rpki_path_validate_said(const struct rpki_question *question, const uint8_t *yes,
                                  size_t answers, struct rpki_room *room, struct rpki_verdict *out);
+
+/* ---- folders */
+
+/* Asks about certificates and revocation lists in any order: which of the certificates are valid
+ * below the anchor of a locator? That anchor is the first of the strings that begins with a
+ * certificate of the locator's key (RFC 8630 3).
+ *
+ * Each certificate that an accepted authority signed is judged below it as what it says that it is:
+ * a router's certificate, an authority's, or else an end entity's. The lists among the strings are
+ * asked for revocation, as for struct rpki_question. No folder shows that a file was withheld:
+ * whoever reads manifests leaves out what they don't list. */
+struct rpki_folder_question {
+    size_t size;                 /* is sizeof(struct rpki_folder_question) */
+    struct rpki_strings strings; /* are certificates, revocation lists and other octets */
+    const uint8_t *locator;      /* is a locator's file */
+    size_t locator_length;
+    struct rpki_time moment;
+    size_t depth;    /* is how many certificates a path has at most below the anchor; 0 is for 32 */
+    size_t steps;    /* is how many certificates are verified at most, each once for each path that
+                      * leads to it; 0 is for 64 times as many as there are */
+    uint32_t strict; /* is as for struct rpki_question */
+};
+
+/* Numbers what becomes of a string. */
+enum rpki_fate {
+    RPKI_LINE_UNSEEN = 0,   /* a certificate that was judged nowhere: no accepted authority has the
+                             * key that it names as its issuer's, or a bound was met before */
+    RPKI_LINE_ANCHOR = 1,   /* the anchor, which is valid */
+    RPKI_LINE_ACCEPTED = 2, /* the last member of a valid path */
+    RPKI_LINE_REJECTED = 3, /* a certificate that is wrong below each valid path that was tried */
+    RPKI_LINE_LIST = 4,     /* a revocation list, be it asked or not */
+    RPKI_LINE_NEITHER = 5   /* octets that begin with neither */
+};
+
+/* Tells what became of a string. A number that its comment doesn't speak of is 0. */
+struct rpki_line {
+    uint32_t what;   /* is an enum rpki_fate */
+    uint32_t fault;  /* is why it is rejected: its fault on one of the longest paths to it */
+    uint64_t step;   /* counts the certificates above it, there or where it is accepted */
+    uint64_t issuer; /* is the place among the strings of the authority right above it, where it is
+                      * accepted. An authority that two paths lead to has a line for one of them */
+};
+
+/* Numbers how a walk ended. */
+enum rpki_ended {
+    RPKI_NOT_BEGUN = 0,   /* there was a fault */
+    RPKI_WHOLE = 1,       /* all was looked at to which a valid path leads */
+    RPKI_TOO_DEEP = 2,    /* all within the depth was, and more stands below */
+    RPKI_OUT_OF_STEPS = 3 /* the steps were used up before that */
+};
+
+/* Tells of the walk as a whole. */
+struct rpki_walk {
+    uint32_t fault;  /* is what the function answers */
+    uint32_t ended;  /* is an enum rpki_ended */
+    uint64_t anchor; /* is the anchor's place among the strings, also where the fault is its own */
+};
+
+/* Judges all certificates of a folder, with signatures as for rpki_path_validate. Writes the line
+ * of each string at its place, for as many as there is room for. Where the walk ended RPKI_WHOLE, a
+ * certificate whose line is neither RPKI_LINE_ANCHOR nor RPKI_LINE_ACCEPTED is valid by no path.
+ * Whether names chain isn't asked. What an accepted certificate holds rpki_path_validate writes.
+ * After a fault no line is written, and *out holds. The fault is RPKI_BAD_CALL where `size` is
+ * another, lengths don't add up or there is no such moment; the locator's; RPKI_OTHER_KEY where no
+ * string has its key; or what is wrong of the anchor. */
+uint32_t rpki_folder_judge(const struct rpki_folder_question *question, struct rpki_line *lines,
+                           size_t room, struct rpki_walk *out);
 
 #ifdef __cplusplus
 }

@@ -1064,6 +1064,145 @@ static void locators(const char *folder, struct file list) {
     free(text.octets);
 }
 
+/* ---- folders */
+
+/* A folder, and what is told of it. */
+struct folder {
+    struct file files[16], locator;
+    size_t count;
+    struct rpki_line lines[17];
+    struct rpki_walk walk;
+};
+
+/* the fault of a folder, with a line of a pattern behind those that there is room for */
+static uint32_t judge_folder(struct folder *it, struct rpki_folder_question question, size_t room) {
+    size_t lengths[16];
+    struct file all = joined(it->files, it->count, lengths);
+    question.strings = strings(all.octets, all.length, lengths, it->count);
+    memset(it->lines, 0xa5, sizeof it->lines);
+    memset(&it->walk, 0xa5, sizeof it->walk);
+    uint32_t fault = rpki_folder_judge(&question, room > 0 ? it->lines : NULL, room, &it->walk);
+    check(it->walk.fault == fault && (it->walk.ended == RPKI_NOT_BEGUN) == (fault != RPKI_OK),
+          "a folder's answer is its fault");
+    size_t written = fault != RPKI_OK ? 0 : room < it->count ? room : it->count;
+    for (size_t i = written; i < 17; i++)
+        check(it->lines[i].what == 0xa5a5a5a5, "nothing is written behind the lines that there are");
+    free(all.octets);
+    return fault;
+}
+
+static struct rpki_folder_question in_folder(const struct folder *it, const struct rpki_time *at) {
+    return (struct rpki_folder_question){.size = sizeof(struct rpki_folder_question),
+                                         .locator = it->locator.octets,
+                                         .locator_length = it->locator.length,
+                                         .moment = *at,
+                                         .strict = 1};
+}
+
+static int is_line(struct rpki_line it, uint32_t what, uint32_t fault, uint64_t step, uint64_t issuer) {
+    return it.what == what && it.fault == fault && it.step == step && it.issuer == issuer;
+}
+
+/* the lines of the files of examples/, which stand from the place `from` on in this order: the
+ * object, second.cer, first.cer, the anchor, their lists, octets that are neither, and none */
+static void lines_from(struct folder *it, size_t from) {
+    const struct rpki_line *lines = it->lines;
+    size_t at[9];
+    for (size_t i = 0; i < 9; i++) at[i] = (from + i) % 9;
+    check(it->walk.ended == RPKI_WHOLE && it->walk.anchor == at[3], "the anchor's place is told");
+    check(is_line(lines[at[0]], RPKI_LINE_ACCEPTED, 0, 3, at[1]), "the object is accepted");
+    check(is_line(lines[at[1]], RPKI_LINE_ACCEPTED, 0, 2, at[2]), "second.cer is accepted");
+    check(is_line(lines[at[2]], RPKI_LINE_ACCEPTED, 0, 1, at[3]), "first.cer is accepted");
+    check(is_line(lines[at[3]], RPKI_LINE_ANCHOR, 0, 0, 0), "the anchor is one");
+    for (size_t i = 4; i < 7; i++) check(is_line(lines[at[i]], RPKI_LINE_LIST, 0, 0, 0), "a list is one");
+    for (size_t i = 7; i < 9; i++) check(is_line(lines[at[i]], RPKI_LINE_NEITHER, 0, 0, 0), "other octets are neither");
+}
+
+static void folders(const char *examples) {
+    static const char *const names[] = {"object.cer", "second.cer", "first.cer", "anchor.cer", "object.crl",
+                                        "second.crl", "first.crl", "make.sh"};
+    struct folder it = {.count = 9, .locator = contents(examples, "anchor.tal")};
+    for (size_t i = 0; i < 8; i++) it.files[i] = contents(examples, names[i]);
+    const struct rpki_folder_question question = in_folder(&it, &now);
+    for (size_t turn = 0; turn < 9; turn++) {
+        check(judge_folder(&it, question, 17) == RPKI_OK, "a folder is judged");
+        lines_from(&it, (9 - turn) % 9);
+        struct file first = it.files[0];
+        memmove(it.files, it.files + 1, 8 * sizeof *it.files);
+        it.files[8] = first;
+    }
+    for (size_t room = 0; room <= 9; room++)
+        check(judge_folder(&it, question, room) == RPKI_OK && it.walk.anchor == 3
+                  && (room == 0 || is_line(it.lines[0], RPKI_LINE_ACCEPTED, 0, 3, 1)),
+              "the verdict doesn't depend on the room");
+    struct rpki_folder_question other = question;
+    for (size_t depth = 1; depth <= 3; depth++) {
+        other.depth = depth;
+        check(judge_folder(&it, other, 9) == RPKI_OK && it.walk.ended == (depth < 3 ? RPKI_TOO_DEEP : RPKI_WHOLE)
+                  && it.lines[3 - depth].what == RPKI_LINE_ACCEPTED
+                  && (depth == 3 || it.lines[2 - depth].what == RPKI_LINE_UNSEEN),
+              "a walk ends at its depth");
+    }
+    other = question;
+    for (size_t steps = 1; steps <= 3; steps++) {
+        other.steps = steps;
+        check(judge_folder(&it, other, 9) == RPKI_OK && it.walk.ended == (steps < 3 ? RPKI_OUT_OF_STEPS : RPKI_WHOLE)
+                  && it.lines[3 - steps].what == RPKI_LINE_ACCEPTED
+                  && (steps == 3 || it.lines[2 - steps].what == RPKI_LINE_UNSEEN),
+              "a walk ends where its steps are used up");
+    }
+    other.depth = other.steps = SIZE_MAX;
+    check(judge_folder(&it, other, 9) == RPKI_OK && it.walk.ended == RPKI_WHOLE, "bounds may be great");
+
+    /* what is wrong of the question */
+    for (int by = -1; by <= 1; by += 2) {
+        other = question;
+        other.size = question.size + (size_t)by;
+        check(judge_folder(&it, other, 9) == RPKI_BAD_CALL, "a question of another size");
+    }
+    other = question;
+    other.moment.month = 13;
+    check(judge_folder(&it, other, 9) == RPKI_BAD_CALL, "there is no month 13");
+    other = question;
+    other.locator = NULL, other.locator_length = 0;
+    check(judge_folder(&it, other, 9) == RPKI_LOCATOR_NO_KEY, "no octets are no locator");
+    struct rpki_walk walk = {7, 7, 7};
+    const size_t lengths[] = {it.files[0].length - 1, 2};
+    other = question;
+    for (size_t count = 0; count < 3; count++) {
+        other.strings = strings(it.files[0].octets, it.files[0].length, lengths, count);
+        check(rpki_folder_judge(&other, NULL, 0, &walk) == RPKI_BAD_CALL && walk.anchor == 0, "lengths that don't add up");
+    }
+    other.strings = strings(NULL, 0, NULL, 0);
+    check(rpki_folder_judge(&other, NULL, 0, &walk) == RPKI_OTHER_KEY && walk.fault == RPKI_OTHER_KEY
+              && walk.ended == RPKI_NOT_BEGUN,
+          "no strings have no anchor");
+
+    /* what is wrong of the anchor */
+    static const struct rpki_time late = {2036, 1, 1, 0, 0, 1, 0};
+    other = question;
+    other.moment = late;
+    check(judge_folder(&it, other, 9) == RPKI_VERIFICATION_EXPIRED && it.walk.anchor == 3, "the anchor has expired");
+    struct file anchor = it.files[3];
+    it.files[3] = (struct file){anchor.octets, anchor.length - 1};
+    check(judge_folder(&it, question, 9) == RPKI_OTHER_KEY && it.walk.anchor == 0, "an anchor that is cut short is none");
+    it.files[3] = anchor;
+
+    /* several of one, and some that are missing */
+    free(it.files[7].octets);
+    it.files[7] = anchor, it.files[8] = it.files[0];
+    check(judge_folder(&it, question, 9) == RPKI_OK && it.walk.anchor == 3 && it.lines[3].what == RPKI_LINE_ANCHOR
+              && it.lines[7].what != RPKI_LINE_ANCHOR && is_line(it.lines[8], RPKI_LINE_ACCEPTED, 0, 3, 1),
+          "the first of several anchors is taken, and each of several certificates is judged");
+    it.count = 4;
+    check(judge_folder(&it, question, 9) == RPKI_OK && it.walk.ended == RPKI_WHOLE
+              && is_line(it.lines[2], RPKI_LINE_REJECTED, RPKI_REVOCATION_NO_CRL, 1, 0)
+              && is_line(it.lines[1], RPKI_LINE_UNSEEN, 0, 0, 0),
+          "where lists are missing the first is rejected, and what is below it unseen");
+    for (size_t i = 0; i < 7; i++) free(it.files[i].octets);
+    free(it.locator.octets);
+}
+
 int main(int count, char **words) {
     if (count != 4) return 2;
     struct file anchor = contents(words[1], "anchor.cer"), first = contents(words[1], "first.cer");
@@ -1095,6 +1234,7 @@ int main(int count, char **words) {
     no_router(anchor, first, second, empty);
     chains(words[3], list);
     locators(words[3], list);
+    folders(words[1]);
     const struct file files[] = {anchor, first, second, object, list, empty, above, router, trimming};
     for (size_t i = 0; i < sizeof files / sizeof *files; i++) free(files[i].octets);
     printf("%u passed, %u failed\n", passed, failed);

@@ -1,6 +1,10 @@
 mod Cutting
+mod FatesFound
 mod FaultTables
+mod FolderTermsGiven
+mod Issuers
 mod ListsRead
 mod QuestionTerms
 mod Sentences
+mod SortedMore
 mod Unread

@@ -3,6 +3,9 @@ pub mod Choices
 pub mod Contents
 pub mod FaultNumbers
 pub mod FaultTexts
+pub mod FolderFates
+pub mod FolderQuestions
+pub mod FolderTelling
 pub mod Questions
 pub mod Strings
 pub mod Telling

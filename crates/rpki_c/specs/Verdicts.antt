@@ -36,8 +36,8 @@ DontAddUp s = sum s.lengths.now ≢ length s.octets.now
 -- ---- why there is no judgement
 
 -- it is an error of which this holds
-abbrev pub Refused : (Refusal → Type 0) → Result Judged Refusal → Type 0
-Refused P (Ok judged) = ⊥
+abbrev pub Refused : {A : Type 0} → (Refusal → Type 0) → Result A Refusal → Type 0
+Refused P (Ok answer) = ⊥
 Refused P (Err r) = P r
 
 -- the call doesn't fit, or memory ran out

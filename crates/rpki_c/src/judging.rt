@@ -20,8 +20,8 @@ use rpki_path::{GivenPath, Judged, Member, PathError, judge};
 use rpki_revocation::{GivenLists, NobodyAsked};
 use std::alloc::Global;
 
-// The strings of the caller's octets and lengths.
-fn strings_of(alloc: Global, strings: &RpkiStrings<'_>) -> Result<Vec<Bytes>, Refusal>
+/// Cuts the caller's octets into the strings of these lengths.
+pub(crate) fn strings_of(alloc: Global, strings: &RpkiStrings<'_>) -> Result<Vec<Bytes>, Refusal>
     ensures cut { IfOk result (λ it. AreStringsOf strings.now it.items) }
     ensures refused { IfErr result (IsUncalled (DontAddUp strings.now)) }
 {

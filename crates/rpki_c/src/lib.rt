@@ -7,6 +7,9 @@ mod answers;
 mod certificates;
 mod copying;
 mod faults;
+mod folder_lines;
+mod folder_question;
+mod folders;
 mod judging;
 mod lists;
 mod locators;
@@ -16,8 +19,10 @@ mod paths;
 mod question;
 mod refusal;
 mod signatures;
+mod sorting;
 mod strings;
 mod telling;
+mod walking;
 
 /// Tells the number of this interface. It grows with each change that a caller has to follow.
 #[unsafe(no_mangle)]

@@ -248,8 +248,8 @@ pub extern "C" fn rpki_list_ask(
     }
 }
 
-// The list that the octets begin with, its serial numbers in a table.
-fn list_of(alloc: Global, octets: &Bytes) -> Result<Crl, DecodeError>
+/// Reads the list that the octets begin with, and puts its serial numbers into a table.
+pub(crate) fn list_of(alloc: Global, octets: &Bytes) -> Result<Crl, DecodeError>
     ensures { let front = Means IsCertificateList in
         MeansOrMemoryBy (λ l. l.list) front result octets.now }
 {

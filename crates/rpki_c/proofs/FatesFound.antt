@@ -1,0 +1,303 @@
+-- From the lines that a walk kept to what becomes of the strings.
+use Rattle.std.specs.List.{AllByRecursion, AllZip}
+use Rattle.std.specs.Prelude.{◌⊎◌, ◌==◌, Bool, true, false, Any, Result, Ok, Err, IsOk, IfOk, IfErr, None, if◌then◌else◌}
+use Rattle.std.proofs.Common.{◌≡◌, ◌≢◌, ◌+◌, ◌<◌, ◌≤◌, ℕ, List, [], ◌∷◌, ◌++◌, length, get_or, map, refl, sym, ap, subst, ◌∙◌, inl, inr, arith}
+use Rattle.std.proofs.lemmas.Bool.{cases_lt, cases_eq, eq-eqb, ne_eqb}
+use Rattle.std.proofs.lemmas.List.{append-nil, length-map, get_or_past}
+use Rattle.std.proofs.lemmas.List.Elements.{All-from_recursion}
+use Rattle.rpki_der.specs.Values.{IsUnambiguous}
+use Rattle.rpki_der.proofs.Formats.{one_meant}
+use Rattle.rpki_ext.specs.Kinds.{Means}
+use Rattle.rpki_cert.specs.Certificates.{CertFields, IsCertificate}
+use Rattle.rpki_cert.specs.Verification.{Context, ResourceFields}
+use Rattle.rpki_cert.specs.declared.inspect.Kind.{Kind}
+use Rattle.rpki_cert.specs.declared.inspect.Kind.TheVariants.{Anchor, Authority, EndEntity, Detached, Router}
+use Rattle.rpki_revocation.specs.Asking.{RevocationChecks}
+use Rattle.rpki_revocation.specs.AskedLists.{by_lists}
+use Rattle.rpki_tal.specs.Locators.{NamedTal, TalFields}
+use Rattle.rpki_path.specs.LocatedPaths.{BeginsWithKey, BeginsWithOtherKey}
+use Rattle.rpki_path.specs.Paths.{Candidate, candidate, Member, IsMember, Finds, IsFault, trust_anchor_demand}
+use Rattle.rpki_path.specs.declared.judging.Judged.{Judged}
+use Rattle.rpki_path.specs.declared.located.LocatedError.TheVariants.{OtherKey, Path as path}
+use Rattle.rpki_path.specs.declared.path_fault.PathError.{PathError}
+use Rattle.rpki_path.specs.declared.path_fault.PathFault.{PathFault}
+use Rattle.rpki_path.specs.declared.path_fault.PathFault.TheVariants.{Memory as out_of_memory}
+use Rattle.rpki_folder.specs.Folders.{octets_at, cas_at}
+use Rattle.rpki_folder.specs.KeptLines.{step, IsRejectedWithin, IsLine}
+use Rattle.rpki_folder.specs.SaidKinds.{BeginsWithKind}
+use Rattle.rpki_folder.specs.Walks.{Root, at_anchor, members_at, LeadsTo, IsAcceptedAs, IsReached, IsRightOf, IsRight, Told, IsTold, Covers, AreAdmitted, IsWhyNone}
+use Rattle.rpki_folder.specs.declared.bounds.Ended.{Ended}
+use Rattle.rpki_folder.specs.declared.folder.Added.{Added}
+use Rattle.rpki_folder.specs.declared.folder.Added.TheVariants.{Certificate, List as list_added, Neither}
+use Rattle.rpki_folder.specs.declared.lines.Line.{Line}
+use Rattle.rpki_folder.specs.declared.lines.Line.TheVariants.{Unseen, Accepted, Rejected}
+use Rattle.rpki_folder.specs.declared.walk_error.WalkError.{WalkError}
+use Rattle.rpki_folder.specs.declared.walk_error.WalkError.TheVariants.{Anchor as at_fault, Memory}
+use Rattle.rpki_c.specs.FolderFates.{Fate, anchor, list, neither, unseen, accepted, rejected, IsFirstWithKey, IsFate, IsValidFate, AreFates, AreJudged}
+use Rattle.rpki_c.specs.FolderFates.Steps.{IsAddedAs, IsSorted, origin_of, kept_fate, added_fate, fate_at, IsWalked, refusal_of}
+use Rattle.rpki_c.specs.FolderTelling.{AreLinesOf, AnswersBelow}
+use Rattle.rpki_c.specs.declared.refusal.Refusal.{Refusal}
+use Rattle.rpki_c.specs.declared.refusal.Refusal.TheVariants as refusal
+use Rattle.rpki_c.specs.declared.walking.Walked.{Walked}
+use Rattle.rpki_c.specs.declared.sorting.Sorted.{Sorted}
+
+abbrev BeginsCertificate : List ℕ → Type 0
+BeginsCertificate octets = (c : CertFields) × Means IsCertificate c octets
+
+-- ---- verdicts
+
+-- what holds of each verdict holds of one of them
+of_told : (P Q : Told → Type 0) (ts : List Told) → AllByRecursion P ts → Any Q ts → (t : Told) × P t × Q t
+of_told P Q ts all h = (h.1, subst P h.3 (All-from_recursion P ts all h.0 h.1 h.2), h.4)
+
+-- the line of a certificate that is accepted says so
+line_accepts : (origin : ℕ → ℕ) (ts : List Told) (above : List ℕ) (place : ℕ) (l : Line) → IsLine ts place l → IsTold ts above place → IsValidFate (kept_fate origin l)
+line_accepts origin ts above place Unseen h told =
+    let w = of_told (λ t. t.place ≡ place → ⊥) (λ t. (t.above ≡ above) × (t.place ≡ place) × IsOk t.verdict) ts h told in absurd (w.1 w.2.1)
+line_accepts origin ts above place (Accepted v) h told = tt
+line_accepts origin ts above place (Rejected n fault) h told =
+    let w = of_told (IsRejectedWithin place n) (λ t. (t.above ≡ above) × (t.place ≡ place) × IsOk t.verdict) ts h.1 told in absurd ((w.1 w.2.1).0 w.2.2)
+
+-- ---- the same certificates at other places
+
+same_cas : (certs others : List (List ℕ)) (moved : ℕ → ℕ) (places : List ℕ) → AllByRecursion (λ q. octets_at others (moved q) ≡ octets_at certs q) places → cas_at others (map moved places) ≡ cas_at certs places
+same_cas certs others moved [] h = refl
+same_cas certs others moved (q ∷ places) h =
+    ap (λ (octets : List ℕ). candidate Authority octets ∷ cas_at others (map moved places)) h.0
+    ∙ ap (λ (l : List Candidate). candidate Authority (octets_at certs q) ∷ l) (same_cas certs others moved places h.1)
+
+all_of : {X : Type 0} (P : X → Type 0) → ((x : X) → P x) → (xs : List X) → AllByRecursion P xs
+all_of P h [] = tt
+all_of P h (x ∷ xs) = (h x, all_of P h xs)
+
+all_weaker : {X : Type 0} (P Q : X → Type 0) → ((x : X) → P x → Q x) → (xs : List X) → AllByRecursion P xs → AllByRecursion Q xs
+all_weaker P Q f [] h = tt
+all_weaker P Q f (x ∷ xs) h = (f x h.0, all_weaker P Q f xs h.1)
+
+all_admitted : (above places : List ℕ) → AreAdmitted (λ l q. Unit {0}) above places
+all_admitted above [] = tt
+all_admitted above (q ∷ places) = (tt, all_admitted (above ++ q ∷ []) places)
+
+-- the CAs of a path begin with certificates
+zip_begins : (certs : List (List ℕ)) (places : List ℕ) (rest : List Candidate) (ms : List Member) → AllZip IsMember ms (cas_at certs places ++ rest) → AllByRecursion (λ q. BeginsCertificate (octets_at certs q)) places
+zip_begins certs [] rest ms h = tt
+zip_begins certs (q ∷ places) rest [] h = absurd h
+zip_begins certs (q ∷ places) rest (m ∷ ms) h = ((m.cert, h.0.begins), zip_begins certs places rest ms h.1)
+
+module _ (x : Context) (asked : RevocationChecks) (t : NamedTal) (top_octets : List ℕ) where
+  abbrev root : Root
+  root = at_anchor t top_octets
+
+  leads_begins : (certs : List (List ℕ)) (places : List ℕ) (rest : List Candidate) (r : ResourceFields) → LeadsTo x asked root (cas_at certs places ++ rest) r → AllByRecursion (λ q. BeginsCertificate (octets_at certs q)) places
+  leads_begins certs places rest r leads = zip_begins certs places rest leads.path.below leads.path_of.members
+
+  accepted_begins : (certs : List (List ℕ)) (places : List ℕ) (kind : Kind) (octets : List ℕ) (j : Judged) → BeginsWithKind kind octets → IsAcceptedAs x asked root (members_at root certs places) kind octets j → AllByRecursion (λ q. BeginsCertificate (octets_at certs q)) places
+  accepted_begins certs places Anchor octets j says h = absurd says.2
+  accepted_begins certs places Authority octets j says h = leads_begins certs places (candidate Authority octets ∷ []) j.holder h.0
+  accepted_begins certs places EndEntity octets j says h = leads_begins certs places (candidate EndEntity octets ∷ []) j.holder h.0
+  accepted_begins certs places Detached octets j says h = leads_begins certs places (candidate Detached octets ∷ []) j.holder h.0
+  accepted_begins certs places Router octets j says h =
+      leads_begins certs places [] j.holder (subst (λ (l : List Candidate). LeadsTo x asked root l j.holder) (sym (append-nil (cas_at certs places))) h.0)
+
+  -- what is reached at one place is reached at another, below the same CAs
+  reached_there : (certs others : List (List ℕ)) (above places : List ℕ) (p q : ℕ) → cas_at others places ≡ cas_at certs above → octets_at others q ≡ octets_at certs p → IsReached x asked root certs above p → IsReached x asked root others places q
+  reached_there certs others above places p q cas octets h = (
+    h.0,
+    h.1,
+    subst (λ (o : List ℕ). BeginsWithKind h.0 o) (sym octets) h.2,
+    subst (λ (l : List Candidate). IsAcceptedAs x asked root l h.0 (octets_at others q) h.1) (sym cas)
+        (subst (λ (o : List ℕ). IsAcceptedAs x asked root (cas_at certs above) h.0 o h.1) (sym octets) h.3),
+  )
+
+  -- ---- from the folder to the strings
+
+  module _ (s : Sorted) (sorted : IsSorted s) (top depth : ℕ) (kept : List Line) (count : length kept ≡ length s.folder.certs) (ended : Ended) (w : IsWalked x asked root s.folder.certs depth kept ended) where
+    abbrev strings : List (List ℕ)
+    strings = s.strings.now
+
+    abbrev certs : List (List ℕ)
+    certs = s.folder.certs
+
+    origin_same : (p : ℕ) → octets_at strings (origin_of s p) ≡ octets_at certs p
+    origin_same p = elim (cases_lt p (length certs)) [
+      | inl low ↦ sorted.came_from p (length s.added.items) low
+      | inr high ↦
+          let few = sorted.origin_count in
+          let past : origin_of s p ≡ length s.added.items = get_or_past s.origins.items p (length s.added.items) (omega (arith, high, few)) in
+          let n = sorted.count in
+          ap (λ (i : ℕ). octets_at strings i) past ∙ get_or_past strings (length s.added.items) [] (omega (arith, n)) ∙ sym (get_or_past certs p [] high)
+    ]
+
+    origin_cas : (above : List ℕ) → cas_at strings (map (origin_of s) above) ≡ cas_at certs above
+    origin_cas above = same_cas certs strings (origin_of s) above (all_of (λ q. octets_at strings (origin_of s q) ≡ octets_at certs q) origin_same above)
+
+    right_ok : (l : List ℕ) (q : ℕ) (verdict : Result Judged PathFault) → IsRightOf x asked root (members_at root certs l) (octets_at certs q) verdict → IsOk verdict → IsReached x asked root certs l q
+    right_ok l q (Ok j) is ok = (is.0, j, is.1, is.2)
+    right_ok l q (Err e) is ok = absurd cc
+
+    -- a certificate that was told as accepted is reached
+    told_reached : (above : List ℕ) (p i : ℕ) → origin_of s p ≡ i → IsTold w.tells above p → IsReached x asked root strings (map (origin_of s) above) i
+    told_reached above p i at h =
+        let u = of_told (IsRight x asked root certs) (λ t. (t.above ≡ above) × (t.place ≡ p) × IsOk t.verdict) w.tells w.right h in
+        let reached = right_ok u.0.above u.0.place u.0.verdict u.1 u.2.2 in
+        reached_there certs strings above (map (origin_of s) above) p i (origin_cas above) (ap (λ (n : ℕ). octets_at strings n) (sym at) ∙ origin_same p)
+        (subst (λ (l : List ℕ). IsReached x asked root certs l p) u.2.0 (subst (λ (n : ℕ). IsReached x asked root certs u.0.above n) u.2.1 reached))
+
+    -- a certificate that was told as rejected is rejected
+    told_rejected : (p i n : ℕ) (fault : PathFault) → origin_of s p ≡ i → Any (λ t. (t.place ≡ p) × (step t ≡ n) × (t.verdict ≡ Err fault)) w.tells
+        → (above : List ℕ) × (n ≡ length above + 1) × IsRightOf x asked root (members_at root strings above) (octets_at strings i) (Err fault)
+    told_rejected p i n fault at h =
+        let u = of_told (IsRight x asked root certs) (λ t. (t.place ≡ p) × (step t ≡ n) × (t.verdict ≡ Err fault)) w.tells w.right h in
+        let above = u.0.above in
+        let octets : octets_at certs p ≡ octets_at strings i = sym (ap (λ (n : ℕ). octets_at strings n) (sym at) ∙ origin_same p) in
+        let right : IsRightOf x asked root (cas_at certs above) (octets_at certs p) (Err fault) =
+        subst (λ (v : Result Judged PathFault). IsRightOf x asked root (cas_at certs above) (octets_at certs p) v) u.2.2
+        (subst (λ (q : ℕ). IsRightOf x asked root (cas_at certs above) (octets_at certs q) u.0.verdict) u.2.0 u.1) in (
+          map (origin_of s) above,
+          sym u.2.1 ∙ ap (λ (k : ℕ). k + 1) (sym (length-map above (origin_of s))),
+          subst (λ (l : List Candidate). IsRightOf x asked root l (octets_at strings i) (Err fault)) (sym (origin_cas above))
+              (subst (λ (o : List ℕ). IsRightOf x asked root (cas_at certs above) o (Err fault)) octets right),
+        )
+
+    -- what is kept of a certificate is right
+    kept_right : (p i : ℕ) → origin_of s p ≡ i → BeginsCertificate (octets_at strings i) → (l : Line) → IsLine w.tells p l → IsFate x asked root strings top i (kept_fate (origin_of s) l)
+    kept_right p i at begins Unseen h = begins
+    kept_right p i at begins (Accepted above) h = told_reached above.items p i at h
+    kept_right p i at begins (Rejected n fault) h = told_rejected p i n fault at h.0
+
+    added_right : (i : ℕ) → i < length strings → (a : Added) → get_or s.added.items i Neither ≡ a → IsAddedAs (octets_at strings i) a → IsFate x asked root strings top i (added_fate (origin_of s) kept a)
+    added_right i low (Certificate p) is says =
+        let at = sorted.placed i p Neither low is in
+        kept_right p i (at.1 (length s.added.items)) says (get_or kept p Unseen) (w.lines_are p Unseen (subst (λ (n : ℕ). p < n) (sym count) at.0))
+    added_right i low list_added is says = says
+    added_right i low Neither is says = says
+
+    -- ---- from the strings to the folder
+
+    -- the place in the folder of a string that was added so; behind all where it is no certificate
+    abbrev place_in : Added → ℕ
+    place_in (Certificate p) = p
+    place_in list_added = length certs
+    place_in Neither = length certs
+
+    abbrev moved : ℕ → ℕ
+    moved i = place_in (get_or s.added.items i Neither)
+
+    moved_added : (q : ℕ) (a : Added) → q < length strings → get_or s.added.items q Neither ≡ a → IsAddedAs (octets_at strings q) a → BeginsCertificate (octets_at strings q) → octets_at certs (place_in a) ≡ octets_at strings q
+    moved_added q (Certificate p) low is says begins =
+        let at = sorted.placed q p Neither low is in
+        sym (origin_same p) ∙ ap (λ (n : ℕ). octets_at strings n) (at.1 (length s.added.items))
+    moved_added q list_added low is says begins = absurd (says.1.no_certificate begins.0 begins.1)
+    moved_added q Neither low is says begins = absurd (says.0 begins.0 begins.1)
+
+    moved_same : (q : ℕ) → BeginsCertificate (octets_at strings q) → octets_at certs (moved q) ≡ octets_at strings q
+    moved_same q begins = elim (cases_lt q (length strings)) [
+      | inl low ↦ moved_added q (get_or s.added.items q Neither) low refl (sorted.begins q Neither low) begins
+      | inr high ↦
+          let n = sorted.count in
+          let past : get_or s.added.items q Neither ≡ Neither = get_or_past s.added.items q Neither (omega (arith, n, high)) in
+          ap (λ (a : Added). octets_at certs (place_in a)) past ∙ get_or_past certs (length certs) [] (omega arith) ∙ sym (get_or_past strings q [] high)
+    ]
+
+    moved_cas : (above : List ℕ) → AllByRecursion (λ q. BeginsCertificate (octets_at strings q)) above → cas_at certs (map moved above) ≡ cas_at strings above
+    moved_cas above begins =
+        same_cas strings certs moved above (all_weaker (λ (q : ℕ). BeginsCertificate (octets_at strings q)) (λ (q : ℕ). octets_at certs (moved q) ≡ octets_at strings q) moved_same above begins)
+
+    valid_added : (i : ℕ) (a : Added) → i < length strings → get_or s.added.items i Neither ≡ a → IsAddedAs (octets_at strings i) a → BeginsCertificate (octets_at strings i) → (above : List ℕ) → IsTold w.tells above (place_in a) → IsValidFate (added_fate (origin_of s) kept a)
+    valid_added i (Certificate p) low is says begins above told =
+        let at = sorted.placed i p Neither low is in
+        line_accepts (origin_of s) w.tells above p (get_or kept p Unseen) (w.lines_are p Unseen (subst (λ (n : ℕ). p < n) (sym count) at.0)) told
+    valid_added i list_added low is says begins above told = absurd (says.1.no_certificate begins.0 begins.1)
+    valid_added i Neither low is says begins above told = absurd (says.0 begins.0 begins.1)
+
+    reached_valid : (above : List ℕ) (i : ℕ) → i < length strings → Covers ended depth (length above + 1) → IsReached x asked root strings above i → IsValidFate (added_fate (origin_of s) kept (get_or s.added.items i Neither))
+    reached_valid above i low covers h =
+        let begins = accepted_begins strings above h.0 (octets_at strings i) h.1 h.2 h.3 in
+        let itself : BeginsCertificate (octets_at strings i) = (h.2.0, h.2.1) in
+        let there = reached_there strings certs above (map moved above) i (moved i) (moved_cas above begins) (moved_same i itself) h in
+        let told = w.complete (map moved above) (moved i) (subst (λ (n : ℕ). Covers ended depth (n + 1)) (sym (length-map above moved)) covers) (all_admitted [] (map moved above ++ moved i ∷ [])) there in
+        valid_added i (get_or s.added.items i Neither) low refl (sorted.begins i Neither low) itself (map moved above) told
+
+    -- ---- all of them
+
+    at_top : (i : ℕ) → i ≡ top → fate_at s kept top i ≡ anchor
+    at_top i is = ap (λ (b : Bool). if b then anchor else added_fate (origin_of s) kept (get_or s.added.items i Neither)) (eq-eqb i top is)
+
+    beside_top : (i : ℕ) → (i ≡ top → ⊥) → fate_at s kept top i ≡ added_fate (origin_of s) kept (get_or s.added.items i Neither)
+    beside_top i apart = ap (λ (b : Bool). if b then anchor else added_fate (origin_of s) kept (get_or s.added.items i Neither)) (ne_eqb i top apart)
+
+    pub fates_found : AreFates x asked root strings top depth ended (fate_at s kept top)
+    fates_found = record {
+      anchor_is = at_top top refl;
+      right = λ i low. elim (cases_eq i top) [
+        | inl is ↦ subst (λ (f : Fate). IsFate x asked root strings top i f) (sym (at_top i is)) is
+        | inr apart ↦ subst (λ (f : Fate). IsFate x asked root strings top i f) (sym (beside_top i apart)) (added_right i low (get_or s.added.items i Neither) refl (sorted.begins i Neither low))
+      ];
+      complete = λ above i low covers h. elim (cases_eq i top) [
+        | inl is ↦ subst (λ (f : Fate). IsValidFate f) (sym (at_top i is)) tt
+        | inr apart ↦ subst (λ (f : Fate). IsValidFate f) (sym (beside_top i apart)) (reached_valid above i low covers h)
+      ];
+    }
+
+-- what becomes of sorted strings, where the lists among them are asked
+pub judged_found : (x : Context) (t : NamedTal) (s : Sorted) (sorted : IsSorted s) (top depth : ℕ) (kept : List Line) (count : length kept ≡ length s.folder.certs) (ended : Ended)
+    → IsFirstWithKey t.tal s.strings.now top → IsWalked x (by_lists x s.folder.lists) (at_anchor t (octets_at s.strings.now top)) s.folder.certs depth kept ended
+    → AreJudged x t s.strings.now top depth ended (fate_at s kept top)
+judged_found x t s sorted top depth kept count ended first w = record {
+  top_is = first;
+  lists = s.folder.lists;
+  lists_are = sorted.lists_are;
+  holder = w.holder;
+  holds = w.holds;
+  fates = fates_found x (by_lists x s.folder.lists) t (octets_at s.strings.now top) s sorted top depth kept count ended w;
+}
+
+-- ---- a wrong trust anchor
+
+not_both : (t : TalFields) (octets : List ℕ) → IsUnambiguous IsCertificate → BeginsWithKey t octets → BeginsWithOtherKey t octets → ⊥
+not_both t octets law h other = other.key_differs (ap (λ (c : CertFields). c.fields.key) (one_meant IsCertificate law other.cert h.cert octets other.begins h.begins) ∙ h.key_is)
+
+no_middle : {X : Type 0} (before after : List X) (there : X) → [] ≡ before ++ there ∷ after → ⊥
+no_middle [] after there e = absurd cc
+no_middle (b ∷ before) after there e = absurd cc
+
+alone : (x : Context) (asked : RevocationChecks) (octets : List ℕ) (e : PathError) → IsFault x asked octets [] e → Finds x (trust_anchor_demand x) octets e.fault
+alone x asked octets e h = elim h [
+  | inl top ↦ top.fault_is
+  | inr below ↦ absurd (no_middle below.before below.after below.there below.parts)
+]
+
+-- why a walk didn't begin
+refused_right : (x : Context) (asked : RevocationChecks) (t : NamedTal) (all : List (List ℕ)) (top depth : ℕ) → IsUnambiguous IsCertificate → IsFirstWithKey t.tal all top
+    → (e : WalkError) → IsWhyNone x asked t (octets_at all top) e → AnswersBelow x depth t all (Err (refusal_of top e))
+refused_right x asked t all top depth law first Memory h = tt
+refused_right x asked t all top depth law first (at_fault OtherKey) h = absurd (not_both t.tal (octets_at all top) law first.has_key h.1)
+refused_right x asked t all top depth law first (at_fault (path e)) h = (first, h.0, alone x asked (octets_at all top) e h.1.0)
+
+-- ---- answers
+
+module _ (x : Context) (t : NamedTal) (s : Sorted) (top depth : ℕ) (first : IsFirstWithKey t.tal s.strings.now top) (octets : List ℕ) (there : octets ≡ octets_at s.strings.now top) where
+  -- the answer of a walk that ended
+  pub walk_answered : (sorted : IsSorted s) (kept : List Line) (count : length kept ≡ length s.folder.certs) (ended : Ended) (within : ℕ) → within ≡ depth
+      → IsWalked x (by_lists x s.folder.lists) (at_anchor t octets) s.folder.certs within kept ended
+      → (r : Result Walked Refusal) → IfOk r (λ it. AreLinesOf top (fate_at s kept top) (length s.strings.now) it.lines.items) → IfOk r (λ it. it.ended ≡ ended) → IfOk r (λ it. it.anchor ≡ top)
+      → IfErr r (λ e. e ≡ refusal.Memory) → AnswersBelow x depth t s.strings.now r
+  walk_answered sorted kept count ended within same w (Ok it) lines ended_is anchor_is memory =
+      let fate = λ (i : ℕ). fate_at s kept top i in
+      let walked : IsWalked x (by_lists x s.folder.lists) (at_anchor t (octets_at s.strings.now top)) s.folder.certs depth kept ended =
+      subst (λ (o : List ℕ). IsWalked x (by_lists x s.folder.lists) (at_anchor t o) s.folder.certs depth kept ended) there
+      (subst (λ (n : ℕ). IsWalked x (by_lists x s.folder.lists) (at_anchor t octets) s.folder.certs n kept ended) same w) in
+      record {
+        fate = fate;
+        judged = subst (λ (n : ℕ). AreJudged x t s.strings.now n depth it.ended fate) (sym anchor_is)
+            (subst (λ (e : Ended). AreJudged x t s.strings.now top depth e fate) (sym ended_is) (judged_found x t s sorted top depth kept count ended first walked));
+        lines_are = subst (λ (n : ℕ). AreLinesOf n fate (length s.strings.now) it.lines.items) (sym anchor_is) lines;
+      }
+  walk_answered sorted kept count ended within same w (Err e) lines ended_is anchor_is memory =
+      subst (λ (r : Refusal). AnswersBelow x depth t s.strings.now (Err r)) (sym memory) tt
+
+  -- the answer where there was none
+  pub fault_answered : (asked : RevocationChecks) → IsUnambiguous IsCertificate → (e : WalkError) → IsWhyNone x asked t octets e → (r : Refusal) → r ≡ refusal_of top e → AnswersBelow x depth t s.strings.now (Err r)
+  fault_answered asked law e why r is =
+      subst (λ (q : Refusal). AnswersBelow x depth t s.strings.now (Err q)) (sym is)
+      (refused_right x asked t s.strings.now top depth law first e (subst (λ (o : List ℕ). IsWhyNone x asked t o e) there why))

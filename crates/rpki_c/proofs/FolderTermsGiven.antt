@@ -1,0 +1,12 @@
+-- Questions about a folder that have no terms.
+use Rattle.std.proofs.Common.{◌≢◌, subst}
+use Rattle.rpki_der.specs.Times.{IsMoment}
+use Rattle.rpki_c.specs.FolderQuestions.{folder_question_size, HasNoFolderTerms}
+use Rattle.rpki_c.specs.TimeParts.{moment_of_parts}
+use Rattle.rpki_c.specs.declared.folder_question.RpkiFolderQuestion.{RpkiFolderQuestion}
+
+pub no_folder_size : (q : RpkiFolderQuestion) → q.size ≢ folder_question_size → HasNoFolderTerms q
+no_folder_size q h t terms = h terms.size_is
+
+pub no_folder_moment : (q : RpkiFolderQuestion) → (IsMoment (moment_of_parts q.moment) → ⊥) → HasNoFolderTerms q
+no_folder_moment q h t terms = h (subst IsMoment terms.now_is terms.now_exists)

@@ -1,0 +1,213 @@
+-- One string more, sorted into a folder.
+use Rattle.std.specs.Prelude.{◌⊎◌, ◌↔◌, Bool, false, IsTrue}
+use Rattle.std.proofs.Common.{◌≡◌, ◌+◌, ◌<◌, ◌≤◌, ℕ, List, [], ◌∷◌, ◌++◌, length, get_or, refl, sym, ap, subst, ◌∙◌, inl, inr, arith}
+use Rattle.std.proofs.Math.ListN.{get_or-append}
+use Rattle.std.proofs.Math.Nat.{eq-or-lt_of_le}
+use Rattle.std.proofs.Math.Seq.{get_or-append_seam}
+use Rattle.std.proofs.lemmas.List.{length-append}
+use Rattle.rpki_der.specs.Values.{IsUnambiguous}
+use Rattle.rpki_der.proofs.Formats.{one_meant}
+use Rattle.rpki_ext.specs.Kinds.{Means}
+use Rattle.rpki_cert.specs.Certificates.{CertFields, IsCertificate}
+use Rattle.rpki_crl.specs.Lists.{CrlState}
+use Rattle.rpki_tal.specs.Locators.{TalFields}
+use Rattle.rpki_path.specs.LocatedPaths.{BeginsWithKey}
+use Rattle.rpki_folder.specs.Folders.{FolderFields, with_cert, with_list, octets_at}
+use Rattle.rpki_folder.specs.declared.folder.Added.{Added}
+use Rattle.rpki_folder.specs.declared.folder.Added.TheVariants.{Certificate, List as list_added, Neither}
+use Rattle.rpki_c.specs.Contents.{BeginsNoCertificate}
+use Rattle.rpki_c.specs.Verdicts.{BeginsNoList}
+use Rattle.rpki_c.specs.FolderFates.{IsTakenFor, IsNoList, AreListsAmong}
+use Rattle.rpki_c.specs.FolderFates.Steps.{IsAddedAs, AreSorted}
+
+-- ---- lists
+
+no_list_more : (strings : List (List ℕ)) (lists : List CrlState) (octets : List ℕ) → IsNoList octets → AreListsAmong strings lists → AreListsAmong (strings ++ octets ∷ []) lists
+no_list_more [] lists octets never h = inl (never, h)
+no_list_more (s ∷ strings) lists octets never h = elim h [
+  | inl k ↦ inl (k.0, no_list_more strings lists octets never k.1)
+  | inr k ↦ inr (k.0, k.1, k.2, k.3, no_list_more strings k.1 octets never k.4)
+]
+
+list_more : (strings : List (List ℕ)) (lists : List CrlState) (octets : List ℕ) (l : CrlState) → IsTakenFor octets l → AreListsAmong strings lists → AreListsAmong (strings ++ octets ∷ []) (lists ++ l ∷ [])
+list_more [] lists octets l taken h = inr (l, [], ap (λ (ls : List CrlState). ls ++ l ∷ []) h, taken, refl)
+list_more (s ∷ strings) lists octets l taken h = elim h [
+  | inl k ↦ inl (k.0, list_more strings lists octets l taken k.1)
+  | inr k ↦ inr (k.0, k.1 ++ l ∷ [], ap (λ (ls : List CrlState). ls ++ l ∷ []) k.2, k.3, list_more strings k.1 octets l taken k.4)
+]
+
+certificate_no_list : (octets : List ℕ) (c : CertFields) → Means IsCertificate c octets → IsNoList octets
+certificate_no_list octets c means l taken = taken.no_certificate c means
+
+neither_no_list : (octets : List ℕ) → BeginsNoList octets → IsNoList octets
+neither_no_list octets never l taken = never l.list taken.list_is
+
+-- ---- places
+
+module _ (strings : List (List ℕ)) (octets : List ℕ) where
+  abbrev more : List (List ℕ)
+  more = strings ++ octets ∷ []
+
+  longer : length more ≡ length strings + 1
+  longer = length-append strings (octets ∷ [])
+
+  old_string : (i : ℕ) → i < length strings → octets_at more i ≡ octets_at strings i
+  old_string i h = get_or-append strings (octets ∷ []) [] i h
+
+  new_string : octets_at more (length strings) ≡ octets
+  new_string = get_or-append_seam strings octets [] []
+
+  old_or_new : (i : ℕ) → i < length more → (i ≡ length strings) ⊎ (i < length strings)
+  old_or_new i h = let low : i ≤ length strings = omega (arith, longer) in eq-or-lt_of_le low
+
+  module _ (f : FolderFields) (added : List Added) (origins : List ℕ) (old : AreSorted strings f added origins) (one : Added) where
+    abbrev addeds : List Added
+    addeds = added ++ one ∷ []
+
+    count_more : length addeds ≡ length more
+    count_more = let e = old.count in omega (arith, longer, length-append added (one ∷ []), e)
+
+    old_added : (i : ℕ) (d : Added) → i < length strings → get_or addeds i d ≡ get_or added i d
+    old_added i d h = let e = old.count in get_or-append added (one ∷ []) d i (omega (arith, h, e))
+
+    new_added : (d : Added) → get_or addeds (length strings) d ≡ one
+    new_added d = subst (λ (n : ℕ). get_or addeds n d ≡ one) old.count (get_or-append_seam added one [] d)
+
+    begins_more : IsAddedAs octets one → (i : ℕ) (d : Added) → i < length more → IsAddedAs (octets_at more i) (get_or addeds i d)
+    begins_more says i d h = elim (old_or_new i h) [
+      | inl is ↦ subst (λ (n : ℕ). IsAddedAs (octets_at more n) (get_or addeds n d)) (sym is)
+          (subst (λ (o : List ℕ). IsAddedAs o (get_or addeds (length strings) d)) (sym new_string) (subst (λ (a : Added). IsAddedAs octets a) (sym (new_added d)) says))
+      | inr low ↦ subst (λ (o : List ℕ). IsAddedAs o (get_or addeds i d)) (sym (old_string i low))
+          (subst (λ (a : Added). IsAddedAs (octets_at strings i) a) (sym (old_added i d low)) (old.begins i d low))
+    ]
+
+    -- what is no certificate leaves the certificates where they are
+    module _ (g : FolderFields) (same : g.certs ≡ f.certs) where
+      still_inside : (place d : ℕ) → place < length g.certs → get_or origins place d < length more
+      still_inside place d h =
+          let low : place < length f.certs = subst (λ (l : List (List ℕ)). place < length l) same h in
+          let there = old.inside place d low in
+          omega (arith, longer, there)
+
+      still_from : (place d : ℕ) → place < length g.certs → octets_at more (get_or origins place d) ≡ octets_at g.certs place
+      still_from place d h =
+          let low : place < length f.certs = subst (λ (l : List (List ℕ)). place < length l) same h in
+          old_string (get_or origins place d) (old.inside place d low) ∙ old.came_from place d low ∙ ap (λ (l : List (List ℕ)). octets_at l place) (sym same)
+
+      still_placed : ((place : ℕ) → one ≡ Certificate place → ⊥) → (i place : ℕ) (d : Added) → i < length more → get_or addeds i d ≡ Certificate place → (place < length g.certs) × ((e : ℕ) → get_or origins place e ≡ i)
+      still_placed never i place d h is = elim (old_or_new i h) [
+        | inl new ↦ absurd (never place (sym (new_added d) ∙ ap (λ (n : ℕ). get_or addeds n d) (sym new) ∙ is))
+        | inr low ↦
+            let p = old.placed i place d low (sym (old_added i d low) ∙ is) in
+            (subst (λ (l : List (List ℕ)). place < length l) (sym same) p.0, p.1)
+      ]
+
+      other_more : ((place : ℕ) → one ≡ Certificate place → ⊥) → IsAddedAs octets one → AreListsAmong more g.lists → AreSorted more g addeds origins
+      other_more never says lists = record {
+        count = count_more;
+        origin_count = old.origin_count ∙ ap (λ (l : List (List ℕ)). length l) (sym same);
+        inside = still_inside;
+        came_from = still_from;
+        begins = begins_more says;
+        placed = still_placed never;
+        lists_are = lists;
+      }
+
+module _ (strings : List (List ℕ)) (octets : List ℕ) (f g : FolderFields) (added addeds : List Added) (origins : List ℕ) (old : AreSorted strings f added origins) where
+  -- a string that is taken for a list
+  pub sorted_list : (l : CrlState) → IsTakenFor octets l → g ≡ with_list f l → addeds ≡ added ++ list_added ∷ [] → AreSorted (strings ++ octets ∷ []) g addeds origins
+  sorted_list l taken folder items =
+      subst (λ (l : List Added). AreSorted (strings ++ octets ∷ []) g l origins) (sym items)
+      (subst (λ (h : FolderFields). AreSorted (strings ++ octets ∷ []) h (added ++ list_added ∷ []) origins) (sym folder)
+      (other_more strings octets f added origins old list_added (with_list f l) refl (λ place e. cc) (l, taken) (list_more strings f.lists octets l taken old.lists_are)))
+
+  -- a string that begins with neither
+  pub sorted_neither : BeginsNoCertificate octets → BeginsNoList octets → g ≡ f → addeds ≡ added ++ Neither ∷ [] → AreSorted (strings ++ octets ∷ []) g addeds origins
+  sorted_neither no_cert no_list folder items =
+      subst (λ (l : List Added). AreSorted (strings ++ octets ∷ []) g l origins) (sym items)
+      (subst (λ (h : FolderFields). AreSorted (strings ++ octets ∷ []) h (added ++ Neither ∷ []) origins) (sym folder)
+      (other_more strings octets f added origins old Neither f refl (λ place e. cc) (no_cert, no_list) (no_list_more strings f.lists octets (neither_no_list octets no_list) old.lists_are)))
+
+-- ---- a certificate
+
+module _ (strings : List (List ℕ)) (octets : List ℕ) (f : FolderFields) (added : List Added) (origins : List ℕ) (old : AreSorted strings f added origins) (c : CertFields) (means : Means IsCertificate c octets) where
+  abbrev g : FolderFields
+  g = with_cert f octets
+
+  abbrev froms : List ℕ
+  froms = origins ++ length strings ∷ []
+
+  abbrev one : Added
+  one = Certificate (length f.certs)
+
+  more_certs : length g.certs ≡ length f.certs + 1
+  more_certs = length-append f.certs (octets ∷ [])
+
+  more_origins : length froms ≡ length origins + 1
+  more_origins = length-append origins (length strings ∷ [])
+
+  old_or_last : (place : ℕ) → place < length g.certs → (place ≡ length f.certs) ⊎ (place < length f.certs)
+  old_or_last place h = let low : place ≤ length f.certs = omega (arith, more_certs) in eq-or-lt_of_le low
+
+  old_origin : (place d : ℕ) → place < length f.certs → get_or froms place d ≡ get_or origins place d
+  old_origin place d h = let e = old.origin_count in get_or-append origins (length strings ∷ []) d place (omega (arith, h, e))
+
+  new_origin : (d : ℕ) → get_or froms (length f.certs) d ≡ length strings
+  new_origin d = subst (λ (n : ℕ). get_or froms n d ≡ length strings) old.origin_count (get_or-append_seam origins (length strings) [] d)
+
+  cert_inside : (place d : ℕ) → place < length g.certs → get_or froms place d < length (strings ++ octets ∷ [])
+  cert_inside place d h = elim (old_or_last place h) [
+    | inl is ↦ let there : get_or froms place d ≡ length strings = ap (λ (n : ℕ). get_or froms n d) is ∙ new_origin d in omega (arith, longer strings octets, there)
+    | inr low ↦ let there = old.inside place d low in let same = old_origin place d low in omega (arith, longer strings octets, there, same)
+  ]
+
+  cert_from : (place d : ℕ) → place < length g.certs → octets_at (strings ++ octets ∷ []) (get_or froms place d) ≡ octets_at g.certs place
+  cert_from place d h = elim (old_or_last place h) [
+    | inl is ↦ ap (λ (n : ℕ). octets_at (strings ++ octets ∷ []) n) (ap (λ (n : ℕ). get_or froms n d) is ∙ new_origin d) ∙ new_string strings octets
+        ∙ sym (ap (λ (n : ℕ). octets_at g.certs n) is ∙ get_or-append_seam f.certs octets [] [])
+    | inr low ↦ ap (λ (n : ℕ). octets_at (strings ++ octets ∷ []) n) (old_origin place d low) ∙ old_string strings octets (get_or origins place d) (old.inside place d low)
+        ∙ old.came_from place d low ∙ sym (get_or-append f.certs (octets ∷ []) [] place low)
+  ]
+
+  cert_placed : (i place : ℕ) (d : Added) → i < length (strings ++ octets ∷ []) → get_or (added ++ one ∷ []) i d ≡ Certificate place → (place < length g.certs) × ((e : ℕ) → get_or froms place e ≡ i)
+  cert_placed i place d h is = elim (old_or_new strings octets i h) [
+    | inl new ↦
+        let same : one ≡ Certificate place = sym (new_added strings octets f added origins old one d) ∙ ap (λ (n : ℕ). get_or (added ++ one ∷ []) n d) (sym new) ∙ is in
+        let at : place ≡ length f.certs = cc in
+        (omega (arith, more_certs, at), λ e. ap (λ (n : ℕ). get_or froms n e) at ∙ new_origin e ∙ sym new)
+    | inr low ↦
+        let p = old.placed i place d low (sym (old_added strings octets f added origins old one i d low) ∙ is) in
+        let inside = p.0 in
+        (omega (arith, more_certs, inside), λ e. old_origin place e inside ∙ p.1 e)
+  ]
+
+  cert_more : AreSorted (strings ++ octets ∷ []) g (added ++ one ∷ []) froms
+  cert_more = record {
+    count = count_more strings octets f added origins old one;
+    origin_count = let e = old.origin_count in omega (arith, more_certs, more_origins, e);
+    inside = cert_inside;
+    came_from = cert_from;
+    begins = begins_more strings octets f added origins old one (c, means);
+    placed = cert_placed;
+    lists_are = no_list_more strings f.lists octets (certificate_no_list octets c means) old.lists_are;
+  }
+
+  -- a string that begins with a certificate
+  pub sorted_cert : (h : FolderFields) (addeds : List Added) (more_froms : List ℕ) → h ≡ g → addeds ≡ added ++ one ∷ [] → more_froms ≡ froms → AreSorted (strings ++ octets ∷ []) h addeds more_froms
+  sorted_cert h addeds more_froms folder items from =
+      subst (λ (ns : List ℕ). AreSorted (strings ++ octets ∷ []) h addeds ns) (sym from)
+      (subst (λ (l : List Added). AreSorted (strings ++ octets ∷ []) h l froms) (sym items)
+      (subst (λ (k : FolderFields). AreSorted (strings ++ octets ∷ []) k (added ++ one ∷ []) froms) (sym folder) cert_more))
+
+-- ---- the locator's key
+
+-- whether the certificate with which octets begin has the key
+pub tells_key : (t : TalFields) (octets : List ℕ) (c : CertFields) (b : Bool) → IsUnambiguous IsCertificate → Means IsCertificate c octets → (IsTrue b ↔ (c.fields.key ≡ t.key)) → (IsTrue b ↔ BeginsWithKey t octets)
+tells_key t octets c b law means h = (
+  (λ e. record { cert = c; begins = means; key_is = h.0 e }),
+  (λ k. h.1 (ap (λ (d : CertFields). d.fields.key) (one_meant IsCertificate law c k.cert octets means k.begins) ∙ k.key_is)),
+)
+
+-- octets that begin with no certificate have no key
+pub no_key : (t : TalFields) (octets : List ℕ) → BeginsNoCertificate octets → (IsTrue false ↔ BeginsWithKey t octets)
+no_key t octets never = ((λ e. absurd cc), (λ k. absurd (never k.cert k.begins)))

@@ -1,0 +1,6 @@
+use Rattle.rpki_c.specs.FolderFates.Steps.{fate_at}
+use Rattle.rpki_c.specs.FolderTelling.{AreLinesOf}
+use Rattle.rpki_c.proofs.sorting.Sorted.lines.Given as goal
+
+abbrev pub invariant-loop-place : goal.invariant-loop-place
+invariant-loop-place l = AreLinesOf l.anchor (fate_at l.self l.kept l.anchor) l.place l.lines.items

@@ -1,0 +1,100 @@
+-- What becomes of strings, which are certificates and revocation lists in any order, below the
+-- trust anchor among them that has a locator's key (own).
+use Rattle.std.specs.Prelude.{◌≡◌, ◌⊎◌, ◌+◌, ◌<◌, ℕ, List, [], ◌∷◌, length, slice_index_or, Err}
+use Rattle.rpki_ext.specs.Kinds.{Means}
+use Rattle.rpki_cert.specs.Certificates.{CertFields, IsCertificate}
+use Rattle.rpki_cert.specs.Verification.{Context, ResourceFields}
+use Rattle.rpki_crl.specs.Lists.{CrlState, IsCertificateList}
+use Rattle.rpki_revocation.specs.Asking.{RevocationChecks}
+use Rattle.rpki_revocation.specs.AskedLists.{by_lists}
+use Rattle.rpki_tal.specs.Locators.{NamedTal, TalFields}
+use Rattle.rpki_path.specs.LocatedPaths.{BeginsWithKey}
+use Rattle.rpki_path.specs.declared.path_fault.PathFault.{PathFault}
+use Rattle.rpki_folder.specs.Folders.{octets_at}
+use Rattle.rpki_folder.specs.Walks.{Root, at_anchor, members_at, LeadsTo, IsReached, IsRightOf, Covers}
+use Rattle.rpki_folder.specs.declared.bounds.Ended.{Ended}
+use Rattle.rpki_c.specs.Contents.{BeginsNoCertificate}
+use Rattle.rpki_c.specs.Verdicts.{BeginsNoList}
+pub mod Steps
+
+-- ---- strings
+
+-- the octets are taken for this list: they begin with it, and with no certificate
+pub record IsTakenFor (octets : List ℕ) (l : CrlState) : Type 0 where
+  pub list_is : Means IsCertificateList l.list octets
+  pub no_certificate : BeginsNoCertificate octets
+
+-- the octets are taken for no list
+abbrev pub IsNoList : List ℕ → Type 0
+IsNoList octets = (l : CrlState) → IsTakenFor octets l → ⊥
+
+-- these are the lists for which strings are taken, in the order of the strings
+abbrev pub AreListsAmong : List (List ℕ) → List CrlState → Type 0
+AreListsAmong [] lists = lists ≡ []
+AreListsAmong (octets ∷ strings) lists =
+    (IsNoList octets × AreListsAmong strings lists)
+    ⊎ ((l : CrlState) × (more : List CrlState) × (lists ≡ l ∷ more) × IsTakenFor octets l
+    × AreListsAmong strings more)
+
+-- the string at the place is the first that begins with a certificate of the locator's key
+pub record IsFirstWithKey (t : TalFields) (strings : List (List ℕ)) (place : ℕ) : Type 0 where
+  pub inside : place < length strings
+  pub has_key : BeginsWithKey t (octets_at strings place)
+  pub none_before : (i : ℕ) → i < place → BeginsWithKey t (octets_at strings i) → ⊥
+
+-- no string begins with one
+abbrev pub NoneHasKey : TalFields → List (List ℕ) → Type 0
+NoneHasKey t strings = (i : ℕ) → i < length strings → BeginsWithKey t (octets_at strings i) → ⊥
+
+-- ---- fates
+
+-- what becomes of a string: it is the trust anchor, a list, neither a list nor a certificate, or a
+-- certificate which no CA of a valid path signed; or one that is accepted, below the CAs at these
+-- places; or one that is rejected, at this step below the trust anchor
+pub data Fate : Type 0 where
+  anchor list neither unseen : Fate
+  accepted : List ℕ → Fate
+  rejected : ℕ → PathFault → Fate
+
+-- it is what becomes of the string at the place
+abbrev pub IsFate : Context → RevocationChecks → Root → List (List ℕ) → ℕ → ℕ → Fate → Type 0
+IsFate x asked root strings top place anchor = place ≡ top
+IsFate x asked root strings top place list =
+    (l : CrlState) × IsTakenFor (octets_at strings place) l
+IsFate x asked root strings top place neither =
+    BeginsNoCertificate (octets_at strings place) × BeginsNoList (octets_at strings place)
+IsFate x asked root strings top place unseen =
+    (c : CertFields) × Means IsCertificate c (octets_at strings place)
+IsFate x asked root strings top place (accepted above) = IsReached x asked root strings above place
+IsFate x asked root strings top place (rejected step fault) =
+    (above : List ℕ) × (step ≡ length above + 1)
+    × IsRightOf x asked root (members_at root strings above) (octets_at strings place) (Err fault)
+
+-- the string is a valid certificate
+abbrev pub IsValidFate : Fate → Type 0
+IsValidFate anchor = Unit {0}
+IsValidFate (accepted above) = Unit {0}
+IsValidFate _ = ⊥
+
+-- What becomes of the strings below the trust anchor at a place: each fate is right, and each
+-- certificate is accepted to which a path leads that was looked at.
+pub record AreFates (x : Context) (asked : RevocationChecks) (root : Root)
+    (strings : List (List ℕ)) (top depth : ℕ) (ended : Ended) (fate : ℕ → Fate) : Type 0 where
+  pub anchor_is : fate top ≡ anchor
+  pub right : (place : ℕ) → place < length strings
+      → IsFate x asked root strings top place (fate place)
+  pub complete : (above : List ℕ) (place : ℕ) → place < length strings
+      → Covers ended depth (length above + 1)
+      → IsReached x asked root strings above place → IsValidFate (fate place)
+
+-- what becomes of the strings at a moment, by a walk that ended so: the first that has the
+-- locator's key is a valid trust anchor, and the lists among them are asked for revocation
+pub record AreJudged (x : Context) (t : NamedTal) (strings : List (List ℕ))
+    (top depth : ℕ) (ended : Ended) (fate : ℕ → Fate) : Type 0 where
+  pub top_is : IsFirstWithKey t.tal strings top
+  pub lists : List CrlState
+  pub lists_are : AreListsAmong strings lists
+  pub holder : ResourceFields
+  pub holds : LeadsTo x (by_lists x lists) (at_anchor t (octets_at strings top)) [] holder
+  pub fates : AreFates x (by_lists x lists) (at_anchor t (octets_at strings top)) strings top depth
+      ended fate

@@ -1,0 +1,99 @@
+-- What the steps give by which strings are judged.
+use Rattle.std.specs.Prelude.{◌≡◌, ◌==◌, ◌<◌, ℕ, List, [], length, map, slice_index_or, if◌then◌else◌}
+use Rattle.std.specs.List.{AllByRecursion}
+use Rattle.rpki_ext.specs.Kinds.{Means}
+use Rattle.rpki_cert.specs.Certificates.{CertFields, IsCertificate}
+use Rattle.rpki_cert.specs.Verification.{Context, ResourceFields}
+use Rattle.rpki_crl.specs.Lists.{CrlState}
+use Rattle.rpki_revocation.specs.Asking.{RevocationChecks}
+use Rattle.rpki_path.specs.declared.located.LocatedError.TheVariants.{OtherKey, Path as path}
+use Rattle.rpki_folder.specs.Folders.{FolderFields, octets_at}
+use Rattle.rpki_folder.specs.KeptLines.{AreLines}
+use Rattle.rpki_folder.specs.Walks.{Root, LeadsTo, Told, IsRight, IsComplete}
+use Rattle.rpki_folder.specs.declared.bounds.Ended.{Ended}
+use Rattle.rpki_folder.specs.declared.folder.Added.{Added}
+use Rattle.rpki_folder.specs.declared.folder.Added.TheVariants.{Certificate, List as list_added, Neither}
+use Rattle.rpki_folder.specs.declared.lines.Line.{Line}
+use Rattle.rpki_folder.specs.declared.lines.Line.TheVariants.{Unseen, Accepted, Rejected}
+use Rattle.rpki_folder.specs.declared.walk_error.WalkError.{WalkError}
+use Rattle.rpki_folder.specs.declared.walk_error.WalkError.TheVariants.{Anchor, Memory}
+use Rattle.rpki_c.specs.Contents.{BeginsNoCertificate}
+use Rattle.rpki_c.specs.Verdicts.{BeginsNoList}
+use Rattle.rpki_c.specs.FolderFates.{Fate, anchor, list, neither, unseen, accepted, rejected, IsTakenFor, AreListsAmong}
+use Rattle.rpki_c.specs.declared.refusal.Refusal.{Refusal}
+use Rattle.rpki_c.specs.declared.refusal.Refusal.TheVariants as refusal
+use Rattle.rpki_c.specs.declared.sorting.Front.{Front}
+use Rattle.rpki_c.specs.declared.sorting.Front.TheVariants as front
+use Rattle.rpki_c.specs.declared.sorting.Sorted.{Sorted}
+
+-- ---- sorting
+
+-- the octets begin with this
+abbrev pub BeginsAs : List ℕ → Front → Type 0
+BeginsAs octets (front.Certificate c) = Means IsCertificate c octets
+BeginsAs octets (front.List l) = IsTakenFor octets l
+BeginsAs octets front.Neither = BeginsNoCertificate octets × BeginsNoList octets
+
+-- the octets begin with what they were added as
+abbrev pub IsAddedAs : List ℕ → Added → Type 0
+IsAddedAs octets (Certificate place) = (c : CertFields) × Means IsCertificate c octets
+IsAddedAs octets list_added = (l : CrlState) × IsTakenFor octets l
+IsAddedAs octets Neither = BeginsNoCertificate octets × BeginsNoList octets
+
+-- the strings are sorted into the folder: what each was added as, and at each certificate's place
+-- the place of its string
+pub record AreSorted (strings : List (List ℕ)) (f : FolderFields) (added : List Added) (origins : List ℕ) : Type 0 where
+  pub count : length added ≡ length strings
+  pub origin_count : length origins ≡ length f.certs
+  pub inside : (place d : ℕ) → place < length f.certs → slice_index_or origins place d < length strings
+  pub came_from : (place d : ℕ) → place < length f.certs
+      → octets_at strings (slice_index_or origins place d) ≡ octets_at f.certs place
+  pub begins : (i : ℕ) (d : Added) → i < length strings → IsAddedAs (octets_at strings i) (slice_index_or added i d)
+  pub placed : (i place : ℕ) (d : Added) → i < length strings → slice_index_or added i d ≡ Certificate place
+      → (place < length f.certs) × ((e : ℕ) → slice_index_or origins place e ≡ i)
+  pub lists_are : AreListsAmong strings f.lists
+
+abbrev pub AreSortedIn : List (List ℕ) → Sorted → Type 0
+AreSortedIn strings s = AreSorted strings s.folder s.added.items s.origins.items
+
+-- its own strings
+abbrev pub IsSorted : Sorted → Type 0
+IsSorted s = AreSortedIn s.strings.now s
+
+-- the string that the certificate at a place was; behind the last one a place behind all strings
+abbrev pub origin_of : Sorted → ℕ → ℕ
+origin_of s place = slice_index_or s.origins.items place (length s.added.items)
+
+-- ---- what is kept of verdicts
+
+-- of a certificate, by the strings of the CAs above it
+abbrev pub kept_fate : (ℕ → ℕ) → Line → Fate
+kept_fate origin Unseen = unseen
+kept_fate origin (Accepted above) = accepted (map origin above.items)
+kept_fate origin (Rejected step fault) = rejected step fault
+
+-- of what was added
+abbrev pub added_fate : (ℕ → ℕ) → List Line → Added → Fate
+added_fate origin kept (Certificate place) = kept_fate origin (slice_index_or kept place Unseen)
+added_fate origin kept list_added = list
+added_fate origin kept Neither = neither
+
+-- of the string at a place
+abbrev pub fate_at : Sorted → List Line → ℕ → ℕ → Fate
+fate_at s kept top place = if place == top then anchor else added_fate (origin_of s) kept (slice_index_or s.added.items place Neither)
+
+-- the lines that are kept of a walk below a trust anchor, which ended so
+pub record IsWalked (x : Context) (asked : RevocationChecks) (root : Root) (certs : List (List ℕ))
+    (depth : ℕ) (kept : List Line) (ended : Ended) : Type 0 where
+  pub holder : ResourceFields
+  pub holds : LeadsTo x asked root [] holder
+  pub tells : List Told
+  pub lines_are : AreLines tells kept
+  pub right : AllByRecursion (IsRight x asked root certs) tells
+  pub complete : IsComplete x asked (λ above place. Unit {0}) root certs [] depth tells ended
+
+-- why there was no walk below the trust anchor at a place
+abbrev pub refusal_of : ℕ → WalkError → Refusal
+refusal_of place Memory = refusal.Memory
+refusal_of place (Anchor OtherKey) = refusal.OtherKey
+refusal_of place (Anchor (path e)) = refusal.Member (record { index = place; fault = e.fault })

@@ -1,0 +1,186 @@
+//! Strings, sorted into certificates and revocation lists.
+ghost use Rattle.std.specs.Prelude.{◌≡◌, ◌≢◌, ◌↔◌, ◌<◌, ◌++◌, ◌∷◌, [], ℕ, List, length, IsTrue, IsNone, IfOk, IfSome, OnOk};
+ghost use Rattle.rpki_der.specs.declared.error.DecodeError.TheVariants.{Memory};
+ghost use Rattle.rpki_ext.specs.Kinds.{Means};
+ghost use Rattle.rpki_cert.specs.Certificates.{IsCertificate};
+ghost use Rattle.rpki_path.specs.LocatedPaths.{BeginsWithKey};
+ghost use Rattle.rpki_folder.specs.Folders.{octets_at};
+ghost use Rattle.rpki_c.specs.Contents.{BeginsNoCertificate};
+ghost use Rattle.rpki_c.specs.FolderFates.{IsTakenFor, IsFirstWithKey, NoneHasKey};
+ghost use Rattle.rpki_c.specs.FolderFates.Steps.{BeginsAs, AreSortedIn, IsSorted};
+ghost use Rattle.rpki_c.specs.Verdicts.{BeginsNoList};
+
+use crate::lists::list_of;
+use bytes::Bytes;
+use rpki_cert::{Cert, laws};
+use rpki_crl::Crl;
+use rpki_der::DecodeError;
+use rpki_folder::{Added, Folder};
+use rpki_tal::Tal;
+use std::alloc::{AllocError, Global};
+
+// What octets begin with.
+#[derive(Drop)]
+enum Front {
+    Certificate(Cert),
+    List(Crl),
+    Neither,
+}
+
+// Lets a fault go, unless it is that memory ran out.
+fn rejects(fault: DecodeError) -> Result<(), AllocError>
+    ensures { OnOk result (fault ≢ Memory) }
+{
+    let is_memory = fault.is_memory();
+    drop(fault);
+    if is_memory { Err(AllocError) } else { Ok(()) }
+}
+
+// What octets begin with that begin with no certificate.
+#[tactic(auto, using(crate::proofs::Unread::unless_memory))]
+fn other_front(alloc: Global, octets: &Bytes) -> Result<Front, AllocError>
+    requires { BeginsNoCertificate octets.now }
+    ensures { IfOk result (BeginsAs octets.now) }
+{
+    match list_of(alloc, octets) {
+        Ok(list) => Ok(Front::List(list)),
+        Err(fault) => {
+            rejects(fault)?;
+            Ok(Front::Neither)
+        }
+    }
+}
+
+// What octets begin with: a certificate, or else a list.
+#[tactic(auto, using(crate::proofs::Unread::unless_memory))]
+fn front_of(alloc: Global, octets: &Bytes) -> Result<Front, AllocError>
+    ensures { IfOk result (BeginsAs octets.now) }
+{
+    match Cert::decode_shared(alloc, octets.clone()?) {
+        Ok(cert) => Ok(Front::Certificate(cert)),
+        Err(fault) => {
+            rejects(fault)?;
+            other_front(alloc, octets)
+        }
+    }
+}
+
+/// Strings, with the folder of the certificates and lists with which they begin.
+#[derive(Drop)]
+pub(crate) struct Sorted<'s> {
+    pub(crate) strings: &'s [Bytes],
+    pub(crate) folder: Folder,
+    /// What each string was added as.
+    pub(crate) added: Vec<Added>,
+    /// At the place of each certificate of the folder, the place of its string.
+    pub(crate) origins: Vec<usize>,
+}
+
+impl<'s> Sorted<'s> {
+    // None of the strings is sorted yet.
+    fn new(alloc: Global, strings: &'s [Bytes]) -> Sorted<'s>
+        ensures sorted { AreSortedIn [] result }
+        ensures strings { result.strings.now ≡ strings.now }
+    {
+        Sorted {
+            strings,
+            folder: Folder::new(alloc),
+            added: Vec::new(alloc),
+            origins: Vec::new(alloc),
+        }
+    }
+
+    // Adds a certificate, with which the next string begins.
+    fn add_cert(&mut self, octets: Bytes, cert: Cert) -> Result<(), AllocError>
+        requires { Means IsCertificate cert octets }
+        ensures sorted { (strings : List (List ℕ)) → AreSortedIn strings self.old
+            → OnOk result (AreSortedIn (strings ++ octets ∷ []) self.new) }
+        ensures strings { self.new.strings.now ≡ self.old.strings.now }
+    {
+        let origin = self.added.len();
+        let place = self.folder.add_cert(octets, cert)?;
+        self.added.push(Added::Certificate(place))?;
+        self.origins.push(origin)?;
+        Ok(())
+    }
+
+    // Adds a list, for which the next string is taken.
+    fn add_list(&mut self, list: Crl) -> Result<(), AllocError>
+        ensures sorted { (strings : List (List ℕ)) (octets : List ℕ) → IsTakenFor octets list
+            → AreSortedIn strings self.old
+            → OnOk result (AreSortedIn (strings ++ octets ∷ []) self.new) }
+        ensures strings { self.new.strings.now ≡ self.old.strings.now }
+    {
+        self.folder.add_list(list)?;
+        self.added.push(Added::List)?;
+        Ok(())
+    }
+
+    // Passes the next string over.
+    fn add_neither(&mut self) -> Result<(), AllocError>
+        ensures sorted { (strings : List (List ℕ)) (octets : List ℕ) → BeginsNoCertificate octets
+            → BeginsNoList octets → AreSortedIn strings self.old
+            → OnOk result (AreSortedIn (strings ++ octets ∷ []) self.new) }
+        ensures strings { self.new.strings.now ≡ self.old.strings.now }
+    {
+        self.added.push(Added::Neither)?;
+        Ok(())
+    }
+
+    // Sorts one string more.
+    fn add(&mut self, alloc: Global, octets: Bytes) -> Result<(), AllocError>
+        ensures sorted { (strings : List (List ℕ)) → AreSortedIn strings self.old
+            → OnOk result (AreSortedIn (strings ++ octets ∷ []) self.new) }
+        ensures strings { self.new.strings.now ≡ self.old.strings.now }
+    {
+        match front_of(alloc, &octets)? {
+            Front::Certificate(cert) => self.add_cert(octets, cert),
+            Front::List(list) => self.add_list(list),
+            Front::Neither => self.add_neither(),
+        }
+    }
+
+    /// Sorts strings: each is taken for the certificate with which it begins, else for the list.
+    pub(crate) fn of(alloc: Global, strings: &'s [Bytes]) -> Result<Sorted<'s>, AllocError>
+        ensures sorted { IfOk result IsSorted }
+        ensures strings { IfOk result (λ it. it.strings.now ≡ strings.now) }
+    {
+        let mut sorted = Sorted::new(alloc, strings);
+        for octets in strings {
+            sorted.add(alloc, octets.clone()?)?;
+        }
+        Ok(sorted)
+    }
+
+    // Whether the string at a place begins with a certificate of the locator's key.
+    fn has_key(&self, tal: &Tal, place: usize) -> bool
+        requires sorted { IsSorted self.now }
+        requires inside { place < length self.now.strings.now }
+        ensures { IsTrue result
+            ↔ BeginsWithKey tal.now.tal (octets_at self.now.strings.now place) }
+    {
+        laws::unambiguous();
+        match self.added[place] {
+            Added::Certificate(at) => {
+                let cert = self.folder.certs()[at].cert();
+                tal.has_key(cert.as_tbs().subject_public_key_info())
+            }
+            Added::List => false,
+            Added::Neither => false,
+        }
+    }
+
+    /// Returns the place of the first string that begins with a certificate of the locator's key.
+    pub(crate) fn anchor(&self, tal: &Tal) -> Option<usize>
+        requires { IsSorted self.now }
+        ensures some { IfSome result (IsFirstWithKey tal.now.tal self.now.strings.now) }
+        ensures none { IsNone result → NoneHasKey tal.now.tal self.now.strings.now }
+    {
+        for place in 0..self.strings.len() {
+            if self.has_key(tal, place) {
+                return Some(place);
+            }
+        }
+        None
+    }
+}
