@@ -31,16 +31,20 @@ __all__ = [
     "DecodeFault",
     "Entry",
     "Fault",
+    "Folder",
     "INHERIT",
     "Inherit",
     "InspectionFault",
     "Kind",
+    "Line",
     "LocatorFault",
     "NamesFault",
     "Resources",
     "RevocationFault",
     "RevocationList",
+    "State",
     "VerificationFault",
+    "judge_folder",
     "validate",
 ]
 
@@ -116,6 +120,12 @@ _FAULTS: dict[int, type[Fault]] = {
 }
 
 
+def _fault(number: int, member: int | None = None, revocation_list: int | None = None) -> Fault:
+    """The exception of a fault."""
+    kind = _FAULTS.get(number, _FAULTS.get(number // 100, Fault))
+    return kind(number, member, revocation_list)
+
+
 def _raise(fault: int, member: int | None = None, revocation_list: int | None = None) -> None:
     """Raises the exception of a fault, where there is one."""
     if fault == raw.OK:
@@ -124,8 +134,7 @@ def _raise(fault: int, member: int | None = None, revocation_list: int | None = 
         raise MemoryError
     if fault == raw.BAD_CALL:
         raise ValueError("there are too few members, or the last of several is to be a trust anchor")
-    kind = _FAULTS.get(fault, _FAULTS.get(fault // 100, Fault))
-    raise kind(fault, member, revocation_list)
+    raise _fault(fault, member, revocation_list)
 
 
 # ---- sets
@@ -487,3 +496,101 @@ def validate(
     if chain_names:
         _raise(*raw.names(all_members))
     return Resources(_ipv4(held[0]), _ipv6(held[1]), _as_numbers(held[2]))
+
+
+# ---- folders
+
+
+class State(enum.Enum):
+    """What became of a certificate or list of a folder."""
+
+    UNSEEN = 0
+    """A certificate that no accepted CA signed, or that a bound kept from being judged."""
+    ANCHOR = 1
+    """The trust anchor, which is valid."""
+    ACCEPTED = 2
+    """The last member of a valid path."""
+    REJECTED = 3
+    """A certificate that is wrong below each valid path to its issuer."""
+    LIST = 4
+    """A revocation list."""
+    NEITHER = 5
+    """Neither a certificate nor a revocation list."""
+
+
+@dataclass(frozen=True)
+class Line:
+    """What became of one of the octets of a folder."""
+
+    state: State
+    step: int | None = None
+    """How many certificates of the path stand above it, where it is accepted or rejected."""
+    issuer: int | None = None
+    """The place of its issuer among the octets, where it is accepted."""
+    fault: Fault | None = None
+    """Why it is rejected."""
+
+    @property
+    def is_valid(self) -> bool:
+        """Whether it is a valid certificate."""
+        return self.state in (State.ANCHOR, State.ACCEPTED)
+
+
+@dataclass(frozen=True)
+class Folder:
+    """What became of the octets of a folder."""
+
+    lines: tuple[Line, ...]
+    """A line for each, in their order."""
+    anchor: int
+    """The place of the trust anchor among them."""
+    is_whole: bool
+    """Whether all was looked at to which a valid path leads. Else a bound was met, and what isn't
+    accepted may yet be valid."""
+
+
+def _line(it: raw.Line) -> Line:
+    state = State(it.what)
+    if state is State.ACCEPTED:
+        return Line(state, it.step, it.issuer)
+    if state is State.REJECTED:
+        return Line(state, it.step, None, _fault(it.fault))
+    return Line(state)
+
+
+def judge_folder(
+    octets: Sequence[Octets | Certificate | RevocationList],
+    *,
+    locator: Octets,
+    at: datetime | None = None,
+    strict: bool = True,
+    depth: int = 32,
+    steps: int | None = None,
+) -> Folder:
+    """Judges all certificates below the trust anchor of a locator, and gives a line for each of the
+    octets.
+
+    `octets` are certificates and revocation lists in any order, and may be others. The trust anchor
+    is the first of them that has the key of `locator`, the file of a locator (RFC 8630). Each
+    certificate that an accepted CA signed is judged below it as what it says that it is, and has to
+    be unrevoked by the lists among the octets, as for `validate`. Whether names chain isn't asked,
+    and no folder shows that a file was withheld: whoever reads manifests leaves out what they don't
+    list.
+
+    `at` and `strict` are as for `validate`. A path has at most `depth` certificates below the trust
+    anchor, and at most `steps` certificates are verified, each once for each path that leads to it;
+    64 times as many as there are, where it isn't given. `is_whole` of the answer says whether that
+    was enough.
+
+    Raises LocatorFault where the file is no locator or none of the octets has its key, and the
+    Fault of the trust anchor where that is wrong, with its place as the `member`.
+    """
+    strings = [_octets(it) for it in octets]
+    now = _time(datetime.now(timezone.utc) if at is None else at)
+    if depth < 1 or (steps is not None and steps < 1):
+        raise ValueError("a walk of no depth or without steps looks at nothing")
+    asked = raw.folder_question(strings, _bytes(locator), now, strict, depth, steps or 0)
+    walk, lines = raw.judge_folder(asked)
+    place = walk.anchor if 100 <= walk.fault < 600 else None
+    _raise(walk.fault, place)
+    return Folder(tuple(map(_line, lines)), walk.anchor, walk.ended == raw.WHOLE)

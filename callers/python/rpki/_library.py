@@ -12,6 +12,8 @@ ABI = 3  # RPKI_ABI of rpki.h
 OK, MEMORY, BAD_CALL = 0, 1, 2
 # enum rpki_state
 MISSING, INHERITED, LISTED = 0, 1, 2
+# enum rpki_ended
+WHOLE = 1
 # enum rpki_uri
 URIS = ("ca_issuer", "crl", "repository", "manifest", "signed_object", "notify")
 
@@ -108,6 +110,35 @@ class Verdict(ctypes.Structure):
         *((name, c_uint32) for name in ("fault", "index")),
         *((name, c_uint64) for name in ("v4", "v6", "asn")),
     ]
+
+
+class FolderQuestion(ctypes.Structure):
+    """struct rpki_folder_question"""
+
+    _fields_ = [
+        ("size", c_size_t),
+        ("strings", Strings),
+        ("locator", ctypes.POINTER(c_uint8)),
+        ("locator_length", c_size_t),
+        ("moment", Time),
+        *((name, c_size_t) for name in ("depth", "steps")),
+        ("strict", c_uint32),
+    ]
+
+
+class Line(ctypes.Structure):
+    """struct rpki_line"""
+
+    _fields_ = [
+        *((name, c_uint32) for name in ("what", "fault")),
+        *((name, c_uint64) for name in ("step", "issuer")),
+    ]
+
+
+class Walk(ctypes.Structure):
+    """struct rpki_walk"""
+
+    _fields_ = [*((name, c_uint32) for name in ("fault", "ended")), ("anchor", c_uint64)]
 
 
 def _load() -> ctypes.CDLL:
@@ -287,3 +318,26 @@ def names(members: Sequence[bytes]) -> tuple[int, int]:
     place = c_uint64()
     fault: int = lib.rpki_path_names(ctypes.byref(strings_of(members)), ctypes.byref(place))
     return fault, place.value
+
+
+def folder_question(
+    strings: Sequence[bytes], locator: bytes, now: Time, strict: bool, depth: int, steps: int
+) -> FolderQuestion:
+    """A question about a folder."""
+    return FolderQuestion(
+        ctypes.sizeof(FolderQuestion),
+        strings_of(strings),
+        *octets_of(locator),
+        now,
+        depth,
+        steps,
+        strict != 0,
+    )
+
+
+def judge_folder(asked: FolderQuestion) -> tuple[Walk, list[Line]]:
+    """How the walk over a folder ended, and a line for each string; none after a fault."""
+    out, lines = Walk(), (Line * asked.strings.count)()
+    room = c_size_t(len(lines))
+    lib.rpki_folder_judge(ctypes.byref(asked), lines, room, ctypes.byref(out))
+    return out, list(lines) if out.fault == OK else []

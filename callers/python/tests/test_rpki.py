@@ -14,7 +14,18 @@ from pathlib import Path
 from typing import Any, cast
 
 import rpki
-from rpki import INHERIT, AsNumbers, Certificate, Entry, Kind, RevocationList, validate
+from rpki import (
+    INHERIT,
+    AsNumbers,
+    Certificate,
+    Entry,
+    Kind,
+    Line,
+    RevocationList,
+    State,
+    judge_folder,
+    validate,
+)
 
 TOP = Path(__file__).resolve().parents[3]
 BEGIN, END = datetime(2026, 1, 1, tzinfo=timezone.utc), datetime(2036, 1, 1, tzinfo=timezone.utc)
@@ -273,6 +284,80 @@ class Paths(unittest.TestCase):
         for thread in threads:
             thread.join()
         self.assertEqual(found, [True] * 40)
+
+
+class Folders(unittest.TestCase):
+    members = certificates("second", "anchor", "object", "tampered", "first")
+    lists = [octets(name) for name in ("object.crl", "first.crl", "second.crl")]
+    noon = datetime(2026, 6, 1, 12, tzinfo=timezone.utc)
+
+    def judge(self, given: list[bytes], **asked: Any) -> rpki.Folder:
+        return judge_folder(given, **{"locator": octets("anchor.tal"), "at": self.noon, **asked})
+
+    def test_any_order(self) -> None:
+        second, anchor, leaf, tampered, first = self.members
+        given = [*self.lists, second, anchor, leaf, b"no file", tampered, first]
+        for _ in given:
+            given = [*given[1:], given[0]]
+            place = given.index
+            folder = self.judge(given)
+            self.assertTrue(folder.is_whole)
+            self.assertEqual(folder.anchor, place(anchor))
+            line = dict(zip(given, folder.lines))
+            self.assertEqual(line[anchor], Line(State.ANCHOR))
+            self.assertEqual(line[first], Line(State.ACCEPTED, 1, place(anchor)))
+            self.assertEqual(line[second], Line(State.ACCEPTED, 2, place(first)))
+            self.assertEqual(line[leaf], Line(State.ACCEPTED, 3, place(second)))
+            self.assertEqual({line[it].state for it in self.lists}, {State.LIST})
+            self.assertEqual(line[b"no file"], Line(State.NEITHER))
+            wrong = line[tampered]
+            assert wrong.fault is not None
+            self.assertEqual((wrong.state, wrong.step), (State.REJECTED, 2))
+            self.assertEqual((wrong.fault.name, wrong.fault.member), ("BadSignature", None))
+            valid = [it for it in given if line[it].is_valid]
+            self.assertCountEqual(valid, [anchor, first, second, leaf])
+
+    def test_revoked_and_unseen(self) -> None:
+        names = ("anchor", "first", "second", "object")
+        given = [*certificates(*names), octets("first.crl"), octets("revoked.crl")]
+        folder = self.judge(given)
+        states = [it.state for it in folder.lines]
+        accepted = [State.ANCHOR, State.ACCEPTED, State.REJECTED, State.UNSEEN]
+        self.assertEqual(states, [*accepted, State.LIST, State.LIST])
+        fault = folder.lines[2].fault
+        assert isinstance(fault, rpki.RevocationFault)
+        self.assertEqual(fault.name, "Revoked")
+        self.assertTrue(folder.is_whole)
+
+    def test_read_octets(self) -> None:
+        given = [*map(Certificate, self.members), *map(RevocationList, self.lists)]
+        folder = judge_folder(given, locator=bytearray(octets("anchor.tal")), at=self.noon)
+        self.assertEqual(sum(it.is_valid for it in folder.lines), 4)
+
+    def test_bounds(self) -> None:
+        given = [*self.members, *self.lists]
+        bounds: list[tuple[dict[str, int], int]] = [({"depth": 2}, 3), ({"steps": 1}, 2)]
+        for asked, valid in (*bounds, ({"steps": 100}, 4)):
+            folder = self.judge(given, **asked)
+            self.assertEqual(sum(it.is_valid for it in folder.lines), valid)
+            self.assertEqual(folder.is_whole, valid == 4)
+        for none in ("depth", "steps"):
+            with self.assertRaises(ValueError):
+                self.judge(given, **{none: 0})
+
+    def test_anchors(self) -> None:
+        given = [*self.members, *self.lists]
+        late = END + timedelta(seconds=1)
+        wrong: list[tuple[str, type[rpki.Fault], int | None, list[bytes], dict[str, Any]]] = [
+            ("OtherKey", rpki.LocatorFault, None, self.lists, {}),
+            ("OtherKey", rpki.LocatorFault, None, [], {}),
+            ("NoUri", rpki.LocatorFault, None, given, {"locator": b"\n"}),
+            ("Expired", rpki.VerificationFault, 1, given, {"at": late}),
+        ]
+        for name, kind, place, strings, asked in wrong:
+            with self.assertRaises(kind) as caught:
+                self.judge(strings, **asked)
+            self.assertEqual((caught.exception.name, caught.exception.member), (name, place))
 
 
 if __name__ == "__main__":

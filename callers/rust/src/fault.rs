@@ -29,7 +29,7 @@ pub enum FaultKind {
 /// Where in a question a fault is.
 #[derive(Clone, Copy, Debug, PartialEq, Eq, Hash)]
 pub enum Place {
-    /// This member of the path, the trust anchor at 0.
+    /// This member of the path, the trust anchor at 0; or this one of the octets of a folder.
     Member(usize),
     /// This one of the lists that were given.
     List(usize),
@@ -56,6 +56,14 @@ impl Fault {
             None => Some(Place::Member(index)),
             Some(list) => Some(Place::List(list)),
         };
+        Fault { number, place }
+    }
+
+    // Of the trust anchor at a place of a folder, or of its locator.
+    pub(crate) fn of_anchor(number: u32, anchor: usize) -> Fault {
+        let place = (100..600)
+            .contains(&number)
+            .then_some(Place::Member(anchor));
         Fault { number, place }
     }
 

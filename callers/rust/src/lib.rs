@@ -23,10 +23,12 @@
 //!
 //! Each call checks first that the library is of this crate's interface, and panics where it isn't.
 mod fault;
+mod folder;
 mod moment;
 mod sys;
 
 pub use fault::{Fault, FaultKind, Place};
+pub use folder::{Folder, Judged, Line};
 pub use moment::Moment;
 
 use std::net::{Ipv4Addr, Ipv6Addr};

@@ -9,6 +9,14 @@ pub const ABI: u32 = 3;
 pub const OK: u32 = 0;
 pub const MEMORY: u32 = 1;
 pub const BAD_CALL: u32 = 2;
+/// enum rpki_fate of rpki.h.
+pub const ANCHOR: u32 = 1;
+pub const ACCEPTED: u32 = 2;
+pub const REJECTED: u32 = 3;
+pub const LIST: u32 = 4;
+pub const NEITHER: u32 = 5;
+/// RPKI_WHOLE of rpki.h.
+pub const WHOLE: u32 = 1;
 
 #[repr(C)]
 #[derive(Clone, Copy, Debug, Default, PartialEq, Eq)]
@@ -113,6 +121,35 @@ struct Verdict {
     asn: u64,
 }
 
+#[repr(C)]
+struct CFolderQuestion {
+    size: usize,
+    strings: CStrings,
+    locator: *const u8,
+    locator_length: usize,
+    moment: Time,
+    depth: usize,
+    steps: usize,
+    strict: u32,
+}
+
+#[repr(C)]
+#[derive(Clone, Copy, Default)]
+pub struct Line {
+    pub what: u32,
+    pub fault: u32,
+    pub step: u64,
+    pub issuer: u64,
+}
+
+#[repr(C)]
+#[derive(Default)]
+pub struct Walk {
+    pub fault: u32,
+    pub ended: u32,
+    pub anchor: u64,
+}
+
 extern "C" {
     fn rpki_abi_version() -> u32;
     fn rpki_fault_name(fault: u32, out: *mut u8, room: usize, count: *mut u64) -> u32;
@@ -175,6 +212,12 @@ extern "C" {
     ) -> u32;
     fn rpki_path_validate(question: *const CQuestion, room: *mut Room, out: *mut Verdict) -> u32;
     fn rpki_path_names(members: *const CStrings, place: *mut u64) -> u32;
+    fn rpki_folder_judge(
+        question: *const CFolderQuestion,
+        lines: *mut Line,
+        room: usize,
+        out: *mut Walk,
+    ) -> u32;
 }
 
 /// The number of a fault, where a call answers one.
@@ -359,4 +402,34 @@ pub fn names(members: &[&[u8]]) -> Result<(), (u32, usize)> {
     let mut place = 0;
     let fault = unsafe { rpki_path_names(&members.lent(), &mut place) };
     answered(fault, ()).map_err(|fault| (fault, place as usize))
+}
+
+/// What is asked of a folder. No depth and no steps ask for the usual ones.
+pub struct FolderQuestion<'a> {
+    pub strings: &'a [&'a [u8]],
+    pub locator: &'a [u8],
+    pub now: Time,
+    pub depth: usize,
+    pub steps: usize,
+    pub strict: bool,
+}
+
+/// How the walk over a folder ended, and a line for each string; or a fault and its place.
+pub fn judge_folder(question: &FolderQuestion<'_>) -> Result<(Walk, Vec<Line>), (u32, usize)> {
+    let strings = Strings::of(question.strings);
+    let asked = CFolderQuestion {
+        size: size_of::<CFolderQuestion>(),
+        strings: strings.lent(),
+        locator: question.locator.as_ptr(),
+        locator_length: question.locator.len(),
+        moment: question.now,
+        depth: question.depth,
+        steps: question.steps,
+        strict: question.strict.into(),
+    };
+    let mut lines = vec![Line::default(); question.strings.len()];
+    let mut out = Walk::default();
+    let fault = unsafe { rpki_folder_judge(&asked, lines.as_mut_ptr(), lines.len(), &mut out) };
+    answered(fault, ()).map_err(|fault| (fault, out.anchor as usize))?;
+    Ok((out, lines))
 }

@@ -1,7 +1,7 @@
 //! Tests the crate over the files of examples/, whose contents examples/make.sh says.
 use gonxebhula::{
-    Certificate, Fault, FaultKind, Kind, Moment, Path, Place, Resources, Revocation,
-    RevocationList, Uri,
+    Certificate, Fault, FaultKind, Folder, Judged, Kind, Line, Moment, Path, Place, Resources,
+    Revocation, RevocationList, Uri,
 };
 use std::net::{Ipv4Addr, Ipv6Addr};
 
@@ -167,6 +167,82 @@ fn locators_are_asked() {
     assert_eq!(fault.kind(), FaultKind::Locator);
     let path = Path::new(&members[..1], Kind::Authority, asked).locator(b"\n");
     rejected(&path, NOON, "NoUri", None);
+}
+
+fn judged(names: &[&str], ask: impl Fn(Folder<'_>) -> Folder<'_>) -> Judged {
+    let owned: Vec<_> = names.iter().map(|name| octets(name)).collect();
+    let (strings, locator) = (slices(&owned), octets("anchor.tal"));
+    ask(Folder::new(&strings, &locator))
+        .judge(at(NOON))
+        .unwrap()
+}
+
+#[test]
+fn folders_are_judged() {
+    let names = [
+        "object.crl",
+        "second.cer",
+        "anchor.cer",
+        "first.crl",
+        "tampered.cer",
+        "object.cer",
+        "make.sh",
+        "first.cer",
+        "second.crl",
+    ];
+    let it = judged(&names, |folder| folder);
+    assert!(it.is_whole && it.anchor == 2);
+    let accepted = |step, issuer| Line::Accepted { step, issuer };
+    let Line::Rejected { step: 2, fault } = it.lines[4] else {
+        panic!("{:?}", it.lines[4]);
+    };
+    assert_eq!(
+        (fault.name().as_str(), fault.place()),
+        ("BadSignature", None)
+    );
+    let lines = [
+        Line::List,
+        accepted(2, 7),
+        Line::Anchor,
+        Line::List,
+        Line::Rejected { step: 2, fault },
+        accepted(3, 1),
+        Line::Neither,
+        accepted(1, 2),
+        Line::List,
+    ];
+    assert_eq!(it.lines, lines);
+    let valid = |it: &Judged| it.lines.iter().filter(|line| line.is_valid()).count();
+    let shallow = judged(&names, |folder| folder.depth(2));
+    assert!(!shallow.is_whole && valid(&shallow) == 3);
+    let short = judged(&names, |folder| folder.steps(1));
+    assert!(!short.is_whole && valid(&short) == 2);
+    let without = judged(&["anchor.cer", "first.cer"], |folder| folder.lenient());
+    assert!(without.is_whole && !without.lines[1].is_valid());
+}
+
+#[test]
+fn anchors_of_folders_are_asked() {
+    let (owned, locator) = (
+        ["first.cer", "anchor.cer"].map(octets),
+        octets("anchor.tal"),
+    );
+    let strings = slices(&owned);
+    let folder = Folder::new(&strings, &locator);
+    let fault = folder.judge(at([2036, 1, 1, 0, 0, 1])).unwrap_err();
+    assert_eq!(
+        (fault.name().as_str(), fault.place()),
+        ("Expired", Some(Place::Member(1)))
+    );
+    for (strings, locator, name) in [
+        (&strings[..1], &locator[..], "OtherKey"),
+        (&[], &locator[..], "OtherKey"),
+        (&strings[..], b"\n", "NoUri"),
+    ] {
+        let fault = Folder::new(strings, locator).judge(at(NOON)).unwrap_err();
+        assert_eq!((fault.name().as_str(), fault.place()), (name, None));
+        assert_eq!(fault.kind(), FaultKind::Locator);
+    }
 }
 
 #[test]

@@ -1,0 +1,132 @@
+//! Certificates and revocation lists in any order.
+use crate::{check_library, sys, Fault, Moment};
+
+/// What became of one of the octets of a folder.
+#[derive(Clone, Copy, Debug, PartialEq, Eq, Hash)]
+pub enum Line {
+    /// A certificate that no accepted CA signed, or that a bound kept from being judged.
+    Unseen,
+    /// The trust anchor, which is valid.
+    Anchor,
+    /// The last member of a valid path.
+    Accepted {
+        /// How many certificates of the path stand above it.
+        step: usize,
+        /// The place of its issuer among the octets.
+        issuer: usize,
+    },
+    /// A certificate that is wrong below each valid path to its issuer.
+    Rejected {
+        /// How many certificates of the path stand above it.
+        step: usize,
+        /// Why it is rejected.
+        fault: Fault,
+    },
+    /// A revocation list.
+    List,
+    /// Neither a certificate nor a revocation list.
+    Neither,
+}
+
+impl Line {
+    /// Tells whether it is a valid certificate.
+    pub fn is_valid(&self) -> bool {
+        matches!(self, Line::Anchor | Line::Accepted { .. })
+    }
+
+    fn of(it: &sys::Line) -> Line {
+        let step = it.step as usize;
+        match it.what {
+            sys::ANCHOR => Line::Anchor,
+            sys::ACCEPTED => Line::Accepted {
+                step,
+                issuer: it.issuer as usize,
+            },
+            sys::REJECTED => Line::Rejected {
+                step,
+                fault: Fault::new(it.fault),
+            },
+            sys::LIST => Line::List,
+            sys::NEITHER => Line::Neither,
+            _ => Line::Unseen,
+        }
+    }
+}
+
+/// What became of the octets of a folder.
+#[derive(Clone, Debug, PartialEq, Eq, Hash)]
+pub struct Judged {
+    /// A line for each of the octets, in their order.
+    pub lines: Vec<Line>,
+    /// The place of the trust anchor among them.
+    pub anchor: usize,
+    /// Whether all was looked at to which a valid path leads. Else a bound was met, and what isn't
+    /// accepted may yet be valid.
+    pub is_whole: bool,
+}
+
+/// Certificates and revocation lists in any order, and what is asked of them.
+#[derive(Clone, Debug)]
+pub struct Folder<'a> {
+    octets: &'a [&'a [u8]],
+    locator: &'a [u8],
+    strict: bool,
+    depth: usize,
+    steps: usize,
+}
+
+impl<'a> Folder<'a> {
+    /// Makes a folder of these octets, below the trust anchor among them that has the key of this file
+    /// of a locator (RFC 8630); where several have it, below the first.
+    pub fn new(octets: &'a [&'a [u8]], locator: &'a [u8]) -> Folder<'a> {
+        Folder {
+            octets,
+            locator,
+            strict: true,
+            depth: 0,
+            steps: 0,
+        }
+    }
+
+    /// Lets names have other strings than RFC 6487 4.4 asks, and a locator's comments any octets.
+    pub fn lenient(mut self) -> Folder<'a> {
+        self.strict = false;
+        self
+    }
+
+    /// Asks that a path has at most so many certificates below the trust anchor; 0 asks for 32.
+    pub fn depth(mut self, depth: usize) -> Folder<'a> {
+        self.depth = depth;
+        self
+    }
+
+    /// Asks that at most so many certificates are verified, each once for each path that leads to it;
+    /// 0 asks for 64 times as many as there are.
+    pub fn steps(mut self, steps: usize) -> Folder<'a> {
+        self.steps = steps;
+        self
+    }
+
+    /// Judges each certificate that an accepted CA signed, as what it says that it is, with signatures
+    /// (RFC 7935) and by the lists among the octets. Errs with what is wrong of the locator or of the
+    /// trust anchor, or that none has the locator's key. Whether names chain isn't asked, and no folder
+    /// shows that a file was withheld: whoever reads manifests leaves out what they don't list.
+    pub fn judge(&self, now: Moment) -> Result<Judged, Fault> {
+        check_library();
+        let question = sys::FolderQuestion {
+            strings: self.octets,
+            locator: self.locator,
+            now: now.0,
+            depth: self.depth,
+            steps: self.steps,
+            strict: self.strict,
+        };
+        let of_anchor = |(number, anchor)| Fault::of_anchor(number, anchor);
+        let (walk, lines) = sys::judge_folder(&question).map_err(of_anchor)?;
+        Ok(Judged {
+            lines: lines.iter().map(Line::of).collect(),
+            anchor: walk.anchor as usize,
+            is_whole: walk.ended == sys::WHOLE,
+        })
+    }
+}
