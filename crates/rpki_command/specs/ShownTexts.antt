@@ -1,7 +1,7 @@
 -- What is shown of files.
 use Rattle.std.specs.Fmt.{decimal}
 use Rattle.std.specs.List.{concat, flat_map}
-use Rattle.std.specs.Prelude.{◌≡◌, ◌≢◌, ◌≤◌, ◌↔◌, ◌⊎◌, ℕ, Bool, IsTrue, IsFalse, ◌==◌, if◌then◌else◌, List, [], ◌∷◌, ◌++◌, length, map, codes, Option, Some, None}
+use Rattle.std.specs.Prelude.{◌≡◌, ◌≢◌, ◌↔◌, ◌⊎◌, ℕ, Bool, IsTrue, IsFalse, ◌==◌, if◌then◌else◌, List, [], ◌∷◌, ◌++◌, map, codes, Option, Some, None}
 use Rattle.hex.specs.Hex.{encode_lower}
 use Rattle.sha2.specs.Sha256.{sha256}
 use Rattle.rpki.specs.Certificates.{CertFields, TbsFields, IsCertificate}
@@ -34,6 +34,7 @@ use Rattle.rpki_notes.specs.Facts.{AreFacts, fact_view}
 use Rattle.rpki_notes.specs.Notes.{AreNotes}
 use Rattle.rpki_notes.specs.declared.fact.Fact.{Fact}
 use Rattle.rpki_notes.specs.declared.note.Note.{Note}
+use Rattle.rpki_files.specs.StopPlaces.{IsStopPlace}
 use Rattle.rpki_files.specs.declared.places.Place.{Place}
 use Rattle.rpki_files.specs.declared.rules.Rule.{Rule}
 use Rattle.rpki_files.specs.declared.sorts.Sort.{Sort}
@@ -179,7 +180,7 @@ pub record IsRejection (octets : List ℕ) (sort : Option Sort) (rule : Rule) (p
   pub is_list : Bool
   pub is_list_by : IsTrue is_list ↔ LooksLikeList octets
   pub rule_is : IsToldRule sort is_list fault octets (rule_of rule)
-  pub octet_within : place.octet ≤ length octets
+  pub place_is : IsStopPlace is_list octets place
 
 -- the text of a file that begins with neither, and doesn't look like a locator; how a fault is named,
 -- no definition says

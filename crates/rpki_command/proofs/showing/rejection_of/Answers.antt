@@ -1,7 +1,8 @@
 use Rattle.std.specs.Prelude.{IsTrue}
-use Rattle.std.proofs.Common.{◌↔◌, ◌≤◌, ℕ, List, length, subst}
+use Rattle.std.proofs.Common.{◌↔◌, ℕ, List, subst}
 use Rattle.rpki_files.specs.Contents.{LooksLikeList}
 use Rattle.rpki_files.specs.FaultRules.{rule_of}
+use Rattle.rpki_files.specs.StopPlaces.{IsStopPlace}
 use Rattle.rpki_command.specs.ShownTexts.{IsToldRule}
 use Rattle.rpki_command.proofs.showing.rejection_of.Goals as goal
 
@@ -20,5 +21,5 @@ returns c =
       is_list = is_list;
       is_list_by = subst (λ (o : List ℕ). IsTrue is_list ↔ LooksLikeList o) octets c.is_like_list-is_list.ensures;
       rule_is = subst (λ (o : List ℕ). IsToldRule sort is_list fault o (rule_of rule)) octets c.rule_of_file-rule.ensures;
-      octet_within = subst (λ (o : List ℕ). place.octet ≤ length o) octets c.in_ok-place.ensures;
+      place_is = subst (λ (o : List ℕ). IsStopPlace is_list o place) octets c.in_ok-place.ensures.stops;
     }
