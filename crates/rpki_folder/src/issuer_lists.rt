@@ -32,7 +32,10 @@ impl<'l> Model for IssuerLists<'l> {
 
     ghost Value = { IssuerFields };
 
-    ghost view = { λ kept. record { eligible = map (λ l. l.now) kept.eligible.items; otherwise = kept.otherwise } };
+    ghost view = { λ kept. record {
+      eligible = map (λ l. l.now) kept.eligible.items;
+      otherwise = kept.otherwise;
+    } };
 }
 
 // The list at a place.
@@ -98,7 +101,8 @@ fn goes_first(list: &Crl, kept: Option<&Crl>, cert: &Cert) -> bool
 
 // The latest of the lists that were seen and this one, where that of those is kept.
 fn later_of<'l>(kept: Option<&'l Crl>, list: &'l Crl, cert: &Cert) -> Option<&'l Crl>
-    ensures { (seen : List CrlState) → IsLatestIfAny (λ _. Unit {0}) cert.now seen (option_copied kept.entry)
+    ensures { (seen : List CrlState)
+        → IsLatestIfAny (λ _. Unit {0}) cert.now seen (option_copied kept.entry)
         → IsLatestIfAny (λ _. Unit {0}) cert.now (seen ++ list.now ∷ []) (option_copied result) }
 {
     if goes_first(list, kept, cert) {

@@ -7,9 +7,10 @@ use rpki_cert::Cert;
 use rpki_cert_tests::samples::{self, day, rsa};
 use rpki_crl::{Crl, RevocationError};
 use rpki_folder::{Added, AllAdmitted, Bounds, Ended, Folder, Found, Line, Lines, Walk, WalkError};
-use rpki_parts::StandIn;
+use rpki_parts::{PublicKey, RpkiSignatureAlgorithm, StandIn, Verifier};
 use rpki_path::{Member, PathFault};
 use std::alloc::Global;
+use std::cell::Cell;
 use std::process::Abort;
 
 // A list of the anchor's key that revokes nothing.
@@ -215,5 +216,89 @@ fn a_walk_begins_below_an_issuer(rt: HostRuntime) {
     drop(issuer);
     drop(lines);
     drop(tal);
+    drop(folder);
+}
+
+// Two certificates of one key stand side by side, and each is below both: two are told below the
+// anchor, and two below each of these. The second is told first below the first.
+#[test]
+fn renewals_that_lie_side_by_side_are_both_walked(rt: HostRuntime) {
+    let alloc = rt.alloc();
+    let mut folder = Folder::new(alloc);
+    add(&rt, &mut folder, authority(&rt, alloc));
+    add(&rt, &mut folder, authority(&rt, alloc));
+    add(&rt, &mut folder, list_octets(&rt, alloc));
+    let (ended, lines) = walked(&rt, alloc, &folder, 2, 5);
+    assert!(rt; ended == Ended::OutOfSteps);
+    drop(lines);
+    let (ended, lines) = walked(&rt, alloc, &folder, 2, 6);
+    assert!(rt; ended == Ended::TooDeep);
+    assert!(rt; line(&lines, 0) == (0, "accepted"));
+    assert!(rt; line(&lines, 1) == (1, "accepted"));
+    drop(lines);
+    drop(folder);
+}
+
+// Verifies as the stand-in does, and counts how often.
+#[derive(Drop)]
+struct Counting {
+    calls: Cell<usize>,
+}
+
+impl Verifier for Counting {
+    ghost use Rattle.rpki_parts.specs.Signatures.{IsStandInSignature};
+
+    ghost verifies = { λ _. IsStandInSignature };
+
+    fn verify(
+        &self,
+        key: &PublicKey,
+        algorithm: RpkiSignatureAlgorithm,
+        message: &[u8],
+        signature: &[u8],
+    ) -> bool {
+        self.calls.set(self.calls.get().wrapping_add(1));
+        StandIn.verify(key, algorithm, message, signature)
+    }
+}
+
+// How many signatures are verified in a walk through the folder.
+fn verified(rt: &impl Abort, alloc: Global, folder: &Folder) -> usize {
+    let mut lines = Lines::new(alloc, folder.certs().len()).expect(rt, "memory");
+    let tal = locator(rt, alloc, OF_ANCHOR);
+    let anchor = samples::anchor_octets(alloc).expect(rt, "memory");
+    let verifier = Counting {
+        calls: Cell::new(0),
+    };
+    let walk = Walk {
+        alloc,
+        folder,
+        admission: &AllAdmitted,
+        bounds: Bounds { depth: 3, steps: 9 },
+        strict: true,
+        at: day(2024).expect(rt, "a day"),
+        verifier: &verifier,
+    };
+    let ended = walk.from_anchor(&tal, &Member::of(&anchor), &mut lines);
+    assert!(rt; ended.expect(rt, "an anchor") == Ended::Whole);
+    drop(lines);
+    drop(tal);
+    verifier.calls.get()
+}
+
+// The anchor, and once there is something below it, its list and each certificate. A list that
+// names another key isn't verified.
+#[test]
+fn a_list_is_verified_once(rt: HostRuntime) {
+    let alloc = rt.alloc();
+    let mut folder = Folder::new(alloc);
+    add(&rt, &mut folder, list_octets(&rt, alloc));
+    let other = samples::shared(alloc, lists::TWO).expect(&rt, "digits");
+    assert!(rt; add(&rt, &mut folder, other) == Added::List);
+    assert_eq!(rt; verified(&rt, alloc, &folder), 1);
+    for children in 1..5 {
+        add(&rt, &mut folder, end_entity(&rt, alloc));
+        assert_eq!(rt; verified(&rt, alloc, &folder), 2 + children);
+    }
     drop(folder);
 }
