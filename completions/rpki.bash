@@ -5,9 +5,10 @@ _rpki() {
     case ${COMP_WORDS[1]} in
         show) options='--output --json --quiet --all --at --lenient --max-size --help' ;;
         validate) options='--output --json --quiet --tal --crl --no-names --at --lenient --max-size --help' ;;
+        tree) options='--quiet --tal --at --lenient --max-size --help' ;;
     esac
     if ((COMP_CWORD == 1)); then
-        mapfile -t COMPREPLY < <(compgen -W 'show validate help --version --help' -- "$word")
+        mapfile -t COMPREPLY < <(compgen -W 'show validate tree help --version --help' -- "$word")
         return
     fi
     [[ -n $options ]] || return

@@ -3,7 +3,7 @@ use Rattle.std.specs.Prelude.{codes, Option, Some, None, cond}
 use Rattle.std.specs.Str.{bytes_eq}
 use Rattle.std.proofs.Common.{◌≡◌, ℕ, inl, inr, List, [], ◌∷◌, sym, ap, ◌∙◌, subst}
 use Rattle.rpki_arguments.specs.declared.arguments.Task.{Task}
-use Rattle.rpki_arguments.specs.declared.arguments.Task.TheVariants.{Show, Validate, Help, Version}
+use Rattle.rpki_arguments.specs.declared.arguments.Task.TheVariants.{Show, Validate, Tree, Help, Version}
 use Rattle.rpki_arguments.specs.CommandLines.{IsTaskName, LinePart, AreParts, RequestFields, only_task, with_files, with_parts, words_before, words_behind, Suits, IsCommandLine}
 use Rattle.rpki_arguments.specs.CommandLines.Steps.{AddsParts}
 use Rattle.rpki_arguments.proofs.CommandParts.{one_list}
@@ -13,16 +13,18 @@ task_of : List ℕ → Option Task
 task_of word =
     cond (bytes_eq word (codes "show")) (Some Show)
     (cond (bytes_eq word (codes "validate")) (Some Validate)
+    (cond (bytes_eq word (codes "tree")) (Some Tree)
     (cond (bytes_eq word (codes "help")) (Some Help)
     (cond (bytes_eq word (codes "--help")) (Some Help)
     (cond (bytes_eq word (codes "-h")) (Some Help)
     (cond (bytes_eq word (codes "--version")) (Some Version)
-    (cond (bytes_eq word (codes "-V")) (Some Version) None))))))
+    (cond (bytes_eq word (codes "-V")) (Some Version) None)))))))
 
 names : (task : Task) (word : List ℕ) → IsTaskName task word → task_of word ≡ Some task
 unfolding task_of
 names Show word h = ap task_of h
 names Validate word h = ap task_of h
+names Tree word h = ap task_of h
 names Help word (inl h) = ap task_of h
 names Help word (inr (inl h)) = ap task_of h
 names Help word (inr (inr h)) = ap task_of h

@@ -11,7 +11,7 @@ use Rattle.rpki_arguments.specs.declared.arguments.Format.TheVariants.{Text, Jso
 use Rattle.rpki_arguments.specs.declared.arguments.Setting.{Setting}
 use Rattle.rpki_arguments.specs.declared.arguments.Setting.TheVariants.{Crl, Tal, At, MaxSize, Output, ShortOutput}
 use Rattle.rpki_arguments.specs.declared.arguments.Task.{Task}
-use Rattle.rpki_arguments.specs.declared.arguments.Task.TheVariants.{Show, Validate, Help, Version}
+use Rattle.rpki_arguments.specs.declared.arguments.Task.TheVariants.{Show, Validate, Tree, Help, Version}
 pub mod Views
 pub mod Steps
 
@@ -21,6 +21,7 @@ pub mod Steps
 abbrev pub IsTaskName : Task → List ℕ → Type 0
 IsTaskName Show word = word ≡ codes "show"
 IsTaskName Validate word = word ≡ codes "validate"
+IsTaskName Tree word = word ≡ codes "tree"
 IsTaskName Help word = (word ≡ codes "help") ⊎ ((word ≡ codes "--help") ⊎ (word ≡ codes "-h"))
 IsTaskName Version word = (word ≡ codes "--version") ⊎ (word ≡ codes "-V")
 
@@ -163,10 +164,16 @@ with_parts r parts = fold with_part r parts
 abbrev pub AsksNoPath : RequestFields → Type 0
 AsksNoPath r = (r.lists ≡ []) × (r.locators ≡ []) × (r.names ≡ true)
 
--- what the task wants: files, and no option that only the other task takes
+-- what a tree wants: locators, and no option that it doesn't take
+abbrev pub AsksTree : RequestFields → Type 0
+AsksTree r =
+    (r.lists ≡ []) × (r.names ≡ true) × (r.all_entries ≡ false) × (r.format ≡ Text) × (r.locators ≢ [])
+
+-- what the task wants: files, and no option that only another task takes
 abbrev pub Suits : Task → RequestFields → Type 0
 Suits Show r = (r.files ≢ []) × AsksNoPath r
 Suits Validate r = (r.files ≢ []) × (r.all_entries ≡ false)
+Suits Tree r = (r.files ≢ []) × AsksTree r
 Suits _ r = Unit {0}
 
 -- the words are a command line that asks this: the name of a task, then parts, and perhaps `--` and

@@ -3,7 +3,7 @@ ghost use Rattle.std.specs.Prelude.{◌≡◌, ◌≢◌, ◌↔◌, ℕ, List, 
 ghost use Rattle.std.specs.Bool.{OnTrue, OnFalse};
 ghost use Rattle.std.specs.Fmt.{WritesOnOk};
 ghost use Rattle.rpki_text.specs.Pages.{characters_text};
-ghost use Rattle.rpki_arguments.specs.CommandLines.{IsFormatName, IsTaskName, IsOption, IsNumberText, LinePart, AreParts, RequestFields, only_task, setting_name, with_files, words_before, words_behind, AsksNoPath, Suits, IsCommandLine};
+ghost use Rattle.rpki_arguments.specs.CommandLines.{IsFormatName, IsTaskName, IsOption, IsNumberText, LinePart, AreParts, RequestFields, only_task, setting_name, with_files, words_before, words_behind, AsksNoPath, AsksTree, Suits, IsCommandLine};
 ghost use Rattle.rpki_arguments.specs.CommandLines.Views.{word_octets, fields_of};
 ghost use Rattle.rpki_arguments.specs.MisuseTexts.{misuse_text};
 ghost use Rattle.rpki_arguments.specs.CommandLines.Steps.{AddsPart, AddsParts, AddsSet, BeginsNoPart, IsSetPart, IsSwitch, Joins, IsOptionName};
@@ -16,11 +16,12 @@ use std::fmt;
 /// The most octets that a file may have, where the command line doesn't say it: 64 MiB.
 const USUAL_SIZE: u64 = 67_108_864;
 
-/// The two commands, and the two texts about them.
+/// The three commands, and the two texts about them.
 #[derive(Clone, Copy, PartialEq, Eq)]
 pub enum Task {
     Show,
     Validate,
+    Tree,
     Help,
     Version,
 }
@@ -73,6 +74,8 @@ pub enum Misuse<'a> {
     NoSize(&'a [u8]),
     NoFormat(&'a [u8]),
     NoFile,
+    /// No locator is given where one is wanted.
+    NoLocator,
     Memory,
 }
 
@@ -122,6 +125,7 @@ impl fmt::Display for Misuse<'_> {
             Misuse::NoSize(text) => write_word(f, "--max-size ", *text, ": no number of octets"),
             Misuse::NoFormat(text) => write_word(f, "-o ", *text, ": no format"),
             Misuse::NoFile => f.write_str("no file"),
+            Misuse::NoLocator => f.write_str("tree wants --tal"),
             Misuse::Memory => f.write_str("out of memory"),
         }
     }
@@ -142,6 +146,8 @@ fn task_of(word: &[u8]) -> Option<Task>
         Some(Task::Show)
     } else if is(word, "validate") {
         Some(Task::Validate)
+    } else if is(word, "tree") {
+        Some(Task::Tree)
     } else if is(word, "help") || is(word, "--help") || is(word, "-h") {
         Some(Task::Help)
     } else if is(word, "--version") || is(word, "-V") {
@@ -445,6 +451,29 @@ fn only_validating(request: &Request<'_>) -> Option<&'static [u8]>
     None
 }
 
+// What doesn't suit a tree: an option that it doesn't take, or that there is no locator.
+fn misuse_of_tree(request: &Request<'_>) -> Option<Misuse<'static>>
+    ensures { MatchOption result (AsksTree (fields_of request.now))
+        (λ _. AsksTree (fields_of request.now) → ⊥) }
+{
+    if !request.lists.is_empty() {
+        return Some(Misuse::Unknown(b"--crl".as_slice()));
+    }
+    if !request.names {
+        return Some(Misuse::Unknown(b"--no-names".as_slice()));
+    }
+    if request.all {
+        return Some(Misuse::Unknown(b"--all".as_slice()));
+    }
+    if request.format != Format::Text {
+        return Some(Misuse::Unknown(b"--json".as_slice()));
+    }
+    if request.locators.is_empty() {
+        return Some(Misuse::NoLocator);
+    }
+    None
+}
+
 // What doesn't suit the task: an option that it doesn't take, or that there is no file.
 fn misuse_of(request: &Request<'_>) -> Option<Misuse<'static>>
     ensures suits { IfNone result (Suits request.now.task (fields_of request.now)) }
@@ -456,11 +485,16 @@ fn misuse_of(request: &Request<'_>) -> Option<Misuse<'static>>
             return Some(Misuse::Unknown(option));
         }
     }
+    if request.task == Task::Tree {
+        if let Some(misuse) = misuse_of_tree(request) {
+            return Some(misuse);
+        }
+    }
     if request.task == Task::Validate && request.all {
         return Some(Misuse::Unknown(b"--all".as_slice()));
     }
-    let wants_files = request.task == Task::Show || request.task == Task::Validate;
-    if wants_files && request.files.is_empty() {
+    let wants_none = request.task == Task::Help || request.task == Task::Version;
+    if !wants_none && request.files.is_empty() {
         return Some(Misuse::NoFile);
     }
     None

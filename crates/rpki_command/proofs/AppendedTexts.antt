@@ -9,7 +9,7 @@ use Rattle.rpki_command.specs.VerdictTexts.{SaysOfEach}
 
 -- ---- one text
 
-nothing_more : (old : Option (List ℕ)) → old ≡ option_map (λ so_far. so_far ++ []) old
+pub nothing_more : (old : Option (List ℕ)) → old ≡ option_map (λ so_far. so_far ++ []) old
 nothing_more None = refl
 nothing_more (Some so_far) = ap (λ (l : List ℕ). Some l) (sym (append-nil so_far))
 

@@ -13,7 +13,7 @@ use Rattle.rpki_command.specs.Outcomes.{AsksOfFiles, IsOutcomeOf, demands_by, ru
 use Rattle.rpki_command.specs.ReadFiles.{Reads}
 use Rattle.rpki_command.specs.Runs.{IsAnswer, IsMomentBy, RunEnds, TaskEnds}
 use Rattle.rpki_arguments.specs.declared.arguments.Task.{Task}
-use Rattle.rpki_arguments.specs.declared.arguments.Task.TheVariants.{Show, Validate, Help, Version}
+use Rattle.rpki_arguments.specs.declared.arguments.Task.TheVariants.{Show, Validate, Tree, Help, Version}
 use Rattle.rpki_command.specs.declared.outcomes.Ended.{Ended}
 use Rattle.rpki_command.specs.declared.outcomes.Outcome.{Outcome}
 use Rattle.rpki_command.specs.declared.outcomes.Outcome.TheVariants.{Success, Rejection, WrongUse, Unread}
@@ -22,6 +22,7 @@ use Rattle.rpki_command.specs.declared.outcomes.Outcome.TheVariants.{Success, Re
 no_misuse : (task : Task) (x : Context) (d : Demands) (files lists : List (List ℕ)) → IsOutcomeOf task x d files lists WrongUse → ⊥
 no_misuse Show x d files lists h = h
 no_misuse Validate x d files lists h = h
+no_misuse Tree x d files lists h = h
 no_misuse Help x d files lists h = cc
 no_misuse Version x d files lists h = cc
 
@@ -29,7 +30,8 @@ module _ (reads : Reads) (tells : Moment → Type 0) (words : List (List ℕ)) (
   -- a text about the command
   about_ends : (task : Task) → (AsksOfFiles task → ⊥) → TaskEnds task reads tells r Success (about_text task)
   about_ends Show none = absurd (none (inl refl))
-  about_ends Validate none = absurd (none (inr refl))
+  about_ends Validate none = absurd (none (inr (inl refl)))
+  about_ends Tree none = absurd (none (inr (inr refl)))
   about_ends Help none = (refl, refl)
   about_ends Version none = (refl, refl)
 
@@ -40,10 +42,13 @@ module _ (reads : Reads) (tells : Moment → Type 0) (words : List (List ℕ)) (
   answer_ends : (task : Task) → AsksOfFiles task → (now : Moment) (outcome : Outcome) (text : List ℕ) → IsMomentBy tells r.at now → IsAnswer reads r now outcome text → TaskEnds task reads tells r outcome text
   answer_ends Show asks now outcome text moment answer = (now, moment, answer)
   answer_ends Validate asks now outcome text moment answer = (now, moment, answer)
+  answer_ends Tree asks now outcome text moment answer = (now, moment, answer)
   answer_ends Help (inl e) now outcome text moment answer = cc
-  answer_ends Help (inr e) now outcome text moment answer = cc
+  answer_ends Help (inr (inl e)) now outcome text moment answer = cc
+  answer_ends Help (inr (inr e)) now outcome text moment answer = cc
   answer_ends Version (inl e) now outcome text moment answer = cc
-  answer_ends Version (inr e) now outcome text moment answer = cc
+  answer_ends Version (inr (inl e)) now outcome text moment answer = cc
+  answer_ends Version (inr (inr e)) now outcome text moment answer = cc
 
   module _ (asks : AsksOfFiles r.task) (now : Moment) (moment : IsMomentBy tells r.at now) where
     -- is no wrong use

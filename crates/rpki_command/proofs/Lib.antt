@@ -3,6 +3,7 @@ mod AppendedTexts
 mod EndedRuns
 mod FlaggedItems
 mod PartsOfEach
+mod PrintedFiles
 mod PushedItems
 mod PushedValues
 mod PutMembers

@@ -4,7 +4,7 @@ use Rattle.rpki.specs.GivenPaths.{PathStrings}
 use Rattle.rpki.specs.Judged.{Judged}
 use Rattle.rpki.specs.Verification.{Context}
 use Rattle.rpki_arguments.specs.declared.arguments.Task.{Task}
-use Rattle.rpki_arguments.specs.declared.arguments.Task.TheVariants.{Show, Validate, Help, Version}
+use Rattle.rpki_arguments.specs.declared.arguments.Task.TheVariants.{Show, Validate, Tree, Help, Version}
 use Rattle.rpki_command.specs.declared.outcomes.Outcome.{Outcome}
 use Rattle.rpki_command.specs.declared.outcomes.Outcome.TheVariants.{Success, Rejection, WrongUse, Unread}
 use Rattle.rpki_verdicts.specs.declared.path.Verdict.{Verdict}
@@ -49,8 +49,9 @@ module _ (x : Context) (d : Demands) (files lists : List (List ℕ)) (never_both
   one_shown o WrongUse a b = absurd b
   one_shown o Unread a b = absurd b
 
-  pub one_outcome : (task : Task) (o p : Outcome) → IsOutcomeOf task x d files lists o → IsOutcomeOf task x d files lists p → o ≡ p
-  one_outcome Show o p a b = one_shown o p a b
-  one_outcome Validate o p a b = one_validated o p a b
-  one_outcome Help o p a b = a ∙ sym b
-  one_outcome Version o p a b = a ∙ sym b
+  pub one_outcome : (task : Task) → (task ≡ Tree → ⊥) → (o p : Outcome) → IsOutcomeOf task x d files lists o → IsOutcomeOf task x d files lists p → o ≡ p
+  one_outcome Show not o p a b = one_shown o p a b
+  one_outcome Validate not o p a b = one_validated o p a b
+  one_outcome Tree not o p a b = absurd (not refl)
+  one_outcome Help not o p a b = a ∙ sym b
+  one_outcome Version not o p a b = a ∙ sym b

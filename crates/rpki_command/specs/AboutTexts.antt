@@ -2,7 +2,7 @@
 use Rattle.std.specs.List.{concat}
 use Rattle.std.specs.Prelude.{ℕ, List, [], ◌∷◌, codes}
 use Rattle.rpki_arguments.specs.declared.arguments.Task.{Task}
-use Rattle.rpki_arguments.specs.declared.arguments.Task.TheVariants.{Show, Validate, Help, Version}
+use Rattle.rpki_arguments.specs.declared.arguments.Task.TheVariants.{Show, Validate, Tree, Help, Version}
 
 -- how it is used
 abbrev pub usage_text : List ℕ
@@ -10,6 +10,7 @@ usage_text = concat (
     codes "usage: rpki show [--all] [OPTION].. FILE..\n"
     ∷ codes "       rpki validate [--tal FILE].. [--crl FILE].. [--no-names] [OPTION].."
     ∷ codes " ANCHOR [CA].. [LAST]\n"
+    ∷ codes "       rpki tree --tal FILE.. [OPTION].. FILE..\n"
     ∷ codes "       rpki help | --version\n"
     ∷ codes "OPTION: -o|--output FORMAT, -j|--json (-o json), -q|--quiet (the status alone),"
     ∷ codes " --at MOMENT,\n"
@@ -32,5 +33,6 @@ version_text = codes "rpki (Gonxebhula) 0.1\n"
 abbrev pub about_text : Task → List ℕ
 about_text Show = []
 about_text Validate = []
+about_text Tree = []
 about_text Help = usage_text
 about_text Version = version_text

@@ -1,5 +1,5 @@
 -- What is answered of the files that a request names.
-use Rattle.std.specs.Prelude.{◌≡◌, ℕ, List, []}
+use Rattle.std.specs.Prelude.{◌≡◌, ◌*◌, ◌^◌, ◌-◌, min, ℕ, length, List, []}
 use Rattle.rpki.specs.RsaSignatures.{IsSignedByRsa}
 use Rattle.rpki.specs.Times.{Moment}
 use Rattle.rpki.specs.Verification.{context}
@@ -7,14 +7,17 @@ use Rattle.rpki_arguments.specs.CommandLines.{RequestFields}
 use Rattle.rpki_files.specs.Files.{FileFields}
 use Rattle.rpki_verdicts.specs.GivenLocators.{LocatorFields}
 use Rattle.rpki_verdicts.specs.PathFiles.{QuestionFields}
+use Rattle.rpki_verdicts.specs.Trees.{TreeFields, IsAccepting, IsTreeAnswer}
+use Rattle.rpki_verdicts.specs.declared.unordered.TreeAnswer.{TreeAnswer}
 use Rattle.rpki_command.specs.JsonAnswers.{IsJsonOfFiles, is_single}
 use Rattle.rpki_command.specs.JsonVerdicts.{IsJsonOfPath}
 use Rattle.rpki_command.specs.ShownTexts.{IsTextOfFiles}
+use Rattle.rpki_command.specs.TreeTexts.{IsAnswerText}
 use Rattle.rpki_command.specs.VerdictTexts.{IsTextOfPath}
 use Rattle.rpki_arguments.specs.declared.arguments.Task.{Task}
-use Rattle.rpki_arguments.specs.declared.arguments.Task.TheVariants.{Show, Validate}
+use Rattle.rpki_arguments.specs.declared.arguments.Task.TheVariants.{Show, Validate, Tree}
 use Rattle.rpki_command.specs.declared.outcomes.Outcome.{Outcome}
-use Rattle.rpki_command.specs.declared.outcomes.Outcome.TheVariants.{Unread}
+use Rattle.rpki_command.specs.declared.outcomes.Outcome.TheVariants.{Success, Unread}
 use Rattle.rpki_command.specs.declared.showing.Options.{Options}
 
 -- how a request has files shown at a moment
@@ -28,6 +31,19 @@ abbrev pub question_of : RequestFields → Moment → List FileFields → List F
 question_of r now members lists locators =
     record { members = members; lists = lists; locators = locators; names = r.names; strict = r.strict; at = now }
 
+-- and what it asks of files in no order: paths of at most 32 certificates below the trust anchor, and
+-- at most 64 verifications for each file
+abbrev pub tree_question_of : RequestFields → Moment → List FileFields → List LocatorFields → TreeFields
+tree_question_of r now files locators =
+    record { files = files; locators = locators; strict = r.strict; at = now; depth = 32; steps = min (length files * 64) (2 ^ 64 - 1) }
+
+-- what is said of files in no order is that of an answer, and the run ends so: as success only where
+-- that accepts
+abbrev pub IsTreeBy : TreeFields → Outcome → List ℕ → Type 0
+IsTreeBy q outcome text =
+    (answer : TreeAnswer) × IsTreeAnswer (context IsSignedByRsa q.at q.strict) q answer
+    × IsAnswerText q answer text × (outcome ≡ Success → IsAccepting answer)
+
 -- the text for a person of a run with this task that ends so, of which these files, lists and locators
 -- could be read: `show` shows them, and `validate` judges nothing where another couldn't be read
 abbrev pub IsTextBy : Task → Outcome → RequestFields → Moment → List FileFields → List FileFields
@@ -36,9 +52,11 @@ IsTextBy Show outcome r now files lists locators text = IsTextOfFiles (options_o
 IsTextBy Validate Unread r now files lists locators text = text ≡ []
 IsTextBy Validate outcome r now files lists locators text =
     IsTextOfPath (context IsSignedByRsa now r.strict) (question_of r now files lists locators) text
+IsTextBy Tree outcome r now files lists locators text =
+    IsTreeBy (tree_question_of r now files locators) outcome text
 IsTextBy _ outcome r now files lists locators text = ⊥
 
--- its JSON, in the format that is asked
+-- its JSON, in the format that is asked; a tree has none, and stays lines
 abbrev pub IsJsonBy : Task → Outcome → RequestFields → Moment → List FileFields → List FileFields
     → List LocatorFields → List ℕ → Type 0
 IsJsonBy Show outcome r now files lists locators text =
@@ -46,4 +64,6 @@ IsJsonBy Show outcome r now files lists locators text =
 IsJsonBy Validate Unread r now files lists locators text = text ≡ []
 IsJsonBy Validate outcome r now files lists locators text =
     IsJsonOfPath r.format (context IsSignedByRsa now r.strict) (question_of r now files lists locators) text
+IsJsonBy Tree outcome r now files lists locators text =
+    IsTreeBy (tree_question_of r now files locators) outcome text
 IsJsonBy _ outcome r now files lists locators text = ⊥

@@ -4,6 +4,7 @@ pub mod Outcomes
 pub mod ReadFiles
 pub mod RejectionDetails
 pub mod VerdictTexts
+pub mod TreeTexts
 pub mod NoteLines
 pub mod FactTexts
 pub mod ShownTexts

@@ -5,7 +5,7 @@ use Rattle.rpki.specs.Times.{Moment}
 use Rattle.rpki.specs.Judged.{Judged}
 use Rattle.rpki.specs.Verification.{Context, context}
 use Rattle.rpki_arguments.specs.declared.arguments.Task.{Task}
-use Rattle.rpki_arguments.specs.declared.arguments.Task.TheVariants.{Show, Validate}
+use Rattle.rpki_arguments.specs.declared.arguments.Task.TheVariants.{Show, Validate, Tree}
 use Rattle.rpki_command.specs.declared.outcomes.Outcome.{Outcome}
 use Rattle.rpki_command.specs.declared.outcomes.Outcome.TheVariants.{Success, Rejection, WrongUse, Unread}
 use Rattle.rpki_verdicts.specs.declared.path.Verdict.TheVariants.{Accepted, Rejected}
@@ -51,14 +51,21 @@ IsOutcomeOfValidate x d files lists Rejection =
     (files ≡ []) ⊎ (((fault : Fault) × IsVerdictBy x d files lists (Rejected fault)) ⊎ (AreAsGiven x d lists → ⊥))
 IsOutcomeOfValidate x d files lists _ = ⊥
 
+-- of a tree one of two; which of them, its answer says
+abbrev pub IsOutcomeOfTree : Outcome → Type 0
+IsOutcomeOfTree Success = Unit {0}
+IsOutcomeOfTree Rejection = Unit {0}
+IsOutcomeOfTree _ = ⊥
+
 -- something is asked of files
 abbrev pub AsksOfFiles : Task → Type 0
-AsksOfFiles task = (task ≡ Show) ⊎ (task ≡ Validate)
+AsksOfFiles task = (task ≡ Show) ⊎ ((task ≡ Validate) ⊎ (task ≡ Tree))
 
 -- of what is asked; always success where that is a text about the command, and nothing of files
 abbrev pub IsOutcomeOf : Task → Context → Demands → List (List ℕ) → List (List ℕ) → Outcome → Type 0
 IsOutcomeOf Show x d files lists outcome = IsOutcomeOfShow x.strict files outcome
 IsOutcomeOf Validate x d files lists outcome = IsOutcomeOfValidate x d files lists outcome
+IsOutcomeOf Tree x d files lists outcome = IsOutcomeOfTree outcome
 IsOutcomeOf _ x d files lists outcome = outcome ≡ Success
 
 -- ---- what is asked of files

@@ -7,6 +7,7 @@ use rpki_arguments::Task;
 
 const USAGE: &str = "usage: rpki show [--all] [OPTION].. FILE..
        rpki validate [--tal FILE].. [--crl FILE].. [--no-names] [OPTION].. ANCHOR [CA].. [LAST]
+       rpki tree --tal FILE.. [OPTION].. FILE..
        rpki help | --version
 OPTION: -o|--output FORMAT, -j|--json (-o json), -q|--quiet (the status alone), --at MOMENT,
 --lenient, or --max-size OCTETS (of a file; 67108864 if it is left out)
@@ -35,6 +36,6 @@ pub fn text_about(task: Task) -> Option<&'static str>
     match task {
         Task::Help => Some(USAGE),
         Task::Version => Some(VERSION),
-        Task::Show | Task::Validate => None,
+        Task::Show | Task::Validate | Task::Tree => None,
     }
 }

@@ -1,10 +1,10 @@
 //! What is answered of files.
 ghost use Rattle.std.specs.Prelude.{◌≡◌, ◌≢◌, ◌↔◌, [], map, IfOk, IsFalse, IsTrue, string_bytes};
 ghost use Rattle.std.specs.Bool.{MatchBool};
-ghost use Rattle.rpki_command.specs.AnswerTexts.{IsJsonBy, IsTextBy, options_of};
+ghost use Rattle.rpki_command.specs.AnswerTexts.{IsJsonBy, IsTextBy, IsTreeBy, options_of, tree_question_of};
 ghost use Rattle.rpki_arguments.specs.CommandLines.Views.{fields_of};
 ghost use Rattle.rpki_command.specs.JsonAnswers.{IsJsonOfFiles, is_single};
-ghost use Rattle.rpki_command.specs.Outcomes.{AreAllRead, AsksOfFiles, EndsBy, IsOutcomeOfShow};
+ghost use Rattle.rpki_command.specs.Outcomes.{IsOutcomeOfTree, AreAllRead, AsksOfFiles, EndsBy, IsOutcomeOfShow};
 ghost use Rattle.rpki_command.specs.ReadFiles.{AreGiven, AreNamed};
 ghost use Rattle.rpki_command.specs.ShownTexts.{IsTextOfFiles};
 ghost use Rattle.rpki_files.specs.Files.{contents, file_names};
@@ -13,11 +13,12 @@ ghost use Rattle.rpki_verdicts.specs.GivenLocators.{locator_files};
 use crate::as_json;
 use crate::outcomes::{Answer, Outcome};
 use crate::showing::{Options, shown};
+use crate::trees::treed;
 use crate::verdicts::validated;
 use rpki::repository::x509::Time;
 use rpki_arguments::{Format, Request, Task};
 use rpki_files::Object;
-use rpki_verdicts::{GivenLocator, Question};
+use rpki_verdicts::{GivenLocator, Question, TreeQuestion};
 use std::alloc::{AllocError, Global};
 
 // Whether all files of these names could be read, of which these could be.
@@ -118,6 +119,55 @@ fn show(
     })
 }
 
+// The outcome of an answer, where all files could be read.
+fn if_read(answer: Answer, are_all_read: bool) -> Answer
+    ensures outcome { MatchBool are_all_read (result.outcome ≡ answer.outcome)
+        (result.outcome ≡ Outcome.Unread) }
+    ensures text { result.text ≡ answer.text }
+{
+    if are_all_read {
+        return answer;
+    }
+    let Answer { text, outcome: _ } = answer;
+    Answer {
+        text,
+        outcome: Outcome::Unread,
+    }
+}
+
+// How many certificates a path has at most below a trust anchor.
+const DEPTH: usize = 32;
+
+// How many certificates are verified at most for each file that is named.
+const STEPS: usize = 64;
+
+// Judges all certificates among the files that could be read. The outcome is theirs, where all could
+// be.
+fn tree(
+    alloc: Global,
+    request: &Request<'_>,
+    now: Time,
+    files: &[Object<'_>],
+    locators: &[GivenLocator<'_>],
+    are_all_read: bool,
+) -> Result<Answer, AllocError>
+    ensures { let q = tree_question_of (fields_of request.now) now files.now locators.now in
+        IfOk result (λ answer. IsTreeBy q answer.outcome (string_bytes answer.text)
+        × MatchBool are_all_read (IsOutcomeOfTree answer.outcome)
+        (answer.outcome ≡ Outcome.Unread)) }
+{
+    let question = TreeQuestion {
+        files,
+        locators,
+        strict: request.strict,
+        at: now,
+        depth: DEPTH,
+        steps: files.len().saturating_mul(STEPS),
+    };
+    let answer = treed(alloc, &question)?;
+    Ok(if_read(answer, are_all_read))
+}
+
 // Of a path of which a file can't be read nothing is judged.
 fn unjudged(alloc: Global) -> Answer
     ensures outcome { result.outcome ≡ Outcome.Unread }
@@ -167,6 +217,7 @@ fn whole_answer(
             };
             validated(alloc, &question, request.format)
         }
+        Task::Tree => tree(alloc, request, now, files, locators, are_all_read),
         Task::Help | Task::Version => unreachable!(),
     }
 }

@@ -1,5 +1,6 @@
-//! The command for people, `rpki show` and `rpki validate`: shows certificates, revocation lists and
-//! locators of files, and validates paths of files.
+//! The command for people, `rpki show`, `rpki validate` and `rpki tree`: shows certificates,
+//! revocation lists and locators of files, validates paths of files, and judges all certificates
+//! among files.
 #![tactic(auto)]
 
 ghost use Rattle.std.specs.Prelude.{◌≡◌, ◌≢◌, ◌↔◌, ◌⊎◌, ◌≤◌, IfOk, IsErr, IsErrAnd, IsOkAnd};
@@ -21,6 +22,8 @@ mod outcomes;
 mod reading;
 mod running;
 mod showing;
+mod tree_lines;
+mod trees;
 mod verdict_lines;
 mod verdicts;
 mod words;

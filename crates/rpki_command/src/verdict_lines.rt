@@ -494,7 +494,8 @@ fn print_finding(page: &mut Page, question: &Question<'_, '_>, finding: &Finding
     }
 }
 
-fn print_moment(page: &mut Page, at: Time)
+/// Prints the moment at which is judged.
+pub fn print_moment(page: &mut Page, at: Time)
     ensures { Appends page.old (moment_line at) page.new }
 {
     page.line_of("Moment", &at);

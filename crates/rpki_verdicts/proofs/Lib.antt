@@ -1,4 +1,5 @@
 -- Lemmas of the proofs about verdicts.
+mod FiledFiles
 mod FirstItems
 mod FoundLocators
 mod GivenKinds
@@ -6,4 +7,5 @@ pub mod MappedItems
 pub mod OneVerdict
 mod ReadLists
 mod ReadLocators
+mod TreeAnchors
 mod UnrevokedFiles

@@ -1,5 +1,5 @@
 -- Files that are given as locators, and whether a trust anchor is one's (RFC 8630 3).
-use Rattle.std.specs.Prelude.{◌≡◌, ◌<◌, ℕ, Bool, Any, IsOkAnd, List, [], ◌∷◌, map, slice_get, Option, Some, None, Result}
+use Rattle.std.specs.Prelude.{◌≡◌, ◌<◌, ℕ, Bool, Any, IsOkAnd, List, [], ◌∷◌, map, slice_get, Option, Some, None, Result, Ok}
 use Rattle.rpki.specs.Keys.{KeyFields}
 use Rattle.rpki.specs.LocatedPaths.{IsLocatorOf}
 use Rattle.rpki.specs.Locators.{NamedTal}
@@ -29,6 +29,10 @@ IsRead strict l = IsReadAs strict l.file.octets l.read
 -- the file was read as a locator of this key
 abbrev pub HasKeyRead : KeyFields → LocatorFields → Type 0
 HasKeyRead key l = IsOkAnd l.read (λ t. key ≡ t.tal.key)
+
+-- this was read of one of them, which is a locator of the key
+abbrev pub HasTalRead : List LocatorFields → KeyFields → NamedTal → Type 0
+HasTalRead locators key t = Any (λ l. l.read ≡ Ok t) locators × (key ≡ t.tal.key)
 
 -- ---- the trust anchor
 

@@ -3,3 +3,4 @@ pub mod GivenLocators
 pub mod PathFiles
 pub mod PathAnswers
 pub mod UnrevokedMembers
+pub mod Trees

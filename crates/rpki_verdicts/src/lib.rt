@@ -1,11 +1,13 @@
 //! The verdict on a path of files, from a trust anchor down, with real signatures and, where lists
-//! are given, with revocation.
+//! are given, with revocation; and those on all certificates among files in no order.
 #![tactic(auto)]
 
 mod locators;
 mod path;
+mod unordered;
 
 pub use locators::GivenLocator;
 pub use path::{
     Fault, Question, Verdict, accepted_are_unrevoked, first_no_locator, judge, located, one_answer,
 };
+pub use unordered::{Tree, TreeAnswer, TreeQuestion, judge_all};

@@ -1,6 +1,6 @@
 //! Files that are given as locators of the trust anchor.
-ghost use Rattle.std.specs.Prelude.{◌≡◌, ◌↔◌, Ok, Err, IfOk, IfErr, IsOkAnd, IsTrue};
-ghost use Rattle.rpki_verdicts.specs.GivenLocators.{HasKeyRead, IsFirst, IsRead};
+ghost use Rattle.std.specs.Prelude.{◌≡◌, ◌↔◌, Any, Ok, Err, IfOk, IfErr, IfNone, IfSome, IsOkAnd, IsTrue};
+ghost use Rattle.rpki_verdicts.specs.GivenLocators.{HasKeyRead, HasTalRead, IsFirst, IsRead};
 
 use rpki::crypto::PublicKey;
 use rpki::repository::tal::{Tal, TalError};
@@ -58,6 +58,22 @@ impl<'n> GivenLocator<'n> {
         self.read.as_ref()
     }
 
+    // What was read of it, where it is a locator of this key.
+    fn tal_with(&self, key: &PublicKey) -> Option<&Tal>
+        ensures found { IfSome result (λ t. (self.now.read ≡ Ok t.now) × (key.now ≡ t.now.tal.key)) }
+        ensures none { IfNone result (HasKeyRead key.now self.now → ⊥) }
+    {
+        match &self.read {
+            Ok(tal) => {
+                if tal.has_key(key) {
+                    return Some(tal);
+                }
+                None
+            }
+            Err(_) => None,
+        }
+    }
+
     // Whether it was read as a locator of this key.
     fn has_key(&self, key: &PublicKey) -> bool
         ensures { IsTrue result ↔ HasKeyRead key.now self.now }
@@ -67,6 +83,19 @@ impl<'n> GivenLocator<'n> {
             Err(_) => false,
         }
     }
+}
+
+/// Returns what was read of the first locator of this key.
+pub fn tal_of_key<'q>(locators: &'q [GivenLocator<'_>], key: &PublicKey) -> Option<&'q Tal>
+    ensures found { IfSome result (λ t. HasTalRead locators.now key.now t.now) }
+    ensures none { IfNone result (Any (HasKeyRead key.now) locators.now → ⊥) }
+{
+    for (place, locator) in locators.iter().enumerate() {
+        if let Some(tal) = locator.tal_with(key) {
+            return Some(tal);
+        }
+    }
+    None
 }
 
 /// Finds the first locator of this key.

@@ -129,7 +129,7 @@ fn members_of<'f>(alloc: Global, files: &'f [Object<'_>]) -> Result<Vec<Member<'
 }
 
 // A copy of the list with a table of its serials, so that none is looked for twice along the list.
-fn with_table(alloc: Global, list: &Crl) -> Result<Crl, AllocError>
+pub(crate) fn with_table(alloc: Global, list: &Crl) -> Result<Crl, AllocError>
     ensures same { IfOk result (λ kept. kept.list ≡ list.now.list) }
     ensures cached { IfOk result (λ kept. kept.is_cached ≡ true) }
 {
@@ -294,7 +294,7 @@ pub fn first_no_locator(question: &Question<'_, '_>) -> Option<Fault>
 }
 
 // That the trust anchor's key is that of no locator.
-fn other_key() -> Fault
+pub(crate) fn other_key() -> Fault
     ensures place { result.index ≡ 0 }
     ensures reason { reason_of result ≡ locator_reason }
 {

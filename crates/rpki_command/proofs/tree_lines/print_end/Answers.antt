@@ -1,0 +1,13 @@
+use Rattle.rpki_command.specs.TreeTexts.{end_text}
+use Rattle.rpki_command.proofs.AppendedTexts.{then_appended, last_appended}
+use Rattle.rpki_command.proofs.tree_lines.print_end.Goals as goal
+
+pub returns : goal.returns
+unfolding end_text
+returns c =
+    then_appended _ _ _ _ _ c.print_moment.ensures
+    (then_appended _ _ _ _ _ (rw c.as_slice.ensures at c.print_count.ensures)
+    (then_appended _ _ _ _ _ (rw c.count_accepted.ensures at c.print_count-2.ensures)
+    (then_appended _ _ _ _ _ (rw c.ended_said.ensures at c.line.ensures)
+    (then_appended _ _ _ _ _ c.line-2.ensures
+    (last_appended _ _ _ c.line-3.ensures)))))

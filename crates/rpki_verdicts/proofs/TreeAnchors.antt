@@ -1,0 +1,57 @@
+-- The locator of a file's certificate.
+use Rattle.std.specs.Option.{option_map}
+use Rattle.std.specs.Prelude.{Any, IfNone, IfSome, IsOkAnd, Option, Some, None, Result, slice_get}
+use Rattle.std.proofs.Common.{◌≡◌, ◌+◌, ◌≤◌, ℕ, List, length, map, sym, ap, subst, ◌∙◌, arith, below_more}
+use Rattle.std.proofs.lemmas.Option.{slice_get-map}
+use Rattle.rpki.specs.Certificates.{CertFields, IsCertificate}
+use Rattle.rpki.specs.Encoding.{Means}
+use Rattle.rpki.specs.Keys.{KeyFields}
+use Rattle.rpki.specs.Locators.{NamedTal}
+use Rattle.rpki.specs.TalError.{TalError}
+use Rattle.rpki.specs.Values.{IsUnambiguous}
+use Rattle.rpki_der.proofs.Formats.{one_meant}
+use Rattle.rpki_files.specs.Files.{FileFields}
+use Rattle.rpki_verdicts.specs.GivenLocators.{LocatorFields, HasKeyRead, HasTalRead}
+use Rattle.rpki_verdicts.specs.Trees.{HasLocator, HasNoneBelow, IsAnchorOf}
+
+module _ (locators : List LocatorFields) (file : FileFields) (cert : CertFields) (begins : Means IsCertificate cert file.octets) (key : KeyFields) (key_is : key ≡ cert.fields.key) where
+  -- what was read of a locator of its key
+  pub anchor_found : {X : Type 0} (now : X → NamedTal) (o : Option X) → IfSome o (λ t. HasTalRead locators key (now t)) → IfSome o (λ t. IsAnchorOf locators (now t) file)
+  anchor_found now None h = tt
+  anchor_found now (Some t) h = (h.0, record { cert = cert; begins = begins; key_is = sym key_is ∙ h.1 })
+
+  no_other : IsUnambiguous IsCertificate → (Any (HasKeyRead key) locators → ⊥) → HasLocator locators file → ⊥
+  no_other one none has =
+      let t = has.0 in
+      let l = has.1.0 in
+      let b = has.1.1 in
+      let same : b.cert ≡ cert = one_meant IsCertificate one b.cert cert file.octets b.begins begins in
+      let same_key : key ≡ t.tal.key = key_is ∙ sym (ap (λ (c : CertFields). c.fields.key) same) ∙ b.key_is in
+      none (l.0, l.1, l.2, l.3, subst (λ (r : Result NamedTal TalError). IsOkAnd r (λ t. key ≡ t.tal.key)) (sym l.4) same_key)
+
+  -- where none is found, there is none
+  pub none_found : IsUnambiguous IsCertificate → {X : Type 0} (o : Option X) → IfNone o (Any (HasKeyRead key) locators → ⊥) → IfNone o (HasLocator locators file → ⊥)
+  none_found one None none = no_other one none
+  none_found one (Some t) none = tt
+
+-- a file without a certificate has none
+pub none_of_no_certificate : (locators : List LocatorFields) (file : FileFields) → ((c : CertFields) → Means IsCertificate c file.octets → ⊥) → HasLocator locators file → ⊥
+none_of_no_certificate locators file none has = none has.1.1.cert has.1.1.begins
+
+-- ---- the first certificate that has one
+
+-- the file at a place, by the reference there
+pub mapped_at : {R : Type 0} (now : R → FileFields) (xs : List R) (k : ℕ) (x : R) → slice_get xs k ≡ Some x → slice_get (map now xs) k ≡ Some (now x)
+mapped_at now xs k x is = slice_get-map now xs k ∙ ap (option_map now) is
+
+module _ (locators : List LocatorFields) (certs : List FileFields) where
+  -- one more has none
+  pub none_more : (place : ℕ) (file : FileFields) → slice_get certs place ≡ Some file → (HasLocator locators file → ⊥) → HasNoneBelow locators certs place → HasNoneBelow locators certs (place + 1)
+  none_more place file there none so_far = below_more _ _ so_far (λ earlier is has.
+      let both : Some file ≡ Some earlier = sym there ∙ is in
+      let same : file ≡ earlier = cc in
+      none (subst (λ (f : FileFields). HasLocator locators f) (sym same) has))
+
+  -- behind the last
+  pub none_of_all : (n : ℕ) → length certs ≤ n → HasNoneBelow locators certs n → HasNoneBelow locators certs (length certs)
+  none_of_all n high so_far = λ k low. so_far k (omega (arith, low, high))
