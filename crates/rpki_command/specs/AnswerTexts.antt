@@ -1,5 +1,5 @@
 -- What is answered of the files that a request names.
-use Rattle.std.specs.Prelude.{◌≡◌, ◌*◌, ◌^◌, ◌-◌, min, ℕ, length, List, []}
+use Rattle.std.specs.Prelude.{◌≡◌, ◌≢◌, ◌*◌, ◌^◌, ◌-◌, min, ℕ, length, List, []}
 use Rattle.rpki.specs.RsaSignatures.{IsSignedByRsa}
 use Rattle.rpki.specs.Times.{Moment}
 use Rattle.rpki.specs.Verification.{context}
@@ -14,10 +14,11 @@ use Rattle.rpki_command.specs.JsonVerdicts.{IsJsonOfPath}
 use Rattle.rpki_command.specs.ShownTexts.{IsTextOfFiles}
 use Rattle.rpki_command.specs.TreeTexts.{IsAnswerText}
 use Rattle.rpki_command.specs.VerdictTexts.{IsTextOfPath}
+use Rattle.rpki_arguments.specs.declared.arguments.Format.TheVariants.{Text}
 use Rattle.rpki_arguments.specs.declared.arguments.Task.{Task}
 use Rattle.rpki_arguments.specs.declared.arguments.Task.TheVariants.{Show, Validate, Tree}
 use Rattle.rpki_command.specs.declared.outcomes.Outcome.{Outcome}
-use Rattle.rpki_command.specs.declared.outcomes.Outcome.TheVariants.{Success, Unread}
+use Rattle.rpki_command.specs.declared.outcomes.Outcome.TheVariants.{Success, Rejection, Unread}
 use Rattle.rpki_command.specs.declared.showing.Options.{Options}
 
 -- how a request has files shown at a moment
@@ -38,11 +39,12 @@ tree_question_of r now files locators =
     record { files = files; locators = locators; strict = r.strict; at = now; depth = 32; steps = min (length files * 64) (2 ^ 64 - 1) }
 
 -- what is said of files in no order is that of an answer, and the run ends so: as success only where
--- that accepts
+-- that accepts, and as rejection only where it doesn't
 abbrev pub IsTreeBy : TreeFields → Outcome → List ℕ → Type 0
 IsTreeBy q outcome text =
     (answer : TreeAnswer) × IsTreeAnswer (context IsSignedByRsa q.at q.strict) q answer
     × IsAnswerText q answer text × (outcome ≡ Success → IsAccepting answer)
+    × (outcome ≡ Rejection → IsAccepting answer → ⊥)
 
 -- the text for a person of a run with this task that ends so, of which these files, lists and locators
 -- could be read: `show` shows them, and `validate` judges nothing where another couldn't be read
@@ -67,3 +69,10 @@ IsJsonBy Validate outcome r now files lists locators text =
 IsJsonBy Tree outcome r now files lists locators text =
     IsTreeBy (tree_question_of r now files locators) outcome text
 IsJsonBy _ outcome r now files lists locators text = ⊥
+
+-- a run with this outcome has some text in its format; a quiet one has it too, and doesn't write it
+abbrev pub HasText : RequestFields → Moment → List FileFields → List FileFields → List LocatorFields
+    → Outcome → Type 0
+HasText r now files lists locators outcome =
+    (text : List ℕ) × (r.format ≡ Text → IsTextBy r.task outcome r now files lists locators text)
+    × (r.format ≢ Text → IsJsonBy r.task outcome r now files lists locators text)

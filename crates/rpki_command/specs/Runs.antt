@@ -6,7 +6,7 @@ use Rattle.rpki.specs.Times.{Moment}
 use Rattle.rpki_files.specs.Files.{FileFields}
 use Rattle.rpki_verdicts.specs.GivenLocators.{LocatorFields, locator_files}
 use Rattle.rpki_command.specs.AboutTexts.{usage_text, version_text}
-use Rattle.rpki_command.specs.AnswerTexts.{IsTextBy, IsJsonBy}
+use Rattle.rpki_command.specs.AnswerTexts.{HasText, IsTextBy, IsJsonBy}
 use Rattle.rpki_arguments.specs.CommandLines.{RequestFields, IsCommandLine}
 use Rattle.rpki_arguments.specs.MisuseTexts.{misuse_text}
 use Rattle.rpki_command.specs.Outcomes.{EndsBy}
@@ -28,6 +28,7 @@ pub record IsAnswer (reads : Reads) (r : RequestFields) (now : Moment) (outcome 
   pub locators : List LocatorFields
   pub are_read : AreRead reads r files lists locators
   pub ends : EndsBy r now files lists (locator_files locators) outcome
+  pub told : HasText r now files lists locators outcome
   pub quiet_is : IsTrue r.is_quiet → text ≡ []
   pub text_is : IsFalse r.is_quiet → r.format ≡ Text → IsTextBy r.task outcome r now files lists locators text
   pub json_is : IsFalse r.is_quiet → r.format ≢ Text → IsJsonBy r.task outcome r now files lists locators text

@@ -47,7 +47,7 @@ abbrev pub SaysOfLine : Tree → FileFields → Option Line → List ℕ → Typ
 SaysOfLine tree file (Some (line.Accepted above)) said = said ≡ accepted_text tree above.items
 SaysOfLine tree file (Some (line.Rejected step fault)) said =
     (r : ReasonFields) × IsReason fault file.octets r × (said ≡ rejection_text r)
-SaysOfLine tree file _ said = said ≡ codes "no issuer here"
+SaysOfLine tree file _ said = said ≡ codes "no accepted issuer here"
 
 -- what is said of the certificate at a place: whether it is the trust anchor, and else its line
 abbrev pub SaysOfCertificate : Tree → ℕ → FileFields → List ℕ → Type 0
@@ -96,7 +96,7 @@ end_text at tree = concat (
     ∷ label_line (codes "Accepted") (decimal (accepted_count tree))
     ∷ label_line (codes "Looked at") (ended_text tree.ended)
     ∷ label_line (codes "Not asked") (codes "manifests: a file that is withheld isn't missed")
-    ∷ label_line (codes "Not asked") (codes "whether names of issuer and subject match")
+    ∷ label_line (codes "Not asked") (codes "whether names match, and whether the RPKI uses the last keys")
     ∷ [])
 
 -- no file is the trust anchor of a locator

@@ -1,7 +1,7 @@
 //! What is answered of files.
 ghost use Rattle.std.specs.Prelude.{◌≡◌, ◌≢◌, ◌↔◌, [], map, IfOk, IsFalse, IsTrue, string_bytes};
 ghost use Rattle.std.specs.Bool.{MatchBool};
-ghost use Rattle.rpki_command.specs.AnswerTexts.{IsJsonBy, IsTextBy, IsTreeBy, options_of, tree_question_of};
+ghost use Rattle.rpki_command.specs.AnswerTexts.{HasText, IsJsonBy, IsTextBy, IsTreeBy, options_of, tree_question_of};
 ghost use Rattle.rpki_arguments.specs.CommandLines.Views.{fields_of};
 ghost use Rattle.rpki_command.specs.JsonAnswers.{IsJsonOfFiles, is_single};
 ghost use Rattle.rpki_command.specs.Outcomes.{IsOutcomeOfTree, AreAllRead, AsksOfFiles, EndsBy, IsOutcomeOfShow};
@@ -250,6 +250,9 @@ pub fn answer_request(
     ensures ends { let request = fields_of request.now in
         let its = locator_files locators.now in
         IfOk result (λ answer. EndsBy request now files.now lists.now its answer.outcome) }
+    ensures told { let request = fields_of request.now in
+        let has_text = HasText request now files.now lists.now locators.now in
+        IfOk result (λ answer. has_text answer.outcome) }
     ensures quiet { IsTrue request.now.quiet
         → IfOk result (λ answer. string_bytes answer.text ≡ []) }
     ensures text { let request = fields_of request.now in IsFalse request.is_quiet

@@ -85,7 +85,7 @@ fn print_line(page: &mut Page, tree: &Tree<'_, '_>, file: &Object<'_>, line: Opt
     match line {
         Some(Line::Accepted(above)) => print_accepted(page, tree, above),
         Some(Line::Rejected(_, fault)) => print_rejected(page, file, fault),
-        Some(Line::Unseen) | None => page.text("no issuer here"),
+        Some(Line::Unseen) | None => page.text("no accepted issuer here"),
     }
 }
 
@@ -178,7 +178,7 @@ fn print_end(page: &mut Page, at: Time, tree: &Tree<'_, '_>)
         "Not asked",
         "manifests: a file that is withheld isn't missed",
     );
-    page.line("Not asked", "whether names of issuer and subject match");
+    page.line("Not asked", "whether names match, and whether the RPKI uses the last keys");
 }
 
 // That the trust anchor is wrong, and why.

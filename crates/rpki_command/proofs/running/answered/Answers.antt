@@ -28,6 +28,7 @@ returns g c =
         locators_read = rw (← c.deref-6.ensures.value) at c.in_ok-locators.ensures.read;
       };
       ends = its.ends;
+      told = its.told;
       quiet_is = its.quiet;
       text_is = its.text;
       json_is = its.json;
