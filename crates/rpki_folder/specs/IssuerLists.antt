@@ -16,10 +16,10 @@ use Rattle.rpki_revocation.specs.AskedLists.Steps.{HaveNone}
 
 -- the second list has those elements of the first that have P, in their order
 abbrev pub ArePicked : {X : Type 0} → (X → Type 0) → List X → List X → Type 0
-ArePicked {X} P [] picked = picked ≡ []
-ArePicked {X} P (x ∷ xs) picked =
-    ((rest : List X) × P x × (picked ≡ x ∷ rest) × ArePicked P xs rest)
-    ⊎ ((P x → ⊥) × ArePicked P xs picked)
+ArePicked {X} P [] those = those ≡ []
+ArePicked {X} P (x ∷ xs) those =
+    ((rest : List X) × P x × (those ≡ x ∷ rest) × ArePicked P xs rest)
+    ⊎ ((P x → ⊥) × ArePicked P xs those)
 
 -- the issuer's key signed the list, and its time has begun
 abbrev pub IsCurrent : Verifies → Moment → TbsFields → CrlState → Type 0

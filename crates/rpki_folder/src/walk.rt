@@ -129,7 +129,7 @@ impl<'w, A: Admission, V: Verifier> Walk<'w, A, V> {
         validator.member(issuer, &self.folder.certs()[place].member(), role)
     }
 
-    // The same, where the issuer's lists are asked.
+    // Judges another certificate, where the issuer's lists are asked.
     fn member(
         &self,
         issuer: &ResourceCert,
@@ -179,7 +179,7 @@ impl<'w, A: Admission, V: Verifier> Walk<'w, A, V> {
         validator.router(&self.folder.certs()[place].member(), issuer)
     }
 
-    // The same, where the issuer's lists are asked.
+    // Judges a router's certificate, where the issuer's lists are asked.
     fn router(
         &self,
         issuer: &ResourceCert,
