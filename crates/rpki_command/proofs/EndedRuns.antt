@@ -63,6 +63,20 @@ module _ (reads : Reads) (tells : Moment → Type 0) (words : List (List ℕ)) (
 
 -- ---- what the status tells
 
+as_success : {F : Type 0} (Ends : Outcome → Type 0) (settled : Result Outcome F) → IfOk settled Ends → run_status settled ≡ 0 → Ends Success
+as_success Ends (Ok Success) ends told = ends
+as_success Ends (Ok Rejection) ends told = cc
+as_success Ends (Ok WrongUse) ends told = cc
+as_success Ends (Ok Unread) ends told = cc
+as_success Ends (Err why) ends told = cc
+
+as_rejection : {F : Type 0} (Ends : Outcome → Type 0) (settled : Result Outcome F) → IfOk settled Ends → run_status settled ≡ 1 → Ends Rejection
+as_rejection Ends (Ok Success) ends told = cc
+as_rejection Ends (Ok Rejection) ends told = ends
+as_rejection Ends (Ok WrongUse) ends told = cc
+as_rejection Ends (Ok Unread) ends told = cc
+as_rejection Ends (Err why) ends told = cc
+
 as_misuse : {F : Type 0} (Ends : Outcome → Type 0) (settled : Result Outcome F) → IfOk settled Ends → run_status settled ≡ 2 → Ends WrongUse
 as_misuse Ends (Ok Success) ends told = cc
 as_misuse Ends (Ok Rejection) ends told = cc
@@ -79,3 +93,11 @@ module _ {E F : Type 0} (Ran : Outcome → List ℕ → Type 0) (Wrote : Ended �
   -- where it is 2
   pub told_misuse : (ran : Result Ended E) (settled : Result Outcome F) → IfOk ran (λ e. (text : List ℕ) × Ran e.outcome text × Wrote e text) → IfOk settled (λ outcome. IsOkAnd ran (λ e. outcome ≡ e.outcome)) → run_status settled ≡ 2 → (text : List ℕ) × Ran WrongUse text
   told_misuse ran settled ends same told = as_misuse (λ outcome. (text : List ℕ) × Ran outcome text) settled (settled_ends ran settled ends same) told
+
+  -- where it is 0
+  pub told_success : (ran : Result Ended E) (settled : Result Outcome F) → IfOk ran (λ e. (text : List ℕ) × Ran e.outcome text × Wrote e text) → IfOk settled (λ outcome. IsOkAnd ran (λ e. outcome ≡ e.outcome)) → run_status settled ≡ 0 → (text : List ℕ) × Ran Success text
+  told_success ran settled ends same told = as_success (λ outcome. (text : List ℕ) × Ran outcome text) settled (settled_ends ran settled ends same) told
+
+  -- where it is 1
+  pub told_rejection : (ran : Result Ended E) (settled : Result Outcome F) → IfOk ran (λ e. (text : List ℕ) × Ran e.outcome text × Wrote e text) → IfOk settled (λ outcome. IsOkAnd ran (λ e. outcome ≡ e.outcome)) → run_status settled ≡ 1 → (text : List ℕ) × Ran Rejection text
+  told_rejection ran settled ends same told = as_rejection (λ outcome. (text : List ℕ) × Ran outcome text) settled (settled_ends ran settled ends same) told

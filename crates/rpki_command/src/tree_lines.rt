@@ -178,7 +178,10 @@ fn print_end(page: &mut Page, at: Time, tree: &Tree<'_, '_>)
         "Not asked",
         "manifests: a file that is withheld isn't missed",
     );
-    page.line("Not asked", "whether names match, and whether the RPKI uses the last keys");
+    page.line(
+        "Not asked",
+        "whether names match, and whether the RPKI uses the last keys",
+    );
 }
 
 // That the trust anchor is wrong, and why.
