@@ -192,9 +192,11 @@ class Faults:
         self.met = collections.Counter()
 
     def checked(self, number, name):
-        """The name, '-' of a fault of reading. Its number is the header's of this name."""
+        """The name, '-' of a fault of reading. Its number is the header's of this name, to which that
+        of a field is added where it names one."""
         upper = re.sub(r'([a-z0-9])([A-Z])', r'\1_\2', name).upper()
-        if not self.names.get(number, '').endswith('_' + upper):
+        first = number - number % 20 if 120 <= number < 220 else number
+        if not self.names.get(first, '').endswith('_' + upper):
             return f'{name} with the number {number}'
         self.met[number] += 1
         return '-' if number < 300 else name
