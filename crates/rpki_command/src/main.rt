@@ -71,8 +71,8 @@ fn tell<E: Write>(err: &mut E, error: &Error) {
 }
 
 // Runs the command on the words of a command line: writes what the files hold that they name, or
-// the verdict on their path. The exit status is 0 where all files were shown or the path is
-// accepted; 1 where a file is no certificate, list or locator, the path is rejected, or a file
+// the verdict on their path, or on each certificate among them. The exit status is 0 where all files
+// were shown, or the path or all certificates are accepted; 1 where a file is no certificate, list or locator, the path is rejected, or a file
 // given as a list or a locator is none; 2 where the command line has another form; and 3 where a
 // file can't be read, or the clock, memory or an output failed.
 fn command<S: FileSource + MomentSource, O: Write, E: Write>(

@@ -92,7 +92,8 @@ fn reject<W: Visitor>(
     ensures ok { (v : W) (ts : List Told) → W.became v ts visitor.old
         → OnOk result (W.became v (ts ++ told above.now place (Err fault) ∷ []) visitor.new) }
     ensures no_memory { OnOk result (fault ≢ Memory) }
-    ensures err { (v : W) (ts : List Told) → W.became v ts visitor.old → OnErr result (W.became v ts visitor.new) }
+    ensures err { (v : W) (ts : List Told) → W.became v ts visitor.old
+        → OnErr result (W.became v ts visitor.new) }
 {
     if fault.is_memory() {
         drop(fault);
@@ -229,7 +230,8 @@ impl<'w, A: Admission, V: Verifier> Walk<'w, A, V> {
             (v : W) (ts : List Told) → W.became v ts visitor.old → IfOk result (λ member.
             (verdict : Result Judged Fault) × W.became v (ts ++ told above.now place verdict ∷ []) visitor.new
             × IsAnswer x asked issuer.now octets (kind_of role) verdict × Hands verdict member) }
-        ensures err { (v : W) (ts : List Told) → W.became v ts visitor.old → OnErr result (W.became v ts visitor.new) }
+        ensures err { (v : W) (ts : List Told) → W.became v ts visitor.old
+            → OnErr result (W.became v ts visitor.new) }
     {
         match self.member(issuer, lists, place, role) {
             Ok(member) => {
@@ -264,7 +266,8 @@ impl<'w, A: Admission, V: Verifier> Walk<'w, A, V> {
             (v : W) (ts : List Told) → W.became v ts visitor.old → OnOk result (
             (verdict : Result Judged Fault) × W.became v (ts ++ told above.now place verdict ∷ []) visitor.new
             × IsAnswer x asked issuer.now octets Router verdict) }
-        ensures err { (v : W) (ts : List Told) → W.became v ts visitor.old → OnErr result (W.became v ts visitor.new) }
+        ensures err { (v : W) (ts : List Told) → W.became v ts visitor.old
+            → OnErr result (W.became v ts visitor.new) }
     {
         match self.router(issuer, lists, place) {
             Ok(cert) => {
@@ -297,7 +300,8 @@ impl<'w, A: Admission, V: Verifier> Walk<'w, A, V> {
             (v : W) (ts : List Told) → W.became v ts visitor.old → IfOk result (λ next.
             (verdict : Result Judged Fault) × W.became v (ts ++ told above.now place verdict ∷ []) visitor.new
             × IsOutcome x asked issuer.now octets verdict next) }
-        ensures err { (v : W) (ts : List Told) → W.became v ts visitor.old → OnErr result (W.became v ts visitor.new) }
+        ensures err { (v : W) (ts : List Told) → W.became v ts visitor.old
+            → OnErr result (W.became v ts visitor.new) }
     {
         match said_kind(self.folder.certs()[place].cert().as_tbs()) {
             Kind::Authority => self.tell_member(

@@ -12,10 +12,10 @@ use std::alloc::Global;
 use std::cell::Cell;
 use std::process::Abort;
 
-// The stand-in, which counts how often it is asked.
+/// The stand-in, which counts how often it is asked.
 #[derive(Drop)]
-struct Counting {
-    calls: Cell<usize>,
+pub struct Counting {
+    pub calls: Cell<usize>,
 }
 
 impl Verifier for Counting {

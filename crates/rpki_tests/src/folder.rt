@@ -1,5 +1,6 @@
 //! Folders: loops of keys, bounds that are met, and what is kept of verdicts.
 
+use crate::counting::Counting;
 use crate::lists;
 use crate::located::{OF_ANCHOR, OF_OTHER, locator};
 use bytes::Bytes;
@@ -7,7 +8,7 @@ use rpki_cert::Cert;
 use rpki_cert_tests::samples::{self, day, rsa};
 use rpki_crl::{Crl, RevocationError};
 use rpki_folder::{Added, AllAdmitted, Bounds, Ended, Folder, Found, Line, Lines, Walk, WalkError};
-use rpki_parts::{PublicKey, RpkiSignatureAlgorithm, StandIn, Verifier};
+use rpki_parts::StandIn;
 use rpki_path::{Member, PathFault};
 use std::alloc::Global;
 use std::cell::Cell;
@@ -237,29 +238,6 @@ fn renewals_that_lie_side_by_side_are_both_walked(rt: HostRuntime) {
     assert!(rt; line(&lines, 1) == (1, "accepted"));
     drop(lines);
     drop(folder);
-}
-
-// Verifies as the stand-in does, and counts how often.
-#[derive(Drop)]
-struct Counting {
-    calls: Cell<usize>,
-}
-
-impl Verifier for Counting {
-    ghost use Rattle.rpki_parts.specs.Signatures.{IsStandInSignature};
-
-    ghost verifies = { λ _. IsStandInSignature };
-
-    fn verify(
-        &self,
-        key: &PublicKey,
-        algorithm: RpkiSignatureAlgorithm,
-        message: &[u8],
-        signature: &[u8],
-    ) -> bool {
-        self.calls.set(self.calls.get().wrapping_add(1));
-        StandIn.verify(key, algorithm, message, signature)
-    }
 }
 
 // How many signatures are verified in a walk through the folder.
