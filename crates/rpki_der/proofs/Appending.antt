@@ -26,7 +26,7 @@ unfolding enc
 length-enc t c = omega (arith, length-append (length_octets (length c)) c)
 
 -- three pieces behind an identifier octet and their length are a value
-pub assembled : (t : ℕ) (old a b c : List ℕ) (n : ℕ) → n ≡ length (a ++ (b ++ c)) → ((((old ++ t ∷ []) ++ length_octets n) ++ a) ++ b) ++ c ≡ old ++ enc t (a ++ (b ++ c))
+pub assembled : (t : ℕ) (old a b c : List ℕ) (n : ℕ) → n ≡ length (a ++ (b ++ c)) → (((old ++ (t ∷ length_octets n)) ++ a) ++ b) ++ c ≡ old ++ enc t (a ++ (b ++ c))
 unfolding enc
 assembled t old a b c n e = rw e (simp (append_assoc))
 

@@ -12,7 +12,7 @@ ghost use Rattle.rpki_der.specs.Writers.{WritesOrTooLong};
 
 use crate::cursor::Cursor;
 use crate::error::{DecodeError, EncodeError};
-use crate::put::{MAX_LEN, append_value, put_length};
+use crate::put::{MAX_LEN, append_value, put_head};
 use crate::tag;
 use std::alloc::AllocError;
 
@@ -74,8 +74,7 @@ fn append_extension(
         OnOk result (out.new.items ≡ out.old.items ++ enc SEQUENCE inside) }
     ensures err { OnErr result (take (length out.old.items) out.new.items ≡ out.old.items) }
 {
-    out.push(tag::SEQUENCE)?;
-    put_length(out, len)?;
+    put_head(out, tag::SEQUENCE, len)?;
     append_value(out, tag::OBJECT_IDENTIFIER, &[], id)?;
     out.extend_from_slice(flag)?;
     append_value(out, tag::OCTET_STRING, &[], content)

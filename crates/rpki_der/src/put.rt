@@ -1,5 +1,5 @@
 //! Values appended to vectors.
-ghost use Rattle.std.specs.Prelude.{◌≡◌, ◌+◌, ◌%◌, ◌^◌, ◌<◌, ◌≤◌, ◌↔◌, [], ◌∷◌, ◌++◌, length, take, OnOk, OnErr, IfErr, IsErrOf};
+ghost use Rattle.std.specs.Prelude.{◌≡◌, ◌+◌, ◌%◌, ◌^◌, ◌<◌, ◌≤◌, ◌↔◌, [], ◌∷◌, ◌++◌, length, take, drop, OnOk, OnErr, IfErr, IsErrOf};
 ghost use Rattle.std.specs.Int.Digits.{number_from_digits};
 ghost use Rattle.rpki_der.specs.Primitives.{IsOid, boolean};
 ghost use Rattle.rpki_der.specs.Tags.{BIT_STRING, OBJECT_IDENTIFIER};
@@ -14,22 +14,22 @@ use std::alloc::AllocError;
 /// The greatest length of a content, in octets (own).
 pub const MAX_LEN: usize = 0xFFFF_FFFF;
 
-// The shortest length octets.
-pub(crate) fn put_length(out: &mut Vec<u8>, len: u32) -> Result<(), AllocError>
-    ensures ok { OnOk result (out.new.items ≡ out.old.items ++ length_octets len) }
+// The identifier octet and the shortest length octets.
+pub(crate) fn put_head(out: &mut Vec<u8>, tag: u8, len: u32) -> Result<(), AllocError>
+    ensures ok { OnOk result (out.new.items ≡ out.old.items ++ (tag ∷ length_octets len)) }
     ensures err { OnErr result (out.new.items ≡ out.old.items) }
 {
     let [a, b, c, d] = len.to_be_bytes();
     if len < 0x80 {
-        out.extend_from_slice(&[d])
+        out.extend_from_slice(&[tag, d])
     } else if len < 0x100 {
-        out.extend_from_slice(&[0x81, d])
+        out.extend_from_slice(&[tag, 0x81, d])
     } else if len < 0x1_0000 {
-        out.extend_from_slice(&[0x82, c, d])
+        out.extend_from_slice(&[tag, 0x82, c, d])
     } else if len < 0x100_0000 {
-        out.extend_from_slice(&[0x83, b, c, d])
+        out.extend_from_slice(&[tag, 0x83, b, c, d])
     } else {
-        out.extend_from_slice(&[0x84, a, b, c, d])
+        out.extend_from_slice(&[tag, 0x84, a, b, c, d])
     }
 }
 
@@ -45,11 +45,32 @@ pub(crate) fn append_value(
     ensures ok { OnOk result (out.new.items ≡ out.old.items ++ enc tag (head.now ++ tail.now)) }
     ensures err { OnErr result (take (length out.old.items) out.new.items ≡ out.old.items) }
 {
-    let len = head.len() + tail.len();
-    out.push(tag)?;
-    put_length(out, len as u32)?;
+    put_head(out, tag, (head.len() + tail.len()) as u32)?;
     out.extend_from_slice(head)?;
     out.extend_from_slice(tail)
+}
+
+/// Makes what stands behind the first `start` octets the content of a value with this identifier
+/// octet (X.690 8.1, 10.1). Errs with `TooLong` where it has 2^32 octets or more. After an error
+/// the octets are as they were.
+#[tactic(auto, unfolding(crate::specs::Values::enc))]
+pub fn enclose(out: &mut Vec<u8>, start: usize, tag: u8) -> Result<(), EncodeError>
+    requires within { start ≤ length out.old.items }
+    requires low_tag { tag % 32 < 31 }
+    ensures ok { OnOk result
+        (out.new.items ≡ take start out.old.items ++ enc tag (drop start out.old.items)) }
+    ensures err { OnErr result (out.new.items ≡ out.old.items) }
+    ensures too_long { IsErrOf result EncodeError.TooLong
+        ↔ (2 ^ 32 ≤ length (drop start out.old.items)) }
+{
+    let end = out.len();
+    if end - start > MAX_LEN {
+        return Err(EncodeError::TooLong);
+    }
+    put_head(out, tag, (end - start) as u32)?;
+    let head = out.len() - end;
+    out[start..].rotate_right(head);
+    Ok(())
 }
 
 /// Appends the value with this identifier octet whose content is the head and the tail, one after
