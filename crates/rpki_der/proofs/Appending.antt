@@ -1,8 +1,10 @@
 -- What an append that may fail leaves behind.
-use Rattle.std.proofs.Common.{◌≡◌, ℕ, ◌+◌, List, [], ◌∷◌, ◌++◌, length, take, Result, Ok, Err, refl, ap, sym, ◌∙◌, append_assoc, arith}
+use Rattle.std.proofs.Common.{◌≡◌, ◌≤◌, ℕ, ◌+◌, List, [], ◌∷◌, ◌++◌, length, take, Result, Ok, Err, refl, ap, sym, ◌∙◌, append_assoc, arith}
 use Rattle.std.specs.Prelude.{OnOk, OnErr, is_ok, if◌then◌else◌}
 use Rattle.std.proofs.lemmas.List.{length-append, take_at, take-take}
 use Rattle.rpki_der.specs.Values.{length_octets, enc}
+use Rattle.rpki_der.specs.Extensions.{extension_content}
+use Rattle.rpki_der.specs.Tags.{OBJECT_IDENTIFIER, OCTET_STRING, SEQUENCE}
 
 -- what was appended may be written in another form
 pub appends : {T E : Type 0} (r : Result T E) (old ds es new : List ℕ) → ds ≡ es → new ≡ (if is_ok r then old ++ ds else old) → OnOk r (new ≡ old ++ es)
@@ -25,11 +27,20 @@ pub length-enc : (t : ℕ) (c : List ℕ) → length (enc t c) ≡ 1 + (length (
 unfolding enc
 length-enc t c = omega (arith, length-append (length_octets (length c)) c)
 
--- three pieces behind an identifier octet and their length are a value
-pub assembled : (t : ℕ) (old a b c : List ℕ) (n : ℕ) → n ≡ length (a ++ (b ++ c)) → (((old ++ (t ∷ length_octets n)) ++ a) ++ b) ++ c ≡ old ++ enc t (a ++ (b ++ c))
-unfolding enc
-assembled t old a b c n e = rw e (simp (append_assoc))
-
 -- the length of three pieces is the sum of theirs
 pub length-pieces : (a b c : List ℕ) → length (a ++ (b ++ c)) ≡ length a + (length b + length c)
 length-pieces a b c = omega (arith, length-append b c, length-append a (b ++ c))
+
+regrouped : (s t : ℕ) (a b c d e : List ℕ) → (s ∷ (a ++ (b ++ (c ++ (t ∷ d))))) ++ e ≡ s ∷ (a ++ (b ++ (c ++ (t ∷ (d ++ e)))))
+regrouped s t a b c d e = simp append_assoc
+
+-- what stands before the content of an extension, and the content
+pub fronted : (id flag content : List ℕ) (len content_len : ℕ) → len ≡ length (extension_content id flag content) → content_len ≡ length content → (SEQUENCE ∷ (length_octets len ++ (enc OBJECT_IDENTIFIER id ++ (flag ++ (OCTET_STRING ∷ length_octets content_len))))) ++ content ≡ enc SEQUENCE (extension_content id flag content)
+unfolding enc
+fronted id flag content len content_len e f = rw (e, f) (regrouped SEQUENCE OCTET_STRING (length_octets (length (extension_content id flag content))) (enc OBJECT_IDENTIFIER id) flag (length_octets (length content)) content)
+
+-- the contents in an extension aren't longer than what stands inside its SEQUENCE
+pub contents_shorter : (id flag content : List ℕ) → (length id ≤ length (extension_content id flag content)) × (length content ≤ length (extension_content id flag content))
+contents_shorter id flag content =
+    let pieces = length-pieces (enc OBJECT_IDENTIFIER id) flag (enc OCTET_STRING content) in
+    (omega (arith, pieces, length-enc OBJECT_IDENTIFIER id), omega (arith, pieces, length-enc OCTET_STRING content))

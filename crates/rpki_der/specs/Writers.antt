@@ -1,5 +1,5 @@
 -- What a writer appends to a vector, and what it promises.
-use Rattle.std.specs.Prelude.{◌≡◌, ℕ, ◌^◌, ◌<◌, ◌≤◌, ◌↔◌, List, ◌++◌, length, Result, OnOk, OnErr, IsErrOf}
+use Rattle.std.specs.Prelude.{◌≡◌, ℕ, ◌^◌, ◌<◌, ◌≤◌, ◌↔◌, List, ◌++◌, length, take, drop, Result, Err, IsOk, IfErr, OnOk, OnErr, IsErrOf}
 use Rattle.std.specs.Int.Digits.{digits_of}
 use Rattle.rpki_der.specs.Primitives.{unsigned, number}
 use Rattle.rpki_der.specs.Values.{enc}
@@ -37,3 +37,13 @@ pub record WritesOrTooLong {T : Type 0} (p : Part) (old : List ℕ) (r : Result 
   pub ok : OnOk r (new ≡ old ++ p.written)
   pub err : OnErr r (new ≡ old)
   pub too_long : IsErrOf r TooLong ↔ (2 ^ 32 ≤ length p.inside)
+
+-- What ended a part whose content was appended behind so many octets, with this outcome: it made
+-- the part of what stands there, or cut it off and handed the error on. It answers TooLong wherever
+-- what stands inside is too long.
+pub record Ends (p : List ℕ → Part) (start : ℕ) (old : List ℕ) (content r : Result (Unit {0}) EncodeError) (new : List ℕ) : Type 0 where
+  pub went_well : OnOk r (IsOk content)
+  pub ok : OnOk r (new ≡ take start old ++ (p (drop start old)).written)
+  pub err : OnErr r (new ≡ take start old)
+  pub handed_on : IfErr content (λ e. r ≡ Err e)
+  pub too_long : IsOk content → IsErrOf r TooLong ↔ (2 ^ 32 ≤ length (p (drop start old)).inside)

@@ -1,18 +1,18 @@
 //! Extensions, read and appended to vectors.
-ghost use Rattle.std.specs.Prelude.{◌≡◌, ◌+◌, ◌^◌, ◌≤◌, ◌<◌, ◌++◌, length, take, MatchOption, IfOk, OnOk, OnErr};
+ghost use Rattle.std.specs.Prelude.{◌≡◌, ◌+◌, ◌^◌, ◌≤◌, ◌<◌, ◌++◌, ◌∷◌, ◌↔◌, length, take, drop, MatchOption, IfOk, IsErrOf, OnOk, OnErr};
 ghost use Rattle.rpki_der.specs.Primitives.{IsOid, bool_or_false};
 ghost use Rattle.rpki_der.specs.Extensions.Views.{extension_view};
 ghost use Rattle.rpki_der.specs.Place.{remaining, IsWithin, EndsAt, Keeps};
 ghost use Rattle.rpki_der.specs.Answers.{AnswersBy};
 ghost use Rattle.rpki_der.specs.Place.Reading.{TookBy};
 ghost use Rattle.rpki_der.specs.Values.{AreOctets, enc, length_octets};
-ghost use Rattle.rpki_der.specs.Extensions.{extension_content, extension_format, extension_part};
-ghost use Rattle.rpki_der.specs.Tags.{SEQUENCE};
-ghost use Rattle.rpki_der.specs.Writers.{WritesOrTooLong};
+ghost use Rattle.rpki_der.specs.Extensions.{extension, extension_content, extension_format, extension_part};
+ghost use Rattle.rpki_der.specs.Tags.{OBJECT_IDENTIFIER, OCTET_STRING, SEQUENCE};
+ghost use Rattle.rpki_der.specs.Writers.{Ends, WritesOrTooLong};
 
 use crate::cursor::Cursor;
 use crate::error::{DecodeError, EncodeError};
-use crate::put::{MAX_LEN, append_value, put_head};
+use crate::put::{MAX_LEN, append_value, bring_forward, put_head};
 use crate::tag;
 use std::alloc::AllocError;
 
@@ -61,6 +61,27 @@ fn pieces_len(id: &[u8], flag: &[u8], content: &[u8]) -> Option<u32>
     Some(len as u32)
 }
 
+// What stands before a content of so many octets in an extension, or a part of it where memory runs
+// out.
+fn append_front(
+    out: &mut Vec<u8>,
+    len: u32,
+    id: &[u8],
+    flag: &[u8],
+    content_len: u32,
+) -> Result<(), AllocError>
+    requires { length id.now < 2 ^ 32 }
+    ensures ok { OnOk result (out.new.items ≡ out.old.items
+        ++ (SEQUENCE ∷ length_octets len ++ (enc OBJECT_IDENTIFIER id.now
+        ++ (flag.now ++ (OCTET_STRING ∷ length_octets content_len))))) }
+    ensures err { OnErr result (take (length out.old.items) out.new.items ≡ out.old.items) }
+{
+    put_head(out, tag::SEQUENCE, len)?;
+    append_value(out, tag::OBJECT_IDENTIFIER, &[], id)?;
+    out.extend_from_slice(flag)?;
+    put_head(out, tag::OCTET_STRING, content_len)
+}
+
 // The extension, or a part of it where memory runs out.
 fn append_extension(
     out: &mut Vec<u8>,
@@ -74,10 +95,8 @@ fn append_extension(
         OnOk result (out.new.items ≡ out.old.items ++ enc SEQUENCE inside) }
     ensures err { OnErr result (take (length out.old.items) out.new.items ≡ out.old.items) }
 {
-    put_head(out, tag::SEQUENCE, len)?;
-    append_value(out, tag::OBJECT_IDENTIFIER, &[], id)?;
-    out.extend_from_slice(flag)?;
-    append_value(out, tag::OCTET_STRING, &[], content)
+    append_front(out, len, id, flag, content.len() as u32)?;
+    out.extend_from_slice(content)
 }
 
 /// Appends the extension with this identifier, flag and content (RFC 5280 4.1): the flag only where
@@ -103,6 +122,59 @@ pub fn put_extension(
         return Err(EncodeError::from(error));
     }
     Ok(())
+}
+
+// Makes what stands behind the first `start` octets the content of an extension, or leaves
+// something behind the octets where it errs.
+#[tactic(auto, unfolding(crate::specs::Extensions::extension_format))]
+fn enclose_extension(
+    out: &mut Vec<u8>,
+    start: usize,
+    id: &[u8],
+    critical: bool,
+) -> Result<(), EncodeError>
+    requires within { start ≤ length out.old.items }
+    requires oid { IsOid id.now }
+    ensures ok { OnOk result (out.new.items
+        ≡ take start out.old.items ++ extension id.now critical (drop start out.old.items)) }
+    ensures err { OnErr result (take (length out.old.items) out.new.items ≡ out.old.items) }
+    ensures too_long { IsErrOf result EncodeError.TooLong
+        ↔ (2 ^ 32 ≤ length (extension_part id.now critical (drop start out.old.items)).inside) }
+{
+    let end = out.len();
+    let flag = flag_octets(critical);
+    let Some(len) = pieces_len(id, flag, &out[start..]) else {
+        return Err(EncodeError::TooLong);
+    };
+    append_front(out, len, id, flag, (end - start) as u32)?;
+    bring_forward(out, start, end);
+    Ok(())
+}
+
+/// Ends an extension with this identifier and flag whose content was appended behind the first
+/// `start` octets, with this outcome (RFC 5280 4.1). Makes the extension of it where that went well;
+/// else cuts the octets back to the first `start` and hands the error on. Errs with `TooLong` also
+/// where the extension would have a content of 2^32 octets or more.
+pub fn end_extension(
+    out: &mut Vec<u8>,
+    start: usize,
+    id: &[u8],
+    critical: bool,
+    content: Result<(), EncodeError>,
+) -> Result<(), EncodeError>
+    requires within { start ≤ length out.old.items }
+    requires oid { IsOid id.now }
+    ensures { Ends (extension_part id.now critical) start
+        out.old.items content result out.new.items }
+{
+    let ended = match content {
+        Ok(()) => enclose_extension(out, start, id, critical),
+        Err(error) => Err(error),
+    };
+    if ended.is_err() {
+        out.truncate(start);
+    }
+    ended
 }
 
 // The extension that stands next, by the reading function.

@@ -22,10 +22,12 @@ mod time;
 
 pub use cursor::Cursor;
 pub use error::{DecodeError, EncodeError, Field};
-pub use extension::{put_extension, take_extension};
+pub use extension::{end_extension, put_extension, take_extension};
 pub use oid::Oid;
 pub use piece::Piece;
-pub use put::{MAX_LEN, enclose, put_bits, put_bool, put_oid, put_parts, put_unsigned, put_value};
+pub use put::{
+    MAX_LEN, enclose, end_value, put_bits, put_bool, put_oid, put_parts, put_unsigned, put_value,
+};
 pub use serial::Serial;
 pub use text::write_hexadecimal;
 pub use time::Time;

@@ -1,10 +1,10 @@
 //! Values appended to vectors.
-ghost use Rattle.std.specs.Prelude.{◌≡◌, ◌+◌, ◌%◌, ◌^◌, ◌<◌, ◌≤◌, ◌↔◌, [], ◌∷◌, ◌++◌, length, take, drop, OnOk, OnErr, IfErr, IsErrOf};
+ghost use Rattle.std.specs.Prelude.{◌≡◌, ◌+◌, ◌%◌, ◌^◌, ◌<◌, ◌≤◌, ◌↔◌, [], ◌∷◌, ◌++◌, length, take, drop, slice_range, OnOk, OnErr, IfErr, IsErrOf};
 ghost use Rattle.std.specs.Int.Digits.{number_from_digits};
 ghost use Rattle.rpki_der.specs.Primitives.{IsOid, boolean};
 ghost use Rattle.rpki_der.specs.Tags.{BIT_STRING, OBJECT_IDENTIFIER};
 ghost use Rattle.rpki_der.specs.Values.{length_octets, enc};
-ghost use Rattle.rpki_der.specs.Writers.{WritesOrTooLong, value, number_part};
+ghost use Rattle.rpki_der.specs.Writers.{Ends, WritesOrTooLong, value, number_part};
 
 use crate::error::EncodeError;
 use crate::integer::{sign, significant};
@@ -50,6 +50,16 @@ pub(crate) fn append_value(
     out.extend_from_slice(tail)
 }
 
+// Puts what stands behind the first `end` octets before what stands from `start` to there.
+pub(crate) fn bring_forward(out: &mut Vec<u8>, start: usize, end: usize)
+    requires order { start ≤ end }
+    requires within { end ≤ length out.old.items }
+    ensures { out.new.items ≡ take start out.old.items
+        ++ (drop end out.old.items ++ slice_range out.old.items start end) }
+{
+    out[start..].rotate_left(end - start);
+}
+
 /// Makes what stands behind the first `start` octets the content of a value with this identifier
 /// octet (X.690 8.1, 10.1). Errs with `TooLong` where it has 2^32 octets or more. After an error
 /// the octets are as they were.
@@ -68,9 +78,31 @@ pub fn enclose(out: &mut Vec<u8>, start: usize, tag: u8) -> Result<(), EncodeErr
         return Err(EncodeError::TooLong);
     }
     put_head(out, tag, (end - start) as u32)?;
-    let head = out.len() - end;
-    out[start..].rotate_right(head);
+    bring_forward(out, start, end);
     Ok(())
+}
+
+/// Ends a value whose content was appended behind the first `start` octets, with this outcome.
+/// Encloses it where that went well; else cuts the octets back to the first `start` and hands the
+/// error on. Errs with `TooLong` also where the content has 2^32 octets or more.
+pub fn end_value(
+    out: &mut Vec<u8>,
+    start: usize,
+    tag: u8,
+    content: Result<(), EncodeError>,
+) -> Result<(), EncodeError>
+    requires within { start ≤ length out.old.items }
+    requires low_tag { tag % 32 < 31 }
+    ensures { Ends (value tag) start out.old.items content result out.new.items }
+{
+    let ended = match content {
+        Ok(()) => enclose(out, start, tag),
+        Err(error) => Err(error),
+    };
+    if ended.is_err() {
+        out.truncate(start);
+    }
+    ended
 }
 
 /// Appends the value with this identifier octet whose content is the head and the tail, one after

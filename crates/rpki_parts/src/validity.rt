@@ -1,5 +1,6 @@
 //! Periods of validity.
-ghost use Rattle.std.specs.Prelude.{◌≡◌, IfErr};
+ghost use Rattle.std.specs.Prelude.{◌≡◌, ◌++◌, length, take, IfErr, OnErr, OnOk};
+ghost use Rattle.rpki_der.specs.Times.{time};
 ghost use Rattle.rpki_der.specs.Values.{AreOctets};
 ghost use Rattle.rpki_der.specs.Answers.{Answers};
 ghost use Rattle.rpki_der.specs.Formats.{part};
@@ -9,7 +10,7 @@ ghost use Rattle.rpki_der.specs.declared.error.EncodeError.TheVariants.{Memory};
 ghost use Rattle.rpki_parts.specs.Validities.{validity_format};
 ghost use Rattle.rpki_der.specs.Writers.{Writes};
 
-use rpki_der::{Cursor, DecodeError, EncodeError, Time, put_value, tag};
+use rpki_der::{Cursor, DecodeError, EncodeError, Time, end_value, tag};
 use std::alloc::Global;
 use std::marker::Model;
 
@@ -81,15 +82,25 @@ impl Validity {
         Validity::read(cursor)
     }
 
+    // Appends both times, or a part of them where memory runs out.
+    fn append_times(&self, alloc: Global, out: &mut Vec<u8>) -> Result<(), EncodeError>
+        ensures ok { OnOk result (out.new.items
+            ≡ out.old.items ++ (time self.now.not_before ++ time self.now.not_after)) }
+        ensures err { OnErr result (take (length out.old.items) out.new.items ≡ out.old.items) }
+        ensures memory { IfErr result (λ e. e ≡ Memory) }
+    {
+        self.not_before.encode_varied(alloc, out)?;
+        self.not_after.encode_varied(alloc, out)
+    }
+
     /// Appends the SEQUENCE of both times. The only error is `Memory`.
     #[tactic(auto, unfolding(crate::specs::Validities::validity_format))]
     pub fn encode(&self, alloc: Global, out: &mut Vec<u8>) -> Result<(), EncodeError>
         ensures writes { Writes (part validity_format self.now) out.old.items result out.new.items }
         ensures memory { IfErr result (λ e. e ≡ Memory) }
     {
-        let mut content = Vec::new(alloc);
-        self.not_before.encode_varied(alloc, &mut content)?;
-        self.not_after.encode_varied(alloc, &mut content)?;
-        put_value(out, tag::SEQUENCE, &content)
+        let start = out.len();
+        let times = self.append_times(alloc, out);
+        end_value(out, start, tag::SEQUENCE, times)
     }
 }

@@ -1,0 +1,35 @@
+-- What the writer of a content and the end of the part around it did together.
+use Rattle.std.specs.Prelude.{IsOk, IfErr, IsErrOf, OnOk, OnErr}
+use Rattle.std.proofs.Common.{◌≡◌, ◌^◌, ◌<◌, ◌≤◌, ◌++◌, ℕ, List, length, take, drop, Result, Ok, Err, refl, sym, ◌∙◌, ap, subst, inl, inr, arith}
+use Rattle.std.proofs.lemmas.Bool.{cases_lt}
+use Rattle.std.proofs.lemmas.List.{take_at, drop_at}
+use Rattle.rpki_der.specs.Writers.{Ends, Part, SaysLong, Writes}
+use Rattle.rpki_der.specs.declared.error.EncodeError.{EncodeError}
+use Rattle.rpki_der.specs.declared.error.EncodeError.TheVariants.{TooLong, Memory}
+
+-- a writer that only runs out of memory doesn't say that anything is too long
+pub memory_says : {T : Type 0} (r : Result T EncodeError) (octets : List ℕ) → IfErr r (λ e. e ≡ Memory) → SaysLong r octets
+memory_says (Ok x) octets h = λ long. absurd cc
+memory_says (Err d) octets h = λ long. absurd cc
+
+-- they wrote the part, or left the octets as they were
+pub ended : (p : List ℕ → Part) (start : ℕ) (old inside mid new : List ℕ) (content r : Result (Unit {0}) EncodeError) → start ≡ length old → OnOk content (mid ≡ old ++ inside) → OnErr content (take (length old) mid ≡ old) → SaysLong content (p inside).inside → Ends p start mid content r new → Writes (p inside) old r new
+ended p start old inside mid new (Ok u) (Ok v) at ok err says e =
+    let front : take start mid ≡ old = rw ok (take_at old inside start (sym at)) in
+    let rest : drop start mid ≡ inside = rw ok (drop_at old inside start (sym at)) in
+    record {
+      ok = e.ok ∙ ap (λ (b : List ℕ). b ++ (p (drop start mid)).written) front ∙ ap (λ (b : List ℕ). old ++ (p b).written) rest;
+      err = tt;
+      fits = elim (cases_lt (length (p inside).inside) (2 ^ 32)) [
+        | inl short ↦ short
+        | inr much ↦ absurd (let long : 2 ^ 32 ≤ length (p (drop start mid)).inside = rw rest much in let is : Ok v ≡ Err TooLong = (e.too_long refl).1 long in cc)
+      ];
+      too_long = λ h. absurd cc;
+    }
+ended p start old inside mid new (Ok u) (Err d) at ok err says e =
+    let front : take start mid ≡ old = rw ok (take_at old inside start (sym at)) in
+    let rest : drop start mid ≡ inside = rw ok (drop_at old inside start (sym at)) in
+    record { ok = tt; err = e.err ∙ front; fits = tt; too_long = λ h. rw (← rest) ((e.too_long refl).0 h) }
+ended p start old inside mid new (Err d) (Ok v) at ok err says e = absurd (let is : Ok v ≡ Err d = e.handed_on in cc)
+ended p start old inside mid new (Err d) (Err f) at ok err says e =
+    record { ok = tt; err = e.err ∙ ap (λ (n : ℕ). take n mid) at ∙ err; fits = tt; too_long = λ h. says (sym e.handed_on ∙ h) }
