@@ -1,9 +1,9 @@
 //! Public keys and their identifiers.
-ghost use Rattle.std.specs.Prelude.{◌≡◌, ◌↔◌, ◌%◌, ◌^◌, ◌<◌, length, IfOk, IfErr, IfSome, IsSome, IsTrue, Some};
+ghost use Rattle.std.specs.Prelude.{◌≡◌, ◌↔◌, ◌%◌, ◌^◌, ◌<◌, ◌++◌, length, take, IfOk, IfErr, IfSome, IsSome, IsTrue, OnErr, OnOk, Some};
 ghost use Rattle.rpki_der.specs.Values.{AreOctets};
 ghost use Rattle.rpki_der.specs.Answers.{Answers, AnswersOrMemory};
 ghost use Rattle.rpki_der.specs.Formats.{part};
-ghost use Rattle.rpki_der.specs.Writers.{Writes, value};
+ghost use Rattle.rpki_der.specs.Writers.{SaysLong, Writes, value};
 ghost use Rattle.rpki_der.specs.Place.{remaining, IsWithin, Keeps, MeansOrMemory};
 ghost use Rattle.rpki_der.specs.Place.Reading.{Took, TookBy, TookOrMemory};
 ghost use Rattle.rpki_parts.specs.Keys.{KeyFields, IsPublicKey, key_identifier};
@@ -15,7 +15,7 @@ use crate::algorithm::take_opt_null;
 use crate::name::Name;
 use bytes::Bytes;
 use rpki_der::{
-    Cursor, DecodeError, EncodeError, Piece, put_bits, put_parts, put_value, tag, write_hexadecimal,
+    Cursor, DecodeError, EncodeError, Piece, end_value, put_bits, put_value, tag, write_hexadecimal,
 };
 use sha1::Sha1;
 use std::alloc::{AllocError, Global};
@@ -295,15 +295,27 @@ impl PublicKey {
         Ok(key)
     }
 
+    // Appends what stands inside the SEQUENCE, or a part of it where it errs.
+    #[tactic(auto, unfolding(crate::specs::Keys::public_key_format, crate::specs::Keys::whole_bits_format))]
+    fn append_content(&self, out: &mut Vec<u8>) -> Result<(), EncodeError>
+        ensures ok { OnOk result
+            (out.new.items ≡ out.old.items ++ (part public_key_format self.now).inside) }
+        ensures err { OnErr result (take (length out.old.items) out.new.items ≡ out.old.items) }
+        ensures too_long { SaysLong result (part public_key_format self.now).inside }
+    {
+        out.extend_from_slice(self.format.algorithm())?;
+        put_bits(out, 0, self.bits())
+    }
+
     /// Appends the SubjectPublicKeyInfo, with NULL behind rsaEncryption. Errs with `TooLong` where
     /// its content would have 2^32 octets or more.
-    #[tactic(auto, unfolding(crate::specs::Keys::public_key_format, crate::specs::Keys::whole_bits_format))]
-    pub fn encode_ref(&self, alloc: Global, out: &mut Vec<u8>) -> Result<(), EncodeError>
+    #[tactic(auto, unfolding(crate::specs::Keys::public_key_format))]
+    pub fn encode_ref(&self, _alloc: Global, out: &mut Vec<u8>) -> Result<(), EncodeError>
         ensures { Writes (part public_key_format self.now) out.old.items result out.new.items }
     {
-        let mut bits = Vec::new(alloc);
-        put_bits(&mut bits, 0, self.bits())?;
-        put_parts(out, tag::SEQUENCE, self.format.algorithm(), &bits)
+        let start = out.len();
+        let content = self.append_content(out);
+        end_value(out, start, tag::SEQUENCE, content)
     }
 
     /// Returns which kind of key it is.

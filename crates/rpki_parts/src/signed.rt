@@ -1,10 +1,12 @@
 //! Signed data: octets and their signature.
-ghost use Rattle.std.specs.Prelude.{◌≡◌, ◌↔◌, ◌^◌, ◌<◌, ◌++◌, Ok, IfOk, IfErr, IsOk, OnOk, length};
+ghost use Rattle.std.specs.Prelude.{◌≡◌, ◌↔◌, ◌^◌, ◌<◌, ◌++◌, Ok, IfOk, IfErr, IsOk, OnErr, OnOk, length, take};
 ghost use Rattle.rpki_der.specs.Writers.{SaysLong, Writes};
 ghost use Rattle.rpki_der.specs.Answers.{AnswersOrMemory};
 ghost use Rattle.rpki_der.specs.Place.{remaining, Keeps};
 ghost use Rattle.rpki_der.specs.Place.Reading.{TookOrMemory};
 ghost use Rattle.rpki_der.specs.Values.{AreOctets};
+ghost use Rattle.rpki_parts.specs.Algorithms.{algorithm};
+ghost use Rattle.rpki_parts.specs.Keys.{whole_bits_format};
 ghost use Rattle.rpki_parts.specs.SignedDatas.{signed_content, signed_content_format, signed_part};
 ghost use Rattle.rpki_parts.specs.Signing.{IsRefusalOnceAsked};
 
@@ -12,7 +14,7 @@ use crate::algorithm::RpkiSignatureAlgorithm;
 use crate::key::{PublicKey, take_whole_bits};
 use crate::signature::{Signature, SignatureVerificationError, Signer, SigningError, Verifier};
 use bytes::Bytes;
-use rpki_der::{Cursor, DecodeError, EncodeError, MAX_LEN, Piece, put_bits, put_parts, tag};
+use rpki_der::{Cursor, DecodeError, EncodeError, MAX_LEN, Piece, end_value, put_bits, tag};
 use std::alloc::{AllocError, Global};
 use std::marker::Model;
 
@@ -104,25 +106,29 @@ impl SignedData {
         }
     }
 
-    // What follows the octets inside the SEQUENCE: the algorithm and the signature.
-    #[tactic(auto, unfolding(crate::specs::SignedDatas::signed_content_format, crate::specs::Keys::whole_bits_format))]
-    fn tail(&self, alloc: Global) -> Result<Vec<u8>, EncodeError>
-        ensures ok { IfOk result
-            (λ tail. self.now.message ++ tail.items ≡ signed_content self.now) }
-        ensures too_long { SaysLong result (signed_content self.now) }
+    // Appends what follows the octets inside the SEQUENCE, the algorithm and the signature, or a
+    // part of it where it errs.
+    #[tactic(auto, unfolding(crate::specs::Keys::whole_bits_format))]
+    fn append_signature(&self, alloc: Global, out: &mut Vec<u8>) -> Result<(), EncodeError>
+        ensures ok { OnOk result (out.new.items ≡ out.old.items
+            ++ (algorithm self.now.signature.algorithm
+            ++ whole_bits_format.written self.now.signature.value)) }
+        ensures err { OnErr result (take (length out.old.items) out.new.items ≡ out.old.items) }
+        ensures too_long { SaysLong result (algorithm self.now.signature.algorithm
+            ++ whole_bits_format.written self.now.signature.value) }
     {
-        let mut tail = Vec::new(alloc);
-        self.signature.algorithm().x509_encode(alloc, &mut tail)?;
-        put_bits(&mut tail, 0, self.signature.value())?;
-        Ok(tail)
+        self.signature.algorithm().x509_encode(alloc, out)?;
+        put_bits(out, 0, self.signature.value())
     }
 
     // Whether the whole fits.
+    #[tactic(auto, unfolding(crate::specs::SignedDatas::signed_content_format))]
     fn check_length(&self, alloc: Global) -> Result<(), EncodeError>
         ensures fits { OnOk result (length (signed_content self.now) < 2 ^ 32) }
         ensures too_long { SaysLong result (signed_content self.now) }
     {
-        let tail = self.tail(alloc)?;
+        let mut tail = Vec::new(alloc);
+        self.append_signature(alloc, &mut tail)?;
         if self.data().len() + tail.len() > MAX_LEN {
             return Err(EncodeError::TooLong);
         }
@@ -152,13 +158,25 @@ impl SignedData {
         Ok(signed_data)
     }
 
+    // Appends what stands inside the SEQUENCE, or a part of it where it errs.
+    #[tactic(auto, unfolding(crate::specs::SignedDatas::signed_content_format))]
+    fn append_content(&self, alloc: Global, out: &mut Vec<u8>) -> Result<(), EncodeError>
+        ensures ok { OnOk result (out.new.items ≡ out.old.items ++ signed_content self.now) }
+        ensures err { OnErr result (take (length out.old.items) out.new.items ≡ out.old.items) }
+        ensures too_long { SaysLong result (signed_content self.now) }
+    {
+        out.extend_from_slice(self.data())?;
+        self.append_signature(alloc, out)
+    }
+
     /// Appends the SEQUENCE of the octets as they are kept, the algorithm and the signature. Errs
     /// with `TooLong` where its content would have 2^32 octets or more.
     pub fn encode_ref(&self, alloc: Global, out: &mut Vec<u8>) -> Result<(), EncodeError>
         ensures { Writes (signed_part self.now) out.old.items result out.new.items }
     {
-        let tail = self.tail(alloc)?;
-        put_parts(out, tag::SEQUENCE, self.data(), &tail)
+        let start = out.len();
+        let content = self.append_content(alloc, out);
+        end_value(out, start, tag::SEQUENCE, content)
     }
 
     /// Clones the signed data.
