@@ -1,7 +1,7 @@
 -- What an append that may fail leaves behind.
-use Rattle.std.proofs.Common.{◌≡◌, ◌≤◌, ℕ, ◌+◌, List, [], ◌∷◌, ◌++◌, length, take, Result, Ok, Err, refl, ap, sym, ◌∙◌, append_assoc, arith}
+use Rattle.std.proofs.Common.{◌≡◌, ◌≤◌, ℕ, ◌+◌, List, ◌∷◌, ◌++◌, length, Result, Ok, Err, ap, ◌∙◌, append_assoc, arith}
 use Rattle.std.specs.Prelude.{OnOk, OnErr, is_ok, if◌then◌else◌}
-use Rattle.std.proofs.lemmas.List.{length-append, take_at, take-take}
+use Rattle.std.proofs.lemmas.List.{length-append}
 use Rattle.rpki_der.specs.Values.{length_octets, enc}
 use Rattle.rpki_der.specs.Extensions.{extension_content}
 use Rattle.rpki_der.specs.Tags.{OBJECT_IDENTIFIER, OCTET_STRING, SEQUENCE}
@@ -10,12 +10,6 @@ use Rattle.rpki_der.specs.Tags.{OBJECT_IDENTIFIER, OCTET_STRING, SEQUENCE}
 pub appends : {T E : Type 0} (r : Result T E) (old ds es new : List ℕ) → ds ≡ es → new ≡ (if is_ok r then old ++ ds else old) → OnOk r (new ≡ old ++ es)
 appends (Ok x) old ds es new same e = e ∙ ap (λ (s : List ℕ). old ++ s) same
 appends (Err d) old ds es new same e = tt
-
--- what was a front before more was appended is a front still
-pub still_front : (old more mid new : List ℕ) → mid ≡ old ++ more → take (length mid) new ≡ mid → take (length old) new ≡ old
-still_front old more mid new e h =
-    let long : length mid ≡ length old + length more = ap length e ∙ length-append old more in
-    sym (take-take (length old) (length mid) new (omega (arith, long))) ∙ ap (take (length old)) (h ∙ e) ∙ take_at old more (length old) refl
 
 -- what is true anyway is true after an error
 pub on_err : {T E P : Type 0} (r : Result T E) → P → OnErr r P

@@ -1,7 +1,6 @@
--- An error of a part that says that it is too long, said of the whole; and what fits.
-use Rattle.std.specs.Prelude.{IsErrAnd, IsErrOf, OnOk}
-use Rattle.std.proofs.Common.{◌≡◌, ◌^◌, ◌<◌, ◌≤◌, ◌↔◌, List, ℕ, length, Result, Ok, Err, inl, inr, arith}
-use Rattle.std.proofs.lemmas.Bool.{cases_lt}
+-- An error of a part that says that it is too long, said of the whole.
+use Rattle.std.specs.Prelude.{IsErrAnd, IsErrOf}
+use Rattle.std.proofs.Common.{◌≡◌, ◌^◌, ◌≤◌, List, ℕ, length, Result, Ok, Err, arith}
 use Rattle.rpki_der.specs.declared.error.EncodeError.{EncodeError}
 use Rattle.rpki_der.specs.declared.error.EncodeError.TheVariants.{TooLong}
 use Rattle.rpki_der.specs.Writers.{SaysLong}
@@ -17,12 +16,3 @@ passed_long {T} {U} (Err d) e part whole same says le = λ long.
     let is : IsErrOf {T = U} {E = EncodeError} (Err e) TooLong = cc in
     let much : 2 ^ 32 ≤ length part = says is in
     omega arith
-
--- what was written isn't too long
-pub written_fits : {T : Type 0} (P : Type 0) (r : Result T EncodeError) (c : List ℕ) → IsErrOf r TooLong ↔ (2 ^ 32 ≤ length c) → (length c < 2 ^ 32 → P) → OnOk r P
-written_fits P (Err e) c long h = tt
-written_fits P (Ok x) c long h =
-    elim (cases_lt (length c) (2 ^ 32)) [
-      | inl short ↦ h short
-      | inr much ↦ let same : Ok x ≡ Err TooLong = long.1 much in absurd cc
-    ]

@@ -1,17 +1,17 @@
 //! Authority Information Access (RFC 6487 4.8.7).
-ghost use Rattle.std.specs.Prelude.{Some, option_map};
+ghost use Rattle.std.specs.Prelude.{◌≡◌, ◌++◌, length, take, OnErr, OnOk, Some, option_map};
 ghost use Rattle.rpki_der.specs.Place.{remaining, Keeps};
 ghost use Rattle.rpki_der.specs.Answers.{AnswersOrMemory};
 ghost use Rattle.rpki_der.specs.Place.Reading.{ReturnsOrMemory, TookOrMemory};
 ghost use Rattle.rpki_der.specs.Values.{AreOctets};
-ghost use Rattle.rpki_der.specs.Writers.{Writes};
+ghost use Rattle.rpki_der.specs.Writers.{SaysLong, Writes};
 ghost use Rattle.rpki_ext.specs.Kinds.{part};
-ghost use Rattle.rpki_ext.specs.ExtensionKinds.{issuers_of, authority_information_access};
+ghost use Rattle.rpki_ext.specs.ExtensionKinds.{issuers_of, authority_information_access, authority_information_access_format};
 ghost use Rattle.rpki_ext.specs.Contents.{identified};
 
-use crate::encode::{put_description, put_nested_extension};
+use crate::encode::append_description;
 use crate::names::only_rsync;
-use rpki_der::{Cursor, DecodeError, EncodeError, oid, tag};
+use rpki_der::{Cursor, DecodeError, EncodeError, enclose, end_extension, oid, tag};
 use rpki_parts::Rsync;
 use std::alloc::Global;
 
@@ -53,26 +53,33 @@ pub fn take_authority_information_access(
     read(alloc, cursor)
 }
 
+// Appends the content: a SEQUENCE of one description, or a part of it where it errs.
+#[tactic(auto, unfolding(crate::specs::ExtensionKinds::authority_information_access_format))]
+fn append_content(out: &mut Vec<u8>, uri: &Rsync) -> Result<(), EncodeError>
+    ensures ok { OnOk result (out.new.items
+        ≡ out.old.items ++ authority_information_access_format.written uri.now) }
+    ensures err { OnErr result (take (length out.old.items) out.new.items ≡ out.old.items) }
+    ensures too_long { SaysLong result (authority_information_access_format.written uri.now) }
+{
+    let start = out.len();
+    append_description(out, oid::AD_CA_ISSUERS, uri.as_bytes())?;
+    enclose(out, start, tag::SEQUENCE)
+}
+
 /// Appends the extension with one description, which says that the issuer's certificate is at this
 /// URI. Errs with `TooLong` where a content would have 2^32 octets or more.
-#[tactic(auto, unfolding(crate::specs::ExtensionKinds::authority_information_access_format))]
+#[tactic(auto, using(rpki_der::proofs::ExtensionWritten::content_longer))]
 pub fn encode_authority_information_access(
-    alloc: Global,
+    _alloc: Global,
     out: &mut Vec<u8>,
     uri: &Rsync,
 ) -> Result<(), EncodeError>
     ensures { Writes (part authority_information_access (Some uri.now)) out.old.items
         result out.new.items }
 {
-    let mut elements = Vec::new(alloc);
-    put_description(&mut elements, oid::AD_CA_ISSUERS, uri.as_bytes())?;
-    put_nested_extension(
-        out,
-        oid::PE_AUTHORITY_INFO_ACCESS,
-        false,
-        &[tag::SEQUENCE],
-        &elements,
-    )
+    let start = out.len();
+    let content = append_content(out, uri);
+    end_extension(out, start, oid::PE_AUTHORITY_INFO_ACCESS, false, content)
 }
 
 // Appends the extension, where there is a URI.

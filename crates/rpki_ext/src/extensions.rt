@@ -1,6 +1,6 @@
 //! What the extensions of a certificate give, kind by kind: how they are read where they stand, and
 //! how they are written.
-ghost use Rattle.std.specs.Prelude.{◌≡◌, ◌++◌, map, false, if◌then◌else◌, is_some, OnOk, IfErr, IfOk, None, Some};
+ghost use Rattle.std.specs.Prelude.{◌≡◌, ◌++◌, length, take, map, false, if◌then◌else◌, is_some, OnErr, OnOk, IfErr, IfOk, None, Some};
 ghost use Rattle.rpki_der.specs.Extensions.{Extension, part_of};
 ghost use Rattle.rpki_der.specs.Place.{remaining};
 ghost use Rattle.rpki_der.specs.Place.Reading.{Returns, ReturnsOrMemoryBy};
@@ -277,9 +277,10 @@ impl Extensions {
         }
     }
 
-    // Appends the extensions, or a front of them where it errs.
+    // Appends the extensions, or a part of them where it errs.
     fn append_sequence(&self, alloc: Global, out: &mut Vec<u8>) -> Result<(), EncodeError>
         ensures ok { OnOk result (out.new.items ≡ out.old.items ++ extensions self.now) }
+        ensures err { OnErr result (take (length out.old.items) out.new.items ≡ out.old.items) }
         ensures too_long { SaysLong result (extensions self.now) }
     {
         let kinds = self.in_order();
@@ -294,13 +295,15 @@ impl Extensions {
     pub fn encode_row(&self, alloc: Global, out: &mut Vec<u8>) -> Result<(), EncodeError>
         ensures { Writes (sequence_part self.now) out.old.items result out.new.items }
     {
-        let mut elements = Vec::new(alloc);
-        self.append_sequence(alloc, &mut elements)?;
-        if elements.len() > MAX_LEN {
-            return Err(EncodeError::TooLong);
+        let start = out.len();
+        let ended = match self.append_sequence(alloc, out) {
+            Ok(()) if out.len() - start > MAX_LEN => Err(EncodeError::TooLong),
+            appended => appended,
+        };
+        if ended.is_err() {
+            out.truncate(start);
         }
-        out.extend_from_slice(&elements)?;
-        Ok(())
+        ended
     }
 }
 

@@ -1,6 +1,6 @@
 -- How long what is written is.
 use Rattle.std.specs.Prelude.{nat_le, nat_lt, ◌&&◌}
-use Rattle.std.proofs.Common.{ℕ, ◌+◌, ◌^◌, ◌≤◌, List, ◌∷◌, ◌++◌, length, arith, inl, inr}
+use Rattle.std.proofs.Common.{ℕ, ◌+◌, ◌≤◌, List, ◌∷◌, ◌++◌, length, arith, inl, inr}
 use Rattle.std.proofs.lemmas.List.{length-append}
 use Rattle.rpki_der.specs.Values.{enc, length_octets}
 use Rattle.rpki_der.specs.Times.{Moment, time}
@@ -23,7 +23,3 @@ bits_longer front bits = omega (arith, length-append front (enc BIT_STRING (0 �
 -- two Times that are written have at most 34 octets
 pub two_times_short : (m n : Moment) → length (time m ++ time n) ≤ 34
 two_times_short m n = omega (arith, length-append (time m) (time n), time_short m, time_short n)
-
--- what is too long stays so behind other octets
-pub longer_behind : (front rest : List ℕ) → 2 ^ 32 ≤ length rest → 2 ^ 32 ≤ length (front ++ rest)
-longer_behind front rest h = omega (arith, length-append front rest)

@@ -1,20 +1,21 @@
-use Rattle.std.proofs.Common.{ℕ, List, false, length, rules, ap, arith}
-use Rattle.rpki_der.specs.Tags.{SEQUENCE}
+use Rattle.std.proofs.Common.{◌≡◌, length, false, refl, rules}
+use Rattle.rpki_der.specs.Extensions.{extension_part}
 use Rattle.rpki_der.specs.Identifiers.{pkix}
-use Rattle.rpki_der.specs.Values.{enc}
-use Rattle.rpki_der.proofs.ValueWritten.{enc_longer}
-use Rattle.rpki_blocks.proofs.Lengths.{passed_long}
-use Rattle.rpki_ext.specs.ExtensionKinds.{authority_information_access_format, ca_issuers, description}
+use Rattle.rpki_der.proofs.Ending.{ended}
 use Rattle.rpki_der.proofs.ExtensionWritten.{content_longer}
+use Rattle.rpki_der.proofs.IdentifierReads.{oid_takes}
+use Rattle.rpki_der.proofs.TooLong.{still_long}
+use Rattle.rpki_ext.specs.ExtensionKinds.{authority_information_access_format}
 use Rattle.rpki_ext.proofs.authority_access.encode_authority_information_access.Goals as goal
 
-pub returns-in_err-put_description : goal.returns-in_err-put_description
-unfolding authority_information_access_format
-returns-in_err-put_description c =
-    let elements = description ca_issuers c.args.uri.now in
-    record {
-      ok = search rules;
-      err = search rules;
-      fits = search rules;
-      too_long = passed_long c.from_residual.result _ _ _ c.from_residual.ensures.1 c.in_err-put_description.ensures.too_long (omega (arith, enc_longer SEQUENCE elements, content_longer (pkix 0x01 0x01) false (enc SEQUENCE elements), ap (λ (uri : List ℕ). length (description ca_issuers uri)) c.as_bytes.ensures.octets));
-    }
+pub end_extension-requires-clause-oid : goal.end_extension-requires-clause-oid
+end_extension-requires-clause-oid c = oid_takes _ refl
+
+pub returns : goal.returns
+returns c =
+    let old = c.args.out.now.items in
+    let inside = authority_information_access_format.written c.args.uri.now in
+    let start : c.len-start.result ≡ length old = search rules in
+    let content = c.append_content-content.ensures in
+    let long = still_long c.append_content-content.result _ _ content.too_long (content_longer (pkix 0x01 0x01) false inside) in
+    ended (extension_part (pkix 0x01 0x01) false) _ old inside _ _ c.append_content-content.result c.end_extension.result start content.ok content.err long c.end_extension.ensures

@@ -1,12 +1,13 @@
-use Rattle.std.proofs.Common.{ℕ, length, ap, arith}
-use Rattle.std.proofs.lemmas.List.{length-append}
-use Rattle.rpki_der.specs.Tags.{OBJECT_IDENTIFIER, CONTEXT}
+use Rattle.std.proofs.Common.{◌≡◌, ◌++◌, ℕ, List, length, ap, ◌∙◌, append_assoc, rules, arith}
+use Rattle.rpki_der.specs.Tags.{OBJECT_IDENTIFIER, CONTEXT, SEQUENCE}
+use Rattle.rpki_der.specs.Values.{enc}
+use Rattle.rpki_der.proofs.Ending.{enclosed_long}
 use Rattle.rpki_der.proofs.IdentifierReads.{oid_takes}
+use Rattle.rpki_der.proofs.TooLong.{passed_long}
 use Rattle.rpki_der.proofs.ValueWritten.{enc_longer}
-use Rattle.rpki_blocks.proofs.Lengths.{passed_long}
 use Rattle.rpki_ext.specs.GeneralNames.{uri_format}
 use Rattle.rpki_ext.proofs.WrittenLengths.{description_longer}
-use Rattle.rpki_ext.proofs.encode.put_description.Goals as goal
+use Rattle.rpki_ext.proofs.encode.append_description.Goals as goal
 
 pub put_oid-requires : goal.put_oid-requires
 put_oid-requires c = oid_takes _ c.requires
@@ -20,4 +21,10 @@ returns-in_err-put_value-clause-too_long c = passed_long c.from_residual-in_err-
 
 pub returns-clause-too_long : goal.returns-clause-too_long
 unfolding uri_format
-returns-clause-too_long c = λ long. omega (arith, description_longer c.args.method.now c.args.uri.now, c.put_value-2.ensures.too_long.0 long, ap length c.deref.ensures.value, ap length c.in_ok-put_value.ensures.ok, ap length c.in_ok-put_oid.ensures.ok, ap length c.new-parts.ensures.items, length-append {A = ℕ})
+returns-clause-too_long c =
+    let old = c.args.out.now.items in
+    let method = enc OBJECT_IDENTIFIER c.args.method.now in
+    let uri = enc (CONTEXT 6) c.args.uri.now in
+    let start : c.len-start.result ≡ length old = search rules in
+    let both = c.in_ok-put_value.ensures.ok ∙ ap (λ (b : List ℕ). b ++ uri) c.in_ok-put_oid.ensures.ok ∙ append_assoc old method uri in
+    enclosed_long c.enclose.result _ old (method ++ uri) _ _ c.enclose.ensures.too_long.0 start both (enc_longer SEQUENCE (method ++ uri))
