@@ -1,6 +1,6 @@
 -- Certificates are lawful: how they are read, and what is written of them.
-use Rattle.std.proofs.Common.{◌≡◌, ◌<◌, ◌≤◌, ◌^◌, ℕ, zero, suc, List, [], ◌∷◌, ◌++◌, length, map, get_or, refl, ap, ◌∙◌, arith, append_assoc}
-use Rattle.std.proofs.lemmas.List.{append-nil, length-append}
+use Rattle.std.proofs.Common.{◌≡◌, ◌<◌, ◌≤◌, ◌^◌, ℕ, zero, suc, List, [], ◌∷◌, ◌++◌, length, take, map, get_or, refl, ap, ◌∙◌, arith, append_assoc}
+use Rattle.std.proofs.lemmas.List.{append-nil, length-append, take_at}
 use Rattle.std.specs.List.{concat}
 use Rattle.rpki_der.specs.BasicFormats.{serial_format}
 use Rattle.rpki_der.specs.Extensions.{text}
@@ -120,19 +120,17 @@ pub pieces_are : (f : TbsFields) → tbs_content f ≡ concat (pieces f)
 unfolding tbs_content_format name_format
 pieces_are f = rw (append-nil (tagged_extensions f.extensions)) refl
 
-in_order : (a b c d e f g h : List ℕ) → ((((((a ++ b) ++ c) ++ d) ++ e) ++ f) ++ g) ++ h ≡ a ++ (b ++ (c ++ (d ++ (e ++ (f ++ (g ++ h))))))
-in_order a b c d e f g h =
-    append_assoc (((((a ++ b) ++ c) ++ d) ++ e) ++ f) g h
-    ∙ append_assoc ((((a ++ b) ++ c) ++ d) ++ e) f (g ++ h)
-    ∙ append_assoc (((a ++ b) ++ c) ++ d) e (f ++ (g ++ h))
-    ∙ append_assoc ((a ++ b) ++ c) d (e ++ (f ++ (g ++ h)))
-    ∙ append_assoc (a ++ b) c (d ++ (e ++ (f ++ (g ++ h))))
-    ∙ append_assoc a b (c ++ (d ++ (e ++ (f ++ (g ++ h)))))
+in_order : (old a b c d e f g h : List ℕ) → (((((((old ++ a) ++ b) ++ c) ++ d) ++ e) ++ f) ++ g) ++ h ≡ old ++ (a ++ (b ++ (c ++ (d ++ (e ++ (f ++ (g ++ h)))))))
+in_order old a b c d e f g h = simp append_assoc
 
--- and so are they one behind the other
-pub pieces_in_order : (f : TbsFields) → ((((((version_format.written tt ++ number f.serial) ++ algorithm f.algorithm) ++ f.issuer) ++ validity f.validity) ++ f.subject) ++ key f.key) ++ tagged_extensions f.extensions ≡ tbs_content f
+-- and so are they one behind the other, behind other octets
+pub pieces_in_order : (old : List ℕ) (f : TbsFields) → (((((((old ++ version_format.written tt) ++ number f.serial) ++ algorithm f.algorithm) ++ f.issuer) ++ validity f.validity) ++ f.subject) ++ key f.key) ++ tagged_extensions f.extensions ≡ old ++ tbs_content f
 unfolding tbs_content_format name_format
-pieces_in_order f = in_order (version_format.written tt) (number f.serial) (algorithm f.algorithm) f.issuer (validity f.validity) f.subject (key f.key) (tagged_extensions f.extensions)
+pieces_in_order old f = in_order old (version_format.written tt) (number f.serial) (algorithm f.algorithm) f.issuer (validity f.validity) f.subject (key f.key) (tagged_extensions f.extensions)
+
+-- what they stand behind is a front
+pub front_of_pieces : (old a b c d e f g : List ℕ) → take (length old) (((((((old ++ a) ++ b) ++ c) ++ d) ++ e) ++ f) ++ g) ≡ old
+front_of_pieces old a b c d e f g = simp append_assoc (take_at old (a ++ (b ++ (c ++ (d ++ (e ++ (f ++ g)))))) (length old) refl)
 
 member_longer : (ps : List (List ℕ)) (k : ℕ) → length (get_or ps k []) ≤ length (concat ps)
 member_longer [] k = omega arith

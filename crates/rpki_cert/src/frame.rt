@@ -17,7 +17,7 @@ ghost use Rattle.rpki_cert.specs.declared.extra.Extra.{Extra};
 use crate::cert::Cert;
 use crate::rearrange_error::RearrangeError;
 use bytes::Bytes;
-use rpki_der::{Cursor, DecodeError, EncodeError, Piece, put_value, tag};
+use rpki_der::{Cursor, DecodeError, EncodeError, Piece, enclose, tag};
 use std::alloc::{AllocError, Global};
 use std::marker::Model;
 
@@ -131,14 +131,15 @@ fn concatenated(alloc: Global, pieces: &[Piece]) -> Result<Vec<u8>, AllocError>
 }
 
 // Appends the sequence inside the two tags of extensions.
-fn put_sequence(alloc: Global, elements: &[u8], out: &mut Vec<u8>) -> Result<(), EncodeError>
+fn put_sequence(elements: &[u8], out: &mut Vec<u8>) -> Result<(), EncodeError>
     ensures ok { OnOk result (out.new.items ≡ out.old.items
         ++ nested (CONTEXT_CONSTRUCTED 3 ∷ SEQUENCE ∷ []) elements.now) }
     ensures too_long { SaysLong result (nested (CONTEXT_CONSTRUCTED 3 ∷ SEQUENCE ∷ []) elements.now) }
 {
-    let mut sequence = Vec::new(alloc);
-    put_value(&mut sequence, tag::SEQUENCE, elements)?;
-    put_value(out, tag::CONTEXT_CONSTRUCTED + 3, &sequence)
+    let start = out.len();
+    out.extend_from_slice(elements)?;
+    enclose(out, start, tag::SEQUENCE)?;
+    enclose(out, start, tag::CONTEXT_CONSTRUCTED + 3)
 }
 
 impl Frame {
@@ -155,7 +156,7 @@ impl Frame {
         ensures too_long { SaysLong result (tbs_content_with elements.now self.now) }
     {
         let mut content = concatenated(alloc, &self.before)?;
-        put_sequence(alloc, elements, &mut content)?;
+        put_sequence(elements, &mut content)?;
         Ok(content)
     }
 
@@ -164,9 +165,8 @@ impl Frame {
         ensures ok { IfOk result (λ content. content.items ≡ content_with elements.now self.now) }
         ensures too_long { SaysLong result (content_with elements.now self.now) }
     {
-        let tbs_content = self.tbs_content(alloc, elements)?;
-        let mut content = Vec::new(alloc);
-        put_value(&mut content, tag::SEQUENCE, &tbs_content)?;
+        let mut content = self.tbs_content(alloc, elements)?;
+        enclose(&mut content, 0, tag::SEQUENCE)?;
         content.extend_from_slice(self.behind.as_bytes())?;
         Ok(content)
     }
@@ -183,9 +183,8 @@ impl Frame {
         ensures fits { IsOk result → length (content_with elements.now self.now) < 2 ^ 32 }
         ensures too_long { SaysLong result (content_with elements.now self.now) }
     {
-        let content = self.content(alloc, elements)?;
-        let mut answer = Vec::new(alloc);
-        put_value(&mut answer, tag::SEQUENCE, &content)?;
+        let mut answer = self.content(alloc, elements)?;
+        enclose(&mut answer, 0, tag::SEQUENCE)?;
         Ok(answer)
     }
 }

@@ -2,7 +2,7 @@
 use Rattle.std.specs.Prelude.{IsOk, IfErr, OnOk, OnErr}
 use Rattle.std.proofs.Common.{◌≡◌, ◌^◌, ◌≤◌, ◌++◌, ℕ, List, length, take, drop, Result, Ok, Err, refl, sym, ◌∙◌, ap, inl, inr, arith}
 use Rattle.std.proofs.lemmas.Bool.{cases_lt}
-use Rattle.std.proofs.lemmas.List.{take_at, drop_at}
+use Rattle.std.proofs.lemmas.List.{take_at, drop_at, length-take, take-take}
 use Rattle.rpki_der.specs.Values.{enc}
 use Rattle.rpki_der.specs.Writers.{Ends, Part, SaysLong, Writes}
 use Rattle.rpki_der.specs.declared.error.EncodeError.{EncodeError}
@@ -57,3 +57,9 @@ ended_well P Q (Ok u) (Ok v) p well q = (p, q)
 ended_well P Q (Ok u) (Err d) p well q = tt
 ended_well P Q (Err d) (Ok v) p well q = absurd cc
 ended_well P Q (Err d) (Err f) p well q = tt
+
+-- what stood in front before more was appended still does
+pub front_kept : (old mid new : List ℕ) → take (length old) mid ≡ old → take (length mid) new ≡ mid → take (length old) new ≡ old
+front_kept old mid new g h =
+    let shorter : length old ≤ length mid = omega (arith, ap length g, length-take (length old) mid) in
+    sym (take-take (length old) (length mid) new shorter) ∙ ap (take (length old)) h ∙ g

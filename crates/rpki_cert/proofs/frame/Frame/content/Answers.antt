@@ -1,4 +1,4 @@
-use Rattle.std.proofs.Common.{◌≡◌, length, ap, ◌∙◌, arith}
+use Rattle.std.proofs.Common.{length, ap, arith}
 use Rattle.std.proofs.lemmas.List.{length-append}
 use Rattle.rpki_der.specs.Tags.{SEQUENCE}
 use Rattle.rpki_der.specs.Values.{enc}
@@ -7,13 +7,12 @@ use Rattle.rpki_der.proofs.ValueWritten.{enc_longer}
 use Rattle.rpki_cert.specs.Rearranging.{tbs_content_with}
 use Rattle.rpki_cert.proofs.frame.Frame.content.Goals as goal
 
-pub returns-in_err-tbs_content-clause-too_long : goal.returns-in_err-tbs_content-clause-too_long
-returns-in_err-tbs_content-clause-too_long c =
+pub returns-in_err-content-clause-too_long : goal.returns-in_err-content-clause-too_long
+returns-in_err-content-clause-too_long c =
     let tbs = tbs_content_with c.args.elements.now c.args.self.now in
-    passed_long c.from_residual.result _ _ _ c.from_residual.ensures.1 c.in_err-tbs_content.ensures.too_long (omega (arith, enc_longer SEQUENCE tbs, length-append (enc SEQUENCE tbs) c.args.self.now.behind))
+    passed_long c.from_residual.result _ _ _ c.from_residual.ensures.1 c.in_err-content.ensures.too_long (omega (arith, enc_longer SEQUENCE tbs, length-append (enc SEQUENCE tbs) c.args.self.now.behind))
 
-pub returns-in_err-put_value-clause-too_long : goal.returns-in_err-put_value-clause-too_long
-returns-in_err-put_value-clause-too_long c =
+pub returns-in_err-enclose-clause-too_long : goal.returns-in_err-enclose-clause-too_long
+returns-in_err-enclose-clause-too_long c =
     let tbs = tbs_content_with c.args.elements.now c.args.self.now in
-    let held : c.deref.result.now ≡ tbs = c.deref.ensures.value ∙ c.in_ok-tbs_content.ensures.ok in
-    passed_long c.from_residual-in_err-put_value.result _ _ _ c.from_residual-in_err-put_value.ensures.1 c.in_err-put_value.ensures.too_long.0 (omega (arith, ap length held, enc_longer SEQUENCE tbs, length-append (enc SEQUENCE tbs) c.args.self.now.behind))
+    passed_long c.from_residual-in_err-enclose.result _ _ _ c.from_residual-in_err-enclose.ensures.1 c.in_err-enclose.ensures.too_long.0 (omega (arith, ap length c.in_ok-content.ensures.ok, enc_longer SEQUENCE tbs, length-append (enc SEQUENCE tbs) c.args.self.now.behind))

@@ -1,18 +1,23 @@
-use Rattle.std.proofs.Common.{◌≡◌, ◌<◌, ◌^◌, List, ℕ, length, subst, ◌∙◌}
-use Rattle.rpki_cert.specs.Certificates.{Fits, tbs_content}
-use Rattle.rpki_der.proofs.TooLong.{written_fits}
+use Rattle.std.proofs.Common.{◌≡◌, length, rules}
+use Rattle.std.proofs.lemmas.Result.{on_ok_weaker}
+use Rattle.rpki_der.specs.Tags.{SEQUENCE}
+use Rattle.rpki_der.specs.Writers.{value}
+use Rattle.rpki_der.proofs.Ending.{ended, ended_well}
+use Rattle.rpki_cert.specs.Certificates.{tbs_content}
 use Rattle.rpki_cert.proofs.tbs.TbsCert.encode_ref.Goals as goal
 
 pub returns-clause-fits : goal.returns-clause-fits
 returns-clause-fits c =
-    let content : c.deref.result.now ≡ tbs_content c.args.self.now = c.deref.ensures.value ∙ c.in_ok-content.ensures.ok in
-    written_fits (Fits c.args.self.now) c.put_value.result c.deref.result.now c.put_value.ensures.too_long (λ short. record {
-      serial_is = c.in_ok-content.ensures.serial;
+    let start : c.len-start.result ≡ length c.args.out.now.items = search rules in
+    let content = c.append_content-content.ensures in
+    let writes = ended (value SEQUENCE) _ c.args.out.now.items (tbs_content c.args.self.now) _ _ c.append_content-content.result c.end_value.result start content.ok content.err content.too_long c.end_value.ensures in
+    on_ok_weaker c.end_value.result (λ both. record {
+      serial_is = both.0;
       issuer_is = c.known.ensures.issuer;
       not_before_is = c.known.ensures.not_before;
       not_after_is = c.known.ensures.not_after;
       subject_is = c.known.ensures.subject;
       key_is = c.known.ensures.key;
       extensions_are = c.known.ensures.extensions;
-      short = subst (λ (b : List ℕ). length b < 2 ^ 32) content short;
-    })
+      short = both.1;
+    }) (ended_well _ _ c.append_content-content.result c.end_value.result content.serial c.end_value.ensures.went_well writes.fits)
