@@ -1,5 +1,5 @@
 //! An entry of a certificate revocation list.
-ghost use Rattle.std.specs.Prelude.{◌≡◌, ◌<◌, ◌++◌, OnOk, OnErr, IfErr};
+ghost use Rattle.std.specs.Prelude.{◌≡◌, ◌<◌, ◌++◌, length, take, OnOk, OnErr, IfErr};
 ghost use Rattle.rpki_der.specs.Place.{remaining, Keeps, AnswersOptionalBy};
 ghost use Rattle.rpki_der.specs.Answers.{AnswersBy};
 ghost use Rattle.rpki_der.specs.Place.Reading.{TookBy};
@@ -9,7 +9,7 @@ ghost use Rattle.rpki_der.specs.declared.error.EncodeError.TheVariants.{Memory};
 ghost use Rattle.rpki_crl.specs.RevokedEntries.{IsEntry, entry, entry_content_format, entry_format, FitsEntry};
 ghost use Rattle.rpki_crl.specs.RevokedEntries.Views.{entry_of};
 
-use rpki_der::{Cursor, DecodeError, EncodeError, Serial, Time, put_value, tag};
+use rpki_der::{Cursor, DecodeError, EncodeError, Serial, Time, end_value, tag};
 use std::alloc::Global;
 
 /// A revoked certificate: its serial number, and the moment of its revocation (RFC 5280 5.1.2.6).
@@ -96,18 +96,30 @@ impl CrlEntry {
         CrlEntry::take_content(content)
     }
 
+    // Appends both, or a part of them where memory runs out.
+    #[tactic(auto, unfolding(crate::specs::RevokedEntries::entry_content_format))]
+    fn append_content(self, alloc: Global, out: &mut Vec<u8>) -> Result<(), EncodeError>
+        ensures ok { OnOk result
+            (out.new.items ≡ out.old.items ++ entry_content_format.written (entry_of self)) }
+        ensures err { OnErr result (take (length out.old.items) out.new.items ≡ out.old.items) }
+        ensures memory { IfErr result (λ e. e ≡ Memory) }
+        ensures fits { FitsEntry (entry_of self) }
+    {
+        self.user_certificate.encode(alloc, out)?;
+        self.revocation_date.encode_varied(alloc, out)
+    }
+
     /// Appends the entry: the SEQUENCE of its serial number and its time (RFC 5280 5.1). The only
     /// error is `Memory`.
-    #[tactic(auto, unfolding(crate::specs::RevokedEntries::entry_format, crate::specs::RevokedEntries::entry_content_format))]
+    #[tactic(auto, unfolding(crate::specs::RevokedEntries::entry_format))]
     pub fn encode(self, alloc: Global, out: &mut Vec<u8>) -> Result<(), EncodeError>
         ensures ok { OnOk result (out.new.items ≡ out.old.items ++ entry (entry_of self)) }
         ensures err { OnErr result (out.new.items ≡ out.old.items) }
         ensures memory { IfErr result (λ e. e ≡ Memory) }
         ensures fits { FitsEntry (entry_of self) }
     {
-        let mut content = Vec::new(alloc);
-        self.user_certificate.encode(alloc, &mut content)?;
-        self.revocation_date.encode_varied(alloc, &mut content)?;
-        put_value(out, tag::SEQUENCE, &content)
+        let start = out.len();
+        let content = self.append_content(alloc, out);
+        end_value(out, start, tag::SEQUENCE, content)
     }
 }

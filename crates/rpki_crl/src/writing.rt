@@ -1,6 +1,6 @@
 //! How the data of a revocation list is written.
-ghost use Rattle.std.specs.Prelude.{◌≡◌, ◌^◌, ◌≤◌, ◌++◌, ◌<◌, length, IfOk, OnOk, IsErrOf};
-ghost use Rattle.rpki_der.specs.Writers.{Writes};
+ghost use Rattle.std.specs.Prelude.{◌≡◌, ◌^◌, ◌++◌, ◌<◌, length, take, OnErr, OnOk};
+ghost use Rattle.rpki_der.specs.Writers.{SaysLong, Writes};
 ghost use Rattle.rpki_der.specs.Times.{IsMoment};
 ghost use Rattle.rpki_parts.specs.Names.{IsName};
 ghost use Rattle.rpki_ext.specs.ExtensionKinds.{HasTwentyOctets};
@@ -12,7 +12,7 @@ ghost use Rattle.rpki_crl.specs.Lists.{ListFits, list_content, list_part, tagged
 use crate::extensions::CrlExtensions;
 use crate::revoked::RevokedCertificates;
 use crate::tbs::TbsCertList;
-use rpki_der::{EncodeError, oid, put_extension, put_value, tag};
+use rpki_der::{EncodeError, enclose, end_extension, end_value, oid, tag};
 use rpki_ext::encode_authority_key_identifier;
 use std::alloc::Global;
 
@@ -20,33 +20,32 @@ use std::alloc::Global;
 const VERSION_2: [u8; 3] = [tag::INTEGER, 0x01, 0x01];
 
 impl CrlExtensions {
-    // Appends both extensions, one after the other.
-    fn put_sequence(&self, alloc: Global, out: &mut Vec<u8>) -> Result<(), EncodeError>
+    // Appends both extensions, one after the other, or a part of them where it errs.
+    fn append_sequence(&self, alloc: Global, out: &mut Vec<u8>) -> Result<(), EncodeError>
         ensures ok { OnOk result
             (out.new.items ≡ out.old.items ++ list_sequence (extensions_view self.now)) }
+        ensures err { OnErr result (take (length out.old.items) out.new.items ≡ out.old.items) }
         ensures number { OnOk result (self.now.crl_number < 2 ^ 160) }
-        ensures too_long { IsErrOf result EncodeError.TooLong
-            → 2 ^ 32 ≤ length (list_sequence (extensions_view self.now)) }
+        ensures too_long { SaysLong result (list_sequence (extensions_view self.now)) }
     {
         encode_authority_key_identifier(alloc, out, self.authority_key_identifier)?;
-        let mut number = Vec::new(alloc);
-        self.crl_number.encode(alloc, &mut number)?;
-        put_extension(out, oid::CE_CRL_NUMBER, false, &number)
+        let start = out.len();
+        let number = self.crl_number.encode(alloc, out);
+        end_extension(out, start, oid::CE_CRL_NUMBER, false, number)
     }
 
-    // Appends them inside their two tags.
-    fn put_tagged(&self, alloc: Global, out: &mut Vec<u8>) -> Result<(), EncodeError>
+    // Appends them inside their two tags, or a part of them where it errs.
+    fn append_tagged(&self, alloc: Global, out: &mut Vec<u8>) -> Result<(), EncodeError>
         ensures ok { OnOk result
             (out.new.items ≡ out.old.items ++ tagged_list_extensions (extensions_view self.now)) }
+        ensures err { OnErr result (take (length out.old.items) out.new.items ≡ out.old.items) }
         ensures number { OnOk result (self.now.crl_number < 2 ^ 160) }
-        ensures too_long { IsErrOf result EncodeError.TooLong
-            → 2 ^ 32 ≤ length (tagged_list_extensions (extensions_view self.now)) }
+        ensures too_long { SaysLong result (tagged_list_extensions (extensions_view self.now)) }
     {
-        let mut elements = Vec::new(alloc);
-        self.put_sequence(alloc, &mut elements)?;
-        let mut sequence = Vec::new(alloc);
-        put_value(&mut sequence, tag::SEQUENCE, &elements)?;
-        put_value(out, tag::CONTEXT_CONSTRUCTED, &sequence)
+        let start = out.len();
+        self.append_sequence(alloc, out)?;
+        enclose(out, start, tag::SEQUENCE)?;
+        enclose(out, start, tag::CONTEXT_CONSTRUCTED)
     }
 }
 
@@ -66,22 +65,21 @@ impl TbsCertList<RevokedCertificates> {
         let _identifier = self.extensions.authority_key_identifier.as_octets();
     }
 
-    // What stands inside the SEQUENCE.
+    // Appends what stands inside the SEQUENCE, or a part of it where it errs.
     #[tactic(auto, unfolding(crate::specs::Lists::list_content_format))]
-    fn content(&self, alloc: Global) -> Result<Vec<u8>, EncodeError>
-        ensures ok { IfOk result (λ c. c.items ≡ list_content self.now) }
+    fn append_content(&self, alloc: Global, out: &mut Vec<u8>) -> Result<(), EncodeError>
+        ensures ok { OnOk result (out.new.items ≡ out.old.items ++ list_content self.now) }
+        ensures err { OnErr result (take (length out.old.items) out.new.items ≡ out.old.items) }
         ensures number { OnOk result (self.now.extensions.crl_number < 2 ^ 160) }
-        ensures too_long { IsErrOf result EncodeError.TooLong
-            → 2 ^ 32 ≤ length (list_content self.now) }
+        ensures too_long { SaysLong result (list_content self.now) }
     {
-        let mut content = Vec::from_slice(alloc, &VERSION_2)?;
-        self.signature.x509_encode(alloc, &mut content)?;
-        self.issuer.encode_ref(alloc, &mut content)?;
-        self.this_update.encode_varied(alloc, &mut content)?;
-        self.next_update.encode_varied(alloc, &mut content)?;
-        self.revoked_certs.encode_ref(alloc, &mut content)?;
-        self.extensions.put_tagged(alloc, &mut content)?;
-        Ok(content)
+        out.extend_from_slice(&VERSION_2)?;
+        self.signature.x509_encode(alloc, out)?;
+        self.issuer.encode_ref(alloc, out)?;
+        self.this_update.encode_varied(alloc, out)?;
+        self.next_update.encode_varied(alloc, out)?;
+        self.revoked_certs.encode_ref(alloc, out)?;
+        self.extensions.append_tagged(alloc, out)
     }
 
     /// Appends the TBSCertList with these fields (RFC 5280 5.1.2, RFC 6487 5): the entries as they
@@ -93,7 +91,8 @@ impl TbsCertList<RevokedCertificates> {
         ensures fits { OnOk result (ListFits self.now) }
     {
         self.known();
-        let content = self.content(alloc)?;
-        put_value(out, tag::SEQUENCE, &content)
+        let start = out.len();
+        let content = self.append_content(alloc, out);
+        end_value(out, start, tag::SEQUENCE, content)
     }
 }
