@@ -5,8 +5,8 @@ use bytes::Bytes;
 use rpki_blocks::{AsResources, IpResources};
 use rpki_cert::{KeyUsage, Overclaim, TbsCert};
 use rpki_der::{
-    Cursor, Piece, Serial, Time, oid, put_bits, put_bool, put_extension, put_oid, put_parts,
-    put_unsigned, put_value,
+    Cursor, Piece, Serial, Time, enclose, end_extension, end_value, oid, put_bits, put_bool,
+    put_extension, put_oid, put_parts, put_unsigned, put_value,
 };
 use rpki_ext::{
     encode_authority_information_access, encode_authority_key_identifier, encode_basic_constraints,
@@ -41,6 +41,22 @@ fn identifiers_and_extensions(rt: HostRuntime) {
     put_extension(&mut out, oid::CE_BASIC_CONSTRAINTS, true, b"\x30\x00").expect(&rt, "memory");
     put_extension(&mut out, oid::CE_KEY_USAGE, false, b"").expect(&rt, "memory");
     let digits = "0603551d13300c0603551d130101ff0402300030070603551d0f0400";
+    assert_written(&rt, rt.alloc(), &out, digits);
+}
+
+#[test]
+fn contents_enclosed_where_they_stand(rt: HostRuntime) {
+    let mut out = Vec::from_slice(rt.alloc(), b"\x05\x00").expect(&rt, "memory");
+    let start = out.len();
+    put_bool(&mut out, true).expect(&rt, "memory");
+    enclose(&mut out, start, 0x30).expect(&rt, "memory");
+    let start = out.len();
+    let content = put_value(&mut out, 0x04, b"\x07");
+    end_value(&mut out, start, 0xA0, content).expect(&rt, "memory");
+    let start = out.len();
+    let content = put_bool(&mut out, true);
+    end_extension(&mut out, start, oid::CE_KEY_USAGE, true, content).expect(&rt, "memory");
+    let digits = "050030030101ffa003040107300d0603551d0f0101ff04030101ff";
     assert_written(&rt, rt.alloc(), &out, digits);
 }
 

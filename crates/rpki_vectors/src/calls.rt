@@ -5,6 +5,7 @@
 mod asking;
 mod blocks;
 mod copies;
+mod ends;
 mod extensions;
 mod folders;
 mod inputs;
@@ -25,6 +26,7 @@ use std::process::ExitCode;
 // What the call of this path answered.
 fn told(alloc: Global, path: &str) -> Option<Told> {
     copies::told(alloc, path)
+        .or(ends::told(alloc, path))
         .or(blocks::told(alloc, path))
         .or(parts::told(alloc, path))
         .or(extensions::told(alloc, path))
