@@ -39,13 +39,13 @@ first_bytes (suc c) d n =
     ap (λ (k : ℕ). take (suc c) (bytes_high_first k n)) e ∙ ap (λ (b : ℕ). b ∷ take c (bytes_high_first (c + d) n)) (byte_above c d n) ∙ ap (λ (bs : List ℕ). byte_at c (n / 256 ^ d) ∷ bs) (first_bytes c d n)
 
 -- the first octets of a number whose last bits are 0, or were made so
-pub first_octets : (count last unused a : ℕ) → count ≤ 16 → last ≡ unused + 8 * (16 - count) → take count (bytes_high_first 16 (a * 2 ^ last)) ≡ octets_of count (a * 2 ^ unused)
-first_octets count last unused a few split =
-    let whole : 16 ≡ count + (16 - count) = omega arith in
-    let powers : 2 ^ last ≡ 2 ^ unused * 2 ^ (8 * (16 - count)) = ap (λ (k : ℕ). 2 ^ k) split ∙ pow-add 2 unused (8 * (16 - count)) in
-    let moved : a * 2 ^ last ≡ a * 2 ^ unused * 2 ^ (8 * (16 - count)) = ap (λ (k : ℕ). a * k) powers ∙ sym (mul_assoc a (2 ^ unused) (2 ^ (8 * (16 - count)))) in
-    let down : a * 2 ^ last / 256 ^ (16 - count) ≡ a * 2 ^ unused = ap (λ (k : ℕ). a * 2 ^ last / k) (octets_bits (16 - count)) ∙ ap (λ (k : ℕ). k / 2 ^ (8 * (16 - count))) moved ∙ shl-shr (a * 2 ^ unused) (8 * (16 - count)) in
-    ap (λ (k : ℕ). take count (bytes_high_first k (a * 2 ^ last))) whole ∙ first_bytes count (16 - count) (a * 2 ^ last) ∙ ap (bytes_high_first count) down ∙ sym (octets_are_bytes count (a * 2 ^ unused))
+first_octets : (width count last unused a : ℕ) → count ≤ width → last ≡ unused + 8 * (width - count) → take count (bytes_high_first width (a * 2 ^ last)) ≡ octets_of count (a * 2 ^ unused)
+first_octets width count last unused a few split =
+    let whole : width ≡ count + (width - count) = omega arith in
+    let powers : 2 ^ last ≡ 2 ^ unused * 2 ^ (8 * (width - count)) = ap (λ (k : ℕ). 2 ^ k) split ∙ pow-add 2 unused (8 * (width - count)) in
+    let moved : a * 2 ^ last ≡ a * 2 ^ unused * 2 ^ (8 * (width - count)) = ap (λ (k : ℕ). a * k) powers ∙ sym (mul_assoc a (2 ^ unused) (2 ^ (8 * (width - count)))) in
+    let down : a * 2 ^ last / 256 ^ (width - count) ≡ a * 2 ^ unused = ap (λ (k : ℕ). a * 2 ^ last / k) (octets_bits (width - count)) ∙ ap (λ (k : ℕ). k / 2 ^ (8 * (width - count))) moved ∙ shl-shr (a * 2 ^ unused) (8 * (width - count)) in
+    ap (λ (k : ℕ). take count (bytes_high_first k (a * 2 ^ last))) whole ∙ first_bytes count (width - count) (a * 2 ^ last) ∙ ap (bytes_high_first count) down ∙ sym (octets_are_bytes count (a * 2 ^ unused))
 
 -- ---- the number of the octets
 
@@ -81,4 +81,11 @@ cut_small last address most small =
 
 -- the first octets of an address are its front with unused bits
 pub cut_address : (last address : ℕ) → last ≤ 128 → take ((128 - last + 7) / 8) (bytes_high_first 16 (address / 2 ^ last * 2 ^ last)) ≡ (front last address).1
-cut_address last address most = first_octets ((128 - last + 7) / 8) last (8 * ((128 - last + 7) / 8) - (128 - last)) (address / 2 ^ last) (omega arith) (omega arith)
+cut_address last address most = first_octets 16 ((128 - last + 7) / 8) last (8 * ((128 - last + 7) / 8) - (128 - last)) (address / 2 ^ last) (omega arith) (omega arith)
+
+-- where 32 bits or fewer stay, so are the first of the four upper octets
+pub cut_upper : (last address : ℕ) → 96 ≤ last → last ≤ 128 → take ((128 - last + 7) / 8) (bytes_high_first 4 (address / 2 ^ 96 / 2 ^ (last - 96) * 2 ^ (last - 96))) ≡ (front last address).1
+cut_upper last address least most =
+    let split : 2 ^ 96 * 2 ^ (last - 96) ≡ 2 ^ last = sym (pow-add 2 96 (last - 96)) ∙ ap (λ (k : ℕ). 2 ^ k) (let e : 96 + (last - 96) ≡ last = omega arith in e) in
+    let same : address / 2 ^ 96 / 2 ^ (last - 96) ≡ address / 2 ^ last = div-div-eq-div-mul address (2 ^ 96) (2 ^ (last - 96)) ∙ ap (λ (k : ℕ). address / k) split in
+    ap (λ (a : ℕ). take ((128 - last + 7) / 8) (bytes_high_first 4 (a * 2 ^ (last - 96)))) same ∙ first_octets 4 ((128 - last + 7) / 8) (last - 96) (8 * ((128 - last + 7) / 8) - (128 - last)) (address / 2 ^ last) (omega arith) (omega arith)

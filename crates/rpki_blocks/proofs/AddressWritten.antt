@@ -1,14 +1,15 @@
 -- What is written of a block of addresses encodes it.
 use Rattle.std.specs.Int.Digits.{number_from_digits}
 use Rattle.std.specs.Prelude.{◌==◌}
-use Rattle.std.proofs.Common.{◌≡◌, ℕ, true, sym, refl, subst, inl, inr, ◌≤◌, arith, ◌∙◌, ◌-◌, ◌/◌, ◌%◌, [], ◌++◌, length, ◌+◌, ◌*◌, ◌^◌, ap, ◌<◌, List, Some}
+use Rattle.std.proofs.Common.{◌≡◌, ℕ, true, sym, refl, subst, inl, inr, ◌≤◌, arith, ◌∙◌, ◌-◌, ◌/◌, ◌%◌, [], ◌∷◌, ◌++◌, append_assoc, length, take, ◌+◌, ◌*◌, ◌^◌, ap, ◌<◌, List, Some}
 use Rattle.std.proofs.lemmas.Bool.{cases_lt, eqb-true, eq-eqb, and_parts, le-ltb, not-false}
 use Rattle.std.proofs.lemmas.Nat.{pow-add, shl-shr}
 use Rattle.std.proofs.Math.Nat.{mul-mod_left, mul_assoc, mul_comm, mod-add-div, mul-le-mul_left, mod-lt}
+use Rattle.std.proofs.Math.Seq.{take-append-add}
 use Rattle.std.proofs.Math.Pow.{pow_pos, pow-lt}
 use Rattle.rpki_der.specs.BasicFormats.{bit_string}
 use Rattle.rpki_der.specs.Primitives.{IsBits}
-use Rattle.rpki_der.specs.Tags.{SEQUENCE}
+use Rattle.rpki_der.specs.Tags.{BIT_STRING, SEQUENCE}
 use Rattle.rpki_der.specs.Values.{enc}
 use Rattle.rpki_der.proofs.Octets.{some}
 use Rattle.rpki_der.proofs.ValueWritten.{bool_cases}
@@ -20,6 +21,7 @@ use Rattle.rpki_blocks.specs.declared.ip_resources.Family.{Family}
 use Rattle.rpki_blocks.specs.declared.ip_resources.Family.TheVariants.{V4, V6}
 use Rattle.rpki_blocks.proofs.AddressBits.{greatest_le, greatest_above, one_prefix, ones_divide, prefix_parts, zeros_divide}
 use Rattle.rpki_blocks.proofs.AddressOctets.{length_octets_of, number_octets_of, octets_of_are, cut_small}
+use Rattle.rpki_blocks.proofs.Lengths.{short_value}
 
 abbrev count_of : ℕ → ℕ
 count_of last = (128 - last + 7) / 8
@@ -79,6 +81,20 @@ module _ (last address : ℕ) (l : last ≤ 128) (h : address < 2 ^ 128) where
   address_fits family wide =
       subst (λ (x : ℕ × List ℕ). (prefix_of (family_bits family) x ≡ Some (around last address)) × IsBits x (bit_string.written x)) (sym (bits_around last address l))
       (rw (le-ltb (family_bits family) (8 * length (front last address).1) (few_octets family wide)) (ap some (same_block _ _ lower_is upper_is)), front_is)
+
+-- ---- the octets that are put
+
+-- the octets of the bits that stay, cut off behind the head, are the BIT STRING of an address
+pub put_cut : (last address : ℕ) (old one two octets : List ℕ) (start count : ℕ) → last ≤ 128 → start ≡ length one → count ≡ count_of last → one ≡ old ++ BIT_STRING ∷ (count + 1) ∷ (last % 8) ∷ [] → two ≡ one ++ octets → take count octets ≡ (front last address).1 → take (start + count) two ≡ old ++ without last address
+unfolding without
+put_cut last address old one two octets start count most here is first second cut =
+    let kept : List ℕ = (front last address).1 in
+    let long : length kept ≡ count_of last = length_octets_of (count_of last) (address / 2 ^ last * 2 ^ unused_of last) in
+    let head : length (unused_of last ∷ kept) ≡ count + 1 = omega (arith, long) in
+    let unused : unused_of last ≡ last % 8 = omega arith in
+    let whole : enc BIT_STRING (unused_of last ∷ kept) ≡ BIT_STRING ∷ (count + 1) ∷ (last % 8) ∷ kept = short_value BIT_STRING (unused_of last ∷ kept) (omega (arith, long)) ∙ ap (λ (k : ℕ). BIT_STRING ∷ k ∷ unused_of last ∷ kept) head ∙ ap (λ (k : ℕ). BIT_STRING ∷ (count + 1) ∷ k ∷ kept) unused in
+    let together : (old ++ BIT_STRING ∷ (count + 1) ∷ (last % 8) ∷ []) ++ kept ≡ old ++ BIT_STRING ∷ (count + 1) ∷ (last % 8) ∷ kept = append_assoc old _ kept in
+    ap (λ (k : ℕ). take (k + count) two) here ∙ ap (take (length one + count)) second ∙ take-append-add one octets count ∙ ap (λ (b : List ℕ). one ++ b) cut ∙ ap (λ (b : List ℕ). b ++ kept) first ∙ together ∙ ap (λ (b : List ℕ). old ++ b) (sym whole)
 
 -- a number with so many zero bits, or one below one with so many
 zeros_are : (n last : ℕ) → n % 2 ^ last ≡ 0 → n / 2 ^ last * 2 ^ last ≡ n

@@ -1,47 +1,23 @@
 -- How long what is written is, and an error that says that it is too long.
-use Rattle.std.proofs.Common.{true, ◌≡◌, ◌≢◌, ℕ, ◌+◌, ◌^◌, ◌≤◌, List, [], ◌∷◌, ◌++◌, length, Option, Some, None, arith, refl, ap}
+use Rattle.std.proofs.Common.{◌≡◌, ◌≢◌, ℕ, ◌+◌, ◌<◌, ◌≤◌, List, [], ◌∷◌, ◌++◌, length, Result, Ok, Err, arith, refl, sym, ap, ◌∙◌, append_assoc}
 use Rattle.std.specs.List.{concat}
-use Rattle.std.specs.Prelude.{flat_map}
+use Rattle.std.specs.Prelude.{OnOk}
 use Rattle.std.proofs.lemmas.List.{length-append}
 use Rattle.std.proofs.lemmas.List.Folds.{concat-append}
-use Rattle.rpki_der.specs.Values.{enc, length_octets, sequence_of_some}
-use Rattle.rpki_der.specs.Primitives.{null}
+use Rattle.rpki_der.specs.Values.{enc, sequence}
 use Rattle.rpki_blocks.specs.Resources.{Resources, missing, inherit, blocks}
-use Rattle.rpki_blocks.specs.Addresses.{family, ip_addr_blocks}
+use Rattle.rpki_blocks.specs.Addresses.{family}
 use Rattle.rpki_blocks.specs.AddressBits.{ip_block}
-use Rattle.rpki_blocks.specs.Systems.{as_block, written_as}
 use Rattle.rpki_blocks.specs.Unions.{text_of, written_choice}
-use Rattle.rpki_der.specs.Extensions.{content_of_some}
-use Rattle.rpki_der.specs.Tags.{NULL, OCTET_STRING, SEQUENCE, CONTEXT_CONSTRUCTED}
-use Rattle.rpki_der.proofs.ExtensionWritten.{content_longer as of_extension}
+use Rattle.rpki_der.specs.Tags.{OCTET_STRING, SEQUENCE}
+use Rattle.rpki_der.proofs.Lengths.{length_short}
 use Rattle.rpki_der.proofs.ValueWritten.{enc_longer}
-pub use Rattle.rpki_der.proofs.TooLong.{passed_long}
-
--- an extension is longer than its content
-pub content_longer : (id : List ℕ) (o : Option (List ℕ)) → length (text_of o) ≤ length (content_of_some id true o)
-content_longer id None = omega arith
-content_longer id (Some c) = of_extension id true c
+pub use Rattle.rpki_der.proofs.TooLong.{passed_long, still_long}
 
 -- ---- contents are longer than their parts
 
--- NULL is the value of its tag without content
-pub null_is_enc : enc NULL [] ≡ null
-unfolding enc length_octets
-null_is_enc = refl
-
--- ASIdentifiers aren't shorter than the choice inside
-pub choice_longer : (r : Resources) → length (text_of (written_choice as_block r)) ≤ length (text_of (written_as r))
-choice_longer missing = omega arith
-choice_longer inherit = omega (arith, enc_longer SEQUENCE (enc (CONTEXT_CONSTRUCTED 0) null), enc_longer (CONTEXT_CONSTRUCTED 0) null)
-choice_longer (blocks bs) = omega (arith, enc_longer SEQUENCE (enc (CONTEXT_CONSTRUCTED 0) (enc SEQUENCE (flat_map as_block bs))), enc_longer (CONTEXT_CONSTRUCTED 0) (enc SEQUENCE (flat_map as_block bs)))
-
--- ASIdentifiers aren't shorter than the tagged choice inside
-pub numbers_longer : (r : Resources) → r ≢ missing → length (enc (CONTEXT_CONSTRUCTED 0) (text_of (written_choice as_block r))) ≤ length (text_of (written_as r))
-numbers_longer missing some = absurd (some refl)
-numbers_longer inherit some = enc_longer SEQUENCE (enc (CONTEXT_CONSTRUCTED 0) null)
-numbers_longer (blocks bs) some = enc_longer SEQUENCE (enc (CONTEXT_CONSTRUCTED 0) (enc SEQUENCE (flat_map as_block bs)))
-
-family_is : (n : ℕ) (r : Resources) → r ≢ missing → concat (family n r) ≡ enc SEQUENCE ((OCTET_STRING ∷ 2 ∷ 0 ∷ n ∷ []) ++ text_of (written_choice ip_block r)) ++ []
+-- a family that is there
+pub family_is : (n : ℕ) (r : Resources) → r ≢ missing → concat (family n r) ≡ enc SEQUENCE ((OCTET_STRING ∷ 2 ∷ 0 ∷ n ∷ []) ++ text_of (written_choice ip_block r)) ++ []
 family_is n missing some = absurd (some refl)
 family_is n inherit some = refl
 family_is n (blocks bs) some = refl
@@ -52,26 +28,26 @@ family_longer n r some =
     let c = text_of (written_choice ip_block r) in
     omega (arith, ap length (family_is n r some), enc_longer SEQUENCE ((OCTET_STRING ∷ 2 ∷ 0 ∷ n ∷ []) ++ text_of (written_choice ip_block r)), length-append (OCTET_STRING ∷ 2 ∷ 0 ∷ n ∷ []) (text_of (written_choice ip_block r)), length-append (enc SEQUENCE ((OCTET_STRING ∷ 2 ∷ 0 ∷ n ∷ []) ++ text_of (written_choice ip_block r))) [])
 
--- a SEQUENCE isn't shorter than its pieces
-pub some_longer : (ps : List (List ℕ)) → length (concat ps) ≤ length (text_of (sequence_of_some ps))
-some_longer [] = omega arith
-some_longer (p ∷ ps) = enc_longer SEQUENCE (concat (p ∷ ps))
-
 -- IPAddrBlocks aren't shorter than the two families inside
-pub families_longer : (v4 v6 : Resources) → length (concat (family 1 v4)) + length (concat (family 2 v6)) ≤ length (text_of (ip_addr_blocks v4 v6))
-families_longer v4 v6 = omega (arith, some_longer (family 1 v4 ++ family 2 v6), ap length (concat-append (family 1 v4) (family 2 v6)), length-append (concat (family 1 v4)) (concat (family 2 v6)))
+pub families_longer : (v4 v6 : Resources) → length (concat (family 1 v4)) + length (concat (family 2 v6)) ≤ length (sequence (family 1 v4 ++ family 2 v6))
+families_longer v4 v6 = omega (arith, enc_longer SEQUENCE (concat (family 1 v4 ++ family 2 v6)), ap length (concat-append (family 1 v4) (family 2 v6)), length-append (concat (family 1 v4)) (concat (family 2 v6)))
 
--- ---- a content, and two values beside each other
+-- ---- values of few octets
 
--- a value with a long content is long
-pub long_value : (t : ℕ) (c : List ℕ) → 2 ^ 32 ≤ length c → 2 ^ 32 ≤ length (enc t c)
-long_value t c h = omega (arith, enc_longer t c)
+-- a value whose content has fewer than 128 octets
+pub short_value : (t : ℕ) (c : List ℕ) → length c < 128 → enc t c ≡ t ∷ length c ∷ c
+unfolding enc
+short_value t c h = rw (length_short (length c) h) refl
 
--- a SEQUENCE of two is longer than both
-pub two_longer : (a b : List ℕ) → length a + length b ≤ length (enc SEQUENCE (a ++ b))
-two_longer a b = omega (arith, length-append a b, enc_longer SEQUENCE (a ++ b))
+-- two pieces behind an identifier octet and their length are a value
+value_of_two : (t n : ℕ) (old one two new a b : List ℕ) → one ≡ old ++ t ∷ n ∷ [] → two ≡ one ++ a → n ≡ length a + length b → n < 128 → new ≡ two ++ b → new ≡ old ++ enc t (a ++ b)
+value_of_two t n old one two new a b first second is small third =
+    let long : length (a ++ b) ≡ n = omega (arith, length-append a b) in
+    let whole : enc t (a ++ b) ≡ t ∷ n ∷ (a ++ b) = short_value t (a ++ b) (omega arith) ∙ ap (λ (k : ℕ). t ∷ k ∷ (a ++ b)) long in
+    let together : ((old ++ t ∷ n ∷ []) ++ a) ++ b ≡ old ++ (t ∷ n ∷ (a ++ b)) = simp append_assoc in
+    third ∙ ap (λ (x : List ℕ). x ++ b) (second ∙ ap (λ (x : List ℕ). x ++ a) first) ∙ together ∙ ap (λ (x : List ℕ). old ++ x) (sym whole)
 
--- what was put together of two is too long
-pub two_long : (start one two ends a b : List ℕ) → start ≡ [] → one ≡ start ++ a → two ≡ one ++ b → ends ≡ two → 2 ^ 32 ≤ length ends → 2 ^ 32 ≤ length (enc SEQUENCE (a ++ b))
-two_long start one two ends a b none first second is long =
-    omega (arith, two_longer a b, ap length none, ap length first, ap length second, ap length is, length-append start a, length-append one b)
+-- so they are a value once the second was appended
+pub put_two : {T E : Type 0} (r : Result T E) (t n : ℕ) (old one two new a b : List ℕ) → one ≡ old ++ t ∷ n ∷ [] → two ≡ one ++ a → n ≡ length a + length b → n < 128 → OnOk r (new ≡ two ++ b) → OnOk r (new ≡ old ++ enc t (a ++ b))
+put_two (Ok x) t n old one two new a b first second is small third = value_of_two t n old one two new a b first second is small third
+put_two (Err e) t n old one two new a b first second is small third = tt

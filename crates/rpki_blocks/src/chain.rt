@@ -1,5 +1,5 @@
 //! Sets of numbers.
-ghost use Rattle.std.specs.Prelude.{◌≡◌, ◌+◌, ◌<◌, ◌≤◌, ◌↔◌, IsTrue, IsFalse, IfOk, List, [], vec_len, vec_capacity};
+ghost use Rattle.std.specs.Prelude.{◌≡◌, ◌+◌, ◌<◌, ◌≤◌, ◌↔◌, IsTrue, IsFalse, IfOk, List, [], length, vec_len, vec_capacity};
 ghost use Rattle.rpki_blocks.specs.Sets.{is_in, IsSet, IsIntersection, AreIn, Escapes, HaveSameNumbers, Block as Span};
 ghost use Rattle.std.specs.Slice.Iter.{iter_rest};
 ghost use Rattle.std.specs.Iterator.{IsFinite, Drains};
@@ -143,6 +143,13 @@ impl<B: Bound> Chain<B> {
         let mut blocks = Vec::new(alloc);
         blocks.extend_from_slice(&self.blocks)?;
         Ok(Chain { blocks })
+    }
+
+    // How many blocks it has.
+    pub(crate) fn len(&self) -> usize
+        ensures { result ≡ length self.now }
+    {
+        self.blocks.len()
     }
 
     /// Returns whether the set has no number.

@@ -1,7 +1,8 @@
+use Rattle.std.proofs.Common.{arith}
 use Rattle.rpki_blocks.specs.Systems.{as_range_format}
-use Rattle.rpki_blocks.proofs.Lengths.{two_long}
+use Rattle.rpki_blocks.proofs.Lengths.{put_two}
 use Rattle.rpki_blocks.proofs.encode.put_range.Goals as goal
 
-pub returns-clause-too_long : goal.returns-clause-too_long
+pub returns-clause-ok : goal.returns-clause-ok
 unfolding as_range_format
-returns-clause-too_long c = λ long. two_long _ _ _ _ _ _ c.new-ends.ensures.items c.in_ok-put_number.ensures.ok c.in_ok-put_number-2.ensures.ok c.deref.ensures.value (c.put_value.ensures.too_long.0 long)
+returns-clause-ok c = put_two c.put_number-2.result _ _ _ _ _ _ _ _ c.in_ok-extend_from_slice.ensures.items c.in_ok-put_number.ensures.ok (omega (arith, c.number_len.ensures.octets, c.number_len-2.ensures.octets)) (omega arith) c.put_number-2.ensures.ok

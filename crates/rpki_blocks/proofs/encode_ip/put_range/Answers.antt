@@ -1,10 +1,8 @@
-use Rattle.std.proofs.Common.{ap, ◌∙◌, ◌++◌, ℕ}
-use Rattle.rpki_blocks.specs.AddressBits.{without}
-use Rattle.rpki_blocks.proofs.Lengths.{two_long}
+use Rattle.std.proofs.Common.{arith}
+use Rattle.rpki_blocks.proofs.Lengths.{put_two}
 use Rattle.rpki_blocks.proofs.encode_ip.put_range.Goals as goal
 
-pub returns-clause-too_long : goal.returns-clause-too_long
-returns-clause-too_long c =
-    let first = c.in_ok-put_address.ensures.ok ∙ ap (λ (k : ℕ). c.new-ends.result.items ++ without k c.args.min) c.zero_bits.ensures.is in
-    let second = c.in_ok-put_address-2.ensures.ok ∙ ap (λ (k : ℕ). c.put_address.new.out.items ++ without k c.args.max) c.one_bits.ensures.is in
-    λ long. two_long _ _ _ _ _ _ c.new-ends.ensures.items first second c.deref.ensures.value (c.put_value.ensures.too_long.0 long)
+pub returns-clause-ok : goal.returns-clause-ok
+returns-clause-ok c =
+    rw (← c.zero_bits-low.ensures.is, ← c.one_bits-high.ensures.is)
+    (put_two c.put_address-2.result _ _ _ _ _ _ _ _ c.in_ok-extend_from_slice.ensures.items c.in_ok-put_address.ensures.ok (omega (arith, c.address_len.ensures.octets c.args.min, c.address_len-2.ensures.octets c.args.max)) (omega arith) c.put_address-2.ensures.ok)
