@@ -1,17 +1,18 @@
 -- A time that is read is the time that was written.
-use Rattle.std.specs.Prelude.{nat_lt, nat_le, ◌&&◌, bytes_eq, Result, Ok, Err, IfSome, IfNone}
+use Rattle.std.specs.Prelude.{nat_lt, nat_le, ◌&&◌, bytes_eq, if◌then◌else◌, Result, Ok, Err, IfSome, IfNone}
 use Rattle.std.specs.Result.{result_ok}
-use Rattle.std.proofs.Common.{◌≡◌, ℕ, ◌+◌, ◌-◌, ◌*◌, ◌/◌, ◌%◌, ◌<◌, ◌≤◌, true, cond, List, [], ◌∷◌, ◌++◌, Option, Some, refl, sym, ap, subst, ◌∙◌, arith, inl, inr}
+use Rattle.std.proofs.Common.{◌≡◌, ℕ, suc, ◌+◌, ◌-◌, ◌*◌, ◌/◌, ◌%◌, ◌<◌, ◌≤◌, true, cond, List, [], ◌∷◌, ◌++◌, length, get_or, drop, Option, Some, None, refl, sym, ap, subst, ◌∙◌, arith, inl, inr, drop-cons}
 use Rattle.std.proofs.lemmas.Slice.Eq.{bytes_eq-Decides}
-use Rattle.std.proofs.lemmas.Bool.{leb-true, le-leb, lt-ltb, le-ltb, and_parts, and_from, cases_lt}
+use Rattle.std.proofs.lemmas.Bool.{leb-true, le-leb, lt-ltb, le-ltb, and_parts, and_from, cases_lt, cases_Bool}
+use Rattle.std.proofs.lemmas.List.{drop_all}
 use Rattle.rpki_der.specs.Reading.{content, Reads, ReadsWhole, Inside, BeginWith}
 use Rattle.rpki_der.specs.Values.Reading.{◌>>=◌}
 use Rattle.rpki_der.specs.Encoding.{BeginsOther}
 use Rattle.rpki_der.specs.Place.Reading.{Returns}
 use Rattle.rpki_der.specs.declared.error.DecodeError.{DecodeError}
-use Rattle.rpki_der.specs.Times.{Moment, IsMoment, IsTime, two, day_and_time, after_year, fourteen_digits}
+use Rattle.rpki_der.specs.Times.{Moment, moment, IsMoment, IsTime, two, day_and_time, after_year, fourteen_digits}
 use Rattle.rpki_der.specs.Choices.{Either}
-use Rattle.rpki_der.specs.Times.Reading.{is_digit, two_at, existing, after_year_of, utc_of, moment_at, generalized_of, time_at, is_moment}
+use Rattle.rpki_der.specs.Times.Reading.{is_digit, two_at, IsPair, full_year, existing, after_year_of, utc_of, moment_at, generalized_of, time_at, is_moment}
 use Rattle.rpki_der.specs.Values.{enc}
 use Rattle.rpki_der.specs.Tags.{GENERALIZED_TIME, UTC_TIME}
 use Rattle.rpki_der.proofs.Choices.{choice_reads}
@@ -116,40 +117,107 @@ record IsUtcText (m : Moment) (text : List ℕ) : Type 0 where
   below : m.year < 2050
   text_is : text ≡ two (m.year % 100) ++ after_year m
 
-abbrev century_of : ℕ → ℕ
-century_of year = cond (nat_lt year 50) (2000 + year) (1900 + year)
-
-century_near : (year : ℕ) → year < 100 → (1950 ≤ century_of year) × (century_of year < 2050) × (century_of year % 100 ≡ year)
+century_near : (year : ℕ) → year < 100 → (1950 ≤ full_year year) × (full_year year < 2050) × (full_year year % 100 ≡ year)
 century_near year h =
     elim (cases_lt year 50) [
       | inl l ↦ rw (lt-ltb year 50 l) (omega arith, omega arith, omega arith)
       | inr g ↦ rw (le-ltb year 50 g) (omega arith, omega arith, omega arith)
     ]
 
-century_again : (year : ℕ) → 1950 ≤ year → year < 2050 → century_of (year % 100) ≡ year
+century_again : (year : ℕ) → 1950 ≤ year → year < 2050 → full_year (year % 100) ≡ year
 century_again year p q =
     elim (cases_lt (year % 100) 50) [
       | inl l ↦ rw (lt-ltb (year % 100) 50 l) (omega arith)
       | inr g ↦ rw (le-ltb (year % 100) 50 g) (omega arith)
     ]
 
+utc_takes : (text : List ℕ) (m : Moment) → utc_of text ≡ Some m → IsUtcText m text
+unfolding utc_of
+utc_takes text m e =
+    let year = bind_some (two_at text) (λ s. after_year_of (90 ∷ []) (full_year s.0) s.1) m e in
+    let front = two_takes text year.0.0 year.0.1 year.1 in
+    let rest = after_takes (90 ∷ []) (full_year year.0.0) year.0.1 m year.2 in
+    let near = century_near year.0.0 front.1 in
+    let last : m.year % 100 ≡ year.0.0 = omega (arith, near.2, rest.year_is) in
+    record {
+      exists = rest.exists;
+      from = omega (arith, near.0, rest.year_is);
+      below = omega (arith, near.1, rest.year_is);
+      text_is = two_before text year.0.0 (m.year % 100) year.0.1 (after_year m) front last rest.text_is;
+    }
+
 utc_whole : ReadsWhole utc_of IsUtcText
 unfolding utc_of
 utc_whole = record {
-  takes = λ text m fits e.
-      let year = bind_some (two_at text) (λ s. after_year_of (90 ∷ []) (century_of s.0) s.1) m e in
-      let front = two_takes text year.0.0 year.0.1 year.1 in
-      let rest = after_takes (90 ∷ []) (century_of year.0.0) year.0.1 m year.2 in
-      let near = century_near year.0.0 front.1 in
-      let last : m.year % 100 ≡ year.0.0 = omega (arith, near.2, rest.year_is) in
-      record {
-        exists = rest.exists;
-        from = omega (arith, near.0, rest.year_is);
-        below = omega (arith, near.1, rest.year_is);
-        text_is = two_before text year.0.0 (m.year % 100) year.0.1 (after_year m) front last rest.text_is;
-      };
+  takes = λ text m fits e. utc_takes text m e;
   again = λ m text s. rw (s.text_is, two_again (m.year % 100) (after_year m) (omega arith), century_again m.year s.from s.below) (after_again (90 ∷ []) m s.exists);
 }
+
+unlike : (text : List ℕ) (o : Option Moment) → utc_of text ≡ o → (length text ≡ 13 → get_or text 12 0 ≡ 90 → ⊥) → o ≡ None
+unlike text None e other = refl
+unlike text (Some m) e other = let is = (utc_takes text m e).text_is in absurd (other (ap length is) (ap (λ (t : List ℕ). get_or t 12 0) is))
+
+-- the content of a UTCTime has thirteen octets, and Z at the end
+pub utc_other : (text : List ℕ) → (length text ≡ 13 → get_or text 12 0 ≡ 90 → ⊥) → utc_of text ≡ None
+utc_other text other = unlike text (utc_of text) refl other
+
+-- ---- a UTCTime by its pairs of octets
+
+-- the moment, if it exists
+abbrev existent : Moment → Option Moment
+existent m = cond (is_moment m) (Some m) None
+
+-- a number below 100 is read, as it is in a moment that exists
+small_read : (n : ℕ) (rest : List ℕ) (next : ℕ × List ℕ → Option Moment) (m : Moment) → (IsMoment m → n < 100) → next (n, rest) ≡ existent m → ((if nat_lt n 100 then Some (n, rest) else None) >>= next) ≡ existent m
+small_read n rest next m small e = elim (cases_lt n 100) [
+  | inl l ↦ rw (lt-ltb n 100 l) e
+  | inr g ↦ elim (cases_Bool (is_moment m)) [
+    | inl y ↦ let l = small (moment_exists m y) in absurd (omega (arith, l, g))
+    | inr none ↦ rw (le-ltb n 100 g, none) refl
+  ]
+]
+
+module _ (text : List ℕ) where
+  -- two octets from place k on
+  pair_read : (k n : ℕ) → suc k < length text → IsPair (get_or text k 0) (get_or text (suc k) 0) n → two_at (drop k text) ≡ (if nat_lt n 100 then Some (n, drop (suc (suc k)) text) else None)
+  pair_read k n inside pair = rw (drop-cons text k 0 (omega arith), drop-cons text (suc k) 0 inside) (pair (drop (suc (suc k)) text))
+
+  module _ (long : length text ≡ 13) (end : get_or text 12 0 ≡ 90) where
+    last : drop 12 text ≡ 90 ∷ []
+    last = rw (drop-cons text 12 0 (omega arith), end, drop_all 13 text (omega arith)) refl
+
+    -- MMDDhhmmssZ by its pairs
+    after_year_pairs : (year month day hour minute second : ℕ)
+        → IsPair (get_or text 2 0) (get_or text 3 0) month → IsPair (get_or text 4 0) (get_or text 5 0) day → IsPair (get_or text 6 0) (get_or text 7 0) hour
+        → IsPair (get_or text 8 0) (get_or text 9 0) minute → IsPair (get_or text 10 0) (get_or text 11 0) second
+        → after_year_of (90 ∷ []) year (drop 2 text) ≡ existent (moment year month day hour minute second)
+    unfolding after_year_of
+    after_year_pairs year month day hour minute second p2 p4 p6 p8 p10 =
+        let m : Moment = moment year month day hour minute second in
+        let z : List ℕ = 90 ∷ [] in
+        rw (pair_read 2 month (omega arith) p2)
+        (small_read month (drop 4 text) (λ s. from_day z year s.0 s.1) m (λ h. omega (arith, h.month))
+        (rw (pair_read 4 day (omega arith) p4)
+        (small_read day (drop 6 text) (λ s. from_hour z year month s.0 s.1) m (λ h. omega (arith, h.day, days year month))
+        (rw (pair_read 6 hour (omega arith) p6)
+        (small_read hour (drop 8 text) (λ s. from_minute z year month day s.0 s.1) m (λ h. omega (arith, h.hour))
+        (rw (pair_read 8 minute (omega arith) p8)
+        (small_read minute (drop 10 text) (λ s. from_second z year month day hour s.0 s.1) m (λ h. omega (arith, h.minute))
+        (rw (pair_read 10 second (omega arith) p10)
+        (small_read second (drop 12 text) (λ s. existing z s.1 (moment year month day hour minute s.0)) m (λ h. omega (arith, h.second))
+        (rw last refl))))))))))
+
+    -- YYMMDDhhmmssZ by its pairs
+    pub utc_pairs : (last year month day hour minute second : ℕ) → last < 100 → year ≡ full_year last
+        → IsPair (get_or text 0 0) (get_or text 1 0) last → IsPair (get_or text 2 0) (get_or text 3 0) month → IsPair (get_or text 4 0) (get_or text 5 0) day
+        → IsPair (get_or text 6 0) (get_or text 7 0) hour → IsPair (get_or text 8 0) (get_or text 9 0) minute → IsPair (get_or text 10 0) (get_or text 11 0) second
+        → utc_of text ≡ existent (moment year month day hour minute second)
+    unfolding utc_of
+    utc_pairs last year month day hour minute second small whole p0 p2 p4 p6 p8 p10 =
+        rw (pair_read 0 last (omega arith) p0, lt-ltb last 100 small, whole)
+        (after_year_pairs (full_year last) month day hour minute second p2 p4 p6 p8 p10)
+
+-- ---- digits that end otherwise
 
 -- the digits of a moment that exists, and then the end
 abbrev IsMomentText : List ℕ → Moment → List ℕ → Type 0

@@ -155,7 +155,10 @@ fn serial_in(content: &[u8]) -> Result<Serial, DecodeError>
     if !is_unsigned(content) {
         return Err(DecodeError::BadValue);
     }
-    Serial::from_slice(content).ok_or(DecodeError::BadValue)
+    match Serial::from_slice(content) {
+        Some(serial) => Ok(serial),
+        None => Err(DecodeError::BadValue),
+    }
 }
 
 // The octets that count, at least one.

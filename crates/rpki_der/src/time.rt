@@ -18,7 +18,7 @@ ghost use Rattle.rpki_der.specs.Times.{Moment, moment, IsMoment, IsTime, second_
 ghost use Rattle.std.specs.Fmt.{WritesOnOk};
 ghost use Rattle.rpki_der.specs.Texts.{date_text, clock_text, time_text};
 ghost use Rattle.rpki_der.specs.declared.error.EncodeError.TheVariants.{Memory};
-ghost use Rattle.rpki_der.specs.Times.Reading.{two_at, after_year_of, utc_of, moment_at, generalized_of, time_at};
+ghost use Rattle.rpki_der.specs.Times.Reading.{two_at, IsPair, full_year, after_year_of, utc_of, moment_at, generalized_of, time_at};
 
 use crate::cursor::Cursor;
 use crate::error::{DecodeError, EncodeError};
@@ -329,6 +329,18 @@ fn digits(n: u8) -> [u8; 2]
     [b'0' + n / 10, b'0' + n % 10]
 }
 
+// The number of two decimal digits, or 100 where one of the octets is no digit.
+#[tactic(auto, unfolding(crate::specs::Times::Reading::two_at))]
+#[inline(always)]
+fn pair(tens: u8, ones: u8) -> u32
+    ensures { IsPair tens ones result }
+{
+    match (tens, ones) {
+        (b'0'..=b'9', b'0'..=b'9') => ((tens - b'0') * 10 + (ones - b'0')) as u32,
+        _ => 100,
+    }
+}
+
 // The number of the two decimal digits at the front, and what follows them.
 #[tactic(auto, unfolding(crate::specs::Times::Reading::two_at))]
 #[inline(always)]
@@ -336,13 +348,14 @@ fn two_digits(text: &[u8]) -> Result<(u32, &[u8]), DecodeError>
     ensures reads { ReturnsBy (λ x. (x.0, x.1.now)) result (two_at text.now) }
     ensures small { IfOk result (λ x. x.0 < 100) }
 {
-    match text {
-        [tens @ b'0'..=b'9', ones @ b'0'..=b'9', rest @ ..] => {
-            let number = (*tens - b'0') * 10 + (*ones - b'0');
-            Ok((number as u32, rest))
-        }
-        _ => Err(DecodeError::BadValue),
+    let [tens, ones, rest @ ..] = text else {
+        return Err(DecodeError::BadValue);
+    };
+    let number = pair(*tens, *ones);
+    if number > 99 {
+        return Err(DecodeError::BadValue);
     }
+    Ok((number, rest))
 }
 
 // The time of this year with this text after it, MMDDhhmmss and the end.
@@ -366,15 +379,37 @@ fn after_year(year: u32, text: &[u8], end: &[u8]) -> Result<Time, DecodeError>
     }
 }
 
+// The year from 1950 to 2049 with these last two digits.
+#[inline(always)]
+fn full_year(last: u32) -> u32
+    requires { last < 100 }
+    ensures { result ≡ full_year last }
+{
+    if last < 50 { 2000 + last } else { 1900 + last }
+}
+
 // The time of a whole content YYMMDDhhmmssZ.
 #[tactic(auto, unfolding(crate::specs::Times::Reading::utc_of))]
 #[inline(always)]
 fn utc_time(text: &[u8]) -> Result<Time, DecodeError>
     ensures { Returns result (utc_of text.now) }
 {
-    let (year, text) = two_digits(text)?;
-    let year = if year < 50 { 2000 + year } else { 1900 + year };
-    after_year(year, text, END)
+    let [a, b, c, d, e, f, g, h, i, j, k, l, b'Z'] = text else {
+        return Err(DecodeError::BadValue);
+    };
+    let year = pair(*a, *b);
+    if year > 99 {
+        return Err(DecodeError::BadValue);
+    }
+    let month = pair(*c, *d);
+    let day = pair(*e, *f);
+    let hour = pair(*g, *h);
+    let minute = pair(*i, *j);
+    let second = pair(*k, *l);
+    match Time::at(full_year(year), month, day, hour, minute, second) {
+        Some(time) => Ok(time),
+        None => Err(DecodeError::BadValue),
+    }
 }
 
 // The time of a whole text YYYYMMDDhhmmss and the end.

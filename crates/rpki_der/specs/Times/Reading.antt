@@ -1,5 +1,5 @@
 -- The reading function of a time.
-use Rattle.std.specs.Prelude.{Bool, ◌&&◌, nat_lt, nat_le, ℕ, ◌+◌, ◌-◌, ◌*◌, if◌then◌else◌, List, [], ◌∷◌, Option, Some, None, bytes_eq}
+use Rattle.std.specs.Prelude.{◌≡◌, Bool, ◌&&◌, nat_lt, nat_le, ℕ, ◌+◌, ◌-◌, ◌*◌, if◌then◌else◌, List, [], ◌∷◌, Option, Some, None, bytes_eq}
 use Rattle.rpki_der.specs.Choices.{choice}
 use Rattle.rpki_der.specs.Reading.{content}
 use Rattle.rpki_der.specs.Tags.{UTC_TIME, GENERALIZED_TIME}
@@ -23,6 +23,10 @@ two_at [] = None
 two_at (a ∷ []) = None
 two_at (a ∷ b ∷ text) = if is_digit a && is_digit b then Some ((a - 48) * 10 + (b - 48), text) else None
 
+-- two octets are the decimal digits of a number below 100; or one is no digit, and n is not below 100
+abbrev pub IsPair : ℕ → ℕ → ℕ → Type 0
+IsPair tens ones n = (rest : List ℕ) → two_at (tens ∷ ones ∷ rest) ≡ (if nat_lt n 100 then Some (n, rest) else None)
+
 -- the moment, where it exists and this alone remains of the text
 abbrev pub existing : List ℕ → List ℕ → Moment → Option Moment
 existing end text m = if bytes_eq text end && is_moment m then Some m else None
@@ -37,11 +41,15 @@ after_year_of end year text = do
   second ← two_at minute.1
   existing end second.1 (moment year month.0 day.0 hour.0 minute.0 second.0)
 
+-- the year from 1950 to 2049 with these last two digits (RFC 5280 4.1.2.5.1)
+abbrev pub full_year : ℕ → ℕ
+full_year last = if nat_lt last 50 then 2000 + last else 1900 + last
+
 -- YYMMDDhhmmssZ
 unfoldable pub utc_of : List ℕ → Option Moment
 utc_of text = do
   year ← two_at text
-  after_year_of (90 ∷ []) (if nat_lt year.0 50 then 2000 + year.0 else 1900 + year.0) year.1
+  after_year_of (90 ∷ []) (full_year year.0) year.1
 
 -- YYYYMMDDhhmmss and this end
 unfoldable pub moment_at : List ℕ → List ℕ → Option Moment
