@@ -5,7 +5,13 @@ use Rattle.std.proofs.lemmas.Bool.{cases_lt}
 use Rattle.std.proofs.lemmas.Grind.{get_or_default_zero}
 use Rattle.std.proofs.lemmas.Int.Digits.{length-digits_of_step, length-digits_of-le}
 use Rattle.rpki_crl.specs.SerialTables.{AreAscending, digits}
-use Rattle.rpki_crl.specs.SerialBuckets.{IsBetween}
+
+-- the serial can stand only from low to high: before are smaller numbers, after are greater ones
+pub record IsBetween (xs : List ℕ) (serial low high : ℕ) : Type 0 where
+  pub order : low ≤ high
+  pub inside : high ≤ length xs
+  pub before : (i : ℕ) → i < low → get_or xs i 0 < serial
+  pub after : (i : ℕ) → high ≤ i → i < length xs → serial < get_or xs i 0
 
 -- half of a number has one binary digit less
 pub digits_step : (n : ℕ) → 0 < n → digits n ≡ digits (n / 2) + 1

@@ -5,7 +5,8 @@ use Rattle.std.proofs.Common.{◌≡◌, ℕ, ◌≤◌, Bool, List, Option, Som
 use Rattle.std.proofs.lemmas.List.{length-map}
 use Rattle.std.proofs.lemmas.List.Sorted.{Contains-permutation, IsPermutation-sym, length_permutation}
 use Rattle.rpki_crl.specs.RevokedEntries.{Entry, IsRevoked}
-use Rattle.rpki_crl.specs.SerialTables.{digits, serials_of, IsCacheOf}
+use Rattle.rpki_crl.specs.SerialSearches.{IsSearch, IsTableSearch}
+use Rattle.rpki_crl.specs.SerialTables.{AreAscending, digits, serials_of, IsCacheOf}
 
 module _ (entries : List Entry) (cache : Option (List ℕ)) (table : List ℕ) (holds : IsCacheOf entries cache) (there : cache ≡ Some table) where
   shuffled : IsPermutation (serials_of entries) table
@@ -23,3 +24,7 @@ module _ (entries : List Entry) (cache : Option (List ℕ)) (table : List ℕ) (
   few_in_table count few =
       let same : length table ≡ length entries = length_permutation (serials_of entries) table shuffled ∙ length-map entries (λ e. e.serial) in
       omega (arith, few, ap digits same)
+
+  -- a search of the table is one of the entries' serials
+  pub search_in_table : (serial looks : ℕ) → AreAscending table → IsSearch table serial looks → IsTableSearch entries serial looks
+  search_in_table serial looks ascending search = record { table = table; has_all = shuffled; ascending = ascending; search = search }

@@ -1,6 +1,7 @@
 pub mod RevokedEntries
 pub mod SerialTables
 pub mod SerialBuckets
+pub mod SerialSearches
 pub mod ListExtensions
 pub mod Lists
 pub mod Stores

@@ -11,6 +11,7 @@ ghost use Rattle.rpki_parts.specs.SignedDatas.{signed_content, signed_data, sign
 ghost use Rattle.rpki_ext.specs.Kinds.{Means};
 ghost use Rattle.rpki_crl.specs.Lists.{IsCertificateList, certificate_list_content_format, certificate_list_format};
 ghost use Rattle.rpki_crl.specs.RevokedEntries.{IsRevoked};
+ghost use Rattle.rpki_crl.specs.SerialSearches.{IsTableSearch};
 ghost use Rattle.rpki_crl.specs.SerialTables.{digits, looks};
 
 use crate::revoked::RevokedCertificates;
@@ -200,7 +201,8 @@ impl Crl {
 
     /// Returns whether the list revokes this serial number, and how many serials were looked at to
     /// tell: without a table those of the entries up to the first that has the serial, or of all;
-    /// with one at most as many as the number of entries has binary digits, and at least one where
+    /// with one those at which a search by halving looks, in the serial's bucket or in the whole
+    /// table: at most as many as the number of entries has binary digits, and at least one where
     /// the list has the serial. Takes no memory.
     pub fn contains_counted(&self, serial: Serial) -> (bool, usize)
         ensures revoked { IsTrue result.0 ↔ IsRevoked serial self.now.list.fields.revoked.entries }
@@ -209,6 +211,8 @@ impl Crl {
         ensures searched { self.now.is_cached ≡ true
             → result.1 ≤ digits (length self.now.list.fields.revoked.entries) }
         ensures looked { self.now.is_cached ≡ true → IsTrue result.0 → 1 ≤ result.1 }
+        ensures halved { self.now.is_cached ≡ true
+            → IsTableSearch self.now.list.fields.revoked.entries serial result.1 }
     {
         match &self.cache {
             Some(table) => {

@@ -1,10 +1,11 @@
 //! Serial numbers in a sorted table, and how many of them a search looks at.
-ghost use Rattle.std.specs.Prelude.{◌≡◌, ◌↔◌, ◌+◌, ◌^◌, ◌%◌, ◌<◌, ◌≤◌, ◌/◌, IsTrue, IfOk, IfSome, Contains, length, get_or};
+ghost use Rattle.std.specs.Prelude.{◌≡◌, ◌↔◌, ◌+◌, ◌*◌, ◌^◌, ◌%◌, ◌<◌, ◌≤◌, ◌/◌, ◌⊎◌, IsTrue, IfOk, IfSome, IfNone, Contains, length, get_or};
 ghost use Rattle.std.specs.Int.Digits.{number_from_digits};
 ghost use Rattle.std.specs.List.Sorted.{IsPermutation};
 ghost use Rattle.std.specs.Ordering.{MatchOrdering};
 ghost use Rattle.rpki_crl.specs.SerialTables.{AreAscending, digits, serials_of};
-ghost use Rattle.rpki_crl.specs.SerialBuckets.{AreStarts, IsBetween, bucket_of};
+ghost use Rattle.rpki_crl.specs.SerialBuckets.{AreBuckets, IsScale, bucket_of};
+ghost use Rattle.rpki_crl.specs.SerialSearches.{IsRange, IsSearch};
 
 use crate::revoked::RevokedCertificates;
 use rpki_der::Serial;
@@ -54,14 +55,14 @@ pub(crate) struct SerialTable {
 impl Model for SerialTable {
     ghost use Rattle.std.specs.Prelude.{List, ℕ, ◌<◌};
     ghost use Rattle.rpki_crl.specs.SerialTables.{AreAscending};
-    ghost use Rattle.rpki_crl.specs.SerialBuckets.{AreStarts};
+    ghost use Rattle.rpki_crl.specs.SerialBuckets.{AreBuckets};
 
     ghost Value = { List ℕ };
 
     ghost view = { λ t. t.serials.items };
 
     ghost invariant = { λ t. AreAscending t.serials.items
-        × AreStarts t.base t.shift t.starts.items t.serials.items × (t.shift < 160) };
+        × AreBuckets t.base t.shift t.starts.items t.serials.items × (t.shift < 160) };
 }
 
 // The number of these octets in two parts: without the last 32 bits, and these.
@@ -77,10 +78,12 @@ fn parts_of(octets: &[u8]) -> (u128, u32)
     (u128::from_be_bytes(front), u32::from_be_bytes(back))
 }
 
-// The bucket of a serial, unless that has more than 128 bits or is below the first one.
+// The bucket of a serial, unless that has more than 96 bits or the serial lies below the base.
 fn bucket_of(serial: Serial, base: u128, shift: u32) -> Option<u128>
     requires { shift < 160 }
-    ensures { IfSome result (λ bucket. bucket ≡ bucket_of base shift serial) }
+    ensures some { IfSome result (λ bucket. bucket ≡ bucket_of base shift serial) }
+    ensures none { IfNone result
+        ((serial < base * 2 ^ 32) ⊎ (2 ^ 96 ≤ bucket_of base shift serial)) }
 {
     let (front, back) = parts_of(&serial.octets());
     let front = front.checked_sub(base)?;
@@ -93,23 +96,38 @@ fn bucket_of(serial: Serial, base: u128, shift: u32) -> Option<u128>
     }
 }
 
+// How many binary digits the number of these two parts has.
+fn bits_of(front: u128, back: u32) -> u32
+    ensures below { front * 2 ^ 32 + back < 2 ^ result }
+    ensures most { result ≤ 160 }
+{
+    if front == 0 {
+        32 - back.leading_zeros()
+    } else {
+        160 - front.leading_zeros()
+    }
+}
+
+// How many binary digits buckets have of which there are half as many as serials, or fewer.
+fn bits_for(serials: usize) -> u32
+    ensures { 2 ^ result ≤ serials / 2 + 1 }
+{
+    usize::BITS - (serials / 4).leading_zeros()
+}
+
 // The base and the shift with which ascending serials have half as many buckets, or fewer.
 fn scale_of(serials: &[Serial]) -> (u128, u32)
-    ensures { result.1 < 160 }
+    ensures scale { IsScale result.0 result.1 serials.now }
+    ensures shift { result.1 < 160 }
 {
     let (Some(least), Some(greatest)) = (serials.first(), serials.last()) else {
         return (0, 0);
     };
     let (base, _) = parts_of(&least.octets());
     let (front, back) = parts_of(&greatest.octets());
-    let front = front.saturating_sub(base);
-    let bits = if front == 0 {
-        32 - back.leading_zeros()
-    } else {
-        160 - front.leading_zeros()
-    };
-    let wanted = usize::BITS - (serials.len() / 4).leading_zeros();
-    (base, bits.saturating_sub(wanted).min(159))
+    let bits = bits_of(front.saturating_sub(base), back);
+    let shift = bits.saturating_sub(bits_for(serials.len())).min(159);
+    (base, shift)
 }
 
 // Where the buckets of ascending serials begin, up to the last serial's.
@@ -121,12 +139,14 @@ fn starts_of(
 ) -> Result<Vec<usize>, AllocError>
     requires shift { shift < 160 }
     requires ascending { AreAscending serials.now }
-    ensures { IfOk result (λ starts. AreStarts base shift starts.items serials.now) }
+    requires scale { IsScale base shift serials.now }
+    ensures buckets { IfOk result (λ starts. AreBuckets base shift starts.items serials.now) }
+    ensures few { IfOk result (λ starts. 2 * length starts.items ≤ length serials.now + 3) }
 {
     let mut starts = Vec::new(alloc);
     for i in 0..serials.len() {
         let Some(bucket) = bucket_of(serials[i], base, shift) else {
-            return Ok(starts);
+            unreachable!()
         };
         while (starts.len() as u128) <= bucket {
             starts.push(i)?;
@@ -158,7 +178,7 @@ impl SerialTable {
     // Between which places the serial can stand: those of its bucket; all, from the last bucket on
     // and where it has none.
     fn places_of(&self, serial: Serial) -> (usize, usize)
-        ensures between { IsBetween self.now serial result.0 result.1 }
+        ensures range { IsRange self.now serial result.0 result.1 }
         ensures ascending { AreAscending self.now }
         ensures small { length self.now < 2 ^ 64 }
     {
@@ -192,6 +212,8 @@ impl SerialTable {
         ensures found { IsTrue result.0 ↔ Contains self.now serial }
         ensures few { result.1 ≤ digits (length self.now) }
         ensures looked { IsTrue result.0 → 1 ≤ result.1 }
+        ensures searched { IsSearch self.now serial result.1 }
+        ensures ascending { AreAscending self.now }
     {
         let mut count = Count::new();
         let (mut low, mut high) = self.places_of(serial);

@@ -2,8 +2,8 @@ use Rattle.std.proofs.Common.{◌≡◌, ℕ, ◌+◌, ◌-◌, ◌*◌, ◌/◌
 use Rattle.std.proofs.lemmas.Nat.{shr-shr}
 use Rattle.rpki_crl.proofs.table.bucket_of.Goals as goal
 
-pub returns-then-shift-ge32 : goal.returns-then-shift-ge32
-returns-then-shift-ge32 c =
+pub returns-then-shift-ge32-clause-some : goal.returns-then-shift-ge32-clause-some
+returns-then-shift-ge32-clause-some c =
     let shift = c.args.shift in
     let above = c.args.serial - c.args.base * 2 ^ 32 in
     let front : above / 2 ^ 32 ≡ c.in_ok-front.front = omega (arith, c.parts_of-front.ensures.front, c.octets.ensures.number, c.in_ok-front.ensures) in
