@@ -1,11 +1,11 @@
 -- Buckets of serial numbers: how many there are, and where they begin, as the loop over them finds it.
-use Rattle.std.proofs.Common.{◌≡◌, ℕ, ◌+◌, ◌-◌, ◌*◌, ◌/◌, ◌^◌, ◌<◌, ◌≤◌, ◌⊎◌, min, List, [], ◌∷◌, ◌++◌, length, get_or, inl, inr, arith, length-append}
+use Rattle.std.proofs.Common.{◌≡◌, ℕ, ◌+◌, ◌-◌, ◌*◌, ◌/◌, ◌^◌, ◌<◌, ◌≤◌, ◌⊎◌, min, List, [], ◌∷◌, ◌++◌, length, get_or, refl, ap, ◌∙◌, inl, inr, arith, length-append}
 use Rattle.std.proofs.Math.ListN.{get_or-append}
-use Rattle.std.proofs.Math.Nat.{div-mul-le_self}
+use Rattle.std.proofs.Math.Nat.{div-mul-le_self, lt-div-mul-add}
 use Rattle.std.proofs.Math.Pow.{pow_mono}
 use Rattle.std.proofs.Math.Seq.{get_or-append_seam}
 use Rattle.std.proofs.lemmas.Bool.{cases_lt}
-use Rattle.std.proofs.lemmas.Nat.{pow_pos, shr_below, le-div}
+use Rattle.std.proofs.lemmas.Nat.{pow_pos, pow-add, shr_below, le-div, div_below}
 use Rattle.rpki_crl.specs.SerialTables.{AreAscending}
 use Rattle.rpki_crl.specs.SerialBuckets.{AreStarts, IsScale, IsStart, bucket_of, last_bucket}
 use Rattle.rpki_crl.specs.SerialSearches.{IsRange}
@@ -43,6 +43,26 @@ few_buckets span bits wanted shift count below most few is some = elim (cases_lt
       omega (arith, less, few)
 ]
 
+-- and an eighth as many, or more, where the shift isn't 0
+pub many_buckets : (span bits wanted shift count : ℕ) → 2 ^ bits ≤ 2 * span + 1 → bits ≤ 160 → count / 4 < 2 ^ wanted → shift ≡ min (bits - wanted) 159 → (shift ≡ 0) ⊎ (count ≤ 8 * (span / 2 ^ shift + 1))
+many_buckets span bits wanted shift count no_more most many is = elim (cases_lt 159 (bits - wanted)) [
+  | inl far ↦
+      let none : wanted ≡ 0 = omega (arith, far, most) in
+      let one : 2 ^ wanted ≡ 1 = rw none refl in
+      inr (omega (arith, many, one))
+  | inr near ↦ elim (cases_lt wanted bits) [
+    | inl less ↦
+        let sum : bits ≡ wanted + shift = omega (arith, is, near, less) in
+        let power : 2 ^ bits ≡ 2 ^ wanted * 2 ^ shift = ap (λ n. 2 ^ n) sum ∙ pow-add 2 wanted shift in
+        let positive = pow_pos shift in
+        let rest : span < span / 2 ^ shift * 2 ^ shift + 2 ^ shift = lt-div-mul-add positive in
+        let high : 2 ^ wanted * 2 ^ shift / 2 ^ shift < 2 * (span / 2 ^ shift) + 2 = div_below (2 ^ wanted * 2 ^ shift) (2 ^ shift) (2 * (span / 2 ^ shift) + 2) positive (omega (arith, no_more, power, rest)) in
+        let low : 2 ^ wanted ≤ 2 ^ wanted * 2 ^ shift / 2 ^ shift = le-div (2 ^ wanted) (2 ^ wanted * 2 ^ shift) (2 ^ shift) positive (omega arith) in
+        inr (omega (arith, many, high, low))
+    | inr more ↦ inl (omega (arith, is, more))
+  ]
+]
+
 -- between the starts of two buckets
 module _ (base shift : ℕ) (xs : List ℕ) (serial low high : ℕ) where
   bucket_between : IsStart base shift xs (bucket_of base shift serial) low → IsStart base shift xs (bucket_of base shift serial + 1) high → IsBetween xs serial low high
@@ -78,7 +98,7 @@ module _ (base shift : ℕ) (xs : List ℕ) (ascending : AreAscending xs) (i : �
   -- each has a bucket
   pub in_scale : IsScale base shift xs → length xs < 2 ^ 64 → (get_or xs i 0 < base * 2 ^ 32) ⊎ (2 ^ 96 ≤ bucket_of base shift (get_or xs i 0)) → ⊥
   in_scale scale short outside = elim outside [
-    | inl low ↦ let least = ascending 0 i (omega arith) inside in omega (arith, low, least, scale.below)
+    | inl low ↦ let least = ascending 0 i (omega arith) inside in omega (arith, low, least, scale.base_is)
     | inr far ↦ omega (arith, far, last_is_last, scale.few, short)
   ]
 

@@ -1,6 +1,6 @@
 -- Buckets of ascending serial numbers: those that lie equally far above a base, but for their last
 -- binary digits (own).
-use Rattle.std.specs.Prelude.{◌≡◌, ℕ, ◌+◌, ◌-◌, ◌*◌, ◌/◌, ◌^◌, ◌<◌, ◌≤◌, List, length, get_or}
+use Rattle.std.specs.Prelude.{◌≡◌, ℕ, ◌+◌, ◌-◌, ◌*◌, ◌/◌, ◌^◌, ◌<◌, ◌≤◌, ◌⊎◌, List, length, get_or}
 
 -- the bucket of a serial number: how far it lies above the base, without so many binary digits
 abbrev pub bucket_of : ℕ → ℕ → ℕ → ℕ
@@ -10,10 +10,12 @@ bucket_of base shift serial = (serial - base * 2 ^ 32) / 2 ^ shift
 abbrev pub last_bucket : ℕ → ℕ → List ℕ → ℕ
 last_bucket base shift xs = bucket_of base shift (get_or xs (length xs - 1) 0)
 
--- no number lies below the base, and there are about half as many buckets as numbers, or fewer
+-- the base is the least number without its last 32 binary digits; there are about half as many
+-- buckets as numbers, or fewer, but no fewer than an eighth where a bucket has several numbers
 pub record IsScale (base shift : ℕ) (xs : List ℕ) : Type 0 where
-  pub below : base * 2 ^ 32 ≤ get_or xs 0 0
+  pub base_is : base ≡ get_or xs 0 0 / 2 ^ 32
   pub few : 2 * last_bucket base shift xs ≤ length xs + 1
+  pub many : (shift ≡ 0) ⊎ (length xs ≤ 8 * (last_bucket base shift xs + 1))
 
 -- in this place the first number stands that is in no earlier bucket, if there is one
 pub record IsStart (base shift : ℕ) (xs : List ℕ) (bucket start : ℕ) : Type 0 where

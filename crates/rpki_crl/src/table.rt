@@ -99,6 +99,7 @@ fn bucket_of(serial: Serial, base: u128, shift: u32) -> Option<u128>
 // How many binary digits the number of these two parts has.
 fn bits_of(front: u128, back: u32) -> u32
     ensures below { front * 2 ^ 32 + back < 2 ^ result }
+    ensures no_more { 2 ^ result ≤ 2 * (front * 2 ^ 32 + back) + 1 }
     ensures most { result ≤ 160 }
 {
     if front == 0 {
@@ -110,13 +111,15 @@ fn bits_of(front: u128, back: u32) -> u32
 
 // How many binary digits buckets have of which there are half as many as serials, or fewer.
 fn bits_for(serials: usize) -> u32
-    ensures { 2 ^ result ≤ serials / 2 + 1 }
+    ensures few { 2 ^ result ≤ serials / 2 + 1 }
+    ensures many { serials / 4 < 2 ^ result }
 {
     usize::BITS - (serials / 4).leading_zeros()
 }
 
 // The base and the shift with which ascending serials have half as many buckets, or fewer.
 fn scale_of(serials: &[Serial]) -> (u128, u32)
+    requires { AreAscending serials.now }
     ensures scale { IsScale result.0 result.1 serials.now }
     ensures shift { result.1 < 160 }
 {
