@@ -14,6 +14,7 @@ from dataclasses import replace
 from pathlib import Path
 
 import folders
+import places
 import random_paths as sound
 import reference as ref
 import vectors
@@ -254,6 +255,91 @@ def anchor():
            [4, 4, 8, 15, 53, 32, 53, 23, 8, 17, 31, 16, 98, 26, 41, 35])
     yield 'anchor TBS length', len(worked.A.signed.data), 460
     yield 'anchor reads back', ref.decode_cert(octets), worked.A
+
+
+# Octets of the anchor of ANCHOR_TABLE and of a list of two, each with others in their place, and
+# where reading stops then. Counted by hand: the anchor's values are 4 octets of the outer SEQUENCE,
+# 4 of what is signed, and then as long as the table has them; the list's are counted below.
+ANCHOR_PLACES = [
+    (4, '31', 'what is signed', 4),
+    (12, '01', 'the version', 8),                       # v2
+    (15, '8C', 'the serial number', 13),                # -116
+    (28, '0C', 'the signature algorithm', 16),          # sha384WithRSAEncryption
+    (33, '30', 'the issuer', 31),
+    (90, '31 33', 'the validity', 84),                  # a thirteenth month
+    (116, '31', 'the subject', 116),
+    (183, '02', 'the public key', 169),                 # md2WithRSAEncryption
+    (192, 'A0', 'the extensions', 192),
+    (196, '31', 'the extensions', 196),
+    (202, '04', 'an extension', 200),
+    (209, '00', 'Basic Constraints', 200),              # not critical
+    (223, '63', 'the extensions', 192),                 # no Subject Key Identifier
+    (254, '0E', 'Subject Key Identifier', 248),         # a second one
+    (263, '86', 'Key Usage', 248),
+    (368, '63', 'an unknown extension', 362),           # and critical
+    (464, '31', 'the algorithm of the signature', 464),
+    (483, '01', 'the signature', 479)]                  # its last octet is odd
+LIST_PLACES = [
+    (9, '00', 'the version', 7),                        # v1
+    (21, '0A', 'the signature algorithm', 10),
+    (25, '31', 'the issuer', 25),
+    (78, '18', 'this update', 78),
+    (107, '2B', 'next update', 93),                     # no Z
+    (109, '7F', 'the revoked certificates', 108),       # past what is signed
+    (130, '31', 'a revoked certificate', 130),
+    (150, 'A3', 'the extensions', 150),
+    (160, '0E', 'an unknown extension', 154),           # a Subject Key Identifier
+    (193, '23', 'Authority Key Identifier', 187),       # a second one
+    (199, '04', 'the algorithm of the signature', 199),
+    (214, '04', 'the signature', 214)]
+
+
+def with_octets(octets, place, text):
+    new = h(text)
+    return octets[:place] + new + octets[place + len(new):]
+
+
+@checks
+def stops():
+    for name, octets, table in (('certificate', worked.A.octets(), ANCHOR_PLACES),
+                                ('list', worked.L.octets(), LIST_PLACES)):
+        yield f'{name} is read', places.place_of(octets), None
+        yield f'{name} with more behind', places.place_of(octets + b'\0'), None
+        yield f'{name} cut', places.place_of(octets[:-1]), ('the outer SEQUENCE', 0)
+        for place, text, *wanted in table:
+            yield (f'{name} with {text} at {place}',
+                   places.place_of(with_octets(octets, place, text)), tuple(wanted))
+    yield 'no octets', places.place_of(b''), ('the outer SEQUENCE', 0)
+
+
+@checks
+def stops_of_whole_values():
+    """Where values of other lengths are left out, put in or exchanged."""
+    a, null = worked.A.octets(), h('0500')
+    version, number, others, extensions = a[8:13], a[13:16], a[16:192], a[192:464]
+
+    def put(*values, behind=b''):
+        return ref.enc(0x30, ref.enc(0x30, *values), a[464:], behind)
+    yield 'whole', put(version, number, others, extensions), a
+    head = version, number, others
+    for label, octets, *wanted in (
+            ('NULL behind the tag', put(*head, extensions, null),
+             'what follows the extensions', 464),
+            ('NULL inside the tag', put(*head, ref.enc(0xA3, extensions[4:], null)),
+             'what follows the extensions', 464),
+            ('no extensions', put(*head), 'the extensions', 191),
+            ('no values', put(), 'the version', 6),
+            ('NULL at the end', put(*head, extensions, behind=null), 'the signature', 479),
+            ('version 1', put(number, others, extensions), 'the version', 8),
+            ('version 1, number 1', put(h('020101'), others, extensions), 'the version', 8),
+            ('two numbers', put(version, number, number, others, extensions),
+             'the signature algorithm', 16)):
+        yield label, places.place_of(octets), tuple(wanted)
+    without = worked.crl(12, signature=False)
+    mixed = worked.crl(12).signed._replace(algorithm=False)
+    yield 'list without NULL', places.place_of(without.octets()), None
+    yield ('list with NULL inside alone', places.place_of(mixed.octets()),
+           ('the algorithm of the signature', 179))
 
 
 @checks
