@@ -9,3 +9,4 @@ mod KindsSeen
 mod StopWalks
 mod StopsWithin
 mod Turns
+mod TwoAlgorithms

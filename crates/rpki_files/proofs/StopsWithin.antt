@@ -65,14 +65,15 @@ module _ (octets : List ℕ) where
   signed_in is_list at stop octet h (inr (extensions, read, inr (behind, all, s))) =
       behind_in behind stop octet (passes_in _ extensions behind (past_fields_in is_list at extensions h read) all.opens.value) s
 
-  behind_signed_in : (at : Place) (stop : Part) (octet : ℕ) → IsIn at → StopsBehindSigned at stop octet → octet ≤ length octets
-  behind_signed_in at stop octet h (inl s) = before_in _ _ at stop octet h s
-  behind_signed_in at stop octet h (inr (next, read, told, is)) = begins_in next octet (passes_in _ at next h read) is
+  behind_signed_in : (is_list : Bool) (signed at : Place) (stop : Part) (octet : ℕ) → IsIn at → StopsBehindSigned is_list signed at stop octet → octet ≤ length octets
+  behind_signed_in is_list signed at stop octet h (inl (inl s)) = before_in _ _ at stop octet h s
+  behind_signed_in is_list signed at stop octet h (inl (inr (other, told, is))) = begins_in at octet h is
+  behind_signed_in is_list signed at stop octet h (inr (next, read, told, is)) = begins_in next octet (passes_in _ at next h read.passes) is
 
   inside_in : (is_list : Bool) (outer : Place) (stop : Part) (octet : ℕ) → IsIn outer → StopsInside is_list outer stop octet → octet ≤ length octets
   inside_in is_list outer stop octet h (inl s) = before_in _ _ outer stop octet h s
   inside_in is_list outer stop octet h (inr (signed, next, opens, inl s)) = signed_in is_list signed stop octet (inner_in _ outer signed next h opens) s
-  inside_in is_list outer stop octet h (inr (signed, next, opens, inr (read, s))) = behind_signed_in next stop octet (passes_in _ outer next h opens.value) s
+  inside_in is_list outer stop octet h (inr (signed, next, opens, inr (read, s))) = behind_signed_in is_list signed next stop octet (passes_in _ outer next h opens.value) s
 
   -- so is any
   pub stops_within : (is_list : Bool) (stop : Part) (octet : ℕ) → StopsAt is_list octets stop octet → octet ≤ length octets

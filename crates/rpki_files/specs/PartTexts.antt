@@ -50,5 +50,7 @@ part_text part.Extension =
     told "an extension" "an identifier, a flag where it is true, and an OCTET STRING (RFC 5280 4.1)"
 part_text (part.Kind k) = record { name = kind_name k; wanted = kind_wanted k }
 part_text part.Behind = told "what follows the extensions" "nothing (RFC 5280 4.1, 5.1)"
+part_text part.OtherAlgorithm =
+    told "the algorithm of the signature" "the one inside what is signed (RFC 5280 5.1.1.2)"
 part_text part.Signature =
     told "the signature" "a BIT STRING of whole octets, and nothing behind it (RFC 5280 4.1.1.3, 5.1.1.3)"

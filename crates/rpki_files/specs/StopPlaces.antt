@@ -2,15 +2,15 @@
 -- of the file. What stands before that octet was read as the parts before; from there on no value of
 -- the part begins, or the one that begins may not stand there (RFC 5280 4.1, 5.1, RFC 6487 4, 5).
 use Rattle.std.specs.Prelude.{◌≡◌, ◌≢◌, ◌≤◌, ◌<◌, ◌⊎◌, ℕ, Bool, true, false, List, [], ◌∷◌, ◌++◌, Contains, length, map, slice_range, Result, Ok, Err}
-use Rattle.rpki.specs.Algorithms.{algorithm_format}
+use Rattle.rpki.specs.Algorithms.{Algorithm, algorithm_format}
 use Rattle.rpki.specs.BasicFormats.{serial_format, time_format}
 use Rattle.rpki.specs.CertificateExtensions.{ExtensionFields}
 use Rattle.rpki.specs.CertificateExtensions as certificate
 use Rattle.rpki.specs.Certificates.{version_format}
 use Rattle.rpki.specs.DecodeError.{DecodeError}
-use Rattle.rpki.specs.Encoding.{Begins, BeginsOther}
+use Rattle.rpki.specs.Encoding.{Begins, BeginsOther, Means}
 use Rattle.rpki.specs.Extensions.{Extension, IsExtension, extension_format}
-use Rattle.rpki.specs.Formats.{Format}
+use Rattle.rpki.specs.Formats.{Format, then}
 use Rattle.rpki.specs.Keys.{public_key_format}
 use Rattle.rpki.specs.ListExtensions.{ListExtensions}
 use Rattle.rpki.specs.ListExtensions as list
@@ -265,12 +265,36 @@ pub record ReadsSigned (is_list : Bool) (at : Place) : Type 0 where
   pub extensions_are : ReadsExtensions is_list extensions behind
   pub ends : behind.from ≡ behind.to
 
+-- this algorithm stands inside what is signed of a list, behind its version (RFC 5280 5.1)
+abbrev pub HasAlgorithm : Algorithm → List ℕ → Type 0
+HasAlgorithm a signed = Means (then version_2 algorithm_format).encodes (tt, a) signed
+
+-- another algorithm than this one stands here
+abbrev pub HasOther : Algorithm → List ℕ → Type 0
+HasOther a octets = (b : Algorithm) × Means algorithm_format.encodes b octets × (a ≢ b)
+
+-- the algorithm inside a list isn't the one that stands here, beside its signature (RFC 5280 5.1.1.2)
+abbrev pub AlgorithmsDiffer : Bool → Place → Place → Type 0
+AlgorithmsDiffer false signed at = ⊥
+AlgorithmsDiffer true signed at = (a : Algorithm) × HasAlgorithm a (remaining signed) × HasOther a (remaining at)
+
+-- reading stops at the algorithm beside the signature: it isn't there, or is another one than inside
+abbrev pub StopsAtAlgorithm : Bool → Place → Place → Part → ℕ → Type 0
+StopsAtAlgorithm is_list signed at stop octet =
+    StopsBefore (IsField field.SignatureAlgorithm) (part.Field field.SignatureAlgorithm) at stop octet
+    ⊎ (AlgorithmsDiffer is_list signed at × (stop ≡ part.OtherAlgorithm) × (octet ≡ at.from))
+
+-- it was read
+pub record ReadsAlgorithm (is_list : Bool) (signed at next : Place) : Type 0 where
+  pub passes : Passes (IsField field.SignatureAlgorithm) at next
+  pub same : AlgorithmsDiffer is_list signed at → ⊥
+
 -- Reading stops behind what is signed: at the algorithm, or behind it at the signature, which is told
 -- where all before it was read
-abbrev pub StopsBehindSigned : Place → Part → ℕ → Type 0
-StopsBehindSigned at stop octet =
-    StopsBefore (IsField field.SignatureAlgorithm) (part.Field field.SignatureAlgorithm) at stop octet
-    ⊎ ((next : Place) × Passes (IsField field.SignatureAlgorithm) at next × (stop ≡ part.Signature)
+abbrev pub StopsBehindSigned : Bool → Place → Place → Part → ℕ → Type 0
+StopsBehindSigned is_list signed at stop octet =
+    StopsAtAlgorithm is_list signed at stop octet
+    ⊎ ((next : Place) × ReadsAlgorithm is_list signed at next × (stop ≡ part.Signature)
     × (octet ≡ next.from))
 
 -- reading stops in the outer SEQUENCE
@@ -279,7 +303,7 @@ StopsInside is_list outer stop octet =
     StopsBefore (HasTag SEQUENCE) part.Signed outer stop octet
     ⊎ ((signed : Place) × (next : Place) × Opens SEQUENCE outer signed next
     × (StopsInSigned is_list signed stop octet
-    ⊎ (ReadsSigned is_list signed × StopsBehindSigned next stop octet)))
+    ⊎ (ReadsSigned is_list signed × StopsBehindSigned is_list signed next stop octet)))
 
 -- the reading of octets as a certificate, or as a list, stops at this part and this octet
 abbrev pub StopsAt : Bool → List ℕ → Part → ℕ → Type 0

@@ -44,6 +44,8 @@ pub enum Part {
     Kind(Kind),
     /// What stands where the extensions, or what is signed, have to end.
     Behind,
+    /// The algorithm beside the signature of a list, where it isn't the one inside.
+    OtherAlgorithm,
     Signature,
 }
 
@@ -102,6 +104,7 @@ impl Part {
             Part::Extension => "an extension",
             Part::Kind(kind) => kind.name(),
             Part::Behind => "what follows the extensions",
+            Part::OtherAlgorithm => "the algorithm of the signature",
             Part::Signature => "the signature",
         }
     }
@@ -122,6 +125,7 @@ impl Part {
             }
             Part::Kind(kind) => kind.wanted(),
             Part::Behind => "nothing (RFC 5280 4.1, 5.1)",
+            Part::OtherAlgorithm => "the one inside what is signed (RFC 5280 5.1.1.2)",
             Part::Signature => {
                 "a BIT STRING of whole octets, and nothing behind it (RFC 5280 4.1.1.3, 5.1.1.3)"
             }

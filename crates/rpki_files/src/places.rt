@@ -1,5 +1,6 @@
 //! Where the reading of a file stops.
-ghost use Rattle.std.specs.Prelude.{◌≡◌, ◌≢◌, ◌≤◌, ◌<◌, ◌↔◌, ◌++◌, ◌∷◌, ◌+◌, false, true, false, List, [], length, map, Contains, IfErr, IfOk, IsErr, IsTrue, OnOk};
+ghost use Rattle.std.specs.Prelude.{◌≡◌, ◌≢◌, ◌≤◌, ◌<◌, ◌↔◌, ◌++◌, ◌∷◌, ◌+◌, false, true, false, List, [], length, map, Contains, IfErr, IfOk, IsErr, IsTrue, MatchResult, OnOk};
+ghost use Rattle.rpki.specs.Algorithms.{Algorithm};
 ghost use Rattle.rpki.specs.DecodeError.TheVariants as decoding;
 ghost use Rattle.rpki.specs.Extensions.{Extension, IsExtension};
 ghost use Rattle.rpki.specs.Certificates.{version_format};
@@ -11,11 +12,12 @@ ghost use Rattle.rpki.specs.RevokedEntries.{AreEntries, Entry, IsEntry, entry_fo
 ghost use Rattle.rpki.specs.Tags.{SEQUENCE};
 ghost use Rattle.rpki_files.specs.KnownKinds.{SaysWhether, known_kind};
 ghost use Rattle.rpki_files.specs.PartTexts.{part_text};
-ghost use Rattle.rpki_files.specs.StopPlaces.{AnswersWhether, AreComplete, AreFields, AreIncomplete, AreOfKinds, EncodesSome, HasBoth, HasTag, IsField, IsNext, IsSecond, IsStop, IsStopPlace, MayStand, MayStandAs, Opens, Passes, ReadsEntries, ReadsExtensions, ReadsSigned, ReadsToExtensions, StopsAmong, StopsAmongElements, StopsAt, StopsAtEntries, StopsAtExtension, StopsAtExtensions, StopsBefore, StopsBeforeExtensions, StopsBehind, StopsInEntries, StopsInExtensions, StopsInSigned, StopsInside, extensions_tag, kind_of};
+ghost use Rattle.rpki_files.specs.StopPlaces.{AlgorithmsDiffer, AnswersWhether, AreComplete, AreFields, AreIncomplete, AreOfKinds, EncodesSome, HasAlgorithm, HasBoth, HasOther, HasTag, IsField, IsNext, IsSecond, IsStop, IsStopPlace, MayStand, MayStandAs, Opens, Passes, ReadsAlgorithm, ReadsEntries, ReadsExtensions, ReadsSigned, ReadsToExtensions, StopsAmong, StopsAmongElements, StopsAt, StopsAtAlgorithm, StopsAtEntries, StopsAtExtension, StopsAtExtensions, StopsBefore, StopsBeforeExtensions, StopsBehind, StopsInEntries, StopsInExtensions, StopsInSigned, StopsInside, extensions_tag, kind_of};
 
 use crate::expected::{Field, Part};
 use crate::kinds::{Kind, without_value};
 use bytes::Bytes;
+use rpki::comparing::parts::equal_algorithms;
 use rpki::crypto::{PublicKey, RpkiSignatureAlgorithm};
 use rpki::der::{Cursor, DecodeError, tag, take_extension};
 use rpki::repository::crl::CrlEntry;
@@ -498,14 +500,85 @@ fn signed(alloc: Global, cursor: &mut Cursor<'_>, is_list: bool) -> Result<(), S
     ended(cursor)
 }
 
+// The algorithm inside what is signed of a list, behind its version.
+fn list_algorithm(signed: &Cursor<'_>) -> Result<RpkiSignatureAlgorithm, DecodeError>
+    ensures { MatchResult result (λ a. HasAlgorithm a (remaining signed.now))
+        (λ _. (a : Algorithm) → HasAlgorithm a (remaining signed.now) → ⊥) }
+{
+    let mut rest = signed.fork();
+    match list_version(&mut rest) {
+        Ok(()) => RpkiSignatureAlgorithm::x509_take_from(&mut rest),
+        Err(fault) => Err(fault),
+    }
+}
+
+// Whether another algorithm than this one stands here.
+fn is_other(inside: RpkiSignatureAlgorithm, here: &Cursor<'_>) -> bool
+    ensures { IsTrue result ↔ HasOther inside (remaining here.now) }
+{
+    let mut rest = here.fork();
+    match RpkiSignatureAlgorithm::x509_take_from(&mut rest) {
+        Ok(beside) => !equal_algorithms(&inside, &beside),
+        Err(fault) => {
+            drop(fault);
+            false
+        }
+    }
+}
+
+// Whether the algorithm inside a list isn't the one that stands here.
+fn list_differs(signed: &Cursor<'_>, here: &Cursor<'_>) -> bool
+    ensures { IsTrue result ↔ AlgorithmsDiffer true signed.now here.now }
+{
+    match list_algorithm(signed) {
+        Ok(inside) => is_other(inside, here),
+        Err(fault) => {
+            drop(fault);
+            false
+        }
+    }
+}
+
+// Whether it is a list, and the algorithm inside isn't the one that stands here.
+fn algorithms_differ(is_list: bool, signed: &Cursor<'_>, here: &Cursor<'_>) -> bool
+    ensures { IsTrue result ↔ AlgorithmsDiffer is_list signed.now here.now }
+{
+    if is_list {
+        list_differs(signed, here)
+    } else {
+        false
+    }
+}
+
+// Passes over the algorithm beside the signature, which of a list has to be the one inside.
+fn signature_algorithm(
+    alloc: Global,
+    signed: &Cursor<'_>,
+    cursor: &mut Cursor<'_>,
+    is_list: bool,
+) -> Result<(), Stop>
+    ensures stop { IfErr result (IsStop (StopsAtAlgorithm is_list signed.now cursor.old)) }
+    ensures read { OnOk result (ReadsAlgorithm is_list signed.now cursor.old cursor.new) }
+{
+    let octet = at(cursor);
+    let differ = algorithms_differ(is_list, signed, cursor);
+    past(alloc, Field::SignatureAlgorithm, cursor)?;
+    if differ {
+        Err(Stop::At(Part::OtherAlgorithm, octet))
+    } else {
+        Ok(())
+    }
+}
+
 // What stands in the outer SEQUENCE, down to the signature. Returns where that begins.
 fn inside(alloc: Global, outer: &mut Cursor<'_>, is_list: bool) -> Result<usize, Stop>
     ensures stop { IfErr result (IsStop (StopsInside is_list outer.old)) }
     ensures read { IfOk result (StopsInside is_list outer.old Part.Signature) }
 {
     let mut first = opened(outer, tag::SEQUENCE, Part::Signed)?;
+    let begin = first.fork();
     signed(alloc, &mut first, is_list)?;
-    past(alloc, Field::SignatureAlgorithm, outer)?;
+    signature_algorithm(alloc, &begin, outer, is_list)?;
     Ok(at(outer))
 }
 
