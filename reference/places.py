@@ -163,11 +163,21 @@ def extensions(of, tbs):
 
 # ------------------------------------------------------------------- the whole ---
 
+def is_version_1(tbs):
+    """Whether values begin as those of a certificate of version 1, whose version is absent (RFC 5280
+    4.1): an INTEGER and five SEQUENCEs. Of a list the fourth value is a time."""
+    try:
+        for tag in (INTEGER, *[SEQUENCE] * 5):
+            tbs.take_value(tag)
+    except DecodeError:
+        return False
+    return True
+
+
 def begins_list(tbs):
     """Whether what is signed begins as a list does: with its version, an INTEGER (RFC 5280 5.1). A
-    certificate begins with [0], since its version isn't the default (RFC 6487 4.1). So one of version
-    1, which begins with its number, is read as a list: further than the number where that is 1."""
-    return tbs.peek() == INTEGER
+    certificate begins with [0], since its version isn't the default (RFC 6487 4.1)."""
+    return tbs.peek() == INTEGER and not is_version_1(tbs.inside(*tbs.span()))
 
 
 def same(algorithm):

@@ -331,7 +331,7 @@ def stops_of_whole_values():
             ('no values', put(), 'the version', 6),
             ('NULL at the end', put(*head, extensions, behind=null), 'the signature', 479),
             ('version 1', put(number, others, extensions), 'the version', 8),
-            ('version 1, number 1', put(h('020101'), others, extensions), 'this update', 79),
+            ('version 1, number 1', put(h('020101'), others, extensions), 'the version', 8),
             ('two numbers', put(version, number, number, others, extensions),
              'the signature algorithm', 16)):
         yield label, places.place_of(octets), tuple(wanted)

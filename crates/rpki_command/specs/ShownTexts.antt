@@ -38,6 +38,7 @@ use Rattle.rpki_files.specs.StopPlaces.{IsStopPlace}
 use Rattle.rpki_files.specs.declared.places.Place.{Place}
 use Rattle.rpki_files.specs.declared.rules.Rule.{Rule}
 use Rattle.rpki_files.specs.declared.sorts.Sort.{Sort}
+use Rattle.rpki_files.specs.declared.sorts.Sort.TheVariants.{Version1}
 use Rattle.rpki_command.specs.declared.showing.Options.{Options}
 
 -- ---- around an object
@@ -171,6 +172,11 @@ abbrev pub IsToldRule : Option Sort → Bool → DecodeError → List ℕ → Ru
 IsToldRule (Some s) is_list fault octets r = r ≡ sort_rule s
 IsToldRule None is_list fault octets r = IsFileRule is_list fault octets r
 
+-- octets that begin with neither are told as a list where they look like one. So does a certificate of
+-- version 1, whose version is absent: it is told as a certificate (RFC 5280 4.1, 5.1)
+abbrev pub IsToldAsList : Option Sort → List ℕ → Type 0
+IsToldAsList sort octets = LooksLikeList octets × (sort ≢ Some Version1)
+
 -- why octets begin with neither: their sort, a fault of reading, what is said, and where reading
 -- stops
 pub record IsRejection (octets : List ℕ) (sort : Option Sort) (rule : Rule) (place : Place) : Type 0 where
@@ -178,7 +184,7 @@ pub record IsRejection (octets : List ℕ) (sort : Option Sort) (rule : Rule) (p
   pub fault : DecodeError
   pub not_memory : fault ≢ Memory
   pub is_list : Bool
-  pub is_list_by : IsTrue is_list ↔ LooksLikeList octets
+  pub is_list_by : IsTrue is_list ↔ IsToldAsList sort octets
   pub rule_is : IsToldRule sort is_list fault octets (rule_of rule)
   pub place_is : IsStopPlace is_list octets place
 

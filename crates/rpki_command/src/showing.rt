@@ -1,21 +1,22 @@
 //! Files for a person.
-ghost use Rattle.std.specs.Prelude.{◌≢◌, ◌↔◌, All, Bool, IfOk, IsTrue, OnOk, Some, codes, map, string_bytes};
+ghost use Rattle.std.specs.Prelude.{◌≡◌, ◌≢◌, ◌↔◌, All, Bool, IfOk, IsTrue, OnOk, Some, codes, map, string_bytes};
 ghost use Rattle.hex.specs.Hex.{encode_lower};
 ghost use Rattle.sha2.specs.Sha256.{sha256};
 ghost use Rattle.rpki.specs.Certificates.{IsCertificate};
 ghost use Rattle.rpki.specs.DecodeError.TheVariants as decoding;
 ghost use Rattle.rpki.specs.Lists.{IsCertificateList};
 ghost use Rattle.rpki_text.specs.CertificateTexts.{AreFindings};
-ghost use Rattle.rpki_files.specs.Contents.{BeginsBefore, BeginsWithEither, CanBeShown, LooksLikeList};
+ghost use Rattle.rpki_files.specs.Contents.{BeginsBefore, BeginsWithEither, CanBeShown};
 ghost use Rattle.rpki_files.specs.FaultRules.{rule_of};
 ghost use Rattle.rpki_files.specs.Files.{contents};
 ghost use Rattle.rpki_files.specs.LocatorFiles.{IsWhyNoLocator};
+ghost use Rattle.rpki_files.specs.declared.sorts.Sort.TheVariants.{Version1};
 ghost use Rattle.rpki_notes.specs.Facts.{AreFacts, fact_view};
 ghost use Rattle.rpki_notes.specs.Notes.{AreNotes};
 ghost use Rattle.rpki_command.specs.Outcomes.{IsOutcomeOfShow};
 ghost use Rattle.rpki_text.specs.Pages.{Appends, AppendsSome, line};
 ghost use Rattle.rpki_command.specs.RejectionDetails.{advice_line, sort_line};
-ghost use Rattle.rpki_command.specs.ShownTexts.{IsCertificateFileText, IsFileText, IsFurtherText, IsListFileText, IsOtherFileText, IsRejection, IsTextOfFiles, IsToldRule, IsUnreadFileText, certificate_file_text, file_lines, left_line, left_text, list_file_text, stop_text};
+ghost use Rattle.rpki_command.specs.ShownTexts.{IsCertificateFileText, IsFileText, IsFurtherText, IsListFileText, IsOtherFileText, IsRejection, IsTextOfFiles, IsToldAsList, IsToldRule, IsUnreadFileText, certificate_file_text, file_lines, left_line, left_text, list_file_text, stop_text};
 ghost use Rattle.rpki_command.specs.VerdictTexts.{SaysOfEach};
 
 mod locators;
@@ -110,12 +111,22 @@ pub struct Rejection {
     pub place: Place,
 }
 
-// Whether the octets look like a list.
-fn is_like_list(octets: &Bytes) -> bool
-    ensures { IsTrue result ↔ LooksLikeList octets.now }
+// Whether it is the sort of certificates of version 1.
+fn is_version_1(sort: Option<Sort>) -> bool
+    ensures { IsTrue result ↔ sort ≡ Some Version1 }
+{
+    match sort {
+        Some(Sort::Version1) => true,
+        _ => false,
+    }
+}
+
+// Whether the octets of a file of this sort are told as a list.
+fn is_told_as_list(octets: &Bytes, sort: Option<Sort>) -> bool
+    ensures { IsTrue result ↔ IsToldAsList sort octets.now }
 {
     match looks_like(octets) {
-        Form::List => true,
+        Form::List => !is_version_1(sort),
         Form::Certificate | Form::Other => false,
     }
 }
@@ -147,7 +158,7 @@ pub fn rejection_of(
 {
     let octets = object.octets();
     let sort = object.sort();
-    let is_list = is_like_list(octets);
+    let is_list = is_told_as_list(octets, sort);
     let place = place_of(alloc, octets, is_list)?;
     let rule = rule_of_file(sort, fault, octets, is_list);
     let why = format!(in alloc; "{fault}")?;
