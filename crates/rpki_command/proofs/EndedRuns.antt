@@ -10,8 +10,9 @@ use Rattle.rpki_verdicts.specs.PathFiles.{Demands}
 use Rattle.rpki_command.specs.AboutTexts.{about_text}
 use Rattle.rpki_arguments.specs.CommandLines.{RequestFields, IsCommandLine}
 use Rattle.rpki_command.specs.Outcomes.{AsksOfFiles, IsOutcomeOf, demands_by, run_status}
+use Rattle.rpki_command.specs.ListedFolders.{Lists}
 use Rattle.rpki_command.specs.ReadFiles.{Reads}
-use Rattle.rpki_command.specs.Runs.{IsAnswer, IsMomentBy, RunEnds, TaskEnds}
+use Rattle.rpki_command.specs.Runs.{IsAnswerOf, IsMomentBy, RunEnds, TaskEnds}
 use Rattle.rpki_arguments.specs.declared.arguments.Task.{Task}
 use Rattle.rpki_arguments.specs.declared.arguments.Task.TheVariants.{Show, Validate, Tree, Help, Version}
 use Rattle.rpki_command.specs.declared.outcomes.Ended.{Ended}
@@ -26,20 +27,20 @@ no_misuse Tree x d files lists h = h
 no_misuse Help x d files lists h = cc
 no_misuse Version x d files lists h = cc
 
-module _ (reads : Reads) (tells : Moment → Type 0) (words : List (List ℕ)) (r : RequestFields) (line : IsCommandLine r words) where
+module _ (reads : Reads) (lists : Lists) (tells : Moment → Type 0) (words : List (List ℕ)) (r : RequestFields) (line : IsCommandLine r words) where
   -- a text about the command
-  about_ends : (task : Task) → (AsksOfFiles task → ⊥) → TaskEnds task reads tells r Success (about_text task)
+  about_ends : (task : Task) → (AsksOfFiles task → ⊥) → TaskEnds task reads lists tells r Success (about_text task)
   about_ends Show none = absurd (none (inl refl))
   about_ends Validate none = absurd (none (inr (inl refl)))
   about_ends Tree none = absurd (none (inr (inr refl)))
   about_ends Help none = (refl, refl)
   about_ends Version none = (refl, refl)
 
-  pub run_about : (AsksOfFiles r.task → ⊥) → RunEnds reads tells words Success (about_text r.task)
+  pub run_about : (AsksOfFiles r.task → ⊥) → RunEnds reads lists tells words Success (about_text r.task)
   run_about none = (r, line, about_ends r.task none)
 
   -- the answer of files
-  answer_ends : (task : Task) → AsksOfFiles task → (now : Moment) (outcome : Outcome) (text : List ℕ) → IsMomentBy tells r.at now → IsAnswer reads r now outcome text → TaskEnds task reads tells r outcome text
+  answer_ends : (task : Task) → AsksOfFiles task → (now : Moment) (outcome : Outcome) (text : List ℕ) → IsMomentBy tells r.at now → IsAnswerOf reads lists r now outcome text → TaskEnds task reads lists tells r outcome text
   answer_ends Show asks now outcome text moment answer = (now, moment, answer)
   answer_ends Validate asks now outcome text moment answer = (now, moment, answer)
   answer_ends Tree asks now outcome text moment answer = (now, moment, answer)
@@ -52,10 +53,10 @@ module _ (reads : Reads) (tells : Moment → Type 0) (words : List (List ℕ)) (
 
   module _ (asks : AsksOfFiles r.task) (now : Moment) (moment : IsMomentBy tells r.at now) where
     -- is no wrong use
-    pub answer_is_use : (text : List ℕ) → IsAnswer reads r now WrongUse text → ⊥
-    answer_is_use text answer = no_misuse r.task (context IsSignedByRsa now r.strict) (demands_by r (locator_files answer.locators)) (contents answer.files) (contents answer.lists) answer.ends.1
+    pub answer_is_use : (text : List ℕ) → IsAnswerOf reads lists r now WrongUse text → ⊥
+    answer_is_use text (names, are, answer) = no_misuse r.task (context IsSignedByRsa now r.strict) (demands_by r (locator_files answer.locators)) (contents answer.files) (contents answer.lists) answer.ends.1
 
-    pub run_answer : (outcome : Outcome) (text : List ℕ) → IsAnswer reads r now outcome text → RunEnds reads tells words outcome text
+    pub run_answer : (outcome : Outcome) (text : List ℕ) → IsAnswerOf reads lists r now outcome text → RunEnds reads lists tells words outcome text
     run_answer Success text answer = (r, line, answer_ends r.task asks now Success text moment answer)
     run_answer Rejection text answer = (r, line, answer_ends r.task asks now Rejection text moment answer)
     run_answer WrongUse text answer = absurd (answer_is_use text answer)

@@ -2,6 +2,7 @@
 mod AppendedTexts
 mod EndedRuns
 mod FlaggedItems
+mod ListedNames
 mod PartsOfEach
 mod PrintedFiles
 mod PushedItems

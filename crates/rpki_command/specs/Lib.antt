@@ -2,6 +2,7 @@
 pub mod AboutTexts
 pub mod Outcomes
 pub mod ReadFiles
+pub mod ListedFolders
 pub mod RejectionDetails
 pub mod VerdictTexts
 pub mod TreeTexts

@@ -1,5 +1,5 @@
--- How a run of the command ends, and what it writes, by what reading files gives and by what a clock
--- tells (own).
+-- How a run of the command ends, and what it writes, by what reading files and listing folders gives and
+-- by what a clock tells (own).
 use Rattle.std.specs.Prelude.{◌≡◌, ◌≢◌, ℕ, List, [], ◌++◌, codes, Option, Some, None, IsFalse, IsTrue}
 use Rattle.std.specs.Io.KnownBytes.{Appends}
 use Rattle.rpki.specs.Times.{Moment}
@@ -9,6 +9,7 @@ use Rattle.rpki_command.specs.AboutTexts.{usage_text, version_text}
 use Rattle.rpki_command.specs.AnswerTexts.{HasText, IsTextBy, IsJsonBy}
 use Rattle.rpki_arguments.specs.CommandLines.{RequestFields, IsCommandLine}
 use Rattle.rpki_arguments.specs.MisuseTexts.{misuse_text}
+use Rattle.rpki_command.specs.ListedFolders.{Lists, AreFilesOf}
 use Rattle.rpki_command.specs.Outcomes.{EndsBy}
 use Rattle.rpki_command.specs.ReadFiles.{Reads, AreRead}
 use Rattle.rpki_arguments.specs.declared.arguments.Format.TheVariants.{Text}
@@ -33,6 +34,13 @@ pub record IsAnswer (reads : Reads) (r : RequestFields) (now : Moment) (outcome 
   pub text_is : IsFalse r.is_quiet → r.format ≡ Text → IsTextBy r.task outcome r now files lists locators text
   pub json_is : IsFalse r.is_quiet → r.format ≢ Text → IsJsonBy r.task outcome r now files lists locators text
 
+-- the same, where listing folders gives this: it is that of the files that stand for the names of the
+-- request
+abbrev pub IsAnswerOf : Reads → Lists → RequestFields → Moment → Outcome → List ℕ → Type 0
+IsAnswerOf reads lists r now outcome text =
+    (names : List (List ℕ)) × AreFilesOf lists r.task r.files names
+    × IsAnswer reads (record r { files = names }) now outcome text
+
 -- the moment that is named, or else one that the clock tells
 abbrev pub IsMomentBy : (Moment → Type 0) → Option Moment → Moment → Type 0
 IsMomentBy tells None now = tells now
@@ -41,21 +49,22 @@ IsMomentBy tells (Some named) now = now ≡ named
 -- ---- a run
 
 -- what is asked ends so, with this text: a text about the command, or the answer of files
-abbrev pub TaskEnds : Task → Reads → (Moment → Type 0) → RequestFields → Outcome → List ℕ → Type 0
-TaskEnds Help reads tells r outcome text = (outcome ≡ Success) × (text ≡ usage_text)
-TaskEnds Version reads tells r outcome text = (outcome ≡ Success) × (text ≡ version_text)
-TaskEnds _ reads tells r outcome text = (now : Moment) × IsMomentBy tells r.at now × IsAnswer reads r now outcome text
+abbrev pub TaskEnds : Task → Reads → Lists → (Moment → Type 0) → RequestFields → Outcome → List ℕ → Type 0
+TaskEnds Help reads lists tells r outcome text = (outcome ≡ Success) × (text ≡ usage_text)
+TaskEnds Version reads lists tells r outcome text = (outcome ≡ Success) × (text ≡ version_text)
+TaskEnds _ reads lists tells r outcome text =
+    (now : Moment) × IsMomentBy tells r.at now × IsAnswerOf reads lists r now outcome text
 
 -- a run on these words ends so, with this text: with wrong use and none exactly where they are no
 -- command line, else as what they ask does
-abbrev pub RunEnds : Reads → (Moment → Type 0) → List (List ℕ) → Outcome → List ℕ → Type 0
-RunEnds reads tells words WrongUse text = ((r : RequestFields) → IsCommandLine r words → ⊥) × (text ≡ [])
-RunEnds reads tells words outcome text =
-    (r : RequestFields) × IsCommandLine r words × TaskEnds r.task reads tells r outcome text
+abbrev pub RunEnds : Reads → Lists → (Moment → Type 0) → List (List ℕ) → Outcome → List ℕ → Type 0
+RunEnds reads lists tells words WrongUse text = ((r : RequestFields) → IsCommandLine r words → ⊥) × (text ≡ [])
+RunEnds reads lists tells words outcome text =
+    (r : RequestFields) × IsCommandLine r words × TaskEnds r.task reads lists tells r outcome text
 
 -- it ends so, with some text
-abbrev pub RunEndsAs : Reads → (Moment → Type 0) → List (List ℕ) → Outcome → Type 0
-RunEndsAs reads tells words outcome = (text : List ℕ) × RunEnds reads tells words outcome text
+abbrev pub RunEndsAs : Reads → Lists → (Moment → Type 0) → List (List ℕ) → Outcome → Type 0
+RunEndsAs reads lists tells words outcome = (text : List ℕ) × RunEnds reads lists tells words outcome text
 
 -- ---- words that are no command line
 

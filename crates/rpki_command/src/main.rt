@@ -16,6 +16,7 @@ mod clock;
 mod details;
 mod facts;
 mod files;
+mod folders;
 mod notes;
 pub mod outcome_laws;
 mod outcomes;
@@ -83,11 +84,11 @@ fn command<S: FileSource + MomentSource, O: Write, E: Write>(
     words: &[Vec<u8>],
 ) -> ExitCode
     ensures success { let words = word_octets words.now in exit_status result ≡ 0
-        → RunEndsAs (S.reads system.now) (S.tells system.now) words Outcome.Success }
+        → RunEndsAs (S.reads system.now) (S.lists system.now) (S.tells system.now) words Outcome.Success }
     ensures rejection { let words = word_octets words.now in exit_status result ≡ 1
-        → RunEndsAs (S.reads system.now) (S.tells system.now) words Outcome.Rejection }
+        → RunEndsAs (S.reads system.now) (S.lists system.now) (S.tells system.now) words Outcome.Rejection }
     ensures wrong_use { let words = word_octets words.now in exit_status result ≡ 2
-        → RunEndsAs (S.reads system.now) (S.tells system.now) words Outcome.WrongUse }
+        → RunEndsAs (S.reads system.now) (S.lists system.now) (S.tells system.now) words Outcome.WrongUse }
     ensures no_other { exit_status result ≤ 3 }
 {
     let ended = settled(run(alloc, system, out, err, words));

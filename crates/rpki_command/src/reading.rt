@@ -11,8 +11,8 @@ use rpki_verdicts::GivenLocator;
 use std::alloc::{AllocError, Global};
 use std::io::Write;
 
-// Says why a file can't be read. Where this can't be told, the exit status still tells it.
-fn tell<E: Write>(err: &mut E, name: &[u8], why: &Unread) {
+/// Says why a file can't be read. Where this can't be told, the exit status still tells it.
+pub fn tell<E: Write>(err: &mut E, name: &[u8], why: &Unread) {
     if name == b"-".as_slice() {
         let _told = writeln!(err, "rpki: standard input: {why}");
         return;

@@ -3,12 +3,13 @@ ghost use Rattle.std.specs.Prelude.{◌≡◌, ◌≢◌, List, ℕ, IfOk, OnErr
 ghost use Rattle.std.specs.Io.KnownBytes.{Appends};
 ghost use Rattle.rpki_arguments.specs.CommandLines.Views.{fields_of, word_octets};
 ghost use Rattle.rpki_command.specs.Outcomes.{AsksOfFiles};
-ghost use Rattle.rpki_command.specs.Runs.{IsAnswer, RunEnds, SaysMisuse, misuse_message};
+ghost use Rattle.rpki_command.specs.Runs.{IsAnswer, IsAnswerOf, RunEnds, SaysMisuse, misuse_message};
 
 use crate::about::{text_about, usage};
 use crate::answering::answer_request;
 use crate::clock::{MomentSource, moment};
 use crate::files::FileSource;
+use crate::folders::{file_names, with_files};
 use crate::outcomes::{Answer, Ended, Outcome};
 use crate::reading::{read_files, read_locators};
 use anyhow::{Result, anyhow};
@@ -76,8 +77,29 @@ pub fn answer<F: FileSource, O: Write, E: Write>(
     Ok(Ended { outcome, written })
 }
 
-/// Answers the words of a command line: writes what they ask, of files as reading them gives them,
-/// at the moment that they name, or else at the one that the clock tells; or says what is wrong of
+// Answers the request of the files that stand for its names, as listing folders gives them.
+fn answer_named<F: FileSource, O: Write, E: Write>(
+    alloc: Global,
+    files: &F,
+    out: &mut O,
+    err: &mut E,
+    request: Request<'_>,
+    now: Time,
+) -> Result<Ended, AllocError>
+    requires { AsksOfFiles request.task }
+    ensures answer { let request = fields_of request.entry in
+        IfOk result (λ ended. (text : List ℕ)
+        × IsAnswerOf (F.reads files.now) (F.lists files.now) request now ended.outcome text
+        × OnOk ended.written (Appends (O.contents out.old) (O.contents out.new) text)) }
+    ensures unwritten { OnErr result (out.new ≡ out.old) }
+{
+    let names = file_names(alloc, files, err, &request)?;
+    let request = with_files(alloc, request, &names)?;
+    answer(alloc, files, out, err, &request, now)
+}
+
+/// Answers the words of a command line: writes what they ask, of files and folders as reading and
+/// listing them gives them, at the moment that they name, or else at the one that the clock tells; or says what is wrong of
 /// them. Errs where memory runs out, or where the clock or what says it fails, and has written
 /// nothing.
 pub fn run<S: FileSource + MomentSource, O: Write, E: Write>(
@@ -88,7 +110,7 @@ pub fn run<S: FileSource + MomentSource, O: Write, E: Write>(
     words: &[Vec<u8>],
 ) -> Result<Ended>
     ensures ended { let words = word_octets words.now in IfOk result (λ ended. (text : List ℕ)
-        × RunEnds (S.reads system.now) (S.tells system.now) words ended.outcome text
+        × RunEnds (S.reads system.now) (S.lists system.now) (S.tells system.now) words ended.outcome text
         × OnOk ended.written (Appends (O.contents out.old) (O.contents out.new) text)) }
     ensures said { IfOk result (λ ended. ended.outcome ≡ Outcome.WrongUse
         → SaysMisuse (E.contents err.old) (E.contents err.new)) }
@@ -112,5 +134,5 @@ pub fn run<S: FileSource + MomentSource, O: Write, E: Write>(
         });
     }
     let now = moment(system, request.at)?;
-    Ok(answer(alloc, system, out, err, &request, now)?)
+    Ok(answer_named(alloc, system, out, err, request, now)?)
 }

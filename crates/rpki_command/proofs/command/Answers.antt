@@ -10,7 +10,7 @@ pub returns-clause-wrong_use : goal.returns-clause-wrong_use
 returns-clause-wrong_use g c =
     let contents = g.O.Write.contents in
     λ told. told_misuse
-    (RunEnds (g.S.FileSource.reads c.args.system.now) (g.S.MomentSource.tells c.args.system.now) (word_octets c.args.words.now))
+    (RunEnds (g.S.FileSource.reads c.args.system.now) (g.S.FileSource.lists c.args.system.now) (g.S.MomentSource.tells c.args.system.now) (word_octets c.args.words.now))
     (λ e text. OnOk e.written (Appends (contents c.args.out.now) (contents c.run.new.out) text))
     c.run.result c.settled-ended.result c.run.ensures.ended c.settled-ended.ensures.outcome (sym c.status_of-status.ensures ∙ sym c.from.ensures ∙ told)
 
@@ -18,7 +18,7 @@ pub returns-clause-success : goal.returns-clause-success
 returns-clause-success g c =
     let contents = g.O.Write.contents in
     λ told. told_success
-    (RunEnds (g.S.FileSource.reads c.args.system.now) (g.S.MomentSource.tells c.args.system.now) (word_octets c.args.words.now))
+    (RunEnds (g.S.FileSource.reads c.args.system.now) (g.S.FileSource.lists c.args.system.now) (g.S.MomentSource.tells c.args.system.now) (word_octets c.args.words.now))
     (λ e text. OnOk e.written (Appends (contents c.args.out.now) (contents c.run.new.out) text))
     c.run.result c.settled-ended.result c.run.ensures.ended c.settled-ended.ensures.outcome (sym c.status_of-status.ensures ∙ sym c.from.ensures ∙ told)
 
@@ -26,6 +26,6 @@ pub returns-clause-rejection : goal.returns-clause-rejection
 returns-clause-rejection g c =
     let contents = g.O.Write.contents in
     λ told. told_rejection
-    (RunEnds (g.S.FileSource.reads c.args.system.now) (g.S.MomentSource.tells c.args.system.now) (word_octets c.args.words.now))
+    (RunEnds (g.S.FileSource.reads c.args.system.now) (g.S.FileSource.lists c.args.system.now) (g.S.MomentSource.tells c.args.system.now) (word_octets c.args.words.now))
     (λ e text. OnOk e.written (Appends (contents c.args.out.now) (contents c.run.new.out) text))
     c.run.result c.settled-ended.result c.run.ensures.ended c.settled-ended.ensures.outcome (sym c.status_of-status.ensures ∙ sym c.from.ensures ∙ told)

@@ -10,8 +10,8 @@ returns-in-Err-clause-ended g c =
 
 pub returns-clause-ended : goal.returns-clause-ended
 returns-clause-ended g c =
-    let its = c.in_ok-answer.ensures.answer in
-    let ends = run_answer (g.S.FileSource.reads c.args.system.now) (g.S.MomentSource.tells c.args.system.now)
+    let its = c.in_ok-answer_named.ensures.answer in
+    let ends = run_answer (g.S.FileSource.reads c.args.system.now) (g.S.FileSource.lists c.args.system.now) (g.S.MomentSource.tells c.args.system.now)
     (word_octets c.args.words.now) (fields_of c.in-Ok.request) c.in-Ok.ensures.command_line
-    c.in_default.ensures.files c.in_ok-now.now c.in_ok-now.ensures c.in_ok-answer.field-0.outcome its.0 its.1 in
+    c.in_default.ensures.files c.in_ok-now.now c.in_ok-now.ensures c.in_ok-answer_named.field-0.outcome its.0 its.1 in
     (its.0, ends, its.2)

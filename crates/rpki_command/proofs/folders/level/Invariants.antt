@@ -1,0 +1,8 @@
+use Rattle.std.proofs.Common.{◌||◌}
+use Rattle.rpki_arguments.specs.CommandLines.Views.{word_octets}
+use Rattle.rpki_command.specs.ListedFolders.{AreOpened, is_folder_name}
+use Rattle.rpki_command.proofs.folders.level.Given as goal
+
+abbrev pub invariant-loop-name : goal.invariant-loop-name
+invariant-loop-name g l =
+    AreOpened (g.F.FileSource.lists l.files) (λ name. l.is_first || is_folder_name name) (word_octets l.yielded) (word_octets l.opened.all.items)

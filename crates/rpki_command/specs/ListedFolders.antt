@@ -1,0 +1,71 @@
+-- The files that stand for a name: where it is a folder's, those in it and below it (own; how a name
+-- ends: RFC 6481 2.2).
+use Rattle.std.specs.Cmp.Lexicographic.{slice_cmp}
+use Rattle.std.specs.List.{ends_with, filter}
+use Rattle.std.specs.List.Sorted.{IsPermutation, IsSorted}
+use Rattle.std.specs.Ordering.{nat_cmp}
+use Rattle.std.specs.Prelude.{◌≡◌, ◌||◌, ◌⊎◌, ℕ, zero, suc, Bool, true, List, [], ◌∷◌, ◌++◌, codes, nat_eq, Option, Some, None}
+use Rattle.std.specs.Bool.{MatchBool}
+use Rattle.std.specs.Str.{IsUtf8}
+use Rattle.rpki_arguments.specs.declared.arguments.Task.{Task}
+use Rattle.rpki_arguments.specs.declared.arguments.Task.TheVariants.{Tree}
+
+-- ---- a folder
+
+-- what listing the folder of a name gives: the names of what is in it, as they are opened, in any
+-- order, of which those of folders end in `/`; or nothing, since the name is no folder's, or the folder
+-- can't be listed
+abbrev pub Lists : Type 1
+Lists = List ℕ → Option (List (List ℕ)) → Type 0
+
+-- of the system's folders a contract knows nothing
+abbrev pub SystemLists : Lists
+SystemLists name given = Unit {0}
+
+-- the folder of this name can't be listed, or the name is none's
+abbrev pub IsUnlisted : Lists → List ℕ → Type 0
+IsUnlisted lists name = (IsUtf8 name → ⊥) ⊎ lists name None
+
+-- ---- the names in it
+
+-- a listing gives the name as a folder's
+abbrev pub is_folder_name : List ℕ → Bool
+is_folder_name name = ends_with nat_eq name (codes "/")
+
+-- it is that of a folder, a certificate or a revocation list
+abbrev pub is_taken : List ℕ → Bool
+is_taken name = is_folder_name name || (ends_with nat_eq name (codes ".cer") || ends_with nat_eq name (codes ".crl"))
+
+-- these names stand for the name: those in its folder that are taken, sorted by their octets; or it
+-- alone, where it is no folder's
+abbrev pub StandFor : Lists → List ℕ → List (List ℕ) → Type 0
+StandFor lists name its =
+    (IsUnlisted lists name × (its ≡ name ∷ []))
+    ⊎ ((given : List (List ℕ)) × (sorted : List (List ℕ)) × lists name (Some given)
+    × IsPermutation given sorted × IsSorted (slice_cmp nat_cmp) sorted × (its ≡ filter is_taken sorted))
+
+-- ---- below it
+
+-- for each of the names that the test gives stand its own, one after the other, and the others stay
+abbrev pub AreOpened : Lists → (List ℕ → Bool) → List (List ℕ) → List (List ℕ) → Type 0
+AreOpened lists opens [] all = all ≡ []
+AreOpened lists opens (name ∷ names) all =
+    (its : List (List ℕ)) × (more : List (List ℕ))
+    × MatchBool (opens name) (StandFor lists name its) (its ≡ name ∷ [])
+    × AreOpened lists opens names more × (all ≡ its ++ more)
+
+-- the names given so many levels further down, where each level opens the folders of the one above
+unfoldable pub AreDown : Lists → ℕ → List (List ℕ) → List (List ℕ) → Type 0
+AreDown lists zero names all = all ≡ names
+AreDown lists (suc levels) names all =
+    (above : List (List ℕ)) × AreDown lists levels names above × AreOpened lists is_folder_name above all
+
+-- ---- those of a request
+
+-- the files that stand for the names of a task: each name of a tree may be a folder's, which is opened
+-- 32 levels down, and a folder below these stays a name, which can't be read; of another task each
+-- name is a file's
+abbrev pub AreFilesOf : Lists → Task → List (List ℕ) → List (List ℕ) → Type 0
+AreFilesOf lists Tree names files =
+    (first : List (List ℕ)) × AreOpened lists (λ _. true) names first × AreDown lists 32 first files
+AreFilesOf lists _ names files = files ≡ names

@@ -1,0 +1,270 @@
+//! The files that stand for the names of a request: where a name is a folder's, those in it and below
+//! it.
+ghost use Rattle.std.specs.Cmp.Lexicographic.{slice_cmp};
+ghost use Rattle.std.specs.List.{filter};
+ghost use Rattle.std.specs.List.Sorted.{IsPermutation, IsSorted};
+ghost use Rattle.std.specs.Ordering.{nat_cmp};
+ghost use Rattle.std.specs.Prelude.{◌≡◌, ◌||◌, ◌++◌, ◌∷◌, [], Bool, List, ℕ, Some, map, IfOk, MatchOption, OnOk, true};
+ghost use Rattle.std.specs.Bool.{MatchBool};
+ghost use Rattle.rpki_arguments.specs.CommandLines.Views.{fields_of, word_octets};
+ghost use Rattle.rpki_command.specs.ListedFolders.{AreDown, AreFilesOf, AreOpened, IsUnlisted, StandFor, is_folder_name, is_taken};
+
+use crate::files::{FileSource, Unread};
+use crate::reading::tell;
+use rpki_arguments::{Request, Task};
+use std::alloc::{AllocError, Global};
+use std::io::Write;
+
+/// How many levels of folders are opened below one that is named.
+const LEVELS: usize = 32;
+
+// The names that stand for others, and how many files were passed over.
+#[derive(Drop)]
+struct Names {
+    all: Vec<Vec<u8>>,
+    passed: usize,
+}
+
+// Whether a listing gives the name as a folder's.
+fn is_folder_name(name: &[u8]) -> bool
+    ensures { result ≡ is_folder_name name.now }
+{
+    name.ends_with(b"/".as_slice())
+}
+
+// Whether the name may be a folder's: at first each may, and else as a listing gives it.
+fn may_be_folder(name: &[u8], is_first: bool) -> bool
+    ensures { result ≡ (is_first || is_folder_name name.now) }
+{
+    is_first || is_folder_name(name)
+}
+
+// Whether the name is that of a folder, a certificate or a revocation list.
+fn is_taken(name: &[u8]) -> bool
+    ensures { result ≡ is_taken name.now }
+{
+    is_folder_name(name) || name.ends_with(b".cer".as_slice()) || name.ends_with(b".crl".as_slice())
+}
+
+// The names by their octets.
+fn sorted(mut names: Vec<Vec<u8>>) -> Vec<Vec<u8>>
+    ensures permutation { IsPermutation (word_octets names.items) (word_octets result.items) }
+    ensures sorted { IsSorted (slice_cmp nat_cmp) (word_octets result.items) }
+{
+    names.sort_unstable();
+    names
+}
+
+// What the folder of a name has, unless it can't be listed or is none.
+fn listed<F: FileSource, E: Write>(
+    alloc: Global,
+    files: &F,
+    err: &mut E,
+    name: &[u8],
+) -> Result<Option<Vec<Vec<u8>>>, AllocError>
+    ensures { let lists = F.lists files.now in IfOk result (λ listed.
+        MatchOption listed (IsUnlisted lists name.now)
+        (λ given. lists name.now (Some (word_octets given.items)))) }
+{
+    let Ok(text) = str::from_utf8(name) else {
+        return Ok(None);
+    };
+    match files.list_folder(alloc, text) {
+        Ok(listed) => Ok(listed),
+        Err(Unread::Memory) => Err(AllocError),
+        Err(why) => {
+            tell(err, name, &why);
+            drop(why);
+            Ok(None)
+        }
+    }
+}
+
+impl Names {
+    fn new(alloc: Global, passed: usize) -> Names
+        ensures { word_octets result.all.items ≡ [] }
+    {
+        Names {
+            all: Vec::new(alloc),
+            passed,
+        }
+    }
+
+    fn push(&mut self, name: Vec<u8>) -> Result<(), AllocError>
+        ensures { OnOk result
+            (word_octets self.new.all.items ≡ word_octets self.old.all.items ++ name.items ∷ []) }
+    {
+        self.all.push(name)?;
+        Ok(())
+    }
+
+    // Adds those of the names that are taken, and counts the others.
+    fn push_taken(&mut self, names: Vec<Vec<u8>>) -> Result<(), AllocError>
+        ensures { OnOk result (word_octets self.new.all.items
+            ≡ word_octets self.old.all.items ++ filter is_taken (word_octets names.items)) }
+    {
+        for name in names {
+            if is_taken(name.as_slice()) {
+                self.push(name)?;
+            } else {
+                self.passed = self.passed.saturating_add(1);
+            }
+        }
+        Ok(())
+    }
+
+    // Adds what stands for a name.
+    fn push_opened<F: FileSource, E: Write>(
+        &mut self,
+        alloc: Global,
+        files: &F,
+        err: &mut E,
+        name: Vec<u8>,
+    ) -> Result<(), AllocError>
+        ensures { OnOk result ((its : List (List ℕ)) × StandFor (F.lists files.now) name.items its
+            × (word_octets self.new.all.items ≡ word_octets self.old.all.items ++ its)) }
+    {
+        match listed(alloc, files, err, name.as_slice())? {
+            Some(given) => self.push_taken(sorted(given)),
+            None => {
+                self.push(name)?;
+                Ok(())
+            }
+        }
+    }
+
+    // Adds what stands for a name, where it is to be opened, and else the name.
+    fn push_name<F: FileSource, E: Write>(
+        &mut self,
+        alloc: Global,
+        files: &F,
+        err: &mut E,
+        opens: bool,
+        name: Vec<u8>,
+    ) -> Result<(), AllocError>
+        ensures { OnOk result ((its : List (List ℕ))
+            × MatchBool opens (StandFor (F.lists files.now) name.items its) (its ≡ name.items ∷ [])
+            × (word_octets self.new.all.items ≡ word_octets self.old.all.items ++ its)) }
+    {
+        if opens {
+            return self.push_opened(alloc, files, err, name);
+        }
+        self.push(name)
+    }
+}
+
+// Opens the folders among the names; at first each name may be one.
+fn level<F: FileSource, E: Write>(
+    alloc: Global,
+    files: &F,
+    err: &mut E,
+    names: Names,
+    is_first: bool,
+) -> Result<Names, AllocError>
+    ensures { IfOk result (λ opened. AreOpened (F.lists files.now)
+        (λ name. is_first || is_folder_name name)
+        (word_octets names.all.items) (word_octets opened.all.items)) }
+{
+    let Names { all, passed } = names;
+    let mut opened = Names::new(alloc, passed);
+    for name in all {
+        let opens = may_be_folder(name.as_slice(), is_first);
+        opened.push_name(alloc, files, err, opens, name)?;
+    }
+    Ok(opened)
+}
+
+// Opens the folders among the names, and those in them.
+fn opened_down<F: FileSource, E: Write>(
+    alloc: Global,
+    files: &F,
+    err: &mut E,
+    names: Names,
+) -> Result<Names, AllocError>
+    ensures { IfOk result (λ opened. AreDown (F.lists files.now) 32
+        (word_octets names.all.items) (word_octets opened.all.items)) }
+{
+    let mut opened = names;
+    for _level in 0..LEVELS {
+        opened = level(alloc, files, err, opened, false)?;
+    }
+    Ok(opened)
+}
+
+// A copy of the names.
+fn copied(alloc: Global, names: &[&[u8]]) -> Result<Vec<Vec<u8>>, AllocError>
+    ensures { IfOk result (λ all. word_octets all.items ≡ map (λ name. name.now) names.now) }
+{
+    let mut all = Vec::new(alloc);
+    for name in names {
+        let name = name.to_vec(alloc)?;
+        all.push(name)?;
+    }
+    Ok(all)
+}
+
+// Says how many files of folders were passed over.
+fn tell_passed<E: Write>(err: &mut E, passed: usize) {
+    if passed > 0 {
+        let _told = writeln!(
+            err,
+            "rpki: passed over in folders: {passed} files whose names end neither in .cer nor in .crl"
+        );
+    }
+}
+
+// The files that stand for names of which each may be a folder's.
+fn opened<F: FileSource, E: Write>(
+    alloc: Global,
+    files: &F,
+    err: &mut E,
+    names: &[&[u8]],
+) -> Result<Vec<Vec<u8>>, AllocError>
+    ensures { let names = map (λ name. name.now) names.now in
+        IfOk result (λ all. AreFilesOf (F.lists files.now) Task.Tree names (word_octets all.items)) }
+{
+    let given = Names {
+        all: copied(alloc, names)?,
+        passed: 0,
+    };
+    let first = level(alloc, files, err, given, true)?;
+    let Names { all, passed } = opened_down(alloc, files, err, first)?;
+    tell_passed(err, passed);
+    Ok(all)
+}
+
+/// Returns the names of the files that the request is about: where it may name folders, those of the
+/// files in them and below them, and else its own. Errs only where memory runs out.
+pub fn file_names<F: FileSource, E: Write>(
+    alloc: Global,
+    files: &F,
+    err: &mut E,
+    request: &Request<'_>,
+) -> Result<Vec<Vec<u8>>, AllocError>
+    ensures { let names = map (λ name. name.now) request.now.files.items in
+        IfOk result (λ all.
+        AreFilesOf (F.lists files.now) request.now.task names (word_octets all.items)) }
+{
+    match request.task {
+        Task::Tree => opened(alloc, files, err, &request.files),
+        Task::Show | Task::Validate | Task::Help | Task::Version => copied(alloc, &request.files),
+    }
+}
+
+/// Returns the request with these files in place of its own. Errs only where memory runs out.
+pub fn with_files<'a>(
+    alloc: Global,
+    request: Request<'a>,
+    names: &'a [Vec<u8>],
+) -> Result<Request<'a>, AllocError>
+    ensures { IfOk result (λ new.
+        fields_of new ≡ record (fields_of request.entry) { files = word_octets names.now }) }
+{
+    let mut files = Vec::new(alloc);
+    for name in names {
+        files.push(name.as_slice())?;
+    }
+    let mut request = request;
+    request.files = files;
+    Ok(request)
+}
