@@ -1,3 +1,4 @@
 -- The definitions that the contracts of the command line cite.
+pub mod WordParts
 pub mod CommandLines
 pub mod MisuseTexts

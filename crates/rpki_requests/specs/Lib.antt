@@ -1,0 +1,2 @@
+-- The definitions that the contracts of requests cite.
+pub mod RequestWords

@@ -1,0 +1,213 @@
+-- Which words behind the program's name ask for a certificate or a revocation list to be prepared or
+-- completed, and what they ask (own). A word is the octets that the system has.
+use Rattle.std.specs.Prelude.{◌≡◌, ◌≤◌, ℕ, List, [], ◌∷◌, ◌++◌, length, map, filter, Bool, true, false, fold, codes}
+use Rattle.std.specs.Str.{bytes_eq}
+use Rattle.rpki_arguments.specs.WordParts.{IsOption, GivesValue, AreParts, words_before, words_behind}
+use Rattle.rpki_requests.specs.declared.words.Demand.{Demand}
+use Rattle.rpki_requests.specs.declared.words.Demand.TheVariants.{Never, AtMostOnce, Once, AnyNumber, AtLeastOnce}
+use Rattle.rpki_requests.specs.declared.words.Errand.{Errand}
+use Rattle.rpki_requests.specs.declared.words.Errand.TheVariants.{Authority, EndEntity, Detached, Router, Anchor, Revocations, Completion}
+use Rattle.rpki_requests.specs.declared.words.Setting.{Setting}
+use Rattle.rpki_requests.specs.declared.words.Setting.TheVariants.{Issuer, Key, Serial, From, Until, Ipv4, Ipv6, AsNumbers, Repository, Manifest, Notify, Object, IssuerUri, CrlUri, Previous, Revoke, Forget, ThisUpdate, NextUpdate, At}
+use Rattle.rpki_requests.specs.declared.words.Switch.{Switch}
+use Rattle.rpki_requests.specs.declared.words.Switch.TheVariants.{Trim, Lenient, Pem}
+pub mod Views
+
+-- ---- words
+
+-- the words that begin a request
+abbrev pub errand_words : Errand → List (List ℕ)
+errand_words Authority = codes "prepare" ∷ codes "ca" ∷ []
+errand_words EndEntity = codes "prepare" ∷ codes "ee" ∷ []
+errand_words Detached = codes "prepare" ∷ codes "detached" ∷ []
+errand_words Router = codes "prepare" ∷ codes "router" ∷ []
+errand_words Anchor = codes "prepare" ∷ codes "anchor" ∷ []
+errand_words Revocations = codes "prepare" ∷ codes "list" ∷ []
+errand_words Completion = codes "complete" ∷ []
+
+-- the name of an option that takes a value
+abbrev pub setting_name : Setting → List ℕ
+setting_name Issuer = codes "--issuer"
+setting_name Key = codes "--key"
+setting_name Serial = codes "--serial"
+setting_name From = codes "--from"
+setting_name Until = codes "--until"
+setting_name Ipv4 = codes "--ipv4"
+setting_name Ipv6 = codes "--ipv6"
+setting_name AsNumbers = codes "--as"
+setting_name Repository = codes "--repository"
+setting_name Manifest = codes "--manifest"
+setting_name Notify = codes "--notify"
+setting_name Object = codes "--object"
+setting_name IssuerUri = codes "--issuer-uri"
+setting_name CrlUri = codes "--crl-uri"
+setting_name Previous = codes "--previous"
+setting_name Revoke = codes "--revoke"
+setting_name Forget = codes "--forget"
+setting_name ThisUpdate = codes "--this-update"
+setting_name NextUpdate = codes "--next-update"
+setting_name At = codes "--at"
+
+-- the name of one that takes none
+abbrev pub switch_name : Switch → List ℕ
+switch_name Trim = codes "--trim"
+switch_name Lenient = codes "--lenient"
+switch_name Pem = codes "--pem"
+
+-- an option with its value
+pub record GivenFields : Type 0 where
+  pub setting : Setting
+  pub value : List ℕ
+
+-- what stands behind the errand
+pub data RequestPart : Type 0 where
+  file : List ℕ → RequestPart
+  option : GivenFields → RequestPart
+  switch : Switch → RequestPart
+
+-- the words are this part
+abbrev pub IsRequestPart : RequestPart → List (List ℕ) → Type 0
+IsRequestPart (file name) words = (words ≡ name ∷ []) × (IsOption name → ⊥)
+IsRequestPart (option g) words = GivesValue (setting_name g.setting) g.value words
+IsRequestPart (switch s) words = words ≡ switch_name s ∷ []
+
+-- ---- what they ask
+
+-- the errand, the options that take a value and the files, each in the order of the words, whether
+-- resources that the issuer doesn't hold are trimmed, whether names are read strictly, and whether
+-- what is completed is written in PEM
+pub record AskedFields : Type 0 where
+  pub errand : Errand
+  pub given : List GivenFields
+  pub files : List (List ℕ)
+  pub trims : Bool
+  pub strict : Bool
+  pub is_pem : Bool
+
+-- an errand, and nothing more
+abbrev pub only_errand : Errand → AskedFields
+only_errand errand =
+    record { errand = errand; given = []; files = []; trims = false; strict = true; is_pem = false; }
+
+-- with more files
+abbrev pub with_files : AskedFields → List (List ℕ) → AskedFields
+with_files asked more = record asked { files = asked.files ++ more }
+
+-- with what a further part says
+abbrev pub with_part : AskedFields → RequestPart → AskedFields
+with_part asked (file name) = record asked { files = asked.files ++ name ∷ [] }
+with_part asked (option g) = record asked { given = asked.given ++ g ∷ [] }
+with_part asked (switch Trim) = record asked { trims = true }
+with_part asked (switch Lenient) = record asked { strict = false }
+with_part asked (switch Pem) = record asked { is_pem = true }
+
+-- ---- which options suit an errand
+
+-- the options are the same
+abbrev pub is_same : Setting → Setting → Bool
+is_same a b = bytes_eq (setting_name a) (setting_name b)
+
+-- the values that an option is given, in the order of the words
+abbrev pub values_of : Setting → List GivenFields → List (List ℕ)
+values_of setting given = map (λ g. g.value) (filter (λ g. is_same g.setting setting) given)
+
+-- how often an errand takes an option
+abbrev pub demand : Setting → Errand → Demand
+demand Issuer Anchor = Never
+demand Issuer Completion = AnyNumber
+demand Issuer _ = AtLeastOnce
+demand Key Revocations = Never
+demand Key Completion = Never
+demand Key _ = Once
+demand Serial Revocations = Never
+demand Serial Completion = Never
+demand Serial _ = Once
+demand From Revocations = Never
+demand From Completion = Never
+demand From _ = Once
+demand Until Revocations = Never
+demand Until Completion = Never
+demand Until _ = Once
+demand Ipv4 Router = Never
+demand Ipv4 Revocations = Never
+demand Ipv4 Completion = Never
+demand Ipv4 _ = AnyNumber
+demand Ipv6 Router = Never
+demand Ipv6 Revocations = Never
+demand Ipv6 Completion = Never
+demand Ipv6 _ = AnyNumber
+demand AsNumbers Router = AtLeastOnce
+demand AsNumbers Revocations = Never
+demand AsNumbers Completion = Never
+demand AsNumbers _ = AnyNumber
+demand Repository Authority = Once
+demand Repository Anchor = Once
+demand Repository _ = Never
+demand Manifest Authority = Once
+demand Manifest Anchor = Once
+demand Manifest _ = Never
+demand Notify Authority = AtMostOnce
+demand Notify Anchor = AtMostOnce
+demand Notify _ = Never
+demand Object EndEntity = Once
+demand Object _ = Never
+demand IssuerUri Anchor = Never
+demand IssuerUri Revocations = Never
+demand IssuerUri Completion = Never
+demand IssuerUri _ = Once
+demand CrlUri Anchor = Never
+demand CrlUri Revocations = Never
+demand CrlUri Completion = Never
+demand CrlUri _ = Once
+demand Previous Revocations = Once
+demand Previous _ = Never
+demand Revoke Revocations = AnyNumber
+demand Revoke _ = Never
+demand Forget Revocations = AnyNumber
+demand Forget _ = Never
+demand ThisUpdate Revocations = Once
+demand ThisUpdate _ = Never
+demand NextUpdate Revocations = Once
+demand NextUpdate _ = Never
+demand At _ = AtMostOnce
+
+-- an option that stands so often meets what is demanded
+abbrev pub Meets : Demand → ℕ → Type 0
+Meets Never n = n ≡ 0
+Meets AtMostOnce n = n ≤ 1
+Meets Once n = n ≡ 1
+Meets AnyNumber n = Unit {0}
+Meets AtLeastOnce n = 1 ≤ n
+
+-- whether an errand takes an option without a value
+abbrev pub takes : Switch → Errand → Bool
+takes Trim Revocations = false
+takes Trim Completion = false
+takes Trim _ = true
+takes Lenient _ = true
+takes Pem Completion = true
+takes Pem _ = false
+
+-- how many files it wants: what was prepared, and its signature
+abbrev pub files_wanted : Errand → ℕ
+files_wanted Completion = 2
+files_wanted _ = 0
+
+-- what is asked suits its errand
+pub record Suits (asked : AskedFields) : Type 0 where
+  pub settings : (setting : Setting) → Meets (demand setting asked.errand) (length (values_of setting asked.given))
+  pub trim : asked.trims ≡ true → takes Trim asked.errand ≡ true
+  pub pem : asked.is_pem ≡ true → takes Pem asked.errand ≡ true
+  pub files : length asked.files ≡ files_wanted asked.errand
+
+-- ---- the whole
+
+-- the words ask this: those of an errand, then parts, and perhaps `--` and files
+pub record IsRequestLine (asked : AskedFields) (words : List (List ℕ)) : Type 0 where
+  pub errand : Errand
+  pub rest : List (List ℕ)
+  pub words_are : words ≡ errand_words errand ++ rest
+  pub parts : List RequestPart
+  pub parts_are : AreParts IsRequestPart parts (words_before rest)
+  pub asks : asked ≡ with_files (fold with_part (only_errand errand) parts) (words_behind rest)
+  pub suits : Suits asked
