@@ -6,7 +6,7 @@ use Rattle.std.proofs.Common.{◌≡◌, ◌↔◌, ◌+◌, ◌-◌, ◌<◌, �
 use Rattle.std.proofs.lemmas.List.{length-map, length-drop, get_or-map, take-map, drop-map, take_all, drop_all}
 use Rattle.std.proofs.lemmas.List.Sums.{position_or_len_is}
 use Rattle.std.proofs.lemmas.Slice.Eq.{bytes_eq-Decides}
-use Rattle.rpki_arguments.specs.CommandLines.{is_dashes, words_before, words_behind}
+use Rattle.rpki_arguments.specs.WordParts.{is_dashes, words_before, words_behind}
 use Rattle.rpki_arguments.specs.CommandLines.Views.{word_octets}
 
 not_dashes : (b : Bool) → (b ≡ true → ⊥) → b ≡ false

@@ -1,25 +1,24 @@
--- The parts of a command line: words are one list of parts at most.
+-- The parts of a command line, by the sort of their first word.
 use Rattle.std.specs.Prelude.{codes, Option, Some, None}
 use Rattle.std.specs.Str.{bytes_eq}
 use Rattle.std.proofs.Common.{◌≡◌, ◌⊎◌, ◌==◌, ◌<◌, ℕ, Bool, true, false, cond, inl, inr, List, [], ◌∷◌, ◌++◌, length, refl, sym, ap, ◌∙◌, subst, lit<, arith}
 use Rattle.std.proofs.lemmas.Bool.{eqb-true}
 use Rattle.std.proofs.lemmas.Slice.Eq.{bytes_eq-Decides}
-use Rattle.std.proofs.lemmas.List.{append_assoc, append-nil}
 use Rattle.rpki_arguments.specs.declared.arguments.Format.{Format}
 use Rattle.rpki_arguments.specs.declared.arguments.Format.TheVariants.{Text, Json, JsonLines}
 use Rattle.rpki_arguments.specs.declared.arguments.Setting.{Setting}
 use Rattle.rpki_arguments.specs.declared.arguments.Setting.TheVariants.{Crl, Tal, At, MaxSize, Output, ShortOutput}
-use Rattle.rpki_arguments.specs.CommandLines.{IsFormatName, IsOption, LinePart, file, list, locator, at_moment, max_size, output, lenient, json, quiet, all, no_names, help, setting_name, GivesValue, IsPart, AreParts}
+use Rattle.rpki_arguments.specs.CommandLines.{IsFormatName, LinePart, file, list, locator, at_moment, max_size, output, lenient, json, quiet, all, no_names, help, setting_name, IsPart}
+use Rattle.rpki_arguments.specs.WordParts.{IsOption, GivesValue}
+use Rattle.rpki_arguments.proofs.PartsOfWords.{Sort, single, before, joining, Grammar, Shape, IsClear, alone_is, given_is}
 use Rattle.rpki_arguments.specs.CommandLines.Steps.{BeginsNoPart, IsSetPart, IsSwitch, Joins, IsOptionName}
 use Rattle.rpki_text.proofs.OneMoment.{one_moment}
 
 -- ---- the first word
 
--- what a first word is: a part by itself, an option whose value comes next, or an option and its value
-data Sort : Type 0 where
-  single : LinePart → Sort
-  before : Setting → Sort
-  joining : Setting → List ℕ → Sort
+-- what a first word is
+abbrev pub LineSort : Type 0
+LineSort = Sort LinePart Setting
 
 -- what stands in a word behind a text
 stripped : List ℕ → List ℕ → Option (List ℕ)
@@ -28,12 +27,12 @@ stripped (c ∷ cs) [] = None
 stripped (c ∷ cs) (w ∷ ws) = cond (w == c) (stripped cs ws) None
 
 -- an option and its value, where there is one, or else another sort
-joining_or : Setting → Option (List ℕ) → Sort → Sort
+joining_or : Setting → Option (List ℕ) → LineSort → LineSort
 joining_or setting None sort = sort
 joining_or setting (Some value) sort = joining setting value
 
 -- the sort of a word
-sort_of : List ℕ → Sort
+pub sort_of : List ℕ → LineSort
 sort_of word =
     cond (bytes_eq word (codes "--crl")) (before Crl)
     (cond (bytes_eq word (codes "--tal")) (before Tal)
@@ -140,49 +139,40 @@ one_set MaxSize value p q h k = h.1 ∙ ap max_size (sym h.2.1 ∙ k.2.1) ∙ sy
 one_set Output value p q h k = h.1 ∙ ap output (one_format h.0 k.0 value h.2 k.2) ∙ sym k.1
 one_set ShortOutput value p q h k = h.1 ∙ ap output (one_format h.0 k.0 value h.2 k.2) ∙ sym k.1
 
--- a part is one word of its own sort, or an option with a value, in two words or one
-data Shape : LinePart → List (List ℕ) → Type 0 where
-  alone : (part : LinePart) (word : List ℕ) → sort_of word ≡ single part → Shape part (word ∷ [])
-  apart : (setting : Setting) (option value : List ℕ) (part : LinePart) → sort_of option ≡ before setting → IsSetPart setting value part → Shape part (option ∷ value ∷ [])
-  in_one : (setting : Setting) (word value : List ℕ) (part : LinePart) → sort_of word ≡ joining setting value → IsSetPart setting value part → Shape part (word ∷ [])
-
--- one word of the part's sort
-alone_is : (part : LinePart) (words : List (List ℕ)) (word : List ℕ) → words ≡ word ∷ [] → sort_of word ≡ single part → Shape part words
-alone_is part words word is sort = subst (λ (l : List (List ℕ)). Shape part l) (sym is) (alone part word sort)
+-- the parts of a command line
+abbrev pub line_grammar : Grammar LinePart Setting
+line_grammar = record { IsPart = IsPart; name = setting_name; IsSet = IsSetPart; sort_of = sort_of }
 
 -- an option with its value
-given : (setting : Setting) (value : List ℕ) (part : LinePart) (words : List (List ℕ)) → IsSetPart setting value part → GivesValue setting value words → Shape part words
-given setting value part words set (inl is) =
-    subst (λ (l : List (List ℕ)). Shape part l) (sym is) (apart setting (setting_name setting) value part (named setting) set)
-given setting value part words set (inr is) =
-    subst (λ (l : List (List ℕ)). Shape part l) (sym is) (in_one setting (setting_name setting ++ codes "=" ++ value) value part (joined setting value) set)
+line_given : (setting : Setting) (value : List ℕ) (part : LinePart) (words : List (List ℕ)) → IsSetPart setting value part → GivesValue (setting_name setting) value words → Shape line_grammar part words
+line_given = given_is line_grammar named joined
 
 -- an option that names a format, by either of its names
-given_format : (f : Format) (text : List ℕ) (words : List (List ℕ)) → IsFormatName f text → GivesValue Output text words ⊎ GivesValue ShortOutput text words → Shape (output f) words
-given_format f text words is (inl h) = given Output text (output f) words (f, refl, is) h
-given_format f text words is (inr h) = given ShortOutput text (output f) words (f, refl, is) h
+given_format : (f : Format) (text : List ℕ) (words : List (List ℕ)) → IsFormatName f text → GivesValue (codes "--output") text words ⊎ GivesValue (codes "-o") text words → Shape line_grammar (output f) words
+given_format f text words is (inl h) = line_given Output text (output f) words (f, refl, is) h
+given_format f text words is (inr h) = line_given ShortOutput text (output f) words (f, refl, is) h
 
 -- the words of a part have its shape
-shape : (part : LinePart) (words : List (List ℕ)) → IsPart part words → Shape part words
+shape : (part : LinePart) (words : List (List ℕ)) → IsPart part words → Shape line_grammar part words
 unfolding sort_of
-shape (file name) words h = alone_is (file name) words name h.0 (file_sort name h.1)
-shape (list name) words h = given Crl name (list name) words refl h
-shape (locator name) words h = given Tal name (locator name) words refl h
-shape (at_moment m) words h = given At h.0 (at_moment m) words (m, refl, h.2, h.3) h.1
-shape (max_size n) words h = given MaxSize h.0 (max_size n) words (n, refl, h.2) h.1
+shape (file name) words h = alone_is line_grammar (file name) words name h.0 (file_sort name h.1)
+shape (list name) words h = line_given Crl name (list name) words refl h
+shape (locator name) words h = line_given Tal name (locator name) words refl h
+shape (at_moment m) words h = line_given At h.0 (at_moment m) words (m, refl, h.2, h.3) h.1
+shape (max_size n) words h = line_given MaxSize h.0 (max_size n) words (n, refl, h.2) h.1
 shape (output f) words h = given_format f h.0 words h.2 h.1
-shape lenient words h = alone_is lenient words (codes "--lenient") h refl
-shape json words (inl h) = alone_is json words (codes "--json") h refl
-shape json words (inr h) = alone_is json words (codes "-j") h refl
-shape quiet words (inl h) = alone_is quiet words (codes "--quiet") h refl
-shape quiet words (inr h) = alone_is quiet words (codes "-q") h refl
-shape all words h = alone_is all words (codes "--all") h refl
-shape no_names words h = alone_is no_names words (codes "--no-names") h refl
-shape help words (inl h) = alone_is help words (codes "--help") h refl
-shape help words (inr h) = alone_is help words (codes "-h") h refl
+shape lenient words h = alone_is line_grammar lenient words (codes "--lenient") h refl
+shape json words (inl h) = alone_is line_grammar json words (codes "--json") h refl
+shape json words (inr h) = alone_is line_grammar json words (codes "-j") h refl
+shape quiet words (inl h) = alone_is line_grammar quiet words (codes "--quiet") h refl
+shape quiet words (inr h) = alone_is line_grammar quiet words (codes "-q") h refl
+shape all words h = alone_is line_grammar all words (codes "--all") h refl
+shape no_names words h = alone_is line_grammar no_names words (codes "--no-names") h refl
+shape help words (inl h) = alone_is line_grammar help words (codes "--help") h refl
+shape help words (inr h) = alone_is line_grammar help words (codes "-h") h refl
 
 -- an option with its value is a part
-pub set_is_part : (setting : Setting) (value : List ℕ) (part : LinePart) (words : List (List ℕ)) → IsSetPart setting value part → GivesValue setting value words → IsPart part words
+set_is_part : (setting : Setting) (value : List ℕ) (part : LinePart) (words : List (List ℕ)) → IsSetPart setting value part → GivesValue (setting_name setting) value words → IsPart part words
 set_is_part Crl value part words set gives = subst (λ (p : LinePart). IsPart p words) (sym set) gives
 set_is_part Tal value part words set gives = subst (λ (p : LinePart). IsPart p words) (sym set) gives
 set_is_part At value part words set gives = subst (λ (p : LinePart). IsPart p words) (sym set.1) (value, gives, set.2, set.3)
@@ -190,113 +180,15 @@ set_is_part MaxSize value part words set gives = subst (λ (p : LinePart). IsPar
 set_is_part Output value part words set gives = subst (λ (p : LinePart). IsPart p words) (sym set.1) (value, inl gives, set.2)
 set_is_part ShortOutput value part words set gives = subst (λ (p : LinePart). IsPart p words) (sym set.1) (value, inr gives, set.2)
 
--- words begin with one part at most
-same_front : (p q : LinePart) (a b x y : List (List ℕ)) → Shape p a → Shape q b → a ++ x ≡ b ++ y → (p ≡ q) × (x ≡ y)
-same_front _ _ _ _ x y (alone p v s) (alone q w t) e =
-    let words : v ≡ w = cc in
-    let sorts : single p ≡ single q = sym s ∙ ap sort_of words ∙ t in
-    (cc, cc)
-same_front _ _ _ _ x y (alone p v s) (apart set w value q t is) e =
-    let words : v ≡ w = cc in
-    let sorts : single p ≡ before set = sym s ∙ ap sort_of words ∙ t in
-    absurd cc
-same_front _ _ _ _ x y (alone p v s) (in_one set w value q t is) e =
-    let words : v ≡ w = cc in
-    let sorts : single p ≡ joining set value = sym s ∙ ap sort_of words ∙ t in
-    absurd cc
-same_front _ _ _ _ x y (apart set v value p s is) (alone q w t) e =
-    let words : v ≡ w = cc in
-    let sorts : before set ≡ single q = sym s ∙ ap sort_of words ∙ t in
-    absurd cc
-same_front _ _ _ _ x y (apart set v value p s is) (apart other w another q t is_too) e =
-    let words : v ≡ w = cc in
-    let sorts : before set ≡ before other = sym s ∙ ap sort_of words ∙ t in
-    let settings : set ≡ other = cc in
-    let values : value ≡ another = cc in
-    (one_set other another p q (subst (λ (l : List ℕ). IsSetPart other l p) values (subst (λ (o : Setting). IsSetPart o value p) settings is)) is_too, cc)
-same_front _ _ _ _ x y (apart set v value p s is) (in_one other w another q t is_too) e =
-    let words : v ≡ w = cc in
-    let sorts : before set ≡ joining other another = sym s ∙ ap sort_of words ∙ t in
-    absurd cc
-same_front _ _ _ _ x y (in_one set v value p s is) (alone q w t) e =
-    let words : v ≡ w = cc in
-    let sorts : joining set value ≡ single q = sym s ∙ ap sort_of words ∙ t in
-    absurd cc
-same_front _ _ _ _ x y (in_one set v value p s is) (apart other w another q t is_too) e =
-    let words : v ≡ w = cc in
-    let sorts : joining set value ≡ before other = sym s ∙ ap sort_of words ∙ t in
-    absurd cc
-same_front _ _ _ _ x y (in_one set v value p s is) (in_one other w another q t is_too) e =
-    let words : v ≡ w = cc in
-    let sorts : joining set value ≡ joining other another = sym s ∙ ap sort_of words ∙ t in
-    let settings : set ≡ other = cc in
-    let values : value ≡ another = cc in
-    (one_set other another p q (subst (λ (l : List ℕ). IsSetPart other l p) values (subst (λ (o : Setting). IsSetPart o value p) settings is)) is_too, cc)
-
--- a part has words
-some_words : (part : LinePart) (words rest : List (List ℕ)) → Shape part words → words ++ rest ≡ [] → ⊥
-some_words _ _ rest (alone part word s) e = cc
-some_words _ _ rest (apart setting option value part s is) e = cc
-some_words _ _ rest (in_one setting word value part s is) e = cc
-
--- the name of an option that takes a value doesn't begin a part alone
-value_first : (setting : Setting) (part : LinePart) (words rest : List (List ℕ)) → Shape part words → setting_name setting ∷ [] ≡ words ++ rest → ⊥
-value_first setting _ _ rest (alone part word s) e =
-    let words : setting_name setting ≡ word = cc in
-    let sorts : before setting ≡ single part = sym (named setting) ∙ ap sort_of words ∙ s in
-    cc
-value_first setting _ _ rest (apart other option value part s is) e = cc
-value_first setting _ _ rest (in_one other word value part s is) e =
-    let words : setting_name setting ≡ word = cc in
-    let sorts : before setting ≡ joining other value = sym (named setting) ∙ ap sort_of words ∙ s in
-    cc
+-- which tells all parts apart
+pub line_clear : IsClear line_grammar
+line_clear = record { named = named; joined = joined; one_set = one_set; is_part = set_is_part; shape = shape }
 
 -- ---- words that begin no part
 
-module _ (setting : Setting) (value : List ℕ) (none : (part : LinePart) → IsSetPart setting value part → ⊥) where
-  no_apart : (part : LinePart) (its behind rest : List (List ℕ)) → Shape part its → (setting_name setting ∷ value ∷ []) ++ behind ≡ its ++ rest → ⊥
-  no_apart _ _ behind rest (alone part word s) e =
-      let words : setting_name setting ≡ word = cc in
-      let sorts : before setting ≡ single part = sym (named setting) ∙ ap sort_of words ∙ s in
-      cc
-  no_apart _ _ behind rest (apart other option another part s is) e =
-      let words : setting_name setting ≡ option = cc in
-      let sorts : before setting ≡ before other = sym (named setting) ∙ ap sort_of words ∙ s in
-      let settings : other ≡ setting = cc in
-      let values : another ≡ value = cc in
-      none part (subst (λ (l : List ℕ). IsSetPart setting l part) values (subst (λ (o : Setting). IsSetPart o another part) settings is))
-  no_apart _ _ behind rest (in_one other word another part s is) e =
-      let words : setting_name setting ≡ word = cc in
-      let sorts : before setting ≡ joining other another = sym (named setting) ∙ ap sort_of words ∙ s in
-      cc
-
-  -- an option before what isn't its value
-  pub no_value : BeginsNoPart (setting_name setting ∷ value ∷ [])
-  no_value part its behind rest is e = no_apart part its behind rest (shape part its is) e
-
-  no_in_one : (word : List ℕ) → Joins setting value word → (part : LinePart) (its behind rest : List (List ℕ)) → Shape part its → (word ∷ []) ++ behind ≡ its ++ rest → ⊥
-  no_in_one word joins _ _ behind rest (alone part first s) e =
-      let words : setting_name setting ++ codes "=" ++ value ≡ first = sym joins ∙ cc in
-      let sorts : joining setting value ≡ single part = sym (joined setting value) ∙ ap sort_of words ∙ s in
-      cc
-  no_in_one word joins _ _ behind rest (apart other option another part s is) e =
-      let words : setting_name setting ++ codes "=" ++ value ≡ option = sym joins ∙ cc in
-      let sorts : joining setting value ≡ before other = sym (joined setting value) ∙ ap sort_of words ∙ s in
-      cc
-  no_in_one word joins _ _ behind rest (in_one other first another part s is) e =
-      let words : setting_name setting ++ codes "=" ++ value ≡ first = sym joins ∙ cc in
-      let sorts : joining setting value ≡ joining other another = sym (joined setting value) ∙ ap sort_of words ∙ s in
-      let settings : other ≡ setting = cc in
-      let values : another ≡ value = cc in
-      none part (subst (λ (l : List ℕ). IsSetPart setting l part) values (subst (λ (o : Setting). IsSetPart o another part) settings is))
-
-  -- an option and, in the same word, what isn't its value
-  pub no_joined : (word : List ℕ) → Joins setting value word → BeginsNoPart (word ∷ [])
-  no_joined word joins part its behind rest is e = no_in_one word joins part its behind rest (shape part its is) e
-
 -- a word that is an option and none of those that there are
 module _ (word : List ℕ) (is_option : IsOption word) (unnamed : (setting : Setting) → IsOptionName setting word → ⊥) (unjoined : (setting : Setting) (value : List ℕ) → Joins setting value word → ⊥) (no_switch : (part : LinePart) → IsSwitch part word → ⊥) where
-  not_given : (setting : Setting) (value : List ℕ) (its behind rest : List (List ℕ)) → GivesValue setting value its → (word ∷ []) ++ behind ≡ its ++ rest → ⊥
+  not_given : (setting : Setting) (value : List ℕ) (its behind rest : List (List ℕ)) → GivesValue (setting_name setting) value its → (word ∷ []) ++ behind ≡ its ++ rest → ⊥
   not_given setting value its behind rest (inl is) e = unnamed setting cc
   not_given setting value its behind rest (inr is) e = unjoined setting value cc
 
@@ -317,60 +209,3 @@ module _ (word : List ℕ) (is_option : IsOption word) (unnamed : (setting : Set
   no_option no_names its behind rest is e = no_switch no_names cc
   no_option help its behind rest (inl is) e = no_switch help (inl cc)
   no_option help its behind rest (inr is) e = no_switch help (inr cc)
-
--- ---- parts one after the other
-
--- one more part stands behind them
-pub one_more : (parts : List LinePart) (front : List (List ℕ)) → AreParts parts front → (part : LinePart) (words : List (List ℕ)) → IsPart part words → AreParts (parts ++ part ∷ []) (front ++ words)
-one_more [] front h part words is = (words, [], is, refl, ap (λ (l : List (List ℕ)). l ++ words) h ∙ sym (append-nil words))
-one_more (p ∷ ps) front h part words is =
-    (h.0, h.1 ++ words, h.2, one_more ps h.1 h.3 part words is, ap (λ (l : List (List ℕ)). l ++ words) h.4 ∙ append_assoc h.0 h.1 words)
-
--- words that begin with these parts and are parts begin with no others
-record Further (parts all_parts : List LinePart) (rest : List (List ℕ)) : Type 0 where
-  more : List LinePart
-  all_are : all_parts ≡ parts ++ more
-  more_are : AreParts more rest
-
-further : (parts all_parts : List LinePart) (front rest : List (List ℕ)) → AreParts parts front → AreParts all_parts (front ++ rest) → Further parts all_parts rest
-further [] qs front rest h k = record { more = qs; all_are = refl; more_are = subst (λ (l : List (List ℕ)). AreParts qs (l ++ rest)) h k }
-further (p ∷ ps) [] front rest h k =
-    absurd (some_words p h.0 (h.1 ++ rest) (shape p h.0 h.2) (sym (append_assoc h.0 h.1 rest) ∙ ap (λ (l : List (List ℕ)). l ++ rest) (sym h.4) ∙ k))
-further (p ∷ ps) (q ∷ qs) front rest h k =
-    let words : h.0 ++ (h.1 ++ rest) ≡ k.0 ++ k.1 = sym (append_assoc h.0 h.1 rest) ∙ ap (λ (l : List (List ℕ)). l ++ rest) (sym h.4) ∙ k.4 in
-    let one = same_front p q h.0 k.0 (h.1 ++ rest) k.1 (shape p h.0 h.2) (shape q k.0 k.2) words in
-    let later = further ps qs h.1 rest h.3 (subst (λ (l : List (List ℕ)). AreParts qs l) (sym one.1) k.3) in
-    record { more = later.more; all_are = cc; more_are = later.more_are }
-
--- parts that are followed by the beginning of no part
-pub none_behind : (parts others : List LinePart) (front bad after words : List (List ℕ)) (word : List ℕ) → AreParts parts front → BeginsNoPart (word ∷ bad) → words ≡ front ++ (word ∷ bad ++ after) → AreParts others words → ⊥
-none_behind parts others front bad after words word h none is k =
-    let f = further parts others front (word ∷ bad ++ after) h (subst (λ (l : List (List ℕ)). AreParts others l) is k) in
-    let empty : (more : List LinePart) → AreParts more (word ∷ bad ++ after) → ⊥ =
-    λ more. elim more as (λ more. AreParts more (word ∷ bad ++ after) → ⊥) [
-      | [] ↦ λ e. cc
-      | p ∷ ps ↦ λ m. none p m.0 after m.1 m.2 m.4
-    ] in
-    empty f.more f.more_are
-
--- parts that are followed by an option whose value is missing
-pub value_missing : (parts others : List LinePart) (front words : List (List ℕ)) (setting : Setting) → AreParts parts front → words ≡ front ++ setting_name setting ∷ [] → AreParts others words → ⊥
-value_missing parts others front words setting h is k =
-    let f = further parts others front (setting_name setting ∷ []) h (subst (λ (l : List (List ℕ)). AreParts others l) is k) in
-    let empty : (more : List LinePart) → AreParts more (setting_name setting ∷ []) → ⊥ =
-    λ more. elim more as (λ more. AreParts more (setting_name setting ∷ []) → ⊥) [
-      | [] ↦ λ e. cc
-      | p ∷ ps ↦ λ m. value_first setting p m.0 m.1 (shape p m.0 m.2) m.4
-    ] in
-    empty f.more f.more_are
-
--- words are one list of parts at most
-pub one_list : (parts others : List LinePart) (words : List (List ℕ)) → AreParts parts words → AreParts others words → others ≡ parts
-one_list parts others words h k =
-    let f = further parts others words [] h (subst (λ (l : List (List ℕ)). AreParts others l) (sym (append-nil words)) k) in
-    let empty : (more : List LinePart) → AreParts more [] → more ≡ [] =
-    λ more. elim more as (λ more. AreParts more [] → more ≡ []) [
-      | [] ↦ λ e. refl
-      | p ∷ ps ↦ λ m. absurd (some_words p m.0 m.1 (shape p m.0 m.2) (sym m.4))
-    ] in
-    f.all_are ∙ ap (λ (l : List LinePart). parts ++ l) (empty f.more f.more_are) ∙ append-nil parts

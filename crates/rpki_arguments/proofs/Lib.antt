@@ -3,4 +3,6 @@ mod AddedParts
 mod AroundDashes
 mod CommandParts
 mod OneRequest
+pub mod PartsOfWords
 mod StrippedTexts
+pub mod WordByWord

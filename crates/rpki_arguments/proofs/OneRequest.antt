@@ -4,9 +4,11 @@ use Rattle.std.specs.Str.{bytes_eq}
 use Rattle.std.proofs.Common.{◌≡◌, ℕ, inl, inr, List, [], ◌∷◌, sym, ap, ◌∙◌, subst}
 use Rattle.rpki_arguments.specs.declared.arguments.Task.{Task}
 use Rattle.rpki_arguments.specs.declared.arguments.Task.TheVariants.{Show, Validate, Tree, Help, Version}
-use Rattle.rpki_arguments.specs.CommandLines.{IsTaskName, LinePart, AreParts, RequestFields, only_task, with_files, with_parts, words_before, words_behind, Suits, IsCommandLine}
+use Rattle.rpki_arguments.specs.CommandLines.{IsTaskName, LinePart, AreParts, RequestFields, only_task, with_files, with_parts, Suits, IsCommandLine}
+use Rattle.rpki_arguments.specs.WordParts.{words_before, words_behind}
 use Rattle.rpki_arguments.specs.CommandLines.Steps.{AddsParts}
-use Rattle.rpki_arguments.proofs.CommandParts.{one_list}
+use Rattle.rpki_arguments.proofs.CommandParts.{line_grammar, line_clear}
+use Rattle.rpki_arguments.proofs.PartsOfWords.{one_list}
 
 -- the task that a word names
 task_of : List ℕ → Option Task
@@ -67,7 +69,7 @@ module _ (words : List (List ℕ)) (first : List ℕ) (rest : List (List ℕ)) (
     only other h =
         let same = same_words other h in
         let tasks = one_task task h.task first h.first same.0 task_is h.task_is in
-        let parts = one_list adds.0 h.parts (words_before rest) adds.1 (subst (λ (l : List (List ℕ)). AreParts h.parts (words_before l)) (sym same.1) h.parts_are) in
+        let parts = one_list line_grammar line_clear adds.0 h.parts (words_before rest) adds.1 (subst (λ (l : List (List ℕ)). AreParts h.parts (words_before l)) (sym same.1) h.parts_are) in
         h.asks
         ∙ ap (λ (t : Task). with_files (with_parts (only_task t) h.parts) (words_behind h.rest)) tasks
         ∙ ap (λ (l : List LinePart). with_files (with_parts (only_task task) l) (words_behind h.rest)) parts

@@ -1,11 +1,10 @@
 -- Which words behind the program's name are a command line, and what it asks (own). A word is the
 -- octets that the system has.
-use Rattle.std.specs.List.{before_first, after_first}
-use Rattle.std.specs.Prelude.{◌≡◌, ◌≢◌, ◌<◌, ◌^◌, ◌⊎◌, ℕ, List, [], ◌∷◌, ◌++◌, length, slice_index, Option, Some, None, Bool, true, false, fold, codes}
-use Rattle.std.specs.Str.{bytes_eq}
+use Rattle.std.specs.Prelude.{◌≡◌, ◌≢◌, ◌<◌, ◌^◌, ◌⊎◌, ℕ, List, [], ◌∷◌, ◌++◌, Option, Some, None, Bool, true, false, fold, codes}
 use Rattle.std.specs.Str.Parse.{IsNumeral, digits_value}
 use Rattle.rpki.specs.Times.{Moment, IsMoment}
 use Rattle.rpki_text.specs.MomentTexts.{IsMomentText}
+use Rattle.rpki_arguments.specs.WordParts.{IsOption, GivesValue, AreInOrder, words_before, words_behind}
 use Rattle.rpki_arguments.specs.declared.arguments.Format.{Format}
 use Rattle.rpki_arguments.specs.declared.arguments.Format.TheVariants.{Text, Json, JsonLines}
 use Rattle.rpki_arguments.specs.declared.arguments.Setting.{Setting}
@@ -25,10 +24,6 @@ IsTaskName Tree word = word ≡ codes "tree"
 IsTaskName Help word = (word ≡ codes "help") ⊎ ((word ≡ codes "--help") ⊎ (word ≡ codes "-h"))
 IsTaskName Version word = (word ≡ codes "--version") ⊎ (word ≡ codes "-V")
 
--- the word begins with a hyphen, and isn't the hyphen alone, which is standard input
-abbrev pub IsOption : List ℕ → Type 0
-IsOption word = (slice_index word 0 ≡ 0x2D) × (1 < length word)
-
 -- the name of an option that takes a value
 abbrev pub setting_name : Setting → List ℕ
 setting_name Crl = codes "--crl"
@@ -37,11 +32,6 @@ setting_name At = codes "--at"
 setting_name MaxSize = codes "--max-size"
 setting_name Output = codes "--output"
 setting_name ShortOutput = codes "-o"
-
--- the words give the option this value: as the next word, or behind `=`
-abbrev pub GivesValue : Setting → List ℕ → List (List ℕ) → Type 0
-GivesValue setting value words =
-    (words ≡ setting_name setting ∷ value ∷ []) ⊎ (words ≡ (setting_name setting ++ codes "=" ++ value) ∷ [])
 
 -- the text is a number below 2^64 in decimal digits
 abbrev pub IsNumberText : ℕ → List ℕ → Type 0
@@ -64,12 +54,12 @@ pub data LinePart : Type 0 where
 -- the words are this part
 abbrev pub IsPart : LinePart → List (List ℕ) → Type 0
 IsPart (file name) words = (words ≡ name ∷ []) × (IsOption name → ⊥)
-IsPart (list name) words = GivesValue Crl name words
-IsPart (locator name) words = GivesValue Tal name words
-IsPart (at_moment m) words = (text : List ℕ) × GivesValue At text words × IsMoment m × IsMomentText m text
-IsPart (max_size n) words = (text : List ℕ) × GivesValue MaxSize text words × IsNumberText n text
+IsPart (list name) words = GivesValue (setting_name Crl) name words
+IsPart (locator name) words = GivesValue (setting_name Tal) name words
+IsPart (at_moment m) words = (text : List ℕ) × GivesValue (setting_name At) text words × IsMoment m × IsMomentText m text
+IsPart (max_size n) words = (text : List ℕ) × GivesValue (setting_name MaxSize) text words × IsNumberText n text
 IsPart (output f) words =
-    (text : List ℕ) × (GivesValue Output text words ⊎ GivesValue ShortOutput text words) × IsFormatName f text
+    (text : List ℕ) × (GivesValue (setting_name Output) text words ⊎ GivesValue (setting_name ShortOutput) text words) × IsFormatName f text
 IsPart lenient words = words ≡ codes "--lenient" ∷ []
 IsPart json words = (words ≡ codes "--json" ∷ []) ⊎ (words ≡ codes "-j" ∷ [])
 IsPart quiet words = (words ≡ codes "--quiet" ∷ []) ⊎ (words ≡ codes "-q" ∷ [])
@@ -77,24 +67,9 @@ IsPart all words = words ≡ codes "--all" ∷ []
 IsPart no_names words = words ≡ codes "--no-names" ∷ []
 IsPart help words = (words ≡ codes "--help" ∷ []) ⊎ (words ≡ codes "-h" ∷ [])
 
--- the words are these parts, one after the other, in any order
+-- the words are these parts, in any order
 abbrev pub AreParts : List LinePart → List (List ℕ) → Type 0
-AreParts [] words = words ≡ []
-AreParts (part ∷ parts) words =
-    (front : List (List ℕ)) × (rest : List (List ℕ)) × IsPart part front × AreParts parts rest
-    × (words ≡ front ++ rest)
-
--- the word `--`
-abbrev pub is_dashes : List ℕ → Bool
-is_dashes word = bytes_eq word (codes "--")
-
--- the words before the first `--`
-abbrev pub words_before : List (List ℕ) → List (List ℕ)
-words_before words = before_first is_dashes words
-
--- those behind it, which are files however they begin
-abbrev pub words_behind : List (List ℕ) → List (List ℕ)
-words_behind words = after_first is_dashes words
+AreParts parts words = AreInOrder IsPart parts words
 
 -- ---- what they ask
 

@@ -13,10 +13,10 @@ GivesValue name value words =
     (words ≡ name ∷ value ∷ []) ⊎ (words ≡ (name ++ codes "=" ++ value) ∷ [])
 
 -- the words are these parts, one after the other
-abbrev pub AreParts : {P : Type 0} → (P → List (List ℕ) → Type 0) → List P → List (List ℕ) → Type 0
-AreParts IsPart [] words = words ≡ []
-AreParts IsPart (part ∷ parts) words =
-    (front : List (List ℕ)) × (rest : List (List ℕ)) × IsPart part front × AreParts IsPart parts rest
+abbrev pub AreInOrder : {P : Type 0} → (P → List (List ℕ) → Type 0) → List P → List (List ℕ) → Type 0
+AreInOrder IsPart [] words = words ≡ []
+AreInOrder IsPart (part ∷ parts) words =
+    (front : List (List ℕ)) × (rest : List (List ℕ)) × IsPart part front × AreInOrder IsPart parts rest
     × (words ≡ front ++ rest)
 
 -- the word `--`

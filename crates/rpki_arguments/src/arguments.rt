@@ -3,11 +3,13 @@ ghost use Rattle.std.specs.Prelude.{◌≡◌, ◌≢◌, ◌↔◌, ℕ, List, 
 ghost use Rattle.std.specs.Bool.{OnTrue, OnFalse};
 ghost use Rattle.std.specs.Fmt.{WritesOnOk};
 ghost use Rattle.rpki_text.specs.Pages.{characters_text};
-ghost use Rattle.rpki_arguments.specs.CommandLines.{IsFormatName, IsTaskName, IsOption, IsNumberText, LinePart, AreParts, RequestFields, only_task, setting_name, with_files, words_before, words_behind, AsksNoPath, AsksTree, Suits, IsCommandLine};
+ghost use Rattle.rpki_arguments.specs.CommandLines.{IsFormatName, IsTaskName, IsNumberText, LinePart, AreParts, RequestFields, only_task, setting_name, with_files, AsksNoPath, AsksTree, Suits, IsCommandLine};
 ghost use Rattle.rpki_arguments.specs.CommandLines.Views.{word_octets, fields_of};
+ghost use Rattle.rpki_arguments.specs.WordParts.{IsOption, words_before, words_behind};
 ghost use Rattle.rpki_arguments.specs.MisuseTexts.{misuse_text};
 ghost use Rattle.rpki_arguments.specs.CommandLines.Steps.{AddsPart, AddsParts, AddsSet, BeginsNoPart, IsSetPart, IsSwitch, Joins, IsOptionName};
 
+use crate::parts::{around_dashes, is, is_option};
 use rpki::repository::x509::Time;
 use rpki_text::{Characters, moments};
 use std::alloc::Global;
@@ -131,13 +133,6 @@ impl fmt::Display for Misuse<'_> {
     }
 }
 
-/// Tells whether the word is this text.
-pub fn is(word: &[u8], text: &str) -> bool
-    ensures { IsTrue result ↔ (word.now ≡ text.now) }
-{
-    word == text.as_bytes()
-}
-
 fn task_of(word: &[u8]) -> Option<Task>
     ensures named { IfSome result (λ task. IsTaskName task word.now) }
     ensures unknown { IfNone result ((task : Task) → IsTaskName task word.now → ⊥) }
@@ -155,13 +150,6 @@ fn task_of(word: &[u8]) -> Option<Task>
     } else {
         None
     }
-}
-
-// Whether the word begins with a hyphen, and isn't the hyphen alone.
-fn is_option(word: &[u8]) -> bool
-    ensures { IsTrue result ↔ IsOption word.now }
-{
-    word.len() > 1 && word[0] == b'-'
 }
 
 // The option that takes a value and has this name.
@@ -400,19 +388,6 @@ fn add_files<'a>(request: &mut Request<'a>, words: &'a [Vec<u8>]) -> Result<(), 
         push_name(&mut request.files, word.as_slice())?;
     }
     Ok(())
-}
-
-// The words before the first `--`, and those behind it.
-fn around_dashes(words: &[Vec<u8>]) -> (&[Vec<u8>], &[Vec<u8>])
-    ensures before { word_octets result.0.now ≡ words_before (word_octets words.now) }
-    ensures behind { word_octets result.1.now ≡ words_behind (word_octets words.now) }
-{
-    for (place, word) in words.iter().enumerate() {
-        if is(word.as_slice(), "--") {
-            return (&words[..place], &words[place + 1..]);
-        }
-    }
-    (words, &[])
 }
 
 // A task, and nothing more.

@@ -2,5 +2,6 @@
 #![tactic(auto)]
 
 mod arguments;
+pub mod parts;
 
 pub use arguments::{Format, Misuse, Request, Setting, Task, read_words};

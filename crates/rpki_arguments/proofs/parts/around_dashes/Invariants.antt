@@ -1,7 +1,7 @@
 use Rattle.std.proofs.Common.{◌≡◌, ◌<◌, ℕ, [], false, get_or}
-use Rattle.rpki_arguments.specs.CommandLines.{is_dashes}
+use Rattle.rpki_arguments.specs.WordParts.{is_dashes}
 use Rattle.rpki_arguments.specs.CommandLines.Views.{word_octets}
-use Rattle.rpki_arguments.proofs.arguments.around_dashes.Given as goal
+use Rattle.rpki_arguments.proofs.parts.around_dashes.Given as goal
 
 -- no word so far is `--`
 abbrev pub invariant-loop-place : goal.invariant-loop-place

@@ -1,8 +1,8 @@
 use Rattle.std.proofs.Common.{◌≡◌, ◌<◌, ◌≤◌, [], true, false, length, get_or, ap, sym, ◌∙◌, arith, below_more}
-use Rattle.rpki_arguments.specs.CommandLines.{is_dashes}
+use Rattle.rpki_arguments.specs.WordParts.{is_dashes}
 use Rattle.rpki_arguments.specs.CommandLines.Views.{word_octets}
 use Rattle.rpki_arguments.proofs.AroundDashes.{dashes_by, octets_at, before_place, behind_place, before_none, behind_none}
-use Rattle.rpki_arguments.proofs.arguments.around_dashes.Goals as goal
+use Rattle.rpki_arguments.proofs.parts.around_dashes.Goals as goal
 
 pub returns-then-is-clause-before : goal.returns-then-is-clause-before
 returns-then-is-clause-before c =

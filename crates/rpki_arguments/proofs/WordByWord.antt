@@ -1,0 +1,116 @@
+-- Parts that are added word by word, whatever the parts are and what they are added to.
+use Rattle.std.specs.Prelude.{Option, Some, None, Result, Ok, Err, OnOk, IfErr, codes, fold}
+use Rattle.std.specs.declared.vec.Vec.{Vec}
+use Rattle.std.proofs.Common.{◌≡◌, ◌≢◌, ℕ, ◌+◌, ◌<◌, ◌≤◌, List, [], ◌∷◌, ◌++◌, length, get_or, take, drop, refl, sym, ap, ◌∙◌, inl, inr}
+use Rattle.std.proofs.lemmas.List.{append_assoc, append-nil, map-append, map_more, take-append-drop, take_all, drop_more}
+use Rattle.std.proofs.lemmas.List.Sums.{fold_push}
+use Rattle.rpki_arguments.specs.CommandLines.Views.{word_octets}
+use Rattle.rpki_arguments.specs.WordParts.{AreInOrder}
+use Rattle.rpki_arguments.proofs.PartsOfWords.{Grammar, IsClear, BeginsNone, one_more, none_behind, value_missing, no_value, no_joined}
+
+-- the words are a part, and the new one has what it says too
+abbrev pub AddsOne : {P R : Type 0} → (P → List (List ℕ) → Type 0) → (R → P → R) → List (List ℕ) → R → R → Type 0
+AddsOne {P} IsPart with_part words old new = (part : P) × IsPart part words × (new ≡ with_part old part)
+
+-- the words are parts, and the new one has what they say too
+abbrev pub AddsAll : {P R : Type 0} → (P → List (List ℕ) → Type 0) → (R → P → R) → List (List ℕ) → R → R → Type 0
+AddsAll {P} IsPart with_part words old new =
+    (parts : List P) × AreInOrder IsPart parts words × (new ≡ fold with_part old parts)
+
+-- the new one has what the option with this value says too
+abbrev pub AddsValue : {P S R : Type 0} → Grammar P S → (R → P → R) → S → List ℕ → R → R → Type 0
+AddsValue {P} g with_part setting value old new =
+    (part : P) × g.IsSet setting value part × (new ≡ with_part old part)
+
+-- the option whose value comes next
+abbrev pub awaited : {S : Type 0} → (S → List ℕ) → Option S → List (List ℕ)
+awaited name None = []
+awaited name (Some setting) = name setting ∷ []
+
+-- the words are parts that were added, and perhaps an option whose value comes next
+pub record AreAdded {P S R : Type 0} (g : Grammar P S) (with_part : R → P → R) (words : List (List ℕ)) (old new : R) (awaiting : Option S) : Type 0 where
+  pub front : List (List ℕ)
+  pub added : AddsAll g.IsPart with_part front old new
+  pub words_are : words ≡ front ++ awaited g.name awaiting
+
+-- ---- words of the command line, by their places
+
+module _ {Z : Type 0} (words : List (Vec ℕ Z)) (i : ℕ) (word : Vec ℕ Z) (low : i < length words) (there : word ≡ get_or words i word) where
+  -- those before the word, the word, and those behind it
+  words_split : word_octets words ≡ word_octets (take i words) ++ word.items ∷ word_octets (drop (i + 1) words)
+  words_split =
+      ap word_octets (sym (take-append-drop i words) ∙ ap (λ (l : List (Vec ℕ Z)). take i words ++ l) (drop_more words i word low)) ∙ map-append (λ (w : Vec ℕ Z). w.items) (take i words) (get_or words i word ∷ drop (i + 1) words)
+      ∙ ap (λ (w : Vec ℕ Z). word_octets (take i words) ++ w.items ∷ word_octets (drop (i + 1) words)) (sym there)
+
+  -- the words up to it
+  pub words_more : word_octets (take (i + 1) words) ≡ word_octets (take i words) ++ word.items ∷ []
+  words_more = map_more (λ (w : Vec ℕ Z). w.items) words i word low ∙ ap (λ (w : Vec ℕ Z). word_octets (take i words) ++ w.items ∷ []) (sym there)
+
+module _ {P S R : Type 0} (g : Grammar P S) (with_part : R → P → R) where
+  -- one part more
+  part_added : (words front its : List (List ℕ)) (old new newer : R) → words ≡ front ++ its → AddsAll g.IsPart with_part front old new → AddsOne g.IsPart with_part its new newer → AreAdded g with_part words old newer None
+  part_added words front its old new newer is h p = record {
+    front = front ++ its;
+    added = (h.0 ++ p.0 ∷ [], one_more g.IsPart h.0 front h.1 p.0 its p.1, p.2 ∙ ap (λ (r : R). with_part r p.0) h.2 ∙ sym (fold_push with_part old h.0 p.0));
+    words_are = is ∙ sym (append-nil (front ++ its));
+  }
+
+  module _ (clear : IsClear g) where
+    -- what an option says is added, whose value stands behind `=`
+    pub joined_added : {T E : Type 0} (r : Result T E) (old new : R) (setting : S) (value word : List ℕ) → word ≡ g.name setting ++ codes "=" ++ value → OnOk r (AddsValue g with_part setting value old new) → OnOk r (AddsOne g.IsPart with_part (word ∷ []) old new)
+    joined_added (Ok x) old new setting value word joins adds = (adds.0, clear.is_part setting value adds.0 (word ∷ []) adds.1 (inr (ap (λ (w : List ℕ). w ∷ []) joins)), adds.2)
+    joined_added (Err x) old new setting value word joins adds = adds
+
+    -- and isn't where that says nothing
+    pub joined_rejected : {T E : Type 0} (r : Result T E) (memory : E) (setting : S) (value word : List ℕ) → word ≡ g.name setting ++ codes "=" ++ value → IfErr r (λ e. e ≢ memory → (part : P) → g.IsSet setting value part → ⊥) → IfErr r (λ e. e ≢ memory → BeginsNone g (word ∷ []))
+    joined_rejected (Ok x) memory setting value word joins none = tt
+    joined_rejected (Err e) memory setting value word joins none = λ not_memory. no_joined g clear setting value (none not_memory) word joins
+
+    module _ {Z : Type 0} (words : List (Vec ℕ Z)) (i : ℕ) (word : Vec ℕ Z) (low : i < length words) (there : word ≡ get_or words i word) (old new : R) (text : List ℕ) (text_is : text ≡ word.items) where
+      more_is : word_octets (take (i + 1) words) ≡ word_octets (take i words) ++ word.items ∷ []
+      more_is = words_more words i word low there
+
+      split_is : word_octets words ≡ word_octets (take i words) ++ word.items ∷ word_octets (drop (i + 1) words)
+      split_is = words_split words i word low there
+
+      module _ (setting : S) (so_far : AreAdded g with_part (word_octets (take i words)) old new (Some setting)) where
+        -- the word is the value of an option
+        pub value_added : (newer : R) → AddsValue g with_part setting text new newer → AreAdded g with_part (word_octets (take (i + 1) words)) old newer None
+        value_added newer adds =
+            part_added (word_octets (take (i + 1) words)) so_far.front (g.name setting ∷ text ∷ []) old new newer
+            (more_is ∙ ap (λ (l : List (List ℕ)). l ++ word.items ∷ []) so_far.words_are ∙ append_assoc so_far.front (g.name setting ∷ []) (word.items ∷ []) ∙ ap (λ (w : List ℕ). so_far.front ++ g.name setting ∷ w ∷ []) (sym text_is)) so_far.added (adds.0, clear.is_part setting text adds.0 (g.name setting ∷ text ∷ []) adds.1 (inl refl), adds.2)
+
+        -- the word is no value of the option
+        pub value_rejected : ((part : P) → g.IsSet setting text part → ⊥) → (parts : List P) → AreInOrder g.IsPart parts (word_octets words) → ⊥
+        value_rejected none parts =
+            none_behind g clear so_far.added.0 parts so_far.front (text ∷ []) (word_octets (drop (i + 1) words)) (word_octets words) (g.name setting) so_far.added.1 (no_value g clear setting text none)
+            (split_is ∙ ap (λ (l : List (List ℕ)). l ++ word.items ∷ word_octets (drop (i + 1) words)) so_far.words_are ∙ append_assoc so_far.front (g.name setting ∷ []) (word.items ∷ word_octets (drop (i + 1) words)) ∙ ap (λ (w : List ℕ). so_far.front ++ g.name setting ∷ w ∷ word_octets (drop (i + 1) words)) (sym text_is))
+
+      module _ (so_far : AreAdded g with_part (word_octets (take i words)) old new None) where
+        front_is : word_octets (take i words) ≡ so_far.front
+        front_is = so_far.words_are ∙ append-nil so_far.front
+
+        -- the word is a part by itself
+        pub word_added : (newer : R) → AddsOne g.IsPart with_part (text ∷ []) new newer → AreAdded g with_part (word_octets (take (i + 1) words)) old newer None
+        word_added newer adds =
+            part_added (word_octets (take (i + 1) words)) so_far.front (text ∷ []) old new newer
+            (more_is ∙ ap (λ (l : List (List ℕ)). l ++ word.items ∷ []) front_is ∙ ap (λ (w : List ℕ). so_far.front ++ w ∷ []) (sym text_is)) so_far.added adds
+
+        -- the word is none
+        pub word_rejected : BeginsNone g (text ∷ []) → (parts : List P) → AreInOrder g.IsPart parts (word_octets words) → ⊥
+        word_rejected none parts =
+            none_behind g clear so_far.added.0 parts so_far.front [] (word_octets (drop (i + 1) words)) (word_octets words) text so_far.added.1 none
+            (split_is ∙ ap (λ (l : List (List ℕ)). l ++ word.items ∷ word_octets (drop (i + 1) words)) front_is ∙ ap (λ (w : List ℕ). so_far.front ++ w ∷ word_octets (drop (i + 1) words)) (sym text_is))
+
+        -- the word is an option whose value comes next
+        pub option_awaits : (setting : S) → text ≡ g.name setting → AreAdded g with_part (word_octets (take (i + 1) words)) old new (Some setting)
+        option_awaits setting names = record {
+          front = so_far.front;
+          added = so_far.added;
+          words_are = more_is ∙ ap (λ (l : List (List ℕ)). l ++ word.items ∷ []) front_is ∙ ap (λ (w : List ℕ). so_far.front ++ w ∷ []) (sym text_is ∙ names);
+        }
+
+    -- all words were gone over, and an option's value is missing
+    pub value_awaited : {Z : Type 0} (words : List (Vec ℕ Z)) (i : ℕ) (old new : R) (setting : S) → AreAdded g with_part (word_octets (take i words)) old new (Some setting) → length words ≤ i → (parts : List P) → AreInOrder g.IsPart parts (word_octets words) → ⊥
+    value_awaited words i old new setting so_far high parts =
+        value_missing g clear so_far.added.0 parts so_far.front (word_octets words) setting so_far.added.1 (ap word_octets (sym (take_all i words high)) ∙ so_far.words_are)
