@@ -1,2 +1,3 @@
 -- The definitions that the contracts of requests cite.
 pub mod RequestWords
+pub mod RequestMisuses

@@ -1,8 +1,8 @@
 -- Which words behind the program's name ask for a certificate or a revocation list to be prepared or
 -- completed, and what they ask (own). A word is the octets that the system has.
-use Rattle.std.specs.Prelude.{◌≡◌, ◌≤◌, ℕ, List, [], ◌∷◌, ◌++◌, length, map, filter, Bool, true, false, fold, codes}
+use Rattle.std.specs.Prelude.{◌≡◌, ◌≤◌, ◌⊎◌, ℕ, List, [], ◌∷◌, ◌++◌, length, map, filter, Bool, true, false, fold, codes}
 use Rattle.std.specs.Str.{bytes_eq}
-use Rattle.rpki_arguments.specs.WordParts.{IsOption, GivesValue, AreParts, words_before, words_behind}
+use Rattle.rpki_arguments.specs.WordParts.{IsOption, GivesValue, AreInOrder, words_before, words_behind}
 use Rattle.rpki_requests.specs.declared.words.Demand.{Demand}
 use Rattle.rpki_requests.specs.declared.words.Demand.TheVariants.{Never, AtMostOnce, Once, AnyNumber, AtLeastOnce}
 use Rattle.rpki_requests.specs.declared.words.Errand.{Errand}
@@ -11,6 +11,7 @@ use Rattle.rpki_requests.specs.declared.words.Setting.{Setting}
 use Rattle.rpki_requests.specs.declared.words.Setting.TheVariants.{Issuer, Key, Serial, From, Until, Ipv4, Ipv6, AsNumbers, Repository, Manifest, Notify, Object, IssuerUri, CrlUri, Previous, Revoke, Forget, ThisUpdate, NextUpdate, At}
 use Rattle.rpki_requests.specs.declared.words.Switch.{Switch}
 use Rattle.rpki_requests.specs.declared.words.Switch.TheVariants.{Trim, Lenient, Pem}
+pub mod Steps
 pub mod Views
 
 -- ---- words
@@ -24,6 +25,12 @@ errand_words Router = codes "prepare" ∷ codes "router" ∷ []
 errand_words Anchor = codes "prepare" ∷ codes "anchor" ∷ []
 errand_words Revocations = codes "prepare" ∷ codes "list" ∷ []
 errand_words Completion = codes "complete" ∷ []
+
+-- the first word is one that requests begin with
+abbrev pub BeginsRequest : List (List ℕ) → Type 0
+BeginsRequest words =
+    (first : List ℕ) × (rest : List (List ℕ)) × (words ≡ first ∷ rest)
+    × ((first ≡ codes "prepare") ⊎ (first ≡ codes "complete"))
 
 -- the name of an option that takes a value
 abbrev pub setting_name : Setting → List ℕ
@@ -87,11 +94,7 @@ pub record AskedFields : Type 0 where
 -- an errand, and nothing more
 abbrev pub only_errand : Errand → AskedFields
 only_errand errand =
-    record { errand = errand; given = []; files = []; trims = false; strict = true; is_pem = false; }
-
--- with more files
-abbrev pub with_files : AskedFields → List (List ℕ) → AskedFields
-with_files asked more = record asked { files = asked.files ++ more }
+    record { errand = errand; given = []; files = []; trims = false; strict = true; is_pem = false }
 
 -- with what a further part says
 abbrev pub with_part : AskedFields → RequestPart → AskedFields
@@ -111,65 +114,71 @@ is_same a b = bytes_eq (setting_name a) (setting_name b)
 abbrev pub values_of : Setting → List GivenFields → List (List ℕ)
 values_of setting given = map (λ g. g.value) (filter (λ g. is_same g.setting setting) given)
 
+-- how often certificates take an option that nothing else takes
+abbrev pub of_certificates : Demand → Errand → Demand
+of_certificates often Revocations = Never
+of_certificates often Completion = Never
+of_certificates often _ = often
+
+-- how often those below an issuer do
+abbrev pub of_issued : Demand → Errand → Demand
+of_issued often Anchor = Never
+of_issued often errand = of_certificates often errand
+
+-- how often those of CAs and trust anchors do
+abbrev pub of_authorities : Demand → Errand → Demand
+of_authorities often Authority = often
+of_authorities often Anchor = often
+of_authorities often _ = Never
+
+-- how often lists do
+abbrev pub of_lists : Demand → Errand → Demand
+of_lists often Revocations = often
+of_lists often _ = Never
+
+-- how often the issuer's path is given, which a trust anchor has none of
+abbrev pub issuers_demand : Errand → Demand
+issuers_demand Anchor = Never
+issuers_demand Completion = AnyNumber
+issuers_demand _ = AtLeastOnce
+
+-- how often addresses are, of which a router has none (RFC 8209 3.1.3.4)
+abbrev pub addresses_demand : Errand → Demand
+addresses_demand Router = Never
+addresses_demand errand = of_certificates AnyNumber errand
+
+-- how often AS numbers are, of which a router has some (RFC 8209 3.1.3.5)
+abbrev pub numbers_demand : Errand → Demand
+numbers_demand Router = AtLeastOnce
+numbers_demand errand = of_certificates AnyNumber errand
+
+-- how often the signed object is
+abbrev pub object_demand : Errand → Demand
+object_demand EndEntity = Once
+object_demand _ = Never
+
 -- how often an errand takes an option
 abbrev pub demand : Setting → Errand → Demand
-demand Issuer Anchor = Never
-demand Issuer Completion = AnyNumber
-demand Issuer _ = AtLeastOnce
-demand Key Revocations = Never
-demand Key Completion = Never
-demand Key _ = Once
-demand Serial Revocations = Never
-demand Serial Completion = Never
-demand Serial _ = Once
-demand From Revocations = Never
-demand From Completion = Never
-demand From _ = Once
-demand Until Revocations = Never
-demand Until Completion = Never
-demand Until _ = Once
-demand Ipv4 Router = Never
-demand Ipv4 Revocations = Never
-demand Ipv4 Completion = Never
-demand Ipv4 _ = AnyNumber
-demand Ipv6 Router = Never
-demand Ipv6 Revocations = Never
-demand Ipv6 Completion = Never
-demand Ipv6 _ = AnyNumber
-demand AsNumbers Router = AtLeastOnce
-demand AsNumbers Revocations = Never
-demand AsNumbers Completion = Never
-demand AsNumbers _ = AnyNumber
-demand Repository Authority = Once
-demand Repository Anchor = Once
-demand Repository _ = Never
-demand Manifest Authority = Once
-demand Manifest Anchor = Once
-demand Manifest _ = Never
-demand Notify Authority = AtMostOnce
-demand Notify Anchor = AtMostOnce
-demand Notify _ = Never
-demand Object EndEntity = Once
-demand Object _ = Never
-demand IssuerUri Anchor = Never
-demand IssuerUri Revocations = Never
-demand IssuerUri Completion = Never
-demand IssuerUri _ = Once
-demand CrlUri Anchor = Never
-demand CrlUri Revocations = Never
-demand CrlUri Completion = Never
-demand CrlUri _ = Once
-demand Previous Revocations = Once
-demand Previous _ = Never
-demand Revoke Revocations = AnyNumber
-demand Revoke _ = Never
-demand Forget Revocations = AnyNumber
-demand Forget _ = Never
-demand ThisUpdate Revocations = Once
-demand ThisUpdate _ = Never
-demand NextUpdate Revocations = Once
-demand NextUpdate _ = Never
-demand At _ = AtMostOnce
+demand Issuer errand = issuers_demand errand
+demand Key errand = of_certificates Once errand
+demand Serial errand = of_certificates Once errand
+demand From errand = of_certificates Once errand
+demand Until errand = of_certificates Once errand
+demand Ipv4 errand = addresses_demand errand
+demand Ipv6 errand = addresses_demand errand
+demand AsNumbers errand = numbers_demand errand
+demand Repository errand = of_authorities Once errand
+demand Manifest errand = of_authorities Once errand
+demand Notify errand = of_authorities AtMostOnce errand
+demand Object errand = object_demand errand
+demand IssuerUri errand = of_issued Once errand
+demand CrlUri errand = of_issued Once errand
+demand Previous errand = of_lists Once errand
+demand Revoke errand = of_lists AnyNumber errand
+demand Forget errand = of_lists AnyNumber errand
+demand ThisUpdate errand = of_lists Once errand
+demand NextUpdate errand = of_lists Once errand
+demand At errand = AtMostOnce
 
 -- an option that stands so often meets what is demanded
 abbrev pub Meets : Demand → ℕ → Type 0
@@ -208,6 +217,6 @@ pub record IsRequestLine (asked : AskedFields) (words : List (List ℕ)) : Type 
   pub rest : List (List ℕ)
   pub words_are : words ≡ errand_words errand ++ rest
   pub parts : List RequestPart
-  pub parts_are : AreParts IsRequestPart parts (words_before rest)
-  pub asks : asked ≡ with_files (fold with_part (only_errand errand) parts) (words_behind rest)
+  pub parts_are : AreInOrder IsRequestPart parts (words_before rest)
+  pub asks : asked ≡ fold with_part (only_errand errand) (parts ++ map file (words_behind rest))
   pub suits : Suits asked

@@ -4,4 +4,6 @@
 
 mod words;
 
-pub use words::{Asked, Demand, Errand, Given, Misuse, Setting, Switch, read_request};
+pub use words::{
+    Demand, Errand, Given, Misuse, Order, Setting, Switch, demand_of, is_request, read_request,
+};

@@ -1,10 +1,16 @@
 //! Which words ask for a certificate or a list to be prepared, or to be completed.
-ghost use Rattle.std.specs.Prelude.{◌≡◌, ◌≢◌, IfErr, IfOk};
+ghost use Rattle.std.specs.Prelude.{◌≡◌, ◌≢◌, ◌↔◌, ◌==◌, ℕ, List, [], ◌∷◌, ◌++◌, codes, count_by, filter, length, map, fold, position, IfErr, IfNone, IfOk, IfSome, IsTrue, MatchOption, OnOk, Some};
+ghost use Rattle.std.specs.Fmt.{WritesOnOk};
 ghost use Rattle.rpki_arguments.specs.CommandLines.Views.{word_octets};
-ghost use Rattle.rpki_requests.specs.RequestWords.{AskedFields, IsRequestLine};
-ghost use Rattle.rpki_requests.specs.RequestWords.Views.{asked_fields};
+ghost use Rattle.rpki_requests.specs.RequestMisuses.{misuse_text};
+ghost use Rattle.rpki_requests.specs.RequestWords.{AskedFields, BeginsRequest, IsRequestLine, Meets, RequestPart, Suits, demand, errand_words, file, files_wanted, is_same, of_authorities, of_certificates, of_issued, of_lists, only_errand, option, setting_name, switch, switch_name, takes, values_of, with_part};
+ghost use Rattle.rpki_requests.specs.RequestWords.Steps.{AddsPart, AddsParts, AreRequestParts, BeginsNoPart, Joins};
+ghost use Rattle.rpki_requests.specs.RequestWords.Views.{asked_fields, given_fields};
 
-use std::alloc::Global;
+use rpki_arguments::parts::{around_dashes, is, is_option};
+use rpki_text::Characters;
+use std::alloc::{AllocError, Global};
+use std::fmt;
 
 /// What is to be prepared for signing, of a certificate its kind; or that what is signed is to be
 /// completed.
@@ -101,7 +107,7 @@ pub struct Given<'a> {
 
 /// What is asked. Options and files stand in the order of their words.
 #[derive(Drop)]
-pub struct Asked<'a> {
+pub struct Order<'a> {
     pub errand: Errand,
     pub given: Vec<Given<'a>>,
     pub files: Vec<&'a [u8]>,
@@ -135,14 +141,544 @@ pub enum Misuse<'a> {
     Memory,
 }
 
-/// Reads the words behind the program's name.
-pub fn read_request<'a>(_alloc: Global, _words: &'a [Vec<u8>]) -> Result<Asked<'a>, Misuse<'a>>
-    ensures request_line { IfOk result
-        (λ asked. IsRequestLine (asked_fields asked) (word_octets _words.now)) }
-    ensures nothing_else { IfOk result (λ asked. (other : AskedFields)
-        → IsRequestLine other (word_octets _words.now) → other ≡ asked_fields asked) }
-    ensures rejected { IfErr result (λ e. e ≢ Misuse.Memory → (asked : AskedFields)
-        → IsRequestLine asked (word_octets _words.now) → ⊥) }
+impl Setting {
+    /// Returns the option's name.
+    pub fn name(self) -> &'static str
+        ensures { result.now ≡ setting_name self }
+    {
+        match self {
+            Setting::Issuer => "--issuer",
+            Setting::Key => "--key",
+            Setting::Serial => "--serial",
+            Setting::From => "--from",
+            Setting::Until => "--until",
+            Setting::Ipv4 => "--ipv4",
+            Setting::Ipv6 => "--ipv6",
+            Setting::AsNumbers => "--as",
+            Setting::Repository => "--repository",
+            Setting::Manifest => "--manifest",
+            Setting::Notify => "--notify",
+            Setting::Object => "--object",
+            Setting::IssuerUri => "--issuer-uri",
+            Setting::CrlUri => "--crl-uri",
+            Setting::Previous => "--previous",
+            Setting::Revoke => "--revoke",
+            Setting::Forget => "--forget",
+            Setting::ThisUpdate => "--this-update",
+            Setting::NextUpdate => "--next-update",
+            Setting::At => "--at",
+        }
+    }
+}
+
+impl Switch {
+    /// Returns the option's name.
+    pub fn name(self) -> &'static str
+        ensures { result.now ≡ switch_name self }
+    {
+        match self {
+            Switch::Trim => "--trim",
+            Switch::Lenient => "--lenient",
+            Switch::Pem => "--pem",
+        }
+    }
+}
+
+impl fmt::Display for Misuse<'_> {
+    ghost output = { λ misuse. Some (misuse_text misuse) };
+
+    fn fmt<W: fmt::Write>(&self, f: &mut fmt::Formatter<W>) -> fmt::Result {
+        match self {
+            Misuse::NoErrand => f.write_str("nothing is named that is to be prepared"),
+            Misuse::Unknown(word) => {
+                let word = Characters(*word);
+                write!(f, "unknown: {word}")
+            }
+            Misuse::NoValue(setting) => {
+                let option = setting.name();
+                write!(f, "{option} wants a value")
+            }
+            Misuse::Unsuited(setting) => {
+                let option = setting.name();
+                write!(f, "{option} doesn't belong here")
+            }
+            Misuse::UnsuitedSwitch(switch) => {
+                let option = switch.name();
+                write!(f, "{option} doesn't belong here")
+            }
+            Misuse::Missing(setting) => {
+                let option = setting.name();
+                write!(f, "{option} is missing")
+            }
+            Misuse::Repeated(setting) => {
+                let option = setting.name();
+                write!(f, "{option} stands twice")
+            }
+            Misuse::Files => f.write_str("prepare takes no file, and complete takes two"),
+            Misuse::Memory => f.write_str("out of memory"),
+        }
+    }
+}
+
+// The options that take a value.
+const SETTINGS: [Setting; 20] = [
+    Setting::Issuer,
+    Setting::Key,
+    Setting::Serial,
+    Setting::From,
+    Setting::Until,
+    Setting::Ipv4,
+    Setting::Ipv6,
+    Setting::AsNumbers,
+    Setting::Repository,
+    Setting::Manifest,
+    Setting::Notify,
+    Setting::Object,
+    Setting::IssuerUri,
+    Setting::CrlUri,
+    Setting::Previous,
+    Setting::Revoke,
+    Setting::Forget,
+    Setting::ThisUpdate,
+    Setting::NextUpdate,
+    Setting::At,
+];
+
+// What is to be prepared, by the word behind `prepare`.
+fn prepared_of(word: &[u8]) -> Option<Errand>
+    ensures named { IfSome result
+        (λ errand. errand_words errand ≡ codes "prepare" ∷ word.now ∷ []) }
+    ensures unknown { IfNone result
+        ((errand : Errand) → errand_words errand ≡ codes "prepare" ∷ word.now ∷ [] → ⊥) }
 {
-    Err(Misuse::Memory)
+    if is(word, "ca") {
+        return Some(Errand::Authority);
+    }
+    if is(word, "ee") {
+        return Some(Errand::EndEntity);
+    }
+    if is(word, "detached") {
+        return Some(Errand::Detached);
+    }
+    if is(word, "router") {
+        return Some(Errand::Router);
+    }
+    if is(word, "anchor") {
+        return Some(Errand::Anchor);
+    }
+    if is(word, "list") {
+        return Some(Errand::Revocations);
+    }
+    None
+}
+
+// What is asked, and the words behind its name.
+fn errand_of(words: &[Vec<u8>]) -> Result<(Errand, &[Vec<u8>]), Misuse<'_>>
+    ensures named { IfOk result
+        (λ r. word_octets words.now ≡ errand_words r.0 ++ word_octets r.1.now) }
+    ensures unknown { IfErr result (λ _. (errand : Errand) (rest : List (List ℕ))
+        → word_octets words.now ≡ errand_words errand ++ rest → ⊥) }
+{
+    let Some((first, behind)) = words.split_first() else {
+        return Err(Misuse::NoErrand);
+    };
+    if is(first.as_slice(), "complete") {
+        return Ok((Errand::Completion, behind));
+    }
+    if !is(first.as_slice(), "prepare") {
+        return Err(Misuse::Unknown(first.as_slice()));
+    }
+    let Some((second, rest)) = behind.split_first() else {
+        return Err(Misuse::NoErrand);
+    };
+    match prepared_of(second.as_slice()) {
+        Some(errand) => Ok((errand, rest)),
+        None => Err(Misuse::Unknown(second.as_slice())),
+    }
+}
+
+// The option that takes a value and has this name.
+fn setting_of(word: &[u8]) -> Option<Setting>
+    ensures named { IfSome result (λ setting. word.now ≡ setting_name setting) }
+    ensures unknown { IfNone result ((setting : Setting) → word.now ≡ setting_name setting → ⊥) }
+{
+    for setting in SETTINGS {
+        if is(word, setting.name()) {
+            return Some(setting);
+        }
+    }
+    None
+}
+
+// The place of the first `=` of a word.
+fn place_of_equals(word: &[u8]) -> Option<usize>
+    ensures { result ≡ position (λ c. c == 0x3D) word.now }
+{
+    word.iter().position(|c| *c == b'=')
+}
+
+// The option and its value that a word gives with `=` between them.
+fn joined<'a>(word: &'a [u8]) -> Option<Given<'a>>
+    ensures joined { IfSome result (λ g. Joins g.setting g.value.now word.now) }
+    ensures unknown { IfNone result
+        ((setting : Setting) (value : List ℕ) → Joins setting value word.now → ⊥) }
+{
+    let Some(place) = place_of_equals(word) else {
+        return None;
+    };
+    match setting_of(&word[..place]) {
+        Some(setting) => Some(Given {
+            setting,
+            value: &word[place + 1..],
+        }),
+        None => None,
+    }
+}
+
+// The option that takes no value and has this name.
+fn switch_of(word: &[u8]) -> Option<Switch>
+    ensures named { IfSome result (λ s. word.now ≡ switch_name s) }
+    ensures unknown { IfNone result ((s : Switch) → word.now ≡ switch_name s → ⊥) }
+{
+    if is(word, "--trim") {
+        return Some(Switch::Trim);
+    }
+    if is(word, "--lenient") {
+        return Some(Switch::Lenient);
+    }
+    if is(word, "--pem") {
+        return Some(Switch::Pem);
+    }
+    None
+}
+
+// An errand, and nothing more.
+fn new_asked<'a>(alloc: Global, errand: Errand) -> Order<'a>
+    ensures { asked_fields result ≡ only_errand errand }
+{
+    Order {
+        errand,
+        given: Vec::new(alloc),
+        files: Vec::new(alloc),
+        trims: false,
+        strict: true,
+        is_pem: false,
+    }
+}
+
+// Adds an option with its value.
+fn add_given<'a>(asked: &mut Order<'a>, given: Given<'a>) -> Result<(), Misuse<'a>>
+    ensures added { OnOk result (asked_fields asked.new
+        ≡ with_part (asked_fields asked.old) (option (given_fields given.entry))) }
+    ensures memory { IfErr result (λ e. e ≡ Misuse.Memory) }
+{
+    match asked.given.push(given) {
+        Ok(()) => Ok(()),
+        Err(_) => Err(Misuse::Memory),
+    }
+}
+
+// Adds a file.
+fn add_file<'a>(asked: &mut Order<'a>, name: &'a [u8]) -> Result<(), Misuse<'a>>
+    ensures added { OnOk result (asked_fields asked.new
+        ≡ with_part (asked_fields asked.old) (file name.now)) }
+    ensures memory { IfErr result (λ e. e ≡ Misuse.Memory) }
+{
+    match asked.files.push(name) {
+        Ok(()) => Ok(()),
+        Err(_) => Err(Misuse::Memory),
+    }
+}
+
+// Adds what an option without a value says.
+fn add_switch(asked: &mut Order<'_>, given: Switch)
+    ensures { asked_fields asked.new ≡ with_part (asked_fields asked.old) (switch given) }
+{
+    match given {
+        Switch::Trim => asked.trims = true,
+        Switch::Lenient => asked.strict = false,
+        Switch::Pem => asked.is_pem = true,
+    }
+}
+
+// Adds the file or the option that a word is by itself.
+fn add_word<'a>(asked: &mut Order<'a>, word: &'a [u8]) -> Result<(), Misuse<'a>>
+    requires { (setting : Setting) → word.now ≡ setting_name setting → ⊥ }
+    ensures added { OnOk result
+        (AddsPart (word.now ∷ []) (asked_fields asked.old) (asked_fields asked.new)) }
+    ensures unknown { IfErr result (λ e. e ≢ Misuse.Memory → BeginsNoPart (word.now ∷ [])) }
+{
+    if !is_option(word) {
+        return add_file(asked, word);
+    }
+    if let Some(given) = joined(word) {
+        return add_given(asked, given);
+    }
+    match switch_of(word) {
+        Some(given) => {
+            add_switch(asked, given);
+            Ok(())
+        }
+        None => Err(Misuse::Unknown(word)),
+    }
+}
+
+// Adds what the words before `--` say.
+fn add_words<'a>(asked: &mut Order<'a>, words: &'a [Vec<u8>]) -> Result<(), Misuse<'a>>
+    ensures added { OnOk result
+        (AddsParts (word_octets words.now) (asked_fields asked.old) (asked_fields asked.new)) }
+    ensures unknown { IfErr result (λ e. e ≢ Misuse.Memory → (parts : List RequestPart)
+        → AreRequestParts parts (word_octets words.now) → ⊥) }
+{
+    // The option whose value is the next word.
+    let mut awaiting = None;
+    for word in words {
+        let word = word.as_slice();
+        if let Some(setting) = awaiting {
+            let value = word;
+            add_given(asked, Given { setting, value })?;
+            awaiting = None;
+        } else if let Some(setting) = setting_of(word) {
+            awaiting = Some(setting);
+        } else {
+            add_word(asked, word)?;
+        }
+    }
+    match awaiting {
+        Some(setting) => Err(Misuse::NoValue(setting)),
+        None => Ok(()),
+    }
+}
+
+// Adds the files that the words behind `--` are.
+fn add_files<'a>(asked: &mut Order<'a>, words: &'a [Vec<u8>]) -> Result<(), Misuse<'a>>
+    ensures added { OnOk result (asked_fields asked.new
+        ≡ fold with_part (asked_fields asked.old) (map file (word_octets words.now))) }
+    ensures memory { IfErr result (λ e. e ≡ Misuse.Memory) }
+{
+    for word in words {
+        add_file(asked, word.as_slice())?;
+    }
+    Ok(())
+}
+
+// How often certificates take an option that nothing else takes.
+fn of_certificates(often: Demand, errand: Errand) -> Demand
+    ensures { result ≡ of_certificates often errand }
+{
+    match errand {
+        Errand::Revocations | Errand::Completion => Demand::Never,
+        _ => often,
+    }
+}
+
+// How often certificates below an issuer take an option that nothing else takes.
+fn of_issued(often: Demand, errand: Errand) -> Demand
+    ensures { result ≡ of_issued often errand }
+{
+    match errand {
+        Errand::Anchor => Demand::Never,
+        _ => of_certificates(often, errand),
+    }
+}
+
+// How often CAs and trust anchors take an option that nothing else takes.
+fn of_authorities(often: Demand, errand: Errand) -> Demand
+    ensures { result ≡ of_authorities often errand }
+{
+    match errand {
+        Errand::Authority | Errand::Anchor => often,
+        _ => Demand::Never,
+    }
+}
+
+// How often a list takes an option that nothing else takes.
+fn of_lists(often: Demand, errand: Errand) -> Demand
+    ensures { result ≡ of_lists often errand }
+{
+    match errand {
+        Errand::Revocations => often,
+        _ => Demand::Never,
+    }
+}
+
+/// Returns how often an errand takes an option.
+pub fn demand_of(setting: Setting, errand: Errand) -> Demand
+    ensures { result ≡ demand setting errand }
+{
+    match setting {
+        Setting::Issuer => match errand {
+            Errand::Anchor => Demand::Never,
+            Errand::Completion => Demand::AnyNumber,
+            _ => Demand::AtLeastOnce,
+        },
+        Setting::Key | Setting::Serial | Setting::From | Setting::Until => {
+            of_certificates(Demand::Once, errand)
+        }
+        Setting::Ipv4 | Setting::Ipv6 => match errand {
+            Errand::Router => Demand::Never,
+            _ => of_certificates(Demand::AnyNumber, errand),
+        },
+        Setting::AsNumbers => match errand {
+            Errand::Router => Demand::AtLeastOnce,
+            _ => of_certificates(Demand::AnyNumber, errand),
+        },
+        Setting::Repository | Setting::Manifest => of_authorities(Demand::Once, errand),
+        Setting::Notify => of_authorities(Demand::AtMostOnce, errand),
+        Setting::Object => match errand {
+            Errand::EndEntity => Demand::Once,
+            _ => Demand::Never,
+        },
+        Setting::IssuerUri | Setting::CrlUri => of_issued(Demand::Once, errand),
+        Setting::Previous | Setting::ThisUpdate | Setting::NextUpdate => {
+            of_lists(Demand::Once, errand)
+        }
+        Setting::Revoke | Setting::Forget => of_lists(Demand::AnyNumber, errand),
+        Setting::At => Demand::AtMostOnce,
+    }
+}
+
+// Whether an errand takes an option without a value.
+fn takes(given: Switch, errand: Errand) -> bool
+    ensures { result ≡ takes given errand }
+{
+    match given {
+        Switch::Trim => !matches!(errand, Errand::Revocations | Errand::Completion),
+        Switch::Lenient => true,
+        Switch::Pem => matches!(errand, Errand::Completion),
+    }
+}
+
+// Whether two options are the same.
+fn is_same(a: Setting, b: Setting) -> bool
+    ensures { result ≡ is_same a b }
+{
+    a.name() == b.name()
+}
+
+// How often an option is given.
+fn times(given: &[Given<'_>], setting: Setting) -> usize
+    ensures { result ≡ count_by (λ g. is_same g.setting setting) given.now }
+{
+    given.iter().filter(|g| is_same(g.setting, setting)).count()
+}
+
+// The values that an option is given.
+fn values_among<'a>(
+    alloc: Global,
+    given: &[Given<'a>],
+    setting: Setting,
+) -> Result<Vec<&'a [u8]>, AllocError>
+    ensures { IfOk result (λ v. v.items
+        ≡ map (λ g. g.value) (filter (λ g. is_same g.setting setting) given.now)) }
+{
+    given
+        .iter()
+        .filter(|g| is_same(g.setting, setting))
+        .map(|g| g.value)
+        .collect(alloc)
+}
+
+impl<'a> Order<'a> {
+    /// Returns the values that an option is given, in the order of the words.
+    pub fn values_of(&self, alloc: Global, setting: Setting) -> Result<Vec<&'a [u8]>, AllocError>
+        ensures { IfOk result (λ v. map (λ value. value.now) v.items
+            ≡ values_of setting (asked_fields self.now).given) }
+    {
+        values_among(alloc, &self.given, setting)
+    }
+}
+
+// What is wrong of an option that stands so often, if anything is.
+fn misuse_by(often: Demand, times: usize, setting: Setting) -> Option<Misuse<'static>>
+    ensures { MatchOption result (Meets often times) (λ _. Meets often times → ⊥) }
+{
+    let is_missing = times == 0;
+    let is_repeated = times > 1;
+    match often {
+        Demand::Never if !is_missing => Some(Misuse::Unsuited(setting)),
+        Demand::AtMostOnce if is_repeated => Some(Misuse::Repeated(setting)),
+        Demand::Once if is_missing => Some(Misuse::Missing(setting)),
+        Demand::Once if is_repeated => Some(Misuse::Repeated(setting)),
+        Demand::AtLeastOnce if is_missing => Some(Misuse::Missing(setting)),
+        _ => None,
+    }
+}
+
+// What is wrong of the options that take a value, if anything is.
+fn misuse_of_settings(asked: &Order<'_>) -> Option<Misuse<'static>>
+    ensures { let a = asked_fields asked.now in MatchOption result
+        ((setting : Setting) → Meets (demand setting a.errand) (length (values_of setting a.given)))
+        (λ _. ((setting : Setting) → Meets (demand setting a.errand)
+        (length (values_of setting a.given))) → ⊥) }
+{
+    for setting in SETTINGS {
+        let often = demand_of(setting, asked.errand);
+        if let Some(misuse) = misuse_by(often, times(&asked.given, setting), setting) {
+            return Some(misuse);
+        }
+    }
+    None
+}
+
+// What doesn't suit the errand, if anything doesn't.
+fn misuse_of(asked: &Order<'_>) -> Option<Misuse<'static>>
+    ensures { MatchOption result (Suits (asked_fields asked.now))
+        (λ _. Suits (asked_fields asked.now) → ⊥) }
+{
+    if let Some(misuse) = misuse_of_settings(asked) {
+        return Some(misuse);
+    }
+    if asked.trims && !takes(Switch::Trim, asked.errand) {
+        return Some(Misuse::UnsuitedSwitch(Switch::Trim));
+    }
+    if asked.is_pem && !takes(Switch::Pem, asked.errand) {
+        return Some(Misuse::UnsuitedSwitch(Switch::Pem));
+    }
+    if asked.files.len() != files_wanted(asked.errand) {
+        return Some(Misuse::Files);
+    }
+    None
+}
+
+// How many files an errand wants.
+fn files_wanted(errand: Errand) -> usize
+    ensures { result ≡ files_wanted errand }
+{
+    match errand {
+        Errand::Completion => 2,
+        _ => 0,
+    }
+}
+
+/// Tells whether the words begin as a request does, and not as another command line.
+pub fn is_request(words: &[Vec<u8>]) -> bool
+    ensures { IsTrue result ↔ BeginsRequest (word_octets words.now) }
+{
+    let Some((first, _rest)) = words.split_first() else {
+        return false;
+    };
+    let word = first.as_slice();
+    is(word, "prepare") || is(word, "complete")
+}
+
+/// Reads the words behind the program's name.
+pub fn read_request<'a>(alloc: Global, words: &'a [Vec<u8>]) -> Result<Order<'a>, Misuse<'a>>
+    ensures request_line { IfOk result
+        (λ asked. IsRequestLine (asked_fields asked) (word_octets words.now)) }
+    ensures nothing_else { IfOk result (λ asked. (other : AskedFields)
+        → IsRequestLine other (word_octets words.now) → other ≡ asked_fields asked) }
+    ensures rejected { IfErr result (λ e. e ≢ Misuse.Memory → (asked : AskedFields)
+        → IsRequestLine asked (word_octets words.now) → ⊥) }
+{
+    let (errand, rest) = errand_of(words)?;
+    let mut asked = new_asked(alloc, errand);
+    let (before, behind) = around_dashes(rest);
+    add_words(&mut asked, before)?;
+    add_files(&mut asked, behind)?;
+    if let Some(misuse) = misuse_of(&asked) {
+        drop(asked);
+        return Err(misuse);
+    }
+    Ok(asked)
 }

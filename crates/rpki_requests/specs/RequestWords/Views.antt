@@ -1,15 +1,15 @@
 -- What contracts see of what is asked.
 use Rattle.std.specs.Prelude.{map}
-use Rattle.rpki_requests.specs.declared.words.Asked.{Asked}
+use Rattle.rpki_requests.specs.declared.words.Order.{Order}
 use Rattle.rpki_requests.specs.declared.words.Given.{Given}
 use Rattle.rpki_requests.specs.RequestWords.{AskedFields, GivenFields}
 
 -- an option with its value
 abbrev pub given_fields : Given → GivenFields
-given_fields g = record { setting = g.setting; value = g.value.now; }
+given_fields g = record { setting = g.setting; value = g.value.now }
 
 -- what is asked
-abbrev pub asked_fields : Asked → AskedFields
+abbrev pub asked_fields : Order → AskedFields
 asked_fields asked = record {
   errand = asked.errand;
   given = map given_fields asked.given.items;

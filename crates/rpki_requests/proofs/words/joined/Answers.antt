@@ -1,0 +1,9 @@
+use Rattle.std.proofs.Common.{◌≡◌, take, arith}
+use Rattle.rpki_requests.specs.RequestWords.{setting_name}
+use Rattle.rpki_requests.proofs.RequestParts.{front_named}
+use Rattle.rpki_requests.proofs.words.joined.Goals as goal
+
+pub returns-in-None-clause-unknown : goal.returns-in-None-clause-unknown
+returns-in-None-clause-unknown c = λ setting value joins.
+    let front : take c.in-Some.place c.args.word.now ≡ setting_name setting = front_named c.args.word.now c.in-Some.place c.place_of_equals.result c.place_of_equals.ensures c.in-Some.is setting value joins in
+    c.in-None.ensures.unknown setting (grind (arith, front))
