@@ -127,7 +127,7 @@ module _ {P S : Type 0} (g : Grammar P S) where
     -- ---- words that begin no part
 
     module _ (setting : S) (value : List ℕ) (none : (part : P) → g.IsSet setting value part → ⊥) where
-      -- what the option with the value isn't, no other spelling of it is
+      -- what the option with the value isn't, the same option with the same value isn't
       none_same : (other : S) (another : List ℕ) (part : P) → other ≡ setting → another ≡ value → g.IsSet other another part → ⊥
       none_same other another part settings values is =
           none part (subst (λ (l : List ℕ). g.IsSet setting l part) values (subst (λ (o : S). g.IsSet o another part) settings is))
