@@ -1,0 +1,2 @@
+pub mod OnlyParts
+pub mod ZippedTexts

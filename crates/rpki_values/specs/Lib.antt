@@ -1,0 +1,4 @@
+-- The definitions that the contracts of values cite.
+pub mod OnlyValues
+pub mod ValueTexts
+pub mod BlockTexts
