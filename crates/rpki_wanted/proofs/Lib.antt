@@ -1,0 +1,2 @@
+pub mod RouterNames
+pub mod SameRoles

@@ -1,0 +1,3 @@
+-- The definitions that the contracts of wanted certificates cite.
+pub mod AskedFields
+pub mod PreparedOctets

@@ -1,0 +1,44 @@
+-- What is to be signed, and what is completed by its signature (RFC 6487 4, 7.2; RFC 5280 4.1.1.3).
+use Rattle.std.specs.Prelude.{◌≡◌, ◌^◌, ◌<◌, ℕ, Bool, List, Option, Some, None, length}
+use Rattle.rpki_cert.specs.Certificates.{TbsFields, encoding}
+use Rattle.rpki_cert.specs.Verification.{ResourceFields}
+use Rattle.rpki_cert.specs.declared.inspect.Kind.{Kind}
+use Rattle.rpki_der.specs.Times.{Moment}
+use Rattle.rpki_issuing.specs.Readiness.{signed_with, IsReady, IsSignatureOf}
+use Rattle.rpki_issuing.specs.Roles.{kind_of}
+use Rattle.rpki_issuing.specs.declared.role.Role.{Role}
+use Rattle.rpki_issuing.specs.declared.role.Role.TheVariants.{Anchor, Authority, EndEntity, Detached, Router}
+use Rattle.rpki_keys.specs.RsaSignatures.{IsSignedByRsa}
+use Rattle.rpki_parts.specs.SignedDatas.{signed_content, signed_data}
+
+-- the issuer of the role
+abbrev pub issuer_in : Role → Option ResourceFields
+issuer_in Anchor = None
+issuer_in (Authority issuer) = Some issuer.now
+issuer_in (EndEntity issuer) = Some issuer.now
+issuer_in (Detached issuer) = Some issuer.now
+issuer_in (Router issuer) = Some issuer.now
+
+-- the role of a certificate of this kind below this issuer
+pub record IsRoleOf (kind : Kind) (issuer : Option ResourceFields) (role : Role) : Type 0 where
+  pub kind_is : kind_of role ≡ kind
+  pub issuer_is : issuer_in role ≡ issuer
+
+-- the fields are ready to be signed as a certificate of this kind below this issuer, and these are the
+-- octets that are to be signed
+pub record IsPrepared (kind : Kind) (issuer : Option ResourceFields) (at : Moment) (strict : Bool) (f : TbsFields) (octets : List ℕ) : Type 0 where
+  pub role : Role
+  pub role_is : IsRoleOf kind issuer role
+  pub ready : IsReady at strict role f
+  pub octets_are : octets ≡ encoding f
+
+-- the octets were prepared of these fields, the key of who issues signed them, and this is the
+-- certificate
+pub record IsCompleted (kind : Kind) (issuer : Option ResourceFields) (at : Moment) (strict : Bool) (f : TbsFields) (prepared signature octets : List ℕ) : Type 0 where
+  pub role : Role
+  pub role_is : IsRoleOf kind issuer role
+  pub ready : IsReady at strict role f
+  pub prepared_is : prepared ≡ encoding f
+  pub signed : IsSignatureOf IsSignedByRsa role f signature
+  pub short : length (signed_content (signed_with f signature).signed_data) < 2 ^ 32
+  pub octets_are : octets ≡ signed_data (signed_with f signature).signed_data
