@@ -2,5 +2,5 @@ use Rattle.std.proofs.Common.{refl, [], ◌∷◌}
 use Rattle.rpki_der.proofs.IdentifierReads.{oid_takes}
 use Rattle.rpki_vectors.proofs.calls.ends.extension.Goals as goal
 
-pub end_extension-requires-clause-oid : goal.end_extension-requires-clause-oid
-end_extension-requires-clause-oid c = oid_takes (0x55 ∷ 0x1D ∷ 0x0F ∷ []) refl
+pub end_extension-answer-requires-clause-oid : goal.end_extension-answer-requires-clause-oid
+end_extension-answer-requires-clause-oid c = oid_takes (0x55 ∷ 0x1D ∷ 0x0F ∷ []) refl
