@@ -12,6 +12,7 @@
 # Files go below PREFIX, and all that below DESTDIR:
 #   make install PREFIX=$HOME/.local
 #   make install PREFIX=/usr LIBDIR=/usr/lib/x86_64-linux-gnu DESTDIR=/tmp/package
+# A folder's name may have spaces, but no ", ` or $.
 # What isn't built as the sources are now is said, and then nothing is installed.
 
 PREFIX ?= /usr/local
@@ -25,6 +26,14 @@ BASHDIR ?= $(DATADIR)/bash-completion/completions
 ZSHDIR ?= $(DATADIR)/zsh/site-functions
 FISHDIR ?= $(DATADIR)/fish/vendor_completions.d
 INSTALL ?= install
+
+# what would end the quotes round a folder's name in a recipe, or stand for something else there
+folders = $(DESTDIR)$(PREFIX)$(BINDIR)$(LIBDIR)$(INCLUDEDIR)$(MANDIR)$(PKGCONFIGDIR)
+folders += $(BASHDIR)$(ZSHDIR)$(FISHDIR)
+unfit = $(strip $(foreach sign," ` $$,$(findstring $(sign),$(folders))))
+ifneq (,$(unfit))
+$(error the name of a folder has $(unfit): nothing is installed or removed)
+endif
 
 # what `./rpki prove` and `./rpki library` build
 tool = crates/rpki_command/out/rpki_command
