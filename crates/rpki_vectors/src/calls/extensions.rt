@@ -12,7 +12,8 @@ fn bare() -> Extensions {
     Extensions::bare(id, KeyUsage::Ee, Overclaim::Trim)
 }
 
-// After an error a beginning of the extensions may stand there.
+// What stands behind the octet that stood there begins as the extensions do, which holds after an
+// error too, where nothing more stands there; on success it is all of them.
 fn all_written(alloc: Global) -> Option<Told> {
     let mut out = vector(alloc)?;
     let extensions = bare();
