@@ -152,20 +152,26 @@ def uri(text):
     return der(0x86, text.encode())
 
 
-def lists_at(text):
-    return extension('2.5.29.31', seq(seq(der(0xa0, der(0xa0, uri(text))))))
+def lists_at(*texts):
+    return extension('2.5.29.31', seq(seq(der(0xa0, der(0xa0, *map(uri, texts))))))
 
 
-def issuer_at(text):
-    access = seq(oid('1.3.6.1.5.5.7.48.2'), uri(text))
+def issuer_at(*texts):
+    access = seq(oid('1.3.6.1.5.5.7.48.2'), *map(uri, texts))
     return extension('1.3.6.1.5.5.7.1.1', seq(access))
 
 
+METHODS = {'timestamps': '3', 'repository': '5', 'manifest': '10', 'object': '11', 'notify': '13'}
+
+
+def described(*rows):
+    """Subject Information Access: a method and the name of its location in each row."""
+    return extension('1.3.6.1.5.5.7.1.11', seq(*(
+        seq(oid('1.3.6.1.5.5.7.48.' + METHODS[kind]), name) for kind, name in rows)))
+
+
 def information(**places):
-    methods = {'repository': '5', 'manifest': '10', 'object': '11', 'notify': '13'}
-    rows = [seq(oid('1.3.6.1.5.5.7.48.' + methods[kind]), uri(text))
-            for kind, text in places.items()]
-    return extension('1.3.6.1.5.5.7.1.11', seq(*rows))
+    return described(*((kind, uri(text)) for kind, text in places.items()))
 
 
 def ca_information(name):
@@ -540,10 +546,34 @@ def wide(ta):
         aki=None, lists=None, issuer=None))
 
 
+def uris(ca, key):
+    """Apart from the others: certificates below a CA with more than one URI of a kind, and with
+    methods of access that the RPKI doesn't have."""
+    full = ca_extensions('ca', key, ca, 'ta', **CA2)
+    leaf = leaf_extensions(key, ca, 'ca', f'{SITE}/ca/leaf.roa')
+    web = 'https://rpki.example.net'
+    yield 'ca', certificate(key, ca, 0xaf01, changed(
+        full,
+        lists=lists_at(f'{web}/ta.crl', f'{SITE}/ta/ta.crl', 'ldap://rpki.example.net/ta'),
+        information=described(
+            ('repository', uri(f'{web}/ca/')), ('repository', uri(f'{SITE}/ca/')),
+            ('timestamps', uri(f'{web}/time')), ('manifest', uri(f'{SITE}/ca/ca.mft')),
+            ('manifest', uri(f'{SITE}/ca/other.mft')), ('repository', uri(f'{SITE}/other/')),
+            ('timestamps', der(0x82, b'rpki.example.net')),
+            ('notify', uri(f'{SITE}/notification.xml')), ('notify', uri(f'{web}/a.xml')),
+            ('notify', uri(f'{web}/b.xml')))))
+    yield 'leaf', certificate(key, ca, 0xaf02, changed(leaf, information=described(
+        ('object', uri(f'{web}/leaf.roa')), ('object', uri(f'{SITE}/ca/leaf.roa')),
+        ('object', uri(f'{SITE}/ca/leaf.roa')))))
+    # several names in one description, which RFC 5280 4.2.2.1 hasn't
+    yield 'issuers', certificate(key, ca, 0xaf03, changed(full, issuer=issuer_at(
+        f'{web}/ta.cer', f'{SITE}/ta.cer', 'ldap://rpki.example.net/ta')))
+
+
 # The folders, and the keys that the files of each take.
 FOLDERS = {'twins': (twins, ('ta', 'ca')), 'sharing': (sharing, ('ta', 'ca', 'leaf')),
            'noted': (noted, ('ca', 'key')), 'wide': (wide, ('ta',)),
-           'named': (named, ('ta', 'ca', 'below')),
+           'named': (named, ('ta', 'ca', 'below')), 'uris': (uris, ('ca', 'key')),
            'keyed': (keyed, ('ta', 'router', 'compressed', '2048', '1024', '3072', 'exponent_3'))}
 RSA = ('-algorithm', 'RSA', '-pkeyopt', 'rsa_keygen_bits:2048')
 CURVE = ('-algorithm', 'EC', '-pkeyopt', 'ec_paramgen_curve:P-256')

@@ -1,14 +1,31 @@
 //! What a certificate says beside the fields that readers keep, for a person.
 ghost use Rattle.std.specs.Prelude.{◌≡◌, Some};
 ghost use Rattle.std.specs.Fmt.{WritesOnOk};
-ghost use Rattle.rpki_command.specs.FactTexts.{fact_label, fact_text, facts_lines};
+ghost use Rattle.rpki_command.specs.FactTexts.{fact_label, fact_text, facts_lines, is_identifier};
 ghost use Rattle.rpki_text.specs.Pages.{Appends, line};
 
 use rpki_notes::{Fact, FactKind};
 use rpki_text::{Characters, Identifier, Page, write_line};
 use std::fmt;
 
-/// What is told of a fact: the identifier of an extension, or a URI.
+// Whether the octets of a fact are an identifier, and no URI.
+fn is_identifier(kind: FactKind) -> bool
+    ensures { result ≡ is_identifier kind }
+{
+    match kind {
+        FactKind::UnknownExtension | FactKind::UnknownMethod => true,
+        FactKind::PracticeStatement
+        | FactKind::FurtherList
+        | FactKind::FurtherIssuer
+        | FactKind::FurtherRepository
+        | FactKind::FurtherManifest
+        | FactKind::FurtherObject
+        | FactKind::FurtherNotify
+        | FactKind::MethodUri => false,
+    }
+}
+
+/// What is told of a fact: an identifier, or a URI.
 #[derive(Drop)]
 pub struct Told<'a>(pub Fact<'a>);
 
@@ -16,15 +33,12 @@ impl fmt::Display for Told<'_> {
     ghost output = { λ told. Some (fact_text told.0) };
 
     fn fmt<W: fmt::Write>(&self, f: &mut fmt::Formatter<W>) -> fmt::Result {
-        match self.0.kind {
-            FactKind::UnknownExtension => {
-                let identifier = Identifier(self.0.octets);
-                write!(f, "{identifier}")
-            }
-            FactKind::PracticeStatement => {
-                let uri = Characters(self.0.octets);
-                write!(f, "{uri}")
-            }
+        if is_identifier(self.0.kind) {
+            let identifier = Identifier(self.0.octets);
+            write!(f, "{identifier}")
+        } else {
+            let uri = Characters(self.0.octets);
+            write!(f, "{uri}")
         }
     }
 }
@@ -35,6 +49,14 @@ fn label_of(kind: FactKind) -> &'static str
     match kind {
         FactKind::UnknownExtension => "Unknown extension",
         FactKind::PracticeStatement => "Practice statement",
+        FactKind::FurtherList => "Further revocation list",
+        FactKind::FurtherIssuer => "Further authority info",
+        FactKind::FurtherRepository => "Further repository",
+        FactKind::FurtherManifest => "Further manifest",
+        FactKind::FurtherObject => "Further signed object",
+        FactKind::FurtherNotify => "Further notify URL",
+        FactKind::UnknownMethod => "Unknown access method",
+        FactKind::MethodUri => "URI of that method",
     }
 }
 

@@ -2,18 +2,20 @@
 ghost use Rattle.std.specs.Prelude.{◌≡◌, ◌++◌, List, map, option_map, bytes_eq, IfOk, OnOk};
 ghost use Rattle.rpki.specs.Certificates.{CertFields, IsCertificate};
 ghost use Rattle.rpki.specs.Encoding.{Means};
-ghost use Rattle.rpki.specs.ExtensionKinds.{certificate_policies};
 ghost use Rattle.rpki.specs.Extensions.{Extension, IsExtension};
 ghost use Rattle.rpki.specs.Extensions.Views.{extension_view};
 ghost use Rattle.rpki.specs.Place.{remaining};
 ghost use Rattle.rpki.specs.Sequences.{AreEncodings};
-ghost use Rattle.rpki.specs.Values.Reading.{value_at};
-ghost use Rattle.rpki_notes.specs.Facts.{AreFacts, fact_of, fact_view, facts_if, facts_of, id_qt_cps, known_fact, statement_at, statement_fact, uri_by};
+ghost use Rattle.rpki_notes.specs.Facts.{AreFacts, fact_view, facts_in, facts_of, id_qt_cps, known_facts, source_of, statement_at, statement_facts, uri_by};
 
+use crate::contents::content;
 use crate::fact::{Fact, FactKind};
+use crate::further::{put_access, put_fact, put_issuers, put_lists};
 use bytes::Bytes;
 use rpki::der::{Cursor, tag, take_extension};
 use rpki::oid;
+use rpki::repository::Cert;
+use rpki::repository::cert::TbsCert;
 use rpki::repository::extension::is_known;
 use rpki_files::{Object, extensions_in};
 use std::alloc::{AllocError, Global};
@@ -22,14 +24,6 @@ use std::alloc::{AllocError, Global};
 const QT_CPS: &[u8] = &[0x2b, 0x06, 0x01, 0x05, 0x05, 0x07, 0x02, 0x01];
 
 const IA5_STRING: u8 = 0x16;
-
-// The content of the value with this identifier octet that stands next.
-fn content<'a>(cursor: &mut Cursor<'a>, identifier: u8) -> Option<Cursor<'a>>
-    ensures { option_map (λ c. (remaining c, remaining cursor.new)) result
-        ≡ value_at identifier (remaining cursor.old) }
-{
-    cursor.take_value(identifier).ok()
-}
 
 // Whether the content of an OBJECT IDENTIFIER is id-qt-cps.
 fn is_cps(kind: &Cursor<'_>) -> bool
@@ -61,71 +55,96 @@ fn statement_in<'a>(policies: &Cursor<'a>) -> Option<&'a [u8]>
     uri_of(&kind, &uri)
 }
 
-// What the content of Certificate Policies says.
-fn statement_fact<'a>(policies: &Cursor<'a>) -> Option<Fact<'a>>
-    ensures { option_map fact_view result
-        ≡ option_map statement_fact (statement_at (remaining policies.now)) }
+// Adds the statement of practices, where there is one.
+fn put_statement<'a>(facts: &mut Vec<Fact<'a>>, policies: &Cursor<'a>) -> Result<(), AllocError>
+    ensures { let more = statement_facts (statement_at (remaining policies.now)) in
+        OnOk result (map fact_view facts.new.items ≡ map fact_view facts.old.items ++ more) }
 {
     match statement_in(policies) {
-        Some(octets) => Some(Fact {
-            kind: FactKind::PracticeStatement,
-            octets,
-        }),
-        None => None,
-    }
-}
-
-// Whether the identifier is that of Certificate Policies.
-fn is_policies(identifier: &[u8]) -> bool
-    ensures { result ≡ bytes_eq identifier.now certificate_policies.identifier }
-{
-    identifier == oid::CE_CERTIFICATE_POLICIES
-}
-
-// What an extension of a known kind says.
-fn known_fact<'a>(identifier: &[u8], content: &Cursor<'a>) -> Option<Fact<'a>>
-    ensures { option_map fact_view result ≡ known_fact identifier.now (remaining content.now) }
-{
-    if is_policies(identifier) {
-        statement_fact(content)
-    } else {
-        None
-    }
-}
-
-// What an extension says.
-fn fact_in<'a>(extension: (&'a [u8], bool, Cursor<'a>)) -> Option<Fact<'a>>
-    ensures { option_map fact_view result ≡ fact_of (extension_view extension.entry) }
-{
-    let (identifier, _, content) = extension;
-    if is_known(identifier) {
-        known_fact(identifier, &content)
-    } else {
-        Some(Fact {
-            kind: FactKind::UnknownExtension,
-            octets: identifier,
-        })
-    }
-}
-
-// Adds what an extension says.
-fn put_fact<'a>(
-    facts: &mut Vec<Fact<'a>>,
-    extension: (&'a [u8], bool, Cursor<'a>),
-) -> Result<(), AllocError>
-    ensures { let said = facts_if (fact_of (extension_view extension.entry)) in
-        OnOk result (map fact_view facts.new.items ≡ map fact_view facts.old.items ++ said) }
-{
-    match fact_in(extension) {
-        Some(fact) => Ok(facts.push(fact)?),
+        Some(uri) => put_fact(facts, FactKind::PracticeStatement, uri),
         None => Ok(()),
     }
 }
 
-// What the extensions of a sequence say.
-fn facts_among<'a>(alloc: Global, elements: &Cursor<'a>) -> Result<Vec<Fact<'a>>, AllocError>
+/// What is looked at in an extension of a known kind.
+#[derive(Clone, Copy)]
+pub(crate) enum Source {
+    Policies,
+    DistributionPoints,
+    AuthorityAccess,
+    SubjectAccess,
+    Other,
+}
+
+impl Source {
+    // What is looked at in an extension with this identifier.
+    fn of(identifier: &[u8]) -> Source
+        ensures { result ≡ source_of identifier.now }
+    {
+        if identifier == oid::CE_CERTIFICATE_POLICIES {
+            Source::Policies
+        } else if identifier == oid::CE_CRL_DISTRIBUTION_POINTS {
+            Source::DistributionPoints
+        } else if identifier == oid::PE_AUTHORITY_INFO_ACCESS {
+            Source::AuthorityAccess
+        } else if identifier == oid::PE_SUBJECT_INFO_ACCESS {
+            Source::SubjectAccess
+        } else {
+            Source::Other
+        }
+    }
+}
+
+// Adds what the content of an extension of a known kind says.
+fn put_known<'a>(
+    facts: &mut Vec<Fact<'a>>,
+    tbs: &TbsCert,
+    source: Source,
+    content: &Cursor<'a>,
+) -> Result<(), AllocError>
+    ensures { let more = known_facts tbs.now.extensions source (remaining content.now) in
+        OnOk result (map fact_view facts.new.items ≡ map fact_view facts.old.items ++ more) }
+{
+    match source {
+        Source::Policies => put_statement(facts, content),
+        Source::DistributionPoints => {
+            let kept = tbs.crl_uri().map(|uri| uri.as_bytes());
+            put_lists(facts, kept, content)
+        }
+        Source::AuthorityAccess => {
+            let kept = tbs.ca_issuer().map(|uri| uri.as_bytes());
+            put_issuers(facts, kept, content)
+        }
+        Source::SubjectAccess => put_access(facts, tbs, content),
+        Source::Other => Ok(()),
+    }
+}
+
+// Adds what an extension says.
+fn put_extension<'a>(
+    facts: &mut Vec<Fact<'a>>,
+    tbs: &TbsCert,
+    extension: (&'a [u8], bool, Cursor<'a>),
+) -> Result<(), AllocError>
+    ensures { let more = facts_in tbs.now.extensions (extension_view extension.entry) in
+        OnOk result (map fact_view facts.new.items ≡ map fact_view facts.old.items ++ more) }
+{
+    let (identifier, _, content) = extension;
+    if is_known(identifier) {
+        put_known(facts, tbs, Source::of(identifier), &content)
+    } else {
+        put_fact(facts, FactKind::UnknownExtension, identifier)
+    }
+}
+
+// What the extensions of a sequence say beside these fields.
+fn facts_among<'a>(
+    alloc: Global,
+    tbs: &TbsCert,
+    elements: &Cursor<'a>,
+) -> Result<Vec<Fact<'a>>, AllocError>
     ensures { (xs : List Extension) → AreEncodings IsExtension xs (remaining elements.now)
-        → IfOk result (λ facts. map fact_view facts.items ≡ facts_of xs) }
+        → IfOk result (λ facts. map fact_view facts.items ≡ facts_of tbs.now.extensions xs) }
 {
     let mut facts = Vec::new(alloc);
     let mut rest = elements.fork();
@@ -137,28 +156,36 @@ fn facts_among<'a>(alloc: Global, elements: &Cursor<'a>) -> Result<Vec<Fact<'a>>
                 return Ok(facts);
             }
         };
-        put_fact(&mut facts, extension)?;
+        put_extension(&mut facts, tbs, extension)?;
     }
     Ok(facts)
 }
 
-// What the extensions of the certificate say that these octets begin with.
-fn facts_within(alloc: Global, octets: &Bytes) -> Result<Vec<Fact<'_>>, AllocError>
-    ensures { (c : CertFields) → Means IsCertificate c octets.now
-        → IfOk result (λ facts. AreFacts octets.now (map fact_view facts.items)) }
+// What the extensions say of the certificate that these octets begin with.
+fn facts_within<'a>(
+    alloc: Global,
+    octets: &'a Bytes,
+    cert: &Cert,
+) -> Result<Vec<Fact<'a>>, AllocError>
+    requires { Means IsCertificate cert.now octets.now }
+    ensures { IfOk result (λ facts. AreFacts octets.now (map fact_view facts.items)) }
 {
     match extensions_in(octets) {
-        Some(elements) => facts_among(alloc, &elements),
+        Some(elements) => facts_among(alloc, cert.as_tbs(), &elements),
         None => Ok(Vec::new(alloc)),
     }
 }
 
-/// Returns what the certificate that a file begins with says beside the fields that readers keep: its
-/// extensions of unknown kinds, and the statement of practices, in the order of the extensions.
-/// Takes time linear in the octets. Errs where memory runs out.
+/// Returns what the certificate that a file begins with says beside the fields that readers keep:
+/// its extensions of unknown kinds, the statement of practices, URIs beside the one that is kept of
+/// a kind, and unknown methods of access, in the order of the extensions. Takes time linear in the
+/// octets. Errs where memory runs out.
 pub fn facts_of<'a>(alloc: Global, object: &'a Object<'_>) -> Result<Vec<Fact<'a>>, AllocError>
     ensures { (c : CertFields) → Means IsCertificate c object.now.octets
         → IfOk result (λ facts. AreFacts object.now.octets (map fact_view facts.items)) }
 {
-    facts_within(alloc, object.octets())
+    match object.certificate() {
+        Some((cert, _)) => facts_within(alloc, object.octets(), cert),
+        None => Ok(Vec::new(alloc)),
+    }
 }

@@ -3,9 +3,11 @@
 #![tactic(auto)]
 
 mod canonical;
+mod contents;
 mod fact;
 mod facts;
 mod finding;
+mod further;
 mod note;
 mod noting;
 

@@ -17,6 +17,14 @@ fn word_of(kind: FactKind) -> &'static str
     match kind {
         FactKind::UnknownExtension => "unknown_extension",
         FactKind::PracticeStatement => "practice_statement",
+        FactKind::FurtherList => "further_crl",
+        FactKind::FurtherIssuer => "further_aia",
+        FactKind::FurtherRepository => "further_carepository",
+        FactKind::FurtherManifest => "further_manifest",
+        FactKind::FurtherObject => "further_signed_object",
+        FactKind::FurtherNotify => "further_notify_url",
+        FactKind::UnknownMethod => "unknown_access_method",
+        FactKind::MethodUri => "method_uri",
     }
 }
 

@@ -8,15 +8,15 @@ use Rattle.rpki_notes.proofs.facts.facts_among.Goals as goal
 
 pub returns-in-Err : goal.returns-in-Err
 returns-in-Err c xs are =
-    rest_gathered (remaining c.args.elements.now) (remaining c.loop-rest.rest) (map fact_view c.loop-rest.facts.items) c.loop-rest.invariant xs are c.in-Err.ensures.answers.encoded.1
+    rest_gathered c.args.tbs.now.extensions (remaining c.args.elements.now) (remaining c.loop-rest.rest) (map fact_view c.loop-rest.facts.items) c.loop-rest.invariant xs are c.in-Err.ensures.answers.encoded.1
 
 pub loop-rest-smaller : goal.loop-rest-smaller
 loop-rest-smaller c = extension_shrinks (remaining c.loop-rest.rest) (extension_view c.in-Ok.extension) (remaining c.take_extension.new.cursor) c.in-Ok.ensures.answers.reads
 
 pub loop-rest-preserved : goal.loop-rest-preserved
 loop-rest-preserved c =
-    one_gathered (remaining c.args.elements.now) (remaining c.loop-rest.rest) (map fact_view c.loop-rest.facts.items) c.loop-rest.invariant (extension_view c.in-Ok.extension) (remaining c.take_extension.new.cursor) c.in-Ok.ensures.answers.reads _ c.in_ok-put_fact.ensures
+    one_gathered c.args.tbs.now.extensions (remaining c.args.elements.now) (remaining c.loop-rest.rest) (map fact_view c.loop-rest.facts.items) c.loop-rest.invariant (extension_view c.in-Ok.extension) (remaining c.take_extension.new.cursor) c.in-Ok.ensures.answers.reads _ c.in_ok-put_extension.ensures
 
 pub returns : goal.returns
 returns c xs are =
-    all_gathered (remaining c.args.elements.now) (remaining c.loop-rest.rest) (map fact_view c.loop-rest.facts.items) c.loop-rest.invariant xs are (c.loop-rest-test.ensures.0 refl)
+    all_gathered c.args.tbs.now.extensions (remaining c.args.elements.now) (remaining c.loop-rest.rest) (map fact_view c.loop-rest.facts.items) c.loop-rest.invariant xs are (c.loop-rest-test.ensures.0 refl)

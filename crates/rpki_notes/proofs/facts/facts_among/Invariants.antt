@@ -5,7 +5,7 @@ use Rattle.rpki_notes.proofs.Gathered.{IsGathered}
 use Rattle.rpki_notes.proofs.facts.facts_among.Given as goal
 
 abbrev pub invariant-loop-rest : goal.invariant-loop-rest
-invariant-loop-rest l = IsGathered (remaining l.elements) (remaining l.rest) (map fact_view l.facts.items)
+invariant-loop-rest l = IsGathered l.tbs.extensions (remaining l.elements) (remaining l.rest) (map fact_view l.facts.items)
 
 abbrev pub decreases-loop-rest : goal.decreases-loop-rest
 decreases-loop-rest l = length (remaining l.rest)

@@ -1,4 +1,10 @@
+use Rattle.std.specs.Prelude.{ℕ, List}
+use Rattle.rpki.specs.Certificates.{CertFields, IsCertificate}
+use Rattle.rpki.specs.Encoding.{Means}
 use Rattle.rpki_notes.proofs.facts.facts_of.Goals as goal
 
-pub returns : goal.returns
-returns c = rw c.octets.ensures at c.facts_within.ensures
+never : (octets : List ℕ) → ((c : CertFields) → Means IsCertificate c octets → ⊥) → (c : CertFields) → Means IsCertificate c octets → ⊥
+never octets none = none
+
+pub returns-in-None : goal.returns-in-None
+returns-in-None c cert m = absurd (never c.args.object.now.octets (rw c.in-None.is at c.certificate.ensures) cert m)
