@@ -8,6 +8,14 @@
     for network in held.ipv4:
         print(network)
 
+A single certificate or list is read alone, and nothing of it is judged then:
+
+    from rpki import Certificate, RevocationList
+
+    cert = Certificate(open("ca.cer", "rb").read())
+    revoked = RevocationList(open("anchor.crl", "rb").read())
+    print(cert.serial_number, cert.not_after, cert.uris.get("manifest"), cert in revoked)
+
 What is judged is proved: the library below, librpki.so, accepts a path exactly where it is valid by
 the standards' definitions. This package only moves values into it and out of it, and is tested.
 """
@@ -293,22 +301,27 @@ class Certificate:
 
     @property
     def serial_number(self) -> int:
+        """The serial number."""
         return int.from_bytes(bytes(self._read.serial), "big")
 
     @property
     def not_before(self) -> datetime:
+        """The first second at which it is valid, in UTC."""
         return _moment(self._read.not_before)
 
     @property
     def not_after(self) -> datetime:
+        """The last second at which it is valid, in UTC."""
         return _moment(self._read.not_after)
 
     @property
     def subject_key_identifier(self) -> bytes:
+        """The identifier of its key."""
         return bytes(self._read.subject_key)
 
     @property
     def authority_key_identifier(self) -> bytes | None:
+        """The identifier of its issuer's key, or None."""
         return bytes(self._read.authority_key) if self._read.has_authority_key else None
 
     @property
@@ -390,7 +403,8 @@ class Entry:
 
 
 class RevocationList:
-    """A revocation list, read from DER. What follows it in the octets is ignored.
+    """A revocation list, read from DER. What follows it in the octets is ignored. It has a length;
+    iterating gives its entries; `in` tells whether a serial number, or a certificate's, is on it.
 
     Raises DecodeFault where the octets begin with none.
     """
@@ -408,18 +422,22 @@ class RevocationList:
 
     @property
     def number(self) -> int:
+        """The CRL number."""
         return int.from_bytes(bytes(self._read.number), "big")
 
     @property
     def this_update(self) -> datetime:
+        """When it was issued, in UTC."""
         return _moment(self._read.this_update)
 
     @property
     def next_update(self) -> datetime:
+        """Until when the next one is issued, in UTC."""
         return _moment(self._read.next_update)
 
     @property
     def authority_key_identifier(self) -> bytes:
+        """The identifier of its issuer's key."""
         return bytes(self._read.authority_key)
 
     @cached_property

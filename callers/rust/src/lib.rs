@@ -135,6 +135,14 @@ fn as_numbers(ranges: Vec<sys::AsRange>) -> AsRanges {
 }
 
 /// A resource certificate, read from DER.
+///
+/// ```no_run
+/// # fn main() -> Result<(), Box<dyn std::error::Error>> {
+/// let cert = gonxebhula::Certificate::read(&std::fs::read("ca.cer")?)?;
+/// println!("valid until {}", cert.not_after());
+/// # Ok(())
+/// # }
+/// ```
 #[derive(Clone, Debug)]
 pub struct Certificate {
     octets: Vec<u8>,
