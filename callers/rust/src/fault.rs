@@ -36,7 +36,7 @@ pub enum Place {
 }
 
 /// Why something is rejected.
-#[derive(Clone, Copy, Debug, PartialEq, Eq, Hash)]
+#[derive(Clone, Copy, PartialEq, Eq, Hash)]
 pub struct Fault {
     number: u32,
     place: Option<Place>,
@@ -105,6 +105,17 @@ impl Fault {
 /// A text of the library's, which has one for each number that it answers.
 fn text(octets: Result<Vec<u8>, u32>) -> String {
     String::from_utf8_lossy(&octets.unwrap_or_default()).into_owned()
+}
+
+/// What a `main` prints that ends with a fault, so with its name.
+impl fmt::Debug for Fault {
+    fn fmt(&self, f: &mut fmt::Formatter<'_>) -> fmt::Result {
+        f.debug_struct("Fault")
+            .field("number", &self.number)
+            .field("name", &self.name())
+            .field("place", &self.place)
+            .finish()
+    }
 }
 
 impl fmt::Display for Fault {

@@ -95,6 +95,11 @@ fn other_octets_are_rejected() {
     assert_eq!((fault.kind(), fault.place()), (FaultKind::Decode, None));
     let fault = RevocationList::read(b"").unwrap_err();
     assert_eq!(fault.name(), "Truncated");
+    let shown = format!("{fault:?}");
+    assert_eq!(
+        shown,
+        r#"Fault { number: 100, name: "Truncated", place: None }"#
+    );
     let ee = Certificate::read(&octets("object.cer")).unwrap();
     assert!(ee.inspect(Kind::EndEntity, true).is_ok());
     let fault = ee.inspect(Kind::Authority, true).unwrap_err();
