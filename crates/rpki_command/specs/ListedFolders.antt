@@ -12,9 +12,10 @@ use Rattle.rpki_arguments.specs.declared.arguments.Task.TheVariants.{Tree}
 
 -- ---- a folder
 
--- what listing the folder of a name gives: the names of what is in it, as they are opened, in any
--- order, of which those of folders end in `/`; or nothing, since the name is no folder's, or the folder
--- can't be listed
+-- what listing the folder of a name gives: the names of the files, folders and links in it, as they
+-- are opened, in any order, of which those of folders end in `/`; or nothing, since the name is no
+-- folder's, or the folder can't be listed. A pipe, a socket, a device or a link to one isn't opened,
+-- and has no name there
 abbrev pub Lists : Type 1
 Lists = List ℕ → Option (List (List ℕ)) → Type 0
 
