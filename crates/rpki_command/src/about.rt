@@ -7,13 +7,14 @@ use rpki_arguments::Task;
 
 const USAGE: &str = "usage: rpki show [--all] [OPTION].. FILE..
        rpki validate [--tal FILE].. [--crl FILE].. [--no-names] [OPTION].. ANCHOR [CA].. [LAST]
-       rpki tree --tal FILE.. [OPTION].. FILE..
+       rpki tree --tal FILE.. [OPTION].. FILE|FOLDER..
        rpki help | --version
 OPTION: -o|--output FORMAT, -j|--json (-o json), -q|--quiet (the status alone), --at MOMENT,
 --lenient, or --max-size OCTETS (of a file; 67108864 if it is left out)
 FORMAT: text, json, or jsonl (a value on each line)
 FILE: a certificate or a revocation list, in DER or PEM; of show and --tal also a trust anchor's
 locator; - for standard input
+FOLDER: the files in it and below it that end in .cer or .crl
 LAST: a CA, an end entity or a router
 MOMENT: YYYY-MM-DD, YYYY-MM-DDThh:mm:ssZ or YYYYMMDDhhmmss; the clock's, if it is left out
 Behind -- each word is a file.
