@@ -5,7 +5,7 @@ _rpki() {
     case ${COMP_WORDS[1]} in
         show) options='--output --json --quiet --all --at --lenient --max-size --help' ;;
         validate) options='--output --json --quiet --tal --crl --no-names --at --lenient --max-size --help' ;;
-        tree) options='--quiet --tal --at --lenient --max-size --help' ;;
+        tree) options='--output --json --quiet --tal --at --lenient --max-size --help' ;;
     esac
     if ((COMP_CWORD == 1)); then
         mapfile -t COMPREPLY < <(compgen -W 'show validate tree help --version --help' -- "$word")

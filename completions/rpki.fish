@@ -3,7 +3,6 @@ set -l first 'not __fish_seen_subcommand_from show validate tree help'
 set -l show '__fish_seen_subcommand_from show'
 set -l validate '__fish_seen_subcommand_from validate'
 set -l tree '__fish_seen_subcommand_from tree'
-set -l both '__fish_seen_subcommand_from show validate'
 set -l each '__fish_seen_subcommand_from show validate tree'
 
 complete -c rpki -n $first -f
@@ -15,8 +14,8 @@ complete -c rpki -n $first -a help -d 'Print the commands'
 complete -c rpki -n $first -s V -l version -d 'Print the version'
 complete -c rpki -s h -l help -d 'Print the commands'
 
-complete -c rpki -n $both -s o -l output -x -a 'text json jsonl' -d 'Print the answer in this format'
-complete -c rpki -n $both -s j -l json -d 'Print JSON'
+complete -c rpki -n $each -s o -l output -x -a 'text json jsonl' -d 'Print the answer in this format'
+complete -c rpki -n $each -s j -l json -d 'Print JSON'
 complete -c rpki -n $each -s q -l quiet -d 'Print nothing, and end with the status'
 complete -c rpki -n $each -l at -x -d 'Judge at this moment (YYYY-MM-DD)'
 complete -c rpki -n $each -l lenient -d 'Let any string type stand in names'

@@ -142,7 +142,7 @@ AsksNoPath r = (r.lists ≡ []) × (r.locators ≡ []) × (r.names ≡ true)
 -- what a tree wants: locators, and no option that it doesn't take
 abbrev pub AsksTree : RequestFields → Type 0
 AsksTree r =
-    (r.lists ≡ []) × (r.names ≡ true) × (r.all_entries ≡ false) × (r.format ≡ Text) × (r.locators ≢ [])
+    (r.lists ≡ []) × (r.names ≡ true) × (r.all_entries ≡ false) × (r.locators ≢ [])
 
 -- what the task wants: files, and no option that only another task takes
 abbrev pub Suits : Task → RequestFields → Type 0

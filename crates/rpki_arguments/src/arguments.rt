@@ -440,9 +440,6 @@ fn misuse_of_tree(request: &Request<'_>) -> Option<Misuse<'static>>
     if request.all {
         return Some(Misuse::Unknown(b"--all".as_slice()));
     }
-    if request.format != Format::Text {
-        return Some(Misuse::Unknown(b"--json".as_slice()));
-    }
     if request.locators.is_empty() {
         return Some(Misuse::NoLocator);
     }

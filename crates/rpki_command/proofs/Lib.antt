@@ -14,6 +14,7 @@ mod ShownValues
 mod SingleOutcomes
 mod WholeFiles
 mod WholeSources
+mod WholeTrees
 mod WholeValues
 mod WholeVerdicts
 mod WrittenTexts

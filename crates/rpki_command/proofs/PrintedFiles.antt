@@ -2,27 +2,20 @@
 use Rattle.std.specs.Option.{option_map}
 use Rattle.std.specs.Prelude.{codes, Option, None, slice_get, unwrap_or}
 use Rattle.std.proofs.Common.{◌≡◌, ◌+◌, ◌<◌, ℕ, List, [], ◌∷◌, ◌++◌, length, map, take, get_or, refl, sym, ap, subst, ◌∙◌, inl, append_assoc}
-use Rattle.std.proofs.lemmas.List.{append-nil, take_more}
+use Rattle.std.proofs.lemmas.List.{take_more}
 use Rattle.std.proofs.lemmas.Option.{slice_get-map}
 use Rattle.rpki_files.specs.Files.{FileFields}
 use Rattle.rpki_text.specs.Pages.{Appends, AppendsSome, file_name_text, line_feed}
 use Rattle.rpki_verdicts.specs.declared.unordered.Tree.{Tree}
 use Rattle.rpki_command.specs.TreeTexts.{AreFileLines, IsFileLine, name_text_at}
-use Rattle.rpki_command.proofs.AppendedTexts.{both_appended, nothing_more, such_appended, then_appended}
-
--- a further file
-lines_more : (tree : Tree) (from mid last : ℕ) (files : List FileFields) (so_far : List ℕ) → AreFileLines tree from mid files so_far → (file : FileFields) (text : List ℕ) → IsFileLine tree mid last file text → AreFileLines tree from last (files ++ file ∷ []) (so_far ++ text)
-lines_more tree from mid last [] so_far is file text line =
-    (last, text, [], subst (λ (p : ℕ). IsFileLine tree p last file text) is.1 line, (refl, refl), ap (λ (l : List ℕ). l ++ text) is.0 ∙ sym (append-nil text))
-lines_more tree from mid last (f ∷ fs) so_far is file text line =
-    (is.0, is.1, is.2 ++ text, is.3, lines_more tree is.0 mid last fs is.2 is.4 file text line, ap (λ (l : List ℕ). l ++ text) is.5 ∙ append_assoc is.1 is.2 text)
+use Rattle.rpki_command.proofs.AppendedTexts.{both_appended, nothing_more, order_more, such_appended, then_appended}
 
 -- after one more
 pub next_line : (tree : Tree) (files : List FileFields) (i mid last : ℕ) (file : FileFields) (old page new : Option (List ℕ)) → i < length files → file ≡ get_or files i file → AppendsSome (AreFileLines tree 0 mid (take i files)) old page → AppendsSome (IsFileLine tree mid last file) page new → AppendsSome (AreFileLines tree 0 last (take (i + 1) files)) old new
 next_line tree files i mid last file old page new low there so_far one =
     let more : take (i + 1) files ≡ take i files ++ file ∷ [] = take_more files i file low ∙ ap (λ (y : FileFields). take i files ++ y ∷ []) (sym there) in
     subst (λ (l : List FileFields). AppendsSome (AreFileLines tree 0 last l) old new) (sym more)
-    (both_appended (AreFileLines tree 0 mid (take i files)) (IsFileLine tree mid last file) (AreFileLines tree 0 last (take i files ++ file ∷ [])) old page new (λ a b is line. lines_more tree 0 mid last (take i files) a is file b line) so_far one)
+    (both_appended (AreFileLines tree 0 mid (take i files)) (IsFileLine tree mid last file) (AreFileLines tree 0 last (take i files ++ file ∷ [])) old page new (λ a b is line. order_more (IsFileLine tree) 0 mid last (take i files) a is file b line) so_far one)
 
 -- a name, what is said, and the end of the line
 pub line_printed : (name : List ℕ) (Says : List ℕ → Type 0) (old a b c new : Option (List ℕ)) → Appends old name a → Appends a (codes ": ") b → AppendsSome Says b c → Appends c line_feed new → AppendsSome (λ text. (said : List ℕ) × Says said × (text ≡ name ++ (codes ": " ++ (said ++ line_feed)))) old new

@@ -103,7 +103,7 @@ unfolding fault_json
 fault_whole members fault details =
     object_whole _ (then_whole _ _ _ refl (both_whole _ _ (text_if_any_whole _ _) (then_whole _ _ _ refl (then_whole _ _ _ refl (then_whole _ _ _ refl (then_whole _ _ _ refl (both_whole _ _ (details_whole details) none_whole)))))))
 
-no_locator_whole : (fault : Fault) → IsWhole (no_locator_json fault)
+pub no_locator_whole : (fault : Fault) → IsWhole (no_locator_json fault)
 unfolding no_locator_json
 no_locator_whole fault =
     object_whole _ (then_whole _ _ _ refl (then_whole _ _ _ refl (then_whole _ _ _ refl (then_whole _ _ _ refl none_whole))))
@@ -135,7 +135,7 @@ unfolding AllWhole
 no_locator_names_whole name (Ok tal) = tt
 no_locator_names_whole name (Err error) = (refl, tt)
 
-no_locators_whole : (locators : List LocatorFields) → AllWhole (flat_map (λ l. no_locator_items l.file.name l.read) locators)
+pub no_locators_whole : (locators : List LocatorFields) → AllWhole (flat_map (λ l. no_locator_items l.file.name l.read) locators)
 unfolding AllWhole
 no_locators_whole [] = tt
 no_locators_whole (l ∷ ls) = all_append IsWhole (no_locator_items l.file.name l.read) (flat_map (λ l. no_locator_items l.file.name l.read) ls) (no_locator_names_whole l.file.name l.read) (no_locators_whole ls)

@@ -7,19 +7,21 @@ use Rattle.rpki_arguments.specs.CommandLines.{RequestFields}
 use Rattle.rpki_files.specs.Files.{FileFields}
 use Rattle.rpki_verdicts.specs.GivenLocators.{LocatorFields}
 use Rattle.rpki_verdicts.specs.PathFiles.{QuestionFields}
-use Rattle.rpki_verdicts.specs.Trees.{TreeFields, IsAccepting, IsTreeAnswer}
-use Rattle.rpki_verdicts.specs.declared.unordered.TreeAnswer.{TreeAnswer}
+use Rattle.rpki_verdicts.specs.Trees.{TreeFields}
 use Rattle.rpki_command.specs.JsonAnswers.{IsJsonOfFiles, is_single}
+use Rattle.rpki_command.specs.JsonTrees.{IsTreeJson}
 use Rattle.rpki_command.specs.JsonVerdicts.{IsJsonOfPath}
 use Rattle.rpki_command.specs.ShownTexts.{IsTextOfFiles}
-use Rattle.rpki_command.specs.TreeTexts.{IsAnswerText}
+use Rattle.rpki_command.specs.TreeTexts.{IsAcceptingFinding, IsTreeFinding, IsTreeText}
 use Rattle.rpki_command.specs.VerdictTexts.{IsTextOfPath}
+use Rattle.rpki_arguments.specs.declared.arguments.Format.{Format}
 use Rattle.rpki_arguments.specs.declared.arguments.Format.TheVariants.{Text}
 use Rattle.rpki_arguments.specs.declared.arguments.Task.{Task}
 use Rattle.rpki_arguments.specs.declared.arguments.Task.TheVariants.{Show, Validate, Tree}
 use Rattle.rpki_command.specs.declared.outcomes.Outcome.{Outcome}
 use Rattle.rpki_command.specs.declared.outcomes.Outcome.TheVariants.{Success, Rejection, Unread}
 use Rattle.rpki_command.specs.declared.showing.Options.{Options}
+use Rattle.rpki_command.specs.declared.trees.TreeFinding.{TreeFinding}
 
 -- how a request has files shown at a moment
 abbrev pub options_of : RequestFields → Moment → Options
@@ -38,13 +40,20 @@ abbrev pub tree_question_of : RequestFields → Moment → List FileFields → L
 tree_question_of r now files locators =
     record { files = files; locators = locators; strict = r.strict; at = now; depth = 32; steps = min (length files * 64) (2 ^ 64 - 1) }
 
--- what is said of files in no order is that of an answer, and the run ends so: as success only where
--- that accepts, and as rejection only where it doesn't
-abbrev pub IsTreeBy : TreeFields → Outcome → List ℕ → Type 0
-IsTreeBy q outcome text =
-    (answer : TreeAnswer) × IsTreeAnswer (context IsSignedByRsa q.at q.strict) q answer
-    × IsAnswerText q answer text × (outcome ≡ Success → IsAccepting answer)
-    × (outcome ≡ Rejection → IsAccepting answer → ⊥)
+-- what is said of files in no order is this of what is found, and the run ends so: as success only where
+-- all are accepted, and as rejection only where they aren't
+abbrev pub IsTreeBy : (TreeFinding → List ℕ → Type 0) → TreeFields → Outcome → List ℕ → Type 0
+IsTreeBy Says q outcome text =
+    (finding : TreeFinding) × IsTreeFinding (context IsSignedByRsa q.at q.strict) q finding
+    × Says finding text × (outcome ≡ Success → IsAcceptingFinding finding)
+    × (outcome ≡ Rejection → IsAcceptingFinding finding → ⊥)
+
+-- as lines, and in a format of JSON
+abbrev pub IsTreeTextBy : TreeFields → Outcome → List ℕ → Type 0
+IsTreeTextBy q outcome text = IsTreeBy (IsTreeText q) q outcome text
+
+abbrev pub IsTreeJsonBy : Format → TreeFields → Outcome → List ℕ → Type 0
+IsTreeJsonBy format q outcome text = IsTreeBy (IsTreeJson format q) q outcome text
 
 -- the text for a person of a run with this task that ends so, of which these files, lists and locators
 -- could be read: `show` shows them, and `validate` judges nothing where another couldn't be read
@@ -55,10 +64,10 @@ IsTextBy Validate Unread r now files lists locators text = text ≡ []
 IsTextBy Validate outcome r now files lists locators text =
     IsTextOfPath (context IsSignedByRsa now r.strict) (question_of r now files lists locators) text
 IsTextBy Tree outcome r now files lists locators text =
-    IsTreeBy (tree_question_of r now files locators) outcome text
+    IsTreeTextBy (tree_question_of r now files locators) outcome text
 IsTextBy _ outcome r now files lists locators text = ⊥
 
--- its JSON, in the format that is asked; a tree has none, and stays lines
+-- its JSON, in the format that is asked
 abbrev pub IsJsonBy : Task → Outcome → RequestFields → Moment → List FileFields → List FileFields
     → List LocatorFields → List ℕ → Type 0
 IsJsonBy Show outcome r now files lists locators text =
@@ -67,7 +76,7 @@ IsJsonBy Validate Unread r now files lists locators text = text ≡ []
 IsJsonBy Validate outcome r now files lists locators text =
     IsJsonOfPath r.format (context IsSignedByRsa now r.strict) (question_of r now files lists locators) text
 IsJsonBy Tree outcome r now files lists locators text =
-    IsTreeBy (tree_question_of r now files locators) outcome text
+    IsTreeJsonBy r.format (tree_question_of r now files locators) outcome text
 IsJsonBy _ outcome r now files lists locators text = ⊥
 
 -- a run with this outcome has some text in its format; a quiet one has it too, and doesn't write it

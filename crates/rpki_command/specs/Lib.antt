@@ -17,6 +17,7 @@ pub mod JsonFiles
 pub mod JsonTexts
 pub mod JsonDetails
 pub mod JsonVerdicts
+pub mod JsonTrees
 pub mod JsonAnswers
 pub mod AnswerTexts
 pub mod Runs

@@ -1,8 +1,9 @@
--- What is printed of files in no order: a line for each, and how the walk ended (own).
+-- What is found of files in no order, and what is printed of it: a line for each file, and how the walk
+-- ended (own).
 use Rattle.std.specs.Fmt.{decimal}
 use Rattle.std.specs.List.{concat, flat_map}
 use Rattle.std.specs.Option.{option_map}
-use Rattle.std.specs.Prelude.{◌≡◌, ◌==◌, ◌+◌, ◌⊎◌, ℕ, List, [], ◌∷◌, ◌++◌, length, codes, slice_get, unwrap_or, Option, None, Some, MatchOption}
+use Rattle.std.specs.Prelude.{◌≡◌, ◌==◌, ◌+◌, ◌⊎◌, ℕ, All, List, [], ◌∷◌, ◌++◌, length, codes, slice_get, unwrap_or, Option, None, Some, MatchOption}
 use Rattle.std.specs.Bool.{MatchBool}
 use Rattle.rpki.specs.Ended.{Ended}
 use Rattle.rpki.specs.Ended.TheVariants.{Whole, TooDeep, OutOfSteps}
@@ -13,14 +14,18 @@ use Rattle.rpki.specs.Verification.{Context}
 use Rattle.rpki_files.specs.Contents.{BeginsWithCertificate, BeginsWithEither, BeginsWithList}
 use Rattle.rpki_files.specs.FaultRules.{ReasonFields, IsReason}
 use Rattle.rpki_files.specs.Files.{FileFields}
+use Rattle.rpki_files.specs.LocatorFiles.{AreLocator}
 use Rattle.rpki_text.specs.Pages.{file_name_text, line_feed, line as label_line}
-use Rattle.rpki_verdicts.specs.PathAnswers.{reason_of}
-use Rattle.rpki_verdicts.specs.Trees.{TreeFields, IsTreeAnswer, accepted_count, certs_of}
+use Rattle.rpki_verdicts.specs.GivenLocators.{locator_octets}
+use Rattle.rpki_verdicts.specs.PathAnswers.{IsNoLocator, reason_of}
+use Rattle.rpki_verdicts.specs.Trees.{TreeFields, IsAccepting, IsTreeAnswer, accepted_count, certs_of}
 use Rattle.rpki_verdicts.specs.declared.path.Fault.{Fault}
 use Rattle.rpki_verdicts.specs.declared.unordered.Tree.{Tree}
 use Rattle.rpki_verdicts.specs.declared.unordered.TreeAnswer.{TreeAnswer}
 use Rattle.rpki_verdicts.specs.declared.unordered.TreeAnswer.TheVariants.{NoAnchor, WrongAnchor, Walked}
-use Rattle.rpki_command.specs.VerdictTexts.{moment_line}
+use Rattle.rpki_command.specs.VerdictTexts.{locators_text, moment_line, no_locator_text}
+use Rattle.rpki_command.specs.declared.trees.TreeFinding.{TreeFinding}
+use Rattle.rpki_command.specs.declared.trees.TreeFinding.TheVariants.{NotALocator, Answered}
 
 -- ---- a certificate
 
@@ -72,12 +77,17 @@ abbrev pub IsFileLine : Tree → ℕ → ℕ → FileFields → List ℕ → Typ
 IsFileLine tree place next file text =
     (said : List ℕ) × SaysOfFile tree place next file said × (text ≡ file_line file.name said)
 
--- the lines of files, one after the other, with the places before and behind them
+-- what is said of files, one after the other, with the places before and behind each
+abbrev pub SaysInOrder : {X : Type 0} → (ℕ → ℕ → FileFields → List X → Type 0) → ℕ → ℕ → List FileFields
+    → List X → Type 0
+SaysInOrder Says place last [] said = (said ≡ []) × (last ≡ place)
+SaysInOrder {X} Says place last (file ∷ files) said =
+    (next : ℕ) × (first : List X) × (more : List X) × Says place next file first
+    × SaysInOrder Says next last files more × (said ≡ first ++ more)
+
+-- their lines
 abbrev pub AreFileLines : Tree → ℕ → ℕ → List FileFields → List ℕ → Type 0
-AreFileLines tree place last [] text = (text ≡ []) × (last ≡ place)
-AreFileLines tree place last (file ∷ files) text =
-    (next : ℕ) × (first : List ℕ) × (more : List ℕ) × IsFileLine tree place next file first
-    × AreFileLines tree next last files more × (text ≡ first ++ more)
+AreFileLines tree place last files text = SaysInOrder (IsFileLine tree) place last files text
 
 -- ---- the whole
 
@@ -112,7 +122,20 @@ IsAnswerText q (Walked tree) text =
     (last : ℕ) × (lines : List ℕ) × AreFileLines tree 0 last q.files lines
     × (text ≡ lines ++ end_text q.at tree)
 
--- the text of the files
-abbrev pub IsTextOfTree : Context → TreeFields → List ℕ → Type 0
-IsTextOfTree x q text =
-    (answer : TreeAnswer) × IsTreeAnswer x q answer × IsAnswerText q answer text
+-- ---- what is found
+
+-- what is found of the files: where one that is given as a locator is none, that alone; else the answer
+abbrev pub IsTreeFinding : Context → TreeFields → TreeFinding → Type 0
+IsTreeFinding x q (NotALocator fault) = IsNoLocator q.strict (locator_octets q.locators) fault
+IsTreeFinding x q (Answered answer) = All (AreLocator q.strict) (locator_octets q.locators) × IsTreeAnswer x q answer
+
+-- all certificates but the trust anchor are accepted
+abbrev pub IsAcceptingFinding : TreeFinding → Type 0
+IsAcceptingFinding (NotALocator fault) = ⊥
+IsAcceptingFinding (Answered answer) = IsAccepting answer
+
+-- what is said of it: of a file that is no locator what `validate` says of it
+abbrev pub IsTreeText : TreeFields → TreeFinding → List ℕ → Type 0
+IsTreeText q (NotALocator fault) text =
+    text ≡ locators_text q.locators ++ (moment_line q.at ++ no_locator_text fault)
+IsTreeText q (Answered answer) text = IsAnswerText q answer text

@@ -1,14 +1,14 @@
 //! What is answered of files.
-ghost use Rattle.std.specs.Prelude.{◌≡◌, ◌≢◌, ◌↔◌, [], map, IfOk, IsFalse, IsTrue, string_bytes};
+ghost use Rattle.std.specs.Prelude.{◌≡◌, ◌≢◌, ◌↔◌, [], All, map, IfOk, IsFalse, IsTrue, string_bytes};
 ghost use Rattle.std.specs.Bool.{MatchBool};
-ghost use Rattle.rpki_command.specs.AnswerTexts.{HasText, IsJsonBy, IsTextBy, IsTreeBy, options_of, tree_question_of};
+ghost use Rattle.rpki_command.specs.AnswerTexts.{HasText, IsJsonBy, IsTextBy, IsTreeJsonBy, IsTreeTextBy, options_of, tree_question_of};
 ghost use Rattle.rpki_arguments.specs.CommandLines.Views.{fields_of};
 ghost use Rattle.rpki_command.specs.JsonAnswers.{IsJsonOfFiles, is_single};
 ghost use Rattle.rpki_command.specs.Outcomes.{IsOutcomeOfTree, AreAllRead, AsksOfFiles, EndsBy, IsOutcomeOfShow};
 ghost use Rattle.rpki_command.specs.ReadFiles.{AreGiven, AreNamed};
 ghost use Rattle.rpki_command.specs.ShownTexts.{IsTextOfFiles};
 ghost use Rattle.rpki_files.specs.Files.{contents, file_names};
-ghost use Rattle.rpki_verdicts.specs.GivenLocators.{locator_files};
+ghost use Rattle.rpki_verdicts.specs.GivenLocators.{IsRead, locator_files};
 
 use crate::as_json;
 use crate::outcomes::{Answer, Outcome};
@@ -151,10 +151,15 @@ fn tree(
     locators: &[GivenLocator<'_>],
     are_all_read: bool,
 ) -> Result<Answer, AllocError>
-    ensures { let q = tree_question_of (fields_of request.now) now files.now locators.now in
-        IfOk result (λ answer. IsTreeBy q answer.outcome (string_bytes answer.text)
-        × MatchBool are_all_read (IsOutcomeOfTree answer.outcome)
-        (answer.outcome ≡ Outcome.Unread)) }
+    requires { All (IsRead request.now.strict) locators.now }
+    ensures outcome { IfOk result (λ answer. MatchBool are_all_read
+        (IsOutcomeOfTree answer.outcome) (answer.outcome ≡ Outcome.Unread)) }
+    ensures text { let q = tree_question_of (fields_of request.now) now files.now locators.now in
+        request.now.format ≡ Format.Text
+        → IfOk result (λ answer. IsTreeTextBy q answer.outcome (string_bytes answer.text)) }
+    ensures json { let q = tree_question_of (fields_of request.now) now files.now locators.now in
+        let format = request.now.format in format ≢ Format.Text
+        → IfOk result (λ answer. IsTreeJsonBy format q answer.outcome (string_bytes answer.text)) }
 {
     let question = TreeQuestion {
         files,
@@ -164,7 +169,7 @@ fn tree(
         depth: DEPTH,
         steps: files.len().saturating_mul(STEPS),
     };
-    let answer = treed(alloc, &question)?;
+    let answer = treed(alloc, &question, request.format)?;
     Ok(if_read(answer, are_all_read))
 }
 

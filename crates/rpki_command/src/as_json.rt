@@ -16,6 +16,7 @@ mod key;
 mod notes;
 mod objects;
 mod texts;
+mod trees;
 mod verdicts;
 
 use crate::showing::{Rejection, Remarks};
@@ -38,6 +39,7 @@ use rpki_text::keys::{KeyAnswer, answer_of_locator};
 use serde_json::Value;
 use std::alloc::{AllocError, Global};
 pub use texts::value_text;
+pub use trees::tree;
 pub use verdicts::path;
 
 /// A file that is shown: its name, its octets in DER, and how many of them stand behind its object.

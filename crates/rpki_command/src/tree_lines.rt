@@ -6,9 +6,11 @@ ghost use Rattle.std.specs.Fmt.{decimal};
 ghost use Rattle.rpki_verdicts.specs.PathAnswers.{reason_of};
 ghost use Rattle.rpki_verdicts.specs.Trees.{asked_of};
 ghost use Rattle.rpki_verdicts.specs.declared.unordered.TreeAnswer.TheVariants.{Walked};
-ghost use Rattle.rpki_command.specs.TreeTexts.{AreFileLines, IsAnswerText, IsFileLine, SaysOfCertificate, SaysOfFile, SaysOfLine, accepted_text, end_text, ended_text, file_line, further_text, name_text_at, rejection_text};
+ghost use Rattle.rpki_command.specs.TreeTexts.{AreFileLines, IsAnswerText, IsFileLine, IsTreeText, SaysOfCertificate, SaysOfFile, SaysOfLine, accepted_text, end_text, ended_text, file_line, further_text, name_text_at, rejection_text};
+ghost use Rattle.rpki_command.specs.VerdictTexts.{locators_text, moment_line, no_locator_text};
 
-use crate::verdict_lines::print_moment;
+use crate::trees::TreeFinding;
+use crate::verdict_lines::{print_moment, print_no_locator, print_other_locators};
 use rpki::repository::folder::{Ended, Line};
 use rpki::repository::path::PathFault;
 use rpki::repository::x509::Time;
@@ -217,15 +219,36 @@ fn print_answer(page: &mut Page, question: &TreeQuestion<'_, '_>, answer: &TreeA
     }
 }
 
-/// Writes a line for each file, and how the walk ended; or why there is no trust anchor.
+// The files given as locators that are none, the moment, and what is wrong of the first.
+fn print_unjudged(page: &mut Page, question: &TreeQuestion<'_, '_>, fault: &Fault)
+    ensures { let names = locators_text question.now.locators.now in
+        let why = moment_line question.now.at ++ no_locator_text fault.now in
+        Appends page.old (names ++ why) page.new }
+{
+    print_other_locators(page, question.locators);
+    print_moment(page, question.at);
+    print_no_locator(page, fault);
+}
+
+fn print_finding(page: &mut Page, question: &TreeQuestion<'_, '_>, finding: &TreeFinding<'_, '_>)
+    ensures { AppendsSome (IsTreeText (asked_of question.now) finding.now) page.old page.new }
+{
+    match finding {
+        TreeFinding::NotALocator(fault) => print_unjudged(page, question, fault),
+        TreeFinding::Answered(answer) => print_answer(page, question, answer),
+    }
+}
+
+/// Writes a line for each file, and how the walk ended; or why there is no trust anchor, or what is
+/// wrong of the files given as locators.
 pub fn tree_text(
     alloc: Global,
     question: &TreeQuestion<'_, '_>,
-    answer: &TreeAnswer<'_, '_>,
+    finding: &TreeFinding<'_, '_>,
 ) -> Result<String, AllocError>
-    ensures { IfOk result (λ text. IsAnswerText (asked_of question.now) answer.now (string_bytes text)) }
+    ensures { IfOk result (λ text. IsTreeText (asked_of question.now) finding.now (string_bytes text)) }
 {
     let mut page = Page::new(alloc);
-    print_answer(&mut page, question, answer);
+    print_finding(&mut page, question, finding);
     page.into_text()
 }

@@ -1,37 +1,96 @@
-//! The verdicts on the certificates among files, and how a run ends by them.
-ghost use Rattle.std.specs.Prelude.{◌≡◌, ◌↔◌, IfOk, IsTrue, string_bytes};
+//! The verdicts on the certificates among files, for a person or as JSON, and how a run ends by them.
+ghost use Rattle.std.specs.Prelude.{◌≡◌, ◌≢◌, ◌↔◌, All, IfOk, IsTrue, MatchOption, string_bytes};
 ghost use Rattle.rpki.specs.RsaSignatures.{IsSignedByRsa};
 ghost use Rattle.rpki.specs.Verification.{context};
-ghost use Rattle.rpki_command.specs.AnswerTexts.{IsTreeBy};
+ghost use Rattle.rpki_command.specs.AnswerTexts.{IsTreeJsonBy, IsTreeTextBy};
 ghost use Rattle.rpki_command.specs.Outcomes.{IsOutcomeOfTree};
-ghost use Rattle.rpki_verdicts.specs.Trees.{IsAccepting, asked_of};
+ghost use Rattle.rpki_command.specs.TreeTexts.{IsAcceptingFinding, IsTreeFinding};
+ghost use Rattle.rpki_files.specs.LocatorFiles.{AreLocator};
+ghost use Rattle.rpki_verdicts.specs.GivenLocators.{IsRead, locator_octets};
+ghost use Rattle.rpki_verdicts.specs.PathAnswers.{IsNoLocator};
+ghost use Rattle.rpki_verdicts.specs.Trees.{asked_of};
 
+use crate::as_json;
 use crate::outcomes::{Answer, Outcome};
 use crate::tree_lines::tree_text;
-use rpki_verdicts::{TreeAnswer, TreeQuestion, judge_all};
+use rpki_arguments::Format;
+use rpki_verdicts::{Fault, Question, TreeAnswer, TreeQuestion, first_no_locator, judge_all};
 use std::alloc::{AllocError, Global};
 
-// Whether each certificate but the trust anchor is accepted, and no bound was met.
-fn is_accepting(answer: &TreeAnswer<'_, '_>) -> bool
-    ensures { IsTrue result ↔ IsAccepting answer.now }
+/// What is found of files in no order: that one given as a locator is none, and why, so that nothing is
+/// judged; or the verdicts.
+#[derive(Drop)]
+pub enum TreeFinding<'q, 'n> {
+    NotALocator(Fault),
+    Answered(TreeAnswer<'q, 'n>),
+}
+
+// What is wrong of the first file that is given as a locator and is none.
+fn no_locator_of(question: &TreeQuestion<'_, '_>) -> Option<Fault>
+    requires { All (IsRead question.now.strict) question.now.locators.now }
+    ensures { let files = locator_octets question.now.locators.now in
+        MatchOption result (All (AreLocator question.now.strict) files)
+        (IsNoLocator question.now.strict files) }
 {
-    match answer {
-        TreeAnswer::Walked(tree) => tree.is_accepted(),
-        TreeAnswer::NoAnchor | TreeAnswer::WrongAnchor(..) => false,
+    first_no_locator(&Question {
+        members: &[],
+        lists: &[],
+        locators: question.locators,
+        names: false,
+        strict: question.strict,
+        at: question.at,
+    })
+}
+
+// What is found of the files.
+fn find<'q, 'n>(
+    alloc: Global,
+    question: &TreeQuestion<'q, 'n>,
+) -> Result<TreeFinding<'q, 'n>, AllocError>
+    requires { All (IsRead question.now.strict) question.now.locators.now }
+    ensures { let x = context IsSignedByRsa question.now.at question.now.strict in
+        IfOk result (IsTreeFinding x (asked_of question.now)) }
+{
+    if let Some(fault) = no_locator_of(question) {
+        return Ok(TreeFinding::NotALocator(fault));
+    }
+    let answer = judge_all(alloc, question)?;
+    Ok(TreeFinding::Answered(answer))
+}
+
+// Whether each certificate but the trust anchor is accepted, and no bound was met.
+fn is_accepting(finding: &TreeFinding<'_, '_>) -> bool
+    ensures { IsTrue result ↔ IsAcceptingFinding finding.now }
+{
+    match finding {
+        TreeFinding::Answered(TreeAnswer::Walked(tree)) => tree.is_accepted(),
+        TreeFinding::Answered(_) | TreeFinding::NotALocator(_) => false,
     }
 }
 
-/// Judges all certificates among files, and writes a line for each file. The outcome is success where
-/// each certificate but the trust anchor is accepted, and no bound was met.
-pub fn treed(alloc: Global, question: &TreeQuestion<'_, '_>) -> Result<Answer, AllocError>
-    ensures tree { IfOk result (λ answer.
-        IsTreeBy (asked_of question.now) answer.outcome (string_bytes answer.text)) }
+/// Judges all certificates among files, and writes what is found of each file, as lines for a person or
+/// as JSON. The outcome is success where each file given as a locator is one, each certificate but the
+/// trust anchor is accepted, and no bound was met.
+pub fn treed(
+    alloc: Global,
+    question: &TreeQuestion<'_, '_>,
+    format: Format,
+) -> Result<Answer, AllocError>
+    requires { All (IsRead question.now.strict) question.now.locators.now }
+    ensures text { let q = asked_of question.now in format ≡ Format.Text
+        → IfOk result (λ answer. IsTreeTextBy q answer.outcome (string_bytes answer.text)) }
+    ensures json { let q = asked_of question.now in format ≢ Format.Text
+        → IfOk result (λ answer. IsTreeJsonBy format q answer.outcome (string_bytes answer.text)) }
     ensures outcome { IfOk result (λ answer. IsOutcomeOfTree answer.outcome) }
 {
-    let answer = judge_all(alloc, question)?;
-    let is_accepting = is_accepting(&answer);
-    let text = tree_text(alloc, question, &answer);
-    drop(answer);
+    let finding = find(alloc, question)?;
+    let is_accepting = is_accepting(&finding);
+    let text = if format == Format::Text {
+        tree_text(alloc, question, &finding)
+    } else {
+        as_json::tree(alloc, question, &finding, format)
+    };
+    drop(finding);
     Ok(Answer {
         text: text?,
         outcome: Outcome::of_answer(is_accepting),

@@ -193,7 +193,8 @@ fn print_other_locator(page: &mut Page, locator: &GivenLocator<'_>)
     }
 }
 
-fn print_other_locators(page: &mut Page, locators: &[GivenLocator<'_>])
+/// Prints the names of the files given as locators that are none.
+pub fn print_other_locators(page: &mut Page, locators: &[GivenLocator<'_>])
     ensures { Appends page.old (locators_text locators.now) page.new }
 {
     for locator in locators {
@@ -456,8 +457,8 @@ fn print_no_list(page: &mut Page)
     page.line("Standard", "RFC 6487 5");
 }
 
-// That a file given as a locator is none.
-fn print_no_locator(page: &mut Page, fault: &Fault)
+/// Prints that a file given as a locator is none, and what is wrong of it.
+pub fn print_no_locator(page: &mut Page, fault: &Fault)
     ensures { Appends page.old (no_locator_text fault.now) page.new }
 {
     page.line("Path", "rejected");

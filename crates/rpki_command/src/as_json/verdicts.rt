@@ -74,8 +74,8 @@ fn push_other_locator(
     }
 }
 
-// The names of the files given as locators that are none.
-fn not_locators(alloc: Global, locators: &[GivenLocator<'_>]) -> Result<Value, AllocError>
+/// Makes the value of the names of the files given as locators that are none.
+pub fn not_locators(alloc: Global, locators: &[GivenLocator<'_>]) -> Result<Value, AllocError>
     ensures { IfOk result (λ made. view made ≡ no_locators_json locators.now) }
 {
     let mut names = Vec::new(alloc);
@@ -378,8 +378,8 @@ fn put_acceptance(
     put_accepted(out, alloc, judged)
 }
 
-// Why a path is rejected whose locators aren't all locators.
-fn no_locator(alloc: Global, fault: &Fault) -> Result<Value, AllocError>
+/// Makes the value of what is wrong of a file given as a locator that is none.
+pub fn no_locator(alloc: Global, fault: &Fault) -> Result<Value, AllocError>
     ensures { IfOk result (λ made. view made ≡ no_locator_json fault.now) }
 {
     let mut out = Members::new(alloc);

@@ -1,0 +1,38 @@
+use Rattle.std.specs.Bool.{MatchBool}
+use Rattle.std.proofs.Common.{◌≡◌, ◌∙◌, Bool, true, false, ℕ, List, string_bytes, sym, ap, subst}
+use Rattle.rpki_arguments.specs.CommandLines.Views.{fields_of}
+use Rattle.rpki_verdicts.specs.Trees.{TreeFields}
+use Rattle.rpki_command.specs.AnswerTexts.{IsTreeBy, tree_question_of}
+use Rattle.rpki_command.specs.JsonTrees.{IsTreeJson}
+use Rattle.rpki_command.specs.TreeTexts.{IsTreeText}
+use Rattle.rpki_command.specs.declared.outcomes.Outcome.{Outcome}
+use Rattle.rpki_command.specs.declared.outcomes.Outcome.TheVariants.{Success, Rejection, Unread}
+use Rattle.rpki_command.specs.declared.trees.TreeFinding.{TreeFinding}
+use Rattle.rpki_command.proofs.answering.tree.Goals as goal
+
+-- the same is said where another file couldn't be read
+said_too : (Says : TreeFinding → List ℕ → Type 0) (q : TreeFields) (are_all_read : Bool) (old new : Outcome) (before after : List ℕ) → MatchBool are_all_read (new ≡ old) (new ≡ Unread) → after ≡ before → IsTreeBy Says q old before → IsTreeBy Says q new after
+said_too Says q true old new before after is same by = (
+  by.0,
+  by.1,
+  subst (λ (text : List ℕ). Says by.0 text) (sym same) by.2,
+  (λ succeeds. by.3 (sym is ∙ succeeds)),
+  (λ rejects. by.4 (sym is ∙ rejects)),
+)
+said_too Says q false old new before after is same by = (
+  by.0,
+  by.1,
+  subst (λ (text : List ℕ). Says by.0 text) (sym same) by.2,
+  (λ succeeds. let never : Unread ≡ Success = sym is ∙ succeeds in absurd cc),
+  (λ rejects accepts. let never : Unread ≡ Rejection = sym is ∙ rejects in cc),
+)
+
+pub returns-clause-text : goal.returns-clause-text
+returns-clause-text c = λ is_text.
+    let q = tree_question_of (fields_of c.args.request.now) c.args.now c.args.files.now c.args.locators.now in
+    said_too (IsTreeText q) q c.args.are_all_read c.in_ok-answer.answer.outcome c.if_read.result.outcome (string_bytes c.in_ok-answer.answer.text) (string_bytes c.if_read.result.text) c.if_read.ensures.outcome (ap string_bytes c.if_read.ensures.text) ((rw c.saturating_mul.ensures at c.in_ok-answer.ensures.text) is_text)
+
+pub returns-clause-json : goal.returns-clause-json
+returns-clause-json c = λ no_text.
+    let q = tree_question_of (fields_of c.args.request.now) c.args.now c.args.files.now c.args.locators.now in
+    said_too (IsTreeJson c.args.request.now.format q) q c.args.are_all_read c.in_ok-answer.answer.outcome c.if_read.result.outcome (string_bytes c.in_ok-answer.answer.text) (string_bytes c.if_read.result.text) c.if_read.ensures.outcome (ap string_bytes c.if_read.ensures.text) ((rw c.saturating_mul.ensures at c.in_ok-answer.ensures.json) no_text)
