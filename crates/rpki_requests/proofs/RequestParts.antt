@@ -8,7 +8,7 @@ use Rattle.std.proofs.lemmas.Slice.Eq.{bytes_eq-Decides}
 use Rattle.rpki_arguments.specs.WordParts.{IsOption, GivesValue}
 use Rattle.rpki_arguments.proofs.PartsOfWords.{Sort, single, before, joining, Grammar, Shape, IsClear, alone_is, given_is}
 use Rattle.rpki_requests.specs.declared.words.Setting.{Setting}
-use Rattle.rpki_requests.specs.declared.words.Setting.TheVariants.{Issuer, Key, Serial, From, Until, Ipv4, Ipv6, AsNumbers, Repository, Manifest, Notify, Object, IssuerUri, CrlUri, Previous, Revoke, Forget, ThisUpdate, NextUpdate, At}
+use Rattle.rpki_requests.specs.declared.words.Setting.TheVariants.{Issuer, Key, Serial, From, Until, Ipv4, Ipv6, AsNumbers, Repository, Manifest, Notify, Object, IssuerUri, CrlUri, At}
 use Rattle.rpki_requests.specs.declared.words.Switch.{Switch}
 use Rattle.rpki_requests.specs.declared.words.Switch.TheVariants.{Trim, Lenient, Pem}
 use Rattle.rpki_requests.specs.RequestWords.{AskedFields, IsRequestPart, RequestPart, file, option, switch, setting_name, switch_name, with_part}
@@ -72,11 +72,6 @@ joined Notify value = refl
 joined Object value = refl
 joined IssuerUri value = refl
 joined CrlUri value = refl
-joined Previous value = refl
-joined Revoke value = refl
-joined Forget value = refl
-joined ThisUpdate value = refl
-joined NextUpdate value = refl
 joined At value = refl
 
 -- what stands before its first `=` is its name
@@ -95,11 +90,6 @@ front_is Notify value = refl
 front_is Object value = refl
 front_is IssuerUri value = refl
 front_is CrlUri value = refl
-front_is Previous value = refl
-front_is Revoke value = refl
-front_is Forget value = refl
-front_is ThisUpdate value = refl
-front_is NextUpdate value = refl
 front_is At value = refl
 
 place_is : (b : Bool) (n place : ℕ) → cond b (Some n) None ≡ Some place → n ≡ place

@@ -1,14 +1,14 @@
--- Which words behind the program's name ask for a certificate or a revocation list to be prepared or
--- completed, and what they ask (own). A word is the octets that the system has.
+-- Which words behind the program's name ask for a certificate to be prepared or completed, and what
+-- they ask (own). A word is the octets that the system has.
 use Rattle.std.specs.Prelude.{◌≡◌, ◌≤◌, ◌⊎◌, ℕ, List, [], ◌∷◌, ◌++◌, length, map, filter, Bool, true, false, fold, codes}
 use Rattle.std.specs.Str.{bytes_eq}
 use Rattle.rpki_arguments.specs.WordParts.{IsOption, GivesValue, AreInOrder, words_before, words_behind}
 use Rattle.rpki_requests.specs.declared.words.Demand.{Demand}
 use Rattle.rpki_requests.specs.declared.words.Demand.TheVariants.{Never, AtMostOnce, Once, AnyNumber, AtLeastOnce}
 use Rattle.rpki_requests.specs.declared.words.Errand.{Errand}
-use Rattle.rpki_requests.specs.declared.words.Errand.TheVariants.{Authority, EndEntity, Detached, Router, Anchor, Revocations, Completion}
+use Rattle.rpki_requests.specs.declared.words.Errand.TheVariants.{Authority, EndEntity, Detached, Router, Anchor, Completion}
 use Rattle.rpki_requests.specs.declared.words.Setting.{Setting}
-use Rattle.rpki_requests.specs.declared.words.Setting.TheVariants.{Issuer, Key, Serial, From, Until, Ipv4, Ipv6, AsNumbers, Repository, Manifest, Notify, Object, IssuerUri, CrlUri, Previous, Revoke, Forget, ThisUpdate, NextUpdate, At}
+use Rattle.rpki_requests.specs.declared.words.Setting.TheVariants.{Issuer, Key, Serial, From, Until, Ipv4, Ipv6, AsNumbers, Repository, Manifest, Notify, Object, IssuerUri, CrlUri, At}
 use Rattle.rpki_requests.specs.declared.words.Switch.{Switch}
 use Rattle.rpki_requests.specs.declared.words.Switch.TheVariants.{Trim, Lenient, Pem}
 pub mod Steps
@@ -23,7 +23,6 @@ errand_words EndEntity = codes "prepare" ∷ codes "ee" ∷ []
 errand_words Detached = codes "prepare" ∷ codes "detached" ∷ []
 errand_words Router = codes "prepare" ∷ codes "router" ∷ []
 errand_words Anchor = codes "prepare" ∷ codes "anchor" ∷ []
-errand_words Revocations = codes "prepare" ∷ codes "list" ∷ []
 errand_words Completion = codes "complete" ∷ []
 
 -- the first word is one that requests begin with
@@ -48,11 +47,6 @@ setting_name Notify = codes "--notify"
 setting_name Object = codes "--object"
 setting_name IssuerUri = codes "--issuer-uri"
 setting_name CrlUri = codes "--crl-uri"
-setting_name Previous = codes "--previous"
-setting_name Revoke = codes "--revoke"
-setting_name Forget = codes "--forget"
-setting_name ThisUpdate = codes "--this-update"
-setting_name NextUpdate = codes "--next-update"
 setting_name At = codes "--at"
 
 -- the name of one that takes none
@@ -116,7 +110,6 @@ values_of setting given = map (λ g. g.value) (filter (λ g. is_same g.setting s
 
 -- how often certificates take an option that nothing else takes
 abbrev pub of_certificates : Demand → Errand → Demand
-of_certificates often Revocations = Never
 of_certificates often Completion = Never
 of_certificates often _ = often
 
@@ -130,11 +123,6 @@ abbrev pub of_authorities : Demand → Errand → Demand
 of_authorities often Authority = often
 of_authorities often Anchor = often
 of_authorities often _ = Never
-
--- how often lists do
-abbrev pub of_lists : Demand → Errand → Demand
-of_lists often Revocations = often
-of_lists often _ = Never
 
 -- how often the issuer's path is given, which a trust anchor has none of
 abbrev pub issuers_demand : Errand → Demand
@@ -173,11 +161,6 @@ demand Notify errand = of_authorities AtMostOnce errand
 demand Object errand = object_demand errand
 demand IssuerUri errand = of_issued Once errand
 demand CrlUri errand = of_issued Once errand
-demand Previous errand = of_lists Once errand
-demand Revoke errand = of_lists AnyNumber errand
-demand Forget errand = of_lists AnyNumber errand
-demand ThisUpdate errand = of_lists Once errand
-demand NextUpdate errand = of_lists Once errand
 demand At errand = AtMostOnce
 
 -- an option that stands so often meets what is demanded
@@ -190,7 +173,6 @@ Meets AtLeastOnce n = 1 ≤ n
 
 -- whether an errand takes an option without a value
 abbrev pub takes : Switch → Errand → Bool
-takes Trim Revocations = false
 takes Trim Completion = false
 takes Trim _ = true
 takes Lenient _ = true

@@ -1,5 +1,5 @@
-//! Certificates and revocation lists whose keys lie elsewhere: what is asked to be prepared for
-//! signing, or to be completed once it is signed.
+//! Certificates whose keys lie elsewhere: what is asked to be prepared for signing, or to be completed
+//! once it is signed.
 #![tactic(auto)]
 
 mod words;

@@ -1,9 +1,9 @@
-//! Which words ask for a certificate or a list to be prepared, or to be completed.
+//! Which words ask for a certificate to be prepared, or to be completed.
 ghost use Rattle.std.specs.Prelude.{◌≡◌, ◌≢◌, ◌↔◌, ◌==◌, ℕ, List, [], ◌∷◌, ◌++◌, codes, count_by, filter, length, map, fold, position, IfErr, IfNone, IfOk, IfSome, IsTrue, MatchOption, OnOk, Some};
 ghost use Rattle.std.specs.Fmt.{WritesOnOk};
 ghost use Rattle.rpki_arguments.specs.CommandLines.Views.{word_octets};
 ghost use Rattle.rpki_requests.specs.RequestMisuses.{misuse_text};
-ghost use Rattle.rpki_requests.specs.RequestWords.{AskedFields, BeginsRequest, IsRequestLine, Meets, RequestPart, Suits, demand, errand_words, file, files_wanted, is_same, of_authorities, of_certificates, of_issued, of_lists, only_errand, option, setting_name, switch, switch_name, takes, values_of, with_part};
+ghost use Rattle.rpki_requests.specs.RequestWords.{AskedFields, BeginsRequest, IsRequestLine, Meets, RequestPart, Suits, demand, errand_words, file, files_wanted, is_same, of_authorities, of_certificates, of_issued, only_errand, option, setting_name, switch, switch_name, takes, values_of, with_part};
 ghost use Rattle.rpki_requests.specs.RequestWords.Steps.{AddsPart, AddsParts, AreRequestParts, BeginsNoPart, Joins};
 ghost use Rattle.rpki_requests.specs.RequestWords.Views.{asked_fields, given_fields};
 
@@ -26,8 +26,6 @@ pub enum Errand {
     Router,
     /// A trust anchor's: `prepare anchor`.
     Anchor,
-    /// A revocation list: `prepare list`.
-    Revocations,
     /// What was prepared, with its signature: `complete`.
     Completion,
 }
@@ -63,16 +61,6 @@ pub enum Setting {
     IssuerUri,
     /// The URI of the issuer's revocation list: `--crl-uri`.
     CrlUri,
-    /// The file of the issuer's list before this one: `--previous`.
-    Previous,
-    /// A serial number that is revoked from now on: `--revoke`.
-    Revoke,
-    /// A revoked serial number that needn't stay on the list: `--forget`.
-    Forget,
-    /// The moment at which the list is issued: `--this-update`.
-    ThisUpdate,
-    /// The moment by which the next one is: `--next-update`.
-    NextUpdate,
     /// The moment at which the issuer's path is judged: `--at`.
     At,
 }
@@ -161,11 +149,6 @@ impl Setting {
             Setting::Object => "--object",
             Setting::IssuerUri => "--issuer-uri",
             Setting::CrlUri => "--crl-uri",
-            Setting::Previous => "--previous",
-            Setting::Revoke => "--revoke",
-            Setting::Forget => "--forget",
-            Setting::ThisUpdate => "--this-update",
-            Setting::NextUpdate => "--next-update",
             Setting::At => "--at",
         }
     }
@@ -221,7 +204,7 @@ impl fmt::Display for Misuse<'_> {
 }
 
 // The options that take a value.
-const SETTINGS: [Setting; 20] = [
+const SETTINGS: [Setting; 15] = [
     Setting::Issuer,
     Setting::Key,
     Setting::Serial,
@@ -236,11 +219,6 @@ const SETTINGS: [Setting; 20] = [
     Setting::Object,
     Setting::IssuerUri,
     Setting::CrlUri,
-    Setting::Previous,
-    Setting::Revoke,
-    Setting::Forget,
-    Setting::ThisUpdate,
-    Setting::NextUpdate,
     Setting::At,
 ];
 
@@ -265,9 +243,6 @@ fn prepared_of(word: &[u8]) -> Option<Errand>
     }
     if is(word, "anchor") {
         return Some(Errand::Anchor);
-    }
-    if is(word, "list") {
-        return Some(Errand::Revocations);
     }
     None
 }
@@ -467,7 +442,7 @@ fn of_certificates(often: Demand, errand: Errand) -> Demand
     ensures { result ≡ of_certificates often errand }
 {
     match errand {
-        Errand::Revocations | Errand::Completion => Demand::Never,
+        Errand::Completion => Demand::Never,
         _ => often,
     }
 }
@@ -488,16 +463,6 @@ fn of_authorities(often: Demand, errand: Errand) -> Demand
 {
     match errand {
         Errand::Authority | Errand::Anchor => often,
-        _ => Demand::Never,
-    }
-}
-
-// How often a list takes an option that nothing else takes.
-fn of_lists(often: Demand, errand: Errand) -> Demand
-    ensures { result ≡ of_lists often errand }
-{
-    match errand {
-        Errand::Revocations => often,
         _ => Demand::Never,
     }
 }
@@ -530,10 +495,6 @@ pub fn demand_of(setting: Setting, errand: Errand) -> Demand
             _ => Demand::Never,
         },
         Setting::IssuerUri | Setting::CrlUri => of_issued(Demand::Once, errand),
-        Setting::Previous | Setting::ThisUpdate | Setting::NextUpdate => {
-            of_lists(Demand::Once, errand)
-        }
-        Setting::Revoke | Setting::Forget => of_lists(Demand::AnyNumber, errand),
         Setting::At => Demand::AtMostOnce,
     }
 }
@@ -543,7 +504,7 @@ fn takes(given: Switch, errand: Errand) -> bool
     ensures { result ≡ takes given errand }
 {
     match given {
-        Switch::Trim => !matches!(errand, Errand::Revocations | Errand::Completion),
+        Switch::Trim => !matches!(errand, Errand::Completion),
         Switch::Lenient => true,
         Switch::Pem => matches!(errand, Errand::Completion),
     }
