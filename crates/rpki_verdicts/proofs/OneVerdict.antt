@@ -14,7 +14,7 @@ use Rattle.rpki.specs.Kind.{Kind}
 use Rattle.rpki.specs.Kind.TheVariants.{Anchor, Authority, EndEntity, Detached, Router}
 use Rattle.rpki.specs.Lists.{CrlFields, CrlState, IsCertificateList}
 use Rattle.rpki.specs.NameChains.{strings_below}
-use Rattle.rpki.specs.Paths.{Path, Candidate, IsAccepted, certificate_at, last}
+use Rattle.rpki.specs.Paths.{Path, Candidate, HasHeld, IsAccepted, certificate_at, last}
 use Rattle.rpki.specs.Values.{IsUnambiguous}
 use Rattle.rpki.specs.Verification.{Context, ResourceFields}
 use Rattle.rpki_der.proofs.Formats.{one_meant}
@@ -25,7 +25,7 @@ use Rattle.rpki_files.specs.FaultRules.{locator_reason}
 use Rattle.rpki_verdicts.specs.GivenLocators.{IsLocated}
 use Rattle.rpki_files.specs.SaidKinds.{SaysKind, BeginsWithKind, IsJudgedAs}
 use Rattle.rpki_verdicts.specs.PathFiles.{Demands, HasJudgedLast, IsGivenBy, AreListsOf}
-use Rattle.rpki_verdicts.specs.PathAnswers.{last_certificate, last_key, reason_of, IsUsablePath, IsVerdictOn, IsVerdictBy}
+use Rattle.rpki_verdicts.specs.PathAnswers.{last_certificate, last_key, reason_of, AreSame, HoldSame, IsUsablePath, IsVerdictOn, IsVerdictBy}
 use Rattle.rpki_verdicts.specs.PathAnswers.Steps.{IsNamedVerdict}
 use Rattle.rpki_verdicts.specs.declared.path.Fault.{Fault}
 use Rattle.rpki_verdicts.specs.declared.path.Verdict.{Verdict}
@@ -37,7 +37,8 @@ some_or_none : {A : Type 0} (o : Option A) → IsSome o → IsNone o → ⊥
 some_or_none None some none = false≢true some
 some_or_none (Some x) some none = true≢false none
 
-one_kind : (f : TbsFields) (a b : Kind) → SaysKind a f → SaysKind b f → a ≡ b
+-- a certificate says one kind at most
+pub one_kind : (f : TbsFields) (a b : Kind) → SaysKind a f → SaysKind b f → a ≡ b
 one_kind f Anchor b p q = absurd p
 one_kind f a Anchor p q = absurd q
 one_kind f Router Router p q = refl
@@ -120,6 +121,32 @@ module _ (one_certificate : IsUnambiguous IsCertificate) where
   one_last_certificate x asked g j i h k =
       same_router x asked g.router j.holder i.holder j.router i.router (one_holder x asked g.anchor g.below j.holder i.holder h.accepted k.accepted) h.router k.router
 
+  -- and what it holds are the same numbers
+  same_held : (x : Context) (asked : RevocationChecks) (anchor : List ℕ) (below : List Candidate) (r s : ResourceFields) → IsAccepted x asked anchor below [] r → IsAccepted x asked anchor below [] s → HoldSame r s
+  same_held x asked anchor below r s h k =
+      let same = paths.one_path one_certificate anchor below h.path k.path h.path_of k.path_of in
+      let held : HasHeld k.path [] r = subst (λ (p : Path). HasHeld p [] r) same h.held in
+      record {
+        cert_is = held.cert_is ∙ sym k.held.cert_is;
+        v4_same = λ n. ((λ a. (k.held.v4_is n).1 ((held.v4_is n).0 a)), (λ a. (held.v4_is n).1 ((k.held.v4_is n).0 a)));
+        v6_same = λ n. ((λ a. (k.held.v6_is n).1 ((held.v6_is n).0 a)), (λ a. (held.v6_is n).1 ((k.held.v6_is n).0 a)));
+        as_same = λ n. ((λ a. (k.held.as_is n).1 ((held.as_is n).0 a)), (λ a. (held.as_is n).1 ((k.held.as_is n).0 a)));
+      }
+
+  one_router : (x : Context) (asked : RevocationChecks) (octets : Option (List ℕ)) (r s : ResourceFields) (c d : Option CertFields) → IsRouterIfAny x asked r octets c → IsRouterIfAny x asked s octets d → c ≡ d
+  one_router x asked None r s None None h k = refl
+  one_router x asked None r s None (Some d) h k = absurd k
+  one_router x asked None r s (Some c) d h k = absurd h
+  one_router x asked (Some octets) r s None d h k = absurd h
+  one_router x asked (Some octets) r s (Some c) None h k = absurd k
+  one_router x asked (Some octets) r s (Some c) (Some d) h k = ap (λ (e : CertFields). Some e) (one_meant IsCertificate one_certificate c d octets h.0 k.0)
+
+  all_same : (x : Context) (asked : RevocationChecks) (d : Demands) (g : PathStrings) (j i : Judged) → IsUsablePath x asked d g j → IsUsablePath x asked d g i → AreSame j i
+  all_same x asked d g j i h k = (
+    same_held x asked g.anchor g.below j.holder i.holder h.accepted.accepted k.accepted.accepted,
+    one_router x asked g.router j.holder i.holder j.router i.router h.accepted.router k.accepted.router,
+  )
+
   module _ (x : Context) (asked : RevocationChecks) (d : Demands) (files : List (List ℕ)) (g : PathStrings) where
     -- a trust anchor whose key no locator has
     pub other_key_verdict : (fault : Fault) → BeginsWithCertificate g.anchor → (IsLocated x.strict d.locators g.anchor → ⊥) → fault.index ≡ 0 → reason_of fault ≡ locator_reason → IsVerdictOn x asked d files g (Rejected fault)
@@ -167,3 +194,12 @@ module _ (one_certificate : IsUnambiguous IsCertificate) where
         let paths = one_path files a.2.0 b.2.0 a.2.1 b.2.1 in
         let usable = subst (λ (g : PathStrings). IsUsablePath x (by_lists x a.0) d g j) paths a.2.2 in
         b.2.2.0 j (subst (λ (ls : List CrlState). IsUsablePath x (by_lists x ls) d b.2.0 j) read usable)
+
+    -- files are accepted with one certificate, which holds the same numbers
+    pub ever_same : (x : Context) (d : Demands) (files lists : List (List ℕ)) (j i : Judged) → IsVerdictBy x d files lists (Accepted j) → IsVerdictBy x d files lists (Accepted i) → AreSame j i
+    ever_same x d files [] j i a b = all_same x nobody d b.0 j i (subst (λ (g : PathStrings). IsUsablePath x nobody d g j) (one_path files a.0 b.0 a.1 b.1) a.2) b.2
+    ever_same x d files (list ∷ lists) j i a b =
+        let read = same_lists (list ∷ lists) a.0 b.0 a.1 b.1 in
+        let paths = one_path files a.2.0 b.2.0 a.2.1 b.2.1 in
+        let usable = subst (λ (g : PathStrings). IsUsablePath x (by_lists x a.0) d g j) paths a.2.2 in
+        all_same x (by_lists x b.0) d b.2.0 j i (subst (λ (ls : List CrlState). IsUsablePath x (by_lists x ls) d b.2.0 j) read usable) b.2.2

@@ -1,5 +1,5 @@
 -- What the command answers of the files of a path.
-use Rattle.std.specs.Prelude.{◌≡◌, ◌≢◌, ◌⊎◌, ◌+◌, ℕ, Bool, IsTrue, List, [], ◌∷◌, length, Option, Some, None, slice_get}
+use Rattle.std.specs.Prelude.{◌≡◌, ◌≢◌, ◌↔◌, ◌⊎◌, ◌+◌, ℕ, Bool, IsTrue, List, [], ◌∷◌, length, Option, Some, None, slice_get}
 use Rattle.rpki.specs.Asking.{RevocationChecks, nobody}
 use Rattle.rpki.specs.AskedLists.{by_lists}
 use Rattle.rpki.specs.Certificates.{CertFields}
@@ -13,6 +13,7 @@ use Rattle.rpki.specs.LocatorFaults.{IsTalFault}
 use Rattle.rpki.specs.PathError.{PathError}
 use Rattle.rpki.specs.PathFault.{PathFault}
 use Rattle.rpki.specs.PathFault.TheVariants.{Memory}
+use Rattle.rpki.specs.Sets.{Has}
 use Rattle.rpki.specs.TalError.{TalError}
 use Rattle.rpki.specs.Verification.{Context, ResourceFields}
 use Rattle.rpki.specs.NameChains.{BeginChained, IsUnchained, strings_below}
@@ -147,6 +148,19 @@ IsVerdictBy x d files [] verdict = IsPathVerdict x nobody d files verdict
 IsVerdictBy x d files (list ∷ lists) verdict =
     (read : List CrlState) × AreListsOf (list ∷ lists) read
     × IsPathVerdict x (by_lists x read) d files verdict
+
+-- ---- one acceptance
+
+-- both have one certificate, and hold the same numbers
+pub record HoldSame (r s : ResourceFields) : Type 0 where
+  pub cert_is : r.cert ≡ s.cert
+  pub v4_same : (n : ℕ) → Has r.v4 n ↔ Has s.v4 n
+  pub v6_same : (n : ℕ) → Has r.v6 n ↔ Has s.v6 n
+  pub as_same : (n : ℕ) → Has r.as_numbers n ↔ Has s.as_numbers n
+
+-- both are of the same members
+abbrev pub AreSame : Judged → Judged → Type 0
+AreSame j i = HoldSame j.holder i.holder × (j.router ≡ i.router)
 
 -- the path is accepted
 abbrev pub IsAcceptance : Option Verdict → Type 0

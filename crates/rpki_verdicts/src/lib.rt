@@ -8,6 +8,7 @@ mod unordered;
 
 pub use locators::GivenLocator;
 pub use path::{
-    Fault, Question, Verdict, accepted_are_unrevoked, first_no_locator, judge, located, one_answer,
+    Fault, Question, Verdict, accepted_are_unrevoked, first_no_locator, judge, located,
+    one_acceptance, one_answer,
 };
 pub use unordered::{Tree, TreeAnswer, TreeQuestion, judge_all};

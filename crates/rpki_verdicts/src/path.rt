@@ -16,7 +16,7 @@ ghost use Rattle.rpki_files.specs.LocatorFiles.{AreLocator};
 ghost use Rattle.rpki_verdicts.specs.GivenLocators.{IsLocated, IsRead, locator_octets};
 ghost use Rattle.rpki_files.specs.SaidKinds.{IsJudgedAs};
 ghost use Rattle.rpki_verdicts.specs.PathFiles.{AreListsOf, Demands, IsAnchorLocator, IsPlaceOfLocator, demands_of};
-ghost use Rattle.rpki_verdicts.specs.PathAnswers.{last_key, reason_of, AreChained, IsNoLocator, IsReasonAt, IsPathVerdict, IsVerdictBy};
+ghost use Rattle.rpki_verdicts.specs.PathAnswers.{last_key, reason_of, AreChained, AreSame, IsNoLocator, IsReasonAt, IsPathVerdict, IsVerdictBy};
 ghost use Rattle.rpki_verdicts.specs.PathAnswers.Steps.{IsKindOfLast, IsKeyVerdict, IsNamedVerdict};
 ghost use Rattle.rpki_verdicts.specs.UnrevokedMembers.{AreUnrevoked};
 ghost use Rattle.rpki_verdicts.specs.declared.path.Verdict.TheVariants.{Accepted, Rejected};
@@ -466,6 +466,17 @@ pub fn one_answer()
     ensures { (now : Moment) (strict : Bool) (d : Demands) (files lists : List (List ℕ))
         (j : Holding) (f : Faulty) → let x = context IsSignedByRsa now strict in
         IsVerdictBy x d files lists (Accepted j) → IsVerdictBy x d files lists (Rejected f) → ⊥ }
+{
+    laws::certificates::unambiguous();
+    laws::lists::unambiguous();
+}
+
+/// Says that an accepted path is accepted with one certificate last, which holds the same numbers.
+pub fn one_acceptance()
+    ensures { (now : Moment) (strict : Bool) (d : Demands) (files lists : List (List ℕ))
+        (j i : Holding) → let x = context IsSignedByRsa now strict in
+        IsVerdictBy x d files lists (Accepted j) → IsVerdictBy x d files lists (Accepted i)
+        → AreSame j i }
 {
     laws::certificates::unambiguous();
     laws::lists::unambiguous();
