@@ -1,3 +1,7 @@
 -- The definitions that the contracts of requests cite.
 pub mod RequestWords
 pub mod RequestMisuses
+pub mod OptionValues
+pub mod RequestFiles
+pub mod Fulfilment
+pub mod Refusals

@@ -1,0 +1,62 @@
+-- The issuer that files are, by their verdict.
+use Rattle.std.specs.Prelude.{IsSome, Option, Some, None}
+use Rattle.std.proofs.Common.{◌≡◌, ◌⊎◌, ℕ, List, [], inl, inr, subst}
+use Rattle.std.proofs.lemmas.Bool.{false≢true}
+use Rattle.rpki.specs.Certificates.{CertFields}
+use Rattle.rpki.specs.Judged.{Judged}
+use Rattle.rpki.specs.Verification.{Context, ResourceFields}
+use Rattle.rpki_files.specs.SaidKinds.{SaysAuthority}
+use Rattle.rpki_verdicts.specs.PathAnswers.{AreSame, IsVerdictBy}
+use Rattle.rpki_verdicts.specs.declared.path.Fault.{Fault}
+use Rattle.rpki_verdicts.specs.declared.path.Verdict.{Verdict}
+use Rattle.rpki_verdicts.specs.declared.path.Verdict.TheVariants.{Accepted, Rejected}
+use Rattle.rpki_requests.specs.RequestFiles.{IsHeldByLast, IsIssuerOf, IsOnlyIssuer, chained}
+
+-- what the last member of a path holds, where it isn't a router
+abbrev held_alone : ResourceFields → Judged
+held_alone r = record { holder = r; router = None }
+
+module _ (x : Context) where
+  -- no files have no verdict
+  no_verdict : (v : Verdict) → IsVerdictBy x chained [] [] v → ⊥
+  no_verdict v (g, inl alone, on) = absurd cc
+  no_verdict v (g, inr last, on) = let is = last.split.strings_are in absurd cc
+
+  module _ (files : List (List ℕ)) where
+    unjudged : (v : Verdict) → files ≡ [] → IsVerdictBy x chained files [] v → ⊥
+    unjudged v empty on = no_verdict v (subst (λ (l : List (List ℕ)). IsVerdictBy x chained l [] v) empty on)
+
+    -- where there is no file, there is no issuer
+    pub none_only : files ≡ [] → IsOnlyIssuer x files None
+    none_only empty None is = tt
+    none_only empty (Some r) held = unjudged (Accepted (held_alone r)) empty held.accepted
+
+    -- a path that is rejected has none
+    pub rejected_none : (fault : Fault) → ((j : Judged) → IsVerdictBy x chained files [] (Accepted j) → IsVerdictBy x chained files [] (Rejected fault) → ⊥) → IsVerdictBy x chained files [] (Rejected fault) → (issuer : Option ResourceFields) → IsIssuerOf x files issuer → ⊥
+    rejected_none fault never on None empty = unjudged (Rejected fault) empty on
+    rejected_none fault never on (Some r) held = never (held_alone r) held.accepted on
+
+    module _ (judged : Judged) (one : (j i : Judged) → IsVerdictBy x chained files [] (Accepted j) → IsVerdictBy x chained files [] (Accepted i) → AreSame j i) (on : IsVerdictBy x chained files [] (Accepted judged)) where
+      -- one that is accepted has the CA that its last member is
+      pub authority_held : (r : ResourceFields) → judged ≡ held_alone r → SaysAuthority r.cert.fields → IsHeldByLast x files r
+      authority_held r is says = record {
+        accepted = subst (λ (j : Judged). IsVerdictBy x chained files [] (Accepted j)) is on;
+        authority = says;
+      }
+
+      pub authority_only : (r : ResourceFields) → judged ≡ held_alone r → IsOnlyIssuer x files (Some r)
+      authority_only r is None empty = absurd (unjudged (Accepted judged) empty on)
+      authority_only r is (Some s) held =
+          (one (held_alone s) (held_alone r) held.accepted (subst (λ (j : Judged). IsVerdictBy x chained files [] (Accepted j)) is on)).0
+
+      some_router : (router : Option CertFields) → IsSome router → None ≡ router → ⊥
+      some_router None some is = false≢true some
+      some_router (Some c) some is = cc
+
+      -- and none where that is none
+      pub authority_none : IsSome judged.router ⊎ (SaysAuthority judged.holder.cert.fields → ⊥) → (issuer : Option ResourceFields) → IsIssuerOf x files issuer → ⊥
+      authority_none why None empty = unjudged (Accepted judged) empty on
+      authority_none (inl some) (Some s) held =
+          some_router judged.router some (one (held_alone s) judged held.accepted on).1
+      authority_none (inr not) (Some s) held =
+          not (subst (λ (c : CertFields). SaysAuthority c.fields) (one (held_alone s) judged held.accepted on).0.cert_is held.authority)

@@ -1,0 +1,23 @@
+-- Answers that are the only ones, joined.
+use Rattle.std.specs.Prelude.{Result, Ok, Err, IfOk, IfErr}
+use Rattle.std.proofs.Common.{◌≡◌, ◌≢◌, ◌⊎◌, inl, inr, subst}
+use Rattle.rpki_values.specs.OnlyValues.{IsOnly}
+use Rattle.rpki_requests.specs.Refusals.{AnswersOnly}
+use Rattle.rpki_requests.specs.declared.refusals.Refusal.{Refusal}
+use Rattle.rpki_requests.specs.declared.refusals.Refusal.TheVariants.{Memory}
+
+-- what an answer says once it is known
+pub when_ok : {A : Type 0} (Is : A → Type 0) (r : Result A Refusal) (a : A) → r ≡ Ok a → AnswersOnly Is r → IsOnly Is a
+when_ok {A = A} Is r a is only = subst (λ (s : Result A Refusal). AnswersOnly Is s) is only
+
+pub when_err : {A : Type 0} (Is : A → Type 0) (r : Result A Refusal) (why : Refusal) → r ≡ Err why → AnswersOnly Is r → why ≢ Memory → (a : A) → Is a → ⊥
+when_err {A = A} Is r why is only = subst (λ (s : Result A Refusal). AnswersOnly Is s) is only
+
+-- two answers that are the only ones are the only two
+pub both_only : {A B : Type 0} (IsA : A → Type 0) (IsB : B → Type 0) (first : Result A Refusal) (second : Result B Refusal) (r : Result (A × B) Refusal) → IfOk r (λ p. (first ≡ Ok p.0) × (second ≡ Ok p.1)) → IfErr r (λ why. (first ≡ Err why) ⊎ (second ≡ Err why)) → AnswersOnly IsA first → AnswersOnly IsB second → AnswersOnly (λ (p : A × B). IsA p.0 × IsB p.1) r
+both_only {A = A} {B = B} IsA IsB first second (Ok p) are why a b =
+    let one = when_ok IsA first p.0 are.0 a in
+    let other = when_ok IsB second p.1 are.1 b in
+    ((one.0, other.0), λ q h. λ i. (one.1 q.0 h.0 i, other.1 q.1 h.1 i))
+both_only {A = A} {B = B} IsA IsB first second (Err why) are (inl is) a b = λ not q h. when_err IsA first why is a not q.0 h.0
+both_only {A = A} {B = B} IsA IsB first second (Err why) are (inr is) a b = λ not q h. when_err IsB second why is b not q.1 h.1

@@ -1,0 +1,40 @@
+use Rattle.std.specs.Prelude.{option_map}
+use Rattle.std.proofs.Common.{Bor, Option, ap, ◌∙◌}
+use Rattle.rpki.specs.Certificates.{TbsFields}
+use Rattle.rpki.specs.Verification.{ResourceFields}
+use Rattle.rpki_files.specs.Files.{contents}
+use Rattle.rpki_wanted.specs.AskedFields.{fields_asked}
+use Rattle.rpki_requests.specs.OptionValues.{GivesWanted}
+use Rattle.rpki_requests.specs.RequestFiles.{IsKeyFile}
+use Rattle.rpki_requests.specs.RequestWords.Views.{asked_fields}
+use Rattle.rpki_requests.proofs.OneFields.{Says, asks_only, asks_none}
+use Rattle.rpki_requests.proofs.OnlyAnswers.{both_only, when_ok, when_err}
+use Rattle.rpki_requests.proofs.fulfilling.fields_of.Goals as goal
+
+pub returns-in-Some : goal.returns-in-Some
+returns-in-Some c =
+    let asked = asked_fields c.args.order.now in
+    let keys = contents c.args.keys.now in
+    let issuer = option_map (λ (r : Bor ResourceFields). r.now) c.args.issuer in
+    let says = both_only (GivesWanted asked.given) (IsKeyFile keys) c.wanted-wanted.result c.subject_key-key.result c.both.result c.both.ensures.both c.both.ensures.refused c.wanted-wanted.ensures c.subject_key-key.ensures in
+    let only = when_ok (Says asked keys) c.both.result (c.in-Ok.wanted, c.in-Ok.key) c.in-Ok.is says in
+    let made = rw c.in-Some.is at c.in_ok-tbs-in-Ok.ensures in
+    let above = ap (λ (above : Option TbsFields). fields_asked c.args.kind asked.trims c.in-Ok.wanted above c.in-Ok.key) c.above.ensures in
+    asks_only c.args.kind asked keys issuer c.in-Ok.wanted c.in-Ok.key only c.in-Some.tbs c.subject.result.now (made ∙ above) c.subject.ensures c.as_bytes-octets.ensures.valid
+
+pub returns-in-None : goal.returns-in-None
+returns-in-None c = λ not.
+    let asked = asked_fields c.args.order.now in
+    let keys = contents c.args.keys.now in
+    let issuer = option_map (λ (r : Bor ResourceFields). r.now) c.args.issuer in
+    let says = both_only (GivesWanted asked.given) (IsKeyFile keys) c.wanted-wanted.result c.subject_key-key.result c.both.result c.both.ensures.both c.both.ensures.refused c.wanted-wanted.ensures c.subject_key-key.ensures in
+    let only = when_ok (Says asked keys) c.both.result (c.in-Ok.wanted, c.in-Ok.key) c.in-Ok.is says in
+    let unnamed = rw c.in-None.is at c.in_ok-tbs-in-Ok.ensures in
+    asks_none c.args.kind asked keys issuer c.in-Ok.wanted c.in-Ok.key only unnamed
+
+pub returns-in-Err : goal.returns-in-Err
+returns-in-Err c = λ not f h.
+    let asked = asked_fields c.args.order.now in
+    let keys = contents c.args.keys.now in
+    let says = both_only (GivesWanted asked.given) (IsKeyFile keys) c.wanted-wanted.result c.subject_key-key.result c.both.result c.both.ensures.both c.both.ensures.refused c.wanted-wanted.ensures c.subject_key-key.ensures in
+    when_err (Says asked keys) c.both.result c.in-Err.why c.in-Err.is says not (h.wanted, h.key) (h.wanted_is, h.key_is)

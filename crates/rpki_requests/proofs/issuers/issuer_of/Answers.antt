@@ -1,0 +1,34 @@
+use Rattle.std.specs.Prelude.{Err}
+use Rattle.std.proofs.Common.{◌≡◌, [], rules}
+use Rattle.rpki.specs.RsaSignatures.{IsSignedByRsa}
+use Rattle.rpki.specs.Verification.{context}
+use Rattle.rpki_files.specs.Files.{contents}
+use Rattle.rpki_verdicts.specs.PathAnswers.{IsVerdictBy}
+use Rattle.rpki_verdicts.specs.declared.path.Verdict.TheVariants.{Accepted, Rejected}
+use Rattle.rpki_requests.specs.RequestFiles.{chained}
+use Rattle.rpki_requests.proofs.JudgedIssuers.{authority_none, authority_only, rejected_none}
+use Rattle.rpki_requests.proofs.issuers.issuer_of.Goals as goal
+
+pub returns-in_err-authority_of-in-Some-Accepted-clause-none :
+    goal.returns-in_err-authority_of-in-Some-Accepted-clause-none
+returns-in_err-authority_of-in-Some-Accepted-clause-none c =
+    let x = context IsSignedByRsa c.args.at c.args.strict in
+    let files = contents c.args.files.now in
+    let on : IsVerdictBy x chained files [] (Accepted c.in-Some-Accepted.judged) = search rules in
+    let same : c.from_residual-in_err-authority_of-in-Some-Accepted.result ≡ Err c.in_err-authority_of-in-Some-Accepted.field-0.0 = search rules in
+    rw same (λ not issuer is. authority_none x files c.in-Some-Accepted.judged (λ j i. c.one_acceptance.ensures c.args.at c.args.strict chained files [] j i) on c.in_err-authority_of-in-Some-Accepted.ensures.no_authority issuer is)
+
+pub returns-in_ok-authority_of-in-Some-Accepted-clause-only :
+    goal.returns-in_ok-authority_of-in-Some-Accepted-clause-only
+returns-in_ok-authority_of-in-Some-Accepted-clause-only c =
+    let x = context IsSignedByRsa c.args.at c.args.strict in
+    let files = contents c.args.files.now in
+    let on : IsVerdictBy x chained files [] (Accepted c.in-Some-Accepted.judged) = search rules in
+    authority_only x files c.in-Some-Accepted.judged (λ j i. c.one_acceptance.ensures c.args.at c.args.strict chained files [] j i) on c.in_ok-authority_of-in-Some-Accepted.field-0 c.in_ok-authority_of-in-Some-Accepted.ensures.holder.0
+
+pub returns-in-Some-Rejected-clause-none : goal.returns-in-Some-Rejected-clause-none
+returns-in-Some-Rejected-clause-none c = λ not.
+    let x = context IsSignedByRsa c.args.at c.args.strict in
+    let files = contents c.args.files.now in
+    let on : IsVerdictBy x chained files [] (Rejected c.in-Some-Rejected.fault) = search rules in
+    rejected_none x files c.in-Some-Rejected.fault (λ j a b. c.one_answer.ensures c.args.at c.args.strict chained files [] j c.in-Some-Rejected.fault a b) on

@@ -1,0 +1,5 @@
+use Rattle.std.specs.Prelude.{Some}
+use Rattle.rpki_requests.proofs.values.moment.Goals as goal
+
+pub returns-in-Err : goal.returns-in-Err
+returns-in-Err c = λ not v h. c.in-Err.ensures not (Some v) h

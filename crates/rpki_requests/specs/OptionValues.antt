@@ -1,0 +1,61 @@
+-- What the values of options say: those of the certificate that is wanted, and the moment (own).
+use Rattle.std.specs.Prelude.{◌≡◌, ℕ, List, [], ◌∷◌, Option, Some, None}
+use Rattle.rpki.specs.Times.{Moment, IsMoment}
+use Rattle.rpki_text.specs.MomentTexts.{IsMomentText}
+use Rattle.rpki_values.specs.BlockTexts.{AreListed, IsAddressesText, IsAsText}
+use Rattle.rpki_values.specs.ValueTexts.{IsSerialText, IsRsyncText, IsHttpsText}
+use Rattle.rpki_values.specs.declared.families.Family.TheVariants.{V4, V6}
+use Rattle.rpki_wanted.specs.declared.wanted.Numbers.{Numbers}
+use Rattle.rpki_wanted.specs.declared.wanted.Places.{Places}
+use Rattle.rpki_wanted.specs.declared.wanted.Wanted.{Wanted}
+use Rattle.rpki_requests.specs.RequestWords.{GivenFields, values_of}
+use Rattle.rpki_requests.specs.declared.words.Setting.TheVariants.{Serial, From, Until, Ipv4, Ipv6, AsNumbers, Repository, Manifest, Notify, Object, IssuerUri, CrlUri}
+
+-- ---- one option
+
+-- a day and a time of the calendar, in one of its forms
+pub record IsMomentSaid (m : Moment) (text : List ℕ) : Type 0 where
+  pub is_moment : IsMoment m
+  pub text_is : IsMomentText m text
+
+-- no value, or this one alone
+abbrev pub given_alone : Option (List ℕ) → List (List ℕ)
+given_alone None = []
+given_alone (Some text) = text ∷ []
+
+-- one value is given, and it says this
+pub record SaysOnce {V : Type 0} (IsText : V → List ℕ → Type 0) (texts : List (List ℕ))
+    (v : V) : Type 0 where
+  pub text : List ℕ
+  pub alone : texts ≡ text ∷ []
+  pub says : IsText v text
+
+-- none is given; or one, and it says this
+abbrev pub SaysAtMostOnce : {V : Type 0} → (V → List ℕ → Type 0) → List (List ℕ) → Option V → Type 0
+SaysAtMostOnce IsText texts None = texts ≡ []
+SaysAtMostOnce IsText texts (Some v) = SaysOnce IsText texts v
+
+-- ---- the certificate that is wanted
+
+-- what is listed of each kind of numbers: nothing, blocks, or what the issuer has
+pub record GivesNumbers (given : List GivenFields) (numbers : Numbers) : Type 0 where
+  pub v4_is : AreListed (IsAddressesText V4) numbers.v4 (values_of Ipv4 given)
+  pub v6_is : AreListed (IsAddressesText V6) numbers.v6 (values_of Ipv6 given)
+  pub systems_is : AreListed IsAsText numbers.systems (values_of AsNumbers given)
+
+-- the URIs, of which those that aren't given are left out
+pub record GivesPlaces (given : List GivenFields) (places : Places) : Type 0 where
+  pub repository_is : SaysAtMostOnce IsRsyncText (values_of Repository given) places.repository
+  pub manifest_is : SaysAtMostOnce IsRsyncText (values_of Manifest given) places.manifest
+  pub object_is : SaysAtMostOnce IsRsyncText (values_of Object given) places.object
+  pub notify_is : SaysAtMostOnce IsHttpsText (values_of Notify given) places.notify
+  pub issuer_is : SaysAtMostOnce IsRsyncText (values_of IssuerUri given) places.issuer
+  pub list_is : SaysAtMostOnce IsRsyncText (values_of CrlUri given) places.list
+
+-- the options say that this is wanted
+pub record GivesWanted (given : List GivenFields) (wanted : Wanted) : Type 0 where
+  pub serial_is : SaysOnce IsSerialText (values_of Serial given) wanted.serial
+  pub from_is : SaysOnce IsMomentSaid (values_of From given) wanted.not_before
+  pub until_is : SaysOnce IsMomentSaid (values_of Until given) wanted.not_after
+  pub numbers_are : GivesNumbers given wanted.numbers
+  pub places_are : GivesPlaces given wanted.places

@@ -1,0 +1,67 @@
+-- Why a request gives nothing, and what is said of it (own).
+use Rattle.std.specs.Prelude.{◌≢◌, ℕ, List, ◌++◌, Result, Ok, Err, codes}
+use Rattle.std.specs.Fmt.{decimal}
+use Rattle.rpki.specs.Inspection.{inspection_error_name}
+use Rattle.rpki.specs.IssuingError.{IssuingError}
+use Rattle.rpki.specs.IssuingError.TheVariants as issuing
+use Rattle.rpki.specs.ValidationError.TheVariants.{Inspection, Verification}
+use Rattle.rpki.specs.Verification.{verification_error_name}
+use Rattle.rpki_files.specs.FaultRules.{RuleFields, inspection_rule, key_rule, name_rule, rule_of, verification_rule}
+use Rattle.rpki_values.specs.OnlyValues.{IsOnly}
+use Rattle.rpki_verdicts.specs.declared.path.Fault.{Fault}
+use Rattle.rpki_wanted.specs.declared.preparing.WantedError.{WantedError}
+use Rattle.rpki_wanted.specs.declared.preparing.WantedError.TheVariants as wanted
+use Rattle.rpki_requests.specs.RequestWords.{setting_name}
+use Rattle.rpki_requests.specs.declared.refusals.Refusal.{Refusal}
+use Rattle.rpki_requests.specs.declared.refusals.Refusal.TheVariants.{Value, NoKey, UnusedKey, Rejected, NoAuthority, NoName, Files, NotToSign, OtherName, Unfit, Memory}
+
+-- ---- when one comes
+
+-- the answer is the only one of which it is so; or, unless memory ran out, it is so of none
+abbrev pub AnswersOnly : {V : Type 0} → (V → Type 0) → Result V Refusal → Type 0
+AnswersOnly {V} Is (Ok v) = IsOnly Is v
+AnswersOnly {V} Is (Err why) = why ≢ Memory → (v : V) → Is v → ⊥
+
+-- ---- what is said of it
+
+-- a fault's name, what it means, and the section that asks it
+abbrev pub fault_text : List ℕ → RuleFields → List ℕ
+fault_text name rule =
+    name ++ (codes ": " ++ (rule.says ++ (codes " (" ++ (rule.section ++ codes ")"))))
+
+-- why fields aren't ready, or why a signature isn't theirs
+abbrev pub issuing_text : IssuingError → List ℕ
+issuing_text issuing.Unwritable = codes "no certificate has these fields"
+issuing_text issuing.TooLong = codes "the certificate would be too long"
+issuing_text (issuing.Invalid (Inspection e)) =
+    fault_text (inspection_error_name e) (inspection_rule e)
+issuing_text (issuing.Invalid (Verification e)) =
+    fault_text (verification_error_name e) (verification_rule e)
+issuing_text issuing.Memory = codes "out of memory"
+
+abbrev pub wanted_text : WantedError → List ℕ
+wanted_text wanted.NoRole = codes "a trust anchor has no issuer, and other certificates have one"
+wanted_text (wanted.Unready e) = issuing_text e
+wanted_text wanted.OtherOctets = codes "the first file isn't what is prepared of its fields"
+wanted_text (wanted.Unsigned e) = issuing_text e
+wanted_text wanted.Memory = codes "out of memory"
+
+-- of the issuer's path the member that is wrong, the step, and why
+abbrev pub path_text : Fault → List ℕ
+path_text fault =
+    let why = fault_text fault.name.now (rule_of fault.rule) in
+    codes "issuer "
+    ++ (decimal fault.index ++ (codes " is rejected at " ++ (fault.step.now ++ (codes ", " ++ why))))
+
+abbrev pub refusal_text : Refusal → List ℕ
+refusal_text (Value setting) = setting_name setting ++ codes " has no value that it takes"
+refusal_text NoKey = codes "the key's file is no public key"
+refusal_text (UnusedKey format) = fault_text (codes "BadKey") (key_rule format)
+refusal_text (Rejected fault) = path_text fault
+refusal_text NoAuthority = codes "the last issuer is no CA"
+refusal_text NoName = codes "the subject would have no name"
+refusal_text Files = codes "complete takes two files"
+refusal_text NotToSign = codes "the first file isn't what is to be signed of a certificate"
+refusal_text (OtherName place) = fault_text (codes "OtherName") (name_rule place)
+refusal_text (Unfit e) = wanted_text e
+refusal_text Memory = codes "out of memory"

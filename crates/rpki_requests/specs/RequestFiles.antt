@@ -1,0 +1,71 @@
+-- What the files of a request are: the issuer's path, the subject's key, what is completed (own).
+use Rattle.std.specs.Prelude.{◌≡◌, ℕ, List, [], ◌∷◌, true, option_map, Option, Some, None}
+use Rattle.rpki.specs.Certificates.{TbsFields, IsTbsCertificate}
+use Rattle.rpki.specs.KeyForms.{IsUsableKey}
+use Rattle.rpki.specs.Keys.{KeyFields, IsPublicKey}
+use Rattle.rpki.specs.Kind.{Kind}
+use Rattle.rpki.specs.Kind.TheVariants.{Anchor}
+use Rattle.rpki.specs.Verification.{Context, ResourceFields}
+use Rattle.rpki_files.specs.SaidKinds.{SaysAuthority, SaysKind}
+use Rattle.rpki_verdicts.specs.PathFiles.{Demands}
+use Rattle.rpki_verdicts.specs.PathAnswers.{HoldSame, IsVerdictBy}
+use Rattle.rpki_verdicts.specs.declared.path.Verdict.TheVariants.{Accepted}
+
+-- the octets of the objects of the files that a request names: those of the issuer's path, those of
+-- the subject's key, and the others
+pub record InputFields : Type 0 where
+  pub issuers : List (List ℕ)
+  pub keys : List (List ℕ)
+  pub files : List (List ℕ)
+
+-- ---- who issues
+
+-- no locator is asked for, and names have to chain
+abbrev pub chained : Demands
+chained = record { locators = []; names = true }
+
+-- the files are accepted as a path without lists, and its last member is a CA, which holds this
+pub record IsHeldByLast (x : Context) (files : List (List ℕ)) (r : ResourceFields) : Type 0 where
+  pub accepted : IsVerdictBy x chained files [] (Accepted (record { holder = r; router = None }))
+  pub authority : SaysAuthority r.cert.fields
+
+-- the issuer, and what it holds; where there is no file, there is none
+abbrev pub IsIssuerOf : Context → List (List ℕ) → Option ResourceFields → Type 0
+IsIssuerOf x files None = files ≡ []
+IsIssuerOf x files (Some r) = IsHeldByLast x files r
+
+-- two are one: they have one certificate, and hold the same numbers
+abbrev pub AreOneIssuer : Option ResourceFields → Option ResourceFields → Type 0
+AreOneIssuer None None = Unit {0}
+AreOneIssuer (Some r) (Some s) = HoldSame r s
+AreOneIssuer _ _ = ⊥
+
+-- there is no other one
+abbrev pub IsOnlyIssuer : Context → List (List ℕ) → Option ResourceFields → Type 0
+IsOnlyIssuer x files issuer =
+    (other : Option ResourceFields) → IsIssuerOf x files other → AreOneIssuer other issuer
+
+-- the fields of its certificate
+abbrev pub fields_above : Option ResourceFields → Option TbsFields
+fields_above issuer = option_map (λ r. r.cert.fields) issuer
+
+-- ---- the key
+
+-- there is one file, and it is the SubjectPublicKeyInfo of a key that the RPKI uses
+pub record IsKeyFile (files : List (List ℕ)) (key : KeyFields) : Type 0 where
+  pub octets : List ℕ
+  pub alone : files ≡ octets ∷ []
+  pub is_key : IsPublicKey key octets
+  pub usable : IsUsableKey key
+
+-- ---- what is completed
+
+-- the octets are a TBSCertificate with these fields, of a key that the RPKI uses
+pub record IsToSign (f : TbsFields) (octets : List ℕ) : Type 0 where
+  pub is_data : IsTbsCertificate f octets
+  pub usable : IsUsableKey f.key
+
+-- as which kind it is completed: below an issuer as it says, and else as a trust anchor
+abbrev pub IsCompletedAs : Option ResourceFields → TbsFields → Kind → Type 0
+IsCompletedAs None f kind = kind ≡ Anchor
+IsCompletedAs (Some issuer) f kind = SaysKind kind f

@@ -1,0 +1,73 @@
+//! Who issues: the last of the CAs of a path.
+ghost use Rattle.std.specs.Prelude.{◌≡◌, ◌≢◌, ◌⊎◌, Option, None, IfErr, IfOk, IsSome};
+ghost use Rattle.rpki.specs.RsaSignatures.{IsSignedByRsa};
+ghost use Rattle.rpki.specs.Verification.{ResourceFields, context};
+ghost use Rattle.rpki_files.specs.Files.{contents};
+ghost use Rattle.rpki_files.specs.SaidKinds.{SaysAuthority};
+ghost use Rattle.rpki_requests.specs.RequestFiles.{IsIssuerOf, IsOnlyIssuer};
+ghost use Rattle.rpki_requests.specs.declared.refusals.Refusal.TheVariants.{Memory};
+
+use crate::refusals::Refusal;
+use rpki::repository::cert::ResourceCert;
+use rpki::repository::path::Judged;
+use rpki::repository::x509::Time;
+use rpki_files::Object;
+use rpki_verdicts::{Question, Verdict, judge, one_acceptance, one_answer};
+use std::alloc::Global;
+
+// The CA that the last member of a path is.
+fn authority_of(judged: Judged) -> Result<ResourceCert, Refusal>
+    ensures holder { IfOk result (λ r. (judged ≡ record { holder = r; router = None })
+        × SaysAuthority r.cert.fields) }
+    ensures no_authority { IfErr result (λ _. IsSome judged.router
+        ⊎ (SaysAuthority judged.holder.cert.fields → ⊥)) }
+{
+    let Judged { holder, router } = judged;
+    if router.is_some() {
+        drop(router);
+        drop(holder);
+        return Err(Refusal::NoAuthority);
+    }
+    drop(router);
+    if holder.as_cert().as_tbs().is_ca() {
+        return Ok(holder);
+    }
+    drop(holder);
+    Err(Refusal::NoAuthority)
+}
+
+/// Returns the CA that the path of these files ends in, and what it holds. The path is judged with
+/// real signatures, and its names have to chain. Gives `None` where there is no file.
+pub(crate) fn issuer_of(
+    alloc: Global,
+    files: &[Object<'_>],
+    strict: bool,
+    at: Time,
+) -> Result<Option<ResourceCert>, Refusal>
+    ensures issuer { let x = context IsSignedByRsa at strict in
+        IfOk result (IsIssuerOf x (contents files.now)) }
+    ensures only { let x = context IsSignedByRsa at strict in
+        IfOk result (IsOnlyIssuer x (contents files.now)) }
+    ensures none { let x = context IsSignedByRsa at strict in
+        IfErr result (λ why. why ≢ Memory → (issuer : Option ResourceFields)
+        → IsIssuerOf x (contents files.now) issuer → ⊥) }
+{
+    // Called for what they ensure alone.
+    one_answer();
+    one_acceptance();
+    let question = Question {
+        members: files,
+        lists: &[],
+        locators: &[],
+        names: true,
+        strict,
+        at,
+    };
+    let verdict = judge(alloc, &question);
+    drop(question);
+    match verdict? {
+        None => Ok(None),
+        Some(Verdict::Accepted(judged)) => Ok(Some(authority_of(judged)?)),
+        Some(Verdict::Rejected(fault)) => Err(Refusal::Rejected(fault)),
+    }
+}

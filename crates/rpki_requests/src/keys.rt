@@ -1,0 +1,100 @@
+//! The keys of a request's files, which the RPKI uses: the subject's, and that of what is completed.
+ghost use Rattle.std.specs.Prelude.{◌≡◌, IfErr, IfOk};
+ghost use Rattle.rpki.specs.Certificates.{IsTbsCertificate};
+ghost use Rattle.rpki.specs.KeyForms.{IsUsableKey};
+ghost use Rattle.rpki.specs.Keys.{IsPublicKey};
+ghost use Rattle.rpki_files.specs.Files.{contents};
+ghost use Rattle.rpki_requests.specs.Refusals.{AnswersOnly};
+ghost use Rattle.rpki_requests.specs.RequestFiles.{IsKeyFile, IsToSign};
+
+use crate::refusals::Refusal;
+use bytes::Bytes;
+use rpki::crypto::PublicKey;
+use rpki::crypto::keys::is_usable;
+use rpki::der::Cursor;
+use rpki::laws;
+use rpki::repository::cert::TbsCert;
+use rpki_files::Object;
+use std::alloc::Global;
+
+// The key, if the RPKI uses it.
+fn used(key: PublicKey) -> Result<PublicKey, Refusal>
+    ensures used { IfOk result (λ k. (k ≡ key) × IsUsableKey key) }
+    ensures unused { IfErr result (λ _. IsUsableKey key → ⊥) }
+{
+    if is_usable(&key) {
+        return Ok(key);
+    }
+    let format = key.algorithm();
+    drop(key);
+    Err(Refusal::UnusedKey(format))
+}
+
+// The key that the octets are.
+fn read_key(alloc: Global, octets: &Bytes) -> Result<PublicKey, Refusal>
+    ensures { AnswersOnly (λ key. IsPublicKey key octets.now) result }
+{
+    match PublicKey::from_bytes(alloc, octets.clone()?) {
+        Ok(key) => Ok(key),
+        Err(error) => {
+            let is_memory = error.is_memory();
+            drop(error);
+            if is_memory {
+                Err(Refusal::Memory)
+            } else {
+                Err(Refusal::NoKey)
+            }
+        }
+    }
+}
+
+/// Returns the key that the one file is, which has to be one that the RPKI uses.
+pub(crate) fn subject_key(alloc: Global, files: &[Object<'_>]) -> Result<PublicKey, Refusal>
+    ensures { AnswersOnly (IsKeyFile (contents files.now)) result }
+{
+    if files.len() != 1 {
+        return Err(Refusal::NoKey);
+    }
+    let key = read_key(alloc, files[0].octets())?;
+    used(key)
+}
+
+// The fields of the TBSCertificate that the octets are.
+fn read_data(alloc: Global, octets: &Bytes) -> Result<TbsCert, Refusal>
+    ensures { AnswersOnly (λ f. IsTbsCertificate f octets.now) result }
+{
+    laws::certificates::unambiguous();
+    let mut cursor = Cursor::new(octets);
+    match TbsCert::from_constructed(alloc, &mut cursor) {
+        Ok(tbs) => {
+            if cursor.is_empty() {
+                return Ok(tbs);
+            }
+            drop(tbs);
+            Err(Refusal::NotToSign)
+        }
+        Err(error) => {
+            let is_memory = error.is_memory();
+            drop(error);
+            if is_memory {
+                Err(Refusal::Memory)
+            } else {
+                Err(Refusal::NotToSign)
+            }
+        }
+    }
+}
+
+/// Returns the fields of what is to be signed, whose key has to be one that the RPKI uses.
+pub(crate) fn to_sign(alloc: Global, octets: &Bytes) -> Result<TbsCert, Refusal>
+    ensures { AnswersOnly (λ f. IsToSign f octets.now) result }
+{
+    let tbs = read_data(alloc, octets)?;
+    let key = tbs.subject_public_key_info();
+    if is_usable(key) {
+        return Ok(tbs);
+    }
+    let format = key.algorithm();
+    drop(tbs);
+    Err(Refusal::UnusedKey(format))
+}

@@ -1,0 +1,160 @@
+//! Why a request gives nothing.
+ghost use Rattle.std.specs.Prelude.{◌≡◌, Some};
+ghost use Rattle.std.specs.Fmt.{WritesOnOk};
+ghost use Rattle.rpki_files.specs.FaultRules.{rule_of};
+ghost use Rattle.rpki_requests.specs.Refusals.{fault_text, issuing_text, path_text, refusal_text, wanted_text};
+ghost use Rattle.rpki_requests.specs.declared.refusals.Refusal.TheVariants.{Memory};
+
+use crate::words::Setting;
+use rpki::crypto::PublicKeyFormat;
+use rpki::repository::error::ValidationError;
+use rpki::repository::issuing::IssuingError;
+use rpki_files::rules::{Rule, of_inspection, of_key, of_name, of_verification};
+use rpki_verdicts::Fault;
+use rpki_wanted::WantedError;
+use std::alloc::AllocError;
+use std::fmt;
+
+/// Why a request gives nothing.
+#[derive(Drop)]
+pub enum Refusal {
+    /// The option isn't given a value that it takes, or is given several where it takes one.
+    Value(Setting),
+    /// The file of the subject's key isn't a SubjectPublicKeyInfo.
+    NoKey,
+    /// The RPKI doesn't use the key of the certificate.
+    UnusedKey(PublicKeyFormat),
+    /// The issuer's path is rejected.
+    Rejected(Fault),
+    /// The last member of the issuer's path isn't a CA.
+    NoAuthority,
+    /// The subject would have no name.
+    NoName,
+    /// There aren't two files to be completed.
+    Files,
+    /// The first of them isn't a TBSCertificate.
+    NotToSign,
+    /// The name of its issuer isn't that of the certificate above, if there is one, or its own.
+    OtherName(usize),
+    /// It isn't ready to be signed, or wasn't signed.
+    Unfit(WantedError),
+    /// Memory ran out.
+    Memory,
+}
+
+impl From<AllocError> for Refusal {
+    ghost from_gives = { λ _ e. e ≡ Memory };
+
+    fn from(_error: AllocError) -> Refusal {
+        Refusal::Memory
+    }
+}
+
+// A fault by its name, and what it means.
+#[derive(Drop)]
+struct Reason {
+    name: &'static str,
+    rule: Rule,
+}
+
+impl fmt::Display for Reason {
+    ghost output = { λ r. Some (fault_text r.name.now (rule_of r.rule)) };
+
+    fn fmt<W: fmt::Write>(&self, f: &mut fmt::Formatter<W>) -> fmt::Result {
+        let name = self.name;
+        let says = self.rule.says;
+        let section = self.rule.section;
+        write!(f, "{name}: {says} ({section})")
+    }
+}
+
+// Writes why fields aren't ready, or why a signature isn't theirs.
+fn write_issuing<W: fmt::Write>(f: &mut fmt::Formatter<W>, error: &IssuingError) -> fmt::Result
+    ensures { WritesOnOk W.write_str_gives f.old result (issuing_text error.now) f.new }
+{
+    match error {
+        IssuingError::Unwritable => f.write_str("no certificate has these fields"),
+        IssuingError::TooLong => f.write_str("the certificate would be too long"),
+        IssuingError::Invalid(ValidationError::Inspection(fault)) => {
+            let reason = Reason {
+                name: fault.name(),
+                rule: of_inspection(*fault),
+            };
+            write!(f, "{reason}")
+        }
+        IssuingError::Invalid(ValidationError::Verification(fault)) => {
+            let reason = Reason {
+                name: fault.name(),
+                rule: of_verification(fault),
+            };
+            write!(f, "{reason}")
+        }
+        IssuingError::Memory => f.write_str("out of memory"),
+    }
+}
+
+// Writes why what is wanted isn't ready to be signed, or wasn't signed.
+fn write_wanted<W: fmt::Write>(f: &mut fmt::Formatter<W>, error: &WantedError) -> fmt::Result
+    ensures { WritesOnOk W.write_str_gives f.old result (wanted_text error.now) f.new }
+{
+    match error {
+        WantedError::NoRole => {
+            f.write_str("a trust anchor has no issuer, and other certificates have one")
+        }
+        WantedError::OtherOctets => {
+            f.write_str("the first file isn't what is prepared of its fields")
+        }
+        WantedError::Unready(error) | WantedError::Unsigned(error) => write_issuing(f, error),
+        WantedError::Memory => f.write_str("out of memory"),
+    }
+}
+
+// Writes which member of the issuer's path is wrong, and why.
+fn write_fault<W: fmt::Write>(f: &mut fmt::Formatter<W>, fault: &Fault) -> fmt::Result
+    ensures { WritesOnOk W.write_str_gives f.old result (path_text fault.now) f.new }
+{
+    let index = fault.index;
+    let step = fault.step;
+    let reason = Reason {
+        name: fault.name,
+        rule: fault.rule,
+    };
+    write!(f, "issuer {index} is rejected at {step}, {reason}")
+}
+
+impl fmt::Display for Refusal {
+    ghost output = { λ refusal. Some (refusal_text refusal) };
+
+    fn fmt<W: fmt::Write>(&self, f: &mut fmt::Formatter<W>) -> fmt::Result {
+        match self {
+            Refusal::Value(setting) => {
+                let option = setting.name();
+                write!(f, "{option} has no value that it takes")
+            }
+            Refusal::NoKey => f.write_str("the key's file is no public key"),
+            Refusal::UnusedKey(format) => {
+                let reason = Reason {
+                    name: "BadKey",
+                    rule: of_key(*format),
+                };
+                write!(f, "{reason}")
+            }
+            Refusal::Rejected(fault) => write_fault(f, fault),
+            Refusal::NoAuthority => f.write_str("the last issuer is no CA"),
+            Refusal::NoName => f.write_str("the subject would have no name"),
+            Refusal::Files => f.write_str("complete takes two files"),
+            Refusal::NotToSign => {
+                f.write_str("the first file isn't what is to be signed of a certificate")
+            }
+            Refusal::OtherName(place) => {
+                let reason = Reason {
+                    name: "OtherName",
+                    rule: of_name(*place),
+                };
+                write!(f, "{reason}")
+            }
+            Refusal::Unfit(error) => write_wanted(f, error),
+            Refusal::Memory => f.write_str("out of memory"),
+        }
+    }
+}
