@@ -1,6 +1,6 @@
 -- The issuer that files are, by their verdict.
 use Rattle.std.specs.Prelude.{IsSome, Option, Some, None}
-use Rattle.std.proofs.Common.{◌≡◌, ◌⊎◌, ℕ, List, [], inl, inr, subst}
+use Rattle.std.proofs.Common.{◌≡◌, ℕ, List, [], inl, inr, subst}
 use Rattle.std.proofs.lemmas.Bool.{false≢true}
 use Rattle.rpki.specs.Certificates.{CertFields}
 use Rattle.rpki.specs.Judged.{Judged}
@@ -10,7 +10,7 @@ use Rattle.rpki_verdicts.specs.PathAnswers.{AreSame, IsVerdictBy}
 use Rattle.rpki_verdicts.specs.declared.path.Fault.{Fault}
 use Rattle.rpki_verdicts.specs.declared.path.Verdict.{Verdict}
 use Rattle.rpki_verdicts.specs.declared.path.Verdict.TheVariants.{Accepted, Rejected}
-use Rattle.rpki_requests.specs.RequestFiles.{IsHeldByLast, IsIssuerOf, IsOnlyIssuer, chained}
+use Rattle.rpki_requests.specs.RequestFiles.{IsHeldByLast, IsIssuerOf, IsNoAuthority, IsOnlyIssuer, chained}
 
 -- what the last member of a path holds, where it isn't a router
 abbrev held_alone : ResourceFields → Judged
@@ -54,7 +54,7 @@ module _ (x : Context) where
       some_router (Some c) some is = cc
 
       -- and none where that is none
-      pub authority_none : IsSome judged.router ⊎ (SaysAuthority judged.holder.cert.fields → ⊥) → (issuer : Option ResourceFields) → IsIssuerOf x files issuer → ⊥
+      pub authority_none : IsNoAuthority judged → (issuer : Option ResourceFields) → IsIssuerOf x files issuer → ⊥
       authority_none why None empty = unjudged (Accepted judged) empty on
       authority_none (inl some) (Some s) held =
           some_router judged.router some (one (held_alone s) judged held.accepted on).1

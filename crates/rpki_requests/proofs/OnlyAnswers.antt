@@ -2,7 +2,7 @@
 use Rattle.std.specs.Prelude.{Result, Ok, Err, IfOk, IfErr}
 use Rattle.std.proofs.Common.{◌≡◌, ◌≢◌, ◌⊎◌, inl, inr, subst}
 use Rattle.rpki_values.specs.OnlyValues.{IsOnly}
-use Rattle.rpki_requests.specs.Refusals.{AnswersOnly}
+use Rattle.rpki_requests.specs.Refusals.{AnswersOnly, IsPathless}
 use Rattle.rpki_requests.specs.declared.refusals.Refusal.{Refusal}
 use Rattle.rpki_requests.specs.declared.refusals.Refusal.TheVariants.{Memory}
 
@@ -10,7 +10,7 @@ use Rattle.rpki_requests.specs.declared.refusals.Refusal.TheVariants.{Memory}
 pub when_ok : {A : Type 0} (Is : A → Type 0) (r : Result A Refusal) (a : A) → r ≡ Ok a → AnswersOnly Is r → IsOnly Is a
 when_ok {A = A} Is r a is only = subst (λ (s : Result A Refusal). AnswersOnly Is s) is only
 
-pub when_err : {A : Type 0} (Is : A → Type 0) (r : Result A Refusal) (why : Refusal) → r ≡ Err why → AnswersOnly Is r → why ≢ Memory → (a : A) → Is a → ⊥
+pub when_err : {A : Type 0} (Is : A → Type 0) (r : Result A Refusal) (why : Refusal) → r ≡ Err why → AnswersOnly Is r → IsPathless why × (why ≢ Memory → (a : A) → Is a → ⊥)
 when_err {A = A} Is r why is only = subst (λ (s : Result A Refusal). AnswersOnly Is s) is only
 
 -- two answers that are the only ones are the only two
@@ -19,5 +19,7 @@ both_only {A = A} {B = B} IsA IsB first second (Ok p) are why a b =
     let one = when_ok IsA first p.0 are.0 a in
     let other = when_ok IsB second p.1 are.1 b in
     ((one.0, other.0), λ q h. λ i. (one.1 q.0 h.0 i, other.1 q.1 h.1 i))
-both_only {A = A} {B = B} IsA IsB first second (Err why) are (inl is) a b = λ not q h. when_err IsA first why is a not q.0 h.0
-both_only {A = A} {B = B} IsA IsB first second (Err why) are (inr is) a b = λ not q h. when_err IsB second why is b not q.1 h.1
+both_only {A = A} {B = B} IsA IsB first second (Err why) are (inl is) a b =
+    let none = when_err IsA first why is a in (none.0, λ not q h. none.1 not q.0 h.0)
+both_only {A = A} {B = B} IsA IsB first second (Err why) are (inr is) a b =
+    let none = when_err IsB second why is b in (none.0, λ not q h. none.1 not q.1 h.1)

@@ -1,26 +1,50 @@
 -- Why a request gives nothing, and what is said of it (own).
-use Rattle.std.specs.Prelude.{◌≢◌, ℕ, List, ◌++◌, Result, Ok, Err, codes}
+use Rattle.std.specs.Prelude.{◌≢◌, ℕ, List, [], ◌++◌, Result, Ok, Err, codes}
 use Rattle.std.specs.Fmt.{decimal}
 use Rattle.rpki.specs.Inspection.{inspection_error_name}
 use Rattle.rpki.specs.IssuingError.{IssuingError}
 use Rattle.rpki.specs.IssuingError.TheVariants as issuing
+use Rattle.rpki.specs.Judged.{Judged}
 use Rattle.rpki.specs.ValidationError.TheVariants.{Inspection, Verification}
-use Rattle.rpki.specs.Verification.{verification_error_name}
+use Rattle.rpki.specs.Verification.{Context, verification_error_name}
 use Rattle.rpki_files.specs.FaultRules.{RuleFields, inspection_rule, key_rule, name_rule, rule_of, verification_rule}
 use Rattle.rpki_values.specs.OnlyValues.{IsOnly}
+use Rattle.rpki_verdicts.specs.PathAnswers.{IsVerdictBy}
 use Rattle.rpki_verdicts.specs.declared.path.Fault.{Fault}
+use Rattle.rpki_verdicts.specs.declared.path.Verdict.TheVariants as verdict
 use Rattle.rpki_wanted.specs.declared.preparing.WantedError.{WantedError}
 use Rattle.rpki_wanted.specs.declared.preparing.WantedError.TheVariants as wanted
+use Rattle.rpki_requests.specs.RequestFiles.{IsNoAuthority, chained}
 use Rattle.rpki_requests.specs.RequestWords.{setting_name}
 use Rattle.rpki_requests.specs.declared.refusals.Refusal.{Refusal}
 use Rattle.rpki_requests.specs.declared.refusals.Refusal.TheVariants.{Value, NoKey, UnusedKey, Rejected, NoAuthority, NoName, Files, NotToSign, OtherName, Unfit, Memory}
 
 -- ---- when one comes
 
--- the answer is the only one of which it is so; or, unless memory ran out, it is so of none
+-- it says nothing of the issuer's path
+abbrev pub IsPathless : Refusal → Type 0
+IsPathless (Rejected fault) = ⊥
+IsPathless NoAuthority = ⊥
+IsPathless _ = Unit {0}
+
+-- the answer is the only one of which it is so; or, unless memory ran out, it is so of none, and no
+-- issuer is in question
 abbrev pub AnswersOnly : {V : Type 0} → (V → Type 0) → Result V Refusal → Type 0
 AnswersOnly {V} Is (Ok v) = IsOnly Is v
-AnswersOnly {V} Is (Err why) = why ≢ Memory → (v : V) → Is v → ⊥
+AnswersOnly {V} Is (Err why) = IsPathless why × (why ≢ Memory → (v : V) → Is v → ⊥)
+
+-- the path that the files are is accepted, but its last member isn't a CA
+pub record EndsInNoAuthority (x : Context) (files : List (List ℕ)) : Type 0 where
+  pub judged : Judged
+  pub accepted : IsVerdictBy x chained files [] (verdict.Accepted judged)
+  pub no_authority : IsNoAuthority judged
+
+-- what it says of the issuer's path is so: the path is rejected for this fault, or it is accepted,
+-- but ends in no CA
+abbrev pub TellsPath : Context → List (List ℕ) → Refusal → Type 0
+TellsPath x files (Rejected fault) = IsVerdictBy x chained files [] (verdict.Rejected fault)
+TellsPath x files NoAuthority = EndsInNoAuthority x files
+TellsPath x files _ = Unit {0}
 
 -- ---- what is said of it
 
@@ -49,9 +73,8 @@ wanted_text wanted.Memory = codes "out of memory"
 -- of the issuer's path the member that is wrong, the step, and why
 abbrev pub path_text : Fault → List ℕ
 path_text fault =
-    let why = fault_text fault.name.now (rule_of fault.rule) in
-    codes "issuer "
-    ++ (decimal fault.index ++ (codes " is rejected at " ++ (fault.step.now ++ (codes ", " ++ why))))
+    let why = fault.step.now ++ (codes ", " ++ fault_text fault.name.now (rule_of fault.rule)) in
+    codes "issuer " ++ (decimal fault.index ++ (codes " is rejected at " ++ why))
 
 abbrev pub refusal_text : Refusal → List ℕ
 refusal_text (Value setting) = setting_name setting ++ codes " has no value that it takes"

@@ -1,6 +1,7 @@
 -- What the files of a request are: the issuer's path, the subject's key, what is completed (own).
-use Rattle.std.specs.Prelude.{◌≡◌, ℕ, List, [], ◌∷◌, true, option_map, Option, Some, None}
+use Rattle.std.specs.Prelude.{◌≡◌, ◌⊎◌, ℕ, List, [], ◌∷◌, true, option_map, IsSome, Option, Some, None}
 use Rattle.rpki.specs.Certificates.{TbsFields, IsTbsCertificate}
+use Rattle.rpki.specs.Judged.{Judged}
 use Rattle.rpki.specs.KeyForms.{IsUsableKey}
 use Rattle.rpki.specs.Keys.{KeyFields, IsPublicKey}
 use Rattle.rpki.specs.Kind.{Kind}
@@ -28,6 +29,10 @@ chained = record { locators = []; names = true }
 pub record IsHeldByLast (x : Context) (files : List (List ℕ)) (r : ResourceFields) : Type 0 where
   pub accepted : IsVerdictBy x chained files [] (Accepted (record { holder = r; router = None }))
   pub authority : SaysAuthority r.cert.fields
+
+-- what is judged ends in no CA: in a router, or in an end entity
+abbrev pub IsNoAuthority : Judged → Type 0
+IsNoAuthority judged = IsSome judged.router ⊎ (SaysAuthority judged.holder.cert.fields → ⊥)
 
 -- the issuer, and what it holds; where there is no file, there is none
 abbrev pub IsIssuerOf : Context → List (List ℕ) → Option ResourceFields → Type 0

@@ -2,10 +2,10 @@
 ghost use Rattle.std.specs.Prelude.{◌≡◌, ◌≢◌, ◌↔◌, ℕ, List, [], ◌∷◌, option_map, IfErr, IfOk, IsTrue, MatchOption};
 ghost use Rattle.rpki_files.specs.Files.{contents};
 ghost use Rattle.rpki_wanted.specs.AskedFields.{issuer_name};
-ghost use Rattle.rpki_requests.specs.Fulfilment.{AsksFields, Completes, CompletesBelow, Fulfils, Prepares, PreparesBelow, kind_prepared};
+ghost use Rattle.rpki_requests.specs.Fulfilment.{AsksFields, Completes, CompletesBelow, Fulfils, Prepares, PreparesBelow, context_of, kind_prepared};
 ghost use Rattle.rpki_requests.specs.RequestFiles.{IsCompletedAs, fields_above};
 ghost use Rattle.rpki_requests.specs.RequestWords.Views.{asked_fields};
-ghost use Rattle.rpki_requests.specs.Refusals.{AnswersOnly};
+ghost use Rattle.rpki_requests.specs.Refusals.{AnswersOnly, IsPathless, TellsPath};
 ghost use Rattle.rpki_requests.specs.declared.refusals.Refusal.TheVariants.{Memory};
 ghost use Rattle.rpki_wanted.specs.declared.preparing.WantedError.TheVariants as wanting;
 
@@ -46,7 +46,8 @@ impl<'f, 'n> Model for Inputs<'f, 'n> {
 
 // Why nothing is prepared or completed, where memory didn't run out.
 fn unfit(error: WantedError) -> Refusal
-    ensures { result ≢ Memory → error ≢ wanting.Memory }
+    ensures memory { result ≢ Memory → error ≢ wanting.Memory }
+    ensures pathless { IsPathless result }
 {
     match error {
         WantedError::Memory => Refusal::Memory,
@@ -107,6 +108,7 @@ fn prepared_below(
         let asked = asked_fields order.now in
         IfErr result (λ why. why ≢ Memory → (octets : List ℕ)
         → PreparesBelow kind asked (contents keys.now) at issuer octets → ⊥) }
+    ensures pathless { IfErr result IsPathless }
 {
     let tbs = fields_of(alloc, order, kind, keys, issuer)?;
     let octets = prepare_octets(alloc, &tbs, kind, issuer, order.strict, at);
@@ -131,6 +133,8 @@ fn prepared(
     ensures refused { let asked = asked_fields order.now in
         IfErr result (λ why. why ≢ Memory → (octets : List ℕ)
         → Prepares kind asked (contents issuers.now) (contents keys.now) at octets → ⊥) }
+    ensures told { let x = context_of (asked_fields order.now) at in
+        IfErr result (TellsPath x (contents issuers.now)) }
 {
     let issuer = issuer_of(alloc, issuers, order.strict, at)?;
     let made = prepared_below(alloc, order, kind, keys, issuer.as_ref(), at);
@@ -170,7 +174,8 @@ fn completed_as(tbs: &TbsCert, issuer: Option<&ResourceCert>) -> Kind
 
 // The place of what is completed, where names don't chain there.
 fn named_otherwise(issuer: Option<&ResourceCert>) -> Refusal
-    ensures { result ≢ Memory }
+    ensures memory { result ≢ Memory }
+    ensures pathless { IsPathless result }
 {
     match issuer {
         Some(_) => Refusal::OtherName(1),
@@ -194,6 +199,7 @@ fn completed_below(
         let asked = asked_fields order.now in
         IfErr result (λ why. why ≢ Memory → (octets : List ℕ)
         → CompletesBelow asked at issuer prepared.now signature.now octets → ⊥) }
+    ensures pathless { IfErr result IsPathless }
 {
     let tbs = to_sign(alloc, prepared)?;
     if !is_named(&tbs, issuer) {
@@ -235,6 +241,8 @@ fn completed(
     ensures refused { let asked = asked_fields order.now in
         IfErr result (λ why. why ≢ Memory → (octets : List ℕ)
         → Completes asked (contents issuers.now) (contents files.now) at octets → ⊥) }
+    ensures told { let x = context_of (asked_fields order.now) at in
+        IfErr result (TellsPath x (contents issuers.now)) }
 {
     let Some((prepared, signature)) = two_files(files) else {
         return Err(Refusal::Files);
@@ -270,6 +278,8 @@ pub fn fulfil(
     ensures fulfilled { IfOk result (Fulfils (asked_fields order.now) inputs.now at) }
     ensures refused { IfErr result (λ why. why ≢ Memory → (octets : List ℕ)
         → Fulfils (asked_fields order.now) inputs.now at octets → ⊥) }
+    ensures told { let x = context_of (asked_fields order.now) at in
+        IfErr result (TellsPath x inputs.now.issuers) }
 {
     match kind_to_prepare(order.errand) {
         Some(kind) => prepared(alloc, order, kind, inputs.issuers, inputs.keys, at),

@@ -1,11 +1,12 @@
 //! Who issues: the last of the CAs of a path.
-ghost use Rattle.std.specs.Prelude.{◌≡◌, ◌≢◌, ◌⊎◌, Option, None, IfErr, IfOk, IsSome};
+ghost use Rattle.std.specs.Prelude.{◌≡◌, ◌≢◌, Option, None, IfErr, IfOk};
 ghost use Rattle.rpki.specs.RsaSignatures.{IsSignedByRsa};
 ghost use Rattle.rpki.specs.Verification.{ResourceFields, context};
 ghost use Rattle.rpki_files.specs.Files.{contents};
 ghost use Rattle.rpki_files.specs.SaidKinds.{SaysAuthority};
-ghost use Rattle.rpki_requests.specs.RequestFiles.{IsIssuerOf, IsOnlyIssuer};
-ghost use Rattle.rpki_requests.specs.declared.refusals.Refusal.TheVariants.{Memory};
+ghost use Rattle.rpki_requests.specs.Refusals.{TellsPath};
+ghost use Rattle.rpki_requests.specs.RequestFiles.{IsIssuerOf, IsNoAuthority, IsOnlyIssuer};
+ghost use Rattle.rpki_requests.specs.declared.refusals.Refusal.TheVariants.{Memory, NoAuthority};
 
 use crate::refusals::Refusal;
 use rpki::repository::cert::ResourceCert;
@@ -19,8 +20,7 @@ use std::alloc::Global;
 fn authority_of(judged: Judged) -> Result<ResourceCert, Refusal>
     ensures holder { IfOk result (λ r. (judged ≡ record { holder = r; router = None })
         × SaysAuthority r.cert.fields) }
-    ensures no_authority { IfErr result (λ _. IsSome judged.router
-        ⊎ (SaysAuthority judged.holder.cert.fields → ⊥)) }
+    ensures no_authority { IfErr result (λ why. (why ≡ NoAuthority) × IsNoAuthority judged) }
 {
     let Judged { holder, router } = judged;
     if router.is_some() {
@@ -51,6 +51,8 @@ pub(crate) fn issuer_of(
     ensures none { let x = context IsSignedByRsa at strict in
         IfErr result (λ why. why ≢ Memory → (issuer : Option ResourceFields)
         → IsIssuerOf x (contents files.now) issuer → ⊥) }
+    ensures told { let x = context IsSignedByRsa at strict in
+        IfErr result (TellsPath x (contents files.now)) }
 {
     // Called for what they ensure alone.
     one_answer();

@@ -1,10 +1,10 @@
-//! The keys of a request's files, which the RPKI uses: the subject's, and that of what is completed.
+//! The keys of a request's files, which the RPKI uses: the subject's, and that of what is signed.
 ghost use Rattle.std.specs.Prelude.{◌≡◌, IfErr, IfOk};
 ghost use Rattle.rpki.specs.Certificates.{IsTbsCertificate};
 ghost use Rattle.rpki.specs.KeyForms.{IsUsableKey};
 ghost use Rattle.rpki.specs.Keys.{IsPublicKey};
 ghost use Rattle.rpki_files.specs.Files.{contents};
-ghost use Rattle.rpki_requests.specs.Refusals.{AnswersOnly};
+ghost use Rattle.rpki_requests.specs.Refusals.{AnswersOnly, IsPathless};
 ghost use Rattle.rpki_requests.specs.RequestFiles.{IsKeyFile, IsToSign};
 
 use crate::refusals::Refusal;
@@ -21,6 +21,7 @@ use std::alloc::Global;
 fn used(key: PublicKey) -> Result<PublicKey, Refusal>
     ensures used { IfOk result (λ k. (k ≡ key) × IsUsableKey key) }
     ensures unused { IfErr result (λ _. IsUsableKey key → ⊥) }
+    ensures pathless { IfErr result IsPathless }
 {
     if is_usable(&key) {
         return Ok(key);

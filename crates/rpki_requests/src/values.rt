@@ -2,7 +2,7 @@
 ghost use Rattle.std.specs.Prelude.{◌≡◌, ◌≢◌, ◌≤◌, ◌⊎◌, length, option_map, Ok, Err, IfErr, IfOk};
 ghost use Rattle.rpki_values.specs.BlockTexts.{AreListed};
 ghost use Rattle.rpki_requests.specs.OptionValues.{GivesNumbers, GivesPlaces, GivesWanted, IsMomentSaid, SaysAtMostOnce, SaysOnce, given_alone};
-ghost use Rattle.rpki_requests.specs.Refusals.{AnswersOnly};
+ghost use Rattle.rpki_requests.specs.Refusals.{AnswersOnly, IsPathless};
 ghost use Rattle.rpki_requests.specs.RequestWords.{values_of};
 ghost use Rattle.rpki_requests.specs.RequestWords.Views.{asked_fields};
 ghost use Rattle.rpki_requests.specs.declared.refusals.Refusal.TheVariants.{Memory};
@@ -27,6 +27,7 @@ fn value_of<'a>(
         IfOk result (λ text. texts ≡ given_alone (option_map (λ t. t.now) text)) }
     ensures several { let texts = values_of setting (asked_fields order.now).given in
         IfErr result (λ why. why ≢ Memory → 2 ≤ length texts) }
+    ensures pathless { IfErr result IsPathless }
 {
     let texts = order.values_of(alloc, setting)?;
     let found = match texts.as_slice() {

@@ -23,18 +23,19 @@ returns-in-Some c =
     asks_only c.args.kind asked keys issuer c.in-Ok.wanted c.in-Ok.key only c.in-Some.tbs c.subject.result.now (made ∙ above) c.subject.ensures c.as_bytes-octets.ensures.valid
 
 pub returns-in-None : goal.returns-in-None
-returns-in-None c = λ not.
+returns-in-None c =
     let asked = asked_fields c.args.order.now in
     let keys = contents c.args.keys.now in
     let issuer = option_map (λ (r : Bor ResourceFields). r.now) c.args.issuer in
     let says = both_only (GivesWanted asked.given) (IsKeyFile keys) c.wanted-wanted.result c.subject_key-key.result c.both.result c.both.ensures.both c.both.ensures.refused c.wanted-wanted.ensures c.subject_key-key.ensures in
     let only = when_ok (Says asked keys) c.both.result (c.in-Ok.wanted, c.in-Ok.key) c.in-Ok.is says in
     let unnamed = rw c.in-None.is at c.in_ok-tbs-in-Ok.ensures in
-    asks_none c.args.kind asked keys issuer c.in-Ok.wanted c.in-Ok.key only unnamed
+    (tt, λ not. asks_none c.args.kind asked keys issuer c.in-Ok.wanted c.in-Ok.key only unnamed)
 
 pub returns-in-Err : goal.returns-in-Err
-returns-in-Err c = λ not f h.
+returns-in-Err c =
     let asked = asked_fields c.args.order.now in
     let keys = contents c.args.keys.now in
     let says = both_only (GivesWanted asked.given) (IsKeyFile keys) c.wanted-wanted.result c.subject_key-key.result c.both.result c.both.ensures.both c.both.ensures.refused c.wanted-wanted.ensures c.subject_key-key.ensures in
-    when_err (Says asked keys) c.both.result c.in-Err.why c.in-Err.is says not (h.wanted, h.key) (h.wanted_is, h.key_is)
+    let none = when_err (Says asked keys) c.both.result c.in-Err.why c.in-Err.is says in
+    (none.0, λ not f h. none.1 not (h.wanted, h.key) (h.wanted_is, h.key_is))

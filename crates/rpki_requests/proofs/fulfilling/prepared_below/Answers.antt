@@ -8,11 +8,11 @@ use Rattle.rpki_requests.proofs.fulfilling.prepared_below.Goals as goal
 pub returns-in_err-tbs-clause-refused : goal.returns-in_err-tbs-clause-refused
 returns-in_err-tbs-clause-refused c =
     let same : c.from_residual.result ≡ Err c.in_err-tbs.field-0.0 = search rules in
-    rw same (λ not octets p. c.in_err-tbs.ensures not p.fields p.asks)
+    rw same (λ not octets p. c.in_err-tbs.ensures.1 not p.fields p.asks)
 
 pub returns-in-Err-clause-refused : goal.returns-in-Err-clause-refused
 returns-in-Err-clause-refused c = λ not octets p.
     let issuer = option_map (λ (r : Bor ResourceFields). r.now) c.args.issuer in
     let same = c.in_ok-tbs.ensures.1 p.fields p.asks in
-    c.in-Err.ensures.refused (c.unfit.ensures not) octets
+    c.in-Err.ensures.refused (c.unfit.ensures.memory not) octets
     (subst (λ (f : TbsFields). IsPrepared c.args.kind issuer c.args.at c.args.order.now.strict f octets) same p.prepared)

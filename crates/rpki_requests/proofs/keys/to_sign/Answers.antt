@@ -9,7 +9,7 @@ use Rattle.rpki_requests.proofs.keys.to_sign.Goals as goal
 pub returns-in_err-tbs : goal.returns-in_err-tbs
 returns-in_err-tbs c =
     let same : c.from_residual.result ≡ Err c.in_err-tbs.field-0.0 = search rules in
-    rw same (λ not f h. c.in_err-tbs.ensures not f h.is_data)
+    rw same (c.in_err-tbs.ensures.0, λ not f h. c.in_err-tbs.ensures.1 not f h.is_data)
 
 pub returns-then-is_usable : goal.returns-then-is_usable
 returns-then-is_usable c = (
@@ -21,6 +21,9 @@ returns-then-is_usable c = (
 )
 
 pub returns : goal.returns
-returns c = λ not f h.
-    let key = ap (λ (g : TbsFields). g.key) (c.in_ok-tbs.ensures.1 f h.is_data) ∙ sym c.subject_public_key_info-key.ensures in
-    false≢true (sym c.if-is_usable.false ∙ c.is_usable.ensures.1 (subst (λ (k : KeyFields). IsUsableKey k) key h.usable))
+returns c = (
+  tt,
+  λ not f h.
+      let key = ap (λ (g : TbsFields). g.key) (c.in_ok-tbs.ensures.1 f h.is_data) ∙ sym c.subject_public_key_info-key.ensures in
+      false≢true (sym c.if-is_usable.false ∙ c.is_usable.ensures.1 (subst (λ (k : KeyFields). IsUsableKey k) key h.usable)),
+)

@@ -14,8 +14,8 @@ returns-in-Some g c =
     subst (λ (l : List (List ℕ)). IsOnly (λ (r : Resources). AreListed g.T.BlockText.is_text r l) c.in-Some.resources) texts (rw c.in-Some.is at c.in_ok-resources.ensures)
 
 pub returns-in-None : goal.returns-in-None
-returns-in-None g c = λ not v h.
+returns-in-None g c =
     let texts : map (λ (t : Bor (List ℕ)). t.now) c.deref.result.now ≡ values_of c.args.setting (map given_fields c.args.order.now.given.items) =
     ap (λ (l : List (Bor (List ℕ))). map (λ (t : Bor (List ℕ)). t.now) l) c.deref.ensures.value ∙ c.in_ok-texts.ensures in
     let none = rw c.in-None.is at c.in_ok-resources.ensures in
-    none v (subst (λ (l : List (List ℕ)). AreListed g.T.BlockText.is_text v l) (sym texts) h)
+    (tt, λ not v h. none v (subst (λ (l : List (List ℕ)). AreListed g.T.BlockText.is_text v l) (sym texts) h))

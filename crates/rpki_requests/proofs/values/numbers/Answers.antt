@@ -12,8 +12,9 @@ returns-in-Ok c =
     numbers_ok given _ (when_ok (AreNumbers given) c.both-all.result _ c.in-Ok.is all)
 
 pub returns-in-Err : goal.returns-in-Err
-returns-in-Err c = λ not.
+returns-in-Err c =
     let given = map given_fields c.args.order.now.given.items in
     let addresses = both_only (IsV4 given) (IsV6 given) c.listed_of-v4.result c.listed_of-v6.result c.both-addresses.result c.both-addresses.ensures.both c.both-addresses.ensures.refused c.listed_of-v4.ensures c.listed_of-v6.ensures in
     let all = both_only (Both given (IsV4 given) (IsV6 given)) (IsSystems given) c.both-addresses.result c.listed_of-systems.result c.both-all.result c.both-all.ensures.both c.both-all.ensures.refused addresses c.listed_of-systems.ensures in
-    numbers_none given (when_err (AreNumbers given) c.both-all.result c.in-Err.why c.in-Err.is all not)
+    let none = when_err (AreNumbers given) c.both-all.result c.in-Err.why c.in-Err.is all in
+    (none.0, λ not. numbers_none given (none.1 not))

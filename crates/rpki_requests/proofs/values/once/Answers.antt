@@ -8,7 +8,7 @@ use Rattle.rpki_requests.proofs.values.once.Goals as goal
 pub returns-in_err-value : goal.returns-in_err-value
 returns-in_err-value g c =
     let same : c.from_residual.result ≡ Err c.in_err-value.field-0.0 = search rules in
-    rw same (λ not w h. c.in_err-value.ensures not (Some w) h)
+    rw same (c.in_err-value.ensures.0, λ not w h. c.in_err-value.ensures.1 not (Some w) h)
 
 pub returns-in-Some : goal.returns-in-Some
 returns-in-Some g c =

@@ -15,11 +15,12 @@ returns-in-Ok c =
     places_ok given _ (when_ok (ArePlaces given) c.both-all.result _ c.in-Ok.is all)
 
 pub returns-in-Err : goal.returns-in-Err
-returns-in-Err c = λ not.
+returns-in-Err c =
     let given = map given_fields c.args.order.now.given.items in
     let own = both_only (IsRepository given) (IsManifest given) c.at_most_once-repository.result c.at_most_once-manifest.result c.both-own.result c.both-own.ensures.both c.both-own.ensures.refused c.at_most_once-repository.ensures c.at_most_once-manifest.ensures in
     let more = both_only (IsObject given) (IsNotify given) c.at_most_once-object.result c.at_most_once-notify.result c.both-more.result c.both-more.ensures.both c.both-more.ensures.refused c.at_most_once-object.ensures c.at_most_once-notify.ensures in
     let below = both_only (Both given (IsRepository given) (IsManifest given)) (Both given (IsObject given) (IsNotify given)) c.both-own.result c.both-more.result c.both-below.result c.both-below.ensures.both c.both-below.ensures.refused own more in
     let above = both_only (IsIssuerUri given) (IsList given) c.at_most_once-issuer.result c.at_most_once-list.result c.both-above.result c.both-above.ensures.both c.both-above.ensures.refused c.at_most_once-issuer.ensures c.at_most_once-list.ensures in
     let all = both_only (Both given (Both given (IsRepository given) (IsManifest given)) (Both given (IsObject given) (IsNotify given))) (Both given (IsIssuerUri given) (IsList given)) c.both-below.result c.both-above.result c.both-all.result c.both-all.ensures.both c.both-all.ensures.refused below above in
-    places_none given (when_err (ArePlaces given) c.both-all.result c.in-Err.why c.in-Err.is all not)
+    let none = when_err (ArePlaces given) c.both-all.result c.in-Err.why c.in-Err.is all in
+    (none.0, λ not. places_none given (none.1 not))

@@ -6,13 +6,13 @@ use Rattle.rpki_requests.proofs.OnlyAnswers.{both_only, when_ok, when_err}
 use Rattle.rpki_requests.proofs.values.wanted.Goals as goal
 
 pub returns-in-Err : goal.returns-in-Err
-returns-in-Err c = λ not w h. c.in-Err.ensures not w.serial h.serial_is
+returns-in-Err c = (c.in-Err.ensures.0, λ not w h. c.in-Err.ensures.1 not w.serial h.serial_is)
 
 pub returns-in-Err-moment : goal.returns-in-Err-moment
-returns-in-Err-moment c = λ not w h. c.in-Err-moment.ensures not w.not_before h.from_is
+returns-in-Err-moment c = (c.in-Err-moment.ensures.0, λ not w h. c.in-Err-moment.ensures.1 not w.not_before h.from_is)
 
 pub returns-in-Err-moment-2 : goal.returns-in-Err-moment-2
-returns-in-Err-moment-2 c = λ not w h. c.in-Err-moment-2.ensures not w.not_after h.until_is
+returns-in-Err-moment-2 c = (c.in-Err-moment-2.ensures.0, λ not w h. c.in-Err-moment-2.ensures.1 not w.not_after h.until_is)
 
 pub returns-in-Ok-both : goal.returns-in-Ok-both
 returns-in-Ok-both c =
@@ -22,7 +22,8 @@ returns-in-Ok-both c =
     (when_ok (AreParts given) c.both.result (c.in-Ok-both.numbers, c.in-Ok-both.places) c.in-Ok-both.is parts)
 
 pub returns-in-Err-both : goal.returns-in-Err-both
-returns-in-Err-both c = λ not w h.
+returns-in-Err-both c =
     let given = map given_fields c.args.order.now.given.items in
     let parts = both_only (GivesNumbers given) (GivesPlaces given) c.numbers-numbers.result c.places-places.result c.both.result c.both.ensures.both c.both.ensures.refused c.numbers-numbers.ensures c.places-places.ensures in
-    when_err (AreParts given) c.both.result c.in-Err-both.why c.in-Err-both.is parts not (w.numbers, w.places) (h.numbers_are, h.places_are)
+    let none = when_err (AreParts given) c.both.result c.in-Err-both.why c.in-Err-both.is parts in
+    (none.0, λ not w h. none.1 not (w.numbers, w.places) (h.numbers_are, h.places_are))
