@@ -6,9 +6,15 @@ _rpki() {
         show) options='--output --json --quiet --all --at --lenient --max-size --help' ;;
         validate) options='--output --json --quiet --tal --crl --no-names --at --lenient --max-size --help' ;;
         tree) options='--output --json --quiet --tal --at --lenient --max-size --help' ;;
+        prepare) options='--issuer --key --serial --from --until --ipv4 --ipv6 --as --repository --manifest --notify --object --issuer-uri --crl-uri --trim --at --lenient' ;;
+        complete) options='--issuer --pem --at --lenient' ;;
     esac
     if ((COMP_CWORD == 1)); then
-        mapfile -t COMPREPLY < <(compgen -W 'show validate tree help --version --help' -- "$word")
+        mapfile -t COMPREPLY < <(compgen -W 'show validate tree prepare complete help --version --help' -- "$word")
+        return
+    fi
+    if ((COMP_CWORD == 2)) && [[ ${COMP_WORDS[1]} == prepare ]]; then
+        mapfile -t COMPREPLY < <(compgen -W 'ca ee detached router anchor' -- "$word")
         return
     fi
     [[ -n $options ]] || return
@@ -16,12 +22,13 @@ _rpki() {
     [[ $before != = ]] || before=${COMP_WORDS[COMP_CWORD - 2]}
     [[ $word != = ]] || word=''
     case $before in
-        --at | --max-size) return ;;
+        --at | --max-size | --serial | --from | --until | --ipv4 | --ipv6 | --as) return ;;
+        --repository | --manifest | --notify | --object | --issuer-uri | --crl-uri) return ;;
         -o | --output)
             mapfile -t COMPREPLY < <(compgen -W 'text json jsonl' -- "$word")
             return
             ;;
-        --tal | --crl) options='' ;;
+        --tal | --crl | --issuer | --key) options='' ;;
     esac
     # behind -- each word is a file
     for ((at = 2; at < COMP_CWORD; at++)); do

@@ -12,7 +12,8 @@ use Rattle.rpki_arguments.specs.CommandLines.{RequestFields, IsCommandLine}
 use Rattle.rpki_command.specs.Outcomes.{AsksOfFiles, IsOutcomeOf, demands_by, run_status}
 use Rattle.rpki_command.specs.ListedFolders.{Lists}
 use Rattle.rpki_command.specs.ReadFiles.{Reads}
-use Rattle.rpki_command.specs.Runs.{IsAnswerOf, IsMomentBy, RunEnds, TaskEnds}
+use Rattle.rpki_command.specs.Moments.{IsMomentBy}
+use Rattle.rpki_command.specs.Runs.{IsAnswerOf, LineEnds, TaskEnds}
 use Rattle.rpki_arguments.specs.declared.arguments.Task.{Task}
 use Rattle.rpki_arguments.specs.declared.arguments.Task.TheVariants.{Show, Validate, Tree, Help, Version}
 use Rattle.rpki_command.specs.declared.outcomes.Ended.{Ended}
@@ -36,7 +37,7 @@ module _ (reads : Reads) (lists : Lists) (tells : Moment → Type 0) (words : Li
   about_ends Help none = (refl, refl)
   about_ends Version none = (refl, refl)
 
-  pub run_about : (AsksOfFiles r.task → ⊥) → RunEnds reads lists tells words Success (about_text r.task)
+  pub run_about : (AsksOfFiles r.task → ⊥) → LineEnds reads lists tells words Success (about_text r.task)
   run_about none = (r, line, about_ends r.task none)
 
   -- the answer of files
@@ -56,7 +57,7 @@ module _ (reads : Reads) (lists : Lists) (tells : Moment → Type 0) (words : Li
     pub answer_is_use : (text : List ℕ) → IsAnswerOf reads lists r now WrongUse text → ⊥
     answer_is_use text (names, are, answer) = no_misuse r.task (context IsSignedByRsa now r.strict) (demands_by r (locator_files answer.locators)) (contents answer.files) (contents answer.lists) answer.ends.1
 
-    pub run_answer : (outcome : Outcome) (text : List ℕ) → IsAnswerOf reads lists r now outcome text → RunEnds reads lists tells words outcome text
+    pub run_answer : (outcome : Outcome) (text : List ℕ) → IsAnswerOf reads lists r now outcome text → LineEnds reads lists tells words outcome text
     run_answer Success text answer = (r, line, answer_ends r.task asks now Success text moment answer)
     run_answer Rejection text answer = (r, line, answer_ends r.task asks now Rejection text moment answer)
     run_answer WrongUse text answer = absurd (answer_is_use text answer)

@@ -3,11 +3,14 @@ mod AppendedTexts
 mod EndedRuns
 mod FlaggedItems
 mod ListedNames
+mod NamedObjects
 mod PartsOfEach
+mod PemLines
 mod PrintedFiles
 mod PushedItems
 mod PushedValues
 mod PutMembers
+mod RanRequests
 mod ReadFiles
 mod ShownFiles
 mod ShownValues

@@ -11,6 +11,8 @@ usage_text = concat (
     ∷ codes "       rpki validate [--tal FILE].. [--crl FILE].. [--no-names] [OPTION].."
     ∷ codes " ANCHOR [CA].. [LAST]\n"
     ∷ codes "       rpki tree --tal FILE.. [OPTION].. FILE|FOLDER..\n"
+    ∷ codes "       rpki prepare ca|ee|detached|router|anchor [--issuer FILE].. --key FILE FIELD..\n"
+    ∷ codes "       rpki complete [--issuer FILE].. [--pem] PREPARED SIGNATURE\n"
     ∷ codes "       rpki help | --version\n"
     ∷ codes "OPTION: -o|--output FORMAT, -j|--json (-o json), -q|--quiet (the status alone),"
     ∷ codes " --at MOMENT,\n"
@@ -23,6 +25,11 @@ usage_text = concat (
     ∷ codes "LAST: a CA, an end entity or a router\n"
     ∷ codes "MOMENT: YYYY-MM-DD, YYYY-MM-DDThh:mm:ssZ or YYYYMMDDhhmmss; the clock's, if it is"
     ∷ codes " left out\n"
+    ∷ codes "FIELD: --serial HEX, --from MOMENT, --until MOMENT, --ipv4 BLOCK, --ipv6 BLOCK,"
+    ∷ codes " --as NUMBERS,\n"
+    ∷ codes "--repository URI, --manifest URI, --notify URI, --object URI, --issuer-uri URI,"
+    ∷ codes " --crl-uri URI,\n"
+    ∷ codes "or --trim; of options prepare and complete take --at and --lenient\n"
     ∷ codes "Behind -- each word is a file.\n"
     ∷ [])
 

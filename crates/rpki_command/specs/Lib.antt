@@ -20,4 +20,8 @@ pub mod JsonVerdicts
 pub mod JsonTrees
 pub mod JsonAnswers
 pub mod AnswerTexts
+pub mod Messages
+pub mod Moments
+pub mod PemTexts
+pub mod RequestRuns
 pub mod Runs

@@ -1,19 +1,20 @@
 -- How a run of the command ends, and what it writes, by what reading files and listing folders gives and
 -- by what a clock tells (own).
-use Rattle.std.specs.Prelude.{◌≡◌, ◌≢◌, ℕ, List, [], ◌++◌, codes, Option, Some, None, IsFalse, IsTrue}
-use Rattle.std.specs.Io.KnownBytes.{Appends}
+use Rattle.std.specs.Prelude.{◌≡◌, ◌≢◌, ◌⊎◌, ℕ, List, [], Option, IsFalse, IsTrue}
 use Rattle.rpki.specs.Times.{Moment}
 use Rattle.rpki_files.specs.Files.{FileFields}
 use Rattle.rpki_verdicts.specs.GivenLocators.{LocatorFields, locator_files}
 use Rattle.rpki_command.specs.AboutTexts.{usage_text, version_text}
 use Rattle.rpki_command.specs.AnswerTexts.{HasText, IsTextBy, IsJsonBy}
 use Rattle.rpki_arguments.specs.CommandLines.{RequestFields, IsCommandLine}
-use Rattle.rpki_arguments.specs.MisuseTexts.{misuse_text}
 use Rattle.rpki_command.specs.ListedFolders.{Lists, AreFilesOf}
 use Rattle.rpki_command.specs.Outcomes.{EndsBy}
+use Rattle.rpki_command.specs.Messages.{SaysLineMisuse, SaysRequestMisuse}
+use Rattle.rpki_command.specs.Moments.{IsMomentBy}
 use Rattle.rpki_command.specs.ReadFiles.{Reads, AreRead}
+use Rattle.rpki_command.specs.RequestRuns.{RequestEnds}
+use Rattle.rpki_requests.specs.RequestWords.{BeginsRequest}
 use Rattle.rpki_arguments.specs.declared.arguments.Format.TheVariants.{Text}
-use Rattle.rpki_arguments.specs.declared.arguments.Misuse.{Misuse}
 use Rattle.rpki_arguments.specs.declared.arguments.Task.{Task}
 use Rattle.rpki_arguments.specs.declared.arguments.Task.TheVariants.{Show, Validate, Help, Version}
 use Rattle.rpki_command.specs.declared.outcomes.Outcome.{Outcome}
@@ -41,12 +42,7 @@ IsAnswerOf reads lists r now outcome text =
     (names : List (List ℕ)) × AreFilesOf lists r.task r.files names
     × IsAnswer reads (record r { files = names }) now outcome text
 
--- the moment that is named, or else one that the clock tells
-abbrev pub IsMomentBy : (Moment → Type 0) → Option Moment → Moment → Type 0
-IsMomentBy tells None now = tells now
-IsMomentBy tells (Some named) now = now ≡ named
-
--- ---- a run
+-- ---- a command line
 
 -- what is asked ends so, with this text: a text about the command, or the answer of files
 abbrev pub TaskEnds : Task → Reads → Lists → (Moment → Type 0) → RequestFields → Outcome → List ℕ → Type 0
@@ -57,21 +53,28 @@ TaskEnds _ reads lists tells r outcome text =
 
 -- a run on these words ends so, with this text: with wrong use and none exactly where they are no
 -- command line, else as what they ask does
-abbrev pub RunEnds : Reads → Lists → (Moment → Type 0) → List (List ℕ) → Outcome → List ℕ → Type 0
-RunEnds reads lists tells words WrongUse text = ((r : RequestFields) → IsCommandLine r words → ⊥) × (text ≡ [])
-RunEnds reads lists tells words outcome text =
+abbrev pub LineEnds : Reads → Lists → (Moment → Type 0) → List (List ℕ) → Outcome → List ℕ → Type 0
+LineEnds reads lists tells words WrongUse text = ((r : RequestFields) → IsCommandLine r words → ⊥) × (text ≡ [])
+LineEnds reads lists tells words outcome text =
     (r : RequestFields) × IsCommandLine r words × TaskEnds r.task reads lists tells r outcome text
+
+-- ---- a run
+
+-- a run on these words ends so, with this text: as a request to prepare or to complete something where
+-- they begin as one, else as a command line
+abbrev pub RunEnds : Reads → Lists → (Moment → Type 0) → List (List ℕ) → Outcome → List ℕ → Type 0
+RunEnds reads lists tells words outcome text =
+    (BeginsRequest words × RequestEnds reads tells words outcome text)
+    ⊎ ((BeginsRequest words → ⊥) × LineEnds reads lists tells words outcome text)
 
 -- it ends so, with some text
 abbrev pub RunEndsAs : Reads → Lists → (Moment → Type 0) → List (List ℕ) → Outcome → Type 0
 RunEndsAs reads lists tells words outcome = (text : List ℕ) × RunEnds reads lists tells words outcome text
 
--- ---- words that are no command line
+-- ---- words that ask nothing
 
--- what is said: what is wrong, in a line, and then how the command is used
-abbrev pub misuse_message : Misuse → List ℕ
-misuse_message misuse = (codes "rpki: " ++ misuse_text misuse ++ codes "\n") ++ usage_text
-
--- what was written since is what is said of one thing that is wrong
-abbrev pub SaysMisuse : Option (List ℕ) → Option (List ℕ) → Type 0
-SaysMisuse before after = (misuse : Misuse) × Appends before after (misuse_message misuse)
+-- what was written since is what is said of one thing that is wrong with them, by what they begin as
+abbrev pub SaysMisuse : List (List ℕ) → Option (List ℕ) → Option (List ℕ) → Type 0
+SaysMisuse words before after =
+    (BeginsRequest words × SaysRequestMisuse before after)
+    ⊎ ((BeginsRequest words → ⊥) × SaysLineMisuse before after)

@@ -8,6 +8,8 @@ use rpki_arguments::Task;
 const USAGE: &str = "usage: rpki show [--all] [OPTION].. FILE..
        rpki validate [--tal FILE].. [--crl FILE].. [--no-names] [OPTION].. ANCHOR [CA].. [LAST]
        rpki tree --tal FILE.. [OPTION].. FILE|FOLDER..
+       rpki prepare ca|ee|detached|router|anchor [--issuer FILE].. --key FILE FIELD..
+       rpki complete [--issuer FILE].. [--pem] PREPARED SIGNATURE
        rpki help | --version
 OPTION: -o|--output FORMAT, -j|--json (-o json), -q|--quiet (the status alone), --at MOMENT,
 --lenient, or --max-size OCTETS (of a file; 67108864 if it is left out)
@@ -17,6 +19,9 @@ locator; - for standard input
 FOLDER: the files in it and below it that end in .cer or .crl
 LAST: a CA, an end entity or a router
 MOMENT: YYYY-MM-DD, YYYY-MM-DDThh:mm:ssZ or YYYYMMDDhhmmss; the clock's, if it is left out
+FIELD: --serial HEX, --from MOMENT, --until MOMENT, --ipv4 BLOCK, --ipv6 BLOCK, --as NUMBERS,
+--repository URI, --manifest URI, --notify URI, --object URI, --issuer-uri URI, --crl-uri URI,
+or --trim; of options prepare and complete take --at and --lenient
 Behind -- each word is a file.
 ";
 

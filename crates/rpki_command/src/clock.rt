@@ -1,6 +1,6 @@
 //! Who tells the moment.
 ghost use Rattle.std.specs.Prelude.{IfOk};
-ghost use Rattle.rpki_command.specs.Runs.{IsMomentBy};
+ghost use Rattle.rpki_command.specs.Moments.{IsMomentBy};
 
 use anyhow::{Context, Result, anyhow};
 use rpki::repository::x509::Time;

@@ -1,6 +1,6 @@
-//! The command for people, `rpki show`, `rpki validate` and `rpki tree`: shows certificates,
-//! revocation lists and locators of files, validates paths of files, and judges all certificates
-//! among files.
+//! The command for people, `rpki show`, `rpki validate`, `rpki tree`, `rpki prepare` and `rpki
+//! complete`: shows certificates, revocation lists and locators of files, validates paths of files,
+//! judges all certificates among files, and prepares and completes certificates.
 #![tactic(auto)]
 
 ghost use Rattle.std.specs.Prelude.{◌≡◌, ◌≢◌, ◌↔◌, ◌⊎◌, ◌≤◌, IfOk, IsErr, IsErrAnd, IsOkAnd};
@@ -17,10 +17,13 @@ mod details;
 mod facts;
 mod files;
 mod folders;
+mod inputs;
 mod notes;
 pub mod outcome_laws;
 mod outcomes;
+mod pem;
 mod reading;
+mod requests;
 mod running;
 mod showing;
 mod tree_lines;
@@ -72,10 +75,12 @@ fn tell<E: Write>(err: &mut E, error: &Error) {
 }
 
 // Runs the command on the words of a command line: writes what the files hold that they name, or
-// the verdict on their path, or on each certificate among them. The exit status is 0 where all files
-// were shown, or the path or all certificates are accepted; 1 where a file is no certificate, list or locator, the path is rejected, or a file
-// given as a list or a locator is none; 2 where the command line has another form; and 3 where a
-// file can't be read, or the clock, memory or an output failed.
+// the verdict on their path, or on each certificate among them, or what they prepare or complete.
+// The exit status is 0 where all files were shown, the path or all certificates are accepted, or
+// something was prepared or completed; 1 where a file is no certificate, list or locator, the path is
+// rejected, a file given as a list or a locator is none, or nothing is prepared or completed; 2 where
+// the command line has another form; and 3 where a file can't be read, or the clock, memory or an
+// output failed.
 fn command<S: FileSource + MomentSource, O: Write, E: Write>(
     alloc: Global,
     system: &S,

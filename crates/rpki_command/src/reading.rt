@@ -21,8 +21,8 @@ pub fn tell<E: Write>(err: &mut E, name: &[u8], why: &Unread) {
     let _told = writeln!(err, "rpki: {name}: {why}");
 }
 
-// What the file of this name holds, or why it can't be read.
-fn octets_by<'a, F: FileSource>(
+/// Returns what the file of this name holds, or why it can't be read.
+pub fn octets_by<'a, F: FileSource>(
     alloc: Global,
     files: &F,
     name: &'a [u8],

@@ -3,7 +3,10 @@ ghost use Rattle.std.specs.Prelude.{◌≡◌, ◌≢◌, List, ℕ, IfOk, OnErr
 ghost use Rattle.std.specs.Io.KnownBytes.{Appends};
 ghost use Rattle.rpki_arguments.specs.CommandLines.Views.{fields_of, word_octets};
 ghost use Rattle.rpki_command.specs.Outcomes.{AsksOfFiles};
-ghost use Rattle.rpki_command.specs.Runs.{IsAnswer, IsAnswerOf, RunEnds, SaysMisuse, misuse_message};
+ghost use Rattle.rpki_arguments.specs.MisuseTexts.{misuse_text};
+ghost use Rattle.rpki_command.specs.Messages.{SaysLineMisuse, SaysRefusal, misuse_message};
+ghost use Rattle.rpki_command.specs.Runs.{IsAnswer, IsAnswerOf, LineEnds, RunEnds, SaysMisuse};
+ghost use Rattle.rpki_requests.specs.RequestWords.{BeginsRequest};
 
 use crate::about::{text_about, usage};
 use crate::answering::answer_request;
@@ -12,9 +15,11 @@ use crate::files::FileSource;
 use crate::folders::{file_names, with_files};
 use crate::outcomes::{Answer, Ended, Outcome};
 use crate::reading::{read_files, read_locators};
+use crate::requests::run_request;
 use anyhow::{Result, anyhow};
 use rpki::repository::x509::Time;
 use rpki_arguments::{Misuse, Request, read_words};
+use rpki_requests::is_request;
 use std::alloc::{AllocError, Global};
 use std::io;
 use std::io::Write;
@@ -23,7 +28,7 @@ use std::io::Write;
 fn say<E: Write>(err: &mut E, misuse: &Misuse<'_>) -> Result<()>
     ensures memory { OnOk result (misuse.now ≢ Misuse.Memory) }
     ensures said { OnOk result
-        (Appends (E.contents err.old) (E.contents err.new) (misuse_message misuse.now)) }
+        (Appends (E.contents err.old) (E.contents err.new) (misuse_message (misuse_text misuse.now))) }
 {
     if let Misuse::Memory = misuse {
         return Err(anyhow!("out of memory"));
@@ -98,11 +103,8 @@ fn answer_named<F: FileSource, O: Write, E: Write>(
     answer(alloc, files, out, err, &request, now)
 }
 
-/// Answers the words of a command line: writes what they ask, of files and folders as reading and
-/// listing them gives them, at the moment that they name, or else at the one that the clock tells; or says what is wrong of
-/// them. Errs where memory runs out, or where the clock or what says it fails, and has written
-/// nothing.
-pub fn run<S: FileSource + MomentSource, O: Write, E: Write>(
+// Answers the words of a command line: writes what they ask, or says what is wrong of them.
+fn run_line<S: FileSource + MomentSource, O: Write, E: Write>(
     alloc: Global,
     system: &S,
     out: &mut O,
@@ -110,10 +112,10 @@ pub fn run<S: FileSource + MomentSource, O: Write, E: Write>(
     words: &[Vec<u8>],
 ) -> Result<Ended>
     ensures ended { let words = word_octets words.now in IfOk result (λ ended. (text : List ℕ)
-        × RunEnds (S.reads system.now) (S.lists system.now) (S.tells system.now) words ended.outcome text
+        × LineEnds (S.reads system.now) (S.lists system.now) (S.tells system.now) words ended.outcome text
         × OnOk ended.written (Appends (O.contents out.old) (O.contents out.new) text)) }
     ensures said { IfOk result (λ ended. ended.outcome ≡ Outcome.WrongUse
-        → SaysMisuse (E.contents err.old) (E.contents err.new)) }
+        → SaysLineMisuse (E.contents err.old) (E.contents err.new)) }
     ensures unwritten { OnErr result (out.new ≡ out.old) }
 {
     let request = match read_words(alloc, words) {
@@ -135,4 +137,33 @@ pub fn run<S: FileSource + MomentSource, O: Write, E: Write>(
     }
     let now = moment(system, request.at)?;
     Ok(answer_named(alloc, system, out, err, request, now)?)
+}
+
+/// Answers the words behind the program's name: writes what they ask, of files and folders as
+/// reading and listing them gives them, at the moment that they name, or else at the one that the
+/// clock tells; or says what is wrong of them. Of a request to prepare or to complete something that
+/// gives nothing it says why. Errs where memory runs out, or where the clock or what says it fails,
+/// and has written nothing.
+pub fn run<S: FileSource + MomentSource, O: Write, E: Write>(
+    alloc: Global,
+    system: &S,
+    out: &mut O,
+    err: &mut E,
+    words: &[Vec<u8>],
+) -> Result<Ended>
+    ensures ended { let words = word_octets words.now in IfOk result (λ ended. (text : List ℕ)
+        × RunEnds (S.reads system.now) (S.lists system.now) (S.tells system.now) words ended.outcome text
+        × OnOk ended.written (Appends (O.contents out.old) (O.contents out.new) text)) }
+    ensures said { let words = word_octets words.now in
+        IfOk result (λ ended. ended.outcome ≡ Outcome.WrongUse
+        → SaysMisuse words (E.contents err.old) (E.contents err.new)) }
+    ensures refused { BeginsRequest (word_octets words.now)
+        → IfOk result (λ ended. ended.outcome ≡ Outcome.Rejection
+        → SaysRefusal (E.contents err.old) (E.contents err.new)) }
+    ensures unwritten { OnErr result (out.new ≡ out.old) }
+{
+    if is_request(words) {
+        return run_request(alloc, system, out, err, words);
+    }
+    run_line(alloc, system, out, err, words)
 }

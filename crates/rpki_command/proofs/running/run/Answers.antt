@@ -1,17 +1,37 @@
-use Rattle.std.proofs.Common.{[], refl}
-use Rattle.rpki_arguments.specs.CommandLines.Views.{fields_of, word_octets}
-use Rattle.rpki_command.proofs.EndedRuns.{run_answer}
-use Rattle.rpki_command.proofs.WrittenTexts.{appends_none}
+use Rattle.std.specs.Prelude.{OnOk}
+use Rattle.std.specs.Io.KnownBytes.{Appends}
+use Rattle.std.proofs.Common.{◌∙◌, sym}
+use Rattle.std.proofs.lemmas.Bool.{true≢false}
+use Rattle.rpki_arguments.specs.CommandLines.Views.{word_octets}
+use Rattle.rpki_command.proofs.RanRequests.{line_ran, line_said, request_ran, request_said}
 use Rattle.rpki_command.proofs.running.run.Goals as goal
 
-pub returns-in-Err-clause-ended : goal.returns-in-Err-clause-ended
-returns-in-Err-clause-ended g c =
-    ([], (c.in-Err.ensures.rejected c.in_ok-say-in-Err.ensures.memory, refl), appends_none (g.O.Write.contents c.args.out.now))
+pub returns-then-is_request-clause-ended : goal.returns-then-is_request-clause-ended
+returns-then-is_request-clause-ended g c =
+    let contents = g.O.Write.contents in
+    request_ran (word_octets c.args.words.now) (g.S.FileSource.reads c.args.system.now) (g.S.FileSource.lists c.args.system.now) (g.S.MomentSource.tells c.args.system.now)
+    (λ e text. OnOk e.written (Appends (contents c.args.out.now) (contents c.run_request.new.out) text))
+    (c.is_request.ensures.0 c.if-is_request.true) c.run_request.result c.run_request.ensures.ended
+
+pub returns-then-is_request-clause-said : goal.returns-then-is_request-clause-said
+returns-then-is_request-clause-said g c =
+    let contents = g.E.Write.contents in
+    request_said (word_octets c.args.words.now) (contents c.args.err.now) (contents c.run_request.new.err)
+    (c.is_request.ensures.0 c.if-is_request.true) c.run_request.result c.run_request.ensures.said
 
 pub returns-clause-ended : goal.returns-clause-ended
 returns-clause-ended g c =
-    let its = c.in_ok-answer_named.ensures.answer in
-    let ends = run_answer (g.S.FileSource.reads c.args.system.now) (g.S.FileSource.lists c.args.system.now) (g.S.MomentSource.tells c.args.system.now)
-    (word_octets c.args.words.now) (fields_of c.in-Ok.request) c.in-Ok.ensures.command_line
-    c.in_default.ensures.files c.in_ok-now.now c.in_ok-now.ensures c.in_ok-answer_named.field-0.outcome its.0 its.1 in
-    (its.0, ends, its.2)
+    let contents = g.O.Write.contents in
+    line_ran (word_octets c.args.words.now) (g.S.FileSource.reads c.args.system.now) (g.S.FileSource.lists c.args.system.now) (g.S.MomentSource.tells c.args.system.now)
+    (λ e text. OnOk e.written (Appends (contents c.args.out.now) (contents c.run_line.new.out) text))
+    (λ begins. true≢false (sym (c.is_request.ensures.1 begins) ∙ c.if-is_request.false)) c.run_line.result c.run_line.ensures.ended
+
+pub returns-clause-said : goal.returns-clause-said
+returns-clause-said g c =
+    let contents = g.E.Write.contents in
+    line_said (word_octets c.args.words.now) (contents c.args.err.now) (contents c.run_line.new.err)
+    (λ begins. true≢false (sym (c.is_request.ensures.1 begins) ∙ c.if-is_request.false)) c.run_line.result c.run_line.ensures.said
+
+pub returns-clause-refused : goal.returns-clause-refused
+returns-clause-refused g c =
+    λ begins. absurd (true≢false (sym (c.is_request.ensures.1 begins) ∙ c.if-is_request.false))
