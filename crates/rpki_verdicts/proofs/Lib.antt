@@ -6,6 +6,8 @@ mod GivenKinds
 pub mod MappedItems
 pub mod OneVerdict
 mod ReadLists
+mod ReachedFiles
 mod ReadLocators
+mod SearchSteps
 mod TreeAnchors
 mod UnrevokedFiles

@@ -4,3 +4,4 @@ pub mod PathFiles
 pub mod PathAnswers
 pub mod UnrevokedMembers
 pub mod Trees
+pub mod Searches

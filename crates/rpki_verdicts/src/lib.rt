@@ -1,9 +1,11 @@
 //! The verdict on a path of files, from a trust anchor down, with real signatures and, where lists
-//! are given, with revocation; and those on all certificates among files in no order.
+//! are given, with revocation; those on all certificates among files in no order; and the path to
+//! one of them.
 #![tactic(auto)]
 
 mod locators;
 mod path;
+mod search;
 mod unordered;
 
 pub use locators::GivenLocator;
@@ -11,4 +13,5 @@ pub use path::{
     Fault, Question, Verdict, accepted_are_unrevoked, first_no_locator, judge, located,
     one_acceptance, one_answer,
 };
+pub use search::seek;
 pub use unordered::{Tree, TreeAnswer, TreeQuestion, judge_all};

@@ -129,7 +129,7 @@ fn filed<'q, 'n>(
 }
 
 // The first of the locators whose key the certificate has with which a file begins.
-fn locator_of<'q>(locators: &'q [GivenLocator<'_>], file: &Object<'_>) -> Option<&'q Tal>
+pub(crate) fn locator_of<'q>(locators: &'q [GivenLocator<'_>], file: &Object<'_>) -> Option<&'q Tal>
     ensures found { IfSome result (λ t. IsAnchorOf locators.now t.now file.now) }
     ensures none { IfNone result (HasLocator locators.now file.now → ⊥) }
 {

@@ -1,0 +1,191 @@
+-- The path that is sought, file by file.
+use Rattle.std.specs.List.{AllByRecursion, cons_option}
+use Rattle.std.specs.Prelude.{Option, Some, None, Ok, Err, IfOk, IsFalse, IsTrue, Result, IsOk, slice_get}
+use Rattle.std.proofs.Common.{◌≡◌, ◌<◌, ℕ, Bool, true, false, not, List, [], ◌∷◌, ◌++◌, length, refl, sym, ap, subst, ◌∙◌, inl, inr, arith}
+use Rattle.std.proofs.lemmas.List.{append_assoc}
+use Rattle.std.proofs.lemmas.List.Elements.{All-from_recursion}
+use Rattle.std.proofs.lemmas.Option.{slice_get_within, get_or_from_slice_get}
+use Rattle.rpki.specs.AskedLists.{by_lists}
+use Rattle.rpki.specs.Asking.{RevocationChecks}
+use Rattle.rpki.specs.Kind.{Kind}
+use Rattle.rpki.specs.Paths.{Candidate}
+use Rattle.rpki.specs.SaidKinds.{BeginsWithKind}
+use Rattle.rpki.specs.Judged.{Judged}
+use Rattle.rpki.specs.KeptLines.{AreLines, IsLine, IsRejectedWithin}
+use Rattle.rpki.specs.Line.{Line}
+use Rattle.rpki.specs.Line.TheVariants as line
+use Rattle.rpki.specs.PathFault.{PathFault}
+use Rattle.rpki.specs.Verification.{Context}
+use Rattle.rpki.specs.Walks.{Root, AreAdmitted, IsAcceptedAs, IsReached, IsRight, IsRightOf, IsTold, Told, at_anchor, members_at}
+use Rattle.rpki.specs.Folders.{octets_at}
+use Rattle.rpki_files.specs.Contents.{BeginsWithCertificate}
+use Rattle.rpki_files.specs.Files.{FileFields, contents}
+use Rattle.rpki_verdicts.specs.Searches.{EndsIn, HasNoValidPath, IsSoughtPath, alone, below_wrong, valid, invalid, IsTreeWith, IsValidAmong, IsValidPathTo, Leads, StandsAlone, above_by, files_at}
+use Rattle.rpki_verdicts.specs.Trees.{AreCertificatesOf, IsTreeOf, IsWrongAnchor, TreeFields, certs_of, every}
+use Rattle.rpki_verdicts.proofs.ReachedFiles.{reached_files}
+use Rattle.rpki_verdicts.specs.declared.path.Fault.{Fault}
+use Rattle.rpki_verdicts.specs.declared.unordered.Tree.{Tree}
+
+-- of what went well something else holds too
+in_ok : {T E : Type 0} {P Q : T → Type 0} (r : Result T E) → ((v : T) → P v → Q v) → IfOk r P → IfOk r Q
+in_ok (Ok v) f p = f v p
+in_ok (Err e) f p = tt
+
+-- ---- files at places
+
+one_more : (o : Option FileFields) (both a b : List FileFields) → both ≡ a ++ b → cons_option o both ≡ cons_option o a ++ b
+one_more None both a b same = same
+one_more (Some f) both a b same = ap (λ (l : List FileFields). f ∷ l) same
+
+-- at those of two lists
+pub files_both : (certs : List FileFields) (a b : List ℕ) → files_at certs (a ++ b) ≡ files_at certs a ++ files_at certs b
+files_both certs [] b = refl
+files_both certs (k ∷ a) b = one_more (slice_get certs k) (files_at certs (a ++ b)) (files_at certs a) (files_at certs b) (files_both certs a b)
+
+-- the file at a place where there is one
+pub file_there : (certs : List FileFields) (place : ℕ) (file : FileFields) → slice_get certs place ≡ Some file → files_at certs (place ∷ []) ≡ file ∷ []
+file_there certs place file is = ap (λ (o : Option FileFields). cons_option o []) is
+
+pub none_there : (certs : List FileFields) (place : ℕ) → slice_get certs place ≡ None → files_at certs (place ∷ []) ≡ []
+none_there certs place is = ap (λ (o : Option FileFields). cons_option o []) is
+
+-- those of one place more
+pub files_more : (certs before old new : List FileFields) (places : List ℕ) (k : ℕ) → old ≡ before ++ files_at certs places → new ≡ old ++ files_at certs (k ∷ []) → new ≡ before ++ files_at certs (places ++ k ∷ [])
+files_more certs before old new places k so_far one =
+    one ∙ ap (λ (l : List FileFields). l ++ files_at certs (k ∷ [])) so_far
+    ∙ append_assoc before (files_at certs places) (files_at certs (k ∷ []))
+    ∙ ap (λ (l : List FileFields). before ++ l) (sym (files_both certs places (k ∷ [])))
+
+-- ---- what was told of the first certificate
+
+all_admitted : (above places : List ℕ) → AreAdmitted every above places
+all_admitted above [] = tt
+all_admitted above (place ∷ places) = (tt, all_admitted (above ++ place ∷ []) places)
+
+-- a verdict that accepts is right where a path leads
+reached_by : (x : Context) (asked : RevocationChecks) (root : Root) (members : List Candidate) (octets : List ℕ) (v : Result Judged PathFault) → IsOk v → IsRightOf x asked root members octets v → (kind : Kind) × (j : Judged) × BeginsWithKind kind octets × IsAcceptedAs x asked root members kind octets j
+reached_by x asked root members octets (Ok j) ok h = (h.0, j, h.1, h.2)
+reached_by x asked root members octets (Err e) ok h = absurd cc
+
+pub told_reached : (x : Context) (asked : RevocationChecks) (root : Root) (certs : List (List ℕ)) (ts : List Told) → AllByRecursion (IsRight x asked root certs) ts → (above : List ℕ) (place : ℕ) → IsTold ts above place → IsReached x asked root certs above place
+told_reached x asked root certs ts right above place h =
+    let t = h.1 in
+    let is : IsRight x asked root certs t = subst (λ (u : Told). IsRight x asked root certs u) h.3 (All-from_recursion (IsRight x asked root certs) ts right h.0 t h.2) in
+    reached_by x asked root (members_at root certs above) (octets_at certs place) t.verdict h.4.2
+    (subst (λ (p : ℕ). IsRightOf x asked root (members_at root certs above) (octets_at certs p) t.verdict) h.4.1
+    (subst (λ (l : List ℕ). IsRightOf x asked root (members_at root certs l) (octets_at certs t.place) t.verdict) h.4.0 is))
+
+module _ (ts : List Told) (place : ℕ) where
+  -- its line accepts it below these
+  pub line_tells : (o : Option Line) (above : List ℕ) → above_by o ≡ Some above → ((l : Line) → o ≡ Some l → IsLine ts place l) → IsTold ts above place
+  line_tells None above e kept = absurd cc
+  line_tells (Some line.Unseen) above e kept = absurd cc
+  line_tells (Some (line.Accepted v)) above e kept =
+      let same : v.items ≡ above = cc in
+      subst (λ (l : List ℕ). IsTold ts l place) same (kept (line.Accepted v) refl)
+  line_tells (Some (line.Rejected n f)) above e kept = absurd cc
+
+  never : (P : Told → Type 0) → AllByRecursion P ts → (above : List ℕ) (h : IsTold ts above place) → P h.1
+  never P all above h = subst P h.3 (All-from_recursion P ts all h.0 h.1 h.2)
+
+  -- its line doesn't accept it
+  pub line_denies : (o : Option Line) (l : Line) → o ≡ Some l → above_by o ≡ None → ((l : Line) → o ≡ Some l → IsLine ts place l) → (above : List ℕ) → IsTold ts above place → ⊥
+  line_denies None l is e kept above h = absurd cc
+  line_denies (Some line.Unseen) l is e kept above h =
+      never (λ t. t.place ≡ place → ⊥) (kept line.Unseen refl) above h h.4.1
+  line_denies (Some (line.Accepted v)) l is e kept above h = absurd cc
+  line_denies (Some (line.Rejected n f)) l is e kept above h =
+      (never (IsRejectedWithin place n) (kept (line.Rejected n f) refl).1 above h h.4.1).0 h.4.2
+
+some_there : {X : Type 0} (xs : List X) → 0 < length xs → (x : X) × (slice_get xs 0 ≡ Some x)
+some_there [] low = absurd (omega (arith, low))
+some_there (x ∷ xs) low = (x, refl)
+
+-- the line at a place is that of the verdicts
+pub line_kept : (ts : List Told) (lines : List Line) (place : ℕ) → AreLines ts lines → (l : Line) → slice_get lines place ≡ Some l → IsLine ts place l
+line_kept ts lines place are l is =
+    subst (λ (m : Line). IsLine ts place m) (get_or_from_slice_get lines place l l is) (are place l (slice_get_within lines place l is))
+
+-- ---- the path
+
+module _ (x : Context) (q : TreeFields) (file : FileFields) (tree : Tree) (is : IsTreeWith x q file tree) where
+  kept_first : (l : Line) → slice_get tree.lines 0 ≡ Some l → IsLine is.grown.told 0 l
+  kept_first = line_kept is.grown.told tree.lines 0 is.grown.lines_are
+
+  -- the line of the file accepts it: a valid path leads to it
+  pub leads_by : (above : List ℕ) → above_by (slice_get tree.lines 0) ≡ Some above → Leads x q tree is.grown above
+  leads_by above e =
+      told_reached x (by_lists x is.grown.lists) (at_anchor is.grown.locator is.grown.anchor.octets) (contents (certs_of tree)) is.grown.told is.grown.tells.right above 0
+      (line_tells is.grown.told 0 (slice_get tree.lines 0) above e kept_first)
+
+  pub valid_by : (above : List ℕ) (path : List FileFields) → above_by (slice_get tree.lines 0) ≡ Some above → path ≡ files_at (certs_of tree) (tree.anchor ∷ above) ++ file ∷ [] → IsValidPathTo x q file path
+  valid_by above path e path_is =
+      let files = path_is ∙ ap (λ (o : Option FileFields). cons_option o (files_at (certs_of tree) above) ++ file ∷ []) is.grown.anchor_is.anchor_is in
+      let asked = by_lists x is.grown.lists in
+      record {
+        tree = tree;
+        is = is;
+        above = above;
+        leads = leads_by above e;
+        path_is = files;
+        is_valid = subst (λ (l : List FileFields). IsValidAmong x asked (contents l)) (sym files) (reached_files x asked is.grown.locator is.grown.anchor file (certs_of tree) above is.first_is (leads_by above e));
+      }
+
+  -- there is a line of the file
+  first_line : (l : Line) × (slice_get tree.lines 0 ≡ Some l)
+  first_line =
+      let low : 0 < length tree.lines = omega (arith, slice_get_within (certs_of tree) 0 file is.first_is, is.grown.count_is) in
+      some_there tree.lines low
+
+  -- it doesn't: none leads there
+  pub invalid_by : above_by (slice_get tree.lines 0) ≡ None → HasNoValidPath x q file
+  invalid_by e = record {
+    tree = tree;
+    is = is;
+    none = λ above covers leads.
+        line_denies is.grown.told 0 (slice_get tree.lines 0) first_line.0 first_line.1 e kept_first above
+        (is.grown.tells.complete above 0 covers (all_admitted [] (above ++ 0 ∷ [])) leads);
+  }
+
+  -- what is given of either
+  pub valid_in : {T E : Type 0} (files : T → List FileFields) (r : Result T E) (above : List ℕ) → above_by (slice_get tree.lines 0) ≡ Some above → IfOk r (λ v. files v ≡ files_at (certs_of tree) (tree.anchor ∷ above) ++ file ∷ []) → IfOk r (λ v. IsSoughtPath x q file (files v))
+  valid_in files (Ok v) above e path_is = valid (files v) (valid_by above (files v) e path_is)
+  valid_in files (Err why) above e path_is = tt
+
+  pub invalid_in : {T E : Type 0} (files : T → List FileFields) (r : Result T E) → above_by (slice_get tree.lines 0) ≡ None → IfOk r (λ v. EndsIn file (files v)) → IfOk r (λ v. IsSoughtPath x q file (files v))
+  invalid_in files (Ok v) e ends = invalid (files v) (invalid_by e) ends
+  invalid_in files (Err why) e ends = tt
+
+-- ---- a file alone, and one below a trust anchor that is wrong
+
+module _ (x : Context) (q : TreeFields) (file : FileFields) {T E : Type 0} (files : T → List FileFields) (r : Result T E) where
+  pub alone_in : StandsAlone q file → IfOk r (λ v. files v ≡ file ∷ []) → IfOk r (λ v. IsSoughtPath x q file (files v))
+  alone_in stands path_is = in_ok r (λ v same. subst (λ (l : List FileFields). IsSoughtPath x q file l) (sym same) (alone stands)) path_is
+
+  pub wrong_in : (anchor : FileFields) (fault : Fault) → IsWrongAnchor x q anchor fault → IfOk r (λ v. files v ≡ anchor ∷ file ∷ []) → IfOk r (λ v. IsSoughtPath x q file (files v))
+  wrong_in anchor fault is path_is = in_ok r (λ v same. subst (λ (l : List FileFields). IsSoughtPath x q file l) (sym same) (below_wrong anchor fault is)) path_is
+
+-- what is given for the first of the files is given for whichever that is
+pub of_first : (x : Context) (q : TreeFields) {T E : Type 0} (found : T → List FileFields) (r : Result T E) (all rest : List FileFields) (file : FileFields) → all ≡ file ∷ rest → IfOk r (λ v. IsSoughtPath x q file (found v)) → IfOk r (λ v. (first : FileFields) (more : List FileFields) → all ≡ first ∷ more → IsSoughtPath x q first (found v))
+of_first x q found (Ok v) all rest file is h = λ first more e.
+    let both : file ∷ rest ≡ first ∷ more = sym is ∙ e in
+    let same : file ≡ first = cc in
+    subst (λ (f : FileFields). IsSoughtPath x q f (found v)) same h
+of_first x q found (Err why) all rest file is h = tt
+
+-- what isn't so
+pub no_list_here : (b : Bool) → IsTrue (not b) → IsFalse b
+no_list_here true h = absurd cc
+no_list_here false h = refl
+
+-- ---- the file is the first certificate
+
+pub first_certificate : (file : FileFields) (more certs : List FileFields) → BeginsWithCertificate file.octets → AreCertificatesOf (file ∷ more) certs → slice_get certs 0 ≡ Some file
+first_certificate file more certs begins (inl h) = absurd (h.0 begins)
+first_certificate file more certs begins (inr h) = ap (λ (l : List FileFields). slice_get l 0) h.3
+
+pub with_first : (x : Context) (q : TreeFields) (file : FileFields) (more : List FileFields) (tree : Tree) → q.files ≡ file ∷ more → BeginsWithCertificate file.octets → IsTreeOf x q tree → IsTreeWith x q file tree
+with_first x q file more tree files_are begins grown = record {
+  grown = grown;
+  first_is = first_certificate file more (certs_of tree) begins (subst (λ (l : List FileFields). AreCertificatesOf l (certs_of tree)) files_are grown.certs_are);
+}

@@ -1,0 +1,100 @@
+-- The path to one file that is sought among others, in no order (RFC 6487 7.2, RFC 8630 3; own: the
+-- bounds).
+use Rattle.std.specs.Prelude.{◌≡◌, ◌⊎◌, ◌+◌, ℕ, All, List, [], ◌∷◌, ◌++◌, length, slice_get, filter_map, Option, Some, None}
+use Rattle.rpki.specs.Asking.{RevocationChecks}
+use Rattle.rpki.specs.AskedLists.{by_lists}
+use Rattle.rpki.specs.Certificates.{CertFields, IsCertificate}
+use Rattle.rpki.specs.Encoding.{Means}
+use Rattle.rpki.specs.GivenPaths.{PathStrings}
+use Rattle.rpki.specs.Judged.{Judged}
+use Rattle.rpki.specs.Judging.{IsAcceptedWith}
+use Rattle.rpki.specs.Line.{Line}
+use Rattle.rpki.specs.Line.TheVariants as line
+use Rattle.rpki.specs.Verification.{Context}
+use Rattle.rpki.specs.Walks.{Covers, IsReached, at_anchor}
+use Rattle.rpki_files.specs.Contents.{BeginsWithCertificate, BeginsWithList}
+use Rattle.rpki_files.specs.Files.{FileFields, contents}
+use Rattle.rpki_verdicts.specs.PathFiles.{IsGivenBy}
+use Rattle.rpki_verdicts.specs.Trees.{HasLocator, HasNoAnchor, IsTreeOf, IsWrongAnchor, TreeFields, certs_of}
+use Rattle.rpki_verdicts.specs.declared.path.Fault.{Fault}
+use Rattle.rpki_verdicts.specs.declared.unordered.Tree.{Tree}
+
+-- ---- valid paths
+
+-- the files at these places
+abbrev pub files_at : List FileFields → List ℕ → List FileFields
+files_at certs places = filter_map (slice_get certs) places
+
+-- the tree of the files, in which the file is the first certificate
+pub record IsTreeWith (x : Context) (q : TreeFields) (file : FileFields) (tree : Tree) : Type 0 where
+  pub grown : IsTreeOf x q tree
+  pub first_is : slice_get (certs_of tree) 0 ≡ Some file
+
+-- a valid path leads from the trust anchor of the tree, by the CAs at these places, to the first
+-- certificate, where all lists among the files are asked
+abbrev pub Leads : (x : Context) (q : TreeFields) (tree : Tree) → IsTreeOf x q tree → List ℕ → Type 0
+Leads x q tree is above =
+    IsReached x (by_lists x is.lists) (at_anchor is.locator is.anchor.octets)
+    (contents (certs_of tree)) above 0
+
+-- the files are a valid path, as the verdict on a path has it, which asks for names and for the last
+-- key beside that
+pub record IsValidAmong (x : Context) (asked : RevocationChecks) (files : List (List ℕ)) : Type 0 where
+  pub strings : PathStrings
+  pub given : IsGivenBy files strings
+  pub judged : Judged
+  pub accepted : IsAcceptedWith x asked strings judged
+
+-- these are the files of such a path, which is valid as the verdict on it has it too
+pub record IsValidPathTo (x : Context) (q : TreeFields) (file : FileFields) (path : List FileFields) : Type 0 where
+  pub tree : Tree
+  pub is : IsTreeWith x q file tree
+  pub above : List ℕ
+  pub leads : Leads x q tree is.grown above
+  pub path_is : path ≡ is.grown.anchor ∷ (files_at (certs_of tree) above ++ file ∷ [])
+  pub is_valid : IsValidAmong x (by_lists x is.grown.lists) (contents path)
+
+-- there is none, of those that the walk of the tree looked at
+pub record HasNoValidPath (x : Context) (q : TreeFields) (file : FileFields) : Type 0 where
+  pub tree : Tree
+  pub is : IsTreeWith x q file tree
+  pub none : (above : List ℕ) → Covers tree.ended q.depth (length above + 1)
+      → Leads x q tree is.grown above → ⊥
+
+-- ---- lines
+
+-- the places of the CAs above a certificate, where its line accepts it
+abbrev pub above_by : Option Line → Option (List ℕ)
+above_by (Some (line.Accepted above)) = Some above.items
+above_by _ = None
+
+-- ---- the path that is sought
+
+-- the file begins with a certificate that has the key of this identifier (RFC 5280 4.2.1.2)
+pub record HasKeyNamed (key : List ℕ) (file : FileFields) : Type 0 where
+  pub cert : CertFields
+  pub begins : Means IsCertificate cert file.octets
+  pub key_is : cert.fields.extensions.subject_key_identifier ≡ key
+
+-- the path ends in the file
+abbrev pub EndsIn : FileFields → List FileFields → Type 0
+EndsIn file path = (above : List FileFields) × (path ≡ above ++ file ∷ [])
+
+-- the file stands alone: it has the key of a locator; or no valid path leads to it, since it is no
+-- certificate, or there is no list, or no trust anchor
+abbrev pub StandsAlone : TreeFields → FileFields → Type 0
+StandsAlone q file =
+    HasLocator q.locators file
+    ⊎ ((BeginsWithCertificate file.octets → ⊥)
+    ⊎ (All (λ f. BeginsWithList f.octets → ⊥) q.files ⊎ HasNoAnchor q))
+
+-- The path that is sought to the first of the files: that one alone; below a trust anchor that is
+-- wrong; a valid path, as of its certificates and lists; or, where there is none, some files that end
+-- in it, of which the verdict tells what is wrong.
+pub data IsSoughtPath (x : Context) (q : TreeFields) (file : FileFields) : List FileFields → Type 0 where
+  alone : StandsAlone q file → IsSoughtPath x q file (file ∷ [])
+  below_wrong : (anchor : FileFields) (fault : Fault) → IsWrongAnchor x q anchor fault
+      → IsSoughtPath x q file (anchor ∷ file ∷ [])
+  valid : (path : List FileFields) → IsValidPathTo x q file path → IsSoughtPath x q file path
+  invalid : (path : List FileFields) → HasNoValidPath x q file → EndsIn file path
+      → IsSoughtPath x q file path

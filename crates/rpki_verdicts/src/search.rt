@@ -1,0 +1,278 @@
+//! The path to one file that is sought among others, in no order.
+ghost use Rattle.std.specs.Prelude.{◌≡◌, ◌<◌, ◌++◌, ◌∷◌, [], All, List, length, Some, map, option_map, slice_get, IfNone, IfOk, IfSome, IsFalse, IsTrue, OnOk};
+ghost use Rattle.rpki.specs.RsaSignatures.{IsSignedByRsa};
+ghost use Rattle.rpki.specs.Verification.{context};
+ghost use Rattle.rpki_files.specs.Contents.{BeginsWithCertificate, BeginsWithList};
+ghost use Rattle.rpki_files.specs.Files.{FileFields};
+ghost use Rattle.rpki_verdicts.specs.Searches.{EndsIn, HasKeyNamed, IsSoughtPath, IsTreeWith, StandsAlone, above_by, files_at};
+ghost use Rattle.rpki_verdicts.specs.Trees.{IsTreeAnswer, asked_of, certs_of};
+
+use crate::unordered::{Tree, TreeAnswer, TreeQuestion, judge_all, locator_of};
+use rpki::crypto::KeyIdentifier;
+use rpki::repository::folder::Line;
+use rpki_files::Object;
+use std::alloc::{AllocError, Global};
+
+/// How many files are put above one to which no valid path leads, unless they end sooner.
+const MOST_ABOVE: usize = 32;
+
+// Whether one of the files begins with a list.
+fn has_list(files: &[Object<'_>]) -> bool
+    ensures { IsFalse result → All (λ f. BeginsWithList f.octets → ⊥) files.now }
+{
+    for file in files {
+        if file.is_list() {
+            return true;
+        }
+    }
+    false
+}
+
+// Whether the file is to stand alone: it has the key of a locator, or no valid path leads to it.
+fn stands_alone(question: &TreeQuestion<'_, '_>, file: &Object<'_>) -> bool
+    ensures alone { IsTrue result → StandsAlone (asked_of question.now) file.now }
+    ensures certificate { IsFalse result → BeginsWithCertificate file.now.octets }
+{
+    if file.certificate().is_none() {
+        return true;
+    }
+    if locator_of(question.locators, file).is_some() {
+        return true;
+    }
+    !has_list(question.files)
+}
+
+// The file alone.
+fn alone<'q, 'n>(alloc: Global, file: &'q Object<'n>) -> Result<Vec<&'q Object<'n>>, AllocError>
+    ensures { IfOk result (λ path. map (λ f. f.now) path.items ≡ file.now ∷ []) }
+{
+    let mut path = Vec::new(alloc);
+    path.push(file)?;
+    Ok(path)
+}
+
+// The file below another one.
+fn pair<'q, 'n>(
+    alloc: Global,
+    above: &'q Object<'n>,
+    file: &'q Object<'n>,
+) -> Result<Vec<&'q Object<'n>>, AllocError>
+    ensures { IfOk result (λ path. map (λ f. f.now) path.items ≡ above.now ∷ file.now ∷ []) }
+{
+    let mut path = alone(alloc, above)?;
+    path.push(file)?;
+    Ok(path)
+}
+
+// Adds the file at a place, where there is one.
+fn push_one<'q, 'n>(
+    path: &mut Vec<&'q Object<'n>>,
+    certs: &[&'q Object<'n>],
+    place: usize,
+) -> Result<(), AllocError>
+    ensures { OnOk result (map (λ f. f.now) path.new.items
+        ≡ map (λ f. f.now) path.old.items ++ files_at (map (λ f. f.now) certs.now) (place ∷ [])) }
+{
+    match certs.get(place) {
+        Some(file) => {
+            path.push(*file)?;
+            Ok(())
+        }
+        None => Ok(()),
+    }
+}
+
+// Adds the files at these places.
+fn push_at<'q, 'n>(
+    path: &mut Vec<&'q Object<'n>>,
+    certs: &[&'q Object<'n>],
+    places: &[usize],
+) -> Result<(), AllocError>
+    ensures { OnOk result (map (λ f. f.now) path.new.items
+        ≡ map (λ f. f.now) path.old.items ++ files_at (map (λ f. f.now) certs.now) places.now) }
+{
+    for place in places {
+        push_one(path, certs, *place)?;
+    }
+    Ok(())
+}
+
+// The places of the CAs above the certificate at a place, where that is accepted.
+fn above_at<'t>(tree: &'t Tree<'_, '_>, place: usize) -> Option<&'t [usize]>
+    ensures { option_map (λ above. above.now) result ≡ above_by (slice_get tree.now.lines place) }
+{
+    match tree.lines.as_slice().get(place) {
+        Some(Line::Accepted(above)) => Some(above.as_slice()),
+        Some(_) | None => None,
+    }
+}
+
+// Adds the files of the trust anchor and of the CAs at these places.
+fn push_down<'q, 'n>(
+    path: &mut Vec<&'q Object<'n>>,
+    tree: &Tree<'q, 'n>,
+    above: &[usize],
+) -> Result<(), AllocError>
+    ensures { let places = tree.now.anchor ∷ above.now in
+        OnOk result (map (λ f. f.now) path.new.items
+        ≡ map (λ f. f.now) path.old.items ++ files_at (certs_of tree.now) places) }
+{
+    push_one(path, &tree.certs, tree.anchor)?;
+    push_at(path, &tree.certs, above)
+}
+
+// The file below the trust anchor and the CAs at these places.
+fn path_down<'q, 'n>(
+    alloc: Global,
+    tree: &Tree<'q, 'n>,
+    above: &[usize],
+    file: &'q Object<'n>,
+) -> Result<Vec<&'q Object<'n>>, AllocError>
+    ensures { IfOk result (λ path. map (λ f. f.now) path.items
+        ≡ files_at (certs_of tree.now) (tree.now.anchor ∷ above.now) ++ file.now ∷ []) }
+{
+    let mut path = Vec::new(alloc);
+    push_down(&mut path, tree, above)?;
+    path.push(file)?;
+    Ok(path)
+}
+
+// Whether the file begins with a certificate that has the key of this identifier.
+fn has_key(file: &Object<'_>, key: &KeyIdentifier) -> bool
+    ensures { IsTrue result → HasKeyNamed key.now file.now }
+{
+    match file.certificate() {
+        Some((cert, _)) => cert.as_tbs().subject_key_identifier() == *key,
+        None => false,
+    }
+}
+
+// The place of a certificate whose key the file names as the one that signs it: the first that is
+// accepted, or else the first.
+fn issuer_of(tree: &Tree<'_, '_>, file: &Object<'_>) -> Option<usize>
+    ensures { IfSome result (λ place. place < length tree.now.certs.items) }
+{
+    let (cert, _) = file.certificate()?;
+    let key = cert.as_tbs().authority_key_identifier()?;
+    let mut found = None;
+    for (place, other) in tree.certs.iter().enumerate() {
+        if has_key(*other, &key) {
+            if above_at(tree, place).is_some() {
+                return Some(place);
+            }
+            if found.is_none() {
+                found = Some(place);
+            }
+        }
+    }
+    found
+}
+
+// Adds what stands above a file to which no valid path leads, as it and those above it name their
+// signers: up to the trust anchor, or to one whose signer isn't there.
+fn push_above<'q, 'n>(
+    path: &mut Vec<&'q Object<'n>>,
+    tree: &Tree<'q, 'n>,
+    file: &'q Object<'n>,
+    most: usize,
+) -> Result<(), AllocError> {
+    if most == 0 {
+        return Ok(());
+    }
+    let Some(place) = issuer_of(tree, file) else {
+        return Ok(());
+    };
+    let issuer = tree.certs[place];
+    match above_at(tree, place) {
+        Some(above) => push_down(path, tree, above)?,
+        None => {
+            if place != tree.anchor {
+                push_above(path, tree, issuer, most - 1)?;
+            }
+        }
+    }
+    path.push(issuer)?;
+    Ok(())
+}
+
+// The file below what stands above it, where no valid path leads to it.
+fn path_named<'q, 'n>(
+    alloc: Global,
+    tree: &Tree<'q, 'n>,
+    file: &'q Object<'n>,
+) -> Result<Vec<&'q Object<'n>>, AllocError>
+    ensures { IfOk result (λ path. EndsIn file.now (map (λ f. f.now) path.items)) }
+{
+    let mut path = Vec::new(alloc);
+    push_above(&mut path, tree, file, MOST_ABOVE)?;
+    path.push(file)?;
+    Ok(path)
+}
+
+// The path to the first certificate of a tree, which is that of the file.
+fn path_in<'q, 'n>(
+    alloc: Global,
+    question: &TreeQuestion<'q, 'n>,
+    tree: &Tree<'q, 'n>,
+    file: &'q Object<'n>,
+) -> Result<Vec<&'q Object<'n>>, AllocError>
+    requires { let x = context IsSignedByRsa question.now.at question.now.strict in
+        IsTreeWith x (asked_of question.now) file.now tree.now }
+    ensures { let x = context IsSignedByRsa question.now.at question.now.strict in
+        IfOk result (λ path.
+        IsSoughtPath x (asked_of question.now) file.now (map (λ f. f.now) path.items)) }
+{
+    match above_at(tree, 0) {
+        Some(above) => path_down(alloc, tree, above, file),
+        None => path_named(alloc, tree, file),
+    }
+}
+
+// The path to the first file, which begins with a certificate, by the answer on all.
+fn path_by<'q, 'n>(
+    alloc: Global,
+    question: &TreeQuestion<'q, 'n>,
+    answer: &TreeAnswer<'q, 'n>,
+    file: &'q Object<'n>,
+) -> Result<Vec<&'q Object<'n>>, AllocError>
+    requires answer { let x = context IsSignedByRsa question.now.at question.now.strict in
+        IsTreeAnswer x (asked_of question.now) answer.now }
+    requires certificate { BeginsWithCertificate file.now.octets }
+    requires first { (more : List FileFields) × (question.now.files.now ≡ file.now ∷ more) }
+    ensures { let x = context IsSignedByRsa question.now.at question.now.strict in
+        IfOk result (λ path.
+        IsSoughtPath x (asked_of question.now) file.now (map (λ f. f.now) path.items)) }
+{
+    match answer {
+        TreeAnswer::NoAnchor => alone(alloc, file),
+        TreeAnswer::WrongAnchor(anchor, _) => pair(alloc, *anchor, file),
+        TreeAnswer::Walked(tree) => path_in(alloc, question, tree, file),
+    }
+}
+
+/// Seeks the path to the first of the files among the others, in whatever order they are: from the
+/// trust anchor, the first of them whose key is that of one of the locators (RFC 8630 3), down to
+/// it, with real signatures and with the revocation lists among the files. Where no valid path
+/// leads to it, gives files that end in it, of which [`crate::judge`] tells what is wrong: those
+/// that name one another as signers, or it alone. Gives none where there is no file. Errs only
+/// where memory runs out.
+pub fn seek<'q, 'n>(
+    alloc: Global,
+    question: &TreeQuestion<'q, 'n>,
+) -> Result<Vec<&'q Object<'n>>, AllocError>
+    ensures { let x = context IsSignedByRsa question.now.at question.now.strict in
+        IfOk result (λ path. (file : FileFields) (more : List FileFields)
+        → question.now.files.now ≡ file ∷ more
+        → IsSoughtPath x (asked_of question.now) file (map (λ f. f.now) path.items)) }
+{
+    let Some((file, _)) = question.files.split_first() else {
+        return Ok(Vec::new(alloc));
+    };
+    if stands_alone(question, file) {
+        return alone(alloc, file);
+    }
+    let answer = judge_all(alloc, question)?;
+    let path = path_by(alloc, question, &answer, file);
+    drop(answer);
+    path
+}
