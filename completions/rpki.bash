@@ -4,7 +4,7 @@ _rpki() {
     COMPREPLY=()
     case ${COMP_WORDS[1]} in
         show) options='--output --json --quiet --all --at --lenient --max-size --help' ;;
-        validate) options='--output --json --quiet --tal --crl --no-names --at --lenient --max-size --help' ;;
+        validate) options='--output --json --quiet --tal --crl --in --no-names --at --lenient --max-size --help' ;;
         tree) options='--output --json --quiet --tal --at --lenient --max-size --help' ;;
         prepare) options='--issuer --key --serial --from --until --ipv4 --ipv6 --as --repository --manifest --notify --object --issuer-uri --crl-uri --trim --at --lenient' ;;
         complete) options='--issuer --pem --at --lenient' ;;
@@ -28,7 +28,7 @@ _rpki() {
             mapfile -t COMPREPLY < <(compgen -W 'text json jsonl' -- "$word")
             return
             ;;
-        --tal | --crl | --issuer | --key) options='' ;;
+        --tal | --crl | --in | --issuer | --key) options='' ;;
     esac
     # behind -- each word is a file
     for ((at = 2; at < COMP_CWORD; at++)); do

@@ -31,6 +31,7 @@ complete -c rpki -n $show -l all -d 'Print every entry of a list'
 
 complete -c rpki -n $validate -l tal -r -F -d 'Add a locator of the trust anchor'
 complete -c rpki -n $validate -l crl -r -F -d 'Add a revocation list'
+complete -c rpki -n $validate -l in -r -F -d 'Seek the path to a file in a folder'
 complete -c rpki -n $validate -l no-names -d 'Do not ask that names chain'
 
 complete -c rpki -n $tree -l tal -r -F -d 'Add a locator of the trust anchor'

@@ -7,8 +7,8 @@ use Rattle.std.proofs.lemmas.Slice.Eq.{bytes_eq-Decides}
 use Rattle.rpki_arguments.specs.declared.arguments.Format.{Format}
 use Rattle.rpki_arguments.specs.declared.arguments.Format.TheVariants.{Text, Json, JsonLines}
 use Rattle.rpki_arguments.specs.declared.arguments.Setting.{Setting}
-use Rattle.rpki_arguments.specs.declared.arguments.Setting.TheVariants.{Crl, Tal, At, MaxSize, Output, ShortOutput}
-use Rattle.rpki_arguments.specs.CommandLines.{IsFormatName, LinePart, file, list, locator, at_moment, max_size, output, lenient, json, quiet, all, no_names, help, setting_name, IsPart}
+use Rattle.rpki_arguments.specs.declared.arguments.Setting.TheVariants.{Crl, Tal, In, At, MaxSize, Output, ShortOutput}
+use Rattle.rpki_arguments.specs.CommandLines.{IsFormatName, LinePart, file, list, locator, folder, at_moment, max_size, output, lenient, json, quiet, all, no_names, help, setting_name, IsPart}
 use Rattle.rpki_arguments.specs.WordParts.{IsOption, GivesValue}
 use Rattle.rpki_arguments.proofs.PartsOfWords.{Sort, single, before, joining, Grammar, Shape, IsClear, alone_is, given_is}
 use Rattle.rpki_arguments.specs.CommandLines.Steps.{BeginsNoPart, IsSetPart, IsSwitch, Joins, IsOptionName}
@@ -36,6 +36,7 @@ pub sort_of : List ℕ → LineSort
 sort_of word =
     cond (bytes_eq word (codes "--crl")) (before Crl)
     (cond (bytes_eq word (codes "--tal")) (before Tal)
+    (cond (bytes_eq word (codes "--in")) (before In)
     (cond (bytes_eq word (codes "--at")) (before At)
     (cond (bytes_eq word (codes "--max-size")) (before MaxSize)
     (cond (bytes_eq word (codes "--output")) (before Output)
@@ -51,17 +52,19 @@ sort_of word =
     (cond (bytes_eq word (codes "-h")) (single help)
     (joining_or Crl (stripped (codes "--crl=") word)
     (joining_or Tal (stripped (codes "--tal=") word)
+    (joining_or In (stripped (codes "--in=") word)
     (joining_or At (stripped (codes "--at=") word)
     (joining_or MaxSize (stripped (codes "--max-size=") word)
     (joining_or Output (stripped (codes "--output=") word)
     (joining_or ShortOutput (stripped (codes "-o=") word)
-    (single (file word))))))))))))))))))))))
+    (single (file word))))))))))))))))))))))))
 
 -- an option that takes a value
 named : (setting : Setting) → sort_of (setting_name setting) ≡ before setting
 unfolding sort_of
 named Crl = refl
 named Tal = refl
+named In = refl
 named At = refl
 named MaxSize = refl
 named Output = refl
@@ -71,6 +74,7 @@ joined : (setting : Setting) (value : List ℕ) → sort_of (setting_name settin
 unfolding sort_of stripped joining_or
 joined Crl value = refl
 joined Tal value = refl
+joined In value = refl
 joined At value = refl
 joined MaxSize value = refl
 joined Output value = refl
@@ -107,7 +111,7 @@ not_stripped c cs (w ∷ v ∷ ws) not_option =
 file_sort : (word : List ℕ) → (IsOption word → ⊥) → sort_of word ≡ single (file word)
 unfolding sort_of joining_or
 file_sort word not_option =
-    rw (unlike word (codes "--crl") not_option (refl, lit< tt), unlike word (codes "--tal") not_option (refl, lit< tt), unlike word (codes "--at") not_option (refl, lit< tt), unlike word (codes "--max-size") not_option (refl, lit< tt), unlike word (codes "--output") not_option (refl, lit< tt), unlike word (codes "-o") not_option (refl, lit< tt), unlike word (codes "--lenient") not_option (refl, lit< tt), unlike word (codes "--json") not_option (refl, lit< tt), unlike word (codes "-j") not_option (refl, lit< tt), unlike word (codes "--quiet") not_option (refl, lit< tt), unlike word (codes "-q") not_option (refl, lit< tt), unlike word (codes "--all") not_option (refl, lit< tt), unlike word (codes "--no-names") not_option (refl, lit< tt), unlike word (codes "--help") not_option (refl, lit< tt), unlike word (codes "-h") not_option (refl, lit< tt), not_stripped 45 (codes "crl=") word not_option, not_stripped 45 (codes "tal=") word not_option, not_stripped 45 (codes "at=") word not_option, not_stripped 45 (codes "max-size=") word not_option, not_stripped 45 (codes "output=") word not_option, not_stripped 111 (codes "=") word not_option) refl
+    rw (unlike word (codes "--crl") not_option (refl, lit< tt), unlike word (codes "--tal") not_option (refl, lit< tt), unlike word (codes "--in") not_option (refl, lit< tt), unlike word (codes "--at") not_option (refl, lit< tt), unlike word (codes "--max-size") not_option (refl, lit< tt), unlike word (codes "--output") not_option (refl, lit< tt), unlike word (codes "-o") not_option (refl, lit< tt), unlike word (codes "--lenient") not_option (refl, lit< tt), unlike word (codes "--json") not_option (refl, lit< tt), unlike word (codes "-j") not_option (refl, lit< tt), unlike word (codes "--quiet") not_option (refl, lit< tt), unlike word (codes "-q") not_option (refl, lit< tt), unlike word (codes "--all") not_option (refl, lit< tt), unlike word (codes "--no-names") not_option (refl, lit< tt), unlike word (codes "--help") not_option (refl, lit< tt), unlike word (codes "-h") not_option (refl, lit< tt), not_stripped 45 (codes "crl=") word not_option, not_stripped 45 (codes "tal=") word not_option, not_stripped 45 (codes "in=") word not_option, not_stripped 45 (codes "at=") word not_option, not_stripped 45 (codes "max-size=") word not_option, not_stripped 45 (codes "output=") word not_option, not_stripped 111 (codes "=") word not_option) refl
 
 -- ---- a part
 
@@ -134,6 +138,7 @@ one_format f g text h k =
 one_set : (setting : Setting) (value : List ℕ) (p q : LinePart) → IsSetPart setting value p → IsSetPart setting value q → p ≡ q
 one_set Crl value p q h k = h ∙ sym k
 one_set Tal value p q h k = h ∙ sym k
+one_set In value p q h k = h ∙ sym k
 one_set At value p q h k = h.1 ∙ ap at_moment (one_moment h.0 k.0 value h.3 k.3) ∙ sym k.1
 one_set MaxSize value p q h k = h.1 ∙ ap max_size (sym h.2.1 ∙ k.2.1) ∙ sym k.1
 one_set Output value p q h k = h.1 ∙ ap output (one_format h.0 k.0 value h.2 k.2) ∙ sym k.1
@@ -158,6 +163,7 @@ unfolding sort_of
 shape (file name) words h = alone_is line_grammar (file name) words name h.0 (file_sort name h.1)
 shape (list name) words h = line_given Crl name (list name) words refl h
 shape (locator name) words h = line_given Tal name (locator name) words refl h
+shape (folder name) words h = line_given In name (folder name) words refl h
 shape (at_moment m) words h = line_given At h.0 (at_moment m) words (m, refl, h.2, h.3) h.1
 shape (max_size n) words h = line_given MaxSize h.0 (max_size n) words (n, refl, h.2) h.1
 shape (output f) words h = given_format f h.0 words h.2 h.1
@@ -175,6 +181,7 @@ shape help words (inr h) = alone_is line_grammar help words (codes "-h") h refl
 set_is_part : (setting : Setting) (value : List ℕ) (part : LinePart) (words : List (List ℕ)) → IsSetPart setting value part → GivesValue (setting_name setting) value words → IsPart part words
 set_is_part Crl value part words set gives = subst (λ (p : LinePart). IsPart p words) (sym set) gives
 set_is_part Tal value part words set gives = subst (λ (p : LinePart). IsPart p words) (sym set) gives
+set_is_part In value part words set gives = subst (λ (p : LinePart). IsPart p words) (sym set) gives
 set_is_part At value part words set gives = subst (λ (p : LinePart). IsPart p words) (sym set.1) (value, gives, set.2, set.3)
 set_is_part MaxSize value part words set gives = subst (λ (p : LinePart). IsPart p words) (sym set.1) (value, gives, set.2)
 set_is_part Output value part words set gives = subst (λ (p : LinePart). IsPart p words) (sym set.1) (value, inl gives, set.2)
@@ -196,6 +203,7 @@ module _ (word : List ℕ) (is_option : IsOption word) (unnamed : (setting : Set
   no_option (file name) its behind rest is e = let same : word ≡ name = cc in is.1 (subst IsOption same is_option)
   no_option (list name) its behind rest is e = not_given Crl name its behind rest is e
   no_option (locator name) its behind rest is e = not_given Tal name its behind rest is e
+  no_option (folder name) its behind rest is e = not_given In name its behind rest is e
   no_option (at_moment m) its behind rest is e = not_given At is.0 its behind rest is.1 e
   no_option (max_size n) its behind rest is e = not_given MaxSize is.0 its behind rest is.1 e
   no_option (output f) its behind rest (text, inl is, named) e = not_given Output text its behind rest is e

@@ -1,6 +1,6 @@
 -- Which words behind the program's name are a command line, and what it asks (own). A word is the
 -- octets that the system has.
-use Rattle.std.specs.Prelude.{◌≡◌, ◌≢◌, ◌<◌, ◌^◌, ◌⊎◌, ℕ, List, [], ◌∷◌, ◌++◌, Option, Some, None, Bool, true, false, fold, codes}
+use Rattle.std.specs.Prelude.{◌≡◌, ◌≢◌, ◌<◌, ◌^◌, ◌⊎◌, ℕ, List, [], ◌∷◌, ◌++◌, length, Contains, Option, Some, None, Bool, true, false, fold, codes}
 use Rattle.std.specs.Str.Parse.{IsNumeral, digits_value}
 use Rattle.rpki.specs.Times.{Moment, IsMoment}
 use Rattle.rpki_text.specs.MomentTexts.{IsMomentText}
@@ -8,7 +8,7 @@ use Rattle.rpki_arguments.specs.WordParts.{IsOption, GivesValue, AreInOrder, wor
 use Rattle.rpki_arguments.specs.declared.arguments.Format.{Format}
 use Rattle.rpki_arguments.specs.declared.arguments.Format.TheVariants.{Text, Json, JsonLines}
 use Rattle.rpki_arguments.specs.declared.arguments.Setting.{Setting}
-use Rattle.rpki_arguments.specs.declared.arguments.Setting.TheVariants.{Crl, Tal, At, MaxSize, Output, ShortOutput}
+use Rattle.rpki_arguments.specs.declared.arguments.Setting.TheVariants.{Crl, Tal, In, At, MaxSize, Output, ShortOutput}
 use Rattle.rpki_arguments.specs.declared.arguments.Task.{Task}
 use Rattle.rpki_arguments.specs.declared.arguments.Task.TheVariants.{Show, Validate, Tree, Help, Version}
 pub mod Views
@@ -28,6 +28,7 @@ IsTaskName Version word = (word ≡ codes "--version") ⊎ (word ≡ codes "-V")
 abbrev pub setting_name : Setting → List ℕ
 setting_name Crl = codes "--crl"
 setting_name Tal = codes "--tal"
+setting_name In = codes "--in"
 setting_name At = codes "--at"
 setting_name MaxSize = codes "--max-size"
 setting_name Output = codes "--output"
@@ -45,7 +46,7 @@ IsFormatName JsonLines text = text ≡ codes "jsonl"
 
 -- what stands behind the task: files, and options, some with a value
 pub data LinePart : Type 0 where
-  file list locator : List ℕ → LinePart
+  file list locator folder : List ℕ → LinePart
   at_moment : Moment → LinePart
   max_size : ℕ → LinePart
   output : Format → LinePart
@@ -56,6 +57,7 @@ abbrev pub IsPart : LinePart → List (List ℕ) → Type 0
 IsPart (file name) words = (words ≡ name ∷ []) × (IsOption name → ⊥)
 IsPart (list name) words = GivesValue (setting_name Crl) name words
 IsPart (locator name) words = GivesValue (setting_name Tal) name words
+IsPart (folder name) words = GivesValue (setting_name In) name words
 IsPart (at_moment m) words = (text : List ℕ) × GivesValue (setting_name At) text words × IsMoment m × IsMomentText m text
 IsPart (max_size n) words = (text : List ℕ) × GivesValue (setting_name MaxSize) text words × IsNumberText n text
 IsPart (output f) words =
@@ -75,8 +77,8 @@ AreParts parts words = AreInOrder IsPart parts words
 
 -- the task, the moment if one is given, whether names are read strictly, the format of what is
 -- printed, whether nothing is printed, whether all entries of a list are printed, how many octets a
--- file may have, whether names of issuer and subject have to be the same, the files, and those given
--- as revocation lists and as locators of trust anchors
+-- file may have, whether names of issuer and subject have to be the same, the files, those given as
+-- revocation lists and as locators of trust anchors, and the folders in which a path is sought
 pub record RequestFields : Type 0 where
   pub task : Task
   pub at : Option Moment
@@ -89,6 +91,7 @@ pub record RequestFields : Type 0 where
   pub files : List (List ℕ)
   pub lists : List (List ℕ)
   pub locators : List (List ℕ)
+  pub folders : List (List ℕ)
 
 -- how many octets a file may have where no word says it: 64 MiB
 abbrev pub usual_size : ℕ
@@ -109,6 +112,7 @@ only_task task =
       files = [];
       lists = [];
       locators = [];
+      folders = [];
     }
 
 -- with more files
@@ -120,6 +124,7 @@ abbrev pub with_part : RequestFields → LinePart → RequestFields
 with_part r (file name) = record r { files = r.files ++ name ∷ [] }
 with_part r (list name) = record r { lists = r.lists ++ name ∷ [] }
 with_part r (locator name) = record r { locators = r.locators ++ name ∷ [] }
+with_part r (folder name) = record r { folders = r.folders ++ name ∷ [] }
 with_part r (at_moment m) = record r { at = Some m }
 with_part r (max_size n) = record r { max_size = n }
 with_part r (output f) = record r { format = f }
@@ -134,20 +139,39 @@ with_part r help = record r { task = Help }
 abbrev pub with_parts : RequestFields → List LinePart → RequestFields
 with_parts r parts = fold with_part r parts
 
--- nothing is said that only a path is asked about: no lists, no locators, and not that names are left
--- out
+-- nothing is said that only a path is asked about: no lists, no locators, no folders, and not that
+-- names are left out
 abbrev pub AsksNoPath : RequestFields → Type 0
-AsksNoPath r = (r.lists ≡ []) × (r.locators ≡ []) × (r.names ≡ true)
+AsksNoPath r = (r.lists ≡ []) × (r.locators ≡ []) × (r.folders ≡ []) × (r.names ≡ true)
+
+-- one of the names is that of standard input
+abbrev pub NamesInput : List (List ℕ) → Type 0
+NamesInput names = Contains names (codes "-")
+
+-- a file that is sought, a folder or a locator is standard input, which could be read only once
+abbrev pub ReadsInput : RequestFields → Type 0
+ReadsInput r = NamesInput r.files ⊎ (NamesInput r.folders ⊎ NamesInput r.locators)
+
+-- what a path wants that is sought: one file, to which it is to lead, and locators; no lists, which the
+-- folders have; and nothing from standard input, since files are read twice
+abbrev pub AsksSearch : RequestFields → Type 0
+AsksSearch r = (length r.files ≡ 1) × (r.lists ≡ []) × (r.locators ≢ []) × (ReadsInput r → ⊥)
+
+-- where there are folders, the path is sought in them
+abbrev pub SuitsFolders : List (List ℕ) → RequestFields → Type 0
+SuitsFolders [] r = Unit {0}
+SuitsFolders (first ∷ more) r = AsksSearch r
 
 -- what a tree wants: locators, and no option that it doesn't take
 abbrev pub AsksTree : RequestFields → Type 0
 AsksTree r =
-    (r.lists ≡ []) × (r.names ≡ true) × (r.all_entries ≡ false) × (r.locators ≢ [])
+    (r.lists ≡ []) × (r.folders ≡ []) × (r.names ≡ true) × (r.all_entries ≡ false)
+    × (r.locators ≢ [])
 
 -- what the task wants: files, and no option that only another task takes
 abbrev pub Suits : Task → RequestFields → Type 0
 Suits Show r = (r.files ≢ []) × AsksNoPath r
-Suits Validate r = (r.files ≢ []) × (r.all_entries ≡ false)
+Suits Validate r = (r.files ≢ []) × (r.all_entries ≡ false) × SuitsFolders r.folders r
 Suits Tree r = (r.files ≢ []) × AsksTree r
 Suits _ r = Unit {0}
 

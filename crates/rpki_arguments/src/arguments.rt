@@ -1,9 +1,9 @@
 //! What the command line asks.
-ghost use Rattle.std.specs.Prelude.{◌≡◌, ◌≢◌, ◌↔◌, ℕ, List, [], ◌∷◌, ◌++◌, map, codes, Some, IsTrue, IfSome, IfNone, MatchOption, OnOk, IfOk, IfErr};
+ghost use Rattle.std.specs.Prelude.{◌≡◌, ◌≢◌, ◌↔◌, ℕ, List, [], ◌∷◌, ◌++◌, false, map, codes, Some, IsTrue, IfSome, IfNone, MatchOption, OnOk, IfOk, IfErr};
 ghost use Rattle.std.specs.Bool.{OnTrue, OnFalse};
 ghost use Rattle.std.specs.Fmt.{WritesOnOk};
 ghost use Rattle.rpki_text.specs.Pages.{characters_text};
-ghost use Rattle.rpki_arguments.specs.CommandLines.{IsFormatName, IsTaskName, IsNumberText, LinePart, AreParts, RequestFields, only_task, setting_name, with_files, AsksNoPath, AsksTree, Suits, IsCommandLine};
+ghost use Rattle.rpki_arguments.specs.CommandLines.{IsFormatName, IsTaskName, IsNumberText, LinePart, AreParts, RequestFields, only_task, setting_name, with_files, AsksNoPath, AsksSearch, AsksTree, NamesInput, ReadsInput, Suits, SuitsFolders, IsCommandLine};
 ghost use Rattle.rpki_arguments.specs.CommandLines.Views.{word_octets, fields_of};
 ghost use Rattle.rpki_arguments.specs.WordParts.{IsOption, words_before, words_behind};
 ghost use Rattle.rpki_arguments.specs.MisuseTexts.{misuse_text};
@@ -42,6 +42,7 @@ pub enum Format {
 pub enum Setting {
     Crl,
     Tal,
+    In,
     At,
     MaxSize,
     /// `--output`.
@@ -64,6 +65,7 @@ pub struct Request<'a> {
     pub files: Vec<&'a [u8]>,
     pub lists: Vec<&'a [u8]>,
     pub locators: Vec<&'a [u8]>,
+    pub folders: Vec<&'a [u8]>,
 }
 
 /// Why the command line asks nothing.
@@ -76,8 +78,16 @@ pub enum Misuse<'a> {
     NoSize(&'a [u8]),
     NoFormat(&'a [u8]),
     NoFile,
-    /// No locator is given where one is wanted.
+    /// Not one file alone is given where a path to one is sought.
+    OneFile,
+    /// Lists are given beside the folders in which they are sought.
+    ListsIn,
+    /// No locator is given where a tree wants one.
     NoLocator,
+    /// No locator is given where a path is sought.
+    NoLocatorIn,
+    /// Standard input is named where files are read twice.
+    InputIn,
     Memory,
 }
 
@@ -88,6 +98,7 @@ fn name_of(setting: Setting) -> &'static str
     match setting {
         Setting::Crl => "--crl",
         Setting::Tal => "--tal",
+        Setting::In => "--in",
         Setting::At => "--at",
         Setting::MaxSize => "--max-size",
         Setting::Output => "--output",
@@ -127,7 +138,13 @@ impl fmt::Display for Misuse<'_> {
             Misuse::NoSize(text) => write_word(f, "--max-size ", *text, ": no number of octets"),
             Misuse::NoFormat(text) => write_word(f, "-o ", *text, ": no format"),
             Misuse::NoFile => f.write_str("no file"),
+            Misuse::OneFile => f.write_str("--in wants one file"),
+            Misuse::ListsIn => { f.write_str("--in takes no --crl: a list is named by --in too") }
             Misuse::NoLocator => f.write_str("tree wants --tal"),
+            Misuse::NoLocatorIn => f.write_str("--in wants --tal"),
+            Misuse::InputIn => {
+                f.write_str("--in reads files twice, so it wants none of standard input")
+            }
             Misuse::Memory => f.write_str("out of memory"),
         }
     }
@@ -161,6 +178,8 @@ fn setting_of(word: &[u8]) -> Option<Setting>
         Some(Setting::Crl)
     } else if is(word, "--tal") {
         Some(Setting::Tal)
+    } else if is(word, "--in") {
+        Some(Setting::In)
     } else if is(word, "--at") {
         Some(Setting::At)
     } else if is(word, "--max-size") {
@@ -193,6 +212,9 @@ fn joined<'a>(word: &'a [u8]) -> Option<(Setting, &'a [u8])>
     }
     if let Some(value) = behind(word, "--tal=") {
         return Some((Setting::Tal, value));
+    }
+    if let Some(value) = behind(word, "--in=") {
+        return Some((Setting::In, value));
     }
     if let Some(value) = behind(word, "--at=") {
         return Some((Setting::At, value));
@@ -314,6 +336,7 @@ fn add_set<'a>(
     match setting {
         Setting::Crl => push_name(&mut request.lists, value),
         Setting::Tal => push_name(&mut request.locators, value),
+        Setting::In => push_name(&mut request.folders, value),
         Setting::At => match moments::from_text(value) {
             Some(moment) => {
                 request.at = Some(moment);
@@ -406,6 +429,7 @@ fn new_request<'a>(alloc: Global, task: Task) -> Request<'a>
         files: Vec::new(alloc),
         lists: Vec::new(alloc),
         locators: Vec::new(alloc),
+        folders: Vec::new(alloc),
     }
 }
 
@@ -419,6 +443,9 @@ fn only_validating(request: &Request<'_>) -> Option<&'static [u8]>
     }
     if !request.locators.is_empty() {
         return Some(b"--tal".as_slice());
+    }
+    if !request.folders.is_empty() {
+        return Some(b"--in".as_slice());
     }
     if !request.names {
         return Some(b"--no-names".as_slice());
@@ -434,6 +461,9 @@ fn misuse_of_tree(request: &Request<'_>) -> Option<Misuse<'static>>
     if !request.lists.is_empty() {
         return Some(Misuse::Unknown(b"--crl".as_slice()));
     }
+    if !request.folders.is_empty() {
+        return Some(Misuse::Unknown(b"--in".as_slice()));
+    }
     if !request.names {
         return Some(Misuse::Unknown(b"--no-names".as_slice()));
     }
@@ -444,6 +474,67 @@ fn misuse_of_tree(request: &Request<'_>) -> Option<Misuse<'static>>
         return Some(Misuse::NoLocator);
     }
     None
+}
+
+// Whether one of the names is that of standard input.
+fn names_input(names: &[&[u8]]) -> bool
+    ensures { IsTrue result ↔ NamesInput (map (λ name. name.now) names.now) }
+{
+    for name in names {
+        if is(*name, "-") {
+            return true;
+        }
+    }
+    false
+}
+
+// Whether the file that is sought, a folder or a locator is standard input.
+fn reads_input(request: &Request<'_>) -> bool
+    ensures { IsTrue result ↔ ReadsInput (fields_of request.now) }
+{
+    if names_input(&request.files) {
+        return true;
+    }
+    if names_input(&request.folders) {
+        return true;
+    }
+    names_input(&request.locators)
+}
+
+// What doesn't suit a path that is sought: that there isn't one file alone, that lists are given,
+// that there is no locator, or that standard input would be read twice.
+fn misuse_of_search(request: &Request<'_>) -> Option<Misuse<'static>>
+    ensures { MatchOption result (AsksSearch (fields_of request.now))
+        (λ _. AsksSearch (fields_of request.now) → ⊥) }
+{
+    if request.files.len() != 1 {
+        return Some(Misuse::OneFile);
+    }
+    if !request.lists.is_empty() {
+        return Some(Misuse::ListsIn);
+    }
+    if request.locators.is_empty() {
+        return Some(Misuse::NoLocatorIn);
+    }
+    if reads_input(request) {
+        return Some(Misuse::InputIn);
+    }
+    None
+}
+
+// What doesn't suit a path: an option that it doesn't take, or what its folders don't suit.
+fn misuse_of_path(request: &Request<'_>) -> Option<Misuse<'static>>
+    ensures { let r = fields_of request.now in
+        MatchOption result ((r.all_entries ≡ false) × SuitsFolders r.folders r)
+        (λ _. (r.all_entries ≡ false) × SuitsFolders r.folders r → ⊥) }
+{
+    if request.all {
+        return Some(Misuse::Unknown(b"--all".as_slice()));
+    }
+    if request.folders.is_empty() {
+        return None;
+    }
+    misuse_of_search(request)
 }
 
 // What doesn't suit the task: an option that it doesn't take, or that there is no file.
@@ -462,8 +553,10 @@ fn misuse_of(request: &Request<'_>) -> Option<Misuse<'static>>
             return Some(misuse);
         }
     }
-    if request.task == Task::Validate && request.all {
-        return Some(Misuse::Unknown(b"--all".as_slice()));
+    if request.task == Task::Validate {
+        if let Some(misuse) = misuse_of_path(request) {
+            return Some(misuse);
+        }
     }
     let wants_none = request.task == Task::Help || request.task == Task::Version;
     if !wants_none && request.files.is_empty() {

@@ -1,6 +1,9 @@
 -- How runs end.
-use Rattle.std.specs.Prelude.{Result, Ok, Err, IfOk, IsOkAnd}
-use Rattle.std.proofs.Common.{◌≡◌, ℕ, List, inl, inr, refl, subst, sym}
+use Rattle.std.specs.Prelude.{Option, Some, None, Result, Ok, Err, IfOk, IsOkAnd}
+use Rattle.std.specs.declared.vec.Vec.{Vec}
+use Rattle.std.proofs.Common.{◌≡◌, ◌==◌, ℕ, Bool, false, List, [], ◌∷◌, length, map, inl, inr, refl, subst, sym, ap, ◌∙◌}
+use Rattle.std.proofs.lemmas.Bool.{eq-eqb, false≢true}
+use Rattle.std.proofs.lemmas.List.{length-map}
 use Rattle.rpki.specs.RsaSignatures.{IsSignedByRsa}
 use Rattle.rpki.specs.Times.{Moment}
 use Rattle.rpki.specs.Verification.{Context, context}
@@ -8,16 +11,18 @@ use Rattle.rpki_files.specs.Files.{contents}
 use Rattle.rpki_verdicts.specs.GivenLocators.{locator_files}
 use Rattle.rpki_verdicts.specs.PathFiles.{Demands}
 use Rattle.rpki_command.specs.AboutTexts.{about_text}
-use Rattle.rpki_arguments.specs.CommandLines.{RequestFields, IsCommandLine}
+use Rattle.rpki_arguments.specs.CommandLines.{RequestFields, with_files, IsCommandLine}
 use Rattle.rpki_command.specs.Outcomes.{AsksOfFiles, IsOutcomeOf, demands_by, run_status}
 use Rattle.rpki_command.specs.ListedFolders.{Lists}
 use Rattle.rpki_command.specs.ReadFiles.{Reads}
 use Rattle.rpki_command.specs.Moments.{IsMomentBy}
-use Rattle.rpki_command.specs.Runs.{IsAnswerOf, LineEnds, TaskEnds}
+use Rattle.rpki_command.specs.SoughtPaths.{with_sought}
+use Rattle.rpki_command.specs.Runs.{IsAnswer, IsAnswerAmong, IsAnswerBy, IsAnswerIn, IsAnswerOf, IsAnswerOfNamed, LineEnds, TaskEnds}
 use Rattle.rpki_arguments.specs.declared.arguments.Task.{Task}
 use Rattle.rpki_arguments.specs.declared.arguments.Task.TheVariants.{Show, Validate, Tree, Help, Version}
 use Rattle.rpki_command.specs.declared.outcomes.Ended.{Ended}
 use Rattle.rpki_command.specs.declared.outcomes.Outcome.{Outcome}
+use Rattle.rpki_command.specs.declared.searching.SoughtNames.{SoughtNames}
 use Rattle.rpki_command.specs.declared.outcomes.Outcome.TheVariants.{Success, Rejection, WrongUse, Unread}
 
 -- what files hold never makes a run end as wrong use
@@ -27,6 +32,19 @@ no_misuse Validate x d files lists h = h
 no_misuse Tree x d files lists h = h
 no_misuse Help x d files lists h = cc
 no_misuse Version x d files lists h = cc
+
+-- neither does a path that is sought
+module _ (reads : Reads) (lists : Lists) (r : RequestFields) (now : Moment) (text : List ℕ) where
+  by_files : (q : RequestFields) → IsAnswer reads q now WrongUse text → ⊥
+  by_files q answer = no_misuse q.task (context IsSignedByRsa now q.strict) (demands_by q (locator_files answer.locators)) (contents answer.files) (contents answer.lists) answer.ends.1
+
+  by_sought : (q : RequestFields) (sought : Option SoughtNames) → IsAnswerBy reads q now sought WrongUse text → ⊥
+  by_sought q None h = let wrong : WrongUse ≡ Unread = h.0 in cc
+  by_sought q (Some sought) h = by_files (with_sought q sought) h
+
+  never_misuse : (folders : List (List ℕ)) → IsAnswerAmong folders reads lists r now WrongUse text → ⊥
+  never_misuse [] h = by_files (record r { files = h.0 }) h.2
+  never_misuse (folder ∷ folders) h = by_sought (with_files r h.names) h.sought h.answer
 
 module _ (reads : Reads) (lists : Lists) (tells : Moment → Type 0) (words : List (List ℕ)) (r : RequestFields) (line : IsCommandLine r words) where
   -- a text about the command
@@ -55,13 +73,37 @@ module _ (reads : Reads) (lists : Lists) (tells : Moment → Type 0) (words : Li
   module _ (asks : AsksOfFiles r.task) (now : Moment) (moment : IsMomentBy tells r.at now) where
     -- is no wrong use
     pub answer_is_use : (text : List ℕ) → IsAnswerOf reads lists r now WrongUse text → ⊥
-    answer_is_use text (names, are, answer) = no_misuse r.task (context IsSignedByRsa now r.strict) (demands_by r (locator_files answer.locators)) (contents answer.files) (contents answer.lists) answer.ends.1
+    answer_is_use text answer = never_misuse reads lists r now text r.folders answer
 
     pub run_answer : (outcome : Outcome) (text : List ℕ) → IsAnswerOf reads lists r now outcome text → LineEnds reads lists tells words outcome text
     run_answer Success text answer = (r, line, answer_ends r.task asks now Success text moment answer)
     run_answer Rejection text answer = (r, line, answer_ends r.task asks now Rejection text moment answer)
     run_answer WrongUse text answer = absurd (answer_is_use text answer)
     run_answer Unread text answer = (r, line, answer_ends r.task asks now Unread text moment answer)
+
+-- ---- an answer of files, or of a path that is sought
+
+module _ (reads : Reads) (lists : Lists) (r : RequestFields) (now : Moment) (outcome : Outcome) (text : List ℕ) where
+  -- where there is no folder
+  pub of_named : (folders : List (List ℕ)) → folders ≡ [] → IsAnswerOfNamed reads lists r now outcome text → IsAnswerAmong folders reads lists r now outcome text
+  of_named [] e h = h
+  of_named (folder ∷ folders) e h = absurd cc
+
+  -- and where there are some
+  pub of_sought : (folders : List (List ℕ)) → (folders ≡ [] → ⊥) → IsAnswerIn reads lists r now outcome text → IsAnswerAmong folders reads lists r now outcome text
+  of_sought [] some h = absurd (some refl)
+  of_sought (folder ∷ folders) some h = h
+
+-- some names are there
+pub some_names : {X Y Z : Type 0} (f : X → Y) (names : Vec X Z) (none : Bool) → none ≡ (names.len == 0) → names.len ≡ length names.items → none ≡ false → map f names.items ≡ [] → ⊥
+some_names f names none is len some e =
+    let empty : length names.items ≡ 0 = sym (length-map names.items f) ∙ ap length e in
+    false≢true (sym some ∙ is ∙ eq-eqb names.len 0 (len ∙ empty))
+
+-- what is written of an answer is written of it by another name
+pub so_answered : {T E : Type 0} (A B W : T → List ℕ → Type 0) (r : Result T E) → ((e : T) (text : List ℕ) → A e text → B e text) → IfOk r (λ e. (text : List ℕ) × A e text × W e text) → IfOk r (λ e. (text : List ℕ) × B e text × W e text)
+so_answered A B W (Ok e) f h = (h.0, f e h.0 h.1, h.2)
+so_answered A B W (Err e) f h = tt
 
 -- ---- what the status tells
 

@@ -3,6 +3,7 @@ mod AppendedTexts
 mod EndedRuns
 mod FlaggedItems
 mod ListedNames
+mod ListsAmong
 mod NamedObjects
 mod PartsOfEach
 mod PemLines

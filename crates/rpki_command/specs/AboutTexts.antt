@@ -10,6 +10,7 @@ usage_text = concat (
     codes "usage: rpki show [--all] [OPTION].. FILE..\n"
     ∷ codes "       rpki validate [--tal FILE].. [--crl FILE].. [--no-names] [OPTION].."
     ∷ codes " ANCHOR [CA].. [LAST]\n"
+    ∷ codes "       rpki validate --tal FILE.. --in FOLDER.. [--no-names] [OPTION].. FILE\n"
     ∷ codes "       rpki tree --tal FILE.. [OPTION].. FILE|FOLDER..\n"
     ∷ codes "       rpki prepare ca|ee|detached|router|anchor [--issuer FILE].. --key FILE FIELD..\n"
     ∷ codes "       rpki complete [--issuer FILE].. [--pem] PREPARED SIGNATURE\n"

@@ -24,4 +24,5 @@ pub mod Messages
 pub mod Moments
 pub mod PemTexts
 pub mod RequestRuns
+pub mod SoughtPaths
 pub mod Runs

@@ -1,12 +1,12 @@
 -- How a run of the command ends, and what it writes, by what reading files and listing folders gives and
 -- by what a clock tells (own).
-use Rattle.std.specs.Prelude.{◌≡◌, ◌≢◌, ◌⊎◌, ℕ, List, [], Option, IsFalse, IsTrue}
+use Rattle.std.specs.Prelude.{◌≡◌, ◌≢◌, ◌⊎◌, ℕ, List, [], ◌∷◌, Option, Some, None, IsFalse, IsTrue}
 use Rattle.rpki.specs.Times.{Moment}
 use Rattle.rpki_files.specs.Files.{FileFields}
 use Rattle.rpki_verdicts.specs.GivenLocators.{LocatorFields, locator_files}
 use Rattle.rpki_command.specs.AboutTexts.{usage_text, version_text}
 use Rattle.rpki_command.specs.AnswerTexts.{HasText, IsTextBy, IsJsonBy}
-use Rattle.rpki_arguments.specs.CommandLines.{RequestFields, IsCommandLine}
+use Rattle.rpki_arguments.specs.CommandLines.{RequestFields, with_files, IsCommandLine}
 use Rattle.rpki_command.specs.ListedFolders.{Lists, AreFilesOf}
 use Rattle.rpki_command.specs.Outcomes.{EndsBy}
 use Rattle.rpki_command.specs.Messages.{SaysLineMisuse, SaysRequestMisuse}
@@ -14,11 +14,13 @@ use Rattle.rpki_command.specs.Moments.{IsMomentBy}
 use Rattle.rpki_command.specs.ReadFiles.{Reads, AreRead}
 use Rattle.rpki_command.specs.RequestRuns.{RequestEnds}
 use Rattle.rpki_requests.specs.RequestWords.{BeginsRequest}
+use Rattle.rpki_command.specs.SoughtPaths.{IsSearch, with_sought}
 use Rattle.rpki_arguments.specs.declared.arguments.Format.TheVariants.{Text}
 use Rattle.rpki_arguments.specs.declared.arguments.Task.{Task}
-use Rattle.rpki_arguments.specs.declared.arguments.Task.TheVariants.{Show, Validate, Help, Version}
+use Rattle.rpki_arguments.specs.declared.arguments.Task.TheVariants.{Show, Validate, Tree, Help, Version}
 use Rattle.rpki_command.specs.declared.outcomes.Outcome.{Outcome}
-use Rattle.rpki_command.specs.declared.outcomes.Outcome.TheVariants.{Success, WrongUse}
+use Rattle.rpki_command.specs.declared.outcomes.Outcome.TheVariants.{Success, WrongUse, Unread}
+use Rattle.rpki_command.specs.declared.searching.SoughtNames.{SoughtNames}
 
 -- ---- what is asked of files
 
@@ -37,10 +39,35 @@ pub record IsAnswer (reads : Reads) (r : RequestFields) (now : Moment) (outcome 
 
 -- the same, where listing folders gives this: it is that of the files that stand for the names of the
 -- request
-abbrev pub IsAnswerOf : Reads → Lists → RequestFields → Moment → Outcome → List ℕ → Type 0
-IsAnswerOf reads lists r now outcome text =
+abbrev pub IsAnswerOfNamed : Reads → Lists → RequestFields → Moment → Outcome → List ℕ → Type 0
+IsAnswerOfNamed reads lists r now outcome text =
     (names : List (List ℕ)) × AreFilesOf lists r.task r.files names
     × IsAnswer reads (record r { files = names }) now outcome text
+
+-- the answer by what was sought: that to the same request of the files and the lists that were found;
+-- or none, where a file couldn't be read
+abbrev pub IsAnswerBy : Reads → RequestFields → Moment → Option SoughtNames → Outcome → List ℕ → Type 0
+IsAnswerBy reads r now None outcome text = (outcome ≡ Unread) × (text ≡ [])
+IsAnswerBy reads r now (Some sought) outcome text =
+    IsAnswer reads (with_sought r sought) now outcome text
+
+-- the answer where a path is sought in folders: among the request's file and those that stand for the
+-- folders' names
+pub record IsAnswerIn (reads : Reads) (lists : Lists) (r : RequestFields) (now : Moment)
+    (outcome : Outcome) (text : List ℕ) : Type 0 where
+  pub names : List (List ℕ)
+  pub names_are : AreFilesOf lists Tree r.folders names
+  pub sought : Option SoughtNames
+  pub search : IsSearch reads (with_files r names) now sought
+  pub answer : IsAnswerBy reads (with_files r names) now sought outcome text
+
+-- the answer of files, which are sought where the request has folders
+abbrev pub IsAnswerAmong : List (List ℕ) → Reads → Lists → RequestFields → Moment → Outcome → List ℕ → Type 0
+IsAnswerAmong [] reads lists r now outcome text = IsAnswerOfNamed reads lists r now outcome text
+IsAnswerAmong (folder ∷ folders) reads lists r now outcome text = IsAnswerIn reads lists r now outcome text
+
+abbrev pub IsAnswerOf : Reads → Lists → RequestFields → Moment → Outcome → List ℕ → Type 0
+IsAnswerOf reads lists r now outcome text = IsAnswerAmong r.folders reads lists r now outcome text
 
 -- ---- a command line
 

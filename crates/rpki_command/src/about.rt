@@ -7,6 +7,7 @@ use rpki_arguments::Task;
 
 const USAGE: &str = "usage: rpki show [--all] [OPTION].. FILE..
        rpki validate [--tal FILE].. [--crl FILE].. [--no-names] [OPTION].. ANCHOR [CA].. [LAST]
+       rpki validate --tal FILE.. --in FOLDER.. [--no-names] [OPTION].. FILE
        rpki tree --tal FILE.. [OPTION].. FILE|FOLDER..
        rpki prepare ca|ee|detached|router|anchor [--issuer FILE].. --key FILE FIELD..
        rpki complete [--issuer FILE].. [--pem] PREPARED SIGNATURE

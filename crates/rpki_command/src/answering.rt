@@ -39,8 +39,8 @@ fn are_locators_read(names: &[&[u8]], locators: &[GivenLocator<'_>]) -> bool
     locators.len() == names.len()
 }
 
-// Whether all files, lists and locators could be read, of which these could be.
-fn are_all_read(
+/// Returns whether all files, lists and locators of a request could be read, of which these could be.
+pub fn are_all_read(
     request: &Request<'_>,
     files: &[Object<'_>],
     lists: &[Object<'_>],
@@ -135,11 +135,11 @@ fn if_read(answer: Answer, are_all_read: bool) -> Answer
     }
 }
 
-// How many certificates a path has at most below a trust anchor.
-const DEPTH: usize = 32;
+/// How many certificates a path has at most below a trust anchor.
+pub const DEPTH: usize = 32;
 
-// How many certificates are verified at most for each file that is named.
-const STEPS: usize = 64;
+/// How many certificates are verified at most for each file that is named.
+pub const STEPS: usize = 64;
 
 // Judges all certificates among the files that could be read. The outcome is theirs, where all could
 // be.

@@ -213,8 +213,9 @@ fn tell_passed<E: Write>(err: &mut E, passed: usize) {
     }
 }
 
-// The files that stand for names of which each may be a folder's.
-fn opened<F: FileSource, E: Write>(
+/// Returns the names of the files that stand for names of which each may be a folder's. Errs only
+/// where memory runs out.
+pub fn opened<F: FileSource, E: Write>(
     alloc: Global,
     files: &F,
     err: &mut E,
@@ -266,5 +267,40 @@ pub fn with_files<'a>(
     }
     let mut request = request;
     request.files = files;
+    Ok(request)
+}
+
+/// Returns the request with these files behind its own. Errs only where memory runs out.
+pub fn with_further<'a>(
+    request: Request<'a>,
+    names: &'a [Vec<u8>],
+) -> Result<Request<'a>, AllocError>
+    ensures { let r = fields_of request.entry in IfOk result (λ new.
+        fields_of new ≡ record r { files = r.files ++ word_octets names.now }) }
+{
+    let mut request = request;
+    for name in names {
+        request.files.push(name.as_slice())?;
+    }
+    Ok(request)
+}
+
+/// Returns the request with these files and lists in place of its own. Errs only where memory runs
+/// out.
+pub fn with_path<'a>(
+    alloc: Global,
+    request: Request<'a>,
+    names: &'a [Vec<u8>],
+    list_names: &'a [Vec<u8>],
+) -> Result<Request<'a>, AllocError>
+    ensures { let r = fields_of request.entry in IfOk result (λ new. fields_of new
+        ≡ record r { files = word_octets names.now; lists = word_octets list_names.now }) }
+{
+    let mut lists = Vec::new(alloc);
+    for name in list_names {
+        lists.push(name.as_slice())?;
+    }
+    let mut request = with_files(alloc, request, names)?;
+    request.lists = lists;
     Ok(request)
 }

@@ -25,6 +25,7 @@ mod pem;
 mod reading;
 mod requests;
 mod running;
+mod searching;
 mod showing;
 mod tree_lines;
 mod trees;

@@ -5,17 +5,18 @@ ghost use Rattle.rpki_arguments.specs.CommandLines.Views.{fields_of, word_octets
 ghost use Rattle.rpki_command.specs.Outcomes.{AsksOfFiles};
 ghost use Rattle.rpki_arguments.specs.MisuseTexts.{misuse_text};
 ghost use Rattle.rpki_command.specs.Messages.{SaysLineMisuse, SaysRefusal, misuse_message};
-ghost use Rattle.rpki_command.specs.Runs.{IsAnswer, IsAnswerOf, LineEnds, RunEnds, SaysMisuse};
+ghost use Rattle.rpki_command.specs.Runs.{IsAnswer, IsAnswerBy, IsAnswerIn, IsAnswerOf, IsAnswerOfNamed, LineEnds, RunEnds, SaysMisuse};
 ghost use Rattle.rpki_requests.specs.RequestWords.{BeginsRequest};
 
 use crate::about::{text_about, usage};
 use crate::answering::answer_request;
 use crate::clock::{MomentSource, moment};
 use crate::files::FileSource;
-use crate::folders::{file_names, with_files};
+use crate::folders::{file_names, opened, with_files, with_further, with_path};
 use crate::outcomes::{Answer, Ended, Outcome};
 use crate::reading::{read_files, read_locators};
 use crate::requests::run_request;
+use crate::searching::{SoughtNames, names_sought};
 use anyhow::{Result, anyhow};
 use rpki::repository::x509::Time;
 use rpki_arguments::{Misuse, Request, read_words};
@@ -83,6 +84,78 @@ pub fn answer<F: FileSource, O: Write, E: Write>(
 }
 
 // Answers the request of the files that stand for its names, as listing folders gives them.
+fn answer_of_named<F: FileSource, O: Write, E: Write>(
+    alloc: Global,
+    files: &F,
+    out: &mut O,
+    err: &mut E,
+    request: Request<'_>,
+    now: Time,
+) -> Result<Ended, AllocError>
+    requires { AsksOfFiles request.task }
+    ensures answer { let request = fields_of request.entry in
+        IfOk result (λ ended. (text : List ℕ)
+        × IsAnswerOfNamed (F.reads files.now) (F.lists files.now) request now ended.outcome text
+        × OnOk ended.written (Appends (O.contents out.old) (O.contents out.new) text)) }
+    ensures unwritten { OnErr result (out.new ≡ out.old) }
+{
+    let names = file_names(alloc, files, err, &request)?;
+    let request = with_files(alloc, request, &names)?;
+    answer(alloc, files, out, err, &request, now)
+}
+
+// Answers the request of the path that was sought; where a file couldn't be read, there is none.
+fn answer_by<F: FileSource, O: Write, E: Write>(
+    alloc: Global,
+    files: &F,
+    out: &mut O,
+    err: &mut E,
+    request: Request<'_>,
+    now: Time,
+    sought: &Option<SoughtNames>,
+) -> Result<Ended, AllocError>
+    requires { AsksOfFiles request.task }
+    ensures answer { let request = fields_of request.entry in
+        IfOk result (λ ended. (text : List ℕ)
+        × IsAnswerBy (F.reads files.now) request now sought.now ended.outcome text
+        × OnOk ended.written (Appends (O.contents out.old) (O.contents out.new) text)) }
+    ensures unwritten { OnErr result (out.new ≡ out.old) }
+{
+    let Some(sought) = sought else {
+        drop(request);
+        return Ok(Ended {
+            outcome: Outcome::Unread,
+            written: Ok(()),
+        });
+    };
+    let request = with_path(alloc, request, &sought.files, &sought.lists)?;
+    answer(alloc, files, out, err, &request, now)
+}
+
+// Answers the request of the path to its file that is sought among the files that stand for the
+// names of its folders.
+fn answer_in<F: FileSource, O: Write, E: Write>(
+    alloc: Global,
+    files: &F,
+    out: &mut O,
+    err: &mut E,
+    request: Request<'_>,
+    now: Time,
+) -> Result<Ended, AllocError>
+    requires { AsksOfFiles request.task }
+    ensures answer { let request = fields_of request.entry in
+        IfOk result (λ ended. (text : List ℕ)
+        × IsAnswerIn (F.reads files.now) (F.lists files.now) request now ended.outcome text
+        × OnOk ended.written (Appends (O.contents out.old) (O.contents out.new) text)) }
+    ensures unwritten { OnErr result (out.new ≡ out.old) }
+{
+    let names = opened(alloc, files, err, &request.folders)?;
+    let request = with_further(request, &names)?;
+    let sought = names_sought(alloc, files, err, &request, now)?;
+    answer_by(alloc, files, out, err, request, now, &sought)
+}
+
+// Answers the request of its files, which are sought where it has folders.
 fn answer_named<F: FileSource, O: Write, E: Write>(
     alloc: Global,
     files: &F,
@@ -98,9 +171,10 @@ fn answer_named<F: FileSource, O: Write, E: Write>(
         × OnOk ended.written (Appends (O.contents out.old) (O.contents out.new) text)) }
     ensures unwritten { OnErr result (out.new ≡ out.old) }
 {
-    let names = file_names(alloc, files, err, &request)?;
-    let request = with_files(alloc, request, &names)?;
-    answer(alloc, files, out, err, &request, now)
+    if request.folders.is_empty() {
+        return answer_of_named(alloc, files, out, err, request, now);
+    }
+    answer_in(alloc, files, out, err, request, now)
 }
 
 // Answers the words of a command line: writes what they ask, or says what is wrong of them.

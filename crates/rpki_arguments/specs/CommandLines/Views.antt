@@ -22,4 +22,5 @@ fields_of r = record {
   files = map (λ name. name.now) r.files.items;
   lists = map (λ name. name.now) r.lists.items;
   locators = map (λ name. name.now) r.locators.items;
+  folders = map (λ name. name.now) r.folders.items;
 }

@@ -1,6 +1,6 @@
 use Rattle.std.proofs.Common.{◌++◌, ◌∷◌, [], ℕ, List, inl, inr, refl}
-use Rattle.rpki_arguments.specs.declared.arguments.Setting.TheVariants.{Crl, Tal}
-use Rattle.rpki_arguments.specs.CommandLines.{list, locator, at_moment, max_size}
+use Rattle.rpki_arguments.specs.declared.arguments.Setting.TheVariants.{Crl, Tal, In}
+use Rattle.rpki_arguments.specs.CommandLines.{list, locator, folder, at_moment, max_size}
 use Rattle.rpki_arguments.specs.CommandLines.Views.{fields_of}
 use Rattle.rpki_arguments.proofs.AddedParts.{value_pushed}
 use Rattle.rpki_arguments.proofs.arguments.add_set.Goals as goal
@@ -16,6 +16,12 @@ returns-in-Tal-clause-added c =
     let old = fields_of c.args.request.now in
     let value = c.args.value.now in
     rw c.in-Tal.is (value_pushed c.push_name-in-Tal.result old Tal value (locator value) refl (λ (l : List (List ℕ)). record old { locators = l }) _ (old.locators ++ value ∷ []) refl c.push_name-in-Tal.ensures.added)
+
+pub returns-in-In-clause-added : goal.returns-in-In-clause-added
+returns-in-In-clause-added c =
+    let old = fields_of c.args.request.now in
+    let value = c.args.value.now in
+    rw c.in-In.is (value_pushed c.push_name-in-In.result old In value (folder value) refl (λ (l : List (List ℕ)). record old { folders = l }) _ (old.folders ++ value ∷ []) refl c.push_name-in-In.ensures.added)
 
 pub returns-in-Some-clause-added : goal.returns-in-Some-clause-added
 returns-in-Some-clause-added c =

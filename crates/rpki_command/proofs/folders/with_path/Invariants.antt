@@ -1,0 +1,6 @@
+use Rattle.std.proofs.Common.{◌≡◌, map, take}
+use Rattle.rpki_arguments.specs.CommandLines.Views.{word_octets}
+use Rattle.rpki_command.proofs.folders.with_path.Given as goal
+
+abbrev pub invariant-loop-name : goal.invariant-loop-name
+invariant-loop-name l = map (λ name. name.now) l.lists.items ≡ word_octets (take l.name-index l.list_names)

@@ -1,0 +1,54 @@
+-- A path that is sought: what is read of the files among which it is, and which files it has (own).
+use Rattle.std.specs.Prelude.{◌≡◌, ◌⊎◌, ℕ, List, [], ◌∷◌, Option, Some, None}
+use Rattle.rpki.specs.RsaSignatures.{IsSignedByRsa}
+use Rattle.rpki.specs.Times.{Moment}
+use Rattle.rpki.specs.Verification.{context}
+use Rattle.rpki_arguments.specs.CommandLines.{RequestFields}
+use Rattle.rpki_arguments.specs.CommandLines.Views.{word_octets}
+use Rattle.rpki_files.specs.Contents.{BeginsWithList}
+use Rattle.rpki_files.specs.Files.{FileFields, file_names}
+use Rattle.rpki_verdicts.specs.GivenLocators.{LocatorFields, locator_files}
+use Rattle.rpki_verdicts.specs.Searches.{IsSoughtPath}
+use Rattle.rpki_verdicts.specs.Trees.{TreeFields}
+use Rattle.rpki_command.specs.AnswerTexts.{tree_question_of}
+use Rattle.rpki_command.specs.Outcomes.{AreAllRead}
+use Rattle.rpki_command.specs.ReadFiles.{Reads, AreRead}
+use Rattle.rpki_command.specs.declared.searching.SoughtNames.{SoughtNames}
+
+-- these are the names of those of the files that begin with lists, in their order
+abbrev pub AreListNames : List FileFields → List (List ℕ) → Type 0
+AreListNames [] names = names ≡ []
+AreListNames (file ∷ files) names =
+    ((BeginsWithList file.octets → ⊥) × AreListNames files names)
+    ⊎ ((rest : List (List ℕ)) × BeginsWithList file.octets
+    × AreListNames files rest × (names ≡ file.name ∷ rest))
+
+-- these are the names of the files of the path that is sought to the first of the files, and those of
+-- all lists among these
+pub record IsSought (q : TreeFields) (sought : SoughtNames) : Type 0 where
+  pub path : List FileFields
+  pub path_is : (file : FileFields) (more : List FileFields) → q.files ≡ file ∷ more
+      → IsSoughtPath (context IsSignedByRsa q.at q.strict) q file path
+  pub files_are : word_octets sought.files.items ≡ file_names path
+  pub lists_are : AreListNames q.files (word_octets sought.lists.items)
+
+-- the request of the files and the lists that were found
+abbrev pub with_sought : RequestFields → SoughtNames → RequestFields
+with_sought r sought =
+    record r { files = word_octets sought.files.items; lists = word_octets sought.lists.items }
+
+-- What a search gives at a moment, of what is read of the files of a request: the names; or none,
+-- exactly where a file can't be read.
+abbrev pub IsSearchOf : RequestFields → Moment → List FileFields → List FileFields
+    → List LocatorFields → Option SoughtNames → Type 0
+IsSearchOf r now files lists locators None = AreAllRead r files lists (locator_files locators) → ⊥
+IsSearchOf r now files lists locators (Some sought) =
+    AreAllRead r files lists (locator_files locators)
+    × IsSought (tree_question_of r now files locators) sought
+
+pub record IsSearch (reads : Reads) (r : RequestFields) (now : Moment) (sought : Option SoughtNames) : Type 0 where
+  pub files : List FileFields
+  pub lists : List FileFields
+  pub locators : List LocatorFields
+  pub are_read : AreRead reads r files lists locators
+  pub gives : IsSearchOf r now files lists locators sought

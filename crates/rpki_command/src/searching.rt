@@ -1,0 +1,157 @@
+//! A path that is sought: the names of its files, and of the lists beside them.
+ghost use Rattle.std.specs.Prelude.{◌≡◌, ◌++◌, ◌∷◌, [], List, ℕ, map, IfOk, OnOk};
+ghost use Rattle.rpki.specs.RsaSignatures.{IsSignedByRsa};
+ghost use Rattle.rpki.specs.Verification.{context};
+ghost use Rattle.rpki_arguments.specs.CommandLines.Views.{fields_of, word_octets};
+ghost use Rattle.rpki_files.specs.Files.{FileFields, file_names};
+ghost use Rattle.rpki_verdicts.specs.Searches.{IsSoughtPath};
+ghost use Rattle.rpki_verdicts.specs.Trees.{asked_of};
+ghost use Rattle.rpki_command.specs.AnswerTexts.{tree_question_of};
+ghost use Rattle.rpki_command.specs.ReadFiles.{AreGiven};
+ghost use Rattle.rpki_command.specs.SoughtPaths.{AreListNames, IsSearch, IsSearchOf, IsSought};
+
+use crate::answering::{DEPTH, STEPS, are_all_read};
+use crate::files::FileSource;
+use crate::reading::{read_files, read_locators};
+use rpki::repository::x509::Time;
+use rpki_arguments::Request;
+use rpki_files::Object;
+use rpki_verdicts::{GivenLocator, TreeQuestion, seek};
+use std::alloc::{AllocError, Global};
+use std::io::Write;
+
+/// The names of the files of a path that was sought, and those of all lists among which it was.
+#[derive(Drop)]
+pub struct SoughtNames {
+    pub files: Vec<Vec<u8>>,
+    pub lists: Vec<Vec<u8>>,
+}
+
+// Adds a file's name.
+fn push_name(alloc: Global, names: &mut Vec<Vec<u8>>, file: &Object<'_>) -> Result<(), AllocError>
+    ensures { OnOk result
+        (word_octets names.new.items ≡ word_octets names.old.items ++ file.now.name ∷ []) }
+{
+    let name = file.name().as_bytes().to_vec(alloc)?;
+    names.push(name)?;
+    Ok(())
+}
+
+// The names of the files of a path.
+fn names_of(alloc: Global, path: &[&Object<'_>]) -> Result<Vec<Vec<u8>>, AllocError>
+    ensures { IfOk result (λ names.
+        word_octets names.items ≡ file_names (map (λ f. f.now) path.now)) }
+{
+    let mut names = Vec::new(alloc);
+    for file in path {
+        push_name(alloc, &mut names, *file)?;
+    }
+    Ok(names)
+}
+
+// Adds the name of a file that begins with a list.
+fn push_list_name(
+    alloc: Global,
+    names: &mut Vec<Vec<u8>>,
+    file: &Object<'_>,
+) -> Result<(), AllocError>
+    ensures { OnOk result ((its : List (List ℕ)) × AreListNames (file.now ∷ []) its
+        × (word_octets names.new.items ≡ word_octets names.old.items ++ its)) }
+{
+    if file.is_list() {
+        return push_name(alloc, names, file);
+    }
+    Ok(())
+}
+
+// The names of those of the files that begin with lists.
+fn list_names(alloc: Global, files: &[Object<'_>]) -> Result<Vec<Vec<u8>>, AllocError>
+    ensures { IfOk result (λ names. AreListNames files.now (word_octets names.items)) }
+{
+    let mut names = Vec::new(alloc);
+    for file in files {
+        push_list_name(alloc, &mut names, file)?;
+    }
+    Ok(names)
+}
+
+// The names of the files of the path that a question seeks to the first of its files.
+fn path_names(alloc: Global, question: &TreeQuestion<'_, '_>) -> Result<Vec<Vec<u8>>, AllocError>
+    ensures { let q = asked_of question.now in let x = context IsSignedByRsa q.at q.strict in
+        IfOk result (λ names. (path : List FileFields)
+        × ((file : FileFields) (more : List FileFields) → q.files ≡ file ∷ more
+        → IsSoughtPath x q file path) × (word_octets names.items ≡ file_names path)) }
+{
+    let path = seek(alloc, question)?;
+    let names = names_of(alloc, &path);
+    drop(path);
+    names
+}
+
+// The path that is sought to the first of these files, and the lists among them.
+fn sought_among(
+    alloc: Global,
+    request: &Request<'_>,
+    now: Time,
+    files: &[Object<'_>],
+    locators: &[GivenLocator<'_>],
+) -> Result<SoughtNames, AllocError>
+    ensures { IfOk result (IsSought
+        (tree_question_of (fields_of request.now) now files.now locators.now)) }
+{
+    let question = TreeQuestion {
+        files,
+        locators,
+        strict: request.strict,
+        at: now,
+        depth: DEPTH,
+        steps: files.len().saturating_mul(STEPS),
+    };
+    let lists = list_names(alloc, files)?;
+    match path_names(alloc, &question) {
+        Ok(files) => Ok(SoughtNames { files, lists }),
+        Err(error) => {
+            drop(lists);
+            Err(error)
+        }
+    }
+}
+
+// What is sought among the files that could be read, where all could be.
+fn sought_if_read(
+    alloc: Global,
+    request: &Request<'_>,
+    now: Time,
+    files: &[Object<'_>],
+    lists: &[Object<'_>],
+    locators: &[GivenLocator<'_>],
+) -> Result<Option<SoughtNames>, AllocError>
+    requires { AreGiven (fields_of request.now) files.now lists.now locators.now }
+    ensures { IfOk result
+        (IsSearchOf (fields_of request.now) now files.now lists.now locators.now) }
+{
+    if !are_all_read(request, files, lists, locators) {
+        return Ok(None);
+    }
+    let sought = sought_among(alloc, request, now, files, locators)?;
+    Ok(Some(sought))
+}
+
+/// Seeks the path to the first file of a request among the others, as reading them gives them. Gives
+/// none where one can't be read, and says why. Errs only where memory runs out.
+pub fn names_sought<F: FileSource, E: Write>(
+    alloc: Global,
+    files: &F,
+    err: &mut E,
+    request: &Request<'_>,
+    now: Time,
+) -> Result<Option<SoughtNames>, AllocError>
+    ensures { IfOk result (IsSearch (F.reads files.now) (fields_of request.now) now) }
+{
+    let most = request.max_size;
+    let members = read_files(alloc, files, err, &request.files, most)?;
+    let lists = read_files(alloc, files, err, &request.lists, most)?;
+    let locators = read_locators(alloc, files, err, &request.locators, most, request.strict)?;
+    let sought = sought_if_read(alloc, request, now, &members, &lists, &locators)?;
+    Ok(sought)
+}
