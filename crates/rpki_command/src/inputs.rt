@@ -143,8 +143,8 @@ fn objects_of<'a, F: FileSource>(
     all
 }
 
-/// Reads the files that a request names, each of at most the usual size. Errs at the first that can't
-/// be read, or where memory runs out.
+/// Reads the files that a request names, each of at most the usual size. Errs at the first that
+/// can't be read, or where memory runs out.
 pub fn read_inputs<'a, F: FileSource>(
     alloc: Global,
     files: &F,

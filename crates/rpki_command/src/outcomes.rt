@@ -7,8 +7,8 @@ use std::io;
 /// How a run ends that doesn't fail.
 #[derive(Clone, Copy, Debug, PartialEq, Eq)]
 pub enum Outcome {
-    /// All files are shown, or the path is accepted, or something was prepared or completed; or a text
-    /// about the command was asked for.
+    /// All files are shown, or the path is accepted, or something was prepared or completed; or a
+    /// text about the command was asked for.
     Success,
     /// A file is no certificate, list or locator; the path is rejected; a file given as a list or a
     /// locator is none; what was to be prepared or completed is refused.

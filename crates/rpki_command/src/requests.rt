@@ -1,5 +1,5 @@
-//! A run that prepares or completes a certificate: from its words, over files and a clock, to what it
-//! writes.
+//! A run that prepares or completes a certificate: from its words, over files and a clock, to what
+//! it writes.
 ghost use Rattle.std.specs.Prelude.{◌≡◌, ◌≢◌, List, ℕ, IfErr, IfOk, OnErr, OnOk, Ok};
 ghost use Rattle.std.specs.Io.KnownBytes.{Appends};
 ghost use Rattle.rpki_arguments.specs.CommandLines.Views.{word_octets};
@@ -94,7 +94,8 @@ fn text_of(
 ) -> Result<Bytes, Refusal>
     ensures given { let asked = asked_fields order.now in
         IfOk result (λ text. (octets : List ℕ)
-        × Fulfils asked (input_fields objects.now) now octets × IsWritten asked.is_pem octets text) }
+        × Fulfils asked (input_fields objects.now) now octets
+        × IsWritten asked.is_pem octets text) }
     ensures refused { IfErr result (λ why. why ≢ Refusal.Memory → (octets : List ℕ)
         → Fulfils (asked_fields order.now) (input_fields objects.now) now octets → ⊥) }
 {

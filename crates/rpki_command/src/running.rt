@@ -29,7 +29,8 @@ use std::io::Write;
 fn say<E: Write>(err: &mut E, misuse: &Misuse<'_>) -> Result<()>
     ensures memory { OnOk result (misuse.now ≢ Misuse.Memory) }
     ensures said { OnOk result
-        (Appends (E.contents err.old) (E.contents err.new) (misuse_message (misuse_text misuse.now))) }
+        (Appends (E.contents err.old) (E.contents err.new)
+        (misuse_message (misuse_text misuse.now))) }
 {
     if let Misuse::Memory = misuse {
         return Err(anyhow!("out of memory"));
@@ -186,7 +187,8 @@ fn run_line<S: FileSource + MomentSource, O: Write, E: Write>(
     words: &[Vec<u8>],
 ) -> Result<Ended>
     ensures ended { let words = word_octets words.now in IfOk result (λ ended. (text : List ℕ)
-        × LineEnds (S.reads system.now) (S.lists system.now) (S.tells system.now) words ended.outcome text
+        × LineEnds (S.reads system.now) (S.lists system.now) (S.tells system.now) words
+        ended.outcome text
         × OnOk ended.written (Appends (O.contents out.old) (O.contents out.new) text)) }
     ensures said { IfOk result (λ ended. ended.outcome ≡ Outcome.WrongUse
         → SaysLineMisuse (E.contents err.old) (E.contents err.new)) }
@@ -226,7 +228,8 @@ pub fn run<S: FileSource + MomentSource, O: Write, E: Write>(
     words: &[Vec<u8>],
 ) -> Result<Ended>
     ensures ended { let words = word_octets words.now in IfOk result (λ ended. (text : List ℕ)
-        × RunEnds (S.reads system.now) (S.lists system.now) (S.tells system.now) words ended.outcome text
+        × RunEnds (S.reads system.now) (S.lists system.now) (S.tells system.now) words
+        ended.outcome text
         × OnOk ended.written (Appends (O.contents out.old) (O.contents out.new) text)) }
     ensures said { let words = word_octets words.now in
         IfOk result (λ ended. ended.outcome ≡ Outcome.WrongUse
