@@ -292,7 +292,8 @@ class Folders(unittest.TestCase):
     noon = datetime(2026, 6, 1, 12, tzinfo=timezone.utc)
 
     def judge(self, given: list[bytes], **asked: Any) -> rpki.Folder:
-        return judge_folder(given, **{"locator": octets("anchor.tal"), "at": self.noon, **asked})
+        options: dict[str, Any] = {"locator": octets("anchor.tal"), "at": self.noon, **asked}
+        return judge_folder(given, **options)
 
     def test_any_order(self) -> None:
         second, anchor, leaf, tampered, first = self.members
@@ -330,7 +331,8 @@ class Folders(unittest.TestCase):
         self.assertTrue(folder.is_whole)
 
     def test_read_octets(self) -> None:
-        given = [*map(Certificate, self.members), *map(RevocationList, self.lists)]
+        members = [Certificate(it) for it in self.members]
+        given: list[Certificate | RevocationList] = [*members, *map(RevocationList, self.lists)]
         folder = judge_folder(given, locator=bytearray(octets("anchor.tal")), at=self.noon)
         self.assertEqual(sum(it.is_valid for it in folder.lines), 4)
 
