@@ -40,7 +40,7 @@ tool = crates/rpki_command/out/rpki_command
 library = callers/out
 # the number of the library's interface, which stands in its name
 abi = sed -n 's/^.define RPKI_ABI //p' include/rpki.h
-# its calls, each with a page of its name that is the library's
+# its calls, each with a page of its own
 calls = sed -n 's/^uint32_t \(rpki_[a-z_]*\)(.*/\1/p' include/rpki.h
 
 all: program library
@@ -84,7 +84,9 @@ install-lib:
 	$(INSTALL) -d "$(DESTDIR)$(MANDIR)/man3"
 	awk -f callers/c/page.awk include/rpki.h callers/c/holds.c > "$(DESTDIR)$(MANDIR)/man3/librpki.3"
 	chmod 644 "$(DESTDIR)$(MANDIR)/man3/librpki.3"
-	for name in $$($(calls)); do ln -sf librpki.3 "$(DESTDIR)$(MANDIR)/man3/$$name.3" || exit; done
+	for name in $$($(calls)); do page="$(DESTDIR)$(MANDIR)/man3/$$name.3" && rm -f "$$page" && \
+	    awk -v call="$$name" -f callers/c/page.awk include/rpki.h callers/c/*.c > "$$page" && \
+	    chmod 644 "$$page" || exit; done
 
 # a library of another interface has another name, and stays
 uninstall:

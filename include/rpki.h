@@ -226,7 +226,8 @@ uint32_t rpki_certificate_inspect(const uint8_t *octets, size_t length, uint32_t
 uint32_t rpki_certificate_addresses(const uint8_t *octets, size_t length, uint32_t family,
                                     struct rpki_ip_range *out, size_t room, uint64_t *count);
 
-/* Writes the ranges of AS numbers that the certificate lists, as above. */
+/* Writes the ranges of AS numbers that the certificate lists. They ascend, and neither overlap nor
+ * touch. */
 uint32_t rpki_certificate_as_numbers(const uint8_t *octets, size_t length,
                                      struct rpki_as_range *out, size_t room, uint64_t *count);
 
