@@ -1,13 +1,32 @@
-//! Links to librpki: of the folder that RPKI_LIBRARY names, or where the linker looks for libraries.
+//! Links to librpki: of the folder that RPKI_LIBRARY names, or of the one that pkg-config knows, or
+//! where the linker looks for libraries.
 use std::env;
+use std::path::PathBuf;
+use std::process::Command;
+
+/// The folder that rpki.pc names, where pkg-config finds that.
+fn of_pkg_config() -> Option<PathBuf> {
+    println!("cargo:rerun-if-env-changed=PKG_CONFIG_PATH");
+    let mut command = Command::new("pkg-config");
+    let said = command.args(["--variable=libdir", "rpki"]).output().ok()?;
+    let folder = String::from_utf8(said.stdout).ok()?.trim().to_string();
+    (said.status.success() && !folder.is_empty()).then(|| folder.into())
+}
 
 fn main() {
     println!("cargo:rerun-if-env-changed=RPKI_LIBRARY");
-    if let Some(folder) = env::var_os("RPKI_LIBRARY") {
-        println!(
-            "cargo:rustc-link-search=native={}",
-            folder.to_string_lossy()
-        );
+    let is_static = env::var_os("CARGO_FEATURE_STATIC").is_some();
+    let (form, file) = match is_static {
+        true => ("static", "librpki.a"),
+        false => ("dylib", "librpki.so"),
+    };
+    let named = env::var_os("RPKI_LIBRARY").map(PathBuf::from);
+    if let Some(folder) = named.as_ref().filter(|it| !it.join(file).is_file()) {
+        let folder = folder.display();
+        println!("cargo:warning=RPKI_LIBRARY is {folder}, and there is no {file}");
     }
-    println!("cargo:rustc-link-lib=dylib=rpki");
+    if let Some(folder) = named.or_else(of_pkg_config) {
+        println!("cargo:rustc-link-search=native={}", folder.display());
+    }
+    println!("cargo:rustc-link-lib={form}=rpki");
 }

@@ -1,23 +1,43 @@
 """Reads and judges resource certificates and revocation lists of the RPKI (RFC 6487).
 
-    from rpki import Kind, validate
+A path of certificates is judged as a whole, and gives what its last member holds, or raises why it
+is rejected:
 
-    members = [open(name, "rb").read() for name in ("anchor.cer", "ca.cer", "object.cer")]
-    lists = [open(name, "rb").read() for name in ("anchor.crl", "ca.crl")]
-    held = validate(members, last=Kind.END_ENTITY, lists=lists)
-    for network in held.ipv4:
-        print(network)
+    from pathlib import Path
+    from rpki import Fault, Kind, validate
+
+    members = [Path(name).read_bytes() for name in ("anchor.cer", "ca.cer", "object.cer")]
+    lists = [Path(name).read_bytes() for name in ("anchor.crl", "ca.crl")]
+    try:
+        held = validate(members, last=Kind.END_ENTITY, lists=lists)
+    except Fault as fault:
+        print(f"member {fault.member}: {fault.name}, {fault.sentence}")
+    else:
+        for network in held.ipv4:
+            print(network)
 
 A single certificate or list is read alone, and nothing of it is judged then:
 
     from rpki import Certificate, RevocationList
 
-    cert = Certificate(open("ca.cer", "rb").read())
-    revoked = RevocationList(open("anchor.crl", "rb").read())
+    cert = Certificate(Path("ca.cer").read_bytes())
+    revoked = RevocationList(Path("anchor.crl").read_bytes())
     print(cert.serial_number, cert.not_after, cert.uris.get("manifest"), cert in revoked)
 
-What is judged is proved: the library below, librpki.so, accepts a path exactly where it is valid by
-the standards' definitions. This package only moves values into it and out of it, and is tested.
+Files in any order are judged below the trust anchor of a locator:
+
+    from rpki import judge_folder
+
+    names = ["object.cer", "ca.cer", "anchor.crl", "ca.crl", "anchor.cer"]
+    files = [Path(name).read_bytes() for name in names]
+    folder = judge_folder(files, locator=Path("anchor.tal").read_bytes())
+    for name, line in zip(names, folder.lines):
+        print(name, line.state.name, line.fault or "")
+
+Octets are DER. What is judged is proved: the library below, librpki.so, accepts a path exactly
+where it is valid by the standards' definitions. This package only moves values into it and out of
+it, and is tested. The library is looked for in the folder that the variable RPKI_LIBRARY names, or
+where the system looks for libraries. ImportError says where it isn't.
 """
 
 from __future__ import annotations

@@ -66,6 +66,24 @@ pub struct Judged {
 }
 
 /// Certificates and revocation lists in any order, and what is asked of them.
+///
+/// ```no_run
+/// # use gonxebhula::{Folder, Moment};
+/// # fn main() -> Result<(), Box<dyn std::error::Error>> {
+/// let names = ["object.cer", "ca.cer", "anchor.crl", "ca.crl", "anchor.cer"];
+/// let mut files = Vec::new();
+/// for name in names {
+///     files.push(std::fs::read(name)?);
+/// }
+/// let octets: Vec<&[u8]> = files.iter().map(Vec::as_slice).collect();
+/// let locator = std::fs::read("anchor.tal")?;
+/// let judged = Folder::new(&octets, &locator).judge(Moment::now())?;
+/// for (name, line) in names.iter().zip(&judged.lines) {
+///     println!("{name}: {line:?}");
+/// }
+/// # Ok(())
+/// # }
+/// ```
 #[derive(Clone, Debug)]
 pub struct Folder<'a> {
     octets: &'a [&'a [u8]],

@@ -21,6 +21,20 @@
 //! definitions. This crate only moves values into it and out of it, and is tested. All types are plain
 //! data, and so `Send` and `Sync`; the library has no state, and threads may call side by side.
 //!
+//! # The library
+//!
+//! When a crate is built, librpki is looked for in the folder that the variable `RPKI_LIBRARY`
+//! names; or else where `pkg-config` finds `rpki.pc`; or else where the linker looks for libraries.
+//! When the program runs, the system looks for librpki.so: where it isn't in a folder of the
+//! system's, name its folder in `LD_LIBRARY_PATH`. With the feature `static` the program has
+//! librpki.a in it, and looks for none:
+//!
+//! ```text
+//! export RPKI_LIBRARY=$HOME/.local/lib
+//! LD_LIBRARY_PATH=$RPKI_LIBRARY cargo run
+//! cargo run --features gonxebhula/static
+//! ```
+//!
 //! Each call checks first that the library is of this crate's interface, and panics where it isn't.
 mod fault;
 mod folder;
@@ -250,6 +264,16 @@ pub struct Entry {
 }
 
 /// A revocation list, read from DER.
+///
+/// ```no_run
+/// # use gonxebhula::{Certificate, RevocationList};
+/// # fn main() -> Result<(), Box<dyn std::error::Error>> {
+/// let list = RevocationList::read(&std::fs::read("ca.crl")?)?;
+/// let cert = Certificate::read(&std::fs::read("object.cer")?)?;
+/// println!("revoked: {}", list.contains(&cert.serial_number())?);
+/// # Ok(())
+/// # }
+/// ```
 #[derive(Clone, Debug)]
 pub struct RevocationList {
     octets: Vec<u8>,
@@ -324,6 +348,24 @@ pub enum Revocation<'a> {
 }
 
 /// A path of certificates, and what is asked of it.
+///
+/// ```no_run
+/// # use gonxebhula::{Kind, Moment, Path, Revocation};
+/// # fn main() -> Result<(), Box<dyn std::error::Error>> {
+/// let mut members = Vec::new();
+/// for name in ["anchor.cer", "ca.cer", "object.cer"] {
+///     members.push(std::fs::read(name)?);
+/// }
+/// let members: Vec<&[u8]> = members.iter().map(Vec::as_slice).collect();
+/// let locator = std::fs::read("anchor.tal")?;
+/// let path = Path::new(&members, Kind::EndEntity, Revocation::NotAsked).locator(&locator);
+/// match path.validate(Moment::new(2026, 6, 1, 12, 0, 0)) {
+///     Ok(held) => println!("{:?}", held.as_numbers),
+///     Err(fault) => println!("{fault}: {:?}", fault.place()),
+/// }
+/// # Ok(())
+/// # }
+/// ```
 #[derive(Clone, Debug)]
 pub struct Path<'a> {
     members: &'a [&'a [u8]],
