@@ -22,19 +22,21 @@ use Rattle.rpki_path.specs.declared.located.LocatedError.TheVariants.{OtherKey, 
 use Rattle.rpki_path.specs.declared.path_fault.PathError.{PathError}
 use Rattle.rpki_path.specs.declared.path_fault.PathFault.{PathFault}
 use Rattle.rpki_path.specs.declared.path_fault.PathFault.TheVariants.{Memory as out_of_memory}
-use Rattle.rpki_folder.specs.Folders.{octets_at, cas_at}
+use Rattle.rpki_folder.specs.Folders.{octets_at, cas_at, NamesSigner}
 use Rattle.rpki_folder.specs.KeptLines.{step, IsRejectedWithin, IsLine}
 use Rattle.rpki_folder.specs.SaidKinds.{BeginsWithKind}
-use Rattle.rpki_folder.specs.Walks.{Root, at_anchor, members_at, LeadsTo, IsAcceptedAs, IsReached, IsRightOf, IsRight, Told, IsTold, Covers, AreAdmitted, IsWhyNone}
+use Rattle.rpki_folder.specs.Walks.{Root, at_anchor, members_at, LeadsTo, IsAcceptedAs, IsReached, IsRightOf, IsRight, Told, IsTold, told, Covers, AreAdmitted, HasBelow, IsWhyNone}
 use Rattle.rpki_folder.specs.declared.bounds.Ended.{Ended}
+use Rattle.rpki_folder.specs.declared.bounds.Ended.TheVariants.{TooDeep, OutOfSteps}
 use Rattle.rpki_folder.specs.declared.folder.Added.{Added}
 use Rattle.rpki_folder.specs.declared.folder.Added.TheVariants.{Certificate, List as list_added, Neither}
 use Rattle.rpki_folder.specs.declared.lines.Line.{Line}
 use Rattle.rpki_folder.specs.declared.lines.Line.TheVariants.{Unseen, Accepted, Rejected}
 use Rattle.rpki_folder.specs.declared.walk_error.WalkError.{WalkError}
 use Rattle.rpki_folder.specs.declared.walk_error.WalkError.TheVariants.{Anchor as at_fault, Memory}
-use Rattle.rpki_c.specs.FolderFates.{Fate, anchor, list, neither, unseen, accepted, rejected, IsFirstWithKey, IsFate, IsValidFate, AreFates, AreJudged}
+use Rattle.rpki_c.specs.FolderFates.{Fate, anchor, list, neither, unseen, accepted, rejected, IsFirstWithKey, IsFate, IsValidFate, AreVerified, StandsBelow, AreFates, AreJudged}
 use Rattle.rpki_c.specs.FolderFates.Steps.{IsAddedAs, IsSorted, origin_of, kept_fate, added_fate, fate_at, IsWalked, refusal_of}
+use Rattle.rpki_c.specs.FolderQuestions.{asked_or, usual_steps}
 use Rattle.rpki_c.specs.FolderTelling.{AreLinesOf, AnswersBelow}
 use Rattle.rpki_c.specs.declared.refusal.Refusal.{Refusal}
 use Rattle.rpki_c.specs.declared.refusal.Refusal.TheVariants as refusal
@@ -111,7 +113,7 @@ module _ (x : Context) (asked : RevocationChecks) (t : NamedTal) (top_octets : L
 
   -- ---- from the folder to the strings
 
-  module _ (s : Sorted) (sorted : IsSorted s) (top depth : ℕ) (kept : List Line) (count : length kept ≡ length s.folder.certs) (ended : Ended) (w : IsWalked x asked root s.folder.certs depth kept ended) where
+  module _ (s : Sorted) (sorted : IsSorted s) (top depth steps : ℕ) (kept : List Line) (count : length kept ≡ length s.folder.certs) (ended : Ended) (w : IsWalked x asked root s.folder.certs depth steps kept ended) where
     abbrev strings : List (List ℕ)
     strings = s.strings.now
 
@@ -157,6 +159,39 @@ module _ (x : Context) (asked : RevocationChecks) (t : NamedTal) (top_octets : L
           sym u.2.1 ∙ ap (λ (k : ℕ). k + 1) (sym (length-map above (origin_of s))),
           subst (λ (l : List Candidate). IsRightOf x asked root l (octets_at strings i) (Err fault)) (sym (origin_cas above))
               (subst (λ (o : List ℕ). IsRightOf x asked root (cas_at certs above) o (Err fault)) octets right),
+        )
+
+    -- a verdict is right of the string that the certificate was
+    abbrev moved_told : Told → Told
+    moved_told t = told (map (origin_of s) t.above) (origin_of s t.place) t.verdict
+
+    told_right : (t : Told) → IsRight x asked root certs t → IsRight x asked root strings (moved_told t)
+    told_right t h =
+        subst (λ (l : List Candidate). IsRightOf x asked root l (octets_at strings (origin_of s t.place)) t.verdict) (sym (origin_cas t.above))
+        (subst (λ (o : List ℕ). IsRightOf x asked root (cas_at certs t.above) o t.verdict) (sym (origin_same t.place)) h)
+
+    all_right : (ts : List Told) → AllByRecursion (IsRight x asked root certs) ts → AllByRecursion (IsRight x asked root strings) (map moved_told ts)
+    all_right [] h = tt
+    all_right (t ∷ ts) h = (told_right t h.0, all_right ts h.1)
+
+    -- a bound that is said to have been met was
+    verified : ended ≡ OutOfSteps → AreVerified x asked root strings steps
+    verified is = (map moved_told w.tells, all_right w.tells w.right, length-map w.tells moved_told ∙ w.used_up is)
+
+    stands_below : ended ≡ TooDeep → StandsBelow x asked root strings depth
+    stands_below is =
+        let f = w.too_deep is in
+        let h = f.2 in
+        let key = h.issuer.cert.fields.extensions.subject_key_identifier in (
+          map (origin_of s) f.0,
+          length-map f.0 (origin_of s) ∙ f.1,
+          record {
+            issuer = h.issuer;
+            leads = subst (λ (l : List Candidate). LeadsTo x asked root l h.issuer) (sym (origin_cas f.0)) h.leads;
+            place = origin_of s h.place;
+            names = subst (λ (o : List ℕ). NamesSigner key o) (sym (origin_same h.place)) h.names;
+            admitted = all_admitted [] (map (origin_of s) f.0 ++ origin_of s h.place ∷ []);
+          },
         )
 
     -- what is kept of a certificate is right
@@ -226,7 +261,7 @@ module _ (x : Context) (asked : RevocationChecks) (t : NamedTal) (top_octets : L
     beside_top : (i : ℕ) → (i ≡ top → ⊥) → fate_at s kept top i ≡ added_fate (origin_of s) kept (get_or s.added.items i Neither)
     beside_top i apart = ap (λ (b : Bool). if b then anchor else added_fate (origin_of s) kept (get_or s.added.items i Neither)) (ne_eqb i top apart)
 
-    pub fates_found : AreFates x asked root strings top depth ended (fate_at s kept top)
+    pub fates_found : AreFates x asked root strings top depth steps ended (fate_at s kept top)
     fates_found = record {
       anchor_is = at_top top refl;
       right = λ i low. elim (cases_eq i top) [
@@ -237,19 +272,23 @@ module _ (x : Context) (asked : RevocationChecks) (t : NamedTal) (top_octets : L
         | inl is ↦ subst (λ (f : Fate). IsValidFate f) (sym (at_top i is)) tt
         | inr apart ↦ subst (λ (f : Fate). IsValidFate f) (sym (beside_top i apart)) (reached_valid above i low covers h)
       ];
+      too_deep = stands_below;
+      used_up = verified;
     }
 
 -- what becomes of sorted strings, where the lists among them are asked
-pub judged_found : (x : Context) (t : NamedTal) (s : Sorted) (sorted : IsSorted s) (top depth : ℕ) (kept : List Line) (count : length kept ≡ length s.folder.certs) (ended : Ended)
-    → IsFirstWithKey t.tal s.strings.now top → IsWalked x (by_lists x s.folder.lists) (at_anchor t (octets_at s.strings.now top)) s.folder.certs depth kept ended
-    → AreJudged x t s.strings.now top depth ended (fate_at s kept top)
-judged_found x t s sorted top depth kept count ended first w = record {
+pub judged_found : (x : Context) (t : NamedTal) (s : Sorted) (sorted : IsSorted s) (top depth steps : ℕ) (kept : List Line) (count : length kept ≡ length s.folder.certs) (ended : Ended)
+    → IsFirstWithKey t.tal s.strings.now top → IsWalked x (by_lists x s.folder.lists) (at_anchor t (octets_at s.strings.now top)) s.folder.certs depth (asked_or steps (usual_steps (length s.folder.certs))) kept ended
+    → AreJudged x t s.strings.now top depth steps ended (fate_at s kept top)
+judged_found x t s sorted top depth steps kept count ended first w = record {
   top_is = first;
   lists = s.folder.lists;
   lists_are = sorted.lists_are;
   holder = w.holder;
   holds = w.holds;
-  fates = fates_found x (by_lists x s.folder.lists) t (octets_at s.strings.now top) s sorted top depth kept count ended w;
+  certs = s.folder.certs;
+  certs_are = sorted.certs_are;
+  fates = fates_found x (by_lists x s.folder.lists) t (octets_at s.strings.now top) s sorted top depth (asked_or steps (usual_steps (length s.folder.certs))) kept count ended w;
 }
 
 -- ---- a wrong trust anchor
@@ -268,36 +307,38 @@ alone x asked octets e h = elim h [
 ]
 
 -- why a walk didn't begin
-refused_right : (x : Context) (asked : RevocationChecks) (t : NamedTal) (all : List (List ℕ)) (top depth : ℕ) → IsUnambiguous IsCertificate → IsFirstWithKey t.tal all top
-    → (e : WalkError) → IsWhyNone x asked t (octets_at all top) e → AnswersBelow x depth t all (Err (refusal_of top e))
-refused_right x asked t all top depth law first Memory h = tt
-refused_right x asked t all top depth law first (at_fault OtherKey) h = absurd (not_both t.tal (octets_at all top) law first.has_key h.1)
-refused_right x asked t all top depth law first (at_fault (path e)) h = (first, h.0, alone x asked (octets_at all top) e h.1.0)
+refused_right : (x : Context) (asked : RevocationChecks) (t : NamedTal) (all : List (List ℕ)) (top depth steps : ℕ) → IsUnambiguous IsCertificate → IsFirstWithKey t.tal all top
+    → (e : WalkError) → IsWhyNone x asked t (octets_at all top) e → AnswersBelow x depth steps t all (Err (refusal_of top e))
+refused_right x asked t all top depth steps law first Memory h = tt
+refused_right x asked t all top depth steps law first (at_fault OtherKey) h = absurd (not_both t.tal (octets_at all top) law first.has_key h.1)
+refused_right x asked t all top depth steps law first (at_fault (path e)) h = (first, h.0, alone x asked (octets_at all top) e h.1.0)
 
 -- ---- answers
 
-module _ (x : Context) (t : NamedTal) (s : Sorted) (top depth : ℕ) (first : IsFirstWithKey t.tal s.strings.now top) (octets : List ℕ) (there : octets ≡ octets_at s.strings.now top) where
+module _ (x : Context) (t : NamedTal) (s : Sorted) (top depth steps : ℕ) (first : IsFirstWithKey t.tal s.strings.now top) (octets : List ℕ) (there : octets ≡ octets_at s.strings.now top) where
   -- the answer of a walk that ended
-  pub walk_answered : (sorted : IsSorted s) (kept : List Line) (count : length kept ≡ length s.folder.certs) (ended : Ended) (within : ℕ) → within ≡ depth
-      → IsWalked x (by_lists x s.folder.lists) (at_anchor t octets) s.folder.certs within kept ended
+  pub walk_answered : (sorted : IsSorted s) (kept : List Line) (count : length kept ≡ length s.folder.certs) (ended : Ended) (within : ℕ) → within ≡ depth → (most : ℕ) → most ≡ asked_or steps (usual_steps (length s.folder.certs))
+      → IsWalked x (by_lists x s.folder.lists) (at_anchor t octets) s.folder.certs within most kept ended
       → (r : Result Walked Refusal) → IfOk r (λ it. AreLinesOf top (fate_at s kept top) (length s.strings.now) it.lines.items) → IfOk r (λ it. it.ended ≡ ended) → IfOk r (λ it. it.anchor ≡ top)
-      → IfErr r (λ e. e ≡ refusal.Memory) → AnswersBelow x depth t s.strings.now r
-  walk_answered sorted kept count ended within same w (Ok it) lines ended_is anchor_is memory =
+      → IfErr r (λ e. e ≡ refusal.Memory) → AnswersBelow x depth steps t s.strings.now r
+  walk_answered sorted kept count ended within same most as_many w (Ok it) lines ended_is anchor_is memory =
       let fate = λ (i : ℕ). fate_at s kept top i in
-      let walked : IsWalked x (by_lists x s.folder.lists) (at_anchor t (octets_at s.strings.now top)) s.folder.certs depth kept ended =
-      subst (λ (o : List ℕ). IsWalked x (by_lists x s.folder.lists) (at_anchor t o) s.folder.certs depth kept ended) there
-      (subst (λ (n : ℕ). IsWalked x (by_lists x s.folder.lists) (at_anchor t octets) s.folder.certs n kept ended) same w) in
+      let limit = asked_or steps (usual_steps (length s.folder.certs)) in
+      let walked : IsWalked x (by_lists x s.folder.lists) (at_anchor t (octets_at s.strings.now top)) s.folder.certs depth limit kept ended =
+      subst (λ (o : List ℕ). IsWalked x (by_lists x s.folder.lists) (at_anchor t o) s.folder.certs depth limit kept ended) there
+      (subst (λ (n : ℕ). IsWalked x (by_lists x s.folder.lists) (at_anchor t octets) s.folder.certs depth n kept ended) as_many
+      (subst (λ (n : ℕ). IsWalked x (by_lists x s.folder.lists) (at_anchor t octets) s.folder.certs n most kept ended) same w)) in
       record {
         fate = fate;
-        judged = subst (λ (n : ℕ). AreJudged x t s.strings.now n depth it.ended fate) (sym anchor_is)
-            (subst (λ (e : Ended). AreJudged x t s.strings.now top depth e fate) (sym ended_is) (judged_found x t s sorted top depth kept count ended first walked));
+        judged = subst (λ (n : ℕ). AreJudged x t s.strings.now n depth steps it.ended fate) (sym anchor_is)
+            (subst (λ (e : Ended). AreJudged x t s.strings.now top depth steps e fate) (sym ended_is) (judged_found x t s sorted top depth steps kept count ended first walked));
         lines_are = subst (λ (n : ℕ). AreLinesOf n fate (length s.strings.now) it.lines.items) (sym anchor_is) lines;
       }
-  walk_answered sorted kept count ended within same w (Err e) lines ended_is anchor_is memory =
-      subst (λ (r : Refusal). AnswersBelow x depth t s.strings.now (Err r)) (sym memory) tt
+  walk_answered sorted kept count ended within same most as_many w (Err e) lines ended_is anchor_is memory =
+      subst (λ (r : Refusal). AnswersBelow x depth steps t s.strings.now (Err r)) (sym memory) tt
 
   -- the answer where there was none
-  pub fault_answered : (asked : RevocationChecks) → IsUnambiguous IsCertificate → (e : WalkError) → IsWhyNone x asked t octets e → (r : Refusal) → r ≡ refusal_of top e → AnswersBelow x depth t s.strings.now (Err r)
+  pub fault_answered : (asked : RevocationChecks) → IsUnambiguous IsCertificate → (e : WalkError) → IsWhyNone x asked t octets e → (r : Refusal) → r ≡ refusal_of top e → AnswersBelow x depth steps t s.strings.now (Err r)
   fault_answered asked law e why r is =
-      subst (λ (q : Refusal). AnswersBelow x depth t s.strings.now (Err q)) (sym is)
-      (refused_right x asked t s.strings.now top depth law first e (subst (λ (o : List ℕ). IsWhyNone x asked t o e) there why))
+      subst (λ (q : Refusal). AnswersBelow x depth steps t s.strings.now (Err q)) (sym is)
+      (refused_right x asked t s.strings.now top depth steps law first e (subst (λ (o : List ℕ). IsWhyNone x asked t o e) there why))

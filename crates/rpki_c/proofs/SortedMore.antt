@@ -17,7 +17,7 @@ use Rattle.rpki_folder.specs.declared.folder.Added.{Added}
 use Rattle.rpki_folder.specs.declared.folder.Added.TheVariants.{Certificate, List as list_added, Neither}
 use Rattle.rpki_c.specs.Contents.{BeginsNoCertificate}
 use Rattle.rpki_c.specs.Verdicts.{BeginsNoList}
-use Rattle.rpki_c.specs.FolderFates.{IsTakenFor, IsNoList, AreListsAmong}
+use Rattle.rpki_c.specs.FolderFates.{IsTakenFor, IsNoList, AreListsAmong, AreCertificatesAmong}
 use Rattle.rpki_c.specs.FolderFates.Steps.{IsAddedAs, AreSorted}
 
 -- ---- lists
@@ -41,6 +41,22 @@ certificate_no_list octets c means l taken = taken.no_certificate c means
 
 neither_no_list : (octets : List ℕ) → BeginsNoList octets → IsNoList octets
 neither_no_list octets never l taken = never l.list taken.list_is
+
+-- ---- certificates
+
+no_cert_more : (strings certs : List (List ℕ)) (octets : List ℕ) → BeginsNoCertificate octets → AreCertificatesAmong strings certs → AreCertificatesAmong (strings ++ octets ∷ []) certs
+no_cert_more [] certs octets never h = inl (never, h)
+no_cert_more (s ∷ strings) certs octets never h = elim h [
+  | inl k ↦ inl (k.0, no_cert_more strings certs octets never k.1)
+  | inr k ↦ inr (k.0, k.1, k.2, k.3, no_cert_more strings k.1 octets never k.4)
+]
+
+one_cert_more : (strings certs : List (List ℕ)) (octets : List ℕ) (c : CertFields) → Means IsCertificate c octets → AreCertificatesAmong strings certs → AreCertificatesAmong (strings ++ octets ∷ []) (certs ++ octets ∷ [])
+one_cert_more [] certs octets c means h = inr (c, [], ap (λ (l : List (List ℕ)). l ++ octets ∷ []) h, means, refl)
+one_cert_more (s ∷ strings) certs octets c means h = elim h [
+  | inl k ↦ inl (k.0, one_cert_more strings certs octets c means k.1)
+  | inr k ↦ inr (k.0, k.1 ++ octets ∷ [], ap (λ (l : List (List ℕ)). l ++ octets ∷ []) k.2, k.3, one_cert_more strings k.1 octets c means k.4)
+]
 
 -- ---- places
 
@@ -102,8 +118,8 @@ module _ (strings : List (List ℕ)) (octets : List ℕ) where
             (subst (λ (l : List (List ℕ)). place < length l) (sym same) p.0, p.1)
       ]
 
-      other_more : ((place : ℕ) → one ≡ Certificate place → ⊥) → IsAddedAs octets one → AreListsAmong more g.lists → AreSorted more g addeds origins
-      other_more never says lists = record {
+      other_more : ((place : ℕ) → one ≡ Certificate place → ⊥) → IsAddedAs octets one → BeginsNoCertificate octets → AreListsAmong more g.lists → AreSorted more g addeds origins
+      other_more never says no_cert lists = record {
         count = count_more;
         origin_count = old.origin_count ∙ ap (λ (l : List (List ℕ)). length l) (sym same);
         inside = still_inside;
@@ -111,6 +127,7 @@ module _ (strings : List (List ℕ)) (octets : List ℕ) where
         begins = begins_more says;
         placed = still_placed never;
         lists_are = lists;
+        certs_are = subst (λ (l : List (List ℕ)). AreCertificatesAmong more l) (sym same) (no_cert_more strings f.certs octets no_cert old.certs_are);
       }
 
 module _ (strings : List (List ℕ)) (octets : List ℕ) (f g : FolderFields) (added addeds : List Added) (origins : List ℕ) (old : AreSorted strings f added origins) where
@@ -119,14 +136,14 @@ module _ (strings : List (List ℕ)) (octets : List ℕ) (f g : FolderFields) (a
   sorted_list l taken folder items =
       subst (λ (l : List Added). AreSorted (strings ++ octets ∷ []) g l origins) (sym items)
       (subst (λ (h : FolderFields). AreSorted (strings ++ octets ∷ []) h (added ++ list_added ∷ []) origins) (sym folder)
-      (other_more strings octets f added origins old list_added (with_list f l) refl (λ place e. cc) (l, taken) (list_more strings f.lists octets l taken old.lists_are)))
+      (other_more strings octets f added origins old list_added (with_list f l) refl (λ place e. cc) (l, taken) taken.no_certificate (list_more strings f.lists octets l taken old.lists_are)))
 
   -- a string that begins with neither
   pub sorted_neither : BeginsNoCertificate octets → BeginsNoList octets → g ≡ f → addeds ≡ added ++ Neither ∷ [] → AreSorted (strings ++ octets ∷ []) g addeds origins
   sorted_neither no_cert no_list folder items =
       subst (λ (l : List Added). AreSorted (strings ++ octets ∷ []) g l origins) (sym items)
       (subst (λ (h : FolderFields). AreSorted (strings ++ octets ∷ []) h (added ++ Neither ∷ []) origins) (sym folder)
-      (other_more strings octets f added origins old Neither f refl (λ place e. cc) (no_cert, no_list) (no_list_more strings f.lists octets (neither_no_list octets no_list) old.lists_are)))
+      (other_more strings octets f added origins old Neither f refl (λ place e. cc) (no_cert, no_list) no_cert (no_list_more strings f.lists octets (neither_no_list octets no_list) old.lists_are)))
 
 -- ---- a certificate
 
@@ -190,6 +207,7 @@ module _ (strings : List (List ℕ)) (octets : List ℕ) (f : FolderFields) (add
     begins = begins_more strings octets f added origins old one (c, means);
     placed = cert_placed;
     lists_are = no_list_more strings f.lists octets (certificate_no_list octets c means) old.lists_are;
+    certs_are = one_cert_more strings f.certs octets c means old.certs_are;
   }
 
   -- a string that begins with a certificate

@@ -1,5 +1,6 @@
 -- What becomes of strings, which are certificates and revocation lists in any order, below the
 -- trust anchor among them that has a locator's key (own).
+use Rattle.std.specs.List.{AllByRecursion}
 use Rattle.std.specs.Prelude.{◌≡◌, ◌⊎◌, ◌+◌, ◌<◌, ℕ, List, [], ◌∷◌, length, slice_index_or, Err}
 use Rattle.rpki_ext.specs.Kinds.{Means}
 use Rattle.rpki_cert.specs.Certificates.{CertFields, IsCertificate}
@@ -11,9 +12,11 @@ use Rattle.rpki_tal.specs.Locators.{NamedTal, TalFields}
 use Rattle.rpki_path.specs.LocatedPaths.{BeginsWithKey}
 use Rattle.rpki_path.specs.declared.path_fault.PathFault.{PathFault}
 use Rattle.rpki_folder.specs.Folders.{octets_at}
-use Rattle.rpki_folder.specs.Walks.{Root, at_anchor, members_at, LeadsTo, IsReached, IsRightOf, Covers}
+use Rattle.rpki_folder.specs.Walks.{Root, at_anchor, members_at, LeadsTo, IsReached, Told, IsRight, IsRightOf, Covers, HasBelow}
 use Rattle.rpki_folder.specs.declared.bounds.Ended.{Ended}
+use Rattle.rpki_folder.specs.declared.bounds.Ended.TheVariants.{TooDeep, OutOfSteps}
 use Rattle.rpki_c.specs.Contents.{BeginsNoCertificate}
+use Rattle.rpki_c.specs.FolderQuestions.{asked_or, usual_steps}
 use Rattle.rpki_c.specs.Verdicts.{BeginsNoList}
 pub mod Steps
 
@@ -35,6 +38,14 @@ AreListsAmong (octets ∷ strings) lists =
     (IsNoList octets × AreListsAmong strings lists)
     ⊎ ((l : CrlState) × (more : List CrlState) × (lists ≡ l ∷ more) × IsTakenFor octets l
     × AreListsAmong strings more)
+
+-- these are the strings that begin with certificates, in their order
+abbrev pub AreCertificatesAmong : List (List ℕ) → List (List ℕ) → Type 0
+AreCertificatesAmong [] certs = certs ≡ []
+AreCertificatesAmong (octets ∷ strings) certs =
+    (BeginsNoCertificate octets × AreCertificatesAmong strings certs)
+    ⊎ ((c : CertFields) × (more : List (List ℕ)) × (certs ≡ octets ∷ more)
+    × Means IsCertificate c octets × AreCertificatesAmong strings more)
 
 -- the string at the place is the first that begins with a certificate of the locator's key
 pub record IsFirstWithKey (t : TalFields) (strings : List (List ℕ)) (place : ℕ) : Type 0 where
@@ -76,25 +87,42 @@ IsValidFate anchor = Unit {0}
 IsValidFate (accepted above) = Unit {0}
 IsValidFate _ = ⊥
 
+-- so many verdicts on strings are right, each on the certificate at a place below CAs at places
+abbrev pub AreVerified : Context → RevocationChecks → Root → List (List ℕ) → ℕ → Type 0
+AreVerified x asked root strings n =
+    (told : List Told) × AllByRecursion (IsRight x asked root strings) told × (length told ≡ n)
+
+-- a certificate stands below a valid path of so many CAs
+abbrev pub StandsBelow : Context → RevocationChecks → Root → List (List ℕ) → ℕ → Type 0
+StandsBelow x asked root strings n =
+    (above : List ℕ) × (length above ≡ n)
+    × HasBelow x asked (λ places place. Unit {0}) root strings [] above
+
 -- What becomes of the strings below the trust anchor at a place: each fate is right, and each
--- certificate is accepted to which a path leads that was looked at.
+-- certificate is accepted to which a path leads that was looked at. A bound is said to have been
+-- met only where it was.
 pub record AreFates (x : Context) (asked : RevocationChecks) (root : Root)
-    (strings : List (List ℕ)) (top depth : ℕ) (ended : Ended) (fate : ℕ → Fate) : Type 0 where
+    (strings : List (List ℕ)) (top depth steps : ℕ) (ended : Ended) (fate : ℕ → Fate) : Type 0 where
   pub anchor_is : fate top ≡ anchor
   pub right : (place : ℕ) → place < length strings
       → IsFate x asked root strings top place (fate place)
   pub complete : (above : List ℕ) (place : ℕ) → place < length strings
       → Covers ended depth (length above + 1)
       → IsReached x asked root strings above place → IsValidFate (fate place)
+  pub too_deep : ended ≡ TooDeep → StandsBelow x asked root strings depth
+  pub used_up : ended ≡ OutOfSteps → AreVerified x asked root strings steps
 
 -- what becomes of the strings at a moment, by a walk that ended so: the first that has the
--- locator's key is a valid trust anchor, and the lists among them are asked for revocation
+-- locator's key is a valid trust anchor, and the lists among them are asked for revocation; the
+-- steps are those that are asked for, or else the usual ones for so many certificates
 pub record AreJudged (x : Context) (t : NamedTal) (strings : List (List ℕ))
-    (top depth : ℕ) (ended : Ended) (fate : ℕ → Fate) : Type 0 where
+    (top depth steps : ℕ) (ended : Ended) (fate : ℕ → Fate) : Type 0 where
   pub top_is : IsFirstWithKey t.tal strings top
   pub lists : List CrlState
   pub lists_are : AreListsAmong strings lists
   pub holder : ResourceFields
   pub holds : LeadsTo x (by_lists x lists) (at_anchor t (octets_at strings top)) [] holder
+  pub certs : List (List ℕ)
+  pub certs_are : AreCertificatesAmong strings certs
   pub fates : AreFates x (by_lists x lists) (at_anchor t (octets_at strings top)) strings top depth
-      ended fate
+      (asked_or steps (usual_steps (length certs))) ended fate

@@ -53,10 +53,10 @@ pub record AreLinesOf (top : ℕ) (fate : ℕ → Fate) (count : ℕ) (lines : L
 -- ---- answers
 
 -- what became of the strings, below the locator's trust anchor among them
-pub record IsWalkOf (x : Context) (depth : ℕ) (t : NamedTal) (strings : List (List ℕ))
+pub record IsWalkOf (x : Context) (depth steps : ℕ) (t : NamedTal) (strings : List (List ℕ))
     (w : Walked) : Type 0 where
   pub fate : ℕ → Fate
-  pub judged : AreJudged x t strings w.anchor depth w.ended fate
+  pub judged : AreJudged x t strings w.anchor depth steps w.ended fate
   pub lines_are : AreLinesOf w.anchor fate (length strings) w.lines.items
 
 -- the file is no locator
@@ -67,21 +67,22 @@ IsNoLocator strict file _ = ⊥
 
 -- the answer of the strings below this locator: what became of them; or none has its key, or what
 -- is wrong of the first that has it
-abbrev pub AnswersBelow : Context → ℕ → NamedTal → List (List ℕ) → Result Walked Refusal → Type 0
-AnswersBelow x depth t strings (Ok w) = IsWalkOf x depth t strings w
-AnswersBelow x depth t strings (Err refusal.OtherKey) = NoneHasKey t.tal strings
-AnswersBelow x depth t strings (Err (refusal.Member e)) =
+abbrev pub AnswersBelow : Context → ℕ → ℕ → NamedTal → List (List ℕ) → Result Walked Refusal
+    → Type 0
+AnswersBelow x depth steps t strings (Ok w) = IsWalkOf x depth steps t strings w
+AnswersBelow x depth steps t strings (Err refusal.OtherKey) = NoneHasKey t.tal strings
+AnswersBelow x depth steps t strings (Err (refusal.Member e)) =
     IsFirstWithKey t.tal strings e.index × (e.fault ≢ Memory)
     × Finds x (trust_anchor_demand x) (octets_at strings e.index) e.fault
-AnswersBelow x depth t strings (Err refusal.Memory) = Unit {0}
-AnswersBelow x depth t strings _ = ⊥
+AnswersBelow x depth steps t strings (Err refusal.Memory) = Unit {0}
+AnswersBelow x depth steps t strings _ = ⊥
 
 -- the answer of the strings below the locator that the file is
-abbrev pub AnswersLocated : Context → ℕ → List ℕ → List (List ℕ) → Result Walked Refusal
+abbrev pub AnswersLocated : Context → ℕ → ℕ → List ℕ → List (List ℕ) → Result Walked Refusal
     → Type 0
-AnswersLocated x depth file strings r =
+AnswersLocated x depth steps file strings r =
     Refused (IsNoLocator x.strict file) r
-    ⊎ ((t : NamedTal) × IsLocator x.strict t.tal file × AnswersBelow x depth t strings r)
+    ⊎ ((t : NamedTal) × IsLocator x.strict t.tal file × AnswersBelow x depth steps t strings r)
 
 -- the answer of the question's strings
 abbrev pub AnswersGiven : Verifies → RpkiFolderQuestion → FolderTerms → Result Walked Refusal
@@ -89,7 +90,7 @@ abbrev pub AnswersGiven : Verifies → RpkiFolderQuestion → FolderTerms → Re
 AnswersGiven verifies q t r =
     Refused (IsUncalled (DontAddUp q.strings)) r
     ⊎ ((strings : List (List ℕ)) × AreStringsOf q.strings strings
-    × AnswersLocated (context verifies t.now t.strict) t.depth q.locator.now strings r)
+    × AnswersLocated (context verifies t.now t.strict) t.depth t.steps q.locator.now strings r)
 
 -- the answer to a question about a folder, by this relation of signatures
 abbrev pub AnswersFolder : Verifies → RpkiFolderQuestion → Result Walked Refusal → Type 0

@@ -61,8 +61,9 @@ fn walk_below(
         let x = context IsSignedByRsa w.at w.strict in
         let asked = by_lists x w.folder.now.lists in
         let root = at_anchor tal.now anchor.now in
+        let certs = w.folder.now.certs in
         AreLines [] kept.old
-        → IfOk result (IsWalked x asked root w.folder.now.certs w.bounds.depth kept.new) }
+        → IfOk result (IsWalked x asked root certs w.bounds.depth w.bounds.steps kept.new) }
     ensures fault { let w = walk.now in
         let x = context IsSignedByRsa w.at w.strict in
         let asked = by_lists x w.folder.now.lists in
@@ -110,7 +111,7 @@ fn walk_from(
     requires sorted { IsSorted sorted.now }
     requires anchor { IsFirstWithKey tal.now.tal sorted.now.strings.now anchor }
     ensures { let x = context IsSignedByRsa terms.now terms.strict in
-        AnswersBelow x terms.depth tal.now sorted.now.strings.now result }
+        AnswersBelow x terms.depth terms.steps tal.now sorted.now.strings.now result }
 {
     laws::unambiguous();
     let count = sorted.folder.certs().len();
@@ -149,7 +150,7 @@ fn walk_sorted(
 ) -> Result<Walked, Refusal>
     requires { IsSorted sorted.now }
     ensures { let x = context IsSignedByRsa terms.now terms.strict in
-        AnswersBelow x terms.depth tal.now sorted.now.strings.now result }
+        AnswersBelow x terms.depth terms.steps tal.now sorted.now.strings.now result }
 {
     match sorted.anchor(tal) {
         Some(anchor) => walk_from(alloc, sorted, tal, anchor, terms),
@@ -165,7 +166,7 @@ fn walk_strings(
     terms: FolderTerms,
 ) -> Result<Walked, Refusal>
     ensures { let x = context IsSignedByRsa terms.now terms.strict in
-        AnswersBelow x terms.depth tal.now strings.now result }
+        AnswersBelow x terms.depth terms.steps tal.now strings.now result }
 {
     let sorted = Sorted::of(alloc, strings)?;
     let answer = walk_sorted(alloc, &sorted, tal, terms);
@@ -181,7 +182,7 @@ fn walk_located(
     terms: FolderTerms,
 ) -> Result<Walked, Refusal>
     ensures { let x = context IsSignedByRsa terms.now terms.strict in
-        AnswersLocated x terms.depth file.now strings.now result }
+        AnswersLocated x terms.depth terms.steps file.now strings.now result }
 {
     let tal = Tal::read_named(alloc, String::new(alloc), file, terms.strict)?;
     let answer = walk_strings(alloc, strings, &tal, terms);

@@ -20,7 +20,7 @@ use Rattle.rpki_path.specs.Paths.Steps.{IsIssuedBy}
 use Rattle.rpki_folder.specs.declared.bounds.Ended.{Ended}
 use Rattle.rpki_folder.specs.declared.bounds.Ended.TheVariants.{Whole, TooDeep, OutOfSteps}
 use Rattle.rpki_folder.specs.Folders.{octets_at, NamesSigner, ArePlacesOf}
-use Rattle.rpki_folder.specs.Walks.{Root, members_at, LeadsTo, IsReached, Told, told, IsRight, IsTold, worse, Covers, AreAdmitted, IsComplete, TellsBelow}
+use Rattle.rpki_folder.specs.Walks.{Root, members_at, LeadsTo, IsReached, Told, told, IsRight, IsTold, worse, Covers, AreAdmitted, AreUsedUp, IsTooDeep, IsComplete, TellsBelow}
 use Rattle.rpki_folder.specs.Walks.Steps.{IsAnswer, IsOutcome}
 use Rattle.rpki_folder.proofs.PathsDown.{members_next, leads_further}
 use Rattle.rpki_folder.proofs.Outcomes.{head_of, right_answer, outcome_ok, outcome_goes_on, reached_passes, reached_names}
@@ -64,6 +64,24 @@ covers_below Whole OutOfSteps depth n h = h
 covers_below TooDeep OutOfSteps depth n h = h
 covers_below OutOfSteps OutOfSteps depth n h = h
 
+-- a walk that ended as two did says that its steps are used up where one of these did
+pub worse_out : (a b : Ended) → worse a b ≡ OutOfSteps → (a ≡ OutOfSteps) ⊎ (b ≡ OutOfSteps)
+worse_out OutOfSteps b is = inl refl
+worse_out TooDeep OutOfSteps is = inr refl
+worse_out TooDeep Whole is = absurd (cc is)
+worse_out TooDeep TooDeep is = absurd (cc is)
+worse_out Whole b is = inr is
+
+-- and that it is too deep where one of these did
+worse_deep : (a b : Ended) → worse a b ≡ TooDeep → (a ≡ TooDeep) ⊎ (b ≡ TooDeep)
+worse_deep OutOfSteps b is = absurd (cc is)
+worse_deep TooDeep b is = inl refl
+worse_deep Whole b is = inr is
+
+-- of an answer that is this, what is said of it
+pub if_ok : {T E : Type 0} (P : T → Type 0) (r : Result T E) (t : T) → r ≡ Ok t → IfOk r P → P t
+if_ok {T} {E} P r t is h = subst (λ (q : Result T E). IfOk q P) is h
+
 -- ---- certificates have octets
 
 no_certificate : (c : CertFields) (octets : List ℕ) → Means IsCertificate c octets → octets ≡ [] → ⊥
@@ -103,10 +121,11 @@ module _ (x : Context) (asked : RevocationChecks) (admits : List ℕ → ℕ →
   -- what was told when the walk has looked at these places
   pub record SoFar (heads : List ℕ) (ended : Ended) (ts : List Told) : Type 0 where
     pub right : AllRight ts
+    pub too_deep : (root : Root) → LeadsTo x asked root (members_at root certs above) issuer → IsTooDeep x asked admits root certs above depth ended
     pub done : (root : Root) → LeadsTo x asked root (members_at root certs above) issuer → Done root heads ended ts
 
   pub nothing_yet : SoFar [] Whole []
-  nothing_yet = record { right = record { right = λ root a. tt }; done = λ root a between place h. absurd (omega (arith, h.1)) }
+  nothing_yet = record { right = record { right = λ root a. tt }; too_deep = λ root a is. absurd (cc is); done = λ root a between place h. absurd (omega (arith, h.1)) }
 
   head_admitted : (between : List ℕ) (place : ℕ) → AreAdmitted admits above (between ++ place ∷ []) → admits above (head_of between place)
   head_admitted [] place h = h.0
@@ -127,6 +146,7 @@ module _ (x : Context) (asked : RevocationChecks) (admits : List ℕ → ℕ →
   pub passed_over : (heads : List ℕ) (ended : Ended) (ts : List Told) (place : ℕ) → SoFar heads ended ts → (admits above place → ⊥) → SoFar (heads ++ place ∷ []) ended ts
   passed_over heads ended ts place old never = record {
     right = old.right;
+    too_deep = old.too_deep;
     done = λ root a. subst (λ (l : List Told). Done root (heads ++ place ∷ []) ended l) (append-nil ts)
         (one_more root heads ended ts place ended [] (old.done root a) (λ n h. h)
         (λ between last is deep admitted reached. absurd (never (subst (λ (p : ℕ). admits above p) is (head_admitted between last admitted)))));
@@ -170,6 +190,7 @@ module _ (x : Context) (asked : RevocationChecks) (admits : List ℕ → ℕ →
         → SoFar (heads ++ place ∷ []) ended (ts ++ told above place verdict ∷ [])
     ended_there heads ended ts place verdict old o = record {
       right = one_right ts place verdict None old.right o;
+      too_deep = old.too_deep;
       done = λ root a. one_more root heads ended ts place ended (told above place verdict ∷ []) (old.done root a) (λ n h. h)
           (λ between last is deep admitted reached. told_none root a ts place verdict o between last is reached);
     }
@@ -192,7 +213,7 @@ module _ (x : Context) (asked : RevocationChecks) (admits : List ℕ → ℕ →
         -- what is told below it is right
         pub below_right : (ts : List Told) → AllRight ts → AllRight ((ts ++ told above place verdict ∷ []) ++ sub)
         below_right ts old = record {
-          right = λ root a. all_append (IsRight x asked root certs) (ts ++ told above place verdict ∷ []) sub ((one_right ts place verdict (Some ca) old o).right root a) (below.1 root (ca_leads root a)).right;
+          right = λ root a. all_append (IsRight x asked root certs) (ts ++ told above place verdict ∷ []) sub ((one_right ts place verdict (Some ca) old o).right root a) (below.2 root (ca_leads root a)).right;
         }
 
         told_below : (end : Ended) → r ≡ Ok end → (root : Root) → LeadsTo x asked root (members_at root certs above) issuer → (ts : List Told)
@@ -200,7 +221,7 @@ module _ (x : Context) (asked : RevocationChecks) (admits : List ℕ → ℕ →
             → IsReached x asked root certs (above ++ place ∷ rest) last → IsTold ((ts ++ told above place verdict ∷ []) ++ sub) (above ++ place ∷ rest) last
         told_below end is root a ts rest last deep admitted reached =
             let grouped : (above ++ place ∷ []) ++ rest ≡ above ++ place ∷ rest = append_assoc above (place ∷ []) rest in
-            let tells : IfOk r (IsComplete x asked admits root certs (above ++ place ∷ []) (depth - 1) sub) = (below.1 root (ca_leads root a)).complete in
+            let tells : IfOk r (IsComplete x asked admits root certs (above ++ place ∷ []) (depth - 1) sub) = (below.2 root (ca_leads root a)).complete in
             let complete : IsComplete x asked admits root certs (above ++ place ∷ []) (depth - 1) sub end = subst (λ (q : Result Ended E). IfOk q (IsComplete x asked admits root certs (above ++ place ∷ []) (depth - 1) sub)) is tells in
             told_behind (ts ++ told above place verdict ∷ []) sub (above ++ place ∷ rest) last
             (subst (λ (l : List ℕ). IsTold sub l last) grouped
@@ -219,13 +240,36 @@ module _ (x : Context) (asked : RevocationChecks) (admits : List ℕ → ℕ →
             subst (λ (q : ℕ). IsTold ((ts ++ told above place verdict ∷ []) ++ sub) (above ++ q ∷ rest) last) (sym here)
             (told_below end is root a ts rest last (covers_below ended end depth (length rest + 1) deeper) all passes)
 
+        -- below which a certificate stands at the depth
+        deeper : (end : Ended) → r ≡ Ok end → 0 < depth → admits above place → (root : Root) → LeadsTo x asked root (members_at root certs above) issuer → IsTooDeep x asked admits root certs above depth end
+        deeper end is low admitted root a too_deep =
+            let further : IsTooDeep x asked admits root certs (above ++ place ∷ []) (depth - 1) end = if_ok (IsTooDeep x asked admits root certs (above ++ place ∷ []) (depth - 1)) r end is (below.2 root (ca_leads root a)).too_deep in
+            let f = further too_deep in
+            let h = f.2 in
+            let count : length (place ∷ f.0) ≡ depth = omega (arith, f.1, low) in
+            let grouped : (above ++ place ∷ []) ++ f.0 ≡ above ++ place ∷ f.0 = append_assoc above (place ∷ []) f.0 in (
+              place ∷ f.0,
+              count,
+              record {
+                issuer = h.issuer;
+                leads = subst (λ (l : List ℕ). LeadsTo x asked root (members_at root certs l) h.issuer) grouped h.leads;
+                place = h.place;
+                names = h.names;
+                admitted = (admitted, h.admitted);
+              },
+            )
+
         -- a CA below which the walk went on
-        pub went_below : (heads : List ℕ) (ended end : Ended) (ts : List Told) → r ≡ Ok end → SoFar heads ended ts → SoFar (heads ++ place ∷ []) (worse ended end) ((ts ++ told above place verdict ∷ []) ++ sub)
-        went_below heads ended end ts is old =
+        pub went_below : 0 < depth → admits above place → (heads : List ℕ) (ended end : Ended) (ts : List Told) → r ≡ Ok end → SoFar heads ended ts → SoFar (heads ++ place ∷ []) (worse ended end) ((ts ++ told above place verdict ∷ []) ++ sub)
+        went_below low admitted heads ended end ts is old =
             let us = told above place verdict ∷ sub in
             let grouped : (ts ++ told above place verdict ∷ []) ++ sub ≡ ts ++ us = append_assoc ts (told above place verdict ∷ []) sub in
             record {
               right = below_right ts old.right;
+              too_deep = λ root a too_deep. elim (worse_deep ended end too_deep) [
+                | inl before ↦ old.too_deep root a before
+                | inr now ↦ deeper end is low admitted root a now
+              ];
               done = λ root a. subst (λ (l : List Told). Done root (heads ++ place ∷ []) (worse ended end) l) (sym grouped)
                   (one_more root heads ended ts place (worse ended end) us (old.done root a) (λ n h. covers_first ended end depth n h)
                   (λ between last here deep admitted reached. subst (λ (l : List Told). IsTold l (above ++ between) last) grouped (told_some ended end is root a ts between last here deep admitted reached)));
@@ -235,50 +279,67 @@ module _ (x : Context) (asked : RevocationChecks) (admits : List ℕ → ℕ →
 
     module _ (steps : ℕ) (ts : List Told) (few : length ts ≤ steps) where
       -- where all places were looked at
-      pub ended_whole : {E : Type 0} (places : List ℕ) (ended : Ended) → ArePlacesOf certs issuer.cert.fields.extensions.subject_key_identifier places → SoFar places ended ts → (r : Result Ended E) → r ≡ Ok ended → TellsBelow x asked admits issuer certs above depth steps r ts
-      ended_whole {E} places ended are all r is = (
-        few,
-        (λ root a.
-            let complete : IsComplete x asked admits root certs above depth ts ended = λ between place deep admitted reached.
-            let names = reached_names x asked root law certs above (head_of between place) issuer a between place refl reached in
-            let key = issuer.cert.fields.extensions.subject_key_identifier in
-            all.done root a between place (are.all (head_of between place) (there certs key (head_of between place) names) names) deep admitted reached in
-            record {
-              right = all.right.right root a;
-              few = few;
-              complete = subst (λ (q : Result Ended E). IfOk q (IsComplete x asked admits root certs above depth ts)) (sym is) complete;
-            }),
-      )
+      pub ended_whole : {E : Type 0} (places : List ℕ) (ended : Ended) → ArePlacesOf certs issuer.cert.fields.extensions.subject_key_identifier places → SoFar places ended ts → AreUsedUp steps ts ended → (r : Result Ended E) → r ≡ Ok ended → TellsBelow x asked admits issuer certs above depth steps r ts
+      ended_whole {E} places ended are all used_up r is =
+          let used : IfOk r (AreUsedUp steps ts) = subst (λ (q : Result Ended E). IfOk q (AreUsedUp steps ts)) (sym is) used_up in (
+            few,
+            used,
+            (λ root a.
+                let complete : IsComplete x asked admits root certs above depth ts ended = λ between place deep admitted reached.
+                let names = reached_names x asked root law certs above (head_of between place) issuer a between place refl reached in
+                let key = issuer.cert.fields.extensions.subject_key_identifier in
+                all.done root a between place (are.all (head_of between place) (there certs key (head_of between place) names) names) deep admitted reached in
+                record {
+                  right = all.right.right root a;
+                  few = few;
+                  used_up = used;
+                  too_deep = subst (λ (q : Result Ended E). IfOk q (IsTooDeep x asked admits root certs above depth)) (sym is) (all.too_deep root a);
+                  complete = subst (λ (q : Result Ended E). IfOk q (IsComplete x asked admits root certs above depth ts)) (sym is) complete;
+                }),
+          )
 
       -- where the depth is used up
-      pub ended_deep : {E : Type 0} → depth ≡ 0 → AllRight ts → (r : Result Ended E) → r ≡ Ok TooDeep → TellsBelow x asked admits issuer certs above depth steps r ts
-      ended_deep {E} deep all r is = (
-        few,
-        (λ root a. record {
-          right = all.right root a;
-          few = few;
-          complete = subst (λ (q : Result Ended E). IfOk q (IsComplete x asked admits root certs above depth ts)) (sym is) (λ between place covered admitted reached. absurd (omega (arith, covered, deep)));
-        }),
-      )
+      pub ended_deep : {E : Type 0} → depth ≡ 0 → AllRight ts → (place : ℕ) → NamesSigner issuer.cert.fields.extensions.subject_key_identifier (octets_at certs place) → admits above place → (r : Result Ended E) → r ≡ Ok TooDeep → TellsBelow x asked admits issuer certs above depth steps r ts
+      ended_deep {E} deep all place names admitted r is =
+          let used : IfOk r (AreUsedUp steps ts) = subst (λ (q : Result Ended E). IfOk q (AreUsedUp steps ts)) (sym is) (λ e. absurd (cc e)) in (
+            few,
+            used,
+            (λ root a. record {
+              right = all.right root a;
+              few = few;
+              used_up = used;
+              too_deep = subst (λ (q : Result Ended E). IfOk q (IsTooDeep x asked admits root certs above depth)) (sym is)
+                  (λ too_deep. ([], sym deep, record { issuer = issuer; leads = subst (λ (l : List ℕ). LeadsTo x asked root (members_at root certs l) issuer) (sym (append-nil above)) a; place = place; names = names; admitted = (admitted, tt) }));
+              complete = subst (λ (q : Result Ended E). IfOk q (IsComplete x asked admits root certs above depth ts)) (sym is) (λ between place covered admitted reached. absurd (omega (arith, covered, deep)));
+            }),
+          )
 
       -- where the steps are used up
-      pub ended_steps : {E : Type 0} → AllRight ts → (r : Result Ended E) → r ≡ Ok OutOfSteps → TellsBelow x asked admits issuer certs above depth steps r ts
-      ended_steps {E} all r is = (
-        few,
-        (λ root a. record {
-          right = all.right root a;
-          few = few;
-          complete = subst (λ (q : Result Ended E). IfOk q (IsComplete x asked admits root certs above depth ts)) (sym is) (λ between place covered admitted reached. absurd covered);
-        }),
-      )
+      pub ended_steps : {E : Type 0} → AllRight ts → length ts ≡ steps → (r : Result Ended E) → r ≡ Ok OutOfSteps → TellsBelow x asked admits issuer certs above depth steps r ts
+      ended_steps {E} all spent r is =
+          let used : IfOk r (AreUsedUp steps ts) = subst (λ (q : Result Ended E). IfOk q (AreUsedUp steps ts)) (sym is) (λ e. spent) in (
+            few,
+            used,
+            (λ root a. record {
+              right = all.right root a;
+              few = few;
+              used_up = used;
+              too_deep = subst (λ (q : Result Ended E). IfOk q (IsTooDeep x asked admits root certs above depth)) (sym is) (λ too_deep. absurd (cc too_deep));
+              complete = subst (λ (q : Result Ended E). IfOk q (IsComplete x asked admits root certs above depth ts)) (sym is) (λ between place covered admitted reached. absurd covered);
+            }),
+          )
 
       -- where memory ran out
       pub ended_err : {E : Type 0} → AllRight ts → (r : Result Ended E) → IsErr r → TellsBelow x asked admits issuer certs above depth steps r ts
-      ended_err {E} all r err = (
-        few,
-        (λ root a. record {
-          right = all.right root a;
-          few = few;
-          complete = if_err (IsComplete x asked admits root certs above depth ts) r err;
-        }),
-      )
+      ended_err {E} all r err =
+          let used : IfOk r (AreUsedUp steps ts) = if_err (AreUsedUp steps ts) r err in (
+            few,
+            used,
+            (λ root a. record {
+              right = all.right root a;
+              few = few;
+              used_up = used;
+              too_deep = if_err (IsTooDeep x asked admits root certs above depth) r err;
+              complete = if_err (IsComplete x asked admits root certs above depth ts) r err;
+            }),
+          )

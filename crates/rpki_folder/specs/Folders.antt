@@ -44,12 +44,19 @@ pub record ArePlacesOf (certs : List (List ℕ)) (key places : List ℕ) : Type 
   pub only : (place : ℕ) → Contains places place → NamesSigner key (octets_at certs place)
   pub all : (place : ℕ) → place < length certs → NamesSigner key (octets_at certs place) → Contains places place
 
--- what was added of the octets, and at which place
+-- the octets begin with no certificate
+abbrev pub BeginsNoCertificate : List ℕ → Type 0
+BeginsNoCertificate octets = (c : CertFields) → Means IsCertificate c octets → ⊥
+
+-- what was added of the octets, and at which place: the certificate with which they begin, or else
+-- the list
 abbrev pub IsAdded : List ℕ → FolderFields → FolderFields → Added → Type 0
 IsAdded octets old new (Certificate place) =
     (new ≡ with_cert old octets) × (place ≡ length old.certs)
+    × ((c : CertFields) × Means IsCertificate c octets)
 IsAdded octets old new list =
-    (l : CrlState) × Means IsCertificateList l.list octets × (new ≡ with_list old l)
+    ((l : CrlState) × Means IsCertificateList l.list octets × (new ≡ with_list old l))
+    × BeginsNoCertificate octets
 IsAdded octets old new Neither =
-    (new ≡ old) × ((c : CertFields) → Means IsCertificate c octets → ⊥)
+    (new ≡ old) × BeginsNoCertificate octets
     × ((l : CrlFields) → Means IsCertificateList l octets → ⊥)

@@ -5,7 +5,8 @@ use Rattle.std.proofs.Common.{sym, subst}
 use Rattle.rpki_cert.specs.Verification.{Context}
 use Rattle.rpki_revocation.specs.Asking.{RevocationChecks}
 use Rattle.rpki_folder.specs.Folders.{octets_at}
-use Rattle.rpki_folder.specs.Walks.{Root, members_at, IsRightOf, IsReached, Told, Covers, AreAdmitted}
+use Rattle.rpki_folder.specs.Walks.{Root, members_at, IsRightOf, IsReached, Told, Tells, Covers, AreAdmitted}
+use Rattle.rpki_folder.specs.declared.walk_error.WalkError.{WalkError}
 use Rattle.rpki_folder.specs.declared.find.Found.{Found}
 use Rattle.rpki_folder.specs.declared.find.FoundPath.{FoundPath}
 use Rattle.rpki_folder.specs.declared.find.Found.TheVariants.{Valid, NotFound}
@@ -17,15 +18,17 @@ IsSought place ts (Some path) =
     Any (λ t. (t.above ≡ path.above.items) × (t.place ≡ place) × (t.verdict ≡ Ok path.judged)) ts
 
 -- what a search for the certificate at the place found: a valid path that leads to it, and what it
--- holds; or that none does that was looked at
+-- holds; or that none does that was looked at, by a walk that ended so
 abbrev pub IsFound : Context → RevocationChecks → (List ℕ → ℕ → Type 0) → Root → List (List ℕ)
-    → ℕ → ℕ → Found → Type 0
-IsFound x asked admits root certs depth place (Valid path) =
+    → ℕ → ℕ → ℕ → Found → Type 0
+IsFound x asked admits root certs depth steps place (Valid path) =
     IsRightOf x asked root (members_at root certs path.above.items) (octets_at certs place)
     (Ok path.judged)
-IsFound x asked admits root certs depth place (NotFound ended) =
-    (above : List ℕ) → Covers ended depth (length above + 1)
-    → AreAdmitted admits [] (above ++ place ∷ []) → IsReached x asked root certs above place → ⊥
+IsFound x asked admits root certs depth steps place (NotFound ended) =
+    ((above : List ℕ) → Covers ended depth (length above + 1)
+    → AreAdmitted admits [] (above ++ place ∷ []) → IsReached x asked root certs above place → ⊥)
+    × ((told : List Told)
+    × Tells {E = WalkError} x asked admits root certs [] depth steps (Ok ended) told)
 
 -- at the beginning none was found
 pub sought_begins : (place : ℕ) (found : Option FoundPath) → found ≡ None → IsSought place [] found

@@ -17,7 +17,7 @@ use Rattle.rpki_path.specs.Routers.{router_demand}
 use Rattle.rpki_path.specs.Judging.{IsRouterIfAny}
 use Rattle.rpki_path.specs.LocatedPaths.{IsAcceptedFrom, IsLocatedFault, IsOutOfMemory}
 use Rattle.rpki_folder.specs.SaidKinds.{BeginsWithKind}
-use Rattle.rpki_folder.specs.Folders.{octets_at, cas_at}
+use Rattle.rpki_folder.specs.Folders.{octets_at, cas_at, NamesSigner}
 use Rattle.rpki_folder.specs.declared.bounds.Ended.{Ended}
 use Rattle.rpki_folder.specs.declared.bounds.Ended.TheVariants.{Whole, TooDeep, OutOfSteps}
 use Rattle.rpki_folder.specs.declared.walk_error.WalkError.{WalkError}
@@ -44,6 +44,11 @@ members_at root certs above = root.before ++ cas_at certs above
 -- a valid path of these members leads from the locator's key to what its last member holds
 abbrev pub LeadsTo : Context → RevocationChecks → Root → List Candidate → ResourceFields → Type 0
 LeadsTo x asked root members r = IsAcceptedFrom x asked root.tal root.anchor members r
+
+-- the locator's trust anchor begins with a certificate of its key that is valid
+abbrev pub IsValidAnchor : Context → RevocationChecks → NamedTal → List ℕ → Type 0
+IsValidAnchor x asked tal anchor =
+    (r : ResourceFields) × LeadsTo x asked (at_anchor tal anchor) [] r
 
 -- below these members the octets are accepted as a certificate of this kind: a router's below the
 -- last of them, any other one as a further member
@@ -109,6 +114,10 @@ Covers Whole depth n = Unit {0}
 Covers TooDeep depth n = n ≤ depth
 Covers OutOfSteps depth n = ⊥
 
+-- where a walk says that the steps are used up, it told as many verdicts as there were steps
+abbrev pub AreUsedUp : ℕ → List Told → Ended → Type 0
+AreUsedUp steps ts ended = ended ≡ OutOfSteps → length ts ≡ steps
+
 -- each of the places is let in below those above it
 abbrev pub AreAdmitted : (List ℕ → ℕ → Type 0) → List ℕ → List ℕ → Type 0
 AreAdmitted admits above [] = Unit {0}
@@ -123,20 +132,42 @@ IsComplete x asked admits root certs above depth ts ended =
     → AreAdmitted admits above (between ++ place ∷ [])
     → IsReached x asked root certs (above ++ between) place → IsTold ts (above ++ between) place
 
+-- a valid path leads to the last of the CAs at these places, and its key is the one that a
+-- certificate names which is let in below them
+pub record HasBelow (x : Context) (asked : RevocationChecks)
+    (admits : List ℕ → ℕ → Type 0) (root : Root) (certs : List (List ℕ))
+    (above between : List ℕ) : Type 0 where
+  pub issuer : ResourceFields
+  pub leads : LeadsTo x asked root (members_at root certs (above ++ between)) issuer
+  pub place : ℕ
+  pub names : NamesSigner issuer.cert.fields.extensions.subject_key_identifier (octets_at certs place)
+  pub admitted : AreAdmitted admits above (between ++ place ∷ [])
+
+-- where a walk of this depth says that it is too deep, a certificate stands below a path that long
+abbrev pub IsTooDeep : Context → RevocationChecks → (List ℕ → ℕ → Type 0) → Root → List (List ℕ)
+    → List ℕ → ℕ → Ended → Type 0
+IsTooDeep x asked admits root certs above depth ended =
+    ended ≡ TooDeep → (between : List ℕ) × (length between ≡ depth)
+    × HasBelow x asked admits root certs above between
+
 -- What a walk tells below the CAs at these places: each verdict is right, there are no more than
--- steps, and where the walk ended, it looked at each path that its end says.
+-- steps, and where the walk ended, it looked at each path that its end says. It says that a bound
+-- was met only where it was.
 pub record Tells {E : Type 0} (x : Context) (asked : RevocationChecks)
     (admits : List ℕ → ℕ → Type 0) (root : Root) (certs : List (List ℕ)) (above : List ℕ)
     (depth steps : ℕ) (result : Result Ended E) (ts : List Told) : Type 0 where
   pub right : AllByRecursion (IsRight x asked root certs) ts
   pub few : length ts ≤ steps
+  pub used_up : IfOk result (AreUsedUp steps ts)
+  pub too_deep : IfOk result (IsTooDeep x asked admits root certs above depth)
   pub complete : IfOk result (IsComplete x asked admits root certs above depth ts)
 
 -- the same, wherever the issuer stands at the end of a valid path
 abbrev pub TellsBelow : {E : Type 0} → Context → RevocationChecks → (List ℕ → ℕ → Type 0)
     → ResourceFields → List (List ℕ) → List ℕ → ℕ → ℕ → Result Ended E → List Told → Type 0
 TellsBelow x asked admits issuer certs above depth steps result ts =
-    (length ts ≤ steps) × ((root : Root) → LeadsTo x asked root (members_at root certs above) issuer
+    (length ts ≤ steps) × IfOk result (AreUsedUp steps ts)
+    × ((root : Root) → LeadsTo x asked root (members_at root certs above) issuer
     → Tells x asked admits root certs above depth steps result ts)
 
 -- why a walk didn't begin: what is wrong with the trust anchor; or memory ran out

@@ -3,7 +3,7 @@ ghost use Rattle.std.specs.Prelude.{◌≡◌, [], IfOk, IfErr};
 ghost use Rattle.rpki_cert.specs.Verification.{context};
 ghost use Rattle.rpki_revocation.specs.AskedLists.{by_lists};
 ghost use Rattle.rpki_folder.specs.Searches.{IsSought, IsFound};
-ghost use Rattle.rpki_folder.specs.Walks.{at_anchor, IsWhyNone};
+ghost use Rattle.rpki_folder.specs.Walks.{at_anchor, IsValidAnchor, IsWhyNone};
 
 use crate::admission::Admission;
 use crate::bounds::Ended;
@@ -128,7 +128,12 @@ impl<'w, A: Admission, V: Verifier> Walk<'w, A, V> {
             let asked = by_lists x w.folder.now.lists in
             let admits = A.admits w.admission.now in
             let root = at_anchor tal.now anchor.now in
-            IfOk result (IsFound x asked admits root w.folder.now.certs w.bounds.depth place) }
+            let bounds = w.bounds in let certs = w.folder.now.certs in
+            IfOk result (IsFound x asked admits root certs bounds.depth bounds.steps place) }
+        ensures anchor { let w = self.now in
+            let x = context (V.verifies w.verifier.now) w.at w.strict in
+            let asked = by_lists x w.folder.now.lists in
+            IfOk result (λ _. IsValidAnchor x asked tal.now anchor.now) }
         ensures fault { let w = self.now in
             let x = context (V.verifies w.verifier.now) w.at w.strict in
             let asked = by_lists x w.folder.now.lists in

@@ -1,5 +1,5 @@
 //! The walk down from a trust anchor.
-ghost use Rattle.std.specs.Prelude.{◌≡◌, ◌≢◌, ◌+◌, ◌++◌, ◌∷◌, [], ◌<◌, ◌≤◌, List, length, Result, Ok, Err, IfOk, IfErr, OnOk, OnErr};
+ghost use Rattle.std.specs.Prelude.{◌≡◌, ◌≢◌, ◌+◌, ◌++◌, ◌∷◌, [], ◌<◌, List, length, Result, Ok, Err, IfOk, IfErr, OnOk, OnErr};
 ghost use Rattle.std.proofs.Common.{rc_value};
 ghost use Rattle.rpki_ext.specs.Kinds.{Means};
 ghost use Rattle.rpki_cert.specs.Certificates.{IsCertificate};
@@ -16,7 +16,7 @@ ghost use Rattle.rpki_path.specs.Paths.Steps.{kind_of, IsIssuedBy, demand_under}
 ghost use Rattle.rpki_path.specs.Routers.{IsRouterUnder, router_demand};
 ghost use Rattle.rpki_folder.specs.Folders.{octets_at, ArePlacesOf};
 ghost use Rattle.rpki_folder.specs.IssuerLists.{AreIssuers};
-ghost use Rattle.rpki_folder.specs.Walks.{Root, at_anchor, members_at, LeadsTo, Told, told, Tells, TellsBelow, IsWhyNone};
+ghost use Rattle.rpki_folder.specs.Walks.{Root, at_anchor, members_at, LeadsTo, IsValidAnchor, Told, told, Tells, TellsBelow, IsWhyNone};
 ghost use Rattle.rpki_folder.specs.Walks.Steps.{IsAnswer, IsOutcome, Hands, IsAtTop};
 
 use crate::admission::Admission;
@@ -361,7 +361,7 @@ impl<'w, A: Admission, V: Verifier> Walk<'w, A, V> {
             let asked = by_lists x w.folder.now.lists in
             let admits = A.admits w.admission.now in
             (v : W) (ts : List Told) → W.became v ts visitor.old → (more : List Told) × W.became v (ts ++ more) visitor.new
-            × (length more + trail.new.steps ≤ trail.old.steps)
+            × (length more + trail.new.steps ≡ trail.old.steps)
             × TellsBelow x asked admits issuer.now w.folder.now.certs trail.old.above.items depth trail.old.steps result more }
         ensures trail { OnOk result (trail.new.above.items ≡ trail.old.above.items) }
     {
@@ -377,8 +377,9 @@ impl<'w, A: Admission, V: Verifier> Walk<'w, A, V> {
             if trail.steps == 0 {
                 return Ok(Ended::OutOfSteps);
             }
+            let next = self.look_at(issuer, lists, &trail.above, place, visitor)?;
             trail.steps -= 1;
-            let Some(ca) = self.look_at(issuer, lists, &trail.above, place, visitor)? else {
+            let Some(ca) = next else {
                 continue;
             };
             trail.above.push(place)?;
@@ -405,7 +406,7 @@ impl<'w, A: Admission, V: Verifier> Walk<'w, A, V> {
             let asked = by_lists x w.folder.now.lists in
             let admits = A.admits w.admission.now in
             (v : W) (ts : List Told) → W.became v ts visitor.old → (more : List Told) × W.became v (ts ++ more) visitor.new
-            × (length more + trail.new.steps ≤ trail.old.steps)
+            × (length more + trail.new.steps ≡ trail.old.steps)
             × TellsBelow x asked admits issuer.now w.folder.now.certs trail.old.above.items depth trail.old.steps result more }
         ensures trail { OnOk result (trail.new.above.items ≡ trail.old.above.items) }
     {
@@ -507,6 +508,11 @@ impl<'w, A: Admission, V: Verifier> Walk<'w, A, V> {
             let root = at_anchor tal.now anchor.now in
             (more : List Told) × W.became visitor.old more visitor.new
             × Tells x asked admits root w.folder.now.certs [] w.bounds.depth w.bounds.steps result more }
+        // It begins at a valid trust anchor.
+        ensures anchor { let w = self.now in
+            let x = context (V.verifies w.verifier.now) w.at w.strict in
+            let asked = by_lists x w.folder.now.lists in
+            IfOk result (λ _. IsValidAnchor x asked tal.now anchor.now) }
         // The trust anchor is wrong so.
         ensures fault { let w = self.now in
             let x = context (V.verifies w.verifier.now) w.at w.strict in

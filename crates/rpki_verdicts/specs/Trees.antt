@@ -16,7 +16,7 @@ use Rattle.rpki.specs.Times.{Moment}
 use Rattle.rpki.specs.Verification.{Context}
 use Rattle.rpki.specs.WalkError.{WalkError}
 use Rattle.rpki.specs.WalkError.TheVariants.{Anchor}
-use Rattle.rpki.specs.Walks.{Told, Tells, IsWhyNone, at_anchor}
+use Rattle.rpki.specs.Walks.{Told, Tells, IsValidAnchor, IsWhyNone, at_anchor}
 use Rattle.rpki_files.specs.Contents.{BeginsWithCertificate}
 use Rattle.rpki_files.specs.FaultRules.{IsReason, locator_reason}
 use Rattle.rpki_files.specs.Files.{FileFields, contents}
@@ -105,9 +105,9 @@ certs_of tree = map (λ file. file.now) tree.certs.items
 abbrev pub every : List ℕ → ℕ → Type 0
 every above place = Unit {0}
 
--- The tree of the files: a walk down from the trust anchor over all certificates among them, with all
--- lists among them, told verdicts that are right and complete, and the line of each certificate is
--- kept of these.
+-- The tree of the files: the trust anchor is valid; a walk down from it over all certificates among
+-- them, with all lists among them, told verdicts that are right and complete; and the line of each
+-- certificate is kept of these.
 pub record IsTreeOf (x : Context) (q : TreeFields) (tree : Tree) : Type 0 where
   pub certs_are : AreCertificatesOf q.files (certs_of tree)
   pub lists : List CrlState
@@ -115,6 +115,7 @@ pub record IsTreeOf (x : Context) (q : TreeFields) (tree : Tree) : Type 0 where
   pub anchor : FileFields
   pub locator : NamedTal
   pub anchor_is : IsAnchorAt q.locators (certs_of tree) tree.anchor anchor locator
+  pub is_valid : IsValidAnchor x (by_lists x lists) locator anchor.octets
   pub told : List Told
   pub tells : Tells {E = WalkError} x (by_lists x lists) every (at_anchor locator anchor.octets)
       (contents (certs_of tree)) [] q.depth q.steps (Ok tree.ended) told

@@ -11,7 +11,7 @@ ghost use Rattle.rpki.specs.Locators.{NamedTal};
 ghost use Rattle.rpki.specs.RsaSignatures.{IsSignedByRsa};
 ghost use Rattle.rpki.specs.Verification.{context};
 ghost use Rattle.rpki.specs.WalkError.TheVariants.{Anchor};
-ghost use Rattle.rpki.specs.Walks.{Told, Tells, IsWhyNone, at_anchor};
+ghost use Rattle.rpki.specs.Walks.{Told, Tells, IsValidAnchor, IsWhyNone, at_anchor};
 ghost use Rattle.rpki_files.specs.Files.{FileFields};
 ghost use Rattle.rpki_verdicts.specs.Trees.{AllAccepted, accepted_count, accepts, asked_of, HasLocator, HasNoneBelow, IsAnchorAt, IsAnchorOf, IsAnchorReason, IsFolderOf, IsTreeAnswer, every};
 
@@ -173,6 +173,9 @@ fn walked(
         let root = at_anchor tal.now anchor.now.octets in
         (told : List Told) × BecameLines lines.old told lines.new
         × Tells x asked every root folder.now.certs [] q.depth q.steps result told }
+    ensures anchor { let x = context IsSignedByRsa question.now.at question.now.strict in
+        let asked = by_lists x folder.now.lists in
+        IfOk result (λ _. IsValidAnchor x asked tal.now anchor.now.octets) }
     ensures fault { let x = context IsSignedByRsa question.now.at question.now.strict in
         let asked = by_lists x folder.now.lists in
         IfErr result (IsWhyNone x asked tal.now anchor.now.octets) }

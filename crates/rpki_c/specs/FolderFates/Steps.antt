@@ -9,7 +9,7 @@ use Rattle.rpki_revocation.specs.Asking.{RevocationChecks}
 use Rattle.rpki_path.specs.declared.located.LocatedError.TheVariants.{OtherKey, Path as path}
 use Rattle.rpki_folder.specs.Folders.{FolderFields, octets_at}
 use Rattle.rpki_folder.specs.KeptLines.{AreLines}
-use Rattle.rpki_folder.specs.Walks.{Root, LeadsTo, Told, IsRight, IsComplete}
+use Rattle.rpki_folder.specs.Walks.{Root, LeadsTo, Told, IsRight, AreUsedUp, IsTooDeep, IsComplete}
 use Rattle.rpki_folder.specs.declared.bounds.Ended.{Ended}
 use Rattle.rpki_folder.specs.declared.folder.Added.{Added}
 use Rattle.rpki_folder.specs.declared.folder.Added.TheVariants.{Certificate, List as list_added, Neither}
@@ -19,7 +19,7 @@ use Rattle.rpki_folder.specs.declared.walk_error.WalkError.{WalkError}
 use Rattle.rpki_folder.specs.declared.walk_error.WalkError.TheVariants.{Anchor, Memory}
 use Rattle.rpki_c.specs.Contents.{BeginsNoCertificate}
 use Rattle.rpki_c.specs.Verdicts.{BeginsNoList}
-use Rattle.rpki_c.specs.FolderFates.{Fate, anchor, list, neither, unseen, accepted, rejected, IsTakenFor, AreListsAmong}
+use Rattle.rpki_c.specs.FolderFates.{Fate, anchor, list, neither, unseen, accepted, rejected, IsTakenFor, AreListsAmong, AreCertificatesAmong}
 use Rattle.rpki_c.specs.declared.refusal.Refusal.{Refusal}
 use Rattle.rpki_c.specs.declared.refusal.Refusal.TheVariants as refusal
 use Rattle.rpki_c.specs.declared.sorting.Front.{Front}
@@ -52,6 +52,7 @@ pub record AreSorted (strings : List (List ℕ)) (f : FolderFields) (added : Lis
   pub placed : (i place : ℕ) (d : Added) → i < length strings → slice_index_or added i d ≡ Certificate place
       → (place < length f.certs) × ((e : ℕ) → slice_index_or origins place e ≡ i)
   pub lists_are : AreListsAmong strings f.lists
+  pub certs_are : AreCertificatesAmong strings f.certs
 
 abbrev pub AreSortedIn : List (List ℕ) → Sorted → Type 0
 AreSortedIn strings s = AreSorted strings s.folder s.added.items s.origins.items
@@ -84,12 +85,14 @@ fate_at s kept top place = if place == top then anchor else added_fate (origin_o
 
 -- the lines that are kept of a walk below a trust anchor, which ended so
 pub record IsWalked (x : Context) (asked : RevocationChecks) (root : Root) (certs : List (List ℕ))
-    (depth : ℕ) (kept : List Line) (ended : Ended) : Type 0 where
+    (depth steps : ℕ) (kept : List Line) (ended : Ended) : Type 0 where
   pub holder : ResourceFields
   pub holds : LeadsTo x asked root [] holder
   pub tells : List Told
   pub lines_are : AreLines tells kept
   pub right : AllByRecursion (IsRight x asked root certs) tells
+  pub used_up : AreUsedUp steps tells ended
+  pub too_deep : IsTooDeep x asked (λ above place. Unit {0}) root certs [] depth ended
   pub complete : IsComplete x asked (λ above place. Unit {0}) root certs [] depth tells ended
 
 -- why there was no walk below the trust anchor at a place

@@ -33,6 +33,7 @@ returns-in-Ok c =
       anchor = anchor;
       locator = tal;
       anchor_is = subst (λ (l : List FileFields). IsAnchorAt q.locators.now l c.in-Some.place anchor tal) same c.in-Some.ensures.found;
+      is_valid = c.in-Ok.ensures.anchor;
       told = walk.0;
       tells = subst (λ (l : List (List ℕ)). Tells {E = WalkError} x (by_lists x folder.lists) every (at_anchor tal anchor.octets) l [] q.depth q.steps (Ok c.in-Ok.ended) walk.0) c.requires.octets_are walk.2;
       count_is = walk.1.0 ∙ c.in_ok-lines.ensures.count ∙ c.len.ensures ∙ c.args.certs.ok.0 ∙ sym (length-map c.args.certs.items (λ f. f.now));

@@ -1,5 +1,5 @@
 use Rattle.std.specs.Prelude.{Option, None, Some, Ok, Bool, true, ◌==◌}
-use Rattle.std.proofs.Common.{◌≡◌, ◌+◌, ◌-◌, ◌≤◌, ℕ, List, [], ◌∷◌, ◌++◌, length, take, get_or, refl, sym, ap, subst, ◌∙◌, append_assoc, arith}
+use Rattle.std.proofs.Common.{◌≡◌, ◌+◌, ◌-◌, ◌<◌, ◌≤◌, ℕ, List, [], ◌∷◌, ◌++◌, length, take, get_or, refl, sym, ap, subst, ◌∙◌, inl, inr, append_assoc, arith}
 use Rattle.std.proofs.lemmas.Bool.{both_ways, eqb-true}
 use Rattle.std.proofs.lemmas.List.{append-nil, length-append, take_more, take_all}
 use Rattle.std.proofs.lemmas.List.Elements.{Contains-get_or}
@@ -7,11 +7,11 @@ use Rattle.rpki_cert.specs.Certificates.{TbsFields, CertFields}
 use Rattle.rpki_cert.specs.Verification.{context, ResourceFields}
 use Rattle.rpki_revocation.specs.AskedLists.{by_lists}
 use Rattle.rpki_folder.specs.Folders.{octets_at, ArePlacesOf}
-use Rattle.rpki_folder.specs.Walks.{Told, told, TellsBelow}
+use Rattle.rpki_folder.specs.Walks.{Told, told, AreUsedUp, TellsBelow}
 use Rattle.rpki_folder.specs.Walks.Steps.{IsOutcome}
 use Rattle.rpki_folder.specs.declared.bounds.Ended.{Ended}
-use Rattle.rpki_folder.specs.declared.bounds.Ended.TheVariants.{Whole}
-use Rattle.rpki_folder.proofs.Descent.{SoFar, nothing_yet, passed_over, one_right, ended_there, below_right, went_below, ended_whole, ended_err}
+use Rattle.rpki_folder.specs.declared.bounds.Ended.TheVariants.{Whole, TooDeep, OutOfSteps}
+use Rattle.rpki_folder.proofs.Descent.{SoFar, nothing_yet, passed_over, one_right, ended_there, below_right, went_below, ended_whole, ended_deep, ended_steps, ended_err, worse_out, if_ok}
 use Rattle.rpki_folder.proofs.StepAnswers.{popped}
 use Rattle.rpki_folder.proofs.walk.Walk.+descend.Goals as goal
 
@@ -25,6 +25,7 @@ each_below-loop-place-init g t c =
         subst (λ (l : List Told). g.W.Visitor.became v l c.args.visitor.now) (sym (append-nil ts)) heard,
         omega arith,
         nothing_yet x (by_lists x w.folder.now.lists) (g.A.Admission.admits w.admission.now) c.args.issuer.now w.folder.now.certs c.args.trail.now.above.items c.args.depth,
+        (λ e. absurd (cc e)),
       )),
     )
 
@@ -50,8 +51,33 @@ each_below-loop-place-preserved-then-not-is_admitted g t c = (
         i.2,
         subst (λ (l : List ℕ). SoFar x asked admits issuer certs above c.args.depth l c.loop-place.ended i.0) (sym (take_more places index 0 c.loop-place-test.true))
             (passed_over x asked admits issuer certs above c.args.depth (take index places) c.loop-place.ended i.0 place i.3 never),
+        i.4,
       )),
 )
+
+pub each_below-returns-then-depth-eq0-clause-tells : goal.each_below-returns-then-depth-eq0-clause-tells
+each_below-returns-then-depth-eq0-clause-tells g t c = λ v ts heard.
+    let w = c.args.self.now in
+    let x = context (g.V.Verifier.verifies w.verifier.now) w.at w.strict in
+    let admits = g.A.Admission.admits w.admission.now in
+    let above = c.args.trail.now.above.items in
+    let places = c.args.places.now in
+    let place = get_or places c.loop-place.place-index 0 in
+    let i = c.loop-place.invariant.1 v ts heard in
+    let few : length i.0 ≤ c.args.trail.now.steps = omega (arith, i.2) in
+    let names = c.requires.places.only place (Contains-get_or places c.loop-place.place-index 0 c.loop-place-test.true) in
+    let let_in : admits above place = subst (λ (l : List ℕ). admits l place) (c.deref.ensures.value ∙ c.loop-place.invariant.0) (c.is_admitted.ensures.0 c.if-not-is_admitted.false) in
+    (i.0, i.1, i.2, ended_deep x (by_lists x w.folder.now.lists) admits c.args.issuer.now w.folder.now.certs above c.args.depth c.unambiguous.ensures.certificate c.args.trail.now.steps i.0 few c.if-depth-eq0.true i.3.right place names let_in (Ok TooDeep) refl)
+
+pub each_below-returns-then-trail-eq0-clause-tells : goal.each_below-returns-then-trail-eq0-clause-tells
+each_below-returns-then-trail-eq0-clause-tells g t c = λ v ts heard.
+    let w = c.args.self.now in
+    let x = context (g.V.Verifier.verifies w.verifier.now) w.at w.strict in
+    let admits = g.A.Admission.admits w.admission.now in
+    let i = c.loop-place.invariant.1 v ts heard in
+    let few : length i.0 ≤ c.args.trail.now.steps = omega (arith, i.2) in
+    let used : length i.0 ≡ c.args.trail.now.steps = omega (arith, i.2, c.if-trail-eq0.true) in
+    (i.0, i.1, i.2, ended_steps x (by_lists x w.folder.now.lists) admits c.args.issuer.now w.folder.now.certs c.args.trail.now.above.items c.args.depth c.unambiguous.ensures.certificate c.args.trail.now.steps i.0 few i.3.right used (Ok OutOfSteps) refl)
 
 pub each_below-look_at-requires : goal.each_below-look_at-requires
 each_below-look_at-requires g t c =
@@ -78,7 +104,7 @@ each_below-loop-place-preserved-in_default g t c = (
       let place = get_or places index 0 in
       let i = c.loop-place.invariant.1 v ts heard in
       let same = c.deref-in-loop-place.ensures.value ∙ c.loop-place.invariant.0 in
-      let o = c.in_ok-ca.ensures.ok v (ts ++ i.0) i.1 in
+      let o = c.in_ok-next.ensures.ok v (ts ++ i.0) i.1 in
       let item = told above place o.0 in
       let hears = λ (l : List Told). g.W.Visitor.became v l c.look_at.new.visitor in
       let outcome : IsOutcome x asked issuer (octets_at certs place) o.0 None = subst (λ (n : Option ResourceFields). IsOutcome x asked issuer (octets_at certs place) o.0 n) c.in_default.is o.2 in
@@ -88,6 +114,7 @@ each_below-loop-place-preserved-in_default g t c = (
         omega (arith, count, i.2, c.if-trail-eq0.false),
         subst (λ (l : List ℕ). SoFar x asked admits issuer certs above c.args.depth l c.loop-place.ended (i.0 ++ item ∷ [])) (sym (take_more places index 0 c.loop-place-test.true))
             (ended_there x asked admits issuer certs above c.args.depth c.unambiguous.ensures.certificate (take index places) c.loop-place.ended i.0 place o.0 i.3 outcome),
+        (λ e. omega (arith, i.4 e)),
       )),
 )
 
@@ -103,7 +130,7 @@ each_below-returns-in_err-push-clause-tells g t c = λ v ts heard.
     let place = get_or c.args.places.now c.loop-place.place-index 0 in
     let i = c.loop-place.invariant.1 v ts heard in
     let same = c.deref-in-loop-place.ensures.value ∙ c.loop-place.invariant.0 in
-    let o = c.in_ok-ca.ensures.ok v (ts ++ i.0) i.1 in
+    let o = c.in_ok-next.ensures.ok v (ts ++ i.0) i.1 in
     let item = told above place o.0 in
     let hears = λ (l : List Told). g.W.Visitor.became v l c.look_at.new.visitor in
     let count : length (i.0 ++ item ∷ []) ≡ length i.0 + 1 = length-append i.0 (item ∷ []) in
@@ -112,7 +139,7 @@ each_below-returns-in_err-push-clause-tells g t c = λ v ts heard.
       subst (λ (l : List Told). hears l) (append_assoc ts i.0 (item ∷ [])) (subst (λ (l : List ℕ). hears ((ts ++ i.0) ++ told l place o.0 ∷ [])) same o.1),
       omega (arith, count, i.2, c.if-trail-eq0.false),
       ended_err x asked admits issuer certs above c.args.depth c.unambiguous.ensures.certificate c.args.trail.now.steps (i.0 ++ item ∷ []) few
-          (one_right x asked admits issuer certs above c.args.depth c.unambiguous.ensures.certificate i.0 place o.0 c.in_ok-ca.field-0 i.3.right o.2) c.from_residual-in_err-push.result c.from_residual-in_err-push.ensures.0,
+          (one_right x asked admits issuer certs above c.args.depth c.unambiguous.ensures.certificate i.0 place o.0 c.in_ok-next.next i.3.right o.2) c.from_residual-in_err-push.result c.from_residual-in_err-push.ensures.0,
     )
 
 pub each_below-returns-in_err-below-clause-tells : goal.each_below-returns-in_err-below-clause-tells
@@ -128,7 +155,7 @@ each_below-returns-in_err-below-clause-tells g t c = λ v ts heard.
     let ca = c.in-Some.ca in
     let i = c.loop-place.invariant.1 v ts heard in
     let same = c.deref-in-loop-place.ensures.value ∙ c.loop-place.invariant.0 in
-    let o = c.in_ok-ca.ensures.ok v (ts ++ i.0) i.1 in
+    let o = c.in_ok-next.ensures.ok v (ts ++ i.0) i.1 in
     let item = told above place o.0 in
     let outcome : IsOutcome x asked issuer (octets_at certs place) o.0 (Some ca) = subst (λ (n : Option ResourceFields). IsOutcome x asked issuer (octets_at certs place) o.0 n) c.in-Some.is o.2 in
     let heard_it = subst (λ (l : List ℕ). g.W.Visitor.became v ((ts ++ i.0) ++ told l place o.0 ∷ []) c.look_at.new.visitor) same o.1 in
@@ -165,13 +192,15 @@ each_below-loop-place-preserved g t c =
           let end = c.in_ok-below.field-0 in
           let i = c.loop-place.invariant.1 v ts heard in
           let same = c.deref-in-loop-place.ensures.value ∙ c.loop-place.invariant.0 in
-          let o = c.in_ok-ca.ensures.ok v (ts ++ i.0) i.1 in
+          let o = c.in_ok-next.ensures.ok v (ts ++ i.0) i.1 in
           let item = told above place o.0 in
           let outcome : IsOutcome x asked issuer (octets_at certs place) o.0 (Some ca) = subst (λ (n : Option ResourceFields). IsOutcome x asked issuer (octets_at certs place) o.0 n) c.in-Some.is o.2 in
           let heard_it = subst (λ (l : List ℕ). g.W.Visitor.became v ((ts ++ i.0) ++ told l place o.0 ∷ []) c.look_at.new.visitor) same o.1 in
           let b = c.descend-below.ensures.tells v ((ts ++ i.0) ++ item ∷ []) heard_it in
           let below : TellsBelow x asked admits ca certs (above ++ place ∷ []) (c.args.depth - 1) (c.loop-place.trail.steps - 1) c.descend-below.result b.0 = subst (λ (l : List ℕ). TellsBelow x asked admits ca certs l (c.args.depth - 1) (c.loop-place.trail.steps - 1) c.descend-below.result b.0) deeper b.3 in
           let more = (i.0 ++ item ∷ []) ++ b.0 in
+          let low : 0 < c.args.depth = omega (arith, c.if-depth-eq0.false) in
+          let let_in : admits above place = subst (λ (l : List ℕ). admits l place) (c.deref.ensures.value ∙ c.loop-place.invariant.0) (c.is_admitted.ensures.0 c.if-not-is_admitted.false) in
           let hears = λ (l : List Told). g.W.Visitor.became v l c.descend-below.new.visitor in
           let count : length more ≡ length i.0 + 1 + length b.0 = omega (arith, length-append (i.0 ++ item ∷ []) b.0, length-append i.0 (item ∷ [])) in (
             more,
@@ -179,7 +208,13 @@ each_below-loop-place-preserved g t c =
             omega (arith, count, i.2, b.2, c.if-trail-eq0.false),
             subst (λ (l : List ℕ). SoFar x asked admits issuer certs above c.args.depth l c.and-ended.result more) (sym (take_more places index 0 c.loop-place-test.true))
                 (subst (λ (e : Ended). SoFar x asked admits issuer certs above c.args.depth (take index places ++ place ∷ []) e more) (sym c.and-ended.ensures)
-                (went_below x asked admits issuer certs above c.args.depth c.unambiguous.ensures.certificate place o.0 ca outcome (c.loop-place.trail.steps - 1) c.descend-below.result b.0 below (take index places) c.loop-place.ended end i.0 c.in_ok-below.was i.3)),
+                (went_below x asked admits issuer certs above c.args.depth c.unambiguous.ensures.certificate place o.0 ca outcome (c.loop-place.trail.steps - 1) c.descend-below.result b.0 below low let_in (take index places) c.loop-place.ended end i.0 c.in_ok-below.was i.3)),
+            (λ e. elim (worse_out c.loop-place.ended end (sym c.and-ended.ensures ∙ e)) [
+              | inl before ↦ absurd (omega (arith, i.4 before, c.if-trail-eq0.false))
+              | inr now ↦
+                  let spent = if_ok (AreUsedUp (c.loop-place.trail.steps - 1) b.0) c.descend-below.result end c.in_ok-below.was below.1 now in
+                  omega (arith, spent, b.2)
+            ]),
           )),
     )
 
@@ -196,7 +231,8 @@ each_below-returns-clause-tells g t c = λ v ts heard.
     let i = c.loop-place.invariant.1 v ts heard in
     let all : SoFar x asked admits issuer certs above c.args.depth places c.loop-place.ended i.0 = subst (λ (l : List ℕ). SoFar x asked admits issuer certs above c.args.depth l c.loop-place.ended i.0) (take_all c.loop-place.place-index places c.loop-place-test.false) i.3 in
     let few : length i.0 ≤ c.args.trail.now.steps = omega (arith, i.2) in
-    (i.0, i.1, i.2, ended_whole x asked admits issuer certs above c.args.depth c.unambiguous.ensures.certificate c.args.trail.now.steps i.0 few places c.loop-place.ended c.requires.places all (Ok c.loop-place.ended) refl)
+    let used : AreUsedUp c.args.trail.now.steps i.0 c.loop-place.ended = λ e. omega (arith, i.2, i.4 e) in
+    (i.0, i.1, i.2, ended_whole x asked admits issuer certs above c.args.depth c.unambiguous.ensures.certificate c.args.trail.now.steps i.0 few places c.loop-place.ended c.requires.places all used (Ok c.loop-place.ended) refl)
 
 -- the places of the issuer's key
 there : (certs : List (List ℕ)) (key own : List ℕ) (places : List ℕ) → key ≡ own → ArePlacesOf certs key places → ArePlacesOf certs own places
@@ -225,7 +261,7 @@ descend-returns-then-is_empty-clause-tells g t c = λ v ts heard.
       subst (λ (l : List Told). g.W.Visitor.became v l c.args.visitor.now) (sym (append-nil ts)) heard,
       omega arith,
       ended_whole x asked admits issuer certs above c.args.depth c.unambiguous.ensures.certificate c.args.trail.now.steps [] few [] Whole (subst (λ (l : List ℕ). ArePlacesOf certs own l) none are)
-          (nothing_yet x asked admits issuer certs above c.args.depth) (Ok Whole) refl,
+          (nothing_yet x asked admits issuer certs above c.args.depth) (λ e. absurd (cc e)) (Ok Whole) refl,
     )
 
 pub descend-returns-in_err-lists-clause-tells : goal.descend-returns-in_err-lists-clause-tells

@@ -18,7 +18,7 @@ returns-in-Some-clause-found g c =
     found_right x (by_lists x w.folder.now.lists) root w.folder.now.certs c.args.place b.0 c.in-Some.path b.2.right sought
 
 pub returns-in-None-clause-found : goal.returns-in-None-clause-found
-returns-in-None-clause-found g c = λ above covers admitted reached.
+returns-in-None-clause-found g c =
     let b = c.in_ok-ended.ensures.tells in
     let none : IsSought c.args.place b.0 None = subst (λ (f : Option FoundPath). IsSought c.args.place b.0 f) (sym c.into_found.ensures ∙ c.in-None.is) (b.1.1 refl) in
-    none_told c.args.place b.0 above none (b.2.complete above c.args.place covers admitted reached)
+    ((λ above covers admitted reached. none_told c.args.place b.0 above none (b.2.complete above c.args.place covers admitted reached)), (b.0, b.2))
