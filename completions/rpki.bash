@@ -4,8 +4,8 @@ _rpki() {
     COMPREPLY=()
     case ${COMP_WORDS[1]} in
         show) options='--output --json --quiet --all --at --lenient --max-size --help' ;;
-        validate) options='--output --json --quiet --tal --crl --in --no-names --at --lenient --max-size --help' ;;
-        tree) options='--output --json --quiet --tal --at --lenient --max-size --help' ;;
+        validate) options='--output --json --quiet --tal --crl --in --depth --steps --no-names --at --lenient --max-size --help' ;;
+        tree) options='--output --json --quiet --tal --depth --steps --at --lenient --max-size --help' ;;
         prepare) options='--issuer --key --serial --from --until --ipv4 --ipv6 --as --repository --manifest --notify --object --issuer-uri --crl-uri --trim --at --lenient' ;;
         complete) options='--issuer --pem --at --lenient' ;;
     esac
@@ -22,7 +22,7 @@ _rpki() {
     [[ $before != = ]] || before=${COMP_WORDS[COMP_CWORD - 2]}
     [[ $word != = ]] || word=''
     case $before in
-        --at | --max-size | --serial | --from | --until | --ipv4 | --ipv6 | --as) return ;;
+        --at | --max-size | --depth | --steps | --serial | --from | --until | --ipv4 | --ipv6 | --as) return ;;
         --repository | --manifest | --notify | --object | --issuer-uri | --crl-uri) return ;;
         -o | --output)
             mapfile -t COMPREPLY < <(compgen -W 'text json jsonl' -- "$word")

@@ -9,6 +9,7 @@ set -l kind '__fish_seen_subcommand_from ca ee detached router anchor'
 set -l kindless "__fish_seen_subcommand_from prepare; and not $kind"
 set -l prepare "__fish_seen_subcommand_from prepare; and $kind"
 set -l issuing "$complete; or begin; $prepare; end"
+set -l walks '__fish_seen_subcommand_from validate tree'
 set -l each '__fish_seen_subcommand_from show validate tree'
 set -l all "$each; or begin; $issuing; end"
 
@@ -30,6 +31,9 @@ complete -c rpki -n $each -s h -l help -d 'Print the commands'
 complete -c rpki -n $all -l at -x -d 'Judge at this moment (YYYY-MM-DD)'
 complete -c rpki -n $all -l lenient -d 'Let any string type stand in names'
 complete -c rpki -n $each -l max-size -x -d 'Refuse a file with more octets'
+
+complete -c rpki -n $walks -l depth -x -d 'Look at paths of at most so many certificates'
+complete -c rpki -n $walks -l steps -x -d 'Verify at most so many certificates'
 
 complete -c rpki -n $show -l all -d 'Print every entry of a list'
 

@@ -7,8 +7,8 @@ use Rattle.std.proofs.lemmas.Slice.Eq.{bytes_eq-Decides}
 use Rattle.rpki_arguments.specs.declared.arguments.Format.{Format}
 use Rattle.rpki_arguments.specs.declared.arguments.Format.TheVariants.{Text, Json, JsonLines}
 use Rattle.rpki_arguments.specs.declared.arguments.Setting.{Setting}
-use Rattle.rpki_arguments.specs.declared.arguments.Setting.TheVariants.{Crl, Tal, In, At, MaxSize, Output, ShortOutput}
-use Rattle.rpki_arguments.specs.CommandLines.{IsFormatName, LinePart, file, list, locator, folder, at_moment, max_size, output, lenient, json, quiet, all, no_names, help, setting_name, IsPart}
+use Rattle.rpki_arguments.specs.declared.arguments.Setting.TheVariants.{Crl, Tal, In, Depth, StepCount, At, MaxSize, Output, ShortOutput}
+use Rattle.rpki_arguments.specs.CommandLines.{IsFormatName, LinePart, file, list, locator, folder, depth, steps, at_moment, max_size, output, lenient, json, quiet, all, no_names, help, setting_name, IsPart}
 use Rattle.rpki_arguments.specs.WordParts.{IsOption, GivesValue}
 use Rattle.rpki_arguments.proofs.PartsOfWords.{Sort, single, before, joining, Grammar, Shape, IsClear, alone_is, given_is}
 use Rattle.rpki_arguments.specs.CommandLines.Steps.{BeginsNoPart, IsSetPart, IsSwitch, Joins, IsOptionName}
@@ -37,6 +37,8 @@ sort_of word =
     cond (bytes_eq word (codes "--crl")) (before Crl)
     (cond (bytes_eq word (codes "--tal")) (before Tal)
     (cond (bytes_eq word (codes "--in")) (before In)
+    (cond (bytes_eq word (codes "--depth")) (before Depth)
+    (cond (bytes_eq word (codes "--steps")) (before StepCount)
     (cond (bytes_eq word (codes "--at")) (before At)
     (cond (bytes_eq word (codes "--max-size")) (before MaxSize)
     (cond (bytes_eq word (codes "--output")) (before Output)
@@ -53,11 +55,13 @@ sort_of word =
     (joining_or Crl (stripped (codes "--crl=") word)
     (joining_or Tal (stripped (codes "--tal=") word)
     (joining_or In (stripped (codes "--in=") word)
+    (joining_or Depth (stripped (codes "--depth=") word)
+    (joining_or StepCount (stripped (codes "--steps=") word)
     (joining_or At (stripped (codes "--at=") word)
     (joining_or MaxSize (stripped (codes "--max-size=") word)
     (joining_or Output (stripped (codes "--output=") word)
     (joining_or ShortOutput (stripped (codes "-o=") word)
-    (single (file word))))))))))))))))))))))))
+    (single (file word))))))))))))))))))))))))))))
 
 -- an option that takes a value
 named : (setting : Setting) → sort_of (setting_name setting) ≡ before setting
@@ -65,6 +69,8 @@ unfolding sort_of
 named Crl = refl
 named Tal = refl
 named In = refl
+named Depth = refl
+named StepCount = refl
 named At = refl
 named MaxSize = refl
 named Output = refl
@@ -75,6 +81,8 @@ unfolding sort_of stripped joining_or
 joined Crl value = refl
 joined Tal value = refl
 joined In value = refl
+joined Depth value = refl
+joined StepCount value = refl
 joined At value = refl
 joined MaxSize value = refl
 joined Output value = refl
@@ -111,7 +119,7 @@ not_stripped c cs (w ∷ v ∷ ws) not_option =
 file_sort : (word : List ℕ) → (IsOption word → ⊥) → sort_of word ≡ single (file word)
 unfolding sort_of joining_or
 file_sort word not_option =
-    rw (unlike word (codes "--crl") not_option (refl, lit< tt), unlike word (codes "--tal") not_option (refl, lit< tt), unlike word (codes "--in") not_option (refl, lit< tt), unlike word (codes "--at") not_option (refl, lit< tt), unlike word (codes "--max-size") not_option (refl, lit< tt), unlike word (codes "--output") not_option (refl, lit< tt), unlike word (codes "-o") not_option (refl, lit< tt), unlike word (codes "--lenient") not_option (refl, lit< tt), unlike word (codes "--json") not_option (refl, lit< tt), unlike word (codes "-j") not_option (refl, lit< tt), unlike word (codes "--quiet") not_option (refl, lit< tt), unlike word (codes "-q") not_option (refl, lit< tt), unlike word (codes "--all") not_option (refl, lit< tt), unlike word (codes "--no-names") not_option (refl, lit< tt), unlike word (codes "--help") not_option (refl, lit< tt), unlike word (codes "-h") not_option (refl, lit< tt), not_stripped 45 (codes "crl=") word not_option, not_stripped 45 (codes "tal=") word not_option, not_stripped 45 (codes "in=") word not_option, not_stripped 45 (codes "at=") word not_option, not_stripped 45 (codes "max-size=") word not_option, not_stripped 45 (codes "output=") word not_option, not_stripped 111 (codes "=") word not_option) refl
+    rw (unlike word (codes "--crl") not_option (refl, lit< tt), unlike word (codes "--tal") not_option (refl, lit< tt), unlike word (codes "--in") not_option (refl, lit< tt), unlike word (codes "--depth") not_option (refl, lit< tt), unlike word (codes "--steps") not_option (refl, lit< tt), unlike word (codes "--at") not_option (refl, lit< tt), unlike word (codes "--max-size") not_option (refl, lit< tt), unlike word (codes "--output") not_option (refl, lit< tt), unlike word (codes "-o") not_option (refl, lit< tt), unlike word (codes "--lenient") not_option (refl, lit< tt), unlike word (codes "--json") not_option (refl, lit< tt), unlike word (codes "-j") not_option (refl, lit< tt), unlike word (codes "--quiet") not_option (refl, lit< tt), unlike word (codes "-q") not_option (refl, lit< tt), unlike word (codes "--all") not_option (refl, lit< tt), unlike word (codes "--no-names") not_option (refl, lit< tt), unlike word (codes "--help") not_option (refl, lit< tt), unlike word (codes "-h") not_option (refl, lit< tt), not_stripped 45 (codes "crl=") word not_option, not_stripped 45 (codes "tal=") word not_option, not_stripped 45 (codes "in=") word not_option, not_stripped 45 (codes "depth=") word not_option, not_stripped 45 (codes "steps=") word not_option, not_stripped 45 (codes "at=") word not_option, not_stripped 45 (codes "max-size=") word not_option, not_stripped 45 (codes "output=") word not_option, not_stripped 111 (codes "=") word not_option) refl
 
 -- ---- a part
 
@@ -140,6 +148,8 @@ one_set Crl value p q h k = h ∙ sym k
 one_set Tal value p q h k = h ∙ sym k
 one_set In value p q h k = h ∙ sym k
 one_set At value p q h k = h.1 ∙ ap at_moment (one_moment h.0 k.0 value h.3 k.3) ∙ sym k.1
+one_set Depth value p q h k = h.1 ∙ ap depth (sym h.2.1 ∙ k.2.1) ∙ sym k.1
+one_set StepCount value p q h k = h.1 ∙ ap steps (sym h.2.1 ∙ k.2.1) ∙ sym k.1
 one_set MaxSize value p q h k = h.1 ∙ ap max_size (sym h.2.1 ∙ k.2.1) ∙ sym k.1
 one_set Output value p q h k = h.1 ∙ ap output (one_format h.0 k.0 value h.2 k.2) ∙ sym k.1
 one_set ShortOutput value p q h k = h.1 ∙ ap output (one_format h.0 k.0 value h.2 k.2) ∙ sym k.1
@@ -165,6 +175,8 @@ shape (list name) words h = line_given Crl name (list name) words refl h
 shape (locator name) words h = line_given Tal name (locator name) words refl h
 shape (folder name) words h = line_given In name (folder name) words refl h
 shape (at_moment m) words h = line_given At h.0 (at_moment m) words (m, refl, h.2, h.3) h.1
+shape (depth n) words h = line_given Depth h.0 (depth n) words (n, refl, h.2) h.1
+shape (steps n) words h = line_given StepCount h.0 (steps n) words (n, refl, h.2) h.1
 shape (max_size n) words h = line_given MaxSize h.0 (max_size n) words (n, refl, h.2) h.1
 shape (output f) words h = given_format f h.0 words h.2 h.1
 shape lenient words h = alone_is line_grammar lenient words (codes "--lenient") h refl
@@ -183,6 +195,8 @@ set_is_part Crl value part words set gives = subst (λ (p : LinePart). IsPart p 
 set_is_part Tal value part words set gives = subst (λ (p : LinePart). IsPart p words) (sym set) gives
 set_is_part In value part words set gives = subst (λ (p : LinePart). IsPart p words) (sym set) gives
 set_is_part At value part words set gives = subst (λ (p : LinePart). IsPart p words) (sym set.1) (value, gives, set.2, set.3)
+set_is_part Depth value part words set gives = subst (λ (p : LinePart). IsPart p words) (sym set.1) (value, gives, set.2)
+set_is_part StepCount value part words set gives = subst (λ (p : LinePart). IsPart p words) (sym set.1) (value, gives, set.2)
 set_is_part MaxSize value part words set gives = subst (λ (p : LinePart). IsPart p words) (sym set.1) (value, gives, set.2)
 set_is_part Output value part words set gives = subst (λ (p : LinePart). IsPart p words) (sym set.1) (value, inl gives, set.2)
 set_is_part ShortOutput value part words set gives = subst (λ (p : LinePart). IsPart p words) (sym set.1) (value, inr gives, set.2)
@@ -205,6 +219,8 @@ module _ (word : List ℕ) (is_option : IsOption word) (unnamed : (setting : Set
   no_option (locator name) its behind rest is e = not_given Tal name its behind rest is e
   no_option (folder name) its behind rest is e = not_given In name its behind rest is e
   no_option (at_moment m) its behind rest is e = not_given At is.0 its behind rest is.1 e
+  no_option (depth n) its behind rest is e = not_given Depth is.0 its behind rest is.1 e
+  no_option (steps n) its behind rest is e = not_given StepCount is.0 its behind rest is.1 e
   no_option (max_size n) its behind rest is e = not_given MaxSize is.0 its behind rest is.1 e
   no_option (output f) its behind rest (text, inl is, named) e = not_given Output text its behind rest is e
   no_option (output f) its behind rest (text, inr is, named) e = not_given ShortOutput text its behind rest is e

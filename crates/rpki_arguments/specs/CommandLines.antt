@@ -8,7 +8,7 @@ use Rattle.rpki_arguments.specs.WordParts.{IsOption, GivesValue, AreInOrder, wor
 use Rattle.rpki_arguments.specs.declared.arguments.Format.{Format}
 use Rattle.rpki_arguments.specs.declared.arguments.Format.TheVariants.{Text, Json, JsonLines}
 use Rattle.rpki_arguments.specs.declared.arguments.Setting.{Setting}
-use Rattle.rpki_arguments.specs.declared.arguments.Setting.TheVariants.{Crl, Tal, In, At, MaxSize, Output, ShortOutput}
+use Rattle.rpki_arguments.specs.declared.arguments.Setting.TheVariants.{Crl, Tal, In, Depth, StepCount, At, MaxSize, Output, ShortOutput}
 use Rattle.rpki_arguments.specs.declared.arguments.Task.{Task}
 use Rattle.rpki_arguments.specs.declared.arguments.Task.TheVariants.{Show, Validate, Tree, Help, Version}
 pub mod Views
@@ -29,6 +29,8 @@ abbrev pub setting_name : Setting → List ℕ
 setting_name Crl = codes "--crl"
 setting_name Tal = codes "--tal"
 setting_name In = codes "--in"
+setting_name Depth = codes "--depth"
+setting_name StepCount = codes "--steps"
 setting_name At = codes "--at"
 setting_name MaxSize = codes "--max-size"
 setting_name Output = codes "--output"
@@ -48,7 +50,7 @@ IsFormatName JsonLines text = text ≡ codes "jsonl"
 pub data LinePart : Type 0 where
   file list locator folder : List ℕ → LinePart
   at_moment : Moment → LinePart
-  max_size : ℕ → LinePart
+  depth steps max_size : ℕ → LinePart
   output : Format → LinePart
   lenient json quiet all no_names help : LinePart
 
@@ -59,6 +61,8 @@ IsPart (list name) words = GivesValue (setting_name Crl) name words
 IsPart (locator name) words = GivesValue (setting_name Tal) name words
 IsPart (folder name) words = GivesValue (setting_name In) name words
 IsPart (at_moment m) words = (text : List ℕ) × GivesValue (setting_name At) text words × IsMoment m × IsMomentText m text
+IsPart (depth n) words = (text : List ℕ) × GivesValue (setting_name Depth) text words × IsNumberText n text
+IsPart (steps n) words = (text : List ℕ) × GivesValue (setting_name StepCount) text words × IsNumberText n text
 IsPart (max_size n) words = (text : List ℕ) × GivesValue (setting_name MaxSize) text words × IsNumberText n text
 IsPart (output f) words =
     (text : List ℕ) × (GivesValue (setting_name Output) text words ⊎ GivesValue (setting_name ShortOutput) text words) × IsFormatName f text
@@ -78,7 +82,9 @@ AreParts parts words = AreInOrder IsPart parts words
 -- the task, the moment if one is given, whether names are read strictly, the format of what is
 -- printed, whether nothing is printed, whether all entries of a list are printed, how many octets a
 -- file may have, whether names of issuer and subject have to be the same, the files, those given as
--- revocation lists and as locators of trust anchors, and the folders in which a path is sought
+-- revocation lists and as locators of trust anchors, the folders in which a path is sought, and, if
+-- they are given, how many certificates a path has at most below the trust anchor, and how many are
+-- verified at most
 pub record RequestFields : Type 0 where
   pub task : Task
   pub at : Option Moment
@@ -92,6 +98,8 @@ pub record RequestFields : Type 0 where
   pub lists : List (List ℕ)
   pub locators : List (List ℕ)
   pub folders : List (List ℕ)
+  pub depth : Option ℕ
+  pub steps : Option ℕ
 
 -- how many octets a file may have where no word says it: 64 MiB
 abbrev pub usual_size : ℕ
@@ -113,19 +121,23 @@ only_task task =
       lists = [];
       locators = [];
       folders = [];
+      depth = None;
+      steps = None;
     }
 
 -- with more files
 abbrev pub with_files : RequestFields → List (List ℕ) → RequestFields
 with_files r more = record r { files = r.files ++ more }
 
--- with what a further part says; of several moments, sizes or formats the last one counts
+-- with what a further part says; of several moments, numbers or formats the last one counts
 abbrev pub with_part : RequestFields → LinePart → RequestFields
 with_part r (file name) = record r { files = r.files ++ name ∷ [] }
 with_part r (list name) = record r { lists = r.lists ++ name ∷ [] }
 with_part r (locator name) = record r { locators = r.locators ++ name ∷ [] }
 with_part r (folder name) = record r { folders = r.folders ++ name ∷ [] }
 with_part r (at_moment m) = record r { at = Some m }
+with_part r (depth n) = record r { depth = Some n }
+with_part r (steps n) = record r { steps = Some n }
 with_part r (max_size n) = record r { max_size = n }
 with_part r (output f) = record r { format = f }
 with_part r lenient = record r { strict = false }
@@ -139,10 +151,15 @@ with_part r help = record r { task = Help }
 abbrev pub with_parts : RequestFields → List LinePart → RequestFields
 with_parts r parts = fold with_part r parts
 
--- nothing is said that only a path is asked about: no lists, no locators, no folders, and not that
--- names are left out
+-- it isn't said how far a walk down from a trust anchor goes
+abbrev pub AsksNoBounds : RequestFields → Type 0
+AsksNoBounds r = (r.depth ≡ None) × (r.steps ≡ None)
+
+-- nothing is said that only a path is asked about: no lists, no locators, no folders, not that
+-- names are left out, and no bounds
 abbrev pub AsksNoPath : RequestFields → Type 0
-AsksNoPath r = (r.lists ≡ []) × (r.locators ≡ []) × (r.folders ≡ []) × (r.names ≡ true)
+AsksNoPath r =
+    (r.lists ≡ []) × (r.locators ≡ []) × (r.folders ≡ []) × (r.names ≡ true) × AsksNoBounds r
 
 -- one of the names is that of standard input
 abbrev pub NamesInput : List (List ℕ) → Type 0
@@ -157,9 +174,9 @@ ReadsInput r = NamesInput r.files ⊎ (NamesInput r.folders ⊎ NamesInput r.loc
 abbrev pub AsksSearch : RequestFields → Type 0
 AsksSearch r = (length r.files ≡ 1) × (r.lists ≡ []) × (r.locators ≢ []) × (ReadsInput r → ⊥)
 
--- where there are folders, the path is sought in them
+-- where there are folders, the path is sought in them, by a walk that may have bounds
 abbrev pub SuitsFolders : List (List ℕ) → RequestFields → Type 0
-SuitsFolders [] r = Unit {0}
+SuitsFolders [] r = AsksNoBounds r
 SuitsFolders (first ∷ more) r = AsksSearch r
 
 -- what a tree wants: locators, and no option that it doesn't take

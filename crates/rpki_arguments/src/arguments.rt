@@ -43,6 +43,8 @@ pub enum Setting {
     Crl,
     Tal,
     In,
+    Depth,
+    StepCount,
     At,
     MaxSize,
     /// `--output`.
@@ -66,6 +68,8 @@ pub struct Request<'a> {
     pub lists: Vec<&'a [u8]>,
     pub locators: Vec<&'a [u8]>,
     pub folders: Vec<&'a [u8]>,
+    pub depth: Option<usize>,
+    pub steps: Option<usize>,
 }
 
 /// Why the command line asks nothing.
@@ -76,6 +80,7 @@ pub enum Misuse<'a> {
     NoValue(Setting),
     NoMoment(&'a [u8]),
     NoSize(&'a [u8]),
+    NoNumber(Setting, &'a [u8]),
     NoFormat(&'a [u8]),
     NoFile,
     /// Not one file alone is given where a path to one is sought.
@@ -86,6 +91,8 @@ pub enum Misuse<'a> {
     NoLocator,
     /// No locator is given where a path is sought.
     NoLocatorIn,
+    /// How far a walk goes is said where no path is sought.
+    BoundsIn,
     /// Standard input is named where files are read twice.
     InputIn,
     Memory,
@@ -99,6 +106,8 @@ fn name_of(setting: Setting) -> &'static str
         Setting::Crl => "--crl",
         Setting::Tal => "--tal",
         Setting::In => "--in",
+        Setting::Depth => "--depth",
+        Setting::StepCount => "--steps",
         Setting::At => "--at",
         Setting::MaxSize => "--max-size",
         Setting::Output => "--output",
@@ -136,12 +145,18 @@ impl fmt::Display for Misuse<'_> {
             }
             Misuse::NoMoment(text) => write_word(f, "--at ", *text, ": no moment"),
             Misuse::NoSize(text) => write_word(f, "--max-size ", *text, ": no number of octets"),
+            Misuse::NoNumber(setting, text) => {
+                let option = name_of(*setting);
+                let number = Characters(*text);
+                write!(f, "{option} {number}: no number")
+            }
             Misuse::NoFormat(text) => write_word(f, "-o ", *text, ": no format"),
             Misuse::NoFile => f.write_str("no file"),
             Misuse::OneFile => f.write_str("--in wants one file"),
             Misuse::ListsIn => { f.write_str("--in takes no --crl: a list is named by --in too") }
             Misuse::NoLocator => f.write_str("tree wants --tal"),
             Misuse::NoLocatorIn => f.write_str("--in wants --tal"),
+            Misuse::BoundsIn => f.write_str("--depth and --steps want --in"),
             Misuse::InputIn => {
                 f.write_str("--in reads files twice, so it wants none of standard input")
             }
@@ -180,6 +195,10 @@ fn setting_of(word: &[u8]) -> Option<Setting>
         Some(Setting::Tal)
     } else if is(word, "--in") {
         Some(Setting::In)
+    } else if is(word, "--depth") {
+        Some(Setting::Depth)
+    } else if is(word, "--steps") {
+        Some(Setting::StepCount)
     } else if is(word, "--at") {
         Some(Setting::At)
     } else if is(word, "--max-size") {
@@ -216,6 +235,12 @@ fn joined<'a>(word: &'a [u8]) -> Option<(Setting, &'a [u8])>
     if let Some(value) = behind(word, "--in=") {
         return Some((Setting::In, value));
     }
+    if let Some(value) = behind(word, "--depth=") {
+        return Some((Setting::Depth, value));
+    }
+    if let Some(value) = behind(word, "--steps=") {
+        return Some((Setting::StepCount, value));
+    }
     if let Some(value) = behind(word, "--at=") {
         return Some((Setting::At, value));
     }
@@ -243,6 +268,17 @@ fn number_of(text: &[u8]) -> Option<u64>
         return None;
     }
     digits.parse::<u64>().ok()
+}
+
+// The number that the value of an option says.
+fn count_of<'a>(setting: Setting, text: &'a [u8]) -> Result<usize, Misuse<'a>>
+    ensures number { IfOk result (λ n. IsNumberText n text.now) }
+    ensures none { IfErr result (λ _. (n : ℕ) → IsNumberText n text.now → ⊥) }
+{
+    match number_of(text) {
+        Some(count) => Ok(count as usize),
+        None => Err(Misuse::NoNumber(setting, text)),
+    }
 }
 
 // The format that a text names.
@@ -337,6 +373,14 @@ fn add_set<'a>(
         Setting::Crl => push_name(&mut request.lists, value),
         Setting::Tal => push_name(&mut request.locators, value),
         Setting::In => push_name(&mut request.folders, value),
+        Setting::Depth => {
+            request.depth = Some(count_of(setting, value)?);
+            Ok(())
+        }
+        Setting::StepCount => {
+            request.steps = Some(count_of(setting, value)?);
+            Ok(())
+        }
         Setting::At => match moments::from_text(value) {
             Some(moment) => {
                 request.at = Some(moment);
@@ -430,6 +474,8 @@ fn new_request<'a>(alloc: Global, task: Task) -> Request<'a>
         lists: Vec::new(alloc),
         locators: Vec::new(alloc),
         folders: Vec::new(alloc),
+        depth: None,
+        steps: None,
     }
 }
 
@@ -449,6 +495,12 @@ fn only_validating(request: &Request<'_>) -> Option<&'static [u8]>
     }
     if !request.names {
         return Some(b"--no-names".as_slice());
+    }
+    if request.depth.is_some() {
+        return Some(b"--depth".as_slice());
+    }
+    if request.steps.is_some() {
+        return Some(b"--steps".as_slice());
     }
     None
 }
@@ -531,10 +583,13 @@ fn misuse_of_path(request: &Request<'_>) -> Option<Misuse<'static>>
     if request.all {
         return Some(Misuse::Unknown(b"--all".as_slice()));
     }
-    if request.folders.is_empty() {
-        return None;
+    if !request.folders.is_empty() {
+        return misuse_of_search(request);
     }
-    misuse_of_search(request)
+    if request.depth.is_some() || request.steps.is_some() {
+        return Some(Misuse::BoundsIn);
+    }
+    None
 }
 
 // What doesn't suit the task: an option that it doesn't take, or that there is no file.

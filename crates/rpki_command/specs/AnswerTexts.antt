@@ -1,5 +1,5 @@
 -- What is answered of the files that a request names.
-use Rattle.std.specs.Prelude.{◌≡◌, ◌≢◌, ◌*◌, ◌^◌, ◌-◌, min, ℕ, length, List, []}
+use Rattle.std.specs.Prelude.{◌≡◌, ◌≢◌, ◌*◌, ◌^◌, ◌-◌, min, unwrap_or, ℕ, length, List, []}
 use Rattle.rpki.specs.RsaSignatures.{IsSignedByRsa}
 use Rattle.rpki.specs.Times.{Moment}
 use Rattle.rpki.specs.Verification.{context}
@@ -34,11 +34,24 @@ abbrev pub question_of : RequestFields → Moment → List FileFields → List F
 question_of r now members lists locators =
     record { members = members; lists = lists; locators = locators; names = r.names; strict = r.strict; at = now }
 
--- and what it asks of files in no order: paths of at most 32 certificates below the trust anchor, and
--- at most 64 verifications for each file
+-- how many certificates a path has at most below the trust anchor, where no word says it
+abbrev pub usual_depth : ℕ
+usual_depth = 32
+
+-- how many are verified at most among so many files, where no word says it
+abbrev pub usual_steps : ℕ → ℕ
+usual_steps count = min (count * 64) (2 ^ 64 - 1)
+
+-- and what it asks of files in no order
 abbrev pub tree_question_of : RequestFields → Moment → List FileFields → List LocatorFields → TreeFields
-tree_question_of r now files locators =
-    record { files = files; locators = locators; strict = r.strict; at = now; depth = 32; steps = min (length files * 64) (2 ^ 64 - 1) }
+tree_question_of r now files locators = record {
+  files = files;
+  locators = locators;
+  strict = r.strict;
+  at = now;
+  depth = unwrap_or r.depth usual_depth;
+  steps = unwrap_or r.steps (usual_steps (length files));
+}
 
 -- what is said of files in no order is this of what is found, and the run ends so: as success only where
 -- all are accepted, and as rejection only where they aren't

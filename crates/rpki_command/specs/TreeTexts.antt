@@ -91,20 +91,22 @@ AreFileLines tree place last files text = SaysInOrder (IsFileLine tree) place la
 
 -- ---- the whole
 
--- how far the walk went
-abbrev pub ended_text : Ended → List ℕ
-ended_text Whole = codes "every certificate below the trust anchor"
-ended_text TooDeep = codes "nothing below the deepest: more than 32 certificates"
-ended_text OutOfSteps = codes "not all: the steps are used up"
+-- how far the walk went; where it met a bound, which option is a greater one
+abbrev pub ended_text : TreeFields → Ended → List ℕ
+ended_text q Whole = codes "every certificate below the trust anchor"
+ended_text q TooDeep =
+    codes "at most " ++ (decimal q.depth ++ codes " certificates down: more stand below (--depth sets the limit)")
+ended_text q OutOfSteps =
+    codes "not all: " ++ (decimal q.steps ++ codes " were verified (--steps sets the limit)")
 
 -- the moment, how many certificates there are, how many of them are accepted, how far the walk went,
 -- and what isn't asked
-unfoldable pub end_text : Moment → Tree → List ℕ
-end_text at tree = concat (
-    moment_line at
+unfoldable pub end_text : TreeFields → Tree → List ℕ
+end_text q tree = concat (
+    moment_line q.at
     ∷ label_line (codes "Certificates") (decimal (length tree.lines))
     ∷ label_line (codes "Accepted") (decimal (accepted_count tree))
-    ∷ label_line (codes "Looked at") (ended_text tree.ended)
+    ∷ label_line (codes "Looked at") (ended_text q tree.ended)
     ∷ label_line (codes "Not asked") (codes "manifests: a file that is withheld isn't missed")
     ∷ label_line (codes "Not asked") (codes "whether names match, and whether the RPKI uses the last keys")
     ∷ [])
@@ -120,7 +122,7 @@ IsAnswerText q (WrongAnchor anchor fault) text =
     text ≡ file_line anchor.now.name (codes "trust anchor, " ++ rejection_text (reason_of fault))
 IsAnswerText q (Walked tree) text =
     (last : ℕ) × (lines : List ℕ) × AreFileLines tree 0 last q.files lines
-    × (text ≡ lines ++ end_text q.at tree)
+    × (text ≡ lines ++ end_text q tree)
 
 -- ---- what is found
 

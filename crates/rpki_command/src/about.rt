@@ -7,13 +7,15 @@ use rpki_arguments::Task;
 
 const USAGE: &str = "usage: rpki show [--all] [OPTION].. FILE..
        rpki validate [--tal FILE].. [--crl FILE].. [--no-names] [OPTION].. ANCHOR [CA].. [LAST]
-       rpki validate --tal FILE.. --in FOLDER.. [--no-names] [OPTION].. FILE
-       rpki tree --tal FILE.. [OPTION].. FILE|FOLDER..
+       rpki validate --tal FILE.. --in FOLDER.. [--no-names] [BOUND].. [OPTION].. FILE
+       rpki tree --tal FILE.. [BOUND].. [OPTION].. FILE|FOLDER..
        rpki prepare ca|ee|detached|router|anchor [--issuer FILE].. --key FILE FIELD..
        rpki complete [--issuer FILE].. [--pem] PREPARED SIGNATURE
        rpki help | --version
 OPTION: -o|--output FORMAT, -j|--json (-o json), -q|--quiet (the status alone), --at MOMENT,
 --lenient, or --max-size OCTETS (of a file; 67108864 if it is left out)
+BOUND: --depth CERTIFICATES (of a path, below the trust anchor; 32 if it is left out), or --steps
+CERTIFICATES (that are verified; 64 for each file if it is left out)
 FORMAT: text, json, or jsonl (a value on each line)
 FILE: a certificate or a revocation list, in DER or PEM; of show and --tal also a trust anchor's
 locator; - for standard input

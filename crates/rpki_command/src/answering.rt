@@ -9,6 +9,7 @@ ghost use Rattle.rpki_command.specs.ReadFiles.{AreGiven, AreNamed};
 ghost use Rattle.rpki_command.specs.ShownTexts.{IsTextOfFiles};
 ghost use Rattle.rpki_files.specs.Files.{contents, file_names};
 ghost use Rattle.rpki_verdicts.specs.GivenLocators.{IsRead, locator_files};
+ghost use Rattle.rpki_verdicts.specs.Trees.{asked_of};
 
 use crate::as_json;
 use crate::outcomes::{Answer, Outcome};
@@ -135,11 +136,33 @@ fn if_read(answer: Answer, are_all_read: bool) -> Answer
     }
 }
 
-/// How many certificates a path has at most below a trust anchor.
-pub const DEPTH: usize = 32;
+/// How many certificates a path has at most below a trust anchor, where the command line doesn't
+/// say it.
+const USUAL_DEPTH: usize = 32;
 
-/// How many certificates are verified at most for each file that is named.
-pub const STEPS: usize = 64;
+/// How many certificates are verified at most for each file that is named, where it doesn't.
+const USUAL_STEPS: usize = 64;
+
+/// Returns what a request asks of files in no order.
+pub fn tree_question<'q, 'n>(
+    request: &Request<'_>,
+    now: Time,
+    files: &'q [Object<'n>],
+    locators: &'q [GivenLocator<'n>],
+) -> TreeQuestion<'q, 'n>
+    ensures { asked_of result
+        ≡ tree_question_of (fields_of request.now) now files.now locators.now }
+{
+    let usual_steps = files.len().saturating_mul(USUAL_STEPS);
+    TreeQuestion {
+        files,
+        locators,
+        strict: request.strict,
+        at: now,
+        depth: request.depth.unwrap_or(USUAL_DEPTH),
+        steps: request.steps.unwrap_or(usual_steps),
+    }
+}
 
 // Judges all certificates among the files that could be read. The outcome is theirs, where all could
 // be.
@@ -161,14 +184,7 @@ fn tree(
         let format = request.now.format in format ≢ Format.Text
         → IfOk result (λ answer. IsTreeJsonBy format q answer.outcome (string_bytes answer.text)) }
 {
-    let question = TreeQuestion {
-        files,
-        locators,
-        strict: request.strict,
-        at: now,
-        depth: DEPTH,
-        steps: files.len().saturating_mul(STEPS),
-    };
+    let question = tree_question(request, now, files, locators);
     let answer = treed(alloc, &question, request.format)?;
     Ok(if_read(answer, are_all_read))
 }

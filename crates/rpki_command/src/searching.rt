@@ -10,7 +10,7 @@ ghost use Rattle.rpki_command.specs.AnswerTexts.{tree_question_of};
 ghost use Rattle.rpki_command.specs.ReadFiles.{AreGiven};
 ghost use Rattle.rpki_command.specs.SoughtPaths.{AreListNames, IsSearch, IsSearchOf, IsSought};
 
-use crate::answering::{DEPTH, STEPS, are_all_read};
+use crate::answering::{are_all_read, tree_question};
 use crate::files::FileSource;
 use crate::reading::{read_files, read_locators};
 use rpki::repository::x509::Time;
@@ -99,14 +99,7 @@ fn sought_among(
     ensures { IfOk result (IsSought
         (tree_question_of (fields_of request.now) now files.now locators.now)) }
 {
-    let question = TreeQuestion {
-        files,
-        locators,
-        strict: request.strict,
-        at: now,
-        depth: DEPTH,
-        steps: files.len().saturating_mul(STEPS),
-    };
+    let question = tree_question(request, now, files, locators);
     let lists = list_names(alloc, files)?;
     match path_names(alloc, &question) {
         Ok(files) => Ok(SoughtNames { files, lists }),

@@ -13,7 +13,6 @@ use crate::trees::TreeFinding;
 use crate::verdict_lines::{print_moment, print_no_locator, print_other_locators};
 use rpki::repository::folder::{Ended, Line};
 use rpki::repository::path::PathFault;
-use rpki::repository::x509::Time;
 use rpki_files::rules::{Rule, of_path};
 use rpki_files::{Content, Object};
 use rpki_text::{FileName, Page};
@@ -149,15 +148,40 @@ fn print_files(page: &mut Page, tree: &Tree<'_, '_>, files: &[Object<'_>]) -> us
     place
 }
 
-// How far the walk went.
-fn ended_said(ended: Ended) -> &'static str
-    ensures { result.now ≡ ended_text ended }
-{
-    match ended {
-        Ended::Whole => "every certificate below the trust anchor",
-        Ended::TooDeep => "nothing below the deepest: more than 32 certificates",
-        Ended::OutOfSteps => "not all: the steps are used up",
+// How far the walk of a question went.
+#[derive(Drop)]
+struct Reached<'r, 'q, 'n> {
+    question: &'r TreeQuestion<'q, 'n>,
+    ended: Ended,
+}
+
+impl fmt::Display for Reached<'_, '_, '_> {
+    ghost output = { λ r. Some (ended_text (asked_of r.question.now) r.ended) };
+
+    fn fmt<W: fmt::Write>(&self, f: &mut fmt::Formatter<W>) -> fmt::Result {
+        match self.ended {
+            Ended::Whole => f.write_str("every certificate below the trust anchor"),
+            Ended::TooDeep => {
+                let depth = self.question.depth;
+                write!(
+                    f,
+                    "at most {depth} certificates down: more stand below (--depth sets the limit)"
+                )
+            }
+            Ended::OutOfSteps => {
+                let steps = self.question.steps;
+                write!(f, "not all: {steps} were verified (--steps sets the limit)")
+            }
+        }
     }
+}
+
+#[tactic(auto, unfolding(rpki_text::specs::Pages::line))]
+fn print_reached(page: &mut Page, question: &TreeQuestion<'_, '_>, ended: Ended)
+    ensures { let reached = ended_text (asked_of question.now) ended in
+        Appends page.old (line (codes "Looked at") reached) page.new }
+{
+    page.line_of("Looked at", &Reached { question, ended });
 }
 
 #[tactic(auto, unfolding(rpki_text::specs::Pages::line))]
@@ -169,13 +193,13 @@ fn print_count(page: &mut Page, label: &str, count: usize)
 
 // The moment, how many certificates there are and how many are accepted, how far the walk went, and
 // what isn't asked.
-fn print_end(page: &mut Page, at: Time, tree: &Tree<'_, '_>)
-    ensures { Appends page.old (end_text at tree.now) page.new }
+fn print_end(page: &mut Page, question: &TreeQuestion<'_, '_>, tree: &Tree<'_, '_>)
+    ensures { Appends page.old (end_text (asked_of question.now) tree.now) page.new }
 {
-    print_moment(page, at);
+    print_moment(page, question.at);
     print_count(page, "Certificates", tree.lines.as_slice().len());
     print_count(page, "Accepted", tree.count_accepted());
-    page.line("Looked at", ended_said(tree.ended));
+    print_reached(page, question, tree.ended);
     page.line(
         "Not asked",
         "manifests: a file that is withheld isn't missed",
@@ -206,7 +230,7 @@ fn print_tree(page: &mut Page, question: &TreeQuestion<'_, '_>, tree: &Tree<'_, 
     ensures { AppendsSome (IsAnswerText (asked_of question.now) (Walked tree.now)) page.old page.new }
 {
     print_files(page, tree, question.files);
-    print_end(page, question.at, tree);
+    print_end(page, question, tree);
 }
 
 fn print_answer(page: &mut Page, question: &TreeQuestion<'_, '_>, answer: &TreeAnswer<'_, '_>)

@@ -4,8 +4,8 @@ use Rattle.rpki.specs.Times.{Moment, IsMoment}
 use Rattle.rpki_text.specs.MomentTexts.{IsMomentText}
 use Rattle.rpki_arguments.specs.declared.arguments.Format.{Format}
 use Rattle.rpki_arguments.specs.declared.arguments.Setting.{Setting}
-use Rattle.rpki_arguments.specs.declared.arguments.Setting.TheVariants.{Crl, Tal, In, At, MaxSize, Output, ShortOutput}
-use Rattle.rpki_arguments.specs.CommandLines.{IsFormatName, IsNumberText, LinePart, list, locator, folder, at_moment, max_size, output, lenient, json, quiet, all, no_names, help, IsPart, AreParts, RequestFields, setting_name, with_part, with_parts}
+use Rattle.rpki_arguments.specs.declared.arguments.Setting.TheVariants.{Crl, Tal, In, Depth, StepCount, At, MaxSize, Output, ShortOutput}
+use Rattle.rpki_arguments.specs.CommandLines.{IsFormatName, IsNumberText, LinePart, list, locator, folder, depth, steps, at_moment, max_size, output, lenient, json, quiet, all, no_names, help, IsPart, AreParts, RequestFields, setting_name, with_part, with_parts}
 
 -- the words are a part, and the new request has what it says too
 abbrev pub AddsPart : List (List ℕ) → RequestFields → RequestFields → Type 0
@@ -36,6 +36,8 @@ IsSetPart Crl value part = part ≡ list value
 IsSetPart Tal value part = part ≡ locator value
 IsSetPart In value part = part ≡ folder value
 IsSetPart At value part = (m : Moment) × (part ≡ at_moment m) × IsMoment m × IsMomentText m value
+IsSetPart Depth value part = (n : ℕ) × (part ≡ depth n) × IsNumberText n value
+IsSetPart StepCount value part = (n : ℕ) × (part ≡ steps n) × IsNumberText n value
 IsSetPart MaxSize value part = (n : ℕ) × (part ≡ max_size n) × IsNumberText n value
 IsSetPart Output value part = (f : Format) × (part ≡ output f) × IsFormatName f value
 IsSetPart ShortOutput value part = (f : Format) × (part ≡ output f) × IsFormatName f value

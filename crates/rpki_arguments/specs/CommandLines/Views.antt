@@ -23,4 +23,6 @@ fields_of r = record {
   lists = map (λ name. name.now) r.lists.items;
   locators = map (λ name. name.now) r.locators.items;
   folders = map (λ name. name.now) r.folders.items;
+  depth = r.depth;
+  steps = r.steps;
 }

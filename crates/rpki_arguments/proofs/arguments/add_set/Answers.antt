@@ -1,6 +1,6 @@
 use Rattle.std.proofs.Common.{◌++◌, ◌∷◌, [], ℕ, List, inl, inr, refl}
 use Rattle.rpki_arguments.specs.declared.arguments.Setting.TheVariants.{Crl, Tal, In}
-use Rattle.rpki_arguments.specs.CommandLines.{list, locator, folder, at_moment, max_size}
+use Rattle.rpki_arguments.specs.CommandLines.{list, locator, folder, depth, steps, at_moment, max_size}
 use Rattle.rpki_arguments.specs.CommandLines.Views.{fields_of}
 use Rattle.rpki_arguments.proofs.AddedParts.{value_pushed}
 use Rattle.rpki_arguments.proofs.arguments.add_set.Goals as goal
@@ -28,6 +28,16 @@ returns-in-Some-clause-added c =
     let m = c.in-Some.moment in
     let is = c.in-Some.ensures.some in
     rw c.in-At.is (at_moment m, (m, refl, is.0, is.1), refl)
+
+pub returns-in_ok-count_of-in-Depth-clause-added : goal.returns-in_ok-count_of-in-Depth-clause-added
+returns-in_ok-count_of-in-Depth-clause-added c =
+    let n = c.in_ok-count_of-in-Depth.field-0 in
+    rw c.in-Depth.is (depth n, (n, refl, c.in_ok-count_of-in-Depth.ensures.number), refl)
+
+pub returns-in_ok-count_of-in-StepCount-clause-added : goal.returns-in_ok-count_of-in-StepCount-clause-added
+returns-in_ok-count_of-in-StepCount-clause-added c =
+    let n = c.in_ok-count_of-in-StepCount.field-0 in
+    rw c.in-StepCount.is (steps n, (n, refl, c.in_ok-count_of-in-StepCount.ensures.number), refl)
 
 pub returns-in-Some-number_of-clause-added : goal.returns-in-Some-number_of-clause-added
 returns-in-Some-number_of-clause-added c =

@@ -1,6 +1,8 @@
 use Rattle.std.specs.Bool.{MatchBool}
+use Rattle.std.specs.Prelude.{All}
 use Rattle.std.proofs.Common.{◌≡◌, ◌∙◌, Bool, true, false, ℕ, List, string_bytes, sym, ap, subst}
 use Rattle.rpki_arguments.specs.CommandLines.Views.{fields_of}
+use Rattle.rpki_verdicts.specs.GivenLocators.{IsRead}
 use Rattle.rpki_verdicts.specs.Trees.{TreeFields}
 use Rattle.rpki_command.specs.AnswerTexts.{IsTreeBy, tree_question_of}
 use Rattle.rpki_command.specs.JsonTrees.{IsTreeJson}
@@ -27,12 +29,22 @@ said_too Says q false old new before after is same by = (
   (λ rejects accepts. let never : Unread ≡ Rejection = sym is ∙ rejects in cc),
 )
 
+pub treed-requires : goal.treed-requires
+treed-requires c = subst (λ (p : TreeFields). All (IsRead p.strict) p.locators) (sym c.tree_question-question.ensures) c.requires
+
 pub returns-clause-text : goal.returns-clause-text
 returns-clause-text c = λ is_text.
     let q = tree_question_of (fields_of c.args.request.now) c.args.now c.args.files.now c.args.locators.now in
-    said_too (IsTreeText q) q c.args.are_all_read c.in_ok-answer.answer.outcome c.if_read.result.outcome (string_bytes c.in_ok-answer.answer.text) (string_bytes c.if_read.result.text) c.if_read.ensures.outcome (ap string_bytes c.if_read.ensures.text) ((rw c.saturating_mul.ensures at c.in_ok-answer.ensures.text) is_text)
+    let before = c.in_ok-answer.answer in
+    let by : IsTreeBy (IsTreeText q) q before.outcome (string_bytes before.text) =
+    subst (λ (p : TreeFields). IsTreeBy (IsTreeText p) p before.outcome (string_bytes before.text)) c.tree_question-question.ensures (c.in_ok-answer.ensures.text is_text) in
+    said_too (IsTreeText q) q c.args.are_all_read before.outcome c.if_read.result.outcome (string_bytes before.text) (string_bytes c.if_read.result.text) c.if_read.ensures.outcome (ap string_bytes c.if_read.ensures.text) by
 
 pub returns-clause-json : goal.returns-clause-json
 returns-clause-json c = λ no_text.
     let q = tree_question_of (fields_of c.args.request.now) c.args.now c.args.files.now c.args.locators.now in
-    said_too (IsTreeJson c.args.request.now.format q) q c.args.are_all_read c.in_ok-answer.answer.outcome c.if_read.result.outcome (string_bytes c.in_ok-answer.answer.text) (string_bytes c.if_read.result.text) c.if_read.ensures.outcome (ap string_bytes c.if_read.ensures.text) ((rw c.saturating_mul.ensures at c.in_ok-answer.ensures.json) no_text)
+    let format = c.args.request.now.format in
+    let before = c.in_ok-answer.answer in
+    let by : IsTreeBy (IsTreeJson format q) q before.outcome (string_bytes before.text) =
+    subst (λ (p : TreeFields). IsTreeBy (IsTreeJson format p) p before.outcome (string_bytes before.text)) c.tree_question-question.ensures (c.in_ok-answer.ensures.json no_text) in
+    said_too (IsTreeJson format q) q c.args.are_all_read before.outcome c.if_read.result.outcome (string_bytes before.text) (string_bytes c.if_read.result.text) c.if_read.ensures.outcome (ap string_bytes c.if_read.ensures.text) by

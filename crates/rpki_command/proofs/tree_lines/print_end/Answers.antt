@@ -8,6 +8,6 @@ returns c =
     then_appended _ _ _ _ _ c.print_moment.ensures
     (then_appended _ _ _ _ _ (rw c.as_slice.ensures at c.print_count.ensures)
     (then_appended _ _ _ _ _ (rw c.count_accepted.ensures at c.print_count-2.ensures)
-    (then_appended _ _ _ _ _ (rw c.ended_said.ensures at c.line.ensures)
-    (then_appended _ _ _ _ _ c.line-2.ensures
-    (last_appended _ _ _ c.line-3.ensures)))))
+    (then_appended _ _ _ _ _ c.print_reached.ensures
+    (then_appended _ _ _ _ _ c.line.ensures
+    (last_appended _ _ _ c.line-2.ensures)))))
