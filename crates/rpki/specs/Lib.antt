@@ -161,6 +161,7 @@ pub use Rattle.rpki_folder.specs.declared.find.Found
 pub use Rattle.rpki_folder.specs.declared.find.FoundPath
 pub use Rattle.rpki_folder.specs.declared.folder.Added
 pub use Rattle.rpki_folder.specs.declared.lines.Line
+pub use Rattle.rpki_folder.specs.declared.saying.Said
 pub use Rattle.rpki_folder.specs.declared.walk_error.WalkError
 -- ---- the line program
 pub use Rattle.rpki_lines.specs.Watching

@@ -15,7 +15,7 @@ use bytes::Bytes;
 use rpki_cert::{Cert, laws};
 use rpki_crl::Crl;
 use rpki_der::DecodeError;
-use rpki_folder::{Added, Folder};
+use rpki_folder::{Added, Folder, Said};
 use rpki_tal::Tal;
 use std::alloc::{AllocError, Global};
 
@@ -98,7 +98,9 @@ impl<'s> Sorted<'s> {
         ensures strings { self.new.strings.now ≡ self.old.strings.now }
     {
         let origin = self.added.len();
-        let place = self.folder.add_cert(octets, cert)?;
+        let said = Said::of(&cert);
+        drop(cert);
+        let place = self.folder.add_cert(octets, said)?;
         self.added.push(Added::Certificate(place))?;
         self.origins.push(origin)?;
         Ok(())
@@ -153,34 +155,39 @@ impl<'s> Sorted<'s> {
     }
 
     // Whether the string at a place begins with a certificate of the locator's key.
-    fn has_key(&self, tal: &Tal, place: usize) -> bool
+    fn has_key(&self, alloc: Global, tal: &Tal, place: usize) -> Result<bool, AllocError>
         requires sorted { IsSorted self.now }
         requires inside { place < length self.now.strings.now }
-        ensures { IsTrue result
-            ↔ BeginsWithKey tal.now.tal (octets_at self.now.strings.now place) }
+        ensures { IfOk result (λ has. IsTrue has
+            ↔ BeginsWithKey tal.now.tal (octets_at self.now.strings.now place)) }
     {
         laws::unambiguous();
         match self.added[place] {
             Added::Certificate(at) => {
-                let cert = self.folder.certs()[at].cert();
-                tal.has_key(cert.as_tbs().subject_public_key_info())
+                let cert = self.folder.certs()[at].cert(alloc)?;
+                let has = tal.has_key(cert.as_tbs().subject_public_key_info());
+                drop(cert);
+                Ok(has)
             }
-            Added::List => false,
-            Added::Neither => false,
+            Added::List => Ok(false),
+            Added::Neither => Ok(false),
         }
     }
 
     /// Returns the place of the first string that begins with a certificate of the locator's key.
-    pub(crate) fn anchor(&self, tal: &Tal) -> Option<usize>
+    pub(crate) fn anchor(&self, alloc: Global, tal: &Tal) -> Result<Option<usize>, AllocError>
         requires { IsSorted self.now }
-        ensures some { IfSome result (IsFirstWithKey tal.now.tal self.now.strings.now) }
-        ensures none { IsNone result → NoneHasKey tal.now.tal self.now.strings.now }
+        ensures some { IfOk result (λ found.
+            IfSome found (IsFirstWithKey tal.now.tal self.now.strings.now)) }
+        ensures none { IfOk result (λ found.
+            IsNone found → NoneHasKey tal.now.tal self.now.strings.now) }
     {
         for place in 0..self.strings.len() {
-            if self.has_key(tal, place) {
-                return Some(place);
+            let has = self.has_key(alloc, tal, place)?;
+            if has {
+                return Ok(Some(place));
             }
         }
-        None
+        Ok(None)
     }
 }

@@ -152,7 +152,8 @@ fn walk_sorted(
     ensures { let x = context IsSignedByRsa terms.now terms.strict in
         AnswersBelow x terms.depth terms.steps tal.now sorted.now.strings.now result }
 {
-    match sorted.anchor(tal) {
+    let found = sorted.anchor(alloc, tal)?;
+    match found {
         Some(anchor) => walk_from(alloc, sorted, tal, anchor, terms),
         None => Err(Refusal::OtherKey),
     }

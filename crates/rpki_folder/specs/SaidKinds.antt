@@ -6,6 +6,7 @@ use Rattle.rpki_parts.specs.declared.key.PublicKeyFormat.TheVariants.{EcdsaP256}
 use Rattle.rpki_cert.specs.Certificates.{TbsFields, CertFields, IsCertificate}
 use Rattle.rpki_cert.specs.declared.inspect.Kind.{Kind}
 use Rattle.rpki_cert.specs.declared.inspect.Kind.TheVariants.{Anchor, Authority, EndEntity, Detached, Router}
+use Rattle.rpki_folder.specs.declared.saying.Said.{Said}
 
 -- a CA's
 abbrev pub SaysAuthority : TbsFields → Type 0
@@ -34,3 +35,14 @@ SaysKind Anchor f = ⊥
 -- the octets begin with a certificate that says that it is one of this kind
 abbrev pub BeginsWithKind : Kind → List ℕ → Type 0
 BeginsWithKind kind octets = (c : CertFields) × Means IsCertificate c octets × SaysKind kind c.fields
+
+-- what a certificate says of its place in a folder: its kind, the identifier of its own key, and that
+-- of the key that it names as the one that signs it (RFC 5280 4.2.1.1)
+pub record IsSaid (said : Said) (f : TbsFields) : Type 0 where
+  pub kind_is : SaysKind said.kind f
+  pub key_is : said.key ≡ f.extensions.subject_key_identifier
+  pub signer_is : said.signer ≡ f.extensions.authority_key_identifier
+
+-- the octets begin with a certificate that says this
+abbrev pub BeginsWithSaid : Said → List ℕ → Type 0
+BeginsWithSaid said octets = (c : CertFields) × Means IsCertificate c octets × IsSaid said c.fields

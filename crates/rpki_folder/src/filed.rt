@@ -1,39 +1,43 @@
-//! A certificate of a folder, with its octets.
-ghost use Rattle.std.specs.Prelude.{◌≡◌};
+//! A certificate of a folder: its octets, and what it says.
+ghost use Rattle.std.specs.Prelude.{◌≡◌, IfOk};
 ghost use Rattle.rpki_ext.specs.Kinds.{Means};
 ghost use Rattle.rpki_cert.specs.Certificates.{IsCertificate};
+ghost use Rattle.rpki_folder.specs.SaidKinds.{BeginsWithSaid};
 
+use crate::saying::Said;
 use bytes::Bytes;
 use rpki_cert::Cert;
 use rpki_path::Member;
+use std::alloc::{AllocError, Global};
 use std::marker::Model;
 
-/// A certificate of a folder: octets, and the certificate that they begin with.
+/// A certificate of a folder: octets that begin with one, and what it says. Its other fields are read
+/// again where they are asked for, since a certificate that was read takes as much memory as its
+/// octets.
 #[derive(Drop)]
 pub struct Filed {
     octets: Bytes,
-    cert: Cert,
+    said: Said,
 }
 
 impl Model for Filed {
     ghost use Rattle.std.specs.Prelude.{ℕ, List};
-    ghost use Rattle.rpki_ext.specs.Kinds.{Means};
-    ghost use Rattle.rpki_cert.specs.Certificates.{IsCertificate};
+    ghost use Rattle.rpki_folder.specs.SaidKinds.{BeginsWithSaid};
 
     ghost Value = { List ℕ };
 
     ghost view = { λ f. f.octets };
 
-    ghost invariant = { λ f. Means IsCertificate f.cert f.octets };
+    ghost invariant = { λ f. BeginsWithSaid f.said f.octets };
 }
 
 impl Filed {
-    /// Keeps octets and the certificate that they begin with.
-    pub(crate) fn new(octets: Bytes, cert: Cert) -> Filed
-        requires { Means IsCertificate cert octets }
+    /// Keeps octets that begin with a certificate, and what it says.
+    pub(crate) fn new(octets: Bytes, said: Said) -> Filed
+        requires { BeginsWithSaid said octets }
         ensures { result ≡ octets }
     {
-        Filed { octets, cert }
+        Filed { octets, said }
     }
 
     /// Returns the octets.
@@ -43,17 +47,33 @@ impl Filed {
         &self.octets
     }
 
-    /// Returns the certificate that the octets begin with.
-    pub fn cert(&self) -> &Cert
-        ensures { Means IsCertificate result.now self.now }
+    /// Returns what the certificate says.
+    pub fn said(&self) -> Said
+        ensures { BeginsWithSaid result self.now }
     {
-        &self.cert
+        self.said
     }
 
-    /// Returns it as a member of a path, of which the certificate was read.
+    /// Reads the certificate that the octets begin with. Errs only where memory runs out.
+    pub fn cert(&self, alloc: Global) -> Result<Cert, AllocError>
+        ensures { IfOk result (λ c. Means IsCertificate c self.now) }
+    {
+        match Cert::decode_shared(alloc, self.octets.clone()?) {
+            Ok(cert) => Ok(cert),
+            Err(fault) => {
+                if !fault.is_memory() {
+                    unreachable!();
+                }
+                drop(fault);
+                Err(AllocError)
+            }
+        }
+    }
+
+    /// Returns it as a member of a path.
     pub fn member(&self) -> Member<'_>
         ensures { result ≡ self.now }
     {
-        Member::read_as(&self.octets, &self.cert)
+        Member::of(&self.octets)
     }
 }

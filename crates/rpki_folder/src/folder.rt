@@ -5,9 +5,11 @@ ghost use Rattle.rpki_cert.specs.Certificates.{CertFields, IsCertificate};
 ghost use Rattle.rpki_der.specs.declared.error.DecodeError.TheVariants.{Memory};
 ghost use Rattle.rpki_folder.specs.Folders.{empty, with_cert, with_list, ArePlacesOf, IsAdded};
 ghost use Rattle.rpki_folder.specs.KeyTables.{list_places};
+ghost use Rattle.rpki_folder.specs.SaidKinds.{BeginsWithSaid};
 
 use crate::filed::Filed;
 use crate::keys::KeyTable;
+use crate::saying::Said;
 use bytes::Bytes;
 use rpki_cert::{Cert, laws};
 use rpki_crl::Crl;
@@ -77,11 +79,10 @@ impl Folder {
         }
     }
 
-    /// Adds octets and the certificate that they begin with, and returns its place. The certificate
-    /// and the octets are kept; where the one was read of the other, they share their buffer. Errs
-    /// where memory runs out, and the folder is then as it was.
-    pub fn add_cert(&mut self, octets: Bytes, cert: Cert) -> Result<usize, AllocError>
-        requires { Means IsCertificate cert octets }
+    /// Adds octets that begin with a certificate, which says this, and returns its place. Errs where
+    /// memory runs out, and the folder is then as it was.
+    pub fn add_cert(&mut self, octets: Bytes, said: Said) -> Result<usize, AllocError>
+        requires { BeginsWithSaid said octets }
         ensures ok { OnOk result (self.new ≡ with_cert self.old octets) }
         ensures place { IfOk result (λ place. place ≡ length self.old.certs) }
         ensures err { OnErr result (self.new ≡ self.old) }
@@ -89,10 +90,10 @@ impl Folder {
         laws::unambiguous();
         let place = self.certs.len();
         self.certs.try_reserve(1)?;
-        if let Some(key) = cert.as_tbs().authority_key_identifier() {
+        if let Some(key) = said.signer {
             self.by_signer.add(&key, place)?;
         }
-        match self.certs.push(Filed::new(octets, cert)) {
+        match self.certs.push(Filed::new(octets, said)) {
             Ok(()) => Ok(place),
             Err(_) => unreachable!(),
         }
@@ -121,7 +122,11 @@ impl Folder {
         ensures err { OnErr result (self.new ≡ self.old) }
     {
         match Cert::decode_shared(self.alloc, octets.clone()?) {
-            Ok(cert) => Ok(Added::Certificate(self.add_cert(octets, cert)?)),
+            Ok(cert) => {
+                let said = Said::of(&cert);
+                drop(cert);
+                Ok(Added::Certificate(self.add_cert(octets, said)?))
+            }
             Err(fault) => {
                 rejects(fault)?;
                 self.add_other(octets)

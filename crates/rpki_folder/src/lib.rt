@@ -21,7 +21,7 @@ pub use filed::Filed;
 pub use find::{Found, FoundPath};
 pub use folder::{Added, Folder};
 pub use lines::{Line, Lines};
-pub use saying::{is_router, said_kind};
+pub use saying::{Said, is_router, said_kind};
 pub use visitor::{Accepted, Visitor};
 pub use walk::Walk;
 pub use walk_error::WalkError;

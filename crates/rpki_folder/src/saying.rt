@@ -1,10 +1,10 @@
 //! What a certificate says that it is.
 ghost use Rattle.std.specs.Prelude.{◌↔◌, IsTrue, IsSomeAnd};
 ghost use Rattle.rpki_ext.specs.RouterPurposes.{HasRouterPurpose};
-ghost use Rattle.rpki_folder.specs.SaidKinds.{SaysRouter, SaysKind};
+ghost use Rattle.rpki_folder.specs.SaidKinds.{SaysRouter, SaysKind, IsSaid};
 
-use rpki_cert::{Kind, TbsCert};
-use rpki_parts::PublicKeyFormat;
+use rpki_cert::{Cert, Kind, TbsCert};
+use rpki_parts::{KeyIdentifier, PublicKeyFormat};
 
 // Whether a further purpose of the key is that of routers (RFC 8209 3.1.3.2).
 fn has_router_purpose(tbs: &TbsCert) -> bool
@@ -43,5 +43,30 @@ pub fn said_kind(tbs: &TbsCert) -> Kind
         Kind::EndEntity
     } else {
         Kind::Detached
+    }
+}
+
+/// What a certificate says of its place in a folder.
+#[derive(Clone, Copy)]
+pub struct Said {
+    /// The kind that it says that it is of, below a trust anchor.
+    pub kind: Kind,
+    /// The identifier of its own key.
+    pub key: KeyIdentifier,
+    /// That of the key that it names as the one that signs it.
+    pub signer: Option<KeyIdentifier>,
+}
+
+impl Said {
+    /// Returns what the certificate says.
+    pub fn of(cert: &Cert) -> Said
+        ensures { IsSaid result cert.now.fields }
+    {
+        let tbs = cert.as_tbs();
+        Said {
+            kind: said_kind(tbs),
+            key: tbs.subject_key_identifier(),
+            signer: tbs.authority_key_identifier(),
+        }
     }
 }

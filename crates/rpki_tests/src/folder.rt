@@ -7,7 +7,9 @@ use bytes::Bytes;
 use rpki_cert::Cert;
 use rpki_cert_tests::samples::{self, day, rsa};
 use rpki_crl::{Crl, RevocationError};
-use rpki_folder::{Added, AllAdmitted, Bounds, Ended, Folder, Found, Line, Lines, Walk, WalkError};
+use rpki_folder::{
+    Added, AllAdmitted, Bounds, Ended, Folder, Found, Line, Lines, Said, Walk, WalkError,
+};
 use rpki_parts::StandIn;
 use rpki_path::{Member, PathFault};
 use std::alloc::Global;
@@ -118,7 +120,9 @@ fn the_order_of_a_folder_does_not_matter(rt: HostRuntime) {
     let octets = end_entity(&rt, alloc);
     let shared = octets.clone().expect(&rt, "memory");
     let cert = Cert::decode_shared(alloc, shared).expect(&rt, "a certificate");
-    assert_eq!(rt; folder.add_cert(octets, cert).expect(&rt, "memory"), 0);
+    let said = Said::of(&cert);
+    drop(cert);
+    assert_eq!(rt; folder.add_cert(octets, said).expect(&rt, "memory"), 0);
     let (ended, lines) = walked(&rt, alloc, &folder, 3, 100);
     assert!(rt; ended == Ended::Whole);
     assert!(rt; line(&lines, 0) == (0, "accepted"));

@@ -21,7 +21,9 @@ use rpki::crypto::RsaVerifier;
 use rpki::laws;
 use rpki::repository::Cert;
 use rpki::repository::crl::Crl;
-use rpki::repository::folder::{AllAdmitted, Bounds, Ended, Folder, Line, Lines, Walk, WalkError};
+use rpki::repository::folder::{
+    AllAdmitted, Bounds, Ended, Folder, Line, Lines, Said, Walk, WalkError,
+};
 use rpki::repository::path::{LocatedError, Member};
 use rpki::repository::tal::Tal;
 use rpki::repository::x509::Time;
@@ -66,7 +68,6 @@ pub enum TreeAnswer<'q, 'n> {
 
 // Adds a file's certificate to a folder, and the file to those that begin with one.
 fn keep_cert<'q, 'n>(
-    alloc: Global,
     file: &'q Object<'n>,
     cert: &Cert,
     certs: &mut Vec<&'q Object<'n>>,
@@ -77,8 +78,7 @@ fn keep_cert<'q, 'n>(
         ≡ map (λ f. f.now) certs.old.items ++ file.now ∷ []) }
     ensures folder { OnOk result (folder.new ≡ with_cert folder.old file.now.octets) }
 {
-    let cert = cert.try_clone(alloc)?;
-    folder.add_cert(file.octets().clone()?, cert)?;
+    folder.add_cert(file.octets().clone()?, Said::of(cert))?;
     certs.push(file)?;
     Ok(())
 }
@@ -105,7 +105,7 @@ fn add_file<'q, 'n>(
         (IsFolderOf (files ++ file.now ∷ []) (map (λ f. f.now) certs.new.items) folder.new) }
 {
     match file.content() {
-        Content::Certificate(cert, _) => keep_cert(alloc, file, cert, certs, folder),
+        Content::Certificate(cert, _) => keep_cert(file, cert, certs, folder),
         Content::List(list, _) => keep_list(alloc, list, folder),
         Content::Neither(_) => Ok(()),
     }

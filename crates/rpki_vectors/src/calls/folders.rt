@@ -9,7 +9,7 @@ use rpki_cert::{Cert, KeyUsage, ResourceCert, TbsCert};
 use rpki_cert_tests::samples::{self, rsa, shared};
 use rpki_crl::Crl;
 use rpki_folder::{
-    Accepted, Added, AllAdmitted, Bounds, Ended, Folder, Found, Line, Lines, Visitor, Walk,
+    Accepted, Added, AllAdmitted, Bounds, Ended, Folder, Found, Line, Lines, Said, Visitor, Walk,
     WalkError,
 };
 use rpki_parts::StandIn;
@@ -132,13 +132,40 @@ fn add_read(alloc: Global, folder: &mut Folder, octets: Bytes) -> Outcome {
     begun(alloc, folder)?;
     let shared = octets.clone().ok()?;
     let cert = Cert::decode_shared(alloc, shared).ok()?;
+    let said = Said::of(&cert);
+    drop(cert);
     begin(alloc);
-    let answer = folder.add_cert(octets, cert);
+    let answer = folder.add_cert(octets, said);
     let stands = match &answer {
         Ok(place) => *place == 4 && has(folder, 5, 1),
         Err(_) => has(folder, 4, 1),
     };
     Some((name_of(&answer), stands))
+}
+
+fn read_first(alloc: Global, folder: &Folder) -> Outcome {
+    let filed = folder.certs().first()?;
+    begin(alloc);
+    let answer = filed.cert(alloc);
+    let key = rsa(b"b").key_identifier();
+    let stands = match &answer {
+        Ok(cert) => cert.as_tbs().subject_key_identifier() == key,
+        Err(_) => true,
+    };
+    let name = name_of(&answer);
+    drop(answer);
+    Some((name, stands))
+}
+
+// The certificate of a folder, read again.
+fn read_again(alloc: Global) -> Option<Told> {
+    let octets = end_entity(alloc, 13, b"abc")?;
+    let mut folder = Folder::new(alloc);
+    let outcome = match folder.add(octets) {
+        Ok(_) => read_first(alloc, &folder),
+        Err(_) => None,
+    };
+    ended_without(alloc, folder, outcome)
 }
 
 // A certificate that was read.
@@ -366,6 +393,7 @@ fn of_walk(alloc: Global, path: &str) -> Option<Told> {
 /// The calls of `rpki_folder`.
 pub fn told(alloc: Global, path: &str) -> Option<Told> {
     match path {
+        "rpki_folder::Filed::cert" => read_again(alloc),
         "rpki_folder::Folder::new" => empty(alloc),
         "rpki_folder::Folder::add" => first_added(alloc),
         "rpki_folder::Folder::add/beside" => {

@@ -1,5 +1,4 @@
-use Rattle.std.proofs.Common.{◌≡◌, ℕ, List, length, sym, ap, subst, ◌∙◌}
-use Rattle.rpki_cert.specs.Certificates.{TbsFields}
+use Rattle.std.proofs.Common.{◌≡◌, ℕ, List, length, sym, subst, ◌∙◌}
 use Rattle.rpki_folder.specs.KeyTables.{places_in, with_place}
 use Rattle.rpki_folder.proofs.FolderSteps.{with_key, without_key}
 use Rattle.rpki_folder.proofs.folder.Folder.add_cert.Goals as goal
@@ -11,19 +10,20 @@ invariant_of-self-2 c = (
       let certs = c.self.inside.certs.items in
       let octets = c.args.octets in
       let law = c.unambiguous.ensures.certificate in
-      let named = ap (λ (f : TbsFields). f.extensions.authority_key_identifier) (sym c.as_tbs.ensures) ∙ sym c.authority_key_identifier.ensures in
+      let said = c.requires in
+      let named = sym said.2.signer_is in
       let table = places_in c.self.inside.by_signer.places in
       let len : c.len-place.result ≡ length certs = c.len-place.ensures ∙ c.self.inside.certs.ok.0 in
-      elim c.match-authority_key_identifier.branch [
+      elim c.match-said.branch [
         | in-Some+in_ok-add w ↦
             rw (c.in-Ok.ensures.items, w.self-inside-is, c.in_ok-try_reserve.ensures.items, c.new.ensures)
-            (with_key certs octets law c.args.cert c.requires table c.self.invariant.0 w.in-Some.key (named ∙ w.in-Some.is) (places_in w.add.new.self.places)
+            (with_key certs octets law said.0 said.1 table c.self.invariant.0 w.in-Some.key (named ∙ w.in-Some.is) (places_in w.add.new.self.places)
             (subst (λ (n : ℕ). (k : List ℕ) → places_in w.add.new.self.places k ≡ with_place w.in-Some.key n k (table k)) len w.in_ok-add.ensures.ok) key)
         | in_default w ↦
             rw (c.in-Ok.ensures.items, w.self-inside-is, c.in_ok-try_reserve.ensures.items, c.new.ensures)
-            (without_key certs octets law c.args.cert c.requires table c.self.invariant.0 (named ∙ w.in_default.is) key)
+            (without_key certs octets law said.0 said.1 table c.self.invariant.0 (named ∙ w.in_default.is) key)
       ]),
-  (λ key. elim c.match-authority_key_identifier.branch [
+  (λ key. elim c.match-said.branch [
     | in-Some+in_ok-add w ↦ rw w.self-inside-is (c.self.invariant.1 key)
     | in_default w ↦ rw w.self-inside-is (c.self.invariant.1 key)
   ]),
