@@ -1,29 +1,35 @@
 //! What is answered of files.
 ghost use Rattle.std.specs.Prelude.{◌≡◌, ◌≢◌, ◌↔◌, [], All, map, IfOk, IsFalse, IsTrue, string_bytes};
 ghost use Rattle.std.specs.Bool.{MatchBool};
-ghost use Rattle.rpki_command.specs.AnswerTexts.{HasText, IsJsonBy, IsTextBy, IsTreeJsonBy, IsTreeTextBy, options_of, tree_question_of};
+ghost use Rattle.rpki.specs.RsaSignatures.{IsSignedByRsa};
+ghost use Rattle.rpki.specs.Verification.{context};
+ghost use Rattle.rpki_command.specs.AnswerTexts.{HasText, IsJsonBy, IsTextBy, IsTreeJsonBy, IsTreeTextBy, options_of, question_of, tree_question_of};
 ghost use Rattle.rpki_arguments.specs.CommandLines.Views.{fields_of};
 ghost use Rattle.rpki_command.specs.JsonAnswers.{IsJsonOfFiles, is_single};
-ghost use Rattle.rpki_command.specs.Outcomes.{IsOutcomeOfTree, AreAllRead, AsksOfFiles, EndsBy, IsOutcomeOfShow};
+ghost use Rattle.rpki_command.specs.JsonVerdicts.{IsJsonOfPath};
+ghost use Rattle.rpki_command.specs.Outcomes.{IsOutcomeOfTree, AreAllRead, AsksOfFiles, EndsBy, IsOutcomeOfShow, IsOutcomeOfValidate};
 ghost use Rattle.rpki_command.specs.ReadFiles.{AreGiven, AreNamed};
 ghost use Rattle.rpki_command.specs.ShownTexts.{IsTextOfFiles};
+ghost use Rattle.rpki_command.specs.VerdictTexts.{IsTextOfPath};
 ghost use Rattle.rpki_files.specs.Files.{contents, file_names};
 ghost use Rattle.rpki_verdicts.specs.GivenLocators.{IsRead, locator_files};
+ghost use Rattle.rpki_verdicts.specs.PathFiles.{demands_of};
 ghost use Rattle.rpki_verdicts.specs.Trees.{asked_of};
 
 use crate::as_json;
 use crate::outcomes::{Answer, Outcome};
+use crate::reading::objects_of;
 use crate::showing::{Options, shown};
 use crate::trees::treed;
 use crate::verdicts::validated;
 use rpki::repository::x509::Time;
 use rpki_arguments::{Format, Request, Task};
-use rpki_files::Object;
+use rpki_files::{BareObject, Object};
 use rpki_verdicts::{GivenLocator, Question, TreeQuestion};
 use std::alloc::{AllocError, Global};
 
 // Whether all files of these names could be read, of which these could be.
-fn are_read(names: &[&[u8]], files: &[Object<'_>]) -> bool
+fn are_read(names: &[&[u8]], files: &[BareObject<'_>]) -> bool
     requires { AreNamed (map (λ name. name.now) names.now) files.now }
     ensures { IsTrue result ↔ (file_names files.now ≡ map (λ name. name.now) names.now) }
 {
@@ -43,8 +49,8 @@ fn are_locators_read(names: &[&[u8]], locators: &[GivenLocator<'_>]) -> bool
 /// Returns whether all files, lists and locators of a request could be read, of which these could be.
 pub fn are_all_read(
     request: &Request<'_>,
-    files: &[Object<'_>],
-    lists: &[Object<'_>],
+    files: &[BareObject<'_>],
+    lists: &[BareObject<'_>],
     locators: &[GivenLocator<'_>],
 ) -> bool
     requires { AreGiven (fields_of request.now) files.now lists.now locators.now }
@@ -63,8 +69,8 @@ fn is_single(names: &[&[u8]]) -> bool
     names.len() == 1
 }
 
-// Shows files in the format that is asked.
-fn shown_as(
+// Shows files, of which everything is read, in the format that is asked.
+fn objects_shown(
     alloc: Global,
     request: &Request<'_>,
     now: Time,
@@ -91,12 +97,34 @@ fn shown_as(
     as_json::answer_files(alloc, files, request.strict, request.format, is_single)
 }
 
+// Shows files in the format that is asked.
+fn shown_as(
+    alloc: Global,
+    request: &Request<'_>,
+    now: Time,
+    files: &[BareObject<'_>],
+) -> Result<Answer, AllocError>
+    ensures outcome { IfOk result (λ answer.
+        IsOutcomeOfShow request.now.strict (contents files.now) answer.outcome) }
+    ensures text { let options = options_of (fields_of request.now) now in
+        request.now.format ≡ Format.Text
+        → IfOk result (λ answer. IsTextOfFiles options files.now (string_bytes answer.text)) }
+    ensures json { let r = fields_of request.now in request.now.format ≢ Format.Text
+        → IfOk result (λ answer. IsJsonOfFiles r.format (is_single r.files) r.strict
+        files.now (string_bytes answer.text)) }
+{
+    let objects = objects_of(alloc, files)?;
+    let answer = objects_shown(alloc, request, now, &objects);
+    drop(objects);
+    answer
+}
+
 // Shows the files that could be read. The outcome is theirs, where all could be.
 fn show(
     alloc: Global,
     request: &Request<'_>,
     now: Time,
-    files: &[Object<'_>],
+    files: &[BareObject<'_>],
     are_all_read: bool,
 ) -> Result<Answer, AllocError>
     ensures outcome { IfOk result (λ answer. MatchBool are_all_read
@@ -170,7 +198,7 @@ fn tree(
     alloc: Global,
     request: &Request<'_>,
     now: Time,
-    files: &[Object<'_>],
+    files: &[BareObject<'_>],
     locators: &[GivenLocator<'_>],
     are_all_read: bool,
 ) -> Result<Answer, AllocError>
@@ -189,6 +217,45 @@ fn tree(
     Ok(if_read(answer, are_all_read))
 }
 
+// Validates the path of files, of which everything is read.
+fn path(
+    alloc: Global,
+    request: &Request<'_>,
+    now: Time,
+    files: &[BareObject<'_>],
+    lists: &[BareObject<'_>],
+    locators: &[GivenLocator<'_>],
+) -> Result<Answer, AllocError>
+    requires { All (IsRead request.now.strict) locators.now }
+    ensures outcome { let x = context IsSignedByRsa now request.now.strict in
+        let r = fields_of request.now in
+        let q = question_of r now files.now lists.now locators.now in
+        IfOk result (λ answer. IsOutcomeOfValidate x (demands_of q)
+        (contents files.now) (contents lists.now) answer.outcome) }
+    ensures text { let x = context IsSignedByRsa now request.now.strict in
+        let r = fields_of request.now in
+        let q = question_of r now files.now lists.now locators.now in
+        request.now.format ≡ Format.Text
+        → IfOk result (λ answer. IsTextOfPath x q (string_bytes answer.text)) }
+    ensures json { let x = context IsSignedByRsa now request.now.strict in
+        let r = fields_of request.now in
+        let q = question_of r now files.now lists.now locators.now in
+        request.now.format ≢ Format.Text
+        → IfOk result (λ answer. IsJsonOfPath r.format x q (string_bytes answer.text)) }
+{
+    let members = objects_of(alloc, files)?;
+    let lists = objects_of(alloc, lists)?;
+    let question = Question {
+        members: &members,
+        lists: &lists,
+        locators,
+        names: request.names,
+        strict: request.strict,
+        at: now,
+    };
+    validated(alloc, &question, request.format)
+}
+
 // Of a path of which a file can't be read nothing is judged.
 fn unjudged(alloc: Global) -> Answer
     ensures outcome { result.outcome ≡ Outcome.Unread }
@@ -205,8 +272,8 @@ fn whole_answer(
     alloc: Global,
     request: &Request<'_>,
     now: Time,
-    files: &[Object<'_>],
-    lists: &[Object<'_>],
+    files: &[BareObject<'_>],
+    lists: &[BareObject<'_>],
     locators: &[GivenLocator<'_>],
 ) -> Result<Answer, AllocError>
     requires asks { AsksOfFiles request.now.task }
@@ -228,15 +295,7 @@ fn whole_answer(
             if !are_all_read {
                 return Ok(unjudged(alloc));
             }
-            let question = Question {
-                members: files,
-                lists,
-                locators,
-                names: request.names,
-                strict: request.strict,
-                at: now,
-            };
-            validated(alloc, &question, request.format)
+            path(alloc, request, now, files, lists, locators)
         }
         Task::Tree => tree(alloc, request, now, files, locators, are_all_read),
         Task::Help | Task::Version => unreachable!(),
@@ -262,8 +321,8 @@ pub fn answer_request(
     alloc: Global,
     request: &Request<'_>,
     now: Time,
-    files: &[Object<'_>],
-    lists: &[Object<'_>],
+    files: &[BareObject<'_>],
+    lists: &[BareObject<'_>],
     locators: &[GivenLocator<'_>],
 ) -> Result<Answer, AllocError>
     requires asks { AsksOfFiles request.now.task }

@@ -5,7 +5,7 @@ ghost use Rattle.rpki_command.specs.ReadFiles.{AreFilesRead, AreObjectsRead, IsF
 ghost use Rattle.rpki_verdicts.specs.GivenLocators.{LocatorFields, IsRead, locator_files};
 
 use crate::files::{FileSource, Unread};
-use rpki_files::{Object, read_object};
+use rpki_files::{BareObject, Object, read_bare_object};
 use rpki_text::Characters;
 use rpki_verdicts::GivenLocator;
 use std::alloc::{AllocError, Global};
@@ -50,12 +50,12 @@ fn read_named<'a, F: FileSource, E: Write>(
     err: &mut E,
     name: &'a [u8],
     most: u64,
-) -> Result<Option<Object<'a>>, AllocError>
+) -> Result<Option<BareObject<'a>>, AllocError>
     ensures { let reads = F.reads files.now in IfOk result (λ read.
         MatchOption read (IsUnread reads most name.now) (IsObjectRead reads most name.now)) }
 {
     match octets_by(alloc, files, name, most) {
-        Ok((text, octets)) => match read_object(alloc, text, octets) {
+        Ok((text, octets)) => match read_bare_object(alloc, text, octets) {
             Ok(object) => Ok(Some(object)),
             Err(error) => Err(error),
         },
@@ -73,7 +73,7 @@ fn push_file<'a, F: FileSource, E: Write>(
     alloc: Global,
     files: &F,
     err: &mut E,
-    all: &mut Vec<Object<'a>>,
+    all: &mut Vec<BareObject<'a>>,
     name: &'a [u8],
     most: u64,
 ) -> Result<(), AllocError>
@@ -172,13 +172,28 @@ pub fn read_files<'a, F: FileSource, E: Write>(
     err: &mut E,
     names: &[&'a [u8]],
     most: u64,
-) -> Result<Vec<Object<'a>>, AllocError>
+) -> Result<Vec<BareObject<'a>>, AllocError>
     ensures { let reads = F.reads files.now in IfOk result (λ all.
         AreObjectsRead reads most (map (λ name. name.now) names.now) all.items) }
 {
     let mut all = Vec::new(alloc);
     for name in names {
         push_file(alloc, files, err, &mut all, *name, most)?;
+    }
+    Ok(all)
+}
+
+/// Returns the objects with what is read of them. Errs only where memory runs out.
+pub fn objects_of<'a>(
+    alloc: Global,
+    files: &[BareObject<'a>],
+) -> Result<Vec<Object<'a>>, AllocError>
+    ensures { IfOk result (λ all. all.items ≡ files.now) }
+{
+    let mut all = Vec::new(alloc);
+    for file in files {
+        let object = file.object(alloc)?;
+        all.push(object)?;
     }
     Ok(all)
 }

@@ -15,7 +15,7 @@ use crate::files::FileSource;
 use crate::reading::{read_files, read_locators};
 use rpki::repository::x509::Time;
 use rpki_arguments::Request;
-use rpki_files::Object;
+use rpki_files::BareObject;
 use rpki_verdicts::{GivenLocator, TreeQuestion, seek};
 use std::alloc::{AllocError, Global};
 use std::io::Write;
@@ -28,7 +28,11 @@ pub struct SoughtNames {
 }
 
 // Adds a file's name.
-fn push_name(alloc: Global, names: &mut Vec<Vec<u8>>, file: &Object<'_>) -> Result<(), AllocError>
+fn push_name(
+    alloc: Global,
+    names: &mut Vec<Vec<u8>>,
+    file: &BareObject<'_>,
+) -> Result<(), AllocError>
     ensures { OnOk result
         (word_octets names.new.items ≡ word_octets names.old.items ++ file.now.name ∷ []) }
 {
@@ -38,7 +42,7 @@ fn push_name(alloc: Global, names: &mut Vec<Vec<u8>>, file: &Object<'_>) -> Resu
 }
 
 // The names of the files of a path.
-fn names_of(alloc: Global, path: &[&Object<'_>]) -> Result<Vec<Vec<u8>>, AllocError>
+fn names_of(alloc: Global, path: &[&BareObject<'_>]) -> Result<Vec<Vec<u8>>, AllocError>
     ensures { IfOk result (λ names.
         word_octets names.items ≡ file_names (map (λ f. f.now) path.now)) }
 {
@@ -53,7 +57,7 @@ fn names_of(alloc: Global, path: &[&Object<'_>]) -> Result<Vec<Vec<u8>>, AllocEr
 fn push_list_name(
     alloc: Global,
     names: &mut Vec<Vec<u8>>,
-    file: &Object<'_>,
+    file: &BareObject<'_>,
 ) -> Result<(), AllocError>
     ensures { OnOk result ((its : List (List ℕ)) × AreListNames (file.now ∷ []) its
         × (word_octets names.new.items ≡ word_octets names.old.items ++ its)) }
@@ -65,7 +69,7 @@ fn push_list_name(
 }
 
 // The names of those of the files that begin with lists.
-fn list_names(alloc: Global, files: &[Object<'_>]) -> Result<Vec<Vec<u8>>, AllocError>
+fn list_names(alloc: Global, files: &[BareObject<'_>]) -> Result<Vec<Vec<u8>>, AllocError>
     ensures { IfOk result (λ names. AreListNames files.now (word_octets names.items)) }
 {
     let mut names = Vec::new(alloc);
@@ -93,7 +97,7 @@ fn sought_among(
     alloc: Global,
     request: &Request<'_>,
     now: Time,
-    files: &[Object<'_>],
+    files: &[BareObject<'_>],
     locators: &[GivenLocator<'_>],
 ) -> Result<SoughtNames, AllocError>
     ensures { IfOk result (IsSought
@@ -115,8 +119,8 @@ fn sought_if_read(
     alloc: Global,
     request: &Request<'_>,
     now: Time,
-    files: &[Object<'_>],
-    lists: &[Object<'_>],
+    files: &[BareObject<'_>],
+    lists: &[BareObject<'_>],
     locators: &[GivenLocator<'_>],
 ) -> Result<Option<SoughtNames>, AllocError>
     requires { AreGiven (fields_of request.now) files.now lists.now locators.now }

@@ -14,7 +14,7 @@ use crate::verdict_lines::{print_moment, print_no_locator, print_other_locators}
 use rpki::repository::folder::{Ended, Line};
 use rpki::repository::path::PathFault;
 use rpki_files::rules::{Rule, of_path};
-use rpki_files::{Content, Object};
+use rpki_files::{BareObject, Front};
 use rpki_text::{FileName, Page};
 use rpki_verdicts::{Fault, Tree, TreeAnswer, TreeQuestion};
 use std::alloc::{AllocError, Global};
@@ -41,7 +41,7 @@ impl fmt::Display for Rejection<'_> {
 }
 
 // The name of the certificate's file at a place.
-fn print_name_at(page: &mut Page, certs: &[&Object<'_>], place: usize)
+fn print_name_at(page: &mut Page, certs: &[&BareObject<'_>], place: usize)
     ensures { Appends page.old (name_text_at (map (λ f. f.now) certs.now) place) page.new }
 {
     match certs.get(place) {
@@ -51,7 +51,7 @@ fn print_name_at(page: &mut Page, certs: &[&Object<'_>], place: usize)
 }
 
 // The names of the CAs at these places, each behind an arrow.
-fn print_further(page: &mut Page, certs: &[&Object<'_>], above: &[usize])
+fn print_further(page: &mut Page, certs: &[&BareObject<'_>], above: &[usize])
     ensures { Appends page.old (further_text (map (λ f. f.now) certs.now) above.now) page.new }
 {
     for place in above {
@@ -70,7 +70,7 @@ fn print_accepted(page: &mut Page, tree: &Tree<'_, '_>, above: &[usize])
 }
 
 // That a certificate is rejected, and why.
-fn print_rejected(page: &mut Page, file: &Object<'_>, fault: &PathFault)
+fn print_rejected(page: &mut Page, file: &BareObject<'_>, fault: &PathFault)
     ensures { (r : ReasonFields) × IsReason fault.now file.now.octets r
         × Appends page.old (rejection_text r) page.new }
 {
@@ -79,7 +79,7 @@ fn print_rejected(page: &mut Page, file: &Object<'_>, fault: &PathFault)
 }
 
 // What the line of a certificate says.
-fn print_line(page: &mut Page, tree: &Tree<'_, '_>, file: &Object<'_>, line: Option<&Line>)
+fn print_line(page: &mut Page, tree: &Tree<'_, '_>, file: &BareObject<'_>, line: Option<&Line>)
     ensures { let its = option_map (λ l. l.now) line.entry in
         AppendsSome (SaysOfLine tree.now file.now its) page.old page.new }
 {
@@ -91,7 +91,7 @@ fn print_line(page: &mut Page, tree: &Tree<'_, '_>, file: &Object<'_>, line: Opt
 }
 
 // What is said of the certificate at a place.
-fn print_certificate(page: &mut Page, tree: &Tree<'_, '_>, place: usize, file: &Object<'_>)
+fn print_certificate(page: &mut Page, tree: &Tree<'_, '_>, place: usize, file: &BareObject<'_>)
     ensures { AppendsSome (SaysOfCertificate tree.now place file.now) page.old page.new }
 {
     if place == tree.anchor {
@@ -103,21 +103,21 @@ fn print_certificate(page: &mut Page, tree: &Tree<'_, '_>, place: usize, file: &
 
 // What is said of a file, where the next certificate stands at this place. Returns the place of one
 // behind it.
-fn print_said(page: &mut Page, tree: &Tree<'_, '_>, place: usize, file: &Object<'_>) -> usize
+fn print_said(page: &mut Page, tree: &Tree<'_, '_>, place: usize, file: &BareObject<'_>) -> usize
     requires { place + 1 < 2 ^ 64 }
     ensures next { result ≤ place + 1 }
     ensures said { AppendsSome (SaysOfFile tree.now place result file.now) page.old page.new }
 {
-    match file.content() {
-        Content::Certificate(..) => {
+    match file.front() {
+        Front::Certificate(_) => {
             print_certificate(page, tree, place, file);
             place + 1
         }
-        Content::List(..) => {
+        Front::List => {
             page.text("revocation list");
             place
         }
-        Content::Neither(_) => {
+        Front::Neither => {
             page.text("neither a certificate nor a list");
             place
         }
@@ -125,7 +125,7 @@ fn print_said(page: &mut Page, tree: &Tree<'_, '_>, place: usize, file: &Object<
 }
 
 // The line of a file.
-fn print_file(page: &mut Page, tree: &Tree<'_, '_>, place: usize, file: &Object<'_>) -> usize
+fn print_file(page: &mut Page, tree: &Tree<'_, '_>, place: usize, file: &BareObject<'_>) -> usize
     requires { place + 1 < 2 ^ 64 }
     ensures next { result ≤ place + 1 }
     ensures line { AppendsSome (IsFileLine tree.now place result file.now) page.old page.new }
@@ -138,7 +138,7 @@ fn print_file(page: &mut Page, tree: &Tree<'_, '_>, place: usize, file: &Object<
 }
 
 // The lines of all files.
-fn print_files(page: &mut Page, tree: &Tree<'_, '_>, files: &[Object<'_>]) -> usize
+fn print_files(page: &mut Page, tree: &Tree<'_, '_>, files: &[BareObject<'_>]) -> usize
     ensures { AppendsSome (AreFileLines tree.now 0 result files.now) page.old page.new }
 {
     let mut place = 0;
@@ -211,7 +211,7 @@ fn print_end(page: &mut Page, question: &TreeQuestion<'_, '_>, tree: &Tree<'_, '
 }
 
 // That the trust anchor is wrong, and why.
-fn print_wrong_anchor(page: &mut Page, anchor: &Object<'_>, fault: &Fault)
+fn print_wrong_anchor(page: &mut Page, anchor: &BareObject<'_>, fault: &Fault)
     ensures { let said = codes "trust anchor, " ++ rejection_text (reason_of fault.now) in
         Appends page.old (file_line anchor.now.name said) page.new }
 {

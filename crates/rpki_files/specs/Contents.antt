@@ -6,7 +6,10 @@ use Rattle.rpki.specs.Tags.{SEQUENCE}
 use Rattle.rpki.specs.Values.{IsEnc}
 use Rattle.rpki.specs.Certificates.{CertFields, IsCertificate}
 use Rattle.rpki.specs.Lists.{CrlFields, IsCertificateList}
+use Rattle.rpki.specs.SaidKinds.{BeginsWithSaid}
 use Rattle.rpki_files.specs.LocatorFiles.{AreLocator}
+use Rattle.rpki_files.specs.declared.bare.Front.{Front}
+use Rattle.rpki_files.specs.declared.bare.Front.TheVariants as front
 use Rattle.rpki_files.specs.declared.contents.Content.{Content}
 use Rattle.rpki_files.specs.declared.contents.Content.TheVariants as content
 
@@ -37,6 +40,12 @@ IsContent octets (content.Certificate c left) = BeginsBefore IsCertificate octet
 IsContent octets (content.List l left) =
     BeginsBefore IsCertificateList octets l.list left × (BeginsWithCertificate octets → ⊥)
 IsContent octets (content.Neither fault) = (fault ≢ decoding.Memory) × (BeginsWithEither octets → ⊥)
+
+-- what is kept of that without what was read: of a certificate what it says of its place in a folder
+abbrev pub IsFront : List ℕ → Front → Type 0
+IsFront octets (front.Certificate said) = BeginsWithSaid said octets × (BeginsWithList octets → ⊥)
+IsFront octets front.List = BeginsWithList octets × (BeginsWithCertificate octets → ⊥)
+IsFront octets front.Neither = BeginsWithEither octets → ⊥
 
 -- what was looked for, seen by view: it is what the octets begin with, and so many octets stand
 -- behind it; or they begin with none

@@ -226,7 +226,7 @@ pub fn is_bare_base64(alloc: Global, octets: &[u8]) -> Result<bool, AllocError>
 }
 
 // The octets of a file's object, in DER or in PEM.
-fn object_octets(alloc: Global, file: Vec<u8>) -> Result<Bytes, AllocError>
+pub(crate) fn object_octets(alloc: Global, file: Vec<u8>) -> Result<Bytes, AllocError>
     ensures { IfOk result (IsObjectOf file.items) }
 {
     let octets = from_pem(alloc, &file)?.unwrap_or(file);
@@ -244,6 +244,25 @@ fn told_sort(alloc: Global, octets: &Bytes, content: &Content) -> Result<Option<
     }
 }
 
+// The object of this name and of these octets, with what is read of them.
+pub(crate) fn object_of<'a>(
+    alloc: Global,
+    name: &'a str,
+    octets: Bytes,
+) -> Result<Object<'a>, AllocError>
+    ensures name { IfOk result (λ object. object.name ≡ name.now) }
+    ensures octets { IfOk result (λ object. object.octets ≡ octets) }
+{
+    let content = read_content(alloc, &octets)?;
+    let sort = told_sort(alloc, &octets, &content)?;
+    Ok(Object {
+        name,
+        octets,
+        content,
+        sort,
+    })
+}
+
 /// Reads the object of a file, in DER or in PEM, what it begins with, and its sort where that is
 /// neither a certificate nor a list.
 pub fn read_object<'a>(
@@ -257,12 +276,5 @@ pub fn read_object<'a>(
         → IfOk result (λ object. object.octets ≡ file.items) }
 {
     let octets = object_octets(alloc, file)?;
-    let content = read_content(alloc, &octets)?;
-    let sort = told_sort(alloc, &octets, &content)?;
-    Ok(Object {
-        name,
-        octets,
-        content,
-        sort,
-    })
+    object_of(alloc, name, octets)
 }

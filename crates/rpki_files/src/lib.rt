@@ -3,6 +3,7 @@
 //! section.
 #![tactic(auto)]
 
+mod bare;
 mod contents;
 mod expected;
 mod files;
@@ -14,6 +15,7 @@ pub mod rules;
 mod saying;
 mod sorts;
 
+pub use bare::{BareObject, Front, read_bare_object};
 pub use contents::{Content, Form, looks_like};
 pub use files::{Object, read_object};
 pub use locators::{looks_like_locator, read_locator};

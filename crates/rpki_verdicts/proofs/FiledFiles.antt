@@ -3,11 +3,10 @@
 use Rattle.std.specs.Prelude.{Result, Ok, Err, OnOk}
 use Rattle.std.proofs.Common.{◌≡◌, ℕ, List, [], ◌∷◌, ◌++◌, true, refl, sym, ap, subst, inl, inr, ◌∙◌}
 use Rattle.std.proofs.lemmas.List.{map-append}
-use Rattle.rpki.specs.Certificates.{CertFields, IsCertificate}
 use Rattle.rpki.specs.Encoding.{Means}
 use Rattle.rpki.specs.Folders.{FolderFields, with_cert, with_list}
 use Rattle.rpki.specs.Lists.{CrlFields, CrlState, IsCertificateList}
-use Rattle.rpki_files.specs.Contents.{BeginsBefore, BeginsWithCertificate, BeginsWithList}
+use Rattle.rpki_files.specs.Contents.{BeginsWithCertificate, BeginsWithList}
 use Rattle.rpki_files.specs.Files.{FileFields, contents}
 use Rattle.rpki_verdicts.specs.PathFiles.{AreListsOf}
 use Rattle.rpki_verdicts.specs.Trees.{AreCertificatesOf, IsFolderOf}
@@ -71,17 +70,21 @@ one_ok (Err e) a f = tt
 
 module _ (files certs : List FileFields) (folder : FolderFields) (is : IsFolderOf files certs folder) (file : FileFields) (later : FolderFields) {T E : Type 0} (r : Result T E) where
   -- that begins with a certificate
-  pub added_certificate : (more : List FileFields) → OnOk r (more ≡ certs ++ file ∷ []) → OnOk r (later ≡ with_cert folder file.octets) → (cert : CertFields) (left : ℕ) → BeginsBefore IsCertificate file.octets cert left → (BeginsWithList file.octets → ⊥) → OnOk r (IsFolderOf (files ++ file ∷ []) more later)
-  added_certificate more mores laters cert left begins none =
+  pub added_certificate : (more : List FileFields) → OnOk r (more ≡ certs ++ file ∷ []) → OnOk r (later ≡ with_cert folder file.octets) → BeginsWithCertificate file.octets → (BeginsWithList file.octets → ⊥) → OnOk r (IsFolderOf (files ++ file ∷ []) more later)
+  added_certificate more mores laters begins none =
       both_ok r mores laters (λ same folders.
       subst (λ (f : FolderFields). IsFolderOf (files ++ file ∷ []) more f) (sym folders)
       (subst (λ (cs : List FileFields). IsFolderOf (files ++ file ∷ []) cs (with_cert folder file.octets)) (sym same)
-      (filed_certificate files certs folder is file (cert, (begins.0, begins.1)) none)))
+      (filed_certificate files certs folder is file begins none)))
 
   -- that begins with a list
-  pub added_list : (BeginsWithCertificate file.octets → ⊥) → (list : CrlFields) (left : ℕ) → BeginsBefore IsCertificateList file.octets list left → OnOk r ((kept : CrlState) × (kept.list ≡ list) × (kept.is_cached ≡ true) × (later ≡ with_list folder kept)) → OnOk r (IsFolderOf (files ++ file ∷ []) certs later)
-  added_list none list left begins keeps =
+  pub added_list : (BeginsWithCertificate file.octets → ⊥) → OnOk r ((kept : CrlState) × Means IsCertificateList kept.list file.octets × (kept.is_cached ≡ true) × (later ≡ with_list folder kept)) → OnOk r (IsFolderOf (files ++ file ∷ []) certs later)
+  added_list none keeps =
       one_ok r keeps (λ k.
-      let means : Means IsCertificateList k.0.list file.octets = subst (λ (l : CrlFields). Means IsCertificateList l file.octets) (sym k.1) (begins.0, begins.1) in
       subst (λ (f : FolderFields). IsFolderOf (files ++ file ∷ []) certs f) (sym k.3)
-      (filed_list files certs folder is file none k.0 means k.2))
+      (filed_list files certs folder is file none k.0 k.1 k.2))
+
+-- what is kept of a list with which octets begin, from what is kept of the list
+pub kept_of_octets : {T E : Type 0} (r : Result T E) (octets : List ℕ) (list : CrlFields) → Means IsCertificateList list octets → (folder later : FolderFields) → OnOk r ((kept : CrlState) × (kept.list ≡ list) × (kept.is_cached ≡ true) × (later ≡ with_list folder kept)) → OnOk r ((kept : CrlState) × Means IsCertificateList kept.list octets × (kept.is_cached ≡ true) × (later ≡ with_list folder kept))
+kept_of_octets r octets list begins folder later keeps =
+    one_ok r keeps (λ k. (k.0, subst (λ (l : CrlFields). Means IsCertificateList l octets) (sym k.1) begins, k.2, k.3))

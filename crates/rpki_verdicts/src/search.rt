@@ -10,14 +10,14 @@ ghost use Rattle.rpki_verdicts.specs.Trees.{IsTreeAnswer, asked_of, certs_of};
 use crate::unordered::{Tree, TreeAnswer, TreeQuestion, judge_all, locator_of};
 use rpki::crypto::KeyIdentifier;
 use rpki::repository::folder::Line;
-use rpki_files::Object;
+use rpki_files::{BareObject, Front};
 use std::alloc::{AllocError, Global};
 
 /// How many files are put above one to which no valid path leads, unless they end sooner.
 const MOST_ABOVE: usize = 32;
 
 // Whether one of the files begins with a list.
-fn has_list(files: &[Object<'_>]) -> bool
+fn has_list(files: &[BareObject<'_>]) -> bool
     ensures { IsFalse result → All (λ f. BeginsWithList f.octets → ⊥) files.now }
 {
     for file in files {
@@ -29,21 +29,28 @@ fn has_list(files: &[Object<'_>]) -> bool
 }
 
 // Whether the file is to stand alone: it has the key of a locator, or no valid path leads to it.
-fn stands_alone(question: &TreeQuestion<'_, '_>, file: &Object<'_>) -> bool
-    ensures alone { IsTrue result → StandsAlone (asked_of question.now) file.now }
-    ensures certificate { IsFalse result → BeginsWithCertificate file.now.octets }
+fn stands_alone(
+    alloc: Global,
+    question: &TreeQuestion<'_, '_>,
+    file: &BareObject<'_>,
+) -> Result<bool, AllocError>
+    ensures alone { IfOk result (λ is.
+        IsTrue is → StandsAlone (asked_of question.now) file.now) }
+    ensures certificate { IfOk result (λ is.
+        IsFalse is → BeginsWithCertificate file.now.octets) }
 {
-    if file.certificate().is_none() {
-        return true;
+    if !file.is_certificate() {
+        return Ok(true);
     }
-    if locator_of(question.locators, file).is_some() {
-        return true;
+    let locator = locator_of(alloc, question.locators, file)?;
+    if locator.is_some() {
+        return Ok(true);
     }
-    !has_list(question.files)
+    Ok(!has_list(question.files))
 }
 
 // The file alone.
-fn alone<'q, 'n>(alloc: Global, file: &'q Object<'n>) -> Result<Vec<&'q Object<'n>>, AllocError>
+fn alone<'q, 'n>(alloc: Global, file: &'q BareObject<'n>) -> Result<Vec<&'q BareObject<'n>>, AllocError>
     ensures { IfOk result (λ path. map (λ f. f.now) path.items ≡ file.now ∷ []) }
 {
     let mut path = Vec::new(alloc);
@@ -54,9 +61,9 @@ fn alone<'q, 'n>(alloc: Global, file: &'q Object<'n>) -> Result<Vec<&'q Object<'
 // The file below another one.
 fn pair<'q, 'n>(
     alloc: Global,
-    above: &'q Object<'n>,
-    file: &'q Object<'n>,
-) -> Result<Vec<&'q Object<'n>>, AllocError>
+    above: &'q BareObject<'n>,
+    file: &'q BareObject<'n>,
+) -> Result<Vec<&'q BareObject<'n>>, AllocError>
     ensures { IfOk result (λ path. map (λ f. f.now) path.items ≡ above.now ∷ file.now ∷ []) }
 {
     let mut path = alone(alloc, above)?;
@@ -66,8 +73,8 @@ fn pair<'q, 'n>(
 
 // Adds the file at a place, where there is one.
 fn push_one<'q, 'n>(
-    path: &mut Vec<&'q Object<'n>>,
-    certs: &[&'q Object<'n>],
+    path: &mut Vec<&'q BareObject<'n>>,
+    certs: &[&'q BareObject<'n>],
     place: usize,
 ) -> Result<(), AllocError>
     ensures { OnOk result (map (λ f. f.now) path.new.items
@@ -84,8 +91,8 @@ fn push_one<'q, 'n>(
 
 // Adds the files at these places.
 fn push_at<'q, 'n>(
-    path: &mut Vec<&'q Object<'n>>,
-    certs: &[&'q Object<'n>],
+    path: &mut Vec<&'q BareObject<'n>>,
+    certs: &[&'q BareObject<'n>],
     places: &[usize],
 ) -> Result<(), AllocError>
     ensures { OnOk result (map (λ f. f.now) path.new.items
@@ -109,7 +116,7 @@ fn above_at<'t>(tree: &'t Tree<'_, '_>, place: usize) -> Option<&'t [usize]>
 
 // Adds the files of the trust anchor and of the CAs at these places.
 fn push_down<'q, 'n>(
-    path: &mut Vec<&'q Object<'n>>,
+    path: &mut Vec<&'q BareObject<'n>>,
     tree: &Tree<'q, 'n>,
     above: &[usize],
 ) -> Result<(), AllocError>
@@ -126,8 +133,8 @@ fn path_down<'q, 'n>(
     alloc: Global,
     tree: &Tree<'q, 'n>,
     above: &[usize],
-    file: &'q Object<'n>,
-) -> Result<Vec<&'q Object<'n>>, AllocError>
+    file: &'q BareObject<'n>,
+) -> Result<Vec<&'q BareObject<'n>>, AllocError>
     ensures { IfOk result (λ path. map (λ f. f.now) path.items
         ≡ files_at (certs_of tree.now) (tree.now.anchor ∷ above.now) ++ file.now ∷ []) }
 {
@@ -138,22 +145,24 @@ fn path_down<'q, 'n>(
 }
 
 // Whether the file begins with a certificate that has the key of this identifier.
-fn has_key(file: &Object<'_>, key: &KeyIdentifier) -> bool
+fn has_key(file: &BareObject<'_>, key: &KeyIdentifier) -> bool
     ensures { IsTrue result → HasKeyNamed key.now file.now }
 {
-    match file.certificate() {
-        Some((cert, _)) => cert.as_tbs().subject_key_identifier() == *key,
-        None => false,
+    match file.front() {
+        Front::Certificate(said) => said.key == *key,
+        Front::List | Front::Neither => false,
     }
 }
 
 // The place of a certificate whose key the file names as the one that signs it: the first that is
 // accepted, or else the first.
-fn issuer_of(tree: &Tree<'_, '_>, file: &Object<'_>) -> Option<usize>
+fn issuer_of(tree: &Tree<'_, '_>, file: &BareObject<'_>) -> Option<usize>
     ensures { IfSome result (λ place. place < length tree.now.certs.items) }
 {
-    let (cert, _) = file.certificate()?;
-    let key = cert.as_tbs().authority_key_identifier()?;
+    let Front::Certificate(said) = file.front() else {
+        return None;
+    };
+    let key = said.signer?;
     let mut found = None;
     for (place, other) in tree.certs.iter().enumerate() {
         if has_key(*other, &key) {
@@ -171,9 +180,9 @@ fn issuer_of(tree: &Tree<'_, '_>, file: &Object<'_>) -> Option<usize>
 // Adds what stands above a file to which no valid path leads, as it and those above it name their
 // signers: up to the trust anchor, or to one whose signer isn't there.
 fn push_above<'q, 'n>(
-    path: &mut Vec<&'q Object<'n>>,
+    path: &mut Vec<&'q BareObject<'n>>,
     tree: &Tree<'q, 'n>,
-    file: &'q Object<'n>,
+    file: &'q BareObject<'n>,
     most: usize,
 ) -> Result<(), AllocError> {
     if most == 0 {
@@ -199,8 +208,8 @@ fn push_above<'q, 'n>(
 fn path_named<'q, 'n>(
     alloc: Global,
     tree: &Tree<'q, 'n>,
-    file: &'q Object<'n>,
-) -> Result<Vec<&'q Object<'n>>, AllocError>
+    file: &'q BareObject<'n>,
+) -> Result<Vec<&'q BareObject<'n>>, AllocError>
     ensures { IfOk result (λ path. EndsIn file.now (map (λ f. f.now) path.items)) }
 {
     let mut path = Vec::new(alloc);
@@ -214,8 +223,8 @@ fn path_in<'q, 'n>(
     alloc: Global,
     question: &TreeQuestion<'q, 'n>,
     tree: &Tree<'q, 'n>,
-    file: &'q Object<'n>,
-) -> Result<Vec<&'q Object<'n>>, AllocError>
+    file: &'q BareObject<'n>,
+) -> Result<Vec<&'q BareObject<'n>>, AllocError>
     requires { let x = context IsSignedByRsa question.now.at question.now.strict in
         IsTreeWith x (asked_of question.now) file.now tree.now }
     ensures { let x = context IsSignedByRsa question.now.at question.now.strict in
@@ -233,8 +242,8 @@ fn path_by<'q, 'n>(
     alloc: Global,
     question: &TreeQuestion<'q, 'n>,
     answer: &TreeAnswer<'q, 'n>,
-    file: &'q Object<'n>,
-) -> Result<Vec<&'q Object<'n>>, AllocError>
+    file: &'q BareObject<'n>,
+) -> Result<Vec<&'q BareObject<'n>>, AllocError>
     requires answer { let x = context IsSignedByRsa question.now.at question.now.strict in
         IsTreeAnswer x (asked_of question.now) answer.now }
     requires certificate { BeginsWithCertificate file.now.octets }
@@ -259,7 +268,7 @@ fn path_by<'q, 'n>(
 pub fn seek<'q, 'n>(
     alloc: Global,
     question: &TreeQuestion<'q, 'n>,
-) -> Result<Vec<&'q Object<'n>>, AllocError>
+) -> Result<Vec<&'q BareObject<'n>>, AllocError>
     ensures { let x = context IsSignedByRsa question.now.at question.now.strict in
         IfOk result (λ path. (file : FileFields) (more : List FileFields)
         → question.now.files.now ≡ file ∷ more
@@ -268,7 +277,8 @@ pub fn seek<'q, 'n>(
     let Some((file, _)) = question.files.split_first() else {
         return Ok(Vec::new(alloc));
     };
-    if stands_alone(question, file) {
+    let is_alone = stands_alone(alloc, question, file)?;
+    if is_alone {
         return alone(alloc, file);
     }
     let answer = judge_all(alloc, question)?;

@@ -2,16 +2,17 @@
 //! real signatures and with the revocation lists among them.
 ghost use Rattle.std.specs.Prelude.{◌≡◌, ◌↔◌, ◌++◌, ◌∷◌, [], true, List, length, map, IfOk, IfErr, IfSome, IfNone, OnOk, IsTrue};
 ghost use Rattle.rpki.specs.AskedLists.{by_lists};
-ghost use Rattle.rpki.specs.Certificates.{IsCertificate};
 ghost use Rattle.rpki.specs.Encoding.{Means};
 ghost use Rattle.rpki.specs.Folders.{with_cert, with_list};
 ghost use Rattle.rpki.specs.KeptLines.{BecameLines};
-ghost use Rattle.rpki.specs.Lists.{CrlState};
+ghost use Rattle.rpki.specs.Lists.{CrlState, IsCertificateList};
 ghost use Rattle.rpki.specs.Locators.{NamedTal};
 ghost use Rattle.rpki.specs.RsaSignatures.{IsSignedByRsa};
+ghost use Rattle.rpki.specs.SaidKinds.{BeginsWithSaid};
 ghost use Rattle.rpki.specs.Verification.{context};
 ghost use Rattle.rpki.specs.WalkError.TheVariants.{Anchor};
 ghost use Rattle.rpki.specs.Walks.{Told, Tells, IsValidAnchor, IsWhyNone, at_anchor};
+ghost use Rattle.rpki_files.specs.Contents.{BeginsWithList};
 ghost use Rattle.rpki_files.specs.Files.{FileFields};
 ghost use Rattle.rpki_verdicts.specs.Trees.{AllAccepted, accepted_count, accepts, asked_of, HasLocator, HasNoneBelow, IsAnchorAt, IsAnchorOf, IsAnchorReason, IsFolderOf, IsTreeAnswer, every};
 
@@ -19,7 +20,6 @@ use crate::locators::{GivenLocator, tal_of_key};
 use crate::path::{Fault, other_key, with_table};
 use rpki::crypto::RsaVerifier;
 use rpki::laws;
-use rpki::repository::Cert;
 use rpki::repository::crl::Crl;
 use rpki::repository::folder::{
     AllAdmitted, Bounds, Ended, Folder, Line, Lines, Said, Walk, WalkError,
@@ -28,7 +28,7 @@ use rpki::repository::path::{LocatedError, Member};
 use rpki::repository::tal::Tal;
 use rpki::repository::x509::Time;
 use rpki_files::rules::of_path;
-use rpki_files::{Content, Object};
+use rpki_files::{BareObject, Front};
 use std::alloc::{AllocError, Global};
 
 /// What is asked of files in no order: the files, the locators, whether they are read strictly, the
@@ -36,7 +36,7 @@ use std::alloc::{AllocError, Global};
 /// at most.
 #[derive(Drop)]
 pub struct TreeQuestion<'q, 'n> {
-    pub files: &'q [Object<'n>],
+    pub files: &'q [BareObject<'n>],
     pub locators: &'q [GivenLocator<'n>],
     pub strict: bool,
     pub at: Time,
@@ -48,7 +48,7 @@ pub struct TreeQuestion<'q, 'n> {
 #[derive(Drop)]
 pub struct Tree<'q, 'n> {
     /// The files that begin with certificates, in their order. A place is one among these.
-    pub certs: Vec<&'q Object<'n>>,
+    pub certs: Vec<&'q BareObject<'n>>,
     /// The place of the trust anchor.
     pub anchor: usize,
     /// What is kept of the verdicts on each certificate.
@@ -62,23 +62,23 @@ pub struct Tree<'q, 'n> {
 #[derive(Drop)]
 pub enum TreeAnswer<'q, 'n> {
     NoAnchor,
-    WrongAnchor(&'q Object<'n>, Fault),
+    WrongAnchor(&'q BareObject<'n>, Fault),
     Walked(Tree<'q, 'n>),
 }
 
 // Adds a file's certificate to a folder, and the file to those that begin with one.
 fn keep_cert<'q, 'n>(
-    file: &'q Object<'n>,
-    cert: &Cert,
-    certs: &mut Vec<&'q Object<'n>>,
+    file: &'q BareObject<'n>,
+    said: Said,
+    certs: &mut Vec<&'q BareObject<'n>>,
     folder: &mut Folder,
 ) -> Result<(), AllocError>
-    requires { Means IsCertificate cert.now file.now.octets }
+    requires { BeginsWithSaid said file.now.octets }
     ensures certs { OnOk result (map (λ f. f.now) certs.new.items
         ≡ map (λ f. f.now) certs.old.items ++ file.now ∷ []) }
     ensures folder { OnOk result (folder.new ≡ with_cert folder.old file.now.octets) }
 {
-    folder.add_cert(file.octets().clone()?, Said::of(cert))?;
+    folder.add_cert(file.octets().clone()?, said)?;
     certs.push(file)?;
     Ok(())
 }
@@ -93,30 +93,46 @@ fn keep_list(alloc: Global, list: &Crl, folder: &mut Folder) -> Result<(), Alloc
     Ok(())
 }
 
+// Adds the list with which a file begins to a folder.
+fn keep_list_of(alloc: Global, file: &BareObject<'_>, folder: &mut Folder) -> Result<(), AllocError>
+    requires { BeginsWithList file.now.octets }
+    ensures { OnOk result ((kept : CrlState) × Means IsCertificateList kept.list file.now.octets
+        × (kept.is_cached ≡ true) × (folder.new ≡ with_list folder.old kept)) }
+{
+    match file.list(alloc)? {
+        Some(list) => {
+            let kept = keep_list(alloc, &list, folder);
+            drop(list);
+            kept
+        }
+        None => unreachable!(),
+    }
+}
+
 // Adds what a file begins with to a folder, and the file to those that begin with certificates.
 fn add_file<'q, 'n>(
     alloc: Global,
-    file: &'q Object<'n>,
-    certs: &mut Vec<&'q Object<'n>>,
+    file: &'q BareObject<'n>,
+    certs: &mut Vec<&'q BareObject<'n>>,
     folder: &mut Folder,
 ) -> Result<(), AllocError>
     ensures { (files : List FileFields)
         → IsFolderOf files (map (λ f. f.now) certs.old.items) folder.old → OnOk result
         (IsFolderOf (files ++ file.now ∷ []) (map (λ f. f.now) certs.new.items) folder.new) }
 {
-    match file.content() {
-        Content::Certificate(cert, _) => keep_cert(file, cert, certs, folder),
-        Content::List(list, _) => keep_list(alloc, list, folder),
-        Content::Neither(_) => Ok(()),
+    match file.front() {
+        Front::Certificate(said) => keep_cert(file, said, certs, folder),
+        Front::List => keep_list_of(alloc, file, folder),
+        Front::Neither => Ok(()),
     }
 }
 
 // Fills an empty folder with what files begin with, and returns those that begin with certificates.
 fn filed<'q, 'n>(
     alloc: Global,
-    files: &'q [Object<'n>],
+    files: &'q [BareObject<'n>],
     folder: &mut Folder,
-) -> Result<Vec<&'q Object<'n>>, AllocError>
+) -> Result<Vec<&'q BareObject<'n>>, AllocError>
     requires { IsFolderOf [] [] folder.old }
     ensures { IfOk result (λ certs.
         IsFolderOf files.now (map (λ f. f.now) certs.items) folder.new) }
@@ -129,33 +145,45 @@ fn filed<'q, 'n>(
 }
 
 // The first of the locators whose key the certificate has with which a file begins.
-pub(crate) fn locator_of<'q>(locators: &'q [GivenLocator<'_>], file: &Object<'_>) -> Option<&'q Tal>
-    ensures found { IfSome result (λ t. IsAnchorOf locators.now t.now file.now) }
-    ensures none { IfNone result (HasLocator locators.now file.now → ⊥) }
+pub(crate) fn locator_of<'q>(
+    alloc: Global,
+    locators: &'q [GivenLocator<'_>],
+    file: &BareObject<'_>,
+) -> Result<Option<&'q Tal>, AllocError>
+    ensures found { IfOk result (λ tal.
+        IfSome tal (λ t. IsAnchorOf locators.now t.now file.now)) }
+    ensures none { IfOk result (λ tal. IfNone tal (HasLocator locators.now file.now → ⊥)) }
 {
     laws::certificates::unambiguous();
-    match file.certificate() {
-        Some((cert, _)) => tal_of_key(locators, cert.as_tbs().subject_public_key_info()),
-        None => None,
+    match file.certificate(alloc)? {
+        Some(cert) => {
+            let found = tal_of_key(locators, cert.as_tbs().subject_public_key_info());
+            drop(cert);
+            Ok(found)
+        }
+        None => Ok(None),
     }
 }
 
 // The first certificate that has the key of a locator: its place and its file, and the locator.
 fn anchor_of<'q, 'n>(
+    alloc: Global,
     locators: &'q [GivenLocator<'n>],
-    certs: &[&'q Object<'n>],
-) -> Option<(usize, &'q Object<'n>, &'q Tal)>
-    ensures found { let files = map (λ f. f.now) certs.now in IfSome result (λ found.
-        IsAnchorAt locators.now files found.0 found.1.now found.2.now) }
-    ensures none { let files = map (λ f. f.now) certs.now in
-        IfNone result (HasNoneBelow locators.now files (length files)) }
+    certs: &[&'q BareObject<'n>],
+) -> Result<Option<(usize, &'q BareObject<'n>, &'q Tal)>, AllocError>
+    ensures found { let files = map (λ f. f.now) certs.now in IfOk result (λ anchor.
+        IfSome anchor (λ found.
+        IsAnchorAt locators.now files found.0 found.1.now found.2.now)) }
+    ensures none { let files = map (λ f. f.now) certs.now in IfOk result (λ anchor.
+        IfNone anchor (HasNoneBelow locators.now files (length files))) }
 {
     for (place, file) in certs.iter().enumerate() {
-        if let Some(tal) = locator_of(locators, *file) {
-            return Some((place, *file, tal));
+        let found = locator_of(alloc, locators, *file)?;
+        if let Some(tal) = found {
+            return Ok(Some((place, *file, tal)));
         }
     }
-    None
+    Ok(None)
 }
 
 // Walks down from the trust anchor, and keeps the lines.
@@ -164,7 +192,7 @@ fn walked(
     question: &TreeQuestion<'_, '_>,
     folder: &Folder,
     tal: &Tal,
-    anchor: &Object<'_>,
+    anchor: &BareObject<'_>,
     lines: &mut Lines,
 ) -> Result<Ended, WalkError>
     ensures tells { let q = question.now in
@@ -196,7 +224,7 @@ fn walked(
 }
 
 // What is told of the trust anchor, unless memory ran out.
-fn wrong_anchor(error: WalkError, anchor: &Object<'_>) -> Result<Fault, AllocError>
+fn wrong_anchor(error: WalkError, anchor: &BareObject<'_>) -> Result<Fault, AllocError>
     ensures { IfOk result (λ fault. (e : _) × (error ≡ Anchor e)
         × IsAnchorReason anchor.now.octets e fault) }
 {
@@ -221,13 +249,14 @@ fn grown<'q, 'n>(
     alloc: Global,
     question: &TreeQuestion<'q, 'n>,
     folder: &Folder,
-    certs: Vec<&'q Object<'n>>,
+    certs: Vec<&'q BareObject<'n>>,
 ) -> Result<TreeAnswer<'q, 'n>, AllocError>
     requires { IsFolderOf question.now.files.now (map (λ f. f.now) certs.items) folder.now }
     ensures { let x = context IsSignedByRsa question.now.at question.now.strict in
         IfOk result (IsTreeAnswer x (asked_of question.now)) }
 {
-    let Some((place, anchor, tal)) = anchor_of(question.locators, &certs) else {
+    let found = anchor_of(alloc, question.locators, &certs)?;
+    let Some((place, anchor, tal)) = found else {
         drop(certs);
         return Ok(TreeAnswer::NoAnchor);
     };

@@ -21,7 +21,7 @@ use rpki::repository::path::PathFault;
 use rpki::repository::x509::Time;
 use rpki_arguments::Format;
 use rpki_files::rules::of_path;
-use rpki_files::{Content, Object};
+use rpki_files::{BareObject, Front};
 use rpki_verdicts::{Fault, Tree, TreeAnswer, TreeQuestion};
 use serde_json::Value;
 use std::alloc::{AllocError, Global};
@@ -30,7 +30,7 @@ use std::alloc::{AllocError, Global};
 fn push_name(
     alloc: Global,
     names: &mut Vec<Value>,
-    certs: &[&Object<'_>],
+    certs: &[&BareObject<'_>],
     place: usize,
 ) -> Result<(), AllocError>
     ensures { let items = name_item (file_name_at (map (λ f. f.now) certs.now) place) in
@@ -50,7 +50,7 @@ fn push_name(
 fn push_names(
     alloc: Global,
     names: &mut Vec<Value>,
-    certs: &[&Object<'_>],
+    certs: &[&BareObject<'_>],
     places: &[usize],
 ) -> Result<(), AllocError>
     ensures { let items = name_items (map (λ f. f.now) certs.now) places.now in
@@ -81,7 +81,7 @@ fn put_accepted(
 // That a certificate is rejected, how many stand above it, and why.
 fn put_rejected(
     out: &mut Members,
-    file: &Object<'_>,
+    file: &BareObject<'_>,
     member: usize,
     fault: &PathFault,
 ) -> Result<(), AllocError>
@@ -102,7 +102,7 @@ fn put_line(
     out: &mut Members,
     alloc: Global,
     tree: &Tree<'_, '_>,
-    file: &Object<'_>,
+    file: &BareObject<'_>,
     line: Option<&Line>,
 ) -> Result<(), AllocError>
     ensures { let its = option_map (λ l. l.now) line.entry in
@@ -122,7 +122,7 @@ fn put_certificate(
     alloc: Global,
     tree: &Tree<'_, '_>,
     place: usize,
-    file: &Object<'_>,
+    file: &BareObject<'_>,
 ) -> Result<(), AllocError>
     ensures { let Are = AreCertificateMembers tree.now place file.now in
         OnOk result (PutsSome Are out.old out.new) }
@@ -140,23 +140,23 @@ fn put_said(
     alloc: Global,
     tree: &Tree<'_, '_>,
     place: usize,
-    file: &Object<'_>,
+    file: &BareObject<'_>,
 ) -> Result<usize, AllocError>
     requires { place + 1 < 2 ^ 64 }
     ensures next { IfOk result (λ next. next ≤ place + 1) }
     ensures said { IfOk result (λ next.
         PutsSome (AreFileMembers tree.now place next file.now) out.old out.new) }
 {
-    match file.content() {
-        Content::Certificate(..) => {
+    match file.front() {
+        Front::Certificate(_) => {
             put_certificate(out, alloc, tree, place, file)?;
             Ok(place + 1)
         }
-        Content::List(..) => {
+        Front::List => {
             out.text("verdict", "list")?;
             Ok(place)
         }
-        Content::Neither(_) => {
+        Front::Neither => {
             out.text("verdict", "neither")?;
             Ok(place)
         }
@@ -169,7 +169,7 @@ fn push_file(
     values: &mut Vec<Value>,
     tree: &Tree<'_, '_>,
     place: usize,
-    file: &Object<'_>,
+    file: &BareObject<'_>,
 ) -> Result<usize, AllocError>
     requires { place + 1 < 2 ^ 64 }
     ensures next { IfOk result (λ next. next ≤ place + 1) }
@@ -188,7 +188,7 @@ fn push_files(
     alloc: Global,
     values: &mut Vec<Value>,
     tree: &Tree<'_, '_>,
-    files: &[Object<'_>],
+    files: &[BareObject<'_>],
 ) -> Result<usize, AllocError>
     ensures { IfOk result (λ last. PushesSome (SaysInOrder (IsFileItem tree.now) 0 last files.now)
         values.old.items values.new.items) }
@@ -204,7 +204,7 @@ fn push_files(
 fn values_of(
     alloc: Global,
     tree: &Tree<'_, '_>,
-    files: &[Object<'_>],
+    files: &[BareObject<'_>],
 ) -> Result<Vec<Value>, AllocError>
     ensures { IfOk result (λ values. (last : ℕ)
         × SaysInOrder (IsFileItem tree.now) 0 last files.now (map view values.items)) }
@@ -269,7 +269,7 @@ fn no_anchor(alloc: Global) -> Result<Value, AllocError>
 }
 
 // Why nothing is judged where the trust anchor is wrong.
-fn wrong_anchor(alloc: Global, anchor: &Object<'_>, fault: &Fault) -> Result<Value, AllocError>
+fn wrong_anchor(alloc: Global, anchor: &BareObject<'_>, fault: &Fault) -> Result<Value, AllocError>
     ensures { IfOk result (λ made.
         view made ≡ wrong_anchor_json anchor.now (reason_of fault.now)) }
 {

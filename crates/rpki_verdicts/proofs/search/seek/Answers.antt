@@ -5,10 +5,10 @@ use Rattle.rpki_verdicts.specs.Trees.{asked_of}
 use Rattle.rpki_verdicts.proofs.SearchSteps.{alone_in, of_first}
 use Rattle.rpki_verdicts.proofs.search.seek.Goals as goal
 
-pub returns-then-stands_alone : goal.returns-then-stands_alone
-returns-then-stands_alone c =
+pub returns-then-is_alone : goal.returns-then-is_alone
+returns-then-is_alone c =
     let q = c.args.question.now in
     let x = context IsSignedByRsa q.at q.strict in
     let file = c.in-Some.file.now in
     of_first x (asked_of q) (λ path. map (λ f. f.now) path.items) c.alone.result q.files.now c.in-Some.field-0-1.now file c.in-Some.ensures.cases.0
-    (alone_in x (asked_of q) file (λ path. map (λ f. f.now) path.items) c.alone.result (c.stands_alone.ensures.alone c.if-stands_alone.true) c.alone.ensures)
+    (alone_in x (asked_of q) file (λ path. map (λ f. f.now) path.items) c.alone.result (c.in_ok-is_alone.ensures.alone c.if-is_alone.true) c.alone.ensures)

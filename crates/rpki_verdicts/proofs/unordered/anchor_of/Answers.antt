@@ -11,4 +11,5 @@ loop-place-preserved c =
     let file = c.index-certs-place.result in
     let low : i < length certs = omega arith in
     let there : slice_get certs i ≡ Some file = slice_get_read certs (length certs) i file refl low c.index-certs-place.is in
-    none_more c.args.locators.now (map (λ f. f.now) certs) i file.now (mapped_at (λ f. f.now) certs i file there) c.in_default.ensures.none c.loop-place.invariant
+    let none = rw c.in_default.is at c.in_ok-found.ensures.none in
+    none_more c.args.locators.now (map (λ f. f.now) certs) i file.now (mapped_at (λ f. f.now) certs i file there) none c.loop-place.invariant

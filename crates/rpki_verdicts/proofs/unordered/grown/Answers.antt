@@ -14,7 +14,8 @@ pub returns-in_default : goal.returns-in_default
 returns-in_default c =
     let files = map (λ f. f.now) c.args.certs.items in
     let same = ap (λ (l : List _). map (λ f. f.now) l) c.deref.ensures.value in
-    (files, c.requires.certs_are, subst (λ (l : List FileFields). HasNoneBelow c.args.question.now.locators.now l (length l)) same c.in_default.ensures.none)
+    let none = rw c.in_default.is at c.in_ok-found.ensures.none in
+    (files, c.requires.certs_are, subst (λ (l : List FileFields). HasNoneBelow c.args.question.now.locators.now l (length l)) same none)
 
 pub returns-in-Ok : goal.returns-in-Ok
 returns-in-Ok c =
@@ -26,13 +27,14 @@ returns-in-Ok c =
     let anchor = c.in-Some.anchor.now in
     let tal = c.in-Some.tal.now in
     let walk = c.in-Ok.ensures.tells in
+    let there = rw c.in-Some.is at c.in_ok-found.ensures.found in
     record {
       certs_are = c.requires.certs_are;
       lists = folder.lists;
       lists_are = c.requires.lists_are;
       anchor = anchor;
       locator = tal;
-      anchor_is = subst (λ (l : List FileFields). IsAnchorAt q.locators.now l c.in-Some.place anchor tal) same c.in-Some.ensures.found;
+      anchor_is = subst (λ (l : List FileFields). IsAnchorAt q.locators.now l c.in-Some.place anchor tal) same there;
       is_valid = c.in-Ok.ensures.anchor;
       told = walk.0;
       tells = subst (λ (l : List (List ℕ)). Tells {E = WalkError} x (by_lists x folder.lists) every (at_anchor tal anchor.octets) l [] q.depth q.steps (Ok c.in-Ok.ended) walk.0) c.requires.octets_are walk.2;
@@ -56,7 +58,7 @@ returns-in_ok-fault-in-Err c =
       lists_are = c.requires.lists_are;
       place = c.in-Some.place;
       locator = tal;
-      anchor_is = subst (λ (l : List FileFields). IsAnchorAt q.locators.now l c.in-Some.place anchor tal) same c.in-Some.ensures.found;
+      anchor_is = subst (λ (l : List FileFields). IsAnchorAt q.locators.now l c.in-Some.place anchor tal) same there;
       error = wrong.0;
       why = rw wrong.1 at c.in-Err.ensures.fault;
       reason_is = wrong.2;

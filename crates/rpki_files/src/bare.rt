@@ -1,0 +1,161 @@
+//! Objects of many files, of which only the octets are kept.
+ghost use Rattle.std.specs.Prelude.{◌≡◌, ◌↔◌, ℕ, List, IfOk, IfSome, IsTrue, MatchOption};
+ghost use Rattle.rpki.specs.Certificates.{CertFields, IsCertificate};
+ghost use Rattle.rpki.specs.Encoding.{Means};
+ghost use Rattle.rpki.specs.Lists.{IsCertificateList};
+ghost use Rattle.rpki_files.specs.Contents.{BeginsWithCertificate, BeginsWithEither, BeginsWithList, IsContent, IsFront};
+ghost use Rattle.rpki_files.specs.PemFiles.{IsObjectOf};
+
+use crate::contents::{Content, read_content};
+use crate::files::{Object, object_octets, object_of};
+use bytes::Bytes;
+use rpki::repository::folder::Said;
+use rpki::repository::{Cert, Crl};
+use std::alloc::{AllocError, Global};
+use std::marker::Model;
+
+/// What octets begin with, without what was read of it.
+#[derive(Clone, Copy)]
+pub enum Front {
+    /// A certificate, which says this.
+    Certificate(Said),
+    List,
+    Neither,
+}
+
+/// An object without what was read of it, which would take as much memory as its octets: its file's
+/// name, its octets, in DER, and what they begin with.
+#[derive(Drop)]
+pub struct BareObject<'a> {
+    name: &'a str,
+    octets: Bytes,
+    front: Front,
+}
+
+impl<'a> Model for BareObject<'a> {
+    ghost use Rattle.rpki_files.specs.Files.{FileFields};
+    ghost use Rattle.rpki_files.specs.Contents.{IsFront};
+
+    ghost Value = { FileFields };
+
+    ghost view = { λ o. record { name = o.name.now; octets = o.octets } };
+
+    ghost invariant = { λ o. IsFront o.octets o.front };
+}
+
+// What is kept of what octets begin with.
+fn front_of(content: &Content) -> Front
+    ensures { (octets : List ℕ) → IsContent octets content.now → IsFront octets result }
+{
+    match content {
+        Content::Certificate(cert, _) => Front::Certificate(Said::of(cert)),
+        Content::List(..) => Front::List,
+        Content::Neither(_) => Front::Neither,
+    }
+}
+
+// What octets begin with, of which no more is kept.
+fn read_front(alloc: Global, octets: &Bytes) -> Result<Front, AllocError>
+    ensures { IfOk result (IsFront octets.now) }
+{
+    let content = read_content(alloc, octets)?;
+    let front = front_of(&content);
+    drop(content);
+    Ok(front)
+}
+
+impl<'a> BareObject<'a> {
+    /// Returns the file's name.
+    pub fn name(&self) -> &str
+        ensures { result.now ≡ self.now.name }
+    {
+        self.name
+    }
+
+    /// Returns the octets of the object.
+    pub fn octets(&self) -> &Bytes
+        ensures { result.now ≡ self.now.octets }
+    {
+        &self.octets
+    }
+
+    /// Returns what the octets begin with.
+    pub fn front(&self) -> Front
+        ensures { IsFront self.now.octets result }
+    {
+        self.front
+    }
+
+    /// Returns whether the octets begin with a certificate.
+    pub fn is_certificate(&self) -> bool
+        ensures { IsTrue result ↔ BeginsWithCertificate self.now.octets }
+    {
+        match self.front() {
+            Front::Certificate(_) => true,
+            Front::List | Front::Neither => false,
+        }
+    }
+
+    /// Returns whether the octets begin with a revocation list.
+    pub fn is_list(&self) -> bool
+        ensures { IsTrue result ↔ BeginsWithList self.now.octets }
+    {
+        match self.front() {
+            Front::List => true,
+            Front::Certificate(_) | Front::Neither => false,
+        }
+    }
+
+    /// Reads the certificate that the octets begin with, if they begin with one. Errs only where
+    /// memory runs out.
+    pub fn certificate(&self, alloc: Global) -> Result<Option<Cert>, AllocError>
+        ensures { let octets = self.now.octets in IfOk result (λ found.
+            MatchOption found (BeginsWithCertificate octets → ⊥)
+            (λ c. Means IsCertificate c octets)) }
+    {
+        match read_content(alloc, &self.octets)? {
+            Content::Certificate(cert, _) => Ok(Some(cert)),
+            Content::List(..) | Content::Neither(_) => Ok(None),
+        }
+    }
+
+    /// Reads the revocation list that the octets begin with, if they begin with one. Errs only where
+    /// memory runs out.
+    pub fn list(&self, alloc: Global) -> Result<Option<Crl>, AllocError>
+        ensures { let octets = self.now.octets in IfOk result (λ found.
+            MatchOption found (BeginsWithList octets → ⊥)
+            (λ l. Means IsCertificateList l.list octets)) }
+    {
+        match read_content(alloc, &self.octets)? {
+            Content::List(list, _) => Ok(Some(list)),
+            Content::Certificate(..) | Content::Neither(_) => Ok(None),
+        }
+    }
+
+    /// Returns the object with what is read of it. Errs only where memory runs out.
+    pub fn object(&self, alloc: Global) -> Result<Object<'a>, AllocError>
+        ensures { IfOk result (λ object. object ≡ self.now) }
+    {
+        object_of(alloc, self.name, self.octets.clone()?)
+    }
+}
+
+/// Reads the object of a file, in DER or in PEM, and what it begins with, of which no more is kept.
+pub fn read_bare_object<'a>(
+    alloc: Global,
+    name: &'a str,
+    file: Vec<u8>,
+) -> Result<BareObject<'a>, AllocError>
+    ensures name { IfOk result (λ object. object.name ≡ name.now) }
+    ensures object { IfOk result (λ object. IsObjectOf file.items object.octets) }
+    ensures der { BeginsWithEither file.items
+        → IfOk result (λ object. object.octets ≡ file.items) }
+{
+    let octets = object_octets(alloc, file)?;
+    let front = read_front(alloc, &octets)?;
+    Ok(BareObject {
+        name,
+        octets,
+        front,
+    })
+}
