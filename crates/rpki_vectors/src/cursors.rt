@@ -1,6 +1,6 @@
 //! Values of DER that a cursor reads.
 use crate::answer::Answer;
-use crate::show::{Show, Twin, read};
+use crate::show::{Show, Twin, read, read_or_return};
 use crate::words::Words;
 use rpki_der::{Cursor, DecodeError, Oid, Piece};
 use std::alloc::{AllocError, Global};
@@ -13,13 +13,8 @@ fn content(out: &mut Answer, it: &Cursor<'_>) {
 }
 
 fn inside(out: &mut Answer, found: Result<Cursor<'_>, DecodeError>) {
-    match found {
-        Ok(it) => {
-            out.text("ok");
-            content(out, &it);
-        }
-        Err(error) => out.refused(&error),
-    }
+    let it = read_or_return!(out, found);
+    content(out, &it);
 }
 
 fn optional(out: &mut Answer, found: Result<Option<Cursor<'_>>, DecodeError>) {
@@ -69,48 +64,28 @@ impl Twin for Oid {
 }
 
 fn identifier(out: &mut Answer, found: Result<&[u8], DecodeError>) {
-    match found {
-        Ok(octets) => {
-            out.text("ok");
-            out.field("oid");
-            out.octets(octets);
-        }
-        Err(error) => out.refused(&error),
-    }
+    let octets = read_or_return!(out, found);
+    out.field("oid");
+    out.octets(octets);
 }
 
 fn bits(out: &mut Answer, found: Result<(u8, Cursor<'_>), DecodeError>) {
-    match found {
-        Ok((unused, it)) => {
-            out.text("ok");
-            out.field("unused");
-            out.count(usize::from(unused));
-            content(out, &it);
-        }
-        Err(error) => out.refused(&error),
-    }
+    let (unused, it) = read_or_return!(out, found);
+    out.field("unused");
+    out.count(usize::from(unused));
+    content(out, &it);
 }
 
 fn number(out: &mut Answer, found: Result<u32, DecodeError>) {
-    match found {
-        Ok(n) => {
-            out.text("ok");
-            out.field("number");
-            out.number(n);
-        }
-        Err(error) => out.refused(&error),
-    }
+    let n = read_or_return!(out, found);
+    out.field("number");
+    out.number(n);
 }
 
 fn flag(out: &mut Answer, found: Result<bool, DecodeError>) {
-    match found {
-        Ok(holds) => {
-            out.text("ok");
-            out.field("value");
-            out.yes(holds);
-        }
-        Err(error) => out.refused(&error),
-    }
+    let holds = read_or_return!(out, found);
+    out.field("value");
+    out.yes(holds);
 }
 
 // Each of the next two says whether the call is one of its own.

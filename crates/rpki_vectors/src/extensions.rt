@@ -2,12 +2,12 @@
 use crate::answer::Answer;
 use crate::parts::key_identifier;
 use crate::sets::mode;
-use crate::show::{Show, Twin, read};
+use crate::show::{Show, Twin, read, read_or_return};
 use crate::uris::{https, rsync};
 use crate::words::Words;
-use crate::writing::{behind, started};
+use crate::writing::put_behind;
 use rpki_blocks::Overclaim;
-use rpki_der::{Cursor, DecodeError, EncodeError};
+use rpki_der::{Cursor, DecodeError};
 use rpki_ext::{
     ExtendedKeyUsage, KeyUsage, Sia, encode_authority_information_access,
     encode_authority_key_identifier, encode_basic_constraints, encode_certificate_policies,
@@ -20,69 +20,39 @@ use rpki_ext::{
 use rpki_parts::{KeyIdentifier, Rsync};
 use std::alloc::{AllocError, Global};
 
-/// Appends what was written of a value.
-pub fn written(out: &mut Answer, answer: Result<(), EncodeError>, octets: &[u8]) {
-    out.field("written");
-    behind(out, answer, octets);
-}
-
 fn whole(out: &mut Answer, found: Result<(&[u8], bool, Cursor<'_>), DecodeError>) {
-    match found {
-        Ok((id, critical, content)) => {
-            out.text("ok");
-            out.field("oid");
-            out.octets(id);
-            out.field("critical");
-            out.yes(critical);
-            out.field("content");
-            out.octets(content.rest());
-            out.field("span");
-            out.span(&content);
-        }
-        Err(error) => out.refused(&error),
-    }
+    let (id, critical, content) = read_or_return!(out, found);
+    out.field("oid");
+    out.octets(id);
+    out.field("critical");
+    out.yes(critical);
+    out.field("content");
+    out.octets(content.rest());
+    out.field("span");
+    out.span(&content);
 }
 
 fn basic_constraints(out: &mut Answer, found: Result<bool, DecodeError>) {
-    match found {
-        Ok(ca) => {
-            out.text("ok");
-            out.field("basic-ca");
-            out.yes(ca);
-            let mut octets = started(out);
-            let answer = encode_basic_constraints(out.alloc(), &mut octets, ca);
-            written(out, answer, &octets);
-        }
-        Err(error) => out.refused(&error),
-    }
+    let ca = read_or_return!(out, found);
+    out.field("basic-ca");
+    out.yes(ca);
+    put_behind!(out, "written", octets => encode_basic_constraints(out.alloc(), &mut octets, ca));
 }
 
 fn subject_key_identifier(out: &mut Answer, found: Result<KeyIdentifier, DecodeError>) {
-    match found {
-        Ok(it) => {
-            out.text("ok");
-            out.field("subject-key-identifier");
-            key_identifier(out, Some(it));
-            let mut octets = started(out);
-            let answer = encode_subject_key_identifier(out.alloc(), &mut octets, it);
-            written(out, answer, &octets);
-        }
-        Err(error) => out.refused(&error),
-    }
+    let it = read_or_return!(out, found);
+    out.field("subject-key-identifier");
+    key_identifier(out, Some(it));
+    put_behind!(out, "written", octets =>
+        encode_subject_key_identifier(out.alloc(), &mut octets, it));
 }
 
 fn authority_key_identifier(out: &mut Answer, found: Result<KeyIdentifier, DecodeError>) {
-    match found {
-        Ok(it) => {
-            out.text("ok");
-            out.field("authority-key-identifier");
-            key_identifier(out, Some(it));
-            let mut octets = started(out);
-            let answer = encode_authority_key_identifier(out.alloc(), &mut octets, it);
-            written(out, answer, &octets);
-        }
-        Err(error) => out.refused(&error),
-    }
+    let it = read_or_return!(out, found);
+    out.field("authority-key-identifier");
+    key_identifier(out, Some(it));
+    put_behind!(out, "written", octets =>
+        encode_authority_key_identifier(out.alloc(), &mut octets, it));
 }
 
 /// Returns the usage's name.
@@ -93,35 +63,19 @@ pub fn usage(it: KeyUsage) -> &'static str {
     }
 }
 
-fn usage_bits(out: &mut Answer, it: KeyUsage) {
-    out.field("written-bits");
-    let mut octets = started(out);
-    let answer = it.encode(out.alloc(), &mut octets);
-    behind(out, answer, &octets);
-}
-
 fn key_usage(out: &mut Answer, found: Result<KeyUsage, DecodeError>) {
-    match found {
-        Ok(it) => {
-            out.text("ok");
-            out.field("key-usage");
-            out.text(usage(it));
-            let mut octets = started(out);
-            let answer = encode_key_usage(out.alloc(), &mut octets, it);
-            written(out, answer, &octets);
-            usage_bits(out, it);
-        }
-        Err(error) => out.refused(&error),
-    }
+    let it = read_or_return!(out, found);
+    out.field("key-usage");
+    out.text(usage(it));
+    put_behind!(out, "written", octets => encode_key_usage(out.alloc(), &mut octets, it));
+    put_behind!(out, "written-bits", octets => it.encode(out.alloc(), &mut octets));
 }
 
 /// Appends the purposes as they are written, or `none`.
 pub fn purposes(out: &mut Answer, it: Option<&ExtendedKeyUsage>) {
     match it {
         Some(it) => {
-            let mut octets = started(out);
-            let answer = it.encode_ref(out.alloc(), &mut octets);
-            behind(out, answer, &octets);
+            put_behind!(out, octets => it.encode_ref(out.alloc(), &mut octets));
         }
         None => out.text("none"),
     }
@@ -131,9 +85,8 @@ impl Show for ExtendedKeyUsage {
     fn show(&self, out: &mut Answer) {
         out.field("extended-key-usage");
         purposes(out, Some(self));
-        let mut octets = started(out);
-        let answer = encode_extended_key_usage(out.alloc(), &mut octets, self);
-        written(out, answer, &octets);
+        put_behind!(out, "written", octets =>
+            encode_extended_key_usage(out.alloc(), &mut octets, self));
     }
 }
 
@@ -144,31 +97,19 @@ impl Twin for ExtendedKeyUsage {
 }
 
 fn crl_distribution_points(out: &mut Answer, found: Result<Rsync, DecodeError>) {
-    match found {
-        Ok(it) => {
-            out.text("ok");
-            out.field("crl-uri");
-            rsync(out, Some(&it));
-            let mut octets = started(out);
-            let answer = encode_crl_distribution_points(out.alloc(), &mut octets, &it);
-            written(out, answer, &octets);
-        }
-        Err(error) => out.refused(&error),
-    }
+    let it = read_or_return!(out, found);
+    out.field("crl-uri");
+    rsync(out, Some(&it));
+    put_behind!(out, "written", octets =>
+        encode_crl_distribution_points(out.alloc(), &mut octets, &it));
 }
 
 fn authority_information_access(out: &mut Answer, found: Result<Rsync, DecodeError>) {
-    match found {
-        Ok(it) => {
-            out.text("ok");
-            out.field("ca-issuer");
-            rsync(out, Some(&it));
-            let mut octets = started(out);
-            let answer = encode_authority_information_access(out.alloc(), &mut octets, &it);
-            written(out, answer, &octets);
-        }
-        Err(error) => out.refused(&error),
-    }
+    let it = read_or_return!(out, found);
+    out.field("ca-issuer");
+    rsync(out, Some(&it));
+    put_behind!(out, "written", octets =>
+        encode_authority_information_access(out.alloc(), &mut octets, &it));
 }
 
 fn sia_fields(out: &mut Answer, it: &Sia) {
@@ -183,41 +124,28 @@ fn sia_fields(out: &mut Answer, it: &Sia) {
 }
 
 fn sia_written(out: &mut Answer, it: &Sia) {
-    let mut octets = started(out);
-    let answer = encode_subject_information_access(
+    put_behind!(out, "written", octets => encode_subject_information_access(
         out.alloc(),
         &mut octets,
         it.ca_repository(),
         it.rpki_manifest(),
         it.signed_object(),
         it.rpki_notify(),
-    );
-    written(out, answer, &octets);
+    ));
 }
 
 fn subject_information_access(out: &mut Answer, found: Result<Sia, DecodeError>) {
-    match found {
-        Ok(it) => {
-            out.text("ok");
-            sia_fields(out, &it);
-            sia_written(out, &it);
-        }
-        Err(error) => out.refused(&error),
-    }
+    let it = read_or_return!(out, found);
+    sia_fields(out, &it);
+    sia_written(out, &it);
 }
 
 fn certificate_policies(out: &mut Answer, found: Result<Overclaim, DecodeError>) {
-    match found {
-        Ok(it) => {
-            out.text("ok");
-            out.field("overclaim");
-            out.text(mode(it));
-            let mut octets = started(out);
-            let answer = encode_certificate_policies(out.alloc(), &mut octets, it);
-            written(out, answer, &octets);
-        }
-        Err(error) => out.refused(&error),
-    }
+    let it = read_or_return!(out, found);
+    out.field("overclaim");
+    out.text(mode(it));
+    put_behind!(out, "written", octets =>
+        encode_certificate_policies(out.alloc(), &mut octets, it));
 }
 
 // Reads the usage by the call of the type.

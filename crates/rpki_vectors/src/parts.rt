@@ -10,6 +10,15 @@ use rpki_parts::{
 use std::alloc::{AllocError, Global};
 use std::cmp::Ordering;
 
+// Appends what a call writes of a value that was read, into the vector of this name.
+macro_rules! put_again {
+    ($out:expr, $octets:ident => $written:expr) => {{
+        let mut $octets: Vec<u8> = Vec::new($out.alloc());
+        let answer = $written;
+        $out.again(answer, &$octets);
+    }};
+}
+
 /// Appends the serial number as it is written.
 pub fn serial(out: &mut Answer, it: Serial) {
     let mut octets: Vec<u8> = Vec::new(out.alloc());
@@ -80,9 +89,7 @@ impl Show for Validity {
         time(out, self.not_before());
         out.field("not-after");
         time(out, self.not_after());
-        let mut octets: Vec<u8> = Vec::new(out.alloc());
-        let answer = self.encode(out.alloc(), &mut octets);
-        out.again(answer, &octets);
+        put_again!(out, octets => self.encode(out.alloc(), &mut octets));
     }
 }
 
@@ -90,9 +97,7 @@ impl Show for KeyIdentifier {
     fn show(&self, out: &mut Answer) {
         out.field("identifier");
         key_identifier(out, Some(*self));
-        let mut octets: Vec<u8> = Vec::new(out.alloc());
-        let answer = self.encode_ref(out.alloc(), &mut octets);
-        out.again(answer, &octets);
+        put_again!(out, octets => self.encode_ref(out.alloc(), &mut octets));
         out.field("written-80");
         let mut tagged: Vec<u8> = Vec::new(out.alloc());
         let answer = self.encode_ref_as(out.alloc(), &mut tagged, 0x80);
@@ -102,9 +107,7 @@ impl Show for KeyIdentifier {
 
 impl Show for RpkiSignatureAlgorithm {
     fn show(&self, out: &mut Answer) {
-        let mut octets: Vec<u8> = Vec::new(out.alloc());
-        let answer = self.x509_encode(out.alloc(), &mut octets);
-        out.again(answer, &octets);
+        put_again!(out, octets => self.x509_encode(out.alloc(), &mut octets));
         out.field("is-default");
         out.yes(*self == RpkiSignatureAlgorithm::default());
         out.field("is-without-parameter");
@@ -116,9 +119,7 @@ impl Show for Name {
     fn show(&self, out: &mut Answer) {
         out.field("name");
         out.octets(self.as_bytes());
-        let mut octets: Vec<u8> = Vec::new(out.alloc());
-        let answer = self.encode_ref(out.alloc(), &mut octets);
-        out.again(answer, &octets);
+        put_again!(out, octets => self.encode_ref(out.alloc(), &mut octets));
     }
 }
 
@@ -144,9 +145,7 @@ impl Show for PublicKey {
         out.field("subject-name");
         let found = self.to_subject_name(out.alloc());
         subject_name(out, found);
-        let mut octets: Vec<u8> = Vec::new(out.alloc());
-        let answer = self.encode_ref(out.alloc(), &mut octets);
-        out.again(answer, &octets);
+        put_again!(out, octets => self.encode_ref(out.alloc(), &mut octets));
     }
 }
 
@@ -164,9 +163,7 @@ impl Show for SignedData {
         algorithm(out, self.signature().algorithm());
         out.field("signature");
         out.octets(self.signature().value());
-        let mut octets: Vec<u8> = Vec::new(out.alloc());
-        let answer = self.encode_ref(out.alloc(), &mut octets);
-        out.again(answer, &octets);
+        put_again!(out, octets => self.encode_ref(out.alloc(), &mut octets));
     }
 }
 

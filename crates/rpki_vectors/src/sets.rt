@@ -1,9 +1,8 @@
 //! Sets of addresses and of AS numbers.
 use crate::answer::Answer;
-use crate::extensions::written;
-use crate::show::stays;
+use crate::show::{read_or_return, stays};
 use crate::words::{Words, decimal, hexadecimal};
-use crate::writing::{behind, started};
+use crate::writing::put_behind;
 use rpki_blocks::{
     Addr, AsResources, Asn, Block, BlocksBuilder, Bound, Chain, Inherited, IpBlock, IpBlocks,
     IpResources, IssueError, Overclaim, Prefix, Resources,
@@ -57,9 +56,8 @@ impl Kind for Addr {
 
     fn print_extension(out: &mut Answer, set: &IpBlocks, listed: &IpResources, mode: Overclaim) {
         let four = four_of(out, set);
-        let mut octets = started(out);
-        let answer = IpResources::encode_extension(out.alloc(), &mut octets, mode, &four, listed);
-        behind(out, answer, &octets);
+        put_behind!(out, octets =>
+            IpResources::encode_extension(out.alloc(), &mut octets, mode, &four, listed));
     }
 }
 
@@ -75,9 +73,7 @@ impl Kind for Asn {
     fn print_more(_out: &mut Answer, _set: &Chain<Asn>) {}
 
     fn print_extension(out: &mut Answer, _set: &Chain<Asn>, listed: &AsResources, mode: Overclaim) {
-        let mut octets = started(out);
-        let answer = listed.encode_extension(out.alloc(), &mut octets, mode);
-        behind(out, answer, &octets);
+        put_behind!(out, octets => listed.encode_extension(out.alloc(), &mut octets, mode));
     }
 }
 
@@ -369,10 +365,9 @@ fn family(out: &mut Answer, it: Option<&IpResources>) {
 }
 
 fn families_written(out: &mut Answer, v4: &IpResources, v6: &IpResources) {
-    let mut octets = started(out);
     let mode = Overclaim::Refuse;
-    let answer = IpResources::encode_extension(out.alloc(), &mut octets, mode, v4, v6);
-    written(out, answer, &octets);
+    put_behind!(out, "written", octets =>
+        IpResources::encode_extension(out.alloc(), &mut octets, mode, v4, v6));
 }
 
 fn families_or_missing(out: &mut Answer, v4: Option<IpResources>, v6: Option<IpResources>) {
@@ -385,31 +380,20 @@ fn families(
     out: &mut Answer,
     found: Result<(Option<IpResources>, Option<IpResources>), DecodeError>,
 ) {
-    match found {
-        Ok((v4, v6)) => {
-            out.text("ok");
-            out.field("v4-resources");
-            family(out, v4.as_ref());
-            out.field("v6-resources");
-            family(out, v6.as_ref());
-            families_or_missing(out, v4, v6);
-        }
-        Err(error) => out.refused(&error),
-    }
+    let (v4, v6) = read_or_return!(out, found);
+    out.field("v4-resources");
+    family(out, v4.as_ref());
+    out.field("v6-resources");
+    family(out, v6.as_ref());
+    families_or_missing(out, v4, v6);
 }
 
 fn numbers(out: &mut Answer, found: Result<AsResources, DecodeError>) {
-    match found {
-        Ok(it) => {
-            out.text("ok");
-            out.field("as-resources");
-            listed(out, &it);
-            let mut octets = started(out);
-            let answer = it.encode_extension(out.alloc(), &mut octets, Overclaim::Trim);
-            written(out, answer, &octets);
-        }
-        Err(error) => out.refused(&error),
-    }
+    let it = read_or_return!(out, found);
+    out.field("as-resources");
+    listed(out, &it);
+    put_behind!(out, "written", octets =>
+        it.encode_extension(out.alloc(), &mut octets, Overclaim::Trim));
 }
 
 fn read_addresses(words: &Words<'_>, out: &mut Answer) {

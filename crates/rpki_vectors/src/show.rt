@@ -3,6 +3,24 @@ use crate::answer::Answer;
 use rpki_der::{Cursor, DecodeError};
 use std::alloc::{AllocError, Global};
 
+/// Appends `ok`, and is what was read; where nothing was, appends why, and returns.
+macro_rules! read_or_return {
+    ($out:expr, $answer:expr) => {
+        match $answer {
+            Ok(value) => {
+                $out.text("ok");
+                value
+            }
+            Err(error) => {
+                $out.refused(&error);
+                return;
+            }
+        }
+    };
+}
+
+pub(crate) use read_or_return;
+
 /// A value of which an answer shows what its getters give.
 pub trait Show {
     /// Appends a field for each of them.

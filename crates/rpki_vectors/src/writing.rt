@@ -26,6 +26,22 @@ pub fn behind(out: &mut Answer, answer: Result<(), EncodeError>, octets: &[u8]) 
     }
 }
 
+/// Appends what a call writes behind that octet, into the vector of this name, and before it the name
+/// of a field, if there is one.
+macro_rules! put_behind {
+    ($out:expr, $field:literal, $octets:ident => $written:expr) => {
+        $out.field($field);
+        put_behind!($out, $octets => $written);
+    };
+    ($out:expr, $octets:ident => $written:expr) => {{
+        let mut $octets = crate::writing::started($out);
+        let answer = $written;
+        crate::writing::behind($out, answer, &$octets);
+    }};
+}
+
+pub(crate) use put_behind;
+
 fn done(out: &mut Answer, answer: Result<(), EncodeError>, octets: &[u8]) {
     out.text("ok");
     out.field("written");

@@ -174,6 +174,28 @@ pub fn plain<T: Drop, E: Fault>(alloc: Global, answer: Result<T, E>) -> Option<T
     Some(Told::of(ended(alloc, answer)))
 }
 
+/// Makes a call between the two marks, and tells what it answered. Where a name and a condition
+/// follow, what it gave has to meet that.
+macro_rules! called {
+    ($alloc:expr, $call:expr) => {{
+        crate::calls::asking::begin($alloc);
+        let answer = $call;
+        crate::calls::asking::plain($alloc, answer)
+    }};
+    ($alloc:expr, $call:expr, $given:ident => $is_right:expr) => {{
+        crate::calls::asking::begin($alloc);
+        let answer = $call;
+        let stands = match &answer {
+            Ok($given) => $is_right,
+            Err(_) => true,
+        };
+        let answer = crate::calls::asking::ended($alloc, answer);
+        Some(crate::calls::asking::Told::standing(answer, stands))
+    }};
+}
+
+pub(crate) use called;
+
 /// What a reader answered: the cursor has to stand at its end after an Ok, and where it stood, at
 /// 0, after an error.
 pub fn read<T: Drop, E: Fault>(

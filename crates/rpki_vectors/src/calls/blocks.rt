@@ -1,6 +1,6 @@
 //! Sets of addresses and AS numbers.
 
-use crate::calls::asking::{Told, begin, end, ended};
+use crate::calls::asking::{Told, begin, called, end, ended};
 use rpki_blocks::{AsBlock, AsBlocks, AsBlocksBuilder, AsResources, Asn};
 use std::alloc::{AllocError, Global};
 
@@ -50,11 +50,16 @@ fn empty(alloc: Global) -> Option<Told> {
     Some(Told::of("ok"))
 }
 
+fn lists_seven(listed: &AsResources) -> bool {
+    match listed.as_blocks() {
+        Some(set) => set.contains(Asn::from(7)),
+        None => false,
+    }
+}
+
 fn resources_copied(alloc: Global) -> Option<Told> {
     let listed = AsResources::blocks(one(alloc)?);
-    begin(alloc);
-    let answer = ended(alloc, listed.try_clone(alloc));
-    Some(Told::standing(answer, listed.is_present()))
+    called!(alloc, listed.try_clone(alloc), copy => lists_seven(copy))
 }
 
 /// The calls of `rpki_blocks`.

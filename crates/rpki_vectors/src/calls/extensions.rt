@@ -1,7 +1,7 @@
 //! All extensions of a certificate.
 
-use crate::calls::asking::{Told, begin, ended, plain, vector};
-use rpki_blocks::Overclaim;
+use crate::calls::asking::{Told, called, ended, vector};
+use rpki_blocks::{Asn, Overclaim};
 use rpki_cert_tests::samples::{self, rsa};
 use rpki_der::Cursor;
 use rpki_ext::{Extensions, KeyUsage};
@@ -36,12 +36,19 @@ const WRITTEN: &str =
 const READ: &str =
     "301d0603551d0e04160414a9993e364706816aba3e25717850c26c9cd0d89d300e0603551d0f0101ff040403020780301d06082b0601050507011d0101ff040e300ca00a3008300602010102010a30180603551d200101ff040e300c300a06082b06010505070e03";
 
+// Whether these are what was read: they list AS10, for this key.
+fn is_read(extensions: &Extensions) -> bool {
+    let lists = match extensions.as_resources.as_blocks() {
+        Some(set) => set.contains(Asn::from(10)),
+        None => false,
+    };
+    lists && extensions.subject_key_identifier == rsa(b"abc").key_identifier()
+}
+
 fn all_read(alloc: Global) -> Option<Told> {
     let octets = samples::shared(alloc, READ)?;
     let cursor = Cursor::new(&octets);
-    begin(alloc);
-    let answer = Extensions::from_row(alloc, &cursor);
-    plain(alloc, answer)
+    called!(alloc, Extensions::from_row(alloc, &cursor), extensions => is_read(extensions))
 }
 
 fn elements(alloc: Global) -> Option<Extensions> {
@@ -51,10 +58,9 @@ fn elements(alloc: Global) -> Option<Extensions> {
 
 fn sequence_copied(alloc: Global) -> Option<Told> {
     let extensions = elements(alloc)?;
-    begin(alloc);
-    let answer = ended(alloc, extensions.try_clone(alloc));
+    let told = called!(alloc, extensions.try_clone(alloc), copy => is_read(copy));
     drop(extensions);
-    Some(Told::of(answer))
+    told
 }
 
 /// The calls of `rpki_ext`.

@@ -1,6 +1,6 @@
 //! Folders, the walk down through one, and what is kept of it.
 
-use crate::calls::asking::{Told, begin, end, ended, name_of};
+use crate::calls::asking::{Fault, Told, begin, called, end, name_of};
 use crate::calls::inputs::{ANCHOR, anchor, new_year};
 use crate::calls::making::authority;
 use crate::calls::stores::list_by;
@@ -10,7 +10,6 @@ use rpki_cert_tests::samples::{self, rsa, shared};
 use rpki_crl::Crl;
 use rpki_folder::{
     Accepted, Added, AllAdmitted, Bounds, Ended, Folder, Found, Line, Lines, Said, Visitor, Walk,
-    WalkError,
 };
 use rpki_parts::StandIn;
 use rpki_path::{Member, PathFault};
@@ -65,9 +64,10 @@ fn empty(alloc: Global) -> Option<Told> {
 // What was answered, and whether the folder is what it has to be.
 type Outcome = Option<(&'static str, bool)>;
 
-// Lets the folder go, and then marks the end: after an error it may keep room that it asked for.
-fn ended_without(alloc: Global, folder: Folder, outcome: Outcome) -> Option<Told> {
-    drop(folder);
+// Lets what was changed go, and then marks the end: after an error a folder may keep room that it
+// asked for, and lines keep what was told before.
+fn ended_without<T: Drop>(alloc: Global, changed: T, outcome: Outcome) -> Option<Told> {
+    drop(changed);
     end(alloc);
     let (answer, stands) = outcome?;
     Some(Told::standing(answer, stands))
@@ -109,25 +109,13 @@ fn add(alloc: Global, folder: &mut Folder, octets: Bytes, wanted: Added) -> Outc
     Some((name_of(&answer), stands))
 }
 
-fn first_added(alloc: Global) -> Option<Told> {
-    let octets = end_entity(alloc, 9, b"abc")?;
-    let mut folder = Folder::new(alloc);
-    let outcome = add(alloc, &mut folder, octets, Added::Certificate(0));
-    ended_without(alloc, folder, outcome)
-}
-
+// To a folder with certificates and a list.
 fn add_beside(alloc: Global, folder: &mut Folder, octets: Bytes, wanted: Added) -> Outcome {
     begun(alloc, folder)?;
     add(alloc, folder, octets, wanted)
 }
 
-// To a folder with certificates and a list.
-fn added_beside(alloc: Global, octets: Bytes, wanted: Added) -> Option<Told> {
-    let mut folder = Folder::new(alloc);
-    let outcome = add_beside(alloc, &mut folder, octets, wanted);
-    ended_without(alloc, folder, outcome)
-}
-
+// A certificate that was read.
 fn add_read(alloc: Global, folder: &mut Folder, octets: Bytes) -> Outcome {
     begun(alloc, folder)?;
     let shared = octets.clone().ok()?;
@@ -168,14 +156,6 @@ fn read_again(alloc: Global) -> Option<Told> {
     ended_without(alloc, folder, outcome)
 }
 
-// A certificate that was read.
-fn read_added(alloc: Global) -> Option<Told> {
-    let octets = end_entity(alloc, 13, b"abc")?;
-    let mut folder = Folder::new(alloc);
-    let outcome = add_read(alloc, &mut folder, octets);
-    ended_without(alloc, folder, outcome)
-}
-
 fn add_list(alloc: Global, folder: &mut Folder, list: Crl) -> Outcome {
     begin(alloc);
     let answer = folder.add_list(list);
@@ -186,23 +166,39 @@ fn add_list(alloc: Global, folder: &mut Folder, list: Crl) -> Outcome {
     Some((name_of(&answer), stands))
 }
 
-fn list_added(alloc: Global) -> Option<Told> {
-    let list = list_by(alloc, b"abc")?;
+// What the call of this path adds to the folder.
+fn adding(alloc: Global, path: &str, folder: &mut Folder) -> Outcome {
+    match path {
+        "rpki_folder::Folder::add" => {
+            let octets = end_entity(alloc, 9, b"abc")?;
+            add(alloc, folder, octets, Added::Certificate(0))
+        }
+        "rpki_folder::Folder::add/beside" => {
+            let octets = end_entity(alloc, 13, b"abc")?;
+            add_beside(alloc, folder, octets, Added::Certificate(4))
+        }
+        "rpki_folder::Folder::add/list" => {
+            add_beside(alloc, folder, list_octets(alloc)?, Added::List)
+        }
+        "rpki_folder::Folder::add/neither" => {
+            add_beside(alloc, folder, shared(alloc, "3000")?, Added::Neither)
+        }
+        "rpki_folder::Folder::add_cert" => add_read(alloc, folder, end_entity(alloc, 13, b"abc")?),
+        "rpki_folder::Folder::add_list" => add_list(alloc, folder, list_by(alloc, b"abc")?),
+        _ => None,
+    }
+}
+
+fn added(alloc: Global, path: &str) -> Option<Told> {
     let mut folder = Folder::new(alloc);
-    let outcome = add_list(alloc, &mut folder, list);
+    let outcome = adding(alloc, path, &mut folder);
     ended_without(alloc, folder, outcome)
 }
 
 // ---- lines
 
 fn lines_made(alloc: Global) -> Option<Told> {
-    begin(alloc);
-    let answer = Lines::new(alloc, 9);
-    let stands = match &answer {
-        Ok(lines) => lines.as_slice().len() == 9,
-        Err(_) => true,
-    };
-    Some(Told::standing(ended(alloc, answer), stands))
+    called!(alloc, Lines::new(alloc, 9), lines => lines.as_slice().len() == 9)
 }
 
 // How many CAs stand above an accepted certificate; 8 where it was rejected below the trust anchor,
@@ -214,14 +210,6 @@ fn kept(lines: &Lines, place: usize) -> usize {
         Some(Line::Unseen) => 9,
         _ => 10,
     }
-}
-
-// Lets the lines go, and then marks the end: they keep what was told before memory ran out.
-fn ended_beside(alloc: Global, lines: Lines, outcome: Outcome) -> Option<Told> {
-    drop(lines);
-    end(alloc);
-    let (answer, stands) = outcome?;
-    Some(Told::standing(answer, stands))
 }
 
 fn tell(alloc: Global, lines: &mut Lines, issuer: &ResourceCert) -> Outcome {
@@ -245,7 +233,7 @@ fn line_told(alloc: Global) -> Option<Told> {
 fn line_told_of(alloc: Global, issuer: &ResourceCert) -> Option<Told> {
     let mut lines = Lines::new(alloc, 2).ok()?;
     let outcome = tell(alloc, &mut lines, issuer);
-    ended_beside(alloc, lines, outcome)
+    ended_without(alloc, lines, outcome)
 }
 
 // ---- the walk
@@ -282,16 +270,18 @@ fn are_kept(lines: &Lines, is_whole: bool) -> bool {
     is_line(0, 0) && is_line(1, 1) && is_line(2, 0) && is_line(3, 8)
 }
 
+fn ended_with<E: Fault>(answer: &Result<Ended, E>, lines: &Lines) -> Outcome {
+    let stands = match answer {
+        Ok(how) => *how == Ended::Whole && are_kept(lines, true),
+        Err(_) => are_kept(lines, false),
+    };
+    Some((name_of(answer), stands))
+}
+
 type Down<'w> = Walk<'w, AllAdmitted, StandIn>;
 
 fn anchor_taken(alloc: Global, walk: &Down<'_>, tal: &Tal, anchor: &Member<'_>) -> Option<Told> {
-    begin(alloc);
-    let answer = walk.trust_anchor(tal, anchor);
-    let stands = match &answer {
-        Ok(holder) => holder.tal().name() == "example",
-        Err(_) => true,
-    };
-    Some(Told::standing(ended(alloc, answer), stands))
+    called!(alloc, walk.trust_anchor(tal, anchor), holder => holder.tal().name() == "example")
 }
 
 fn walk_from(
@@ -303,33 +293,25 @@ fn walk_from(
 ) -> Outcome {
     begin(alloc);
     let answer = walk.from_anchor(tal, anchor, lines);
-    let stands = match &answer {
-        Ok(how) => *how == Ended::Whole && are_kept(lines, true),
-        Err(_) => are_kept(lines, false),
-    };
-    Some((name_of(&answer), stands))
+    ended_with(&answer, lines)
 }
 
 fn walked_from(alloc: Global, walk: &Down<'_>, tal: &Tal, anchor: &Member<'_>) -> Option<Told> {
     let mut lines = Lines::new(alloc, 4).ok()?;
     let outcome = walk_from(alloc, walk, tal, anchor, &mut lines);
-    ended_beside(alloc, lines, outcome)
+    ended_without(alloc, lines, outcome)
 }
 
 fn walk_below(alloc: Global, walk: &Down<'_>, issuer: &ResourceCert, lines: &mut Lines) -> Outcome {
     begin(alloc);
     let answer = walk.below(issuer, lines);
-    let stands = match &answer {
-        Ok(how) => *how == Ended::Whole && are_kept(lines, true),
-        Err(_) => are_kept(lines, false),
-    };
-    Some((name_of(&answer), stands))
+    ended_with(&answer, lines)
 }
 
 fn walked_below(alloc: Global, walk: &Down<'_>, issuer: &ResourceCert) -> Option<Told> {
     let mut lines = Lines::new(alloc, 4).ok()?;
     let outcome = walk_below(alloc, walk, issuer, &mut lines);
-    ended_beside(alloc, lines, outcome)
+    ended_without(alloc, lines, outcome)
 }
 
 fn walked(alloc: Global, walk: &Down<'_>, tal: &Tal, anchor: &Member<'_>) -> Option<Told> {
@@ -340,19 +322,15 @@ fn walked(alloc: Global, walk: &Down<'_>, tal: &Tal, anchor: &Member<'_>) -> Opt
 }
 
 // Whether the end entity below the authority was found.
-fn is_found(answer: &Result<Found, WalkError>) -> bool {
-    match answer {
-        Ok(Found::Valid(path)) => path.above.as_slice() == [0].as_slice(),
-        Ok(Found::NotFound(_)) => false,
-        Err(_) => true,
+fn is_found(found: &Found) -> bool {
+    match found {
+        Found::Valid(path) => path.above.as_slice() == [0].as_slice(),
+        Found::NotFound(_) => false,
     }
 }
 
 fn found(alloc: Global, walk: &Down<'_>, tal: &Tal, anchor: &Member<'_>) -> Option<Told> {
-    begin(alloc);
-    let answer = walk.find(tal, anchor, 1);
-    let stands = is_found(&answer);
-    Some(Told::standing(ended(alloc, answer), stands))
+    called!(alloc, walk.find(tal, anchor, 1), found => is_found(found))
 }
 
 fn down(alloc: Global, path: &str, folder: &Folder, tal: &Tal) -> Option<Told> {
@@ -395,18 +373,9 @@ pub fn told(alloc: Global, path: &str) -> Option<Told> {
     match path {
         "rpki_folder::Filed::cert" => read_again(alloc),
         "rpki_folder::Folder::new" => empty(alloc),
-        "rpki_folder::Folder::add" => first_added(alloc),
-        "rpki_folder::Folder::add/beside" => {
-            added_beside(alloc, end_entity(alloc, 13, b"abc")?, Added::Certificate(4))
-        }
-        "rpki_folder::Folder::add/list" => { added_beside(alloc, list_octets(alloc)?, Added::List) }
-        "rpki_folder::Folder::add/neither" => {
-            added_beside(alloc, shared(alloc, "3000")?, Added::Neither)
-        }
-        "rpki_folder::Folder::add_cert" => read_added(alloc),
-        "rpki_folder::Folder::add_list" => list_added(alloc),
         "rpki_folder::Lines::new" => lines_made(alloc),
         "rpki_folder::Lines::tell" => line_told(alloc),
+        _ if path.starts_with("rpki_folder::Folder::add") => added(alloc, path),
         _ if path.starts_with("rpki_folder::Walk::") => of_walk(alloc, path),
         _ => None,
     }

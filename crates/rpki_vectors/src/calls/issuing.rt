@@ -1,7 +1,7 @@
 //! Certificates and lists that are prepared, and completed by a signature from elsewhere; the next
 //! list, and a signer whose signatures are verified.
 
-use crate::calls::asking::{Told, begin, ended, plain};
+use crate::calls::asking::{Told, called};
 use crate::calls::inputs::{ANCHOR, anchor, certificate, new_year};
 use crate::calls::making::authority;
 use crate::calls::stores::list_by;
@@ -10,10 +10,10 @@ use rpki_cert_tests::samples::{self, day, rsa, written};
 use rpki_crl::{Crl, CrlEntry, RevokedCertificates, TbsCertList};
 use rpki_der::{Serial, Time};
 use rpki_issuing::{
-    Checked, IssuingError, ListError, NextListError, Prepared, PreparedList, Role, complete,
-    complete_list, next_list, prepare, prepare_list,
+    Checked, NextListError, Prepared, PreparedList, Role, complete, complete_list, next_list,
+    prepare, prepare_list,
 };
-use rpki_parts::{RpkiSignatureAlgorithm, Signature, Signer, StandIn};
+use rpki_parts::{RpkiSignatureAlgorithm, Signature, SignedData, Signer, StandIn};
 use std::alloc::Global;
 
 // What the anchor's key signs.
@@ -27,9 +27,7 @@ fn signature(alloc: Global, octets: &[u8]) -> Option<Signature> {
 
 fn validated(alloc: Global, cert: &Cert, role: &Role<'_>) -> Option<Told> {
     let now = new_year()?;
-    begin(alloc);
-    let answer = role.validate(alloc, cert, true, now, &StandIn);
-    plain(alloc, answer)
+    called!(alloc, role.validate(alloc, cert, true, now, &StandIn))
 }
 
 // The certificate that the anchor's key signs of these data.
@@ -49,42 +47,31 @@ fn anchor_validated(alloc: Global) -> Option<Told> {
 }
 
 // The octets have to be those that are written of the data.
-fn is_prepared(answer: &Result<Prepared, IssuingError>, wanted: &[u8]) -> bool {
-    match answer {
-        Ok(prepared) => prepared.octets() == wanted,
-        Err(_) => true,
-    }
-}
-
 fn prepared(alloc: Global, tbs: &TbsCert, role: &Role<'_>) -> Option<Told> {
     let now = new_year()?;
     let wanted = written(alloc, tbs)?;
-    begin(alloc);
-    let answer = prepare(alloc, tbs, role, true, now);
-    let stands = is_prepared(&answer, &wanted);
-    Some(Told::standing(ended(alloc, answer), stands))
+    called!(
+        alloc,
+        prepare(alloc, tbs, role, true, now),
+        prepared => prepared.octets() == wanted.as_slice()
+    )
 }
 
-// The certificate has to be that of what was prepared and of the signature.
-fn is_completed(answer: &Result<Cert, IssuingError>, octets: &[u8], value: &[u8]) -> bool {
-    match answer {
-        Ok(cert) => {
-            let signed = cert.signed_data();
-            signed.data() == octets && signed.signature().value() == value
-        }
-        Err(_) => true,
-    }
+// Whether this is what was prepared, and the signature.
+fn is_completed(signed: &SignedData, octets: &[u8], value: &[u8]) -> bool {
+    signed.data() == octets && signed.signature().value() == value
 }
 
 fn completed_of(alloc: Global, of: &Prepared, role: &Role<'_>, now: Time) -> Option<Told> {
     let signature = signature(alloc, of.octets())?;
     let value = signature.value();
-    begin(alloc);
-    let answer = complete(alloc, of, value, role, true, now, &StandIn);
-    let stands = is_completed(&answer, of.octets(), value);
-    let told = Told::standing(ended(alloc, answer), stands);
+    let told = called!(
+        alloc,
+        complete(alloc, of, value, role, true, now, &StandIn),
+        cert => is_completed(cert.signed_data(), of.octets(), value)
+    );
     drop(signature);
-    Some(told)
+    told
 }
 
 fn completed(alloc: Global, tbs: &TbsCert, role: &Role<'_>) -> Option<Told> {
@@ -123,64 +110,41 @@ fn next(alloc: Global, list: &Crl) -> Result<Fields, NextListError> {
     next_list(alloc, list, number, &revoked, &gone, since, until)
 }
 
-fn is_next(answer: &Result<Fields, NextListError>) -> bool {
-    match answer {
-        Ok(fields) => {
-            let revoked = fields.revoked_certs();
-            let is_on = |number: u64| revoked.contains(Serial::from(number));
-            fields.crl_number() == Serial::from(13u64) && is_on(1) && is_on(9) && !is_on(8)
-        }
-        Err(_) => true,
-    }
+fn is_next(fields: &Fields) -> bool {
+    let revoked = fields.revoked_certs();
+    let is_on = |number: u64| revoked.contains(Serial::from(number));
+    fields.crl_number() == Serial::from(13u64) && is_on(1) && is_on(9) && !is_on(8)
 }
 
 fn next_made(alloc: Global) -> Option<Told> {
     let list = list_by(alloc, b"abc")?;
-    begin(alloc);
-    let answer = next(alloc, &list);
-    let stands = is_next(&answer);
-    let told = Told::standing(ended(alloc, answer), stands);
+    let told = called!(alloc, next(alloc, &list), fields => is_next(fields));
     drop(list);
-    Some(told)
-}
-
-fn is_list_prepared(answer: &Result<PreparedList, ListError>, wanted: &[u8]) -> bool {
-    match answer {
-        Ok(prepared) => prepared.octets() == wanted,
-        Err(_) => true,
-    }
+    told
 }
 
 fn list_prepared(alloc: Global, fields: &Fields, issuer: &ResourceCert) -> Option<Told> {
     let now = new_year()?;
     let mut wanted = Vec::new(alloc);
     fields.encode_ref(alloc, &mut wanted).ok()?;
-    begin(alloc);
-    let answer = prepare_list(alloc, fields, issuer, true, now);
-    let stands = is_list_prepared(&answer, &wanted);
-    Some(Told::standing(ended(alloc, answer), stands))
-}
-
-fn is_list_completed(answer: &Result<Crl, ListError>, octets: &[u8], value: &[u8]) -> bool {
-    match answer {
-        Ok(list) => {
-            let signed = list.signed_data();
-            signed.data() == octets && signed.signature().value() == value
-        }
-        Err(_) => true,
-    }
+    called!(
+        alloc,
+        prepare_list(alloc, fields, issuer, true, now),
+        prepared => prepared.octets() == wanted.as_slice()
+    )
 }
 
 fn list_completed_of(alloc: Global, of: &PreparedList, issuer: &ResourceCert) -> Option<Told> {
     let now = new_year()?;
     let signature = signature(alloc, of.octets())?;
     let value = signature.value();
-    begin(alloc);
-    let answer = complete_list(alloc, of, value, issuer, true, now, &StandIn);
-    let stands = is_list_completed(&answer, of.octets(), value);
-    let told = Told::standing(ended(alloc, answer), stands);
+    let told = called!(
+        alloc,
+        complete_list(alloc, of, value, issuer, true, now, &StandIn),
+        list => is_completed(list.signed_data(), of.octets(), value)
+    );
     drop(signature);
-    Some(told)
+    told
 }
 
 fn list_completed(alloc: Global, fields: &Fields, issuer: &ResourceCert) -> Option<Told> {
@@ -215,15 +179,13 @@ fn checked_signed(alloc: Global) -> Option<Told> {
         public_key: rsa(b"abc"),
     };
     let algorithm = RpkiSignatureAlgorithm::default();
-    begin(alloc);
-    let answer = checked.sign(alloc, &key, algorithm, b"message");
-    let stands = match &answer {
-        Ok(signature) => signature.value() == b"abcmessage".as_slice(),
-        Err(_) => true,
-    };
-    let told = Told::standing(ended(alloc, answer), stands);
+    let told = called!(
+        alloc,
+        checked.sign(alloc, &key, algorithm, b"message"),
+        signature => signature.value() == b"abcmessage".as_slice()
+    );
     drop(checked);
-    Some(told)
+    told
 }
 
 fn below(alloc: Global, path: &str, issuer: &ResourceCert) -> Option<Told> {

@@ -1,22 +1,21 @@
 //! The data of revocation lists, and lists that are copied or read again.
 
-use crate::calls::asking::{Told, begin, ended, read, written};
+use crate::calls::asking::{Told, begin, called, read, written};
 use crate::calls::inputs::list;
 use crate::calls::stores::read_again;
 use bytes::Bytes;
 use rpki_crl::TbsCertList;
-use rpki_der::Cursor;
+use rpki_der::{Cursor, Serial};
 use std::alloc::Global;
 
 // With the table of its serials, which is copied too.
 fn cached_copied(alloc: Global) -> Option<Told> {
     let mut list = list(alloc)?;
     let cached = list.cache_serials(alloc);
-    begin(alloc);
-    let answer = ended(alloc, list.try_clone(alloc));
+    let told = called!(alloc, list.try_clone(alloc), copy => copy.contains(Serial::from(42u64)));
     drop(list);
     cached.ok()?;
-    Some(Told::of(answer))
+    told
 }
 
 // The data of the list.
@@ -32,7 +31,12 @@ fn data_read(alloc: Global) -> Option<Told> {
     let mut cursor = Cursor::new(&octets);
     begin(alloc);
     let answer = TbsCertList::take_from(alloc, &mut cursor);
-    read(alloc, answer, &cursor)
+    let has = match &answer {
+        Ok(data) => data.revoked_certs().contains(Serial::from(42u64)),
+        Err(_) => true,
+    };
+    let told = read(alloc, answer, &cursor)?;
+    Some(Told::standing(told.answer, told.stands && has))
 }
 
 fn data_written(alloc: Global) -> Option<Told> {
@@ -47,10 +51,13 @@ fn data_written(alloc: Global) -> Option<Told> {
 
 fn data_copied(alloc: Global) -> Option<Told> {
     let list = list(alloc)?;
-    begin(alloc);
-    let answer = ended(alloc, list.as_cert_list().try_clone(alloc));
+    let told = called!(
+        alloc,
+        list.as_cert_list().try_clone(alloc),
+        copy => copy.revoked_certs().contains(Serial::from(42u64))
+    );
     drop(list);
-    Some(Told::of(answer))
+    told
 }
 
 /// The calls of lists and of their data.

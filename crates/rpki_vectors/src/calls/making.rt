@@ -2,7 +2,7 @@
 ghost use Rattle.std.specs.Prelude.{IsTrue};
 ghost use Rattle.rpki_vectors.specs.Issuable.{IsIssuable};
 
-use crate::calls::asking::{Told, begin, ended};
+use crate::calls::asking::{Told, begin, called, ended};
 use crate::calls::inputs::{NUMBERS, anchor, new_year};
 use rpki_blocks::{AsBlock, AsBlocks, Asn};
 use rpki_cert::{IssueCaError, KeyUsage, ResourceCert, TbsCert, issue_ca, round_trip};
@@ -110,10 +110,9 @@ fn read_again(alloc: Global) -> Option<Told> {
     let Ok(made) = tbs.into_cert(alloc, &StandIn, &key) else {
         return None;
     };
-    begin(alloc);
-    let answer = ended(alloc, round_trip::read_again(alloc, &made));
+    let told = called!(alloc, round_trip::read_again(alloc, &made));
     drop(made);
-    Some(Told::of(answer))
+    told
 }
 
 /// The calls that make certificates.

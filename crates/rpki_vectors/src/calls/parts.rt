@@ -1,6 +1,6 @@
 //! Names and signed data.
 
-use crate::calls::asking::{Told, begin, ended, plain};
+use crate::calls::asking::{Told, called};
 use rpki_cert_tests::samples::{self, rsa};
 use rpki_parts::{Name, RpkiSignatureAlgorithm, Signature, SignedData, Signer, StandIn};
 use std::alloc::Global;
@@ -16,37 +16,33 @@ fn signature(alloc: Global) -> Option<Signature> {
 
 fn name_whole(alloc: Global) -> Option<Told> {
     let octets = samples::shared(alloc, NAME)?;
-    begin(alloc);
-    let answer = Name::from_bytes(alloc, octets);
-    plain(alloc, answer)
+    called!(alloc, Name::from_bytes(alloc, octets))
 }
 
 fn signature_copied(alloc: Global) -> Option<Told> {
     let signature = signature(alloc)?;
-    begin(alloc);
-    let answer = signature.try_clone(alloc);
-    plain(alloc, answer)
+    called!(alloc, signature.try_clone(alloc), copy => copy.value() == b"abc".as_slice())
 }
 
 fn signed(alloc: Global) -> Option<Told> {
     let octets = samples::shared(alloc, "0500")?;
     let key = rsa(b"abc");
     let algorithm = RpkiSignatureAlgorithm::default();
-    begin(alloc);
-    let answer = SignedData::sign(alloc, &StandIn, &key, algorithm, octets);
-    plain(alloc, answer)
+    called!(
+        alloc,
+        SignedData::sign(alloc, &StandIn, &key, algorithm, octets),
+        signed => signed.signature().value() == b"abc\x05\x00".as_slice()
+    )
 }
 
 fn signed_alone(alloc: Global) -> Option<Told> {
     let key = rsa(b"abc");
     let algorithm = RpkiSignatureAlgorithm::default();
-    begin(alloc);
-    let answer = StandIn.sign(alloc, &key, algorithm, b"message");
-    let stands = match &answer {
-        Ok(signature) => signature.value() == b"abcmessage".as_slice(),
-        Err(_) => true,
-    };
-    Some(Told::standing(ended(alloc, answer), stands))
+    called!(
+        alloc,
+        StandIn.sign(alloc, &key, algorithm, b"message"),
+        signature => signature.value() == b"abcmessage".as_slice()
+    )
 }
 
 /// The calls of `rpki_parts`.

@@ -1,6 +1,6 @@
 //! Whole paths, and the line program.
 
-use crate::calls::asking::{Told, begin, end, ended, plain};
+use crate::calls::asking::{Told, begin, called, end};
 use crate::calls::inputs::{ANCHOR, FIRST, NUMBERS, SECOND, anchor, locator, new_year};
 use bytes::Bytes;
 use rpki_blocks::Asn;
@@ -76,9 +76,10 @@ fn list_program(alloc: Global) -> Option<Told> {
 
 fn router_validated_under(alloc: Global, issuer: &ResourceCert, now: Time) -> Option<Told> {
     let octets = signed(alloc, router(alloc)?)?;
-    begin(alloc);
-    let answer = validate_router(alloc, &octets, issuer, None, true, now, &StandIn);
-    plain(alloc, answer)
+    called!(
+        alloc,
+        validate_router(alloc, &octets, issuer, None, true, now, &StandIn)
+    )
 }
 
 fn router_validated(alloc: Global) -> Option<Told> {
@@ -91,9 +92,10 @@ fn router_validated(alloc: Global) -> Option<Told> {
 
 fn judged_of(alloc: Global, members: &[Member<'_>], last: Kind, now: Time) -> Option<Told> {
     let path = GivenPath::of(members, last)?;
-    begin(alloc);
-    let answer = judge(alloc, &path, &NobodyAsked, true, now, &StandIn);
-    plain(alloc, answer)
+    called!(
+        alloc,
+        judge(alloc, &path, &NobodyAsked, true, now, &StandIn)
+    )
 }
 
 fn judged_as(alloc: Global, strings: &[Bytes], last: Kind, now: Time) -> Option<Told> {
@@ -138,25 +140,21 @@ fn anchor_step(alloc: Global) -> Option<Told> {
     let octets = shared(alloc, NUMBERS)?;
     let tal = locator(alloc)?;
     let steps = steps(alloc, new_year()?);
-    begin(alloc);
-    let answer = steps.trust_anchor(&Member::of(&octets), tal);
-    let stands = match &answer {
-        Ok(holder) => holder.tal().name() == "example",
-        Err(_) => true,
-    };
-    Some(Told::standing(ended(alloc, answer), stands))
+    called!(
+        alloc,
+        steps.trust_anchor(&Member::of(&octets), tal),
+        holder => holder.tal().name() == "example"
+    )
 }
 
 fn member_below(alloc: Global, issuer: &ResourceCert, now: Time) -> Option<Told> {
     let octets = shared(alloc, FIRST)?;
     let steps = steps(alloc, now);
-    begin(alloc);
-    let answer = steps.member(issuer, &Member::of(&octets), Role::Authority);
-    let stands = match &answer {
-        Ok(holder) => holder.as_resources().contains(Asn::from(10)),
-        Err(_) => true,
-    };
-    Some(Told::standing(ended(alloc, answer), stands))
+    called!(
+        alloc,
+        steps.member(issuer, &Member::of(&octets), Role::Authority),
+        holder => holder.as_resources().contains(Asn::from(10))
+    )
 }
 
 fn member_step(alloc: Global) -> Option<Told> {
@@ -170,13 +168,11 @@ fn member_step(alloc: Global) -> Option<Told> {
 fn router_below(alloc: Global, issuer: &ResourceCert, now: Time) -> Option<Told> {
     let octets = signed(alloc, router(alloc)?)?;
     let steps = steps(alloc, now);
-    begin(alloc);
-    let answer = steps.router(&Member::of(&octets), issuer);
-    let stands = match &answer {
-        Ok(cert) => cert.as_tbs().serial_number() == Serial::from(10u64),
-        Err(_) => true,
-    };
-    Some(Told::standing(ended(alloc, answer), stands))
+    called!(
+        alloc,
+        steps.router(&Member::of(&octets), issuer),
+        cert => cert.as_tbs().serial_number() == Serial::from(10u64)
+    )
 }
 
 fn router_step(alloc: Global) -> Option<Told> {

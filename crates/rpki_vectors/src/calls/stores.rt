@@ -1,12 +1,12 @@
 //! Entries, lists that are made, tables of serials, and lists under their URIs.
 
-use crate::calls::asking::{Told, begin, end, ended, plain, read, vector, written_digits};
+use crate::calls::asking::{Told, begin, called, end, ended, read, vector, written_digits};
 use rpki_cert_tests::samples::{day, rsa, shared, uri};
 use rpki_crl::{
     Crl, CrlEntry, CrlStore, InvalidExtension, RevokedCertificates, TbsCertList, round_trip,
 };
 use rpki_der::{Cursor, Oid, Serial};
-use rpki_parts::{RpkiSignatureAlgorithm, StandIn};
+use rpki_parts::{RpkiSignatureAlgorithm, Rsync, StandIn};
 use std::alloc::Global;
 
 // One entry, as it stands in a list.
@@ -26,9 +26,11 @@ fn entry_written(alloc: Global) -> Option<Told> {
 
 fn empty(alloc: Global) -> Option<Told> {
     begin(alloc);
-    drop(RevokedCertificates::empty(alloc));
+    let entries = RevokedCertificates::empty(alloc);
+    let stands = !entries.contains(Serial::from(12u64));
+    drop(entries);
     end(alloc);
-    Some(Told::of("ok"))
+    Some(Told::standing("ok", stands))
 }
 
 fn revoked(alloc: Global) -> Option<RevokedCertificates> {
@@ -53,18 +55,19 @@ fn sequence_written(alloc: Global) -> Option<Told> {
 
 fn sequence_copied(alloc: Global) -> Option<Told> {
     let entries = revoked(alloc)?;
-    begin(alloc);
-    let answer = ended(alloc, entries.try_clone(alloc));
+    let told = called!(alloc, entries.try_clone(alloc), copy => copy.contains(Serial::from(12u64)));
     drop(entries);
-    Some(Told::of(answer))
+    told
 }
 
 fn extension_copied(alloc: Global) -> Option<Told> {
     let oid = Oid::new(shared(alloc, "551d63")?).ok()?;
     let extension = InvalidExtension::new(oid);
-    begin(alloc);
-    let answer = extension.try_clone(alloc);
-    plain(alloc, answer)
+    called!(
+        alloc,
+        extension.try_clone(alloc),
+        copy => copy.oid().as_bytes() == b"\x55\x1d\x63".as_slice()
+    )
 }
 
 // Entries of the serials 1 to 8.
@@ -97,17 +100,17 @@ fn data(alloc: Global) -> Option<TbsCertList<Vec<CrlEntry>>> {
 
 fn collected(alloc: Global) -> Option<Told> {
     let data = data(alloc)?;
-    begin(alloc);
-    let answer = data.to_revoked(alloc);
-    plain(alloc, answer)
+    called!(
+        alloc,
+        data.to_revoked(alloc),
+        fields => fields.revoked_certs().contains(Serial::from(8u64))
+    )
 }
 
 fn made(alloc: Global) -> Option<Told> {
     let key = rsa(b"abc");
     let data = data(alloc)?;
-    begin(alloc);
-    let answer = data.into_crl(alloc, &StandIn, &key);
-    plain(alloc, answer)
+    called!(alloc, data.into_crl(alloc, &StandIn, &key), list => is_list(list, false))
 }
 
 /// A list that was made, and is read from its own octets.
@@ -116,10 +119,9 @@ pub fn read_again(alloc: Global) -> Option<Told> {
     let Ok(made) = data(alloc)?.into_crl(alloc, &StandIn, &key) else {
         return None;
     };
-    begin(alloc);
-    let answer = ended(alloc, round_trip::read_again(alloc, &made));
+    let told = called!(alloc, round_trip::read_again(alloc, &made), again => is_list(again, false));
     drop(made);
-    Some(Told::of(answer))
+    told
 }
 
 /// The list of the key that the bits are, with the number 12: it revokes the numbers 1 to 8.
@@ -171,6 +173,14 @@ fn pushed(alloc: Global, store: &mut CrlStore) -> Option<(&'static str, bool)> {
     }
 }
 
+// Whether the store has the list under this URI, with a table.
+fn has_list(store: &CrlStore, under: &Rsync) -> bool {
+    match store.get(under) {
+        Some(list) => is_list(list, true),
+        None => false,
+    }
+}
+
 // Whether the store has the list exactly where the push was answered so.
 fn is_stored(alloc: Global, store: &CrlStore, answer: &str, is_cached: bool) -> Option<bool> {
     let under = uri(alloc, UNDER)?;
@@ -211,13 +221,10 @@ fn store_copied(alloc: Global) -> Option<Told> {
 
 fn copied_with_list(alloc: Global, store: &mut CrlStore) -> Option<Told> {
     let under = uri(alloc, UNDER)?;
-    if store.push(under, list(alloc)?).is_err() {
+    if store.push(uri(alloc, UNDER)?, list(alloc)?).is_err() {
         return None;
     }
-    begin(alloc);
-    let answer = ended(alloc, store.try_clone(alloc));
-    let stands = is_stored(alloc, store, "ok", true)?;
-    Some(Told::standing(answer, stands))
+    called!(alloc, store.try_clone(alloc), copy => has_list(copy, &under))
 }
 
 fn of_entries(alloc: Global, path: &str) -> Option<Told> {

@@ -1,28 +1,37 @@
 //! Certificates that are verified, and copies of what was verified.
 
-use crate::calls::asking::{Told, begin, ended, plain};
+use crate::calls::asking::{Told, called};
 use crate::calls::inputs::{
     ANCHOR, FIRST, NUMBERS, OTHER, SIGNING, anchor, certificate, december, locator, new_year,
 };
+use rpki_blocks::Asn;
 use rpki_cert::ResourceCert;
 use rpki_der::Time;
 use rpki_parts::StandIn;
 use std::alloc::Global;
 
+fn holds(holder: &ResourceCert, number: Asn) -> bool {
+    holder.as_resources().contains(number)
+}
+
 fn anchor_verified(alloc: Global) -> Option<Told> {
     let now = new_year()?;
     let tal = locator(alloc)?;
     let cert = certificate(alloc, ANCHOR)?;
-    begin(alloc);
-    let answer = cert.verify_ta_at(alloc, tal, true, now, &StandIn);
-    plain(alloc, answer)
+    called!(
+        alloc,
+        cert.verify_ta_at(alloc, tal, true, now, &StandIn),
+        holder => holds(holder, Asn::MAX)
+    )
 }
 
 fn authority_verified_under(alloc: Global, issuer: &ResourceCert, now: Time) -> Option<Told> {
     let cert = certificate(alloc, FIRST)?;
-    begin(alloc);
-    let answer = cert.verify_ca_at(alloc, issuer, true, now, &StandIn);
-    plain(alloc, answer)
+    called!(
+        alloc,
+        cert.verify_ca_at(alloc, issuer, true, now, &StandIn),
+        holder => holds(holder, Asn::from(10)) && !holds(holder, Asn::from(11))
+    )
 }
 
 fn authority_verified(alloc: Global) -> Option<Told> {
@@ -35,9 +44,11 @@ fn authority_verified(alloc: Global) -> Option<Told> {
 
 fn signing_verified_under(alloc: Global, issuer: &ResourceCert, now: Time) -> Option<Told> {
     let cert = certificate(alloc, SIGNING)?;
-    begin(alloc);
-    let answer = cert.verify_ee_at(alloc, issuer, true, now, &StandIn);
-    plain(alloc, answer)
+    called!(
+        alloc,
+        cert.verify_ee_at(alloc, issuer, true, now, &StandIn),
+        holder => holds(holder, Asn::from(84)) && !holds(holder, Asn::from(85))
+    )
 }
 
 fn signing_verified(alloc: Global) -> Option<Told> {
@@ -51,10 +62,9 @@ fn signing_verified(alloc: Global) -> Option<Told> {
 fn copied(alloc: Global) -> Option<Told> {
     let now = new_year()?;
     let cert = anchor(alloc, ANCHOR, now)?;
-    begin(alloc);
-    let answer = ended(alloc, cert.try_clone(alloc));
+    let told = called!(alloc, cert.try_clone(alloc), copy => holds(copy, Asn::MAX));
     drop(cert);
-    Some(Told::of(answer))
+    told
 }
 
 /// The calls of `rpki_cert` that verify.
