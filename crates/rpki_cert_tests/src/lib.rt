@@ -1,23 +1,14 @@
 //! What tests are made of (`samples`), and tests of certificates and of the crates below them that
 //! no line of questions and answers can ask: calls with a caller's signer, verifier, closure or
-//! iterator, setters, copies, what stands after a refusal, and calls that may allocate, with enough
-//! of it.
+//! iterator, several calls of one value, what stands after a refusal, and contents of many octets.
 #![tactic(auto)]
 
 #[cfg(test)]
 mod builders;
 #[cfg(test)]
-mod certificates;
-#[cfg(test)]
 mod comparing;
 #[cfg(test)]
-mod copies;
-#[cfg(test)]
 mod cursors;
-#[cfg(test)]
-mod extensions;
-#[cfg(test)]
-mod making;
 #[cfg(test)]
 mod refusals;
 pub mod samples;
@@ -29,10 +20,6 @@ mod signing;
 mod texts;
 #[cfg(test)]
 mod timestamps;
-#[cfg(test)]
-mod uris;
-#[cfg(test)]
-mod verified;
 #[cfg(test)]
 mod verifying;
 #[cfg(test)]

@@ -1,10 +1,10 @@
-//! What stands after a refusal: a cursor, certificate data, and a vector where memory is refused.
+//! What stands after a refusal: a cursor, and certificate data.
 
 use crate::samples;
 use bytes::Bytes;
 use rpki_blocks::{Addr, Asn, IpBlock};
 use rpki_cert::{Cert, TbsCert};
-use rpki_der::{Cursor, DecodeError, EncodeError, put_value};
+use rpki_der::{Cursor, DecodeError};
 use rpki_ext::take_extension;
 use rpki_parts::{KeyIdentifier, Name, PublicKey, SignedData, Validity};
 use std::alloc::{AllocError, Global};
@@ -78,23 +78,4 @@ fn a_closure_that_fails_changes_nothing(rt: HostRuntime) {
     let octets = samples::written(rt.alloc(), &tbs).expect(&rt, "memory");
     assert!(rt; samples::has_hash(rt.alloc(), &octets, samples::ANCHOR_DATA));
     drop(tbs);
-}
-
-// After a refusal the vector has what it had; that is met where an allocation is made to fail.
-fn assert_left(rt: &impl Abort, answer: Result<(), EncodeError>, out: &[u8], before: usize) {
-    match answer {
-        Ok(()) => assert!(rt; before < out.len()),
-        Err(EncodeError::Memory) => assert_eq!(rt; out.len(), before),
-        Err(EncodeError::TooLong) => assert!(rt; false, "too long"),
-    }
-}
-
-#[test]
-fn a_vector_stays(rt: HostRuntime) {
-    let mut out = Vec::new(rt.alloc());
-    let answer = put_value(&mut out, 0x04, b"\x07");
-    assert_left(&rt, answer, &out, 0);
-    let before = out.len();
-    let answer = samples::rsa(b"abc").encode_ref(rt.alloc(), &mut out);
-    assert_left(&rt, answer, &out, before);
 }

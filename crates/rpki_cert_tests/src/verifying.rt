@@ -11,17 +11,6 @@ fn signed_data(data: &'static [u8], signature: &'static [u8]) -> SignedData {
 }
 
 #[test]
-fn the_stand_in_signs(rt: HostRuntime) {
-    let octets = Bytes::from_static(b"\x30\x00");
-    let algorithm = RpkiSignatureAlgorithm::default();
-    let signed = SignedData::sign(rt.alloc(), &StandIn, &rsa(b"a"), algorithm, octets);
-    let signed = signed.expect(&rt, "memory");
-    assert_eq!(rt; signed.data(), b"\x30\x00".as_slice());
-    assert_eq!(rt; signed.signature().value(), b"a\x30\x00".as_slice());
-    drop(signed);
-}
-
-#[test]
 fn the_stand_in_tells_its_relation(rt: HostRuntime) {
     let cases: [(&'static [u8], &'static [u8], bool); 4] = [
         (b"a", b"a\x30\x00", true),

@@ -142,20 +142,6 @@ fn authority(rt: &impl Abort, alloc: Global, up_to: u32) -> TbsCert {
 }
 
 #[test]
-fn an_authority_is_completed(rt: HostRuntime) {
-    let issuer = small_anchor(&rt, rt.alloc());
-    let tbs = authority(&rt, rt.alloc(), 50);
-    let role = Role::Authority(&issuer);
-    let prepared = prepared(&rt, rt.alloc(), &tbs, &role);
-    let cert = completed(&rt, rt.alloc(), &prepared, &role, b"abc");
-    assert_eq!(rt; fault(&cert), "Ok");
-    drop(cert);
-    drop(prepared);
-    drop(tbs);
-    drop(issuer);
-}
-
-#[test]
 fn one_that_overclaims_is_not_prepared(rt: HostRuntime) {
     let issuer = small_anchor(&rt, rt.alloc());
     let tbs = authority(&rt, rt.alloc(), 51);

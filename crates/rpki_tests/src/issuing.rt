@@ -55,24 +55,6 @@ fn issued(rt: &impl Abort, alloc: Global, issuer: &ResourceCert, mode: Overclaim
     )
 }
 
-fn assert_held(rt: &impl Abort, cert: &ResourceCert) {
-    assert!(rt; cert.as_cert().as_tbs().is_ca());
-    assert!(rt; cert.as_resources().contains(Asn::from(5)));
-    assert!(rt; cert.as_resources().contains(Asn::from(10)));
-    assert!(rt; !cert.as_resources().contains(Asn::from(11)));
-    assert!(rt; cert.v4_resources().is_empty());
-}
-
-#[test]
-fn an_authority_is_issued(rt: HostRuntime) {
-    let anchor = anchor(&rt, rt.alloc());
-    let cert = issued(&rt, rt.alloc(), &anchor, Overclaim::Trim);
-    let cert = cert.expect(&rt, "an authority");
-    assert_held(&rt, &cert);
-    drop(cert);
-    drop(anchor);
-}
-
 fn name(answer: &Issued) -> &'static str {
     match answer {
         Err(IssueCaError::Validation(ValidationError::Verification(error))) => error.name(),

@@ -23,8 +23,6 @@ mod issuing;
 #[cfg(test)]
 mod judging;
 #[cfg(test)]
-mod list_parts;
-#[cfg(test)]
 mod lists;
 #[cfg(test)]
 mod located;

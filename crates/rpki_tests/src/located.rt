@@ -2,10 +2,10 @@
 
 use bytes::Bytes;
 use rpki_cert::{Cert, ResourceCert};
-use rpki_cert_tests::samples::{anchor_octets, authority_octets, day};
-use rpki_crl::{CrlStore, RevocationError};
+use rpki_cert_tests::samples::{anchor_octets, day};
+use rpki_crl::CrlStore;
 use rpki_parts::StandIn;
-use rpki_path::{LocatedError, Member, PathError, PathFault, has_locator_key, validate_located};
+use rpki_path::{LocatedError, Member, has_locator_key, validate_located};
 use rpki_tal::Tal;
 use std::alloc::Global;
 use std::process::Abort;
@@ -53,50 +53,6 @@ fn an_anchor_of_the_locators_key_is_accepted(rt: HostRuntime) {
     let last = answer.expect(&rt, "a path");
     assert_eq!(rt; last.tal().name(), "example");
     drop(last);
-}
-
-#[test]
-fn an_anchor_of_another_key_is_rejected(rt: HostRuntime) {
-    let anchor = anchor(&rt, rt.alloc());
-    let Err(error) = validated(&rt, rt.alloc(), OF_OTHER, &anchor, &[]) else {
-        rt.abort()
-    };
-    assert_eq!(rt; error.name(), "OtherKey");
-    assert!(rt; !error.is_memory());
-    drop(error);
-}
-
-// The place and the fault of a path that is rejected below the anchor's locator.
-fn rejected(rt: &impl Abort, alloc: Global, anchor: &Bytes, cas: &[Bytes]) -> PathError {
-    match validated(rt, alloc, OF_ANCHOR, anchor, cas) {
-        Err(LocatedError::Path(error)) => error,
-        _ => rt.abort(),
-    }
-}
-
-#[test]
-fn what_is_wrong_below_it_is_told(rt: HostRuntime) {
-    let anchor = anchor(&rt, rt.alloc());
-    let cas = [authority_octets(rt.alloc()).expect(&rt, "memory")];
-    let error = rejected(&rt, rt.alloc(), &anchor, &cas);
-    assert_eq!(rt; error.index, 1);
-    assert!(rt; matches!(error.fault, PathFault::Revocation(RevocationError::NoCrl)));
-    drop(error);
-}
-
-#[test]
-fn octets_without_a_certificate_have_no_key(rt: HostRuntime) {
-    let none = Bytes::from_static(b"\x30\x00");
-    let error = rejected(&rt, rt.alloc(), &none, &[]);
-    assert_eq!(rt; error.index, 0);
-    assert_eq!(rt; error.fault.name(), "Decode");
-    drop(error);
-    let tal = locator(&rt, rt.alloc(), OF_ANCHOR);
-    let answer = has_locator_key(rt.alloc(), &Member::of(&none), &tal);
-    let Err(fault) = answer else { rt.abort() };
-    assert_eq!(rt; fault.name(), "Decode");
-    drop(fault);
-    drop(tal);
 }
 
 #[test]

@@ -3,9 +3,8 @@
 use bytes::Bytes;
 use rpki_cert::Cert;
 use rpki_cert_tests::samples;
-use rpki_crl::Crl;
 use rpki_der::{Cursor, DecodeError};
-use std::alloc::{AllocError, Global};
+use std::alloc::Global;
 use std::process::Abort;
 
 fn anchor(rt: &impl Abort, alloc: Global) -> Bytes {
@@ -51,39 +50,4 @@ fn a_cursor_stands_behind_the_certificate(rt: HostRuntime) {
     assert_anchor_found(&rt, rt.alloc(), Cert::take_from(rt.alloc(), &mut cursor));
     assert_eq!(rt; cursor.rest(), b"\x00".as_slice());
     assert_eq!(rt; cursor.span(), (947, 948));
-}
-
-// A second handle on the octets.
-fn second(rt: &impl Abort, octets: &Bytes) -> Bytes {
-    let copy: Result<Bytes, AllocError> = octets.clone();
-    copy.expect(rt, "memory")
-}
-
-// The certificate, when the first handle on its octets was dropped.
-fn outliving(rt: &impl Abort, alloc: Global, octets: Bytes) -> Result<Cert, DecodeError> {
-    let cert = Cert::decode_shared(alloc, second(rt, &octets));
-    drop(octets);
-    cert
-}
-
-#[test]
-fn a_certificate_outlives_its_octets(rt: HostRuntime) {
-    let found = outliving(&rt, rt.alloc(), anchor(&rt, rt.alloc()));
-    assert_anchor_found(&rt, rt.alloc(), found);
-}
-
-// The list, when the first handle on its octets was dropped.
-fn outliving_list(rt: &impl Abort, alloc: Global, octets: Bytes) -> Result<Crl, DecodeError> {
-    let list = Crl::decode_shared(alloc, second(rt, &octets));
-    drop(octets);
-    list
-}
-
-#[test]
-fn a_list_outlives_its_octets(rt: HostRuntime) {
-    let octets = samples::shared(rt.alloc(), crate::lists::TWO).expect(&rt, "digits");
-    let list = outliving_list(&rt, rt.alloc(), octets);
-    let list = list.expect(&rt, "a list");
-    crate::lists::assert_two(&rt, rt.alloc(), &list);
-    drop(list);
 }
