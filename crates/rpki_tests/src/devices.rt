@@ -94,24 +94,9 @@ fn devices_may_be_slow(rt: HostRuntime) -> Result<(), Fail> {
     Ok(())
 }
 
-#[test]
-fn a_reader_that_fails_is_told(rt: HostRuntime) -> Result<(), Fail> {
-    let mut reader = Watched::new(OneByOne {
-        octets: YES,
-        after: After::Fail,
-    });
-    let mut output = Vec::new(rt.alloc());
-    let mut writer = Watched::new(&mut output);
-    let result = run(rt.alloc(), &mut reader, &mut writer);
-    assert!(rt; matches!(&result, Err(RunFault::Read)));
-    assert!(rt; reader.failed());
-    assert!(rt; !writer.failed());
-    assert!(rt; output.is_empty());
-    Ok(())
-}
-
-// How the run ends that reads these octets, and whether nothing was written.
-fn fault_of(alloc: Global, octets: &[u8], after: After) -> (&'static str, bool) {
+// How the run ends that reads these octets, and whether the reader failed. The writer doesn't, and
+// nothing is written.
+fn fault_of(rt: &impl Abort, alloc: Global, octets: &[u8], after: After) -> (&'static str, bool) {
     let mut reader = Watched::new(OneByOne { octets, after });
     let mut output = Vec::new(alloc);
     let mut writer = Watched::new(&mut output);
@@ -119,34 +104,24 @@ fn fault_of(alloc: Global, octets: &[u8], after: After) -> (&'static str, bool) 
         Ok(_) => "ok",
         Err(fault) => fault.name(),
     };
-    (name, output.is_empty())
+    assert!(rt; !writer.failed());
+    assert!(rt; output.is_empty());
+    (name, reader.failed())
 }
 
 #[test]
 fn a_reader_may_fail_at_each_read(rt: HostRuntime) {
     for (reads, _) in YES.iter().enumerate() {
         let octets = YES.get(..reads).expect(&rt, "a front");
-        let (name, is_unwritten) = fault_of(rt.alloc(), octets, After::Fail);
+        let (name, failed) = fault_of(&rt, rt.alloc(), octets, After::Fail);
         assert_eq!(rt; name, "Read", "at {reads}");
-        assert!(rt; is_unwritten, "at {reads}");
+        assert!(rt; failed, "at {reads}");
     }
-    assert_eq!(rt; fault_of(rt.alloc(), YES, After::Fail), ("Read", true));
-    assert_eq!(rt; fault_of(rt.alloc(), YES, After::Zeros), ("TooLong", true));
-}
-
-#[test]
-fn a_reader_without_end_is_left(rt: HostRuntime) -> Result<(), Fail> {
-    let mut reader = Watched::new(OneByOne {
-        octets: YES,
-        after: After::Zeros,
-    });
-    let mut output = Vec::new(rt.alloc());
-    let mut writer = Watched::new(&mut output);
-    let result = run(rt.alloc(), &mut reader, &mut writer);
-    assert!(rt; matches!(&result, Err(RunFault::TooLong)));
-    assert!(rt; !reader.failed());
-    assert!(rt; output.is_empty());
-    Ok(())
+    assert_eq!(rt; fault_of(&rt, rt.alloc(), YES, After::Fail), ("Read", true));
+    assert_eq!(rt;
+        fault_of(&rt, rt.alloc(), YES, After::Zeros),
+        ("TooLong", false)
+    );
 }
 
 // What is answered to an input.
@@ -172,46 +147,35 @@ fn the_longest_input_is_read(rt: HostRuntime) -> Result<(), Fail> {
     Ok(())
 }
 
-#[test]
-fn a_writer_that_fails_is_told(rt: HostRuntime) -> Result<(), Fail> {
-    for fails in [true, false] {
-        let mut reader = Watched::new(YES);
-        let mut output = Narrow {
-            octets: Vec::new(rt.alloc()),
-            room: 2,
-            fails,
-        };
-        let mut writer = Watched::new(&mut output);
-        let result = run(rt.alloc(), &mut reader, &mut writer);
-        assert!(rt; matches!(&result, Err(RunFault::Write)));
-        assert!(rt; writer.failed());
-        assert!(rt; !reader.failed());
-    }
-    Ok(())
-}
-
-// How the run ends whose writer takes so many octets, one a write, and then fails.
-fn fault_behind(alloc: Global, room: usize) -> &'static str {
+// How the run ends whose writer takes so many octets, one a write, and then fails or takes none;
+// and whether the writer failed.
+fn fault_behind(alloc: Global, room: usize, fails: bool) -> (&'static str, bool) {
     let mut reader = Watched::new(YES);
     let mut output = Narrow {
         octets: Vec::new(alloc),
         room,
-        fails: true,
+        fails,
     };
     let mut writer = Watched::new(&mut output);
-    match run(alloc, &mut reader, &mut writer) {
+    let name = match run(alloc, &mut reader, &mut writer) {
         Ok(_) => "ok",
         Err(fault) => fault.name(),
-    }
+    };
+    (name, writer.failed())
 }
 
 #[test]
 fn a_writer_may_fail_at_each_write(rt: HostRuntime) {
     // Four octets are written.
     for room in 0..4 {
-        assert_eq!(rt; fault_behind(rt.alloc(), room), "Write", "at {room}");
+        assert_eq!(rt;
+            fault_behind(rt.alloc(), room, true),
+            ("Write", true),
+            "at {room}"
+        );
     }
-    assert_eq!(rt; fault_behind(rt.alloc(), 4), "ok");
+    assert_eq!(rt; fault_behind(rt.alloc(), 2, false), ("Write", true));
+    assert_eq!(rt; fault_behind(rt.alloc(), 4, true), ("ok", false));
 }
 
 // The status of the line program with this reader, and a writer of so much room.

@@ -13,6 +13,13 @@ fn v4(number: u32) -> Addr {
     Addr::from(u128::from(number) << 96)
 }
 
+// That each value prints the text behind it.
+macro_rules! assert_all_shown {
+    ($rt:ident: $($value:expr => $text:literal;)*) => {$(
+        assert_shown(&$rt, $value.to_string($rt.alloc()), $text);
+    )*};
+}
+
 // Whole IPv4 addresses, from the one to the other.
 fn v4_range(low: u32, high: u32) -> IpBlock {
     let last = (u128::from(high) << 96) + ((1 << 96) - 1);
@@ -32,59 +39,42 @@ fn as_block(low: u32, high: u32) -> AsBlock {
 // The recommended text of each address (RFC 5952 4.1 to 4.3, and 5 of a mapped IPv4 address).
 #[test]
 fn addresses_print_as_recommended(rt: HostRuntime) {
-    let alloc = rt.alloc();
-    let without_zeros = Addr::from(0x2001_0db8_0000_0000_0000_0000_0000_0001);
-    assert_shown(&rt, without_zeros.to_v6().to_string(alloc), "2001:db8::1");
-    let shortened = Addr::from(0x2001_0db8_0000_0000_0000_0000_0002_0001);
-    assert_shown(&rt, shortened.to_v6().to_string(alloc), "2001:db8::2:1");
-    let one_field = Addr::from(0x2001_0db8_0000_0001_0001_0001_0001_0001);
-    let text = "2001:db8:0:1:1:1:1:1";
-    assert_shown(&rt, one_field.to_v6().to_string(alloc), text);
-    let longest = Addr::from(0x2001_0000_0000_0001_0000_0000_0000_0001);
-    assert_shown(&rt, longest.to_v6().to_string(alloc), "2001:0:0:1::1");
-    let first = Addr::from(0x2001_0db8_0000_0000_0001_0000_0000_0001);
-    assert_shown(&rt, first.to_v6().to_string(alloc), "2001:db8::1:0:0:1");
-    let lower_case = Addr::from(0x2001_0db8_aaaa_bbbb_cccc_dddd_eeee_0001);
-    let text = "2001:db8:aaaa:bbbb:cccc:dddd:eeee:1";
-    assert_shown(&rt, lower_case.to_v6().to_string(alloc), text);
-    let mapped = Addr::from(0xffff_c000_0201);
-    assert_shown(&rt, mapped.to_v6().to_string(alloc), "::ffff:192.0.2.1");
-    assert_shown(&rt, Addr::from(0).to_v6().to_string(alloc), "::");
-    assert_shown(&rt, v4(0xc000_0201).to_v4().to_string(alloc), "192.0.2.1");
+    assert_all_shown! { rt:
+        Addr::from(0x2001_0db8_0000_0000_0000_0000_0000_0001).to_v6() => "2001:db8::1";
+        Addr::from(0x2001_0db8_0000_0000_0000_0000_0002_0001).to_v6() => "2001:db8::2:1";
+        Addr::from(0x2001_0db8_0000_0001_0001_0001_0001_0001).to_v6() => "2001:db8:0:1:1:1:1:1";
+        Addr::from(0x2001_0000_0000_0001_0000_0000_0000_0001).to_v6() => "2001:0:0:1::1";
+        Addr::from(0x2001_0db8_0000_0000_0001_0000_0000_0001).to_v6() => "2001:db8::1:0:0:1";
+        Addr::from(0x2001_0db8_aaaa_bbbb_cccc_dddd_eeee_0001).to_v6()
+            => "2001:db8:aaaa:bbbb:cccc:dddd:eeee:1";
+        Addr::from(0xffff_c000_0201).to_v6() => "::ffff:192.0.2.1";
+        Addr::from(0).to_v6() => "::";
+        v4(0xc000_0201).to_v4() => "192.0.2.1";
+    }
 }
 
 #[test]
 fn blocks_of_addresses_print(rt: HostRuntime) {
-    let alloc = rt.alloc();
-    let prefix = v4_prefix(0xc000_0200, 24);
-    assert_shown(&rt, prefix.display_v4().to_string(alloc), "192.0.2.0/24");
-    let one = v4_prefix(0xc000_0201, 32);
-    assert_shown(&rt, one.display_v4().to_string(alloc), "192.0.2.1/32");
-    let all = v4_prefix(0, 0);
-    assert_shown(&rt, all.display_v4().to_string(alloc), "0.0.0.0/0");
-    let range = v4_range(0xc000_0201, 0xc000_0209);
-    let text = "192.0.2.1-192.0.2.9";
-    assert_shown(&rt, range.display_v4().to_string(alloc), text);
-    let whole = v4_range(0xc000_0200, 0xc000_02ff);
-    assert_shown(&rt, whole.display_v4().to_string(alloc), "192.0.2.0/24");
-    let shifted = v4_range(0xc000_0204, 0xc000_020b);
-    let text = "192.0.2.4-192.0.2.11";
-    assert_shown(&rt, shifted.display_v4().to_string(alloc), text);
+    assert_all_shown! { rt:
+        v4_prefix(0xc000_0200, 24).display_v4() => "192.0.2.0/24";
+        v4_prefix(0xc000_0201, 32).display_v4() => "192.0.2.1/32";
+        v4_prefix(0, 0).display_v4() => "0.0.0.0/0";
+        v4_range(0xc000_0201, 0xc000_0209).display_v4() => "192.0.2.1-192.0.2.9";
+        v4_range(0xc000_0200, 0xc000_02ff).display_v4() => "192.0.2.0/24";
+        v4_range(0xc000_0204, 0xc000_020b).display_v4() => "192.0.2.4-192.0.2.11";
+    }
 }
 
 #[test]
 fn blocks_of_long_addresses_print(rt: HostRuntime) {
-    let alloc = rt.alloc();
     let low = 0x2001_0db8 << 96;
-    let prefix = IpBlock::from(Prefix::new(low, 32));
-    assert_shown(&rt, prefix.display_v6().to_string(alloc), "2001:db8::/32");
-    let one = IpBlock::from(Prefix::new(low + 1, 128));
-    assert_shown(&rt, one.display_v6().to_string(alloc), "2001:db8::1/128");
-    let all = IpBlock::from(Prefix::new(0, 0));
-    assert_shown(&rt, all.display_v6().to_string(alloc), "::/0");
-    let range = IpBlock::from((Addr::from(low + 1), Addr::from(low + 0xa)));
-    let text = "2001:db8::1-2001:db8::a";
-    assert_shown(&rt, range.display_v6().to_string(alloc), text);
+    assert_all_shown! { rt:
+        IpBlock::from(Prefix::new(low, 32)).display_v6() => "2001:db8::/32";
+        IpBlock::from(Prefix::new(low + 1, 128)).display_v6() => "2001:db8::1/128";
+        IpBlock::from(Prefix::new(0, 0)).display_v6() => "::/0";
+        IpBlock::from((Addr::from(low + 1), Addr::from(low + 0xa))).display_v6()
+            => "2001:db8::1-2001:db8::a";
+    }
 }
 
 #[test]
@@ -117,14 +107,14 @@ fn sets_of_addresses_print(rt: HostRuntime) {
 #[test]
 fn as_numbers_print(rt: HostRuntime) {
     let alloc = rt.alloc();
-    assert_shown(&rt, as_block(64496, 64496).to_string(alloc), "AS64496");
-    let several = as_block(64496, 64511);
-    assert_shown(&rt, several.to_string(alloc), "AS64496-AS64511");
-    let all = as_block(0, 0xffff_ffff);
-    assert_shown(&rt, all.to_string(alloc), "AS0-AS4294967295");
-    let none = AsBlocks::empty(alloc);
-    assert_shown(&rt, none.to_string(alloc), "");
     let one = as_block(65536, 65536);
+    let several = as_block(64496, 64511);
     let set = AsBlocks::from_iter(alloc, [one, several]).expect(&rt, "memory");
-    assert_shown(&rt, set.to_string(alloc), "AS64496-AS64511, AS65536");
+    assert_all_shown! { rt:
+        as_block(64496, 64496) => "AS64496";
+        several => "AS64496-AS64511";
+        as_block(0, 0xffff_ffff) => "AS0-AS4294967295";
+        AsBlocks::empty(alloc) => "";
+        set => "AS64496-AS64511, AS65536";
+    }
 }
