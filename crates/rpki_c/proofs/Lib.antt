@@ -1,10 +1,13 @@
 mod Cutting
+mod EntriesPut
 mod FatesFound
 mod FaultTables
 mod FolderTermsGiven
 mod Issuers
 mod ListsRead
 mod QuestionTerms
+mod SaidBefore
 mod Sentences
 mod SortedMore
 mod Unread
+mod Writings

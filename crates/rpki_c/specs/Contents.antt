@@ -1,5 +1,5 @@
 -- What a caller is told of a certificate and of a revocation list (own).
-use Rattle.std.specs.Prelude.{◌≡◌, ◌⊎◌, ◌+◌, ◌-◌, ◌*◌, ◌^◌, ◌<◌, ℕ, true, List, length, get_or, slice_range, min, Option, Some, None, replicate}
+use Rattle.std.specs.Prelude.{◌≡◌, ◌⊎◌, ◌+◌, ◌-◌, ◌*◌, ◌^◌, ◌<◌, ℕ, true, List, length, drop, get_or, slice_index_or, slice_range, min, Option, Some, None, replicate}
 use Rattle.std.specs.Int.Digits.{number_from_digits}
 use Rattle.rpki_der.specs.Times.{Moment}
 use Rattle.rpki_blocks.specs.Resources.{Resources, missing, inherit, blocks}
@@ -13,6 +13,7 @@ use Rattle.rpki_crl.specs.Lists.{ListFields}
 use Rattle.rpki_crl.specs.RevokedEntries.{Entry, IsRevoked, Revoked}
 use Rattle.rpki_c.specs.TimeParts.{moment_of_parts}
 use Rattle.rpki_c.specs.declared.certificates.RpkiCertificate.{RpkiCertificate}
+use Rattle.rpki_c.specs.declared.lists.RpkiEntry.{RpkiEntry}
 use Rattle.rpki_c.specs.declared.lists.RpkiList.{RpkiList}
 use Rattle.rpki_c.specs.declared.moments.RpkiTime.{RpkiTime}
 
@@ -86,6 +87,19 @@ pub record TellsList (f : ListFields Revoked) (it : RpkiList) : Type 0 where
   pub entries : it.entries ≡ told_count (length f.revoked.entries)
   pub number : IsNumberOf f.extensions.crl_number it.number
   pub authority_key : it.authority_key ≡ f.extensions.authority_key_identifier
+
+-- each number is that of its field
+pub record TellsEntry (e : Entry) (it : RpkiEntry) : Type 0 where
+  pub serial : IsNumberOf e.serial it.serial
+  pub date : IsTimeOf e.date it.date
+
+-- each entry for which there is room is told at its place, and behind them stands what stood there
+-- before
+pub record AreEntriesPut (entries : List Entry) (old new : List RpkiEntry) : Type 0 where
+  pub told : (i : ℕ) (e : Entry) (it : RpkiEntry) → i < length entries → i < length new
+      → TellsEntry (slice_index_or entries i e) (slice_index_or new i it)
+  pub kept : drop (length entries) new ≡ drop (length entries) old
+  pub room : length new ≡ length old
 
 -- the serial number at this place: 20 octets, of which the first is the greatest
 abbrev pub serial_in : List ℕ → ℕ → ℕ

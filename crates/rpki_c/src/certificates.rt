@@ -1,5 +1,5 @@
 //! Certificates for C.
-ghost use Rattle.std.specs.Prelude.{◌≡◌, ◌≢◌, ◌<◌, ◌≤◌, ◌↔◌, ◌==◌, not, length, IsTrue, IsNone, IfSome, OnOk, IfOk, IfErr, option_map};
+ghost use Rattle.std.specs.Prelude.{◌≡◌, ◌≢◌, ◌<◌, ◌≤◌, ◌↔◌, ◌==◌, not, map, IsTrue, IsNone, IfSome, OnOk, IfOk, IfErr, option_map};
 ghost use Rattle.rpki_ext.specs.Kinds.{Means};
 ghost use Rattle.rpki_ext.specs.declared.inspection.InspectionError.{InspectionError as inspections};
 ghost use Rattle.rpki_cert.specs.Certificates.{CertFields, IsCertificate};
@@ -8,7 +8,7 @@ ghost use Rattle.rpki_cert.specs.declared.inspect.Kind.{Kind as kinds};
 ghost use Rattle.rpki_c.specs.Choices.{family_number, family_field, listed_blocks, uri_number, uri_field, octets_if_any, name_number, name_field};
 ghost use Rattle.rpki_c.specs.Contents.{BeginsNoCertificate, state_number, TellsKeys, TellsCertificate};
 ghost use Rattle.rpki_c.specs.FaultNumbers.{inspection_number};
-ghost use Rattle.rpki_c.specs.Writing.{IsWritten};
+ghost use Rattle.rpki_c.specs.Writing.{IsWritten, as_struct, ip_struct};
 ghost use Rattle.rpki_c.specs.declared.certificates.Family.{Family as families};
 ghost use Rattle.rpki_c.specs.declared.certificates.CertUri.{CertUri as uris};
 ghost use Rattle.rpki_c.specs.declared.certificates.CertName.{CertName as names};
@@ -252,8 +252,12 @@ pub extern "C" fn rpki_certificate_addresses(
     ensures bad_call { (result ≡ BAD_CALL) ↔ (family ≢ 4) × (family ≢ 6) }
     ensures listed { result ≡ NONE → (f : families) × (family ≡ family_number f)
         × (c : CertFields) × Means IsCertificate c octets.now
-        × (count.new ≡ length (listed_blocks (family_field f c.fields.extensions))) }
+        × IsWritten (map ip_struct (listed_blocks (family_field f c.fields.extensions)))
+        out.old out.new count.new }
     ensures at_fault { result ≢ NONE → count.new ≡ 0 }
+    ensures untouched { result ≢ NONE → out.new ≡ out.old }
+    ensures unread { result ≢ NONE → result ≢ MEMORY → result ≢ BAD_CALL
+        → BeginsNoCertificate octets.now }
 {
     *count = 0;
     let Some(family) = family_of(family) else {
@@ -281,8 +285,11 @@ pub extern "C" fn rpki_certificate_as_numbers(
     count: &mut u64,
 ) -> u32
     ensures listed { result ≡ NONE → (c : CertFields) × Means IsCertificate c octets.now
-        × (count.new ≡ length (listed_blocks c.fields.extensions.as_resources)) }
+        × IsWritten (map as_struct (listed_blocks c.fields.extensions.as_resources))
+        out.old out.new count.new }
     ensures at_fault { result ≢ NONE → count.new ≡ 0 }
+    ensures untouched { result ≢ NONE → out.new ≡ out.old }
+    ensures unread { result ≢ NONE → result ≢ MEMORY → BeginsNoCertificate octets.now }
 {
     *count = 0;
     match decoded(alloc, octets) {
@@ -354,6 +361,9 @@ pub extern "C" fn rpki_certificate_uri(
         × (c : CertFields) × Means IsCertificate c octets.now
         × IsWritten (octets_if_any (uri_field u c.fields.extensions)) out.old out.new count.new }
     ensures at_fault { result ≢ NONE → count.new ≡ 0 }
+    ensures untouched { result ≢ NONE → out.new ≡ out.old }
+    ensures unread { result ≢ NONE → result ≢ MEMORY → result ≢ BAD_CALL
+        → BeginsNoCertificate octets.now }
 {
     *count = 0;
     let Some(which) = uri_numbered(which) else {
@@ -415,6 +425,9 @@ pub extern "C" fn rpki_certificate_name(
         × (c : CertFields) × Means IsCertificate c octets.now
         × IsWritten (name_field n c.fields) out.old out.new count.new }
     ensures at_fault { result ≢ NONE → count.new ≡ 0 }
+    ensures untouched { result ≢ NONE → out.new ≡ out.old }
+    ensures unread { result ≢ NONE → result ≢ MEMORY → result ≢ BAD_CALL
+        → BeginsNoCertificate octets.now }
 {
     *count = 0;
     let Some(which) = name_numbered(which) else {

@@ -1,5 +1,5 @@
 //! Octets, and ranges of addresses and AS numbers, in the caller's memory.
-ghost use Rattle.std.specs.Prelude.{◌≡◌, ◌++◌, length, take, drop};
+ghost use Rattle.std.specs.Prelude.{◌≡◌, ◌++◌, length, map, take, drop};
 ghost use Rattle.rpki_c.specs.Writing.{written_over, ip_struct, as_struct};
 
 use rpki_blocks::{AsBlock, AsBlocks, IpBlock, IpBlocks};
@@ -40,22 +40,26 @@ fn as_range(block: AsBlock) -> RpkiAsRange
 
 /// Writes as many ranges as there is room for, and tells how many there are.
 pub(crate) fn put_addresses(blocks: &IpBlocks, out: &mut [RpkiIpRange]) -> u64
-    ensures { result ≡ length blocks.now }
+    ensures count { result ≡ length blocks.now }
+    ensures written { out.new ≡ written_over (map ip_struct blocks.now) out.old }
 {
-    for (at, block) in out.iter_mut().zip(blocks.iter()) {
-        *at = ip_range(*block);
+    let blocks = blocks.iter().as_slice();
+    for at in 0..blocks.len().min(out.len()) {
+        out[at] = ip_range(blocks[at]);
     }
-    blocks.iter().count() as u64
+    blocks.len() as u64
 }
 
 /// Writes as many ranges of AS numbers as there is room for, and tells how many there are.
 pub(crate) fn put_as_numbers(blocks: &AsBlocks, out: &mut [RpkiAsRange]) -> u64
-    ensures { result ≡ length blocks.now }
+    ensures count { result ≡ length blocks.now }
+    ensures written { out.new ≡ written_over (map as_struct blocks.now) out.old }
 {
-    for (at, block) in out.iter_mut().zip(blocks.iter()) {
-        *at = as_range(*block);
+    let blocks = blocks.iter().as_slice();
+    for at in 0..blocks.len().min(out.len()) {
+        out[at] = as_range(blocks[at]);
     }
-    blocks.iter().count() as u64
+    blocks.len() as u64
 }
 
 /// Writes as many octets as there is room for, and tells how many there are.

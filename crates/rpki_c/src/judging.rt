@@ -4,6 +4,7 @@ ghost use Rattle.rpki_cert.specs.Verification.{context};
 ghost use Rattle.rpki_path.specs.Judging.{Judges};
 ghost use Rattle.rpki_revocation.specs.AskedLists.{by_lists};
 ghost use Rattle.rpki_keys.specs.RsaSignatures.{IsSignedByRsa};
+ghost use Rattle.rpki_c.specs.Answered.{AnswersSaid, AnswersSaidMembers, AnswersSaidQuestion};
 ghost use Rattle.rpki_c.specs.Verdicts.{AreStringsOf, DontAddUp, IsUncalled, AnswersListed, AnswersWith, AnswersTrusted, AnswersPath, AnswersStrings, AnswersMembers, AnswersQuestion};
 
 use crate::lists::lists_of;
@@ -159,7 +160,7 @@ fn judge_terms(alloc: Global, question: &RpkiQuestion<'_>, terms: Terms) -> Resu
     answer
 }
 
-/// AnswersQuestion a question about a path, with signatures as the RPKI has them (RSASSA-PKCS1-v1_5 with
+/// Answers a question about a path, with signatures as the RPKI has them (RSASSA-PKCS1-v1_5 with
 /// SHA-256).
 pub(crate) fn judge_question(alloc: Global, question: &RpkiQuestion<'_>) -> Result<Judged, Refusal>
     ensures { AnswersQuestion IsSignedByRsa question.now result }
@@ -170,35 +171,53 @@ pub(crate) fn judge_question(alloc: Global, question: &RpkiQuestion<'_>) -> Resu
     }
 }
 
-// The answer to the question, by the signatures that the caller said yes to.
+// The answer of these strings, by the signatures that the caller said yes to.
 fn judge_said(
     alloc: Global,
     strings: &[Bytes],
     question: &RpkiQuestion<'_>,
     terms: Terms,
     yes: &[u8],
-) -> Result<Judged, Refusal> {
+) -> Result<Judged, Refusal>
+    ensures { AnswersSaid question.now terms strings.now yes.now result }
+{
     let verifier = answers(alloc, strings, yes)?;
     let answer = judge_strings(alloc, strings, question, terms, &verifier);
     drop(verifier);
     answer
 }
 
-/// AnswersQuestion a question about a path that asks no lists, with signatures that the caller has checked:
+// The answer to the question, which has these terms, by the signatures that the caller said yes to.
+fn judge_said_terms(
+    alloc: Global,
+    question: &RpkiQuestion<'_>,
+    terms: Terms,
+    yes: &[u8],
+) -> Result<Judged, Refusal>
+    ensures { AnswersSaidMembers question.now terms yes.now result }
+{
+    let strings = strings_of(alloc, &question.members)?;
+    let answer = judge_said(alloc, &strings, question, terms, yes);
+    drop(strings);
+    answer
+}
+
+/// Answers a question about a path that asks no lists, with signatures that the caller has checked:
 /// of each member, whether an octet 1 says that its signature is good.
 pub(crate) fn judge_question_said(
     alloc: Global,
     question: &RpkiQuestion<'_>,
     yes: &[u8],
-) -> Result<Judged, Refusal> {
-    let Some(terms) = terms_of(question) else {
-        return Err(Refusal::BadCall);
-    };
-    if terms.asks_lists {
-        return Err(Refusal::BadCall);
+) -> Result<Judged, Refusal>
+    ensures { AnswersSaidQuestion question.now yes.now result }
+{
+    match terms_of(question) {
+        Some(terms) => {
+            if terms.asks_lists {
+                return Err(Refusal::BadCall);
+            }
+            judge_said_terms(alloc, question, terms, yes)
+        }
+        None => Err(Refusal::BadCall),
     }
-    let strings = strings_of(alloc, &question.members)?;
-    let answer = judge_said(alloc, &strings, question, terms, yes);
-    drop(strings);
-    answer
 }

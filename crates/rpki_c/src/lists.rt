@@ -5,8 +5,10 @@ ghost use Rattle.rpki_der.specs.Place.{MeansOrMemoryBy};
 ghost use Rattle.rpki_ext.specs.Kinds.{Means};
 ghost use Rattle.rpki_crl.specs.Lists.{CrlFields, IsCertificateList};
 ghost use Rattle.rpki_crl.specs.RevokedEntries.{IsRevoked};
-ghost use Rattle.rpki_c.specs.Contents.{AreTold, IsFlag, TellsList, serial_in, told_count};
+ghost use Rattle.rpki_crl.specs.RevokedEntries.Views.{entry_of};
+ghost use Rattle.rpki_c.specs.Contents.{AreEntriesPut, AreTold, IsFlag, TellsEntry, TellsList, serial_in, told_count};
 ghost use Rattle.rpki_c.specs.Verdicts.{BeginsNoList, BeginsWithGiven, IsUnreadList};
+ghost use Rattle.rpki_c.specs.Writing.{IsWritten};
 
 use crate::copying::put_octets;
 use crate::faults::{BAD_CALL, MEMORY, NONE, of_decoding};
@@ -100,22 +102,26 @@ pub extern "C" fn rpki_list_read(alloc: Global, octets: &[u8], out: &mut RpkiLis
     }
 }
 
-fn entry(it: &CrlEntry) -> RpkiEntry {
+fn entry(it: &CrlEntry) -> RpkiEntry
+    ensures { TellsEntry (entry_of it.now) result }
+{
     RpkiEntry {
         date: parts_of(it.revocation_date),
         serial: it.user_certificate.octets(),
     }
 }
 
-fn put_entries(list: &Crl, out: &mut [RpkiEntry]) -> u64 {
-    let mut count = 0usize;
+fn put_entries(list: &Crl, out: &mut [RpkiEntry])
+    ensures { AreEntriesPut list.now.list.fields.revoked.entries out.old out.new }
+{
+    let mut at = 0;
     for it in list.as_cert_list().revoked_certs().iter() {
-        if count < out.len() {
-            out[count] = entry(&it);
+        if at == out.len() {
+            return;
         }
-        count = count.wrapping_add(1);
+        out[at] = entry(&it);
+        at += 1;
     }
-    count as u64
 }
 
 /// Writes the entries of the list: as many as there is room for, and in `count` how many there are.
@@ -127,12 +133,18 @@ pub extern "C" fn rpki_list_entries(
     out: &mut [RpkiEntry],
     count: &mut u64,
 ) -> u32
+    ensures entries { result ≡ NONE → (l : CrlFields) × Means IsCertificateList l octets.now
+        × AreEntriesPut l.fields.revoked.entries out.old out.new
+        × (count.new ≡ told_count (length l.fields.revoked.entries)) }
     ensures at_fault { result ≢ NONE → count.new ≡ 0 }
+    ensures untouched { result ≢ NONE → out.new ≡ out.old }
+    ensures unread { result ≢ NONE → result ≢ MEMORY → BeginsNoList octets.now }
 {
     *count = 0;
     match decoded(alloc, octets) {
         Ok(list) => {
-            *count = put_entries(&list, out);
+            put_entries(&list, out);
+            *count = entries(&list);
             drop(list);
             NONE
         }
@@ -149,7 +161,11 @@ pub extern "C" fn rpki_list_issuer(
     out: &mut [u8],
     count: &mut u64,
 ) -> u32
+    ensures issuer { result ≡ NONE → (l : CrlFields) × Means IsCertificateList l octets.now
+        × IsWritten l.fields.issuer out.old out.new count.new }
     ensures at_fault { result ≢ NONE → count.new ≡ 0 }
+    ensures untouched { result ≢ NONE → out.new ≡ out.old }
+    ensures unread { result ≢ NONE → result ≢ MEMORY → BeginsNoList octets.now }
 {
     *count = 0;
     match decoded(alloc, octets) {

@@ -1,8 +1,6 @@
 //! The names of paths for C.
-ghost use Rattle.std.specs.Prelude.{◌≡◌, ◌≢◌, ◌↔◌, ◌<◌, ◌^◌, length, IsNone, IsSome, IfSome, IfOk, IfErr, IfNone};
-ghost use Rattle.rpki_cert.specs.declared.inspect.Kind.TheVariants.{Authority};
-ghost use Rattle.rpki_path.specs.GivenPaths.{PathStrings, CanEndIn, IsSplitAs};
-ghost use Rattle.rpki_path.specs.NameChains.{TellsNames};
+ghost use Rattle.std.specs.Prelude.{◌≡◌, ◌≢◌, ◌↔◌, ◌⊎◌, IsNone, IsSome, IfSome, IfOk, IfErr};
+ghost use Rattle.rpki_c.specs.Telling.{AreToldNames, FindsNames, IsToldNames, names_fault, names_place};
 
 use crate::faults::{BAD_CALL, MEMORY, NONE, OTHER_NAME, of_path};
 use crate::strings::{RpkiStrings, cut};
@@ -14,11 +12,7 @@ use std::alloc::Global;
 // What is found of the members' names. `None` where there are none. Names don't depend on what the
 // last one is.
 fn found(alloc: Global, members: &[Member<'_>]) -> Option<Result<Option<usize>, PathError>>
-    ensures some { IsSome result ↔ CanEndIn Authority (length members.now) }
-    // That names chain, the first place where they don't, or the first where no certificate is
-    // read.
-    ensures names { IfSome result (λ it. (path : PathStrings)
-        × IsSplitAs members.now Authority path × TellsNames path it) }
+    ensures { FindsNames members.now result }
 {
     let path = GivenPath::of(members, Kind::Authority)?;
     Some(first_unchained(alloc, &path))
@@ -26,14 +20,13 @@ fn found(alloc: Global, members: &[Member<'_>]) -> Option<Result<Option<usize>, 
 
 // The fault that it is, and its place.
 fn told(answer: Option<Result<Option<usize>, PathError>>) -> (u32, u64)
+    ensures fault { result.0 ≡ names_fault answer }
+    ensures place { result.1 ≡ names_place answer }
     ensures bad_call { IsNone answer ↔ (result.0 ≡ BAD_CALL) }
     ensures chain { IfSome answer (λ it. IfOk it (λ found. IsNone found ↔ (result.0 ≡ NONE))) }
     ensures other { IfSome answer (λ it. IfOk it (λ found. IsSome found ↔ (result.0 ≡ OTHER_NAME))) }
     ensures unread { IfSome answer (λ it. IfErr it (λ e.
         (result.0 ≢ NONE) × (result.0 ≢ OTHER_NAME))) }
-    ensures place { IfSome answer (λ it. IfOk it (λ found.
-        IfSome found (λ place. result.1 ≡ place))) }
-    ensures index { IfSome answer (λ it. IfErr it (λ e. result.1 ≡ e.index)) }
 {
     match answer {
         Some(Ok(None)) => (NONE, 0),
@@ -48,7 +41,9 @@ fn told(answer: Option<Result<Option<usize>, PathError>>) -> (u32, u64)
 }
 
 // What is answered of the names of the members' strings.
-fn told_of(alloc: Global, strings: &[Bytes]) -> (u32, u64) {
+fn told_of(alloc: Global, strings: &[Bytes]) -> (u32, u64)
+    ensures { ((result.0 ≡ MEMORY) × (result.1 ≡ 0)) ⊎ AreToldNames strings.now result.0 result.1 }
+{
     match Member::of_each(alloc, strings) {
         Ok(members) => {
             let found = found(alloc, &members);
@@ -65,11 +60,9 @@ fn told_of(alloc: Global, strings: &[Bytes]) -> (u32, u64) {
 /// or the number of a fault: 600 where names don't chain. Writes the place of the first member of
 /// which that is so.
 #[unsafe(no_mangle)]
-pub extern "C" fn rpki_path_names(
-    alloc: Global,
-    members: &RpkiStrings<'_>,
-    place: &mut u64,
-) -> u32 {
+pub extern "C" fn rpki_path_names(alloc: Global, members: &RpkiStrings<'_>, place: &mut u64) -> u32
+    ensures { IsToldNames members.now result place.new }
+{
     *place = 0;
     match cut(alloc, members.octets, members.lengths) {
         Ok(Some(strings)) => {

@@ -1,7 +1,9 @@
 //! Paths for C.
 ghost use Rattle.std.specs.Prelude.{◌≡◌};
 ghost use Rattle.rpki_keys.specs.RsaSignatures.{IsSignedByRsa};
-ghost use Rattle.rpki_c.specs.Telling.{acceptance, rejection, IsSameRoom, verdict_of, IsToldVerdict};
+ghost use Rattle.rpki_c.specs.Answered.{AnswersSaidQuestion};
+ghost use Rattle.rpki_c.specs.Verdicts.{AnswersQuestion};
+ghost use Rattle.rpki_c.specs.Telling.{acceptance, rejection, HoldsAnswer, HoldsRanges, IsSameRoom, verdict_of, IsToldVerdict};
 
 use crate::copying::{RpkiAsRange, RpkiIpRange, put_addresses, put_as_numbers};
 use crate::faults::{NONE, of_refusal};
@@ -50,6 +52,7 @@ fn rejected_as(fault: u32, index: u32) -> RpkiVerdict
 
 fn accepted(holder: &ResourceCert, room: &mut RpkiRoom<'_>) -> RpkiVerdict
     ensures verdict { result ≡ acceptance holder.now }
+    ensures held { HoldsRanges holder.now room.old room.new }
     ensures room { IsSameRoom room.old room.new }
 {
     RpkiVerdict {
@@ -64,6 +67,7 @@ fn accepted(holder: &ResourceCert, room: &mut RpkiRoom<'_>) -> RpkiVerdict
 // The verdict that the answer is to a question of so many members, with the ranges that are held.
 fn verdict(answer: Result<Judged, Refusal>, members: usize, room: &mut RpkiRoom<'_>) -> RpkiVerdict
     ensures told { result ≡ verdict_of members answer }
+    ensures held { HoldsAnswer answer room.old room.new }
     ensures room { IsSameRoom room.old room.new }
 {
     match answer {
@@ -82,7 +86,8 @@ fn verdict(answer: Result<Judged, Refusal>, members: usize, room: &mut RpkiRoom<
 
 // The verdict on the question's path, by real signatures.
 fn validate(alloc: Global, question: &RpkiQuestion<'_>, room: &mut RpkiRoom<'_>) -> RpkiVerdict
-    ensures verdict { IsToldVerdict IsSignedByRsa question.now result }
+    ensures verdict { let answers = AnswersQuestion IsSignedByRsa question.now in
+        IsToldVerdict answers question.now room.old room.new result }
     ensures room { IsSameRoom room.old room.new }
 {
     let answer = judge_question(alloc, question);
@@ -96,6 +101,8 @@ fn validate_said(
     yes: &[u8],
     room: &mut RpkiRoom<'_>,
 ) -> RpkiVerdict
+    ensures verdict { let answers = AnswersSaidQuestion question.now yes.now in
+        IsToldVerdict answers question.now room.old room.new result }
     ensures room { IsSameRoom room.old room.new }
 {
     let answer = judge_question_said(alloc, question, yes);
@@ -112,7 +119,8 @@ pub extern "C" fn rpki_path_validate(
     room: &mut RpkiRoom<'_>,
     out: &mut RpkiVerdict,
 ) -> u32
-    ensures verdict { IsToldVerdict IsSignedByRsa question.now out.new }
+    ensures verdict { let answers = AnswersQuestion IsSignedByRsa question.now in
+        IsToldVerdict answers question.now room.old room.new out.new }
     ensures answered { result ≡ out.new.fault }
     ensures room { IsSameRoom room.old room.new }
 {
@@ -131,6 +139,8 @@ pub extern "C" fn rpki_path_validate_said(
     room: &mut RpkiRoom<'_>,
     out: &mut RpkiVerdict,
 ) -> u32
+    ensures verdict { let answers = AnswersSaidQuestion question.now yes.now in
+        IsToldVerdict answers question.now room.old room.new out.new }
     ensures answered { result ≡ out.new.fault }
     ensures room { IsSameRoom room.old room.new }
 {

@@ -1,9 +1,16 @@
 //! The signatures that a path asks for, as places in the caller's octets, and what the caller said
 //! of them.
+ghost use Rattle.std.specs.Prelude.{◌≡◌, ◌≢◌, IfOk, MatchOption, OnOk};
+ghost use Rattle.rpki_ext.specs.Kinds.{Means};
+ghost use Rattle.rpki_cert.specs.Certificates.{CertFields, IsCertificate};
+ghost use Rattle.rpki_c.specs.Answered.{AreSaid, IsAdded, IsAsked, IsOf, IsUnasked};
+ghost use Rattle.rpki_c.specs.Contents.{BeginsNoCertificate};
+
 use crate::answers::{Answers, Said};
 use crate::faults::{BAD_CALL, MEMORY, NONE, of_decoding};
 use crate::strings::{RpkiStrings, cut};
 use bytes::Bytes;
+use rpki_cert::Cert;
 use rpki_der::{Cursor, DecodeError};
 use std::alloc::{AllocError, Global};
 
@@ -22,8 +29,8 @@ pub struct RpkiSignature {
     pub signature_length: u64,
 }
 
-// The place of the key of a certificate, and that of its bits.
-fn key_span(octets: &Bytes) -> Result<((usize, usize), (usize, usize)), DecodeError> {
+// The place of the key of a certificate.
+fn key_span(octets: &Bytes) -> Result<(usize, usize), DecodeError> {
     let mut outer = Cursor::new(octets).take_sequence()?;
     let mut data = outer.take_sequence()?;
     // version, serial number, algorithm, issuer, validity and subject stand before the key
@@ -32,10 +39,9 @@ fn key_span(octets: &Bytes) -> Result<((usize, usize), (usize, usize)), DecodeEr
     }
     let from = data.span().0;
     let mut key = data.take_sequence()?;
-    let to = data.span().0;
     key.skip_one()?;
-    let (_, bits) = key.take_bits()?;
-    Ok(((from, to), bits.span()))
+    let _bits = key.take_bits()?;
+    Ok((from, data.span().0))
 }
 
 // The places of what is signed of a certificate, and of the signature.
@@ -63,7 +69,7 @@ fn signature_of(
     member: &Bytes,
     member_at: u64,
 ) -> Result<RpkiSignature, DecodeError> {
-    let (key, _) = key_span(issuer)?;
+    let key = key_span(issuer)?;
     let (message, signature) = signed_span(member)?;
     let (key_at, key_length) = place(issuer_at, key);
     let (message_at, message_length) = place(member_at, message);
@@ -121,30 +127,14 @@ pub extern "C" fn rpki_path_signatures(
     }
 }
 
-fn part(alloc: Global, octets: &Bytes, span: (usize, usize)) -> Result<Bytes, DecodeError> {
-    match octets.as_slice().get(span.0..span.1) {
-        Some(part) => Ok(Bytes::copy_from_slice(alloc, part)?),
-        None => Err(DecodeError::Truncated),
-    }
-}
-
-fn said(alloc: Global, issuer: &Bytes, member: &Bytes) -> Result<Said, DecodeError> {
-    let (_, key) = key_span(issuer)?;
-    let (message, signature) = signed_span(member)?;
-    let key = part(alloc, issuer, key)?;
-    let message = part(alloc, member, message)?;
-    let signature = part(alloc, member, signature)?;
-    Ok(Said {
-        key,
-        message,
-        signature,
-    })
-}
-
-// Nothing is said of a member that can't be read.
-fn read_or_none(answer: Result<Said, DecodeError>) -> Result<Option<Said>, AllocError> {
-    match answer {
-        Ok(said) => Ok(Some(said)),
+// The certificate that the octets begin with.
+#[tactic(auto, using(crate::proofs::Unread::unless_memory))]
+fn certificate(alloc: Global, octets: &Bytes) -> Result<Option<Cert>, AllocError>
+    ensures { IfOk result (λ it. MatchOption it (BeginsNoCertificate octets.now)
+        (λ cert. Means IsCertificate cert octets.now)) }
+{
+    match Cert::decode_shared(alloc, octets.clone()?) {
+        Ok(cert) => Ok(Some(cert)),
         Err(error) => {
             let is_memory = error.is_memory();
             drop(error);
@@ -153,30 +143,81 @@ fn read_or_none(answer: Result<Said, DecodeError>) -> Result<Option<Said>, Alloc
     }
 }
 
-// One answer of the caller's.
+// The key of a certificate, and what is signed of another one with its signature.
+fn said_of(alloc: Global, issuer: &Cert, member: &Cert) -> Result<Said, AllocError>
+    ensures { IfOk result (IsOf issuer.now member.now) }
+{
+    let signed = member.signed_data();
+    let bits = issuer.as_tbs().subject_public_key_info().bits();
+    let key = Bytes::copy_from_slice(alloc, bits)?;
+    let message = Bytes::copy_from_slice(alloc, signed.data())?;
+    let signature = Bytes::copy_from_slice(alloc, signed.signature().value())?;
+    Ok(Said {
+        key,
+        message,
+        signature,
+    })
+}
+
+// What the caller is asked of the certificate that the octets begin with, below this issuer.
+fn said_below(alloc: Global, issuer: &Cert, member: &Bytes) -> Result<Option<Said>, AllocError>
+    ensures { IfOk result (λ it. MatchOption it (BeginsNoCertificate member.now)
+        (λ said. (m : CertFields) × Means IsCertificate m member.now × IsOf issuer.now m said)) }
+{
+    match certificate(alloc, member)? {
+        Some(cert) => {
+            let said = said_of(alloc, issuer, &cert);
+            drop(cert);
+            Ok(Some(said?))
+        }
+        None => Ok(None),
+    }
+}
+
+// What the caller is asked of the octets of a member, below those of its issuer.
+fn said(alloc: Global, issuer: &Bytes, member: &Bytes) -> Result<Option<Said>, AllocError>
+    ensures { IfOk result (λ it. MatchOption it (IsUnasked issuer.now member.now)
+        (IsAsked issuer.now member.now)) }
+{
+    match certificate(alloc, issuer)? {
+        Some(cert) => {
+            let said = said_below(alloc, &cert, member);
+            drop(cert);
+            said
+        }
+        None => Ok(None),
+    }
+}
+
+// What the caller was asked of a member, where this is his answer to it.
 fn put_said(
     alloc: Global,
     issuer: &Bytes,
     member: &Bytes,
+    answer: u8,
     all: &mut Vec<Said>,
-) -> Result<(), AllocError> {
-    if let Some(said) = read_or_none(said(alloc, issuer, member))? {
+) -> Result<(), AllocError>
+    ensures yes { OnOk result
+        (answer ≡ 1 → IsAdded issuer.now member.now all.old.items all.new.items) }
+    ensures no { OnOk result (answer ≢ 1 → all.new.items ≡ all.old.items) }
+{
+    if answer != 1 {
+        return Ok(());
+    }
+    if let Some(said) = said(alloc, issuer, member)? {
         all.push(said)?;
     }
     Ok(())
 }
 
 /// What the caller said yes to, by an octet for each member: 1 for yes.
-pub(crate) fn answers(alloc: Global, members: &[Bytes], yes: &[u8]) -> Result<Answers, AllocError> {
+pub(crate) fn answers(alloc: Global, strings: &[Bytes], yes: &[u8]) -> Result<Answers, AllocError>
+    ensures { IfOk result (λ it. AreSaid strings.now yes.now it.said.items) }
+{
     let mut all = Vec::new(alloc);
-    if let Some(first) = members.first() {
-        let mut issuer = first;
-        for (member, answer) in members.iter().zip(yes.iter()) {
-            if *answer == 1 {
-                put_said(alloc, issuer, member, &mut all)?;
-            }
-            issuer = member;
-        }
+    for at in 0..strings.len().min(yes.len()) {
+        let issuer = &strings[at.saturating_sub(1)];
+        put_said(alloc, issuer, &strings[at], yes[at], &mut all)?;
     }
     Ok(Answers { said: all })
 }
