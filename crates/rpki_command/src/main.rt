@@ -22,6 +22,7 @@ mod notes;
 pub mod outcome_laws;
 mod outcomes;
 mod pem;
+mod progress;
 mod reading;
 mod requests;
 mod running;

@@ -177,8 +177,11 @@ pub fn read_files<'a, F: FileSource, E: Write>(
         AreObjectsRead reads most (map (λ name. name.now) names.now) all.items) }
 {
     let mut all = Vec::new(alloc);
+    let mut read = 0;
     for name in names {
         push_file(alloc, files, err, &mut all, *name, most)?;
+        read += 1;
+        files.hear_read(read, names.len());
     }
     Ok(all)
 }
