@@ -1,10 +1,12 @@
 //! The files that a request names, and what is said of those that can't be read.
 ghost use Rattle.std.specs.Prelude.{◌≡◌, ◌≢◌, [], ◌∷◌, ◌++◌, All, List, Some, map, IfErr, IfOk, MatchOption, OnOk};
 ghost use Rattle.rpki_files.specs.Files.{FileFields};
-ghost use Rattle.rpki_command.specs.ReadFiles.{AreFilesRead, AreObjectsRead, IsFileRead, IsObjectRead, IsUnread};
+ghost use Rattle.rpki_arguments.specs.CommandLines.Views.{fields_of};
+ghost use Rattle.rpki_command.specs.ReadFiles.{AreFilesRead, AreGiven, AreObjectsRead, AreRead, IsFileRead, IsObjectRead, IsUnread};
 ghost use Rattle.rpki_verdicts.specs.GivenLocators.{LocatorFields, IsRead, locator_files};
 
 use crate::files::{FileSource, Unread};
+use rpki_arguments::Request;
 use rpki_files::{BareObject, Object, read_bare_object};
 use rpki_text::Characters;
 use rpki_verdicts::GivenLocator;
@@ -199,4 +201,36 @@ pub fn objects_of<'a>(
         all.push(object)?;
     }
     Ok(all)
+}
+
+/// The files, lists and locators that a request names, as far as they can be read.
+#[derive(Drop)]
+pub struct GivenFiles<'a> {
+    pub files: Vec<BareObject<'a>>,
+    pub lists: Vec<BareObject<'a>>,
+    pub locators: Vec<GivenLocator<'a>>,
+}
+
+/// Reads the files, lists and locators that a request names, and says of each that can't be read why.
+/// Errs only where memory runs out.
+pub fn read_given<'a, F: FileSource, E: Write>(
+    alloc: Global,
+    files: &F,
+    err: &mut E,
+    request: &Request<'a>,
+) -> Result<GivenFiles<'a>, AllocError>
+    ensures read { let request = fields_of request.now in IfOk result (λ given.
+        AreRead (F.reads files.now) request given.files.items given.lists.items given.locators.items) }
+    ensures named { let request = fields_of request.now in IfOk result (λ given.
+        AreGiven request given.files.items given.lists.items given.locators.items) }
+{
+    let most = request.max_size;
+    let members = read_files(alloc, files, err, &request.files, most)?;
+    let lists = read_files(alloc, files, err, &request.lists, most)?;
+    let locators = read_locators(alloc, files, err, &request.locators, most, request.strict)?;
+    Ok(GivenFiles {
+        files: members,
+        lists,
+        locators,
+    })
 }

@@ -14,7 +14,7 @@ use crate::clock::{MomentSource, moment};
 use crate::files::FileSource;
 use crate::folders::{file_names, opened, with_files, with_further, with_path};
 use crate::outcomes::{Answer, Ended, Outcome};
-use crate::reading::{read_files, read_locators};
+use crate::reading::read_given;
 use crate::requests::run_request;
 use crate::searching::{SoughtNames, names_sought};
 use anyhow::{Result, anyhow};
@@ -52,11 +52,9 @@ fn answered<F: FileSource, E: Write>(
     ensures { let request = fields_of request.now in IfOk result (λ answer.
         IsAnswer (F.reads files.now) request now answer.outcome (string_bytes answer.text)) }
 {
-    let most = request.max_size;
-    let members = read_files(alloc, files, err, &request.files, most)?;
-    let lists = read_files(alloc, files, err, &request.lists, most)?;
-    let locators = read_locators(alloc, files, err, &request.locators, most, request.strict)?;
-    let answer = answer_request(alloc, request, now, &members, &lists, &locators)?;
+    let given = read_given(alloc, files, err, request)?;
+    let answer = answer_request(alloc, request, now, &given.files, &given.lists, &given.locators)?;
+    drop(given);
     Ok(answer)
 }
 

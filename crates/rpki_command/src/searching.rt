@@ -12,7 +12,7 @@ ghost use Rattle.rpki_command.specs.SoughtPaths.{AreListNames, IsSearch, IsSearc
 
 use crate::answering::{are_all_read, tree_question};
 use crate::files::FileSource;
-use crate::reading::{read_files, read_locators};
+use crate::reading::read_given;
 use rpki::repository::x509::Time;
 use rpki_arguments::Request;
 use rpki_files::BareObject;
@@ -145,10 +145,8 @@ pub fn names_sought<F: FileSource, E: Write>(
 ) -> Result<Option<SoughtNames>, AllocError>
     ensures { IfOk result (IsSearch (F.reads files.now) (fields_of request.now) now) }
 {
-    let most = request.max_size;
-    let members = read_files(alloc, files, err, &request.files, most)?;
-    let lists = read_files(alloc, files, err, &request.lists, most)?;
-    let locators = read_locators(alloc, files, err, &request.locators, most, request.strict)?;
-    let sought = sought_if_read(alloc, request, now, &members, &lists, &locators)?;
+    let given = read_given(alloc, files, err, request)?;
+    let sought = sought_if_read(alloc, request, now, &given.files, &given.lists, &given.locators)?;
+    drop(given);
     Ok(sought)
 }
