@@ -175,7 +175,7 @@ const USUAL_STEPS: usize = 64;
 pub fn tree_question<'q, 'n>(
     request: &Request<'_>,
     now: Time,
-    files: &'q [Object<'n>],
+    files: &'q [BareObject<'n>],
     locators: &'q [GivenLocator<'n>],
 ) -> TreeQuestion<'q, 'n>
     ensures { asked_of result
