@@ -51,6 +51,7 @@ returns-in_ok-fault-in-Err c =
     let anchor = c.in-Some.anchor.now in
     let tal = c.in-Some.tal.now in
     let wrong = c.in_ok-fault-in-Err.ensures in
+    let there = rw c.in-Some.is at c.in_ok-found.ensures.found in
     record {
       certs = files;
       certs_are = c.requires.certs_are;
