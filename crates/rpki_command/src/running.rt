@@ -53,7 +53,14 @@ fn answered<F: FileSource, E: Write>(
         IsAnswer (F.reads files.now) request now answer.outcome (string_bytes answer.text)) }
 {
     let given = read_given(alloc, files, err, request)?;
-    let answer = answer_request(alloc, request, now, &given.files, &given.lists, &given.locators)?;
+    let answer = answer_request(
+        alloc,
+        request,
+        now,
+        &given.files,
+        &given.lists,
+        &given.locators,
+    )?;
     drop(given);
     Ok(answer)
 }

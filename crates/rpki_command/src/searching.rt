@@ -146,7 +146,14 @@ pub fn names_sought<F: FileSource, E: Write>(
     ensures { IfOk result (IsSearch (F.reads files.now) (fields_of request.now) now) }
 {
     let given = read_given(alloc, files, err, request)?;
-    let sought = sought_if_read(alloc, request, now, &given.files, &given.lists, &given.locators)?;
+    let sought = sought_if_read(
+        alloc,
+        request,
+        now,
+        &given.files,
+        &given.lists,
+        &given.locators,
+    )?;
     drop(given);
     Ok(sought)
 }

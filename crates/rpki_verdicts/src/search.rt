@@ -50,7 +50,10 @@ fn stands_alone(
 }
 
 // The file alone.
-fn alone<'q, 'n>(alloc: Global, file: &'q BareObject<'n>) -> Result<Vec<&'q BareObject<'n>>, AllocError>
+fn alone<'q, 'n>(
+    alloc: Global,
+    file: &'q BareObject<'n>,
+) -> Result<Vec<&'q BareObject<'n>>, AllocError>
     ensures { IfOk result (λ path. map (λ f. f.now) path.items ≡ file.now ∷ []) }
 {
     let mut path = Vec::new(alloc);
