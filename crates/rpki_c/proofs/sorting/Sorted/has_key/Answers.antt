@@ -9,8 +9,8 @@ use Rattle.rpki_c.specs.FolderFates.Steps.{IsAddedAs}
 use Rattle.rpki_c.proofs.SortedMore.{tells_key, no_key}
 use Rattle.rpki_c.proofs.sorting.Sorted.has_key.Goals as goal
 
-pub returns-in-Certificate : goal.returns-in-Certificate
-returns-in-Certificate c =
+pub returns-in_ok-cert-in-Certificate : goal.returns-in_ok-cert-in-Certificate
+returns-in_ok-cert-in-Certificate c =
     let s = c.args.self.now in
     let at = c.in-Certificate.at in
     let inside : c.args.place < length s.added.items = subst (λ (n : ℕ). c.args.place < n) (sym c.requires.sorted.count) c.requires.inside in
