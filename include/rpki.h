@@ -32,7 +32,9 @@
  *   - It answers RPKI_OK or the number of a fault. A number never gets another meaning.
  *   - After a fault, what it writes says nothing, unless its comment says more.
  *
- * Comes as librpki.a and librpki.so. Both want nothing but the C library.
+ * Comes as librpki.a and librpki.so. Both want nothing but the C library. On the
+ * compiler's line a program's source stands before $(pkg-config --cflags --libs rpki), since the
+ * linker reads in order.
  */
 #ifndef RPKI_H
 #define RPKI_H
@@ -70,7 +72,9 @@ enum rpki_field {
     RPKI_FIELD_CRL_NUMBER = 12
 };
 
-/* Numbers the faults. */
+/* Numbers the faults. The hundreds say what a fault is about. The number tells it from all others;
+ * its name need not: 408 and 502 are both BadSignature, of a certificate and of a list. RPKI_MEMORY
+ * and RPKI_BAD_CALL say nothing of what was judged. */
 enum rpki_fault {
     RPKI_OK = 0,
     RPKI_MEMORY = 1,   /* memory ran out */
@@ -148,12 +152,12 @@ enum rpki_fault {
     /* The anchor's key isn't the locator's; of a folder, that of no certificate is. */
     RPKI_OTHER_KEY = 601,
 
-    /* The octets aren't a trust anchor locator. */
-    RPKI_LOCATOR_NO_TEXT = 700,
-    RPKI_LOCATOR_BAD_URI = 701,
-    RPKI_LOCATOR_NO_URI = 702,
-    RPKI_LOCATOR_NO_KEY = 703,
-    RPKI_LOCATOR_BAD_KEY = 704
+    /* The locator's octets aren't a trust anchor locator. No certificate has these faults. */
+    RPKI_LOCATOR_NO_TEXT = 700, /* the locator isn't UTF-8, and `strict` isn't 0 */
+    RPKI_LOCATOR_BAD_URI = 701, /* among its URIs is a line that is no rsync or https URI */
+    RPKI_LOCATOR_NO_URI = 702,  /* the locator has no URI */
+    RPKI_LOCATOR_NO_KEY = 703,  /* it ends before the empty line behind its URIs */
+    RPKI_LOCATOR_BAD_KEY = 704  /* what follows that line isn't a public key in base64 */
 };
 
 /* Every function with `out`, `room` and `count` writes as many elements as there is
@@ -178,13 +182,19 @@ struct rpki_time {
     uint8_t unused; /* is ignored, and 0 where it is written */
 };
 
-/* Numbers the kinds of certificates. */
+/* Numbers the kinds of certificates. A caller says as which one a certificate is judged; as another
+ * than its own it is rejected with an RPKI_INSPECTION_ fault.
+ *
+ * RPKI_END_ENTITY is for the certificate of a signed object that is published, as a ROA or a
+ * manifest: it has to name where that object is (SIA, signedObject; RFC 6487 4.8.8.2).
+ * RPKI_DETACHED asks all but that name, and so it accepts each RPKI_END_ENTITY too. Take it only
+ * where the object stands at no URI. */
 enum rpki_kind {
-    RPKI_ANCHOR = 0,
-    RPKI_AUTHORITY = 1,
-    RPKI_END_ENTITY = 2,
-    RPKI_DETACHED = 3, /* is an end entity that signs any object */
-    RPKI_ROUTER = 4
+    RPKI_ANCHOR = 0,     /* a trust anchor, which signs itself */
+    RPKI_AUTHORITY = 1,  /* a CA, which signs certificates and a list */
+    RPKI_END_ENTITY = 2, /* signs one object, and names it */
+    RPKI_DETACHED = 3,   /* signs one object, and need not name it */
+    RPKI_ROUTER = 4      /* a BGPsec router (RFC 8209) */
 };
 
 /* Numbers how a certificate has its resources of one kind. */
@@ -215,8 +225,8 @@ uint32_t rpki_certificate_read(const uint8_t *octets, size_t length, struct rpki
 
 /* Answers RPKI_OK where the certificate meets the profile of the kind, an enum rpki_kind. Else it
  * answers its first fault, or RPKI_BAD_CALL where no kind has the number. `strict` is 1 where names
- * have to have the strings of RFC 6487 4.4, and 0 where other strings may stand there. Any number
- * but 0 is as 1. */
+ * have to have the strings of RFC 6487 4.4, and 0 where other strings may stand there. Who doesn't
+ * know better gives 1. Any number but 0 is as 1. */
 uint32_t rpki_certificate_inspect(const uint8_t *octets, size_t length, uint32_t kind,
                                   uint32_t strict);
 
@@ -343,9 +353,10 @@ struct rpki_room {
  * its certificate. */
 struct rpki_verdict {
     uint32_t fault; /* is what the function answers */
-    uint32_t index; /* is the place of the first wrong member; the anchor's is 0, and that of a list
-                     * which can't be read is the number of members and its own. A place behind
-                     * UINT32_MAX is told as that */
+    uint32_t index; /* is the place of the first wrong member; the anchor's is 0. Of a list that
+                     * can't be read it is the number of members and the list's place: behind 3
+                     * members, 5 is list 2. With RPKI_MEMORY, RPKI_BAD_CALL and an RPKI_LOCATOR_
+                     * fault it speaks of no member. A place behind UINT32_MAX is told as that */
     uint64_t v4, v6, asn; /* count the ranges that the last member holds, where the fault is 0 */
 };
 

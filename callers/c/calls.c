@@ -146,6 +146,11 @@ static size_t read_file(const char *name, uint8_t *to, size_t room) {
         exit(2);
     }
     size_t length = fread(to, 1, room, file);
+    /* what fills the room may be a part of the file */
+    if (ferror(file) || length == room) {
+        fprintf(stderr, "%s: not read, or there is no room for it\n", name);
+        exit(2);
+    }
     fclose(file);
     return length;
 }

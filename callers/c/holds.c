@@ -1,5 +1,6 @@
 /* Prints the IPv4 addresses that a path of certificates holds, or why it is
- * rejected. The files are anchor.cer, first.cer and first.crl. */
+ * rejected. A locator says which trust anchor is trusted, and each issuer's
+ * list whether a member is revoked. */
 #include <rpki.h>
 #include <stdio.h>
 #include <stdlib.h>
@@ -17,7 +18,13 @@ static void append(struct files *to, const char *name) {
         exit(2);
     }
     uint8_t *end = to->octets + to->length;
-    size_t length = fread(end, 1, sizeof to->octets - to->length, file);
+    size_t room = sizeof to->octets - to->length;
+    size_t length = fread(end, 1, room, file);
+    /* what fills the room may be a part of the file */
+    if (ferror(file) || length == room || to->count == 8) {
+        fprintf(stderr, "%s: not read, or there is no room for it\n", name);
+        exit(2);
+    }
     fclose(file);
     to->length += length;
     to->lengths[to->count++] = length;
@@ -32,37 +39,53 @@ static struct rpki_strings strings_of(const struct files *it) {
     };
 }
 
-static int reject(uint32_t fault, uint64_t member) {
-    uint8_t sentence[256];
-    uint64_t length;
+/* Prints which file is wrong, and why. */
+static int reject(uint32_t fault, uint64_t index, size_t members) {
+    uint8_t name[64], sentence[256];
+    uint64_t name_length, length;
+    rpki_fault_name(fault, name, sizeof name, &name_length);
     rpki_fault_sentence(fault, sentence, sizeof sentence, &length);
-    printf("member %d: ", (int)member);
-    printf("%.*s\n", (int)length, (const char *)sentence);
+    if (fault == RPKI_MEMORY || fault == RPKI_BAD_CALL)
+        printf("not judged: "); /* no file is at fault */
+    else if (fault >= RPKI_LOCATOR_NO_TEXT && fault <= RPKI_LOCATOR_BAD_KEY)
+        printf("locator: ");
+    else if (index < members)
+        printf("member %d: ", (int)index);
+    else
+        printf("list %d: ", (int)(index - members));
+    printf("%.*s (%d, %.*s)\n", (int)length, (const char *)sentence,
+           (int)fault, (int)name_length, (const char *)name);
     return 1;
 }
 
 int main(void) {
-    static struct files members, lists;
+    static struct files members, lists, locator;
     static struct rpki_ip_range v4[100]; /* verdict.v4 tells of more */
     append(&members, "anchor.cer");
     append(&members, "first.cer");
+    append(&members, "second.cer");
     append(&lists, "first.crl");
+    append(&lists, "second.crl");
+    append(&locator, "anchor.tal");
     struct rpki_question question = {
         .size = sizeof question,
         .members = strings_of(&members),
         .lists = strings_of(&lists),
+        .locator = locator.octets,
+        .locator_length = locator.length,
         .moment = {.year = 2026, .month = 6, .day = 1},
         .last = RPKI_AUTHORITY,
         .strict = 1,
-        .anchor = RPKI_AS_GIVEN, /* in place of a locator */
+        .revocation = RPKI_ASK_LISTS,
+        .anchor = RPKI_ASK_LOCATOR,
     };
     struct rpki_room room = {.v4 = v4, .v4_room = 100};
     struct rpki_verdict verdict;
     uint64_t place;
     if (rpki_path_validate(&question, &room, &verdict) != RPKI_OK)
-        return reject(verdict.fault, verdict.index);
+        return reject(verdict.fault, verdict.index, members.count);
     uint32_t names = rpki_path_names(&question.members, &place);
-    if (names != RPKI_OK) return reject(names, place);
+    if (names != RPKI_OK) return reject(names, place, members.count);
     for (size_t i = 0; i < verdict.v4 && i < 100; i++) {
         const uint8_t *min = v4[i].min, *max = v4[i].max;
         printf("%d.%d.%d.%d to ", min[0], min[1], min[2], min[3]);
