@@ -1,5 +1,33 @@
 """Reads and judges resource certificates and revocation lists of the RPKI (RFC 6487).
 
+Calls; help(rpki.validate) says more of one:
+
+    validate(members, last=, lists=)     what the last member of a path holds
+    judge_folder(octets, locator=)       which of many certificates and lists are valid
+    Certificate(octets)                  a certificate that is read, and not judged
+    RevocationList(octets)               a list that is read, and not judged
+
+Exceptions. str(fault) is such as "member 2: certificate revoked (Revoked)":
+
+    Fault                the base of all below: number, name, sentence, member, revocation_list
+    DecodeFault          the octets begin with no certificate, or no list
+    InspectionFault      the certificate doesn't meet the profile of its kind
+    VerificationFault    it isn't valid at the moment, or not issued by the member above it
+    RevocationFault      the lists don't show that it isn't revoked
+    NamesFault           its issuer isn't the subject of the member above it
+    LocatorFault         the file is no locator, or the trust anchor has another key
+    TypeError            octets are wanted, and a text, a path or another value was given
+    ValueError           the call itself is wrong: no members, a moment without a time zone ..
+    MemoryError          memory ran out
+
+Kinds, as which a certificate is judged (help(rpki.Kind) says when):
+
+    Kind.TRUST_ANCHOR    a trust anchor, which signs itself
+    Kind.AUTHORITY       a CA
+    Kind.END_ENTITY      signs one object, and names where it is: a ROA's, a manifest's
+    Kind.DETACHED        signs one object, and need not name it
+    Kind.ROUTER          a BGPsec router
+
 A path of certificates is judged as a whole, and gives what its last member holds, or raises why it
 is rejected:
 
@@ -8,10 +36,11 @@ is rejected:
 
     members = [Path(name).read_bytes() for name in ("anchor.cer", "ca.cer", "object.cer")]
     lists = [Path(name).read_bytes() for name in ("anchor.crl", "ca.crl")]
+    locator = Path("anchor.tal").read_bytes()
     try:
-        held = validate(members, last=Kind.END_ENTITY, lists=lists)
+        held = validate(members, last=Kind.END_ENTITY, lists=lists, locator=locator)
     except Fault as fault:
-        print(f"member {fault.member}: {fault.name}, {fault.sentence}")
+        print(fault)
     else:
         for network in held.ipv4:
             print(network)
@@ -44,6 +73,7 @@ from __future__ import annotations
 
 import enum
 import ipaddress
+import os
 from collections.abc import Iterator, Sequence
 from dataclasses import dataclass
 from datetime import datetime, timezone
@@ -81,18 +111,26 @@ __all__ = [
 
 
 class Fault(Exception):
-    """Why something is rejected. Each fault has a number that never gets another meaning."""
+    """Why something is rejected.
+
+    number: the number, of `enum rpki_fault` of rpki.h, which never gets another meaning.
+    name: the name, such as `BadSignature`. Faults of two classes may have one name, so that the
+        class or the number tells them apart: 408 is of a certificate, and 502 of a list.
+    sentence: what it means, such as `certificate revoked`.
+    member: the place of the wrong member of the path; 0 is the trust anchor. None where the fault
+        is a locator's or a list's.
+    revocation_list: the place, among the lists that were given, of one that can't be read; else
+        None.
+
+    str() of it has place, sentence and name: `member 2: certificate revoked (Revoked)`. Without a
+    place it begins with the sentence, and of a list that can't be read with `list 1: `.
+    """
 
     number: int
-    """The number, of `enum rpki_fault` of rpki.h."""
     name: str
-    """The name, such as `BadSignature`."""
     sentence: str
-    """What it means, such as `certificate revoked`."""
     member: int | None
-    """The place of the member of a path that has it, the trust anchor at 0."""
     revocation_list: int | None
-    """The place of the list that can't be read, among those that were given."""
 
     def __init__(
         self, number: int, member: int | None = None, revocation_list: int | None = None
@@ -161,7 +199,7 @@ def _raise(fault: int, member: int | None = None, revocation_list: int | None = 
     if fault == raw.MEMORY:
         raise MemoryError
     if fault == raw.BAD_CALL:
-        raise ValueError("there are too few members, or the last of several is to be a trust anchor")
+        raise ValueError("lengths or numbers of the call don't fit")
     raise _fault(fault, member, revocation_list)
 
 
@@ -250,20 +288,38 @@ def _as_numbers(ranges: Sequence[raw.AsRange]) -> AsNumbers:
 Octets = Union[bytes, bytearray, memoryview]
 
 
-def _bytes(octets: Octets) -> bytes:
+def _bytes(octets: Octets, name: str = "octets") -> bytes:
     """The octets of a bytes-like object as they are now. Of a number, of which bytes() makes zeros,
-    and of a text this raises TypeError."""
-    return octets if isinstance(octets, bytes) else bytes(memoryview(octets))
+    of a text and of a path this raises TypeError, which names the argument."""
+    if isinstance(octets, bytes):
+        return octets
+    if isinstance(octets, (str, os.PathLike)):
+        given = type(octets).__name__
+        remedy = "Path(..).read_bytes() gives those of a file"
+        raise TypeError(f"{name}: octets are wanted, not {given}: {remedy}")
+    try:
+        return bytes(memoryview(octets))
+    except TypeError as error:
+        raise TypeError(f"{name}: octets are wanted, not {type(octets).__name__}") from error
 
 
 class Kind(enum.Enum):
-    """What a certificate is judged as."""
+    """What a certificate is judged as. As another kind than its own it is rejected, with an
+    InspectionFault.
+
+    TRUST_ANCHOR: a trust anchor, which signs itself.
+    AUTHORITY: a CA, which signs certificates and a revocation list.
+    END_ENTITY: the certificate of a signed object that is published, as a ROA or a manifest. It has
+        to name where that object is (`uris["signed_object"]`).
+    DETACHED: an end entity that need not name its object. All else is asked as of END_ENTITY, so
+        each of those is accepted too. Take it only where the object stands at no URI.
+    ROUTER: a BGPsec router (RFC 8209).
+    """
 
     TRUST_ANCHOR = 0
     AUTHORITY = 1
     END_ENTITY = 2
     DETACHED = 3
-    """An end entity that signs any object."""
     ROUTER = 4
 
 
@@ -485,8 +541,28 @@ class RevocationList:
 # ---- paths
 
 
-def _octets(what: Octets | Certificate | RevocationList) -> bytes:
-    return what.octets if isinstance(what, (Certificate, RevocationList)) else _bytes(what)
+def _octets(what: Octets | Certificate | RevocationList, name: str) -> bytes:
+    return what.octets if isinstance(what, (Certificate, RevocationList)) else _bytes(what, name)
+
+
+_SINGLE = (bytes, bytearray, memoryview, str, os.PathLike)
+
+
+def _all_octets(many: Sequence[Octets | Certificate | RevocationList], name: str) -> list[bytes]:
+    """The octets of each of an argument, which isn't one of them itself."""
+    if isinstance(many, (*_SINGLE, Certificate, RevocationList)):
+        given = type(many).__name__
+        raise TypeError(f"{name}: a list of octets is wanted, not {given}: [..] makes one of it")
+    return [_octets(it, f"{name}[{at}]") for at, it in enumerate(many)]
+
+
+def _why_no_path(count: int, last: Kind) -> str:
+    """Why so many members aren't a path that ends in one of the kind."""
+    if count > 1:
+        return "the last of several members is to be a trust anchor"
+    if count == 1:
+        return f"too few members: one of Kind.{last.name} stands below an issuer"
+    return "too few members: there are none"
 
 
 def validate(
@@ -512,19 +588,23 @@ def validate(
     `locator` is the file of a trust anchor locator (RFC 8630): then the trust anchor has to have its
     key. With None, the trust anchor is taken as given.
 
-    `at` is the moment of the question, with its time zone; now, where it isn't given. `strict` asks
+    `at` is the moment of the question; now, where it isn't given. It needs a time zone, as
+    `datetime(2026, 6, 1, tzinfo=timezone.utc)` has one. `strict` asks
     names for the strings of RFC 6487 4.4, and the locator for UTF-8. `chain_names` asks that each
     issuer is the subject of the member above it (RFC 6487 7.2).
 
-    Raises the Fault of the first wrong member, and ValueError where there are too few members, or
-    the last of several is to be a trust anchor.
+    Raises the Fault of the first wrong member, or of the locator or a list that can't be read.
+    Raises ValueError where there are too few members, where the last of several is to be a trust
+    anchor, and where `at` has no time zone; TypeError where a text or a path stands for octets.
     """
-    all_members = [_octets(it) for it in members]
+    all_members = _all_octets(members, "members")
     now = _time(datetime.now(timezone.utc) if at is None else at)
-    all_lists = None if lists is None else [_octets(it) for it in lists]
-    key = None if locator is None else _bytes(locator)
+    all_lists = None if lists is None else _all_octets(lists, "lists")
+    key = None if locator is None else _bytes(locator, "locator")
     asked = raw.question(all_members, Kind(last).value, now, strict, all_lists, key)
     fault, index, held = raw.judge(asked)
+    if fault == raw.BAD_CALL:
+        raise ValueError(_why_no_path(len(all_members), Kind(last)))
     if fault // 100 == 7:
         _raise(fault)
     elif index < len(all_members):
@@ -623,11 +703,11 @@ def judge_folder(
     Raises LocatorFault where the file is no locator or none of the octets has its key, and the
     Fault of the trust anchor where that is wrong, with its place as the `member`.
     """
-    strings = [_octets(it) for it in octets]
+    strings = _all_octets(octets, "octets")
     now = _time(datetime.now(timezone.utc) if at is None else at)
     if depth < 1 or (steps is not None and steps < 1):
         raise ValueError("a walk of no depth or without steps looks at nothing")
-    asked = raw.folder_question(strings, _bytes(locator), now, strict, depth, steps or 0)
+    asked = raw.folder_question(strings, _bytes(locator, "locator"), now, strict, depth, steps or 0)
     walk, lines = raw.judge_folder(asked)
     place = walk.anchor if 100 <= walk.fault < 600 else None
     _raise(walk.fault, place)

@@ -179,6 +179,27 @@ class Paths(unittest.TestCase):
             with self.assertRaises(TypeError):
                 validate(self.members, lists=None, locator=cast(Any, no_locator), **asked)
 
+    def test_texts_and_paths_are_no_octets(self) -> None:
+        asked: dict[str, Any] = {"last": Kind.END_ENTITY, "at": self.noon}
+        for other in ("anchor.cer", Path("anchor.cer")):
+            kind = type(other).__name__
+            text = rf"^octets: octets are wanted, not {kind}: Path\(..\).read_bytes\(\)"
+            with self.assertRaisesRegex(TypeError, text):
+                Certificate(cast(Any, other))
+            with self.assertRaisesRegex(TypeError, rf"^members\[1\]: octets .* {kind}: Path"):
+                validate([self.members[0], cast(Any, other)], lists=None, **asked)
+            with self.assertRaisesRegex(TypeError, rf"^lists\[0\]: octets .* {kind}: Path"):
+                validate(self.members, lists=[cast(Any, other)], **asked)
+            with self.assertRaisesRegex(TypeError, rf"^locator: octets .* {kind}: Path"):
+                validate(self.members, lists=None, locator=cast(Any, other), **asked)
+            with self.assertRaisesRegex(TypeError, rf"^members: a list .*, not {kind}: "):
+                validate(cast(Any, other), lists=None, **asked)
+        one = RevocationList(self.lists[0])
+        with self.assertRaisesRegex(TypeError, "^lists: a list .*, not RevocationList: "):
+            validate(self.members, lists=cast(Any, one), **asked)
+        with self.assertRaisesRegex(TypeError, "^locator: octets are wanted, not int$"):
+            validate(self.members, lists=None, locator=cast(Any, 5), **asked)
+
     def rejects(
         self,
         name: str,
@@ -238,13 +259,13 @@ class Paths(unittest.TestCase):
             without(self.members, last=Kind.END_ENTITY, at=self.noon)
 
     def test_wrong_calls(self) -> None:
-        wrong: list[tuple[list[bytes], Kind]] = [
-            ([], Kind.AUTHORITY),
-            (self.members[:1], Kind.END_ENTITY),
-            (self.members[:2], Kind.TRUST_ANCHOR),
+        wrong: list[tuple[list[bytes], Kind, str]] = [
+            ([], Kind.AUTHORITY, "too few members: there are none"),
+            (self.members[:1], Kind.END_ENTITY, "too few members: one of Kind.END_ENTITY"),
+            (self.members[:1], Kind.ROUTER, "too few members: one of Kind.ROUTER"),
+            (self.members[:2], Kind.TRUST_ANCHOR, "the last of several members is to be a"),
         ]
-        for members, last in wrong:
-            text = "too few members, or the last of several is to be a trust anchor"
+        for members, last, text in wrong:
             with self.assertRaisesRegex(ValueError, text):
                 validate(members, last=last, lists=None, at=self.noon)
         with self.assertRaises(ValueError):
