@@ -1,7 +1,7 @@
 //! Links to librpki: of the folder that RPKI_LIBRARY names, or of the one that pkg-config knows, or
 //! where the linker looks for libraries.
 use std::env;
-use std::path::PathBuf;
+use std::path::{Path, PathBuf};
 use std::process::Command;
 
 /// The folder that rpki.pc names, where pkg-config finds that.
@@ -25,8 +25,13 @@ fn main() {
         let folder = folder.display();
         println!("cargo:warning=RPKI_LIBRARY is {folder}, and there is no {file}");
     }
-    if let Some(folder) = named.or_else(of_pkg_config) {
-        println!("cargo:rustc-link-search=native={}", folder.display());
+    match named.or_else(of_pkg_config) {
+        Some(folder) => println!("cargo:rustc-link-search=native={}", folder.display()),
+        None if Path::new("/usr/local/lib").join(file).is_file() => {}
+        None => println!(
+            "cargo:warning=the linker has to find {file} by itself: where it doesn't, name its \
+             folder in RPKI_LIBRARY, or that of rpki.pc in PKG_CONFIG_PATH"
+        ),
     }
     println!("cargo:rustc-link-lib={form}=rpki");
 }

@@ -3,26 +3,51 @@ use crate::sys;
 use std::error::Error;
 use std::fmt;
 
-/// What a fault is about.
+/// What a fault is about, with the names of its faults.
 #[derive(Clone, Copy, Debug, PartialEq, Eq, Hash)]
 #[non_exhaustive]
 pub enum FaultKind {
-    /// Memory ran out.
+    /// Memory ran out. Its name is `Memory`.
     Memory,
     /// There are too few members, the last of several is to be a trust anchor, or there is no such
-    /// moment.
+    /// moment. No member is at fault. Its name is `BadCall`.
     BadCall,
     /// The octets begin with no certificate, or with no revocation list.
+    ///
+    /// Its name is `Truncated`, `BadLength`, `BadTag`, `BadValue`, `Trailing`, `TooDeep`,
+    /// `AlgorithmMismatch`, `UnexpectedCritical`, `InvalidExtension`, `Missing`, `Duplicate`,
+    /// `Critical`, `NotCritical` or `WrongResources`. Which extension is missing, or there twice,
+    /// the number and the sentence tell.
     Decode,
-    /// The certificate doesn't meet the profile of its kind.
+    /// The certificate doesn't meet the profile of the kind as which it is judged. That is also so
+    /// where the caller names another kind than its own: an end entity's certificate as
+    /// `Kind::Authority` has `MissingBasicConstraints`.
+    ///
+    /// Its name is `AlgorithmMismatch`, `Issuer`, `Subject`, `KeyAlgorithm`,
+    /// `SubjectKeyIdentifier`, `ExtendedKeyUsagePresent`, `CaFlagFalse`, `MissingBasicConstraints`,
+    /// `KeyUsage`, `MissingCaRepository`, `MissingManifest`, `ManifestNotChild`,
+    /// `SignedObjectPresent`, `AuthorityKeyIdentifier`, `CrlUriPresent`, `CaIssuerPresent`,
+    /// `MissingCrlUri`, `BasicConstraintsPresent`, `CaRepositoryPresent`, `ManifestPresent`,
+    /// `MissingSignedObject`, `MissingExtendedKeyUsage`, `MissingRouterPurpose`,
+    /// `SubjectInformationPresent`, `IpResourcesPresent`, `MissingAsResources` or
+    /// `InheritedAsResources`.
     Inspection,
     /// The certificate isn't valid at the moment, or not issued by the member above it.
+    ///
+    /// Its name is `NotYetValid`, `Expired`, `InheritedV4`, `InheritedV6`, `InheritedAs`,
+    /// `MissingKeyId`, `WrongKeyId`, `MissingIssuerUri`, `BadSignature`, `OverclaimV4`,
+    /// `OverclaimV6` or `OverclaimAs`.
     Verification,
     /// The lists don't show that the certificate isn't revoked.
+    ///
+    /// Its name is `NoCrl`, `WrongKeyId`, `BadSignature`, `Stale` or `Revoked`.
     Revocation,
-    /// The issuer isn't the subject of the member above it.
+    /// The issuer isn't the subject of the member above it. Its name is `OtherName`.
     Names,
     /// The file is no trust anchor locator, or the trust anchor has another key.
+    ///
+    /// Its name is `OtherKey` for the key, and else `NoText`, `BadUri`, `NoUri`, `NoKey` or
+    /// `BadKey`.
     Locator,
 }
 
@@ -35,7 +60,9 @@ pub enum Place {
     List(usize),
 }
 
-/// Why something is rejected.
+/// Why something is rejected. Displayed it has place, sentence and name: `member 2: certificate
+/// revoked (Revoked)`, or `list 1: truncated value (Truncated)`; without a place it begins with the
+/// sentence. Of `FaultKind::BadCall` it is a sentence alone.
 #[derive(Clone, Copy, PartialEq, Eq, Hash)]
 pub struct Fault {
     number: u32,
@@ -67,12 +94,14 @@ impl Fault {
         Fault { number, place }
     }
 
-    /// Returns the number, of `enum rpki_fault` of rpki.h. A number never gets another meaning.
+    /// Returns the number, of `enum rpki_fault` of rpki.h. It tells the fault from all others, and
+    /// never gets another meaning.
     pub fn number(&self) -> u32 {
         self.number
     }
 
-    /// Returns where in the question it is, if it is of a path.
+    /// Returns which certificate or list is wrong, if it is one of a path or a folder. Of a locator
+    /// that can't be read there is none.
     pub fn place(&self) -> Option<Place> {
         self.place
     }
@@ -91,7 +120,8 @@ impl Fault {
         }
     }
 
-    /// Returns the name, such as `BadSignature`.
+    /// Returns the name, such as `BadSignature`. Faults of two kinds may have one name: that one is
+    /// of a certificate where the kind is `Verification`, and of a list where it is `Revocation`.
     pub fn name(&self) -> String {
         text(sys::fault_name(self.number))
     }

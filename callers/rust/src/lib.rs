@@ -2,19 +2,31 @@
 //! library librpki.
 //!
 //! ```no_run
-//! use gonxebhula::{Kind, Moment, Path, Revocation};
+//! use gonxebhula::{FaultKind, Kind, Moment, Path, Revocation};
 //!
-//! # fn main() -> Result<(), Box<dyn std::error::Error>> {
-//! let anchor = std::fs::read("anchor.cer")?;
-//! let first = std::fs::read("first.cer")?;
-//! let list = std::fs::read("first.crl")?;
-//! let held = Path::new(&[&anchor, &first], Kind::Authority, Revocation::ByLists(&[&list]))
-//!     .validate(Moment::now())?;
-//! for (min, max) in held.ipv4 {
-//!     println!("{min} to {max}");
+//! fn files(names: &[&str]) -> std::io::Result<Vec<Vec<u8>>> {
+//!     names.iter().map(std::fs::read).collect()
 //! }
-//! # Ok(())
-//! # }
+//!
+//! fn main() -> std::io::Result<()> {
+//!     let members = files(&["anchor.cer", "first.cer", "second.cer"])?;
+//!     let lists = files(&["first.crl", "second.crl"])?;
+//!     let locator = std::fs::read("anchor.tal")?;
+//!     let members: Vec<&[u8]> = members.iter().map(Vec::as_slice).collect();
+//!     let lists: Vec<&[u8]> = lists.iter().map(Vec::as_slice).collect();
+//!     let asked = Revocation::ByLists(&lists);
+//!     let path = Path::new(&members, Kind::Authority, asked).locator(&locator);
+//!     match path.validate(Moment::new(2026, 6, 1, 12, 0, 0)) {
+//!         Ok(held) => {
+//!             for (min, max) in held.ipv4 {
+//!                 println!("{min} to {max}");
+//!             }
+//!         }
+//!         Err(fault) if fault.kind() == FaultKind::Revocation => println!("not current: {fault}"),
+//!         Err(fault) => println!("{fault}"),
+//!     }
+//!     Ok(())
+//! }
 //! ```
 //!
 //! What is judged is proved: the library accepts a path exactly where it is valid by the standards'
@@ -62,16 +74,19 @@ fn check_library() {
     });
 }
 
-/// What a certificate is judged as.
+/// What a certificate is judged as. As another kind than its own it is rejected, with a fault of
+/// `FaultKind::Inspection`.
 #[derive(Clone, Copy, Debug, PartialEq, Eq, Hash)]
 pub enum Kind {
     /// A trust anchor.
     TrustAnchor = 0,
     /// A CA.
     Authority = 1,
-    /// An end entity.
+    /// An end entity: the certificate of a signed object that is published, as a ROA or a manifest.
+    /// It has to name where that object is (`Uri::SignedObject`).
     EndEntity = 2,
-    /// An end entity that signs any object.
+    /// An end entity that need not name its object. All else is asked as of `EndEntity`, so each of
+    /// those is accepted too. Take it only where the object stands at no URI.
     Detached = 3,
     /// A BGPsec router (RFC 8209).
     Router = 4,

@@ -102,8 +102,10 @@ fn other_octets_are_rejected() {
     );
     let ee = Certificate::read(&octets("object.cer")).unwrap();
     assert!(ee.inspect(Kind::EndEntity, true).is_ok());
+    assert!(ee.inspect(Kind::Detached, true).is_ok());
     let fault = ee.inspect(Kind::Authority, true).unwrap_err();
     assert_eq!(fault.kind(), FaultKind::Inspection);
+    assert_eq!(fault.name(), "MissingBasicConstraints");
 }
 
 #[test]
@@ -267,7 +269,7 @@ fn wrong_calls_are_told() {
     assert_eq!(
         below.unwrap_err().to_string(),
         "there are too few members, the last of several is to be a trust anchor, \
-         or there is no such moment"
+         or there is no such moment, range or serial number"
     );
 }
 
