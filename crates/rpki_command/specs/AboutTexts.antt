@@ -39,7 +39,7 @@ usage_text = concat (
 
 -- its version, with the name of the package, which isn't that of the Rust crate
 abbrev pub version_text : List ℕ
-version_text = codes "rpki (Gonxebhula) 0.1\n"
+version_text = codes "rpki (Gonxebhula) 0.1\nkit: rattle-kit-13f\n"
 
 -- what is printed where nothing is asked of files
 abbrev pub about_text : Task → List ℕ

@@ -28,7 +28,7 @@ or --trim; of options prepare and complete take --at and --lenient
 Behind -- each word is a file.
 ";
 
-const VERSION: &str = "rpki (Gonxebhula) 0.1\n";
+const VERSION: &str = "rpki (Gonxebhula) 0.1\nkit: rattle-kit-13f\n";
 
 /// Returns the text that says how the command is used.
 pub fn usage() -> &'static str
