@@ -19,10 +19,10 @@ returns-in_ok-cert-in-Certificate c =
     let there : octets_at s.folder.certs at ≡ octets_at s.strings.now c.args.place = sym (c.requires.sorted.came_from at 0 placed.0) ∙ ap (λ (n : ℕ). octets_at s.strings.now n) (placed.1 0) in
     let low : at < length c.certs.result.now = subst (λ (l : List (List ℕ)). at < length l) (sym c.certs.ensures) placed.0 in
     let filed : c.index-certs-at.result ≡ octets_at s.folder.certs at = get_or_read c.certs.result.now at c.index-certs-at.result low c.index-certs-at.is [] ∙ ap (λ (l : List (List ℕ)). octets_at l at) c.certs.ensures in
-    let means : Means IsCertificate c.in_ok-cert.cert (octets_at s.strings.now c.args.place) = subst (λ (o : List ℕ). Means IsCertificate c.in_ok-cert.cert o) (filed ∙ there) c.in_ok-cert.ensures in
+    let means : Means IsCertificate c.in_ok-cert-in-Certificate.cert (octets_at s.strings.now c.args.place) = subst (λ (o : List ℕ). Means IsCertificate c.in_ok-cert-in-Certificate.cert o) (filed ∙ there) c.in_ok-cert-in-Certificate.ensures in
     let key = c.subject_public_key_info.ensures ∙ ap (λ (f : TbsFields). f.key) c.as_tbs.ensures in
-    tells_key c.args.tal.now.tal (octets_at s.strings.now c.args.place) c.in_ok-cert.cert c.has_key.result c.unambiguous.ensures.certificate means
-    ((λ yes. sym key ∙ c.has_key.ensures.0 yes), (λ same. c.has_key.ensures.1 (key ∙ same)))
+    tells_key c.args.tal.now.tal (octets_at s.strings.now c.args.place) c.in_ok-cert-in-Certificate.cert c.has_key-has.result c.unambiguous.ensures.certificate means
+    ((λ yes. sym key ∙ c.has_key-has.ensures.0 yes), (λ same. c.has_key-has.ensures.1 (key ∙ same)))
 
 pub returns-in-List : goal.returns-in-List
 returns-in-List c =
