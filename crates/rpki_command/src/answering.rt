@@ -218,6 +218,43 @@ fn tree(
 }
 
 // Validates the path of files, of which everything is read.
+fn objects_validated(
+    alloc: Global,
+    request: &Request<'_>,
+    now: Time,
+    files: &[Object<'_>],
+    lists: &[Object<'_>],
+    locators: &[GivenLocator<'_>],
+) -> Result<Answer, AllocError>
+    requires { All (IsRead request.now.strict) locators.now }
+    ensures outcome { let x = context IsSignedByRsa now request.now.strict in
+        let r = fields_of request.now in
+        let q = question_of r now files.now lists.now locators.now in
+        IfOk result (λ answer. IsOutcomeOfValidate x (demands_of q)
+        (contents files.now) (contents lists.now) answer.outcome) }
+    ensures text { let x = context IsSignedByRsa now request.now.strict in
+        let r = fields_of request.now in
+        let q = question_of r now files.now lists.now locators.now in
+        request.now.format ≡ Format.Text
+        → IfOk result (λ answer. IsTextOfPath x q (string_bytes answer.text)) }
+    ensures json { let x = context IsSignedByRsa now request.now.strict in
+        let r = fields_of request.now in
+        let q = question_of r now files.now lists.now locators.now in
+        request.now.format ≢ Format.Text
+        → IfOk result (λ answer. IsJsonOfPath r.format x q (string_bytes answer.text)) }
+{
+    let question = Question {
+        members: files,
+        lists,
+        locators,
+        names: request.names,
+        strict: request.strict,
+        at: now,
+    };
+    validated(alloc, &question, request.format)
+}
+
+// Validates the path of files.
 fn path(
     alloc: Global,
     request: &Request<'_>,
@@ -245,15 +282,10 @@ fn path(
 {
     let members = objects_of(alloc, files)?;
     let lists = objects_of(alloc, lists)?;
-    let question = Question {
-        members: &members,
-        lists: &lists,
-        locators,
-        names: request.names,
-        strict: request.strict,
-        at: now,
-    };
-    validated(alloc, &question, request.format)
+    let answer = objects_validated(alloc, request, now, &members, &lists, locators);
+    drop(members);
+    drop(lists);
+    answer
 }
 
 // Of a path of which a file can't be read nothing is judged.

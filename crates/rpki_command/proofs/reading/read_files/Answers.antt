@@ -11,5 +11,8 @@ loop-name-preserved g c =
     let names = c.args.names.now in
     let i = c.loop-name.name-index in
     let its = c.in_ok-push_file.ensures in
-    subst (λ (l : List FileFields). AreObjectsRead reads most (map (λ name. name.now) (take (i + 1) names)) l) (sym its.2)
-    (more_read (IsObjectRead reads most) (IsUnread reads most) (λ (name : Bor (List ℕ)). name.now) names i _ c.loop-name-test.true c.loop-name.all.items its.0 c.loop-name.invariant its.1)
+    let (so_far, counted) = c.loop-name.invariant in (
+      subst (λ (l : List FileFields). AreObjectsRead reads most (map (λ name. name.now) (take (i + 1) names)) l) (sym its.2)
+          (more_read (IsObjectRead reads most) (IsUnread reads most) (λ (name : Bor (List ℕ)). name.now) names i _ c.loop-name-test.true c.loop-name.all.items its.0 so_far its.1),
+      cc counted,
+    )

@@ -1,5 +1,8 @@
 use Rattle.rpki_command.proofs.running.answered.Goals as goal
 
+pub answer_request-requires-clause-given : goal.answer_request-requires-clause-given
+answer_request-requires-clause-given g c = rw (← c.deref.ensures.value, ← c.deref-2.ensures.value, ← c.deref-3.ensures.value) at c.in_ok-given.ensures.named
+
 pub returns : goal.returns
 returns g c =
     let its = c.in_ok-answer.ensures in
