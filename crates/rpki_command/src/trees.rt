@@ -3,8 +3,9 @@ ghost use Rattle.std.specs.Prelude.{◌≡◌, ◌≢◌, ◌↔◌, All, IfOk, 
 ghost use Rattle.rpki.specs.RsaSignatures.{IsSignedByRsa};
 ghost use Rattle.rpki.specs.Verification.{context};
 ghost use Rattle.rpki_command.specs.AnswerTexts.{IsTreeJsonBy, IsTreeTextBy};
+ghost use Rattle.rpki_command.specs.JsonTrees.{IsTreeJson};
 ghost use Rattle.rpki_command.specs.Outcomes.{IsOutcomeOfTree};
-ghost use Rattle.rpki_command.specs.TreeTexts.{IsAcceptingFinding, IsTreeFinding};
+ghost use Rattle.rpki_command.specs.TreeTexts.{IsAcceptingFinding, IsTreeFinding, IsTreeText};
 ghost use Rattle.rpki_files.specs.LocatorFiles.{AreLocator};
 ghost use Rattle.rpki_verdicts.specs.GivenLocators.{IsRead, locator_octets};
 ghost use Rattle.rpki_verdicts.specs.PathAnswers.{IsNoLocator};
@@ -68,6 +69,24 @@ fn is_accepting(finding: &TreeFinding<'_, '_>) -> bool
     }
 }
 
+// What is found, written in this format.
+fn written(
+    alloc: Global,
+    question: &TreeQuestion<'_, '_>,
+    finding: &TreeFinding<'_, '_>,
+    format: Format,
+) -> Result<String, AllocError>
+    ensures text { let q = asked_of question.now in format ≡ Format.Text
+        → IfOk result (λ text. IsTreeText q finding.now (string_bytes text)) }
+    ensures json { let q = asked_of question.now in format ≢ Format.Text
+        → IfOk result (λ text. IsTreeJson format q finding.now (string_bytes text)) }
+{
+    if format == Format::Text {
+        return tree_text(alloc, question, finding);
+    }
+    as_json::tree(alloc, question, finding, format)
+}
+
 /// Judges all certificates among files, and writes what is found of each file, as lines for a person or
 /// as JSON. The outcome is success where each file given as a locator is one, each certificate but the
 /// trust anchor is accepted, and no bound was met.
@@ -85,11 +104,7 @@ pub fn treed(
 {
     let finding = find(alloc, question)?;
     let is_accepting = is_accepting(&finding);
-    let text = if format == Format::Text {
-        tree_text(alloc, question, &finding)
-    } else {
-        as_json::tree(alloc, question, &finding, format)
-    };
+    let text = written(alloc, question, &finding, format);
     drop(finding);
     Ok(Answer {
         text: text?,
