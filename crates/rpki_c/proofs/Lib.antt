@@ -1,4 +1,3 @@
-mod AnsweredWants
 mod Cutting
 mod EntriesPut
 mod FatesFound
@@ -11,7 +10,4 @@ mod SaidBefore
 mod Sentences
 mod SortedMore
 mod Unread
-mod WantedBlocks
-mod WantedTermsGiven
-mod WantedValues
 mod Writings

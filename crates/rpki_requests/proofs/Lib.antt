@@ -1,16 +1,12 @@
 -- Lemmas of the proofs about requests.
 mod AddedFiles
-mod AskedLists
 mod GivenValues
 mod GivenWants
 mod JudgedIssuers
-mod KindsApart
 mod OneErrand
 mod OneFields
 mod OneIssuers
 mod OnlyAnswers
-mod PlaceByPlace
 mod RequestParts
-mod RevokedFiles
 mod Settings
 mod WholeOctets

@@ -1,6 +1,2 @@
 pub mod RouterNames
 pub mod SameRoles
-pub mod SignedLists
-mod ToldFaults
-pub mod WantedEntries
-mod WholeOctets

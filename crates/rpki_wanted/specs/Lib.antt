@@ -1,4 +1,3 @@
--- The definitions that the contracts of wanted certificates and lists cite.
+-- The definitions that the contracts of wanted certificates cite.
 pub mod AskedFields
 pub mod PreparedOctets
-pub mod WantedLists
