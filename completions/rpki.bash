@@ -6,15 +6,22 @@ _rpki() {
         show) options='--output --json --quiet --all --at --lenient --max-size --help' ;;
         validate) options='--output --json --quiet --tal --crl --in --depth --steps --no-names --at --lenient --max-size --help' ;;
         tree) options='--output --json --quiet --tal --depth --steps --at --lenient --max-size --help' ;;
-        prepare) options='--issuer --key --serial --from --until --ipv4 --ipv6 --as --repository --manifest --notify --object --issuer-uri --crl-uri --trim --at --lenient' ;;
-        complete) options='--issuer --pem --at --lenient' ;;
+        prepare)
+            options='--issuer --crl --at --lenient --out --force --help'
+            if [[ ${COMP_WORDS[2]} == list ]]; then
+                options+=' --previous --number --next-update --revoke --serial'
+            else
+                options+=' --key --serial --from --until --ipv4 --ipv6 --as --repository --manifest --notify --object --issuer-uri --crl-uri --trim'
+            fi
+            ;;
+        complete) options='--issuer --crl --pem --at --lenient --out --force --help' ;;
     esac
     if ((COMP_CWORD == 1)); then
         mapfile -t COMPREPLY < <(compgen -W 'show validate tree prepare complete help --version --help' -- "$word")
         return
     fi
     if ((COMP_CWORD == 2)) && [[ ${COMP_WORDS[1]} == prepare ]]; then
-        mapfile -t COMPREPLY < <(compgen -W 'ca ee detached router anchor' -- "$word")
+        mapfile -t COMPREPLY < <(compgen -W 'ca ee detached router anchor list' -- "$word")
         return
     fi
     [[ -n $options ]] || return
@@ -23,12 +30,13 @@ _rpki() {
     [[ $word != = ]] || word=''
     case $before in
         --at | --max-size | --depth | --steps | --serial | --from | --until | --ipv4 | --ipv6 | --as) return ;;
+        --number | --next-update) return ;;
         --repository | --manifest | --notify | --object | --issuer-uri | --crl-uri) return ;;
         -o | --output)
             mapfile -t COMPREPLY < <(compgen -W 'text json jsonl' -- "$word")
             return
             ;;
-        --tal | --crl | --in | --issuer | --key) options='' ;;
+        --tal | --crl | --in | --issuer | --key | --previous | --revoke | --out) options='' ;;
     esac
     # behind -- each word is a file
     for ((at = 2; at < COMP_CWORD; at++)); do

@@ -1,4 +1,5 @@
-/* Reads and judges resource certificates and revocation lists of the RPKI (RFC 6487), for C.
+/* Reads, judges and issues resource certificates of the RPKI (RFC 6487), and reads and asks its
+ * revocation lists, for C.
  *
  * What is proved:
  *   - Every function ends, for all octets, lengths and numbers. Nothing that it does is undefined,
@@ -14,6 +15,9 @@
  *   - Of a folder each line is right. Each certificate is accepted to which a valid path leads that
  *     was looked at (crates/rpki_c/specs/FolderFates.antt).
  *   - What is written of a certificate's or list's fields is theirs.
+ *   - What is to be signed is written exactly where only a signature is missing, and a certificate
+ *     exactly where the issuer's key signed it (crates/rpki_c/specs/WantedAnswers.antt), unless
+ *     memory runs out.
  * Only tested is that the caller's memory then holds those ranges, entries and places.
  *
  * What the caller has to keep:
@@ -158,6 +162,22 @@ enum rpki_fault {
     RPKI_LOCATOR_NO_URI = 702,  /* the locator has no URI */
     RPKI_LOCATOR_NO_KEY = 703,  /* it ends before the empty line behind its URIs */
     RPKI_LOCATOR_BAD_KEY = 704  /* what follows that line isn't a public key in base64 */
+    /* The octets aren't a trust anchor locator. */
+    RPKI_LOCATOR_NO_TEXT = 700,
+    RPKI_LOCATOR_BAD_URI = 701,
+    RPKI_LOCATOR_NO_URI = 702,
+    RPKI_LOCATOR_NO_KEY = 703,
+    RPKI_LOCATOR_BAD_KEY = 704,
+
+    /* No certificate is prepared or completed. */
+    RPKI_ISSUING_NO_KEY = 800,      /* the key isn't a SubjectPublicKeyInfo */
+    RPKI_ISSUING_UNUSED_KEY = 801,  /* the RPKI doesn't use the key */
+    RPKI_ISSUING_BAD_URI = 802,     /* the index is of enum rpki_uri */
+    RPKI_ISSUING_NO_NAME = 803,     /* the subject would have no name */
+    RPKI_ISSUING_UNWRITABLE = 804,  /* no certificate has the fields: no resources are there .. */
+    RPKI_ISSUING_TOO_LONG = 805,    /* it would have 2^32 octets or more */
+    RPKI_ISSUING_NOT_TO_SIGN = 806, /* what was signed isn't a TBSCertificate */
+    RPKI_ISSUING_OTHER_OCTETS = 807 /* what was signed isn't what is prepared of its fields */
 };
 
 /* Every function with `out`, `room` and `count` writes as many elements as there is
@@ -469,6 +489,101 @@ struct rpki_walk {
  * string has its key; or what is wrong of the anchor. */
 uint32_t rpki_folder_judge(const struct rpki_folder_question *question, struct rpki_line *lines,
                            size_t room, struct rpki_walk *out);
+
+/* ---- issuing */
+
+/* Holds what a certificate is to list of a family of addresses. Ranges may stand in any order, and
+ * overlap; none ends before it begins. There are some exactly where `state` is RPKI_LISTED. */
+struct rpki_addresses {
+    const struct rpki_ip_range *ranges; /* of IPv4 only the first four octets count */
+    size_t count;
+    uint32_t state; /* is an enum rpki_state */
+};
+
+/* Holds what a certificate is to list of AS numbers, as above. */
+struct rpki_as_numbers {
+    const struct rpki_as_range *ranges;
+    size_t count;
+    uint32_t state; /* is an enum rpki_state */
+};
+
+/* Holds URIs, of enum rpki_uri. One with length 0 is left out. */
+struct rpki_uris {
+    const uint8_t *ca_issuer;
+    size_t ca_issuer_length;
+    const uint8_t *crl;
+    size_t crl_length;
+    const uint8_t *repository;
+    size_t repository_length;
+    const uint8_t *manifest;
+    size_t manifest_length;
+    const uint8_t *signed_object;
+    size_t signed_object_length;
+    const uint8_t *notify;
+    size_t notify_length;
+};
+
+/* Numbers what becomes of resources that the issuer doesn't hold (RFC 8360). */
+enum rpki_overclaim { RPKI_REFUSE = 0, RPKI_TRIM = 1 };
+
+/* Holds what a certificate is to be. What RFC 6487 4 fixes isn't asked: the issuer's name, the
+ * subject (by the key; of a router by its least AS number, RFC 8209 3.1.1), key identifiers, key
+ * usage and policy. */
+struct rpki_wanted {
+    size_t size; /* is sizeof(struct rpki_wanted) */
+    /* The issuer's path, as it is judged at its moment; it ends in an RPKI_AUTHORITY (or in an
+     * RPKI_ANCHOR, which stands alone). A trust anchor has no members above it, and then only the
+     * moment and `strict` count; the other numbers have to be of their enums. */
+    struct rpki_question issuer;
+    const uint8_t *key; /* is the subject's SubjectPublicKeyInfo in DER */
+    size_t key_length;
+    struct rpki_addresses v4, v6;
+    struct rpki_as_numbers asn;
+    struct rpki_uris uris;
+    struct rpki_time not_before, not_after;
+    uint8_t serial[20]; /* is above 0 and below 2^159, its greatest octet first */
+    uint32_t kind;      /* is an enum rpki_kind */
+    uint32_t overclaim; /* is an enum rpki_overclaim */
+};
+
+/* Tells of what is issued. */
+struct rpki_issued {
+    uint32_t fault; /* is what the function answers */
+    uint32_t index; /* is the place of what is wrong: of the issuer's path as in struct
+                     * rpki_verdict, or the number of members where it is the certificate itself */
+    uint64_t count; /* is how many octets there are, and 0 at a fault */
+};
+
+/* Prepares a certificate for its signature: writes the TBSCertificate, which is what is to be
+ * signed (sha256WithRSAEncryption, RFC 7935 2), as many octets as there is room for, and into *told
+ * how many there are. So the key may lie elsewhere, and no signature is spent on what would be
+ * rejected: all is asked that rpki_path_validate asks below this issuer, but for the signature.
+ * *told holds after every fault, and *out is then as it was. The fault is RPKI_BAD_CALL where
+ * `size` is another, a number is of none of its enums, a range, a serial number or a moment is no
+ * such, or the path doesn't go with the kind; one of the issuer's path; an RPKI_ISSUING_ one; or
+ * that of a certificate's profile or verification. */
+uint32_t rpki_prepare(const struct rpki_wanted *wanted, uint8_t *out, size_t room,
+                      struct rpki_issued *told);
+
+/* Holds what was prepared, and its signature. */
+struct rpki_completion {
+    size_t size;                 /* is sizeof(struct rpki_completion) */
+    struct rpki_question issuer; /* is as in struct rpki_wanted; the moment may be a later one */
+    const uint8_t *prepared;     /* is what rpki_prepare wrote */
+    size_t prepared_length;
+    const uint8_t *signature; /* is what the key made of it, without the BIT STRING around it */
+    size_t signature_length;
+    uint32_t kind; /* is an enum rpki_kind */
+};
+
+/* Completes a certificate: writes it exactly where the issuer's key (of a trust anchor its own)
+ * signed what was prepared, which is asked again at this moment; as many octets as there is room
+ * for, and into *told how many there are. It is valid below the issuer then. *told holds after
+ * every fault, and *out is then as it was. The fault is as for rpki_prepare; where the issuer has
+ * another name than the one above, RPKI_OTHER_NAME; where the signature isn't good,
+ * RPKI_VERIFICATION_BAD_SIGNATURE. */
+uint32_t rpki_complete(const struct rpki_completion *completion, uint8_t *out, size_t room,
+                       struct rpki_issued *told);
 
 #ifdef __cplusplus
 }

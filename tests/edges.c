@@ -1203,6 +1203,215 @@ static void folders(const char *examples) {
     free(it.locator.octets);
 }
 
+/* ---- issuing */
+
+static const char repository[] = "rsync://rpki.example.net/repo/ca/";
+static const char manifest[] = "rsync://rpki.example.net/repo/ca/ca.mft";
+static const char above[] = SITE "anchor.cer", crl[] = SITE "anchor/anchor.crl";
+static const struct rpki_ip_range v4_wanted = {{10, 0, 0, 0}, {10, 0, 255, 255}};
+static const struct rpki_as_range asn_wanted = {64500, 64500};
+
+/* A CA below the anchor, which has the anchor's key: it stands at a place of the anchor's octets. */
+static struct rpki_wanted wanted_below(const struct file *anchor) {
+    const struct rpki_strings alone = strings(anchor->octets, anchor->length, &anchor->length, 1);
+    struct rpki_signature places = {0};
+    check(signatures_of(alone, &places, 1) == RPKI_OK, "the anchor has a signature");
+    struct rpki_wanted wanted = {
+        .size = sizeof wanted,
+        .issuer = about(alone, RPKI_AUTHORITY, &now),
+        .key = anchor->octets + places.key_at,
+        .key_length = places.key_length,
+        .v4 = {&v4_wanted, 1, RPKI_LISTED},
+        .v6 = {NULL, 0, RPKI_MISSING},
+        .asn = {&asn_wanted, 1, RPKI_LISTED},
+        .uris.repository = (const uint8_t *)repository,
+        .uris.repository_length = sizeof repository - 1,
+        .uris.manifest = (const uint8_t *)manifest,
+        .uris.manifest_length = sizeof manifest - 1,
+        .uris.ca_issuer = (const uint8_t *)above,
+        .uris.ca_issuer_length = sizeof above - 1,
+        .uris.crl = (const uint8_t *)crl,
+        .uris.crl_length = sizeof crl - 1,
+        .not_before = {2026, 1, 1, 0, 0, 0, 0},
+        .not_after = {2036, 1, 1, 0, 0, 0, 0},
+        .serial[19] = 5,
+        .kind = RPKI_AUTHORITY,
+        .overclaim = RPKI_REFUSE,
+    };
+    return wanted;
+}
+
+/* nothing is prepared, for this fault at this place, and nothing is written */
+static void unprepared(struct rpki_wanted wanted, uint32_t fault, uint32_t index, const char *what) {
+    struct rpki_issued told = {7, 7, 7};
+    uint8_t out[] = {7, 7};
+    uint32_t answered = rpki_prepare(&wanted, out, sizeof out, &told);
+    check(answered == fault && told.fault == fault && told.index == index && told.count == 0, what);
+    check(out[0] == 7 && out[1] == 7, "nothing is written where nothing is prepared");
+}
+
+/* numbers that are none, of a certificate that is wanted */
+static void numbers_wanted(struct rpki_wanted good) {
+    static const size_t sizes[] = {0, 1, sizeof good - 8, sizeof good - 1, sizeof good + 1, SIZE_MAX};
+    struct rpki_wanted wanted = good;
+    for (size_t i = 0; i < sizeof sizes / sizeof *sizes; i++) {
+        wanted.size = sizes[i];
+        unprepared(wanted, RPKI_BAD_CALL, 0, "a wanted certificate of another size");
+    }
+    wanted = good, wanted.issuer.size--;
+    unprepared(wanted, RPKI_BAD_CALL, 0, "the question about the issuer has another size");
+    static const uint32_t none[] = {5, 256, UINT32_MAX};
+    for (size_t i = 0; i < 3; i++) {
+        wanted = good, wanted.kind = none[i];
+        unprepared(wanted, RPKI_BAD_CALL, 0, "no kind has the number");
+        wanted = good, wanted.overclaim = none[i];
+        unprepared(wanted, RPKI_BAD_CALL, 0, "no policy has the number");
+        wanted = good, wanted.v4.state = none[i];
+        unprepared(wanted, RPKI_BAD_CALL, 0, "no state has the number");
+        wanted = good, wanted.issuer.last = none[i];
+        unprepared(wanted, RPKI_BAD_CALL, 0, "the issuer is of no kind");
+    }
+    wanted = good, wanted.overclaim = 2;
+    unprepared(wanted, RPKI_BAD_CALL, 0, "no policy has the number 2");
+    wanted = good, wanted.issuer.last = RPKI_END_ENTITY;
+    unprepared(wanted, RPKI_BAD_CALL, 0, "an end entity issues nothing");
+    wanted = good, wanted.issuer.members.length--;
+    unprepared(wanted, RPKI_BAD_CALL, 0, "the lengths of the path don't add up");
+    wanted = good, wanted.kind = RPKI_ANCHOR;
+    unprepared(wanted, RPKI_BAD_CALL, 0, "a trust anchor has no issuer");
+    wanted = good, wanted.issuer.members = strings(NULL, 0, NULL, 0);
+    unprepared(wanted, RPKI_BAD_CALL, 0, "a CA has an issuer");
+    wanted = good, wanted.not_after.day = 32;
+    unprepared(wanted, RPKI_BAD_CALL, 0, "there is no such day");
+    wanted = good, memset(wanted.serial, 0, 20);
+    unprepared(wanted, RPKI_BAD_CALL, 0, "a serial number is above 0");
+    wanted = good, wanted.serial[0] = 128;
+    unprepared(wanted, RPKI_BAD_CALL, 0, "a serial number is below 2^159");
+}
+
+/* ranges, URIs and keys that are none */
+static void values_wanted(struct rpki_wanted good) {
+    struct rpki_wanted wanted = good;
+    wanted.v4 = (struct rpki_addresses){NULL, 0, RPKI_LISTED};
+    unprepared(wanted, RPKI_BAD_CALL, 0, "nothing is listed");
+    wanted.v4 = (struct rpki_addresses){&v4_wanted, 1, RPKI_MISSING};
+    unprepared(wanted, RPKI_BAD_CALL, 0, "what is missing lists nothing");
+    wanted.v4 = (struct rpki_addresses){&v4_wanted, 1, RPKI_INHERITED};
+    unprepared(wanted, RPKI_BAD_CALL, 0, "what is inherited lists nothing");
+    const struct rpki_ip_range back = {{10, 0, 0, 2}, {10, 0, 0, 1}};
+    wanted.v4 = (struct rpki_addresses){&back, 1, RPKI_LISTED};
+    unprepared(wanted, RPKI_BAD_CALL, 0, "a range ends before it begins");
+    wanted = good, wanted.v6 = (struct rpki_addresses){&back, 1, RPKI_LISTED};
+    unprepared(wanted, RPKI_BAD_CALL, 0, "a range of IPv6 ends before it begins");
+    const struct rpki_as_range back_asn = {64501, 64500};
+    wanted = good, wanted.asn.ranges = &back_asn;
+    unprepared(wanted, RPKI_BAD_CALL, 0, "AS numbers end before they begin");
+    wanted = good, wanted.uris.manifest_length = 7;
+    unprepared(wanted, RPKI_ISSUING_BAD_URI, RPKI_URI_MANIFEST, "the manifest has no URI");
+    wanted = good, wanted.uris.notify = wanted.uris.crl, wanted.uris.notify_length = 1;
+    unprepared(wanted, RPKI_ISSUING_BAD_URI, RPKI_URI_NOTIFY, "the notification file has no URI");
+    wanted = good, wanted.key = NULL, wanted.key_length = 0;
+    unprepared(wanted, RPKI_ISSUING_NO_KEY, 1, "NULL of no octets is no key");
+    wanted = good, wanted.key_length--;
+    unprepared(wanted, RPKI_ISSUING_NO_KEY, 1, "a cut key is none");
+    wanted = good, wanted.v4.state = wanted.asn.state = RPKI_MISSING, wanted.v4.count = wanted.asn.count = 0;
+    unprepared(wanted, RPKI_ISSUING_UNWRITABLE, 1, "a certificate has resources");
+    const struct rpki_ip_range outside = {{172, 16, 0, 0}, {172, 16, 0, 255}};
+    wanted = good, wanted.v4.ranges = &outside;
+    unprepared(wanted, RPKI_VERIFICATION_OVERCLAIM_V4, 1, "the issuer doesn't hold the addresses");
+    wanted = good, wanted.uris.crl_length = 0;
+    unprepared(wanted, RPKI_INSPECTION_MISSING_CRL_URI, 1, "there is no URI of the list");
+    wanted = good, wanted.issuer.moment.year = 2045;
+    unprepared(wanted, RPKI_VERIFICATION_EXPIRED, 0, "the issuer has expired");
+}
+
+/* what is prepared, with too little room, just enough and more */
+static void prepared(struct rpki_wanted wanted, struct file *made) {
+    struct rpki_issued told, again;
+    check(rpki_prepare(&wanted, NULL, 0, &told) == RPKI_OK && told.index == 0 && told.count > 300, "a CA is prepared");
+    made->length = (size_t)told.count;
+    made->octets = malloc(made->length);
+    memset(made->octets, 0xa5, made->length);
+    check(rpki_prepare(&wanted, made->octets, made->length - 1, &again) == RPKI_OK && again.count == told.count
+              && made->octets[made->length - 1] == 0xa5,
+          "nothing is written behind the room");
+    check(rpki_prepare(&wanted, made->octets, made->length, &again) == RPKI_OK && made->octets[0] == 0x30,
+          "all is written where there is room");
+    /* what stands behind the first four octets of IPv4, the order and the overlap don't count */
+    struct rpki_ip_range parts[2] = {{{10, 0, 128, 0, 9}, {10, 0, 255, 255, 8}}, {{10, 0, 0, 0}, {10, 0, 200, 0}}};
+    memset(parts[0].max + 4, 0xff, 12);
+    wanted.v4.ranges = parts, wanted.v4.count = 2;
+    uint8_t *other = malloc(made->length + 1);
+    other[made->length] = 0xa5;
+    check(rpki_prepare(&wanted, other, made->length + 1, &again) == RPKI_OK && again.count == told.count
+              && memcmp(other, made->octets, made->length) == 0 && other[made->length] == 0xa5,
+          "ranges in another order are the same");
+    free(other);
+}
+
+/* nothing is completed, for this fault at this place */
+static void uncompleted(struct rpki_completion completion, uint32_t fault, uint32_t index, const char *what) {
+    struct rpki_issued told = {7, 7, 7};
+    uint8_t out[] = {7, 7};
+    check(rpki_complete(&completion, out, sizeof out, &told) == fault && told.fault == fault && told.index == index
+              && told.count == 0 && out[0] == 7,
+          what);
+}
+
+/* signatures that are none, and what wasn't prepared */
+static void completions(struct rpki_wanted wanted, struct file made) {
+    uint8_t signature[256] = {0};
+    struct rpki_completion good = {
+        .size = sizeof good,
+        .issuer = wanted.issuer,
+        .prepared = made.octets,
+        .prepared_length = made.length,
+        .signature = signature,
+        .signature_length = sizeof signature,
+        .kind = RPKI_AUTHORITY,
+    };
+    struct rpki_completion completion = good;
+    uncompleted(good, RPKI_VERIFICATION_BAD_SIGNATURE, 1, "zeros are no signature");
+    completion.signature = NULL, completion.signature_length = 0;
+    uncompleted(completion, RPKI_VERIFICATION_BAD_SIGNATURE, 1, "NULL of no octets is no signature");
+    static const size_t sizes[] = {0, 1, sizeof good - 8, sizeof good - 1, sizeof good + 1, SIZE_MAX};
+    for (size_t i = 0; i < sizeof sizes / sizeof *sizes; i++) {
+        completion = good, completion.size = sizes[i];
+        uncompleted(completion, RPKI_BAD_CALL, 0, "a completion of another size");
+    }
+    completion = good, completion.kind = 5;
+    uncompleted(completion, RPKI_BAD_CALL, 0, "no kind has the number 5");
+    completion = good, completion.kind = RPKI_ANCHOR;
+    uncompleted(completion, RPKI_BAD_CALL, 0, "a trust anchor has no issuer");
+    completion = good, completion.kind = RPKI_END_ENTITY;
+    uncompleted(completion, RPKI_INSPECTION_BASIC_CONSTRAINTS_PRESENT, 1, "a CA is no end entity");
+    completion = good, completion.prepared = NULL, completion.prepared_length = 0;
+    uncompleted(completion, RPKI_ISSUING_NOT_TO_SIGN, 1, "NULL of no octets was prepared by nobody");
+    for (size_t length = 0; length < made.length; length += 37) {
+        uint8_t *octets = malloc(length > 0 ? length : 1);
+        memcpy(octets, made.octets, length);
+        completion.prepared = octets, completion.prepared_length = length;
+        uncompleted(completion, RPKI_ISSUING_NOT_TO_SIGN, 1, "what is cut short isn't what is to be signed");
+        free(octets);
+    }
+}
+
+static void issuing(struct file anchor) {
+    struct rpki_wanted wanted = wanted_below(&anchor);
+    struct file made;
+    numbers_wanted(wanted);
+    values_wanted(wanted);
+    prepared(wanted, &made);
+    completions(wanted, made);
+    free(made.octets);
+    struct rpki_issued told;
+    memset(&wanted, 0, sizeof wanted);
+    check(rpki_prepare(&wanted, NULL, 0, &told) == RPKI_BAD_CALL && told.count == 0, "a wanted certificate of zeros");
+    struct rpki_completion completion;
+    memset(&completion, 0, sizeof completion);
+    check(rpki_complete(&completion, NULL, 0, &told) == RPKI_BAD_CALL && told.count == 0, "a completion of zeros");
+}
+
 int main(int count, char **words) {
     if (count != 4) return 2;
     struct file anchor = contents(words[1], "anchor.cer"), first = contents(words[1], "first.cer");
@@ -1235,6 +1444,7 @@ int main(int count, char **words) {
     chains(words[3], list);
     locators(words[3], list);
     folders(words[1]);
+    issuing(anchor);
     const struct file files[] = {anchor, first, second, object, list, empty, above, router, trimming};
     for (size_t i = 0; i < sizeof files / sizeof *files; i++) free(files[i].octets);
     printf("%u passed, %u failed\n", passed, failed);

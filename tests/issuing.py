@@ -1,21 +1,26 @@
 #!/usr/bin/env python3
-"""Has the built command prepare and complete certificates, with keys that openssl has.
+"""Has the built command prepare and complete certificates and lists, with keys that openssl has.
 
-    tests/issuing.py [--program PATH] [--count N] [--seed N]
+    tests/issuing.py [--program PATH] [--count N] [--lists N] [--seed N]
 
-Runs the lines of README's section "Issuing" as they stand there. Asks for certificates that are
-refused, with the fault that `validate` tells of such a certificate where one can be made. Has
-signatures refused that are another key's, over other octets, cut, or of another form. Asks for N
-random certificates, 200 if it isn't said: openssl and reference/ read the fields that were asked,
-they stand there in the one encoding that the reference writes, and both `openssl verify` and
-`validate` accept. PATH is the command as the gate builds it. Prints each
-difference, and at the end `N passed, M failed`.
+Runs the lines of README's section "Issuing" as they stand there, and examples/make.sh, whose files
+have to be as those of examples/. Asks for certificates and lists that are refused, with the fault
+that `validate` tells of such a certificate where one can be made. Has signatures refused that are
+another key's, over other octets, cut, or of another form. Asks for N random certificates, 200 if it
+isn't said: openssl and reference/ read the fields that were asked, they stand there in the one
+encoding that the reference writes, and both `openssl verify` and `validate` accept. The same of
+random lists, 100 if it isn't said, by which both reject what is revoked and nothing else. Where
+rpki-client is there it reads what `show` prints of them. PATH is the command as the gate builds it.
+Prints each difference, and at the end `N passed, M failed`.
 """
 import argparse
+import importlib.machinery
+import importlib.util
 import json
 import os
 import random
 import re
+import shutil
 import subprocess
 import sys
 import tempfile
@@ -25,8 +30,20 @@ TOP = Path(__file__).resolve().parent.parent
 sys.path.insert(0, str(TOP / 'reference'))
 
 import reference as ref
-from openssl_print import (address_range, differences, known_certificate, number_range,
-                           printed_certificate)
+from openssl_print import (address_range, differences, known_certificate, known_list, number_range,
+                           printed_certificate, printed_list)
+
+
+def script(name):
+    """A script of reference/ as a module."""
+    sys.dont_write_bytecode = True
+    loader = importlib.machinery.SourceFileLoader(name, str(TOP / 'reference' / name))
+    module = importlib.util.module_from_spec(importlib.util.spec_from_loader(name, loader))
+    loader.exec_module(module)
+    return module
+
+
+clients = script('clients')
 
 SITE = 'rsync://rpki.example.net/repo'
 NOTIFICATION = 'https://rpki.example.net/notification.xml'
@@ -35,6 +52,7 @@ AT = '2026-06-01'
 parser = argparse.ArgumentParser()
 parser.add_argument('--program', default=TOP / 'crates/rpki_command/out/rpki_command', type=Path)
 parser.add_argument('--count', default=200, type=int)
+parser.add_argument('--lists', default=100, type=int)
 parser.add_argument('--seed', default=1, type=int)
 options = parser.parse_args()
 program = options.program.resolve()
@@ -74,6 +92,7 @@ WANTED = {
     'ee': BELOW | HOLDS | {'key': 'ca.pub', 'object': f'{SITE}/anchor/a.roa'},
     'detached': BELOW | HOLDS | {'key': 'ca.pub'},
     'router': BELOW | {'key': 'router.pub', 'as': '64496'},
+    'list': {'issuer': ['anchor.cer'], 'next-update': '2026-07-01'},
 }
 
 
@@ -140,6 +159,7 @@ def run_readme():
     check('the round of README ends with success', done.returncode == 0, done.stderr)
     check('its path is accepted', b'Path:                     accepted' in done.stdout,
           done.stdout)
+    check('its router is revoked', b'(Revoked)' in done.stdout, done.stdout)
 
 
 # ---- keys and issuers
@@ -312,7 +332,7 @@ def try_signatures():
     for what, octets in [('cut', prepared[:-1]), ('with an octet behind it', prepared + b'\0'),
                          ('a certificate', Path('ca.cer').read_bytes()), ('empty', b'')]:
         sign(octets, 'anchor')
-        refuses(f'what is {what}', "isn't what is to be signed of a certificate")
+        refuses(f'what is {what}', "isn't what is to be signed of a certificate or a list")
 
 
 def try_words():
@@ -444,6 +464,8 @@ def try_random():
               Path('signed.tbs').read_bytes())
         done = rpki('validate', '-q', '--at', AT, *above, 'random.cer')
         check(f'validate accepts {what}', done.returncode == 0, done.stderr)
+        if kind in ('anchor', 'ca', 'router'):    # it reads no others by themselves
+            compare_client(what, 'random.cer')
         for name in [*above, 'random.cer']:
             openssl('x509', '-inform', 'DER', '-in', name, '-out', f'{name}.pem')
         words = ['-untrusted', f'{above[1]}.pem'] if len(above) > 1 else []
@@ -453,8 +475,360 @@ def try_random():
         check(f'openssl verify accepts {what}', done.returncode == 0, done.stderr)
 
 
+# ---- revocation lists
+
+def fields_of_list(octets):
+    """Its number, its serial numbers with their moments, and its own two moments."""
+    crl = ref.decode_crl(octets)
+    return (crl.tbs.crl_number, [(e.serial, e.date[:3]) for e in crl.entries()],
+            crl.tbs.this_update[:3], crl.tbs.next_update[:3])
+
+
+def make_lists():
+    """The first list of the trust anchor, the next ones, and one of a CA below it."""
+    first = make('first.crl', 'list', 'anchor')
+    today, stale = (2026, 6, 1), (2026, 7, 1)
+    check('the first list is number 1 and empty', fields_of_list(first) == (1, [], today, stale))
+    octets = make('next.crl', 'list', 'anchor', previous='first.crl', revoke=['ca.cer'],
+                  serial=['0b', '0a'], at='2026-06-02')
+    entries = [(5, (2026, 6, 2)), (0x0b, (2026, 6, 2)), (0x0a, (2026, 6, 2))]
+    check('the next one has what is revoked by file and by number',
+          fields_of_list(octets) == (2, entries, (2026, 6, 2), stale))
+    octets = make('third.crl', 'list', 'anchor', previous='next.crl', serial=['0a', '0c'],
+                  number='0100', at='2026-06-03', **{'next-update': '2026-06-03'})
+    entries.append((0x0c, (2026, 6, 3)))
+    check('the third one keeps all, revokes none twice, and has the number that is chosen',
+          fields_of_list(octets) == (256, entries, (2026, 6, 3), (2026, 6, 3)))
+    octets = make('late.crl', 'list', 'anchor', previous='first.crl', at='2026-08-01',
+                  **{'next-update': '2026-09-01'})
+    check('a stale list is followed', fields_of_list(octets)[0] == 2)
+    Path('first.pem').write_bytes(openssl('crl', '-inform', 'DER', '-in', 'first.crl'))
+    Path('ca.pem').write_bytes(openssl('x509', '-inform', 'DER', '-in', 'ca.cer'))
+    octets = make('pem.crl', 'list', 'anchor', previous='first.pem', revoke=['ca.pem'])
+    check('a list and a certificate in PEM are read', fields_of_list(octets)[:2]
+          == (2, [(5, today)]))
+    make('below.crl', 'list', 'ca', issuer=['anchor.cer', 'ca.cer'], serial=['05'])
+    octets = bytearray(first)
+    octets[-1] ^= 1
+    Path('damaged.crl').write_bytes(octets)
+
+
+LISTS_REFUSED = [
+    ({'previous': 'next.crl', 'number': '02'}, "the number isn't greater"),
+    ({'previous': 'next.crl', 'number': '01'}, "the number isn't greater"),
+    ({'number': '80' + 19 * '00'}, '--number'),
+    ({'number': '0'}, '--number'),
+    ({'next-update': '2026-05-31'}, 'the next update is before this one'),
+    ({'next-update': '2026-05-31T23:59:59Z'}, 'the next update is before this one'),
+    ({'next-update': 'never'}, '--next-update'),
+    ({'previous': 'below.crl'}, "the previous list isn't one that the issuer signed"),
+    ({'previous': 'damaged.crl'}, "the previous list isn't one that the issuer signed"),
+    ({'previous': 'ca.cer'}, "the previous list isn't one that the issuer signed"),
+    ({'previous': 'empty'}, "the previous list isn't one that the issuer signed"),
+    ({'revoke': ['anchor.cer']}, "isn't a certificate of the issuer"),
+    ({'revoke': ['ca.cer', 'lower.cer']}, "file 1 of --revoke isn't a certificate of the issuer"),
+    ({'revoke': ['first.crl']}, "isn't a certificate of the issuer"),
+    ({'revoke': ['empty']}, "isn't a certificate of the issuer"),
+    ({'serial': ['5']}, '--serial'),
+    ({'serial': ['05', '80' + 19 * '00']}, '--serial'),
+    ({'issuer': ['anchor.cer', 'object.cer']}, 'the last issuer is no CA'),
+    ({'issuer': ['anchor.cer', 'tampered.cer']}, 'issuer 1 is rejected at verification, '),
+    ({'issuer': ['anchor.cer', 'ca.cer'], 'crl': ['next.crl'], 'at': '2026-06-02'},
+     'issuer 1 is rejected at revocation, Revoked: '),
+    ({'issuer': ['anchor.cer', 'ca.cer'], 'crl': ['below.crl']},
+     'issuer 1 is rejected at revocation, NoCrl: '),
+]
+
+
+def try_lists():
+    make('lower.cer', 'ca', 'ca', issuer=['anchor.cer', 'ca.cer'], key='other.pub')
+    for changes, text in LISTS_REFUSED:
+        is_refused(f'prepare list {changes}', prepare('list', **changes), text)
+    make('by_list.crl', 'list', 'ca', issuer=['anchor.cer', 'ca.cer'], crl=['first.crl'])
+    at = '2026-06-02'
+    path = ['anchor.cer', 'ca.cer']
+    for lists, fault in [(['first.crl'], None), (['next.crl'], 'Revoked'),
+                         (['first.crl', 'next.crl'], 'Revoked'), (['below.crl'], 'NoCrl')]:
+        found = told([*words_of({'crl': lists}), *path], at)
+        check(f'validate with {lists} tells {fault}, and not {found}', found == fault)
+    done = rpki('validate', '--at', '2026-07-02', '--crl', 'first.crl', *path)
+    check('a list goes stale', b'(Stale)' in done.stdout, done.stdout)
+
+
+def try_list_signatures():
+    """A list's: signed by another key, over other octets, cut, longer, or with another DigestInfo."""
+    prepared = prepare('list', serial=['05', '06']).stdout
+    other = prepare('list', serial=['05', '07']).stdout
+
+    def refuses(what, text='BadSignature: ', issuers=ANCHOR, at=AT):
+        is_refused(f'complete a list {what}', complete(issuers, at=at), text)
+
+    def signed(octets=prepared, key='anchor'):
+        sign(octets, key)
+        return Path('signed.sig').read_bytes()
+
+    signature = signed()
+    done = complete(ANCHOR)
+    Path('made.crl').write_bytes(done.stdout)
+    check('complete a list that is signed', done.returncode == 0, done.stderr)
+    pem = complete(ANCHOR, '--pem')
+    check('--pem of a list', pem.stdout == openssl('crl', '-inform', 'DER', '-in', 'made.crl'),
+          pem.stderr)
+    signed(key='other')
+    refuses('by another key')
+    signed(other)
+    Path('signed.tbs').write_bytes(prepared)
+    refuses('over another list')
+    for what, octets in [('cut', signature[:-1]), ('longer', signature + b'\0'), ('empty', b'')]:
+        Path('signed.sig').write_bytes(octets)
+        refuses(f'with a signature that is {what}')
+    openssl('dgst', '-sha384', '-sign', 'anchor.key', '-out', 'signed.sig', 'signed.tbs')
+    refuses('with sha384')
+    signed()
+    refuses('below another issuer', 'OtherName: ', ['alien.cer'])
+    refuses('below none', 'a revocation list has an issuer', None)
+    refuses('when it is stale', 'Stale: ', at='2026-07-02')
+    for what, octets in [('cut', prepared[:-1]), ('with an octet behind it', prepared + b'\0'),
+                         ('a whole list', Path('made.crl').read_bytes())]:
+        signed(octets)
+        refuses(f'that is {what}', "isn't what is to be signed of a certificate or a list")
+
+
+# ---- files that are written
+
+def try_out():
+    octets = prepare('ca').stdout
+    wanted = {'out': 'made.tbs'}
+    Path('made.tbs').unlink(missing_ok=True)
+
+    def is_written(what, done, held):
+        check(f'{what}: {done.returncode}, nothing printed, and the file',
+              done.returncode == 0 and not done.stdout and not done.stderr
+              and Path('made.tbs').read_bytes() == held, done.stderr)
+
+    def fails(what, done, text):
+        check(f'{what}: status 3 and {text!r}, and not {done.returncode}', done.returncode == 3
+              and not done.stdout and text in done.stderr.decode(), done.stderr)
+
+    is_written('--out', prepare('ca', **wanted), octets)
+    Path('made.tbs').write_bytes(b'before')
+    fails('--out of a file that is there', prepare('ca', **wanted),
+          'rpki: made.tbs: is there already (--force overwrites it)')
+    check('it stays as it was', Path('made.tbs').read_bytes() == b'before')
+    is_refused('a request that is refused', rpki('prepare', 'ca', *words_of(
+        WANTED['ca'] | {'ipv4': '11.0.0.0/8', 'at': AT} | wanted), '--force'), 'OverclaimV4: ')
+    check('the file stays where a request is refused', Path('made.tbs').read_bytes() == b'before')
+    is_written('--force', rpki('prepare', 'ca', *words_of(WANTED['ca'] | {'at': AT} | wanted),
+                               '--force'), octets)
+    is_refused('a request that is refused', prepare('ca', ipv4='11.0.0.0/8', out='none.tbs'),
+               'OverclaimV4: ')
+    check('and makes no file', not Path('none.tbs').exists())
+    fails('a folder that is missing', prepare('ca', out='none/made.tbs'),
+          'rpki: none/made.tbs: no such file or directory')
+    fails('a folder', rpki('prepare', 'ca', *words_of(WANTED['ca'] | {'at': AT, 'out': '.'}),
+                           '--force'), 'rpki: .: is a directory')
+    if Path('/dev/full').exists():
+        fails('a full disk', rpki('prepare', 'ca', *words_of(
+            WANTED['ca'] | {'at': AT, 'out': '/dev/full'}), '--force'), 'rpki: /dev/full: ')
+    sign(octets, 'anchor')
+    done = complete(ANCHOR, '--pem', '--out', 'made.pem')
+    check('complete --pem --out', done.returncode == 0 and not done.stdout
+          and openssl('x509', '-in', 'made.pem', '-noout', '-serial') == b'serial=05\n',
+          done.stderr)
+    done = rpki('complete', '--out', 'a', '--out', 'b', 'signed.tbs', 'signed.sig')
+    check('--out twice: status 2', done.returncode == 2 and b'--out stands twice' in done.stderr,
+          done.stderr)
+
+
+def try_help():
+    usage = rpki('help').stdout
+    for words in [['prepare', '--help'], ['prepare', '-h'], ['prepare', 'ca', '--help'],
+                  ['prepare', 'list', '-h'], ['complete', '--help'],
+                  ['prepare', 'ca', '--issuer', 'none.cer', '--help'],
+                  ['complete', '--wat', '-h', '--', 'x']]:
+        done = rpki(*words)
+        check(f'{" ".join(words)}: status 0 and the usage', done.returncode == 0
+              and done.stdout == usage and not done.stderr, done.stderr)
+    done = rpki('complete', '--', '--help', '-h')
+    check('behind -- each word is a file', done.returncode == 3 and not done.stdout
+          and b'rpki: --help: no such file' in done.stderr, done.stderr)
+
+
+def try_long_files():
+    with open('long', 'wb') as file:
+        file.truncate(67_108_865)
+    for words in [{'key': 'long'}, {'issuer': ['long']}]:
+        done = prepare('ca', **words)
+        check(f'a file that is too long: status 3, and not {done.returncode}',
+              done.returncode == 3 and not done.stdout
+              and done.stderr == b'rpki: long: more than 67108864 octets\n', done.stderr)
+    Path('long').unlink()
+
+
+# ---- rpki-client
+
+has_client = False
+
+
+def compare_client(what, file):
+    """What it reads of a certificate or a list, beside what `show` prints."""
+    if not has_client:
+        return
+    done = clients.run('rpki-client', '-n', '-j', '-f', file)
+    found = json.loads(done.stdout or '{}')
+    counts = clients.Counts()
+    mine = json.loads(rpki('show', '-j', file).stdout)
+    clients.compare_client(counts, what, mine, found, 'failed')
+    check(f'rpki-client reads {what}', 'type' in found and not counts.failed,
+          done.stderr.encode())
+
+
+# ---- random lists
+
+def revocable():
+    """Certificates below each of two issuers, by the issuer's key."""
+    found = {'anchor': ['ca.cer', 'object.cer', 'inheriting.cer'], 'ca': []}
+    for place in range(3):
+        name = f'lower{place}.cer'
+        make(name, 'ee', 'ca', issuer=['anchor.cer', 'inheriting.cer'], key='other.pub',
+             serial=f'{place + 32}', ipv4='inherit', ipv6='inherit', **{'as': 'inherit'})
+        found['ca'].append(name)
+    return found
+
+
+def random_serial(it):
+    return it.randrange(1, min(1 << 8 * it.randrange(1, 21), 1 << 159))
+
+
+def as_hex(number):
+    return number.to_bytes((number.bit_length() + 7) // 8 or 1, 'big').hex()
+
+
+def random_list(it, previous, own):
+    """What is asked of a list, and the number and the serial numbers that it is to have."""
+    before, entries = (previous or (0, []))[:2]
+    numbers = [random_serial(it) for _ in range(it.choice([0, 1, 2, 5, 50]))]
+    numbers += [serial for serial, _ in entries if it.randrange(4) == 0]
+    files = it.sample(own, it.randrange(len(own) + 1)) if it.randrange(2) else []
+    changes = {'serial': [as_hex(n) for n in numbers], 'revoke': files}
+    number = before + 1
+    if it.randrange(3) == 0:
+        number = it.randrange(before + 1, 1 << 159) if it.randrange(2) else before + 7
+        changes['number'] = as_hex(number)
+    by_files = [ref.decode_cert(Path(name).read_bytes()).tbs.serial for name in files]
+    wanted = list(entries)
+    for serial in by_files + numbers:
+        if serial not in [known for known, _ in wanted]:
+            wanted.append((serial, (2026, 6, 1)))
+    return changes, number, wanted
+
+
+def compare_list(what, octets, number, wanted):
+    """The fields as the reference and openssl read them, and its one encoding."""
+    crl = ref.decode_crl(octets)
+    found = fields_of_list(octets)[:2]
+    check(f'{what} has number {number} and what is revoked, and not {found}',
+          found == (number, wanted))
+    printed = printed_list(octets)
+    other = printed and differences(known_list(crl), printed)[1]
+    check(f'{what}: (the reference, openssl) {other}', printed is not None and not other)
+    check(f'{what} has another encoding',
+          ref.encode_list(crl.tbs) == Path('signed.tbs').read_bytes())
+
+
+def revoked_by_openssl(file, above, crl):
+    """What `openssl verify` says of a certificate by a list of its issuer: whether it is revoked."""
+    for name in [*above, file]:
+        openssl('x509', '-inform', 'DER', '-in', name, '-out', f'{name}.pem')
+    openssl('crl', '-inform', 'DER', '-in', crl, '-out', f'{crl}.pem')
+    between = ['-untrusted', f'{above[1]}.pem'] if len(above) > 1 else []
+    done = subprocess.run(['openssl', 'verify', '-crl_check', '-attime', '1780272000', '-CAfile',
+                           f'{above[0]}.pem', *between, '-CRLfile', f'{crl}.pem', f'{file}.pem'],
+                          capture_output=True)
+    said = (done.stdout + done.stderr).decode()
+    if done.returncode == 0:
+        return False
+    return True if 'certificate revoked' in said else said
+
+
+def try_random_lists():
+    pool = revocable()
+    held = {'anchor': None, 'ca': None}
+    for place in range(options.lists):
+        it = random.Random(f'{options.seed}-list-{place}')
+        key = it.choice(['anchor', 'ca'])
+        above = ANCHOR if key == 'anchor' else ['anchor.cer', 'inheriting.cer']
+        if it.randrange(8) == 0:
+            held[key] = None
+        changes, number, wanted = random_list(it, held[key], pool[key])
+        if held[key]:
+            changes['previous'] = f'{key}.crl'
+        what = f'random list {place} of {key}: {changes}'
+        octets = make('random.crl', 'list', key, issuer=above, **changes)
+        compare_list(what, octets, number, wanted)
+        compare_client(what, 'random.crl')
+        os.replace('random.crl', f'{key}.crl')
+        held[key] = (number, wanted)
+        if number >= (1 << 159) - 10:
+            held[key] = None
+        for file in pool[key]:
+            serial = ref.decode_cert(Path(file).read_bytes()).tbs.serial
+            is_revoked = serial in [known for known, _ in wanted]
+            lists = ['anchor.crl', 'ca.crl'] if key == 'ca' else ['anchor.crl']
+            if key == 'ca':
+                make_empty_anchor_list()
+                lists = ['empty.crl', 'ca.crl']
+            found = told([*words_of({'crl': lists}), *above, file])
+            check(f'validate by {what} tells {found} of {file}',
+                  found == ('Revoked' if is_revoked else None))
+            found = revoked_by_openssl(file, above, f'{key}.crl')
+            check(f'openssl verify by {what} says {found} of {file}', found == is_revoked)
+
+
+def make_empty_anchor_list():
+    if not Path('empty.crl').exists():
+        make('empty.crl', 'list', 'anchor')
+
+
+# ---- the examples
+
+# What `show` prints of a file that doesn't follow from its keys, and of each revoked entry.
+OF_NO_KEY = ('type', 'version', 'cert_serial', 'crl_serial', 'aia', 'crl', 'manifest', 'carepository',
+             'notify_url', 'signed_object', 'valid_since', 'valid_until', 'subordinate_resources',
+             'revoked_certs', 'key_usage', 'overclaim', 'profiles', 'signature_algorithm')
+
+
+def try_examples():
+    """examples/make.sh makes files as those of examples/."""
+    os.mkdir('examples')
+    done = subprocess.run([TOP / 'examples/make.sh', 'examples'], capture_output=True,
+                          env=os.environ | {'RPKI': str(program)})
+    check('examples/make.sh', done.returncode == 0 and not done.stderr, done.stderr)
+    theirs = {it.name for it in (TOP / 'examples').iterdir()}
+    ours = {it.name for it in Path('examples').iterdir()}
+    check(f'it makes {ours}', ours == theirs - {'README.md', 'make.sh'})
+    for name in sorted(ours - {'anchor.tal'}):
+        mine = json.loads(rpki('show', '-j', f'examples/{name}').stdout)
+        known = json.loads(rpki('show', '-j', TOP / 'examples' / name).stdout)
+        other = {key: (known.get(key), mine.get(key)) for key in OF_NO_KEY
+                 if known.get(key) != mine.get(key)}
+        if name == 'revoked.crl':    # which is a month younger here, since a list revokes now
+            other.pop('valid_since', None)
+        check(f'{name} is another than the example: {other}', not other)
+    os.chdir('examples')
+    path = ['anchor.cer', 'first.cer', 'second.cer', 'object.cer']
+    lists = ['--crl', 'first.crl', '--crl', 'second.crl', '--crl', 'object.crl']
+    for words, fault in [(['--tal', 'anchor.tal', *lists, *path], None),
+                         ([*lists[:2], '--crl', 'revoked.crl', *path[:3]], 'Revoked'),
+                         ([*path[:2], 'tampered.cer'], 'BadSignature')]:
+        found = told(words)
+        check(f'validate {words} tells {fault}, and not {found}', found == fault)
+    os.chdir('..')
+
+
 with tempfile.TemporaryDirectory() as room:
     os.chdir(room)
+    os.chmod(room, 0o755)    # rpki-client gives up root's rights
     if not os.access(program, os.X_OK):
         print(f"tests/issuing: left out: no program at {program}; 'rt ci' builds it")
         failed += 1
@@ -468,7 +842,16 @@ with tempfile.TemporaryDirectory() as room:
         try_refused()
         try_signatures()
         try_words()
+        make_lists()
+        try_lists()
+        try_list_signatures()
+        try_out()
+        try_help()
+        try_long_files()
+        try_examples()
+        has_client = clients.is_client_there()
         try_random()
+        try_random_lists()
     os.chdir(TOP)
 print(f'{passed} passed, {failed} failed')
 sys.exit(failed > 0)

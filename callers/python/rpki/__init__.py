@@ -1,4 +1,5 @@
-"""Reads and judges resource certificates and revocation lists of the RPKI (RFC 6487).
+"""Reads and judges resource certificates and revocation lists of the RPKI (RFC 6487), and issues
+certificates whose issuer's key lies elsewhere.
 
 Calls; help(rpki.validate) says more of one:
 
@@ -75,6 +76,7 @@ import enum
 import ipaddress
 import os
 from collections.abc import Iterator, Sequence
+from collections.abc import Iterable, Iterator, Mapping, Sequence
 from dataclasses import dataclass
 from datetime import datetime, timezone
 from functools import cached_property
@@ -93,6 +95,7 @@ __all__ = [
     "INHERIT",
     "Inherit",
     "InspectionFault",
+    "IssuingFault",
     "Kind",
     "Line",
     "LocatorFault",
@@ -102,7 +105,9 @@ __all__ = [
     "RevocationList",
     "State",
     "VerificationFault",
+    "complete",
     "judge_folder",
+    "prepare",
     "validate",
 ]
 
@@ -173,6 +178,10 @@ class LocatorFault(Fault):
     """The file is no trust anchor locator, or the trust anchor has another key."""
 
 
+class IssuingFault(Fault):
+    """The key, the fields or the octets are none of a certificate that can be issued."""
+
+
 # by the number, or by its hundreds
 _FAULTS: dict[int, type[Fault]] = {
     1: DecodeFault,
@@ -183,6 +192,7 @@ _FAULTS: dict[int, type[Fault]] = {
     600: NamesFault,
     601: LocatorFault,
     7: LocatorFault,
+    8: IssuingFault,
 }
 
 
@@ -712,3 +722,151 @@ def judge_folder(
     place = walk.anchor if 100 <= walk.fault < 600 else None
     _raise(walk.fault, place)
     return Folder(tuple(map(_line, lines)), walk.anchor, walk.ended == raw.WHOLE)
+
+
+# ---- issuing
+
+AddressRange = Union[Network, tuple[Address, Address]]
+
+
+def _ends(what: AddressRange[Address]) -> tuple[int, bytes, bytes]:
+    """The version, and the first and the last address, of a network or a range."""
+    first, last = (what[0], what[-1]) if isinstance(what, _NETWORKS) else what
+    if first.version != last.version:
+        raise ValueError("a range has addresses of two families")
+    return first.version, first.packed, last.packed
+
+
+def _addresses(
+    version: int, wanted: Iterable[AddressRange[Address]] | Inherit | None
+) -> raw.Addresses:
+    if wanted is None or isinstance(wanted, Inherit):
+        return raw.addresses_wanted(raw.MISSING if wanted is None else raw.INHERITED, ())
+    ends = [_ends(it) for it in wanted]
+    if any(it[0] != version for it in ends):
+        raise ValueError(f"an address isn't one of IPv{version}")
+    return raw.addresses_wanted(raw.LISTED, [raw.ip_range(*it[1:]) for it in ends])
+
+
+def _systems(wanted: Iterable[int | range] | Inherit | None) -> raw.AsNumbers:
+    if wanted is None or isinstance(wanted, Inherit):
+        return raw.as_numbers_wanted(raw.MISSING if wanted is None else raw.INHERITED, ())
+    ranges = [range(it, it + 1) if isinstance(it, int) else it for it in wanted]
+    if any(it.step != 1 or not it or not 0 <= it[0] <= it[-1] < 1 << 32 for it in ranges):
+        raise ValueError("AS numbers are below 2^32, and stand in ranges with the step 1")
+    return raw.as_numbers_wanted(raw.LISTED, [(it[0], it[-1]) for it in ranges])
+
+
+def _issuer(
+    kind: Kind,
+    issuers: Sequence[Octets | Certificate],
+    lists: Sequence[Octets | RevocationList] | None,
+    locator: Octets | None,
+    at: datetime | None,
+    strict: bool,
+) -> raw.Question:
+    """The question about the issuer's path. A trust anchor has none: nothing of it is asked."""
+    members = [_octets(it) for it in issuers]
+    all_lists = None if lists is None else [_octets(it) for it in lists]
+    now = _time(datetime.now(timezone.utc) if at is None else at)
+    key = None if locator is None else _bytes(locator)
+    last = Kind.TRUST_ANCHOR if kind is Kind.TRUST_ANCHOR else Kind.AUTHORITY
+    return raw.question(members, last.value, now, strict, all_lists, key)
+
+
+def _raise_issued(told: raw.Issued, members: int) -> None:
+    """Raises the exception of why nothing is issued below so many members, if there is one."""
+    if told.fault == raw.BAD_CALL:
+        raise ValueError("the serial number isn't above 0 and below 2^159, nothing is listed, a range "
+                         "ends before it begins, or the issuers don't go with the kind")
+    if told.fault == raw.BAD_URI:
+        raise ValueError(f"the URI {raw.URIS[told.index]} isn't one")
+    of_list = 100 <= told.fault < 300 and told.index >= members
+    if of_list:
+        _raise(told.fault, None, told.index - members)
+    _raise(told.fault, told.index if told.fault // 100 != 7 else None)
+
+
+def prepare(
+    kind: Kind,
+    *,
+    issuers: Sequence[Octets | Certificate],
+    key: Octets,
+    serial_number: int,
+    not_before: datetime,
+    not_after: datetime,
+    ipv4: Iterable[AddressRange[ipaddress.IPv4Address]] | Inherit | None = None,
+    ipv6: Iterable[AddressRange[ipaddress.IPv6Address]] | Inherit | None = None,
+    as_numbers: Iterable[int | range] | Inherit | None = None,
+    uris: Mapping[str, str] | None = None,
+    trims_resources: bool = False,
+    lists: Sequence[Octets | RevocationList] | None = None,
+    locator: Octets | None = None,
+    at: datetime | None = None,
+    strict: bool = True,
+) -> bytes:
+    """Prepares a certificate for its signature, and gives the octets that are to be signed by the
+    issuer's key (RSASSA-PKCS1-v1_5 with SHA-256, RFC 7935). The key may lie elsewhere: in a file of
+    OpenSSL's, or in hardware.
+
+    `issuers` are the certificates of the issuer's path in order, the trust anchor first; for a trust
+    anchor there are none. The path is judged as `validate` does it, with `lists` and `locator` where
+    they are given. `key` is the subject's SubjectPublicKeyInfo in DER.
+
+    `ipv4` and `ipv6` are networks, or pairs of a first and a last address, and `as_numbers` are
+    numbers or ranges, in any order; or INHERIT; or None, for nothing of the kind. So what a
+    Certificate has can be given. `uris` has the names that `Certificate.uris` has. What RFC 6487
+    fixes isn't asked: the names, key identifiers, key usage and policy.
+
+    All is checked that the issuer's validators will check, but for the signature. Raises the Fault of
+    what is wrong, with the place of the member of the issuer's path that has it, or else with that of
+    the certificate behind them all; and ValueError where a value is none.
+    """
+    named = dict(uris or {})
+    texts = [named.pop(name, "").encode() for name in raw.URIS]
+    if named:
+        raise ValueError(f"no URI has the name {min(named)}")
+    if not 0 <= serial_number < 1 << 160:
+        raise ValueError("the serial number isn't above 0 and below 2^159")
+    asked = raw.wanted(
+        _issuer(Kind(kind), issuers, lists, locator, at, strict),
+        Kind(kind).value,
+        _bytes(key),
+        (_addresses(4, ipv4), _addresses(6, ipv6), _systems(as_numbers)),
+        texts,
+        (_time(not_before), _time(not_after)),
+        serial_number.to_bytes(20, "big"),
+        trims_resources,
+    )
+    told, octets = raw.prepare(asked)
+    _raise_issued(told, len(issuers))
+    return octets
+
+
+def complete(
+    kind: Kind,
+    *,
+    issuers: Sequence[Octets | Certificate],
+    prepared: Octets,
+    signature: Octets,
+    lists: Sequence[Octets | RevocationList] | None = None,
+    locator: Octets | None = None,
+    at: datetime | None = None,
+    strict: bool = True,
+) -> Certificate:
+    """Completes a certificate that was prepared by its signature, and gives it, exactly where the
+    issuer's key (of a trust anchor its own) signed what was prepared. The others are as for
+    `prepare`; they are asked again, at this moment.
+
+    Raises VerificationFault with the name BadSignature where the signature isn't good, and else the
+    Fault of what is wrong.
+    """
+    asked = raw.completion(
+        _issuer(Kind(kind), issuers, lists, locator, at, strict),
+        Kind(kind).value,
+        _bytes(prepared),
+        _bytes(signature),
+    )
+    told, octets = raw.complete(asked)
+    _raise_issued(told, len(issuers))
+    return Certificate(octets)

@@ -10,6 +10,7 @@ from typing import Any, TypeVar
 ABI = 3  # RPKI_ABI of rpki.h
 
 OK, MEMORY, BAD_CALL = 0, 1, 2
+BAD_URI = 802
 # enum rpki_state
 MISSING, INHERITED, LISTED = 0, 1, 2
 # enum rpki_ended
@@ -139,6 +140,63 @@ class Walk(ctypes.Structure):
     """struct rpki_walk"""
 
     _fields_ = [*((name, c_uint32) for name in ("fault", "ended")), ("anchor", c_uint64)]
+
+
+class Addresses(ctypes.Structure):
+    """struct rpki_addresses"""
+
+    _fields_ = [("ranges", ctypes.POINTER(IpRange)), ("count", c_size_t), ("state", c_uint32)]
+
+
+class AsNumbers(ctypes.Structure):
+    """struct rpki_as_numbers"""
+
+    _fields_ = [("ranges", ctypes.POINTER(AsRange)), ("count", c_size_t), ("state", c_uint32)]
+
+
+class Octets(ctypes.Structure):
+    """A pointer and a length, as they stand in a struct."""
+
+    _fields_ = [("octets", ctypes.POINTER(c_uint8)), ("length", c_size_t)]
+
+
+class Uris(ctypes.Structure):
+    """struct rpki_uris"""
+
+    _fields_ = [(name, Octets) for name in URIS]
+
+
+class Wanted(ctypes.Structure):
+    """struct rpki_wanted"""
+
+    _fields_ = [
+        ("size", c_size_t),
+        ("issuer", Question),
+        ("key", Octets),
+        *((name, Addresses) for name in ("v4", "v6")),
+        ("asn", AsNumbers),
+        ("uris", Uris),
+        *((name, Time) for name in ("not_before", "not_after")),
+        ("serial", c_uint8 * 20),
+        *((name, c_uint32) for name in ("kind", "overclaim")),
+    ]
+
+
+class Completion(ctypes.Structure):
+    """struct rpki_completion"""
+
+    _fields_ = [
+        ("size", c_size_t),
+        ("issuer", Question),
+        *((name, Octets) for name in ("prepared", "signature")),
+        ("kind", c_uint32),
+    ]
+
+
+class Issued(ctypes.Structure):
+    """struct rpki_issued"""
+
+    _fields_ = [*((name, c_uint32) for name in ("fault", "index")), ("count", c_uint64)]
 
 
 def _load() -> ctypes.CDLL:
@@ -341,3 +399,70 @@ def judge_folder(asked: FolderQuestion) -> tuple[Walk, list[Line]]:
     room = c_size_t(len(lines))
     lib.rpki_folder_judge(ctypes.byref(asked), lines, room, ctypes.byref(out))
     return out, list(lines) if out.fault == OK else []
+
+
+def ip_range(first: bytes, last: bytes) -> IpRange:
+    """Two addresses of one family. One of IPv4 stands in the first four octets."""
+    ends = (octets.ljust(16, b"\0") for octets in (first, last))
+    return IpRange(*((c_uint8 * 16).from_buffer_copy(end) for end in ends))
+
+
+def addresses_wanted(state: int, ranges: Sequence[IpRange]) -> Addresses:
+    return Addresses((IpRange * len(ranges))(*ranges), len(ranges), state)
+
+
+def as_numbers_wanted(state: int, ranges: Sequence[tuple[int, int]]) -> AsNumbers:
+    numbers = (AsRange(*ends) for ends in ranges)
+    return AsNumbers((AsRange * len(ranges))(*numbers), len(ranges), state)
+
+
+def wanted(
+    issuer: Question,
+    kind: int,
+    key: bytes,
+    resources: tuple[Addresses, Addresses, AsNumbers],
+    uris: Sequence[bytes],
+    validity: tuple[Time, Time],
+    serial: bytes,
+    trims: bool,
+) -> Wanted:
+    """What a certificate is to be. The URIs are those of URIS, and an empty one is left out."""
+    return Wanted(
+        ctypes.sizeof(Wanted),
+        issuer,
+        Octets(*octets_of(key)),
+        *resources,
+        Uris(*(Octets(*octets_of(uri)) for uri in uris)),
+        *validity,
+        (c_uint8 * 20).from_buffer_copy(serial),
+        kind,
+        trims,
+    )
+
+
+def completion(issuer: Question, kind: int, prepared: bytes, signature: bytes) -> Completion:
+    """What was prepared, and its signature."""
+    octets = (Octets(*octets_of(data)) for data in (prepared, signature))
+    return Completion(ctypes.sizeof(Completion), issuer, *octets, kind)
+
+
+def issued(function: Any, asked: ctypes.Structure) -> tuple[Issued, bytes]:
+    """What is told of what is issued, and its octets. A second call has room for more than 4 KiB."""
+    told, length = Issued(), 4096
+    for _ in range(2):
+        room = (c_uint8 * length)()
+        words = ctypes.byref(asked), room, c_size_t(length), ctypes.byref(told)
+        if function(*words) != OK:
+            return told, b""
+        if told.count <= length:
+            break
+        length = told.count
+    return told, bytes(room[: told.count])
+
+
+def prepare(asked: Wanted) -> tuple[Issued, bytes]:
+    return issued(lib.rpki_prepare, asked)
+
+
+def complete(asked: Completion) -> tuple[Issued, bytes]:
+    return issued(lib.rpki_complete, asked)

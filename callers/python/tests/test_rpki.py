@@ -5,8 +5,12 @@ tests/files.
 """
 
 import copy
+import functools
 import ipaddress
 import pickle
+import shutil
+import subprocess
+import tempfile
 import threading
 import unittest
 from datetime import datetime, timedelta, timezone, tzinfo
@@ -23,7 +27,9 @@ from rpki import (
     Line,
     RevocationList,
     State,
+    complete,
     judge_folder,
+    prepare,
     validate,
 )
 
@@ -381,6 +387,186 @@ class Folders(unittest.TestCase):
             with self.assertRaises(kind) as caught:
                 self.judge(strings, **asked)
             self.assertEqual((caught.exception.name, caught.exception.member), (name, place))
+
+
+def openssl(*words: str, given: bytes = b"") -> bytes:
+    """What openssl writes, to which these octets are given."""
+    return subprocess.run(["openssl", *words], input=given, check=True, capture_output=True).stdout
+
+
+@functools.cache
+def private(name: str) -> bytes:
+    """A private key of RSA, or of P-256 for a router, in PEM."""
+    if name == "router":
+        return openssl("ecparam", "-name", "prime256v1", "-genkey", "-noout")
+    return openssl("genrsa", "2048")
+
+
+def public(name: str) -> bytes:
+    return openssl("pkey", "-pubout", "-outform", "DER", given=private(name))
+
+
+def sign(prepared: bytes, name: str) -> bytes:
+    with tempfile.NamedTemporaryFile() as key:
+        key.write(private(name))
+        key.flush()
+        return openssl("dgst", "-sha256", "-sign", key.name, given=prepared)
+
+
+@unittest.skipUnless(shutil.which("openssl"), "openssl isn't there")
+class Issuing(unittest.TestCase):
+    at = datetime(2026, 6, 1, tzinfo=timezone.utc)
+    places = {"repository": f"{SITE}/ca/", "manifest": f"{SITE}/ca/ca.mft"}
+    above = {"ca_issuer": f"{SITE}/anchor.cer", "crl": f"{SITE}/anchor/anchor.crl"}
+
+    def prepared(self, kind: Kind, key: str, issuers: list[bytes], **changes: Any) -> bytes:
+        wanted: dict[str, Any] = {
+            "serial_number": 5,
+            "not_before": BEGIN,
+            "not_after": END,
+            "at": self.at,
+        }
+        return prepare(kind, issuers=issuers, key=public(key), **(wanted | changes))
+
+    def made(
+        self, kind: Kind, key: str, signer: str, issuers: list[bytes], **changes: Any
+    ) -> bytes:
+        octets = self.prepared(kind, key, issuers, **changes)
+        signature = sign(octets, signer)
+        it = complete(kind, issuers=issuers, prepared=octets, signature=signature, at=self.at)
+        return it.octets
+
+    @functools.cached_property
+    def anchor(self) -> bytes:
+        return self.made(
+            Kind.TRUST_ANCHOR,
+            "anchor",
+            "anchor",
+            [],
+            ipv4=[ipaddress.IPv4Network("10.0.0.0/8")],
+            ipv6=[ipaddress.IPv6Network("2001:db8::/32")],
+            as_numbers=[range(64496, 64512)],
+            uris=self.places,
+        )
+
+    def ca(self, **changes: Any) -> dict[str, Any]:
+        holds = [ipaddress.IPv4Network("10.1.0.0/16"), ipaddress.IPv4Network("10.0.0.0/16")]
+        pair = (ipaddress.IPv6Address("2001:db8::"), ipaddress.IPv6Address("2001:db8::7"))
+        wanted: dict[str, Any] = {"ipv4": holds, "ipv6": [pair], "as_numbers": [64497, 64496]}
+        return wanted | {"uris": self.places | self.above} | changes
+
+    def test_path(self) -> None:
+        anchor = self.anchor
+        below = self.made(Kind.AUTHORITY, "ca", "anchor", [anchor], **self.ca())
+        it = Certificate(below)
+        self.assertEqual(str(it.ipv4), "10.0.0.0/15")
+        self.assertEqual(str(it.ipv6), "2001:db8::/125")
+        self.assertEqual(str(it.as_numbers), "AS64496-AS64497")
+        self.assertEqual((it.not_before, it.not_after, it.serial_number), (BEGIN, END, 5))
+        self.assertEqual(it.uris, self.places | self.above)
+        held = validate([anchor, below], last=Kind.AUTHORITY, lists=None, at=self.at)
+        self.assertEqual(held.ipv4, it.ipv4)
+        # what a certificate lists can be given as it is; the kinds below a CA
+        names = {**self.above, "signed_object": f"{SITE}/ca/a.roa"}
+        given = {"ipv4": it.ipv4, "ipv6": INHERIT}
+        ee = self.made(Kind.END_ENTITY, "ee", "ca", [anchor, below], uris=names, **given)
+        validate([anchor, below, ee], last=Kind.END_ENTITY, lists=None, at=self.at)
+        any_object = self.made(Kind.DETACHED, "ee", "ca", [anchor, below], uris=self.above, **given)
+        validate([anchor, below, any_object], last=Kind.DETACHED, lists=None, at=self.at)
+        systems = {"as_numbers": [64497]}
+        router = self.made(
+            Kind.ROUTER, "router", "ca", [anchor, below], uris=self.above, **systems
+        )
+        validate([anchor, below, router], last=Kind.ROUTER, lists=None, at=self.at)
+        # as openssl judges them
+        with tempfile.TemporaryDirectory() as folder:
+            pems = {"anchor": anchor, "ca": below, "ee": ee, "router": router}
+            for name, der in pems.items():
+                pem = openssl("x509", "-inform", "DER", given=der)
+                Path(folder, name).write_bytes(pem)
+            words = ["verify", "-attime", "1780272000", "-CAfile", f"{folder}/anchor"]
+            openssl(*words, f"{folder}/ca")
+            for name in ("ee", "router"):
+                openssl(*words, "-untrusted", f"{folder}/ca", f"{folder}/{name}")
+
+    def refuses(self, name: str, member: int, call: Any, *words: Any, **changes: Any) -> rpki.Fault:
+        with self.assertRaises(rpki.Fault) as caught:
+            call(*words, **changes)
+        self.assertEqual((caught.exception.name, caught.exception.member), (name, member))
+        return caught.exception
+
+    def test_refused_before_a_signature_is_asked(self) -> None:
+        anchor = self.anchor
+        other = [ipaddress.IPv4Network("11.0.0.0/16")]
+        outside = {"repository": f"{SITE}/ca/", "manifest": f"{SITE}/other/ca.mft"}
+        wrong: list[tuple[str, dict[str, Any]]] = [
+            ("OverclaimV4", {"ipv4": other}),
+            ("OverclaimAs", {"as_numbers": [64512]}),
+            ("ManifestNotChild", {"uris": outside | self.above}),
+            ("MissingManifest", {"uris": {**self.above, "repository": f"{SITE}/ca/"}}),
+            ("MissingCrlUri", {"uris": {**self.places, "ca_issuer": f"{SITE}/anchor.cer"}}),
+            ("NotYetValid", {"not_before": self.at + timedelta(seconds=1)}),
+            ("Expired", {"not_after": self.at - timedelta(seconds=1)}),
+            ("Unwritable", {"ipv4": None, "ipv6": None, "as_numbers": None}),
+        ]
+        for name, changes in wrong:
+            wanted = self.ca(**changes)
+            self.refuses(name, 1, self.prepared, Kind.AUTHORITY, "ca", [anchor], **wanted)
+        wanted = self.ca(uris=self.places, ipv4=INHERIT)
+        self.refuses("InheritedV4", 0, self.prepared, Kind.TRUST_ANCHOR, "anchor", [], **wanted)
+        # the issuer's path comes first
+        late: dict[str, Any] = {"at": END + timedelta(days=1)}
+        self.refuses("Expired", 0, self.prepared, Kind.AUTHORITY, "ca", [anchor], **self.ca(**late))
+        trimmed = self.prepared(
+            Kind.AUTHORITY, "ca", [anchor], **self.ca(ipv4=other, trims_resources=True)
+        )
+        self.assertTrue(trimmed)
+
+    def test_values_that_are_none(self) -> None:
+        anchor = self.anchor
+        back = (ipaddress.IPv4Address("10.0.0.2"), ipaddress.IPv4Address("10.0.0.1"))
+        wrong: list[dict[str, Any]] = [
+            {"serial_number": 0},
+            {"serial_number": 1 << 159},
+            {"serial_number": -1},
+            {"ipv4": []},
+            {"ipv4": [back]},
+            {"ipv4": [ipaddress.ip_network("2001:db8::/64")]},
+            {"as_numbers": [1 << 32]},
+            {"as_numbers": [range(2, 2)]},
+            {"uris": {"crl": "http://rpki.example.net/"}},
+            {"uris": {"list": f"{SITE}/anchor/anchor.crl"}},
+            {"not_after": datetime(2026, 1, 1)},
+        ]
+        for changes in wrong:
+            with self.assertRaises(ValueError):
+                self.prepared(Kind.AUTHORITY, "ca", [anchor], **self.ca(**changes))
+        without: list[bytes] = []
+        for issuers, kind in ((without, Kind.AUTHORITY), ([anchor], Kind.TRUST_ANCHOR)):
+            with self.assertRaises(ValueError):
+                self.prepared(kind, "ca", issuers, **self.ca())
+        for key in (b"", b"0", public("ca")[:-1], public("ca") + b"0"):
+            with self.assertRaises(rpki.IssuingFault) as caught:
+                wanted = self.ca(serial_number=5, not_before=BEGIN, not_after=END, at=self.at)
+                prepare(Kind.AUTHORITY, issuers=[anchor], key=key, **wanted)
+            self.assertEqual(caught.exception.name, "NoKey")
+
+    def test_wrong_signatures(self) -> None:
+        anchor = self.anchor
+        prepared = self.prepared(Kind.AUTHORITY, "ca", [anchor], **self.ca())
+        good = sign(prepared, "anchor")
+        flipped = bytes([good[0] ^ 1]) + good[1:]
+        others = [sign(prepared, "ca"), sign(prepared + b"0", "anchor"), good[:-1], flipped, b""]
+        words: dict[str, Any] = {"issuers": [anchor], "prepared": prepared, "at": self.at}
+        for signature in others:
+            asked = {**words, "signature": signature}
+            self.refuses("BadSignature", 1, complete, Kind.AUTHORITY, **asked)
+        complete(Kind.AUTHORITY, **words, signature=good)
+        for name, octets_signed in (("NotToSign", prepared[:-1]), ("NotToSign", b"")):
+            asked = {**words, "prepared": octets_signed, "signature": good}
+            self.refuses(name, 1, complete, Kind.AUTHORITY, **asked)
+        with self.assertRaises(rpki.InspectionFault):
+            complete(Kind.END_ENTITY, **words, signature=good)
 
 
 if __name__ == "__main__":

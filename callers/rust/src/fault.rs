@@ -11,6 +11,7 @@ pub enum FaultKind {
     Memory,
     /// There are too few members, the last of several is to be a trust anchor, or there is no such
     /// moment. No member is at fault. Its name is `BadCall`.
+    /// moment, range or serial number.
     BadCall,
     /// The octets begin with no certificate, or with no revocation list.
     ///
@@ -49,6 +50,8 @@ pub enum FaultKind {
     /// Its name is `OtherKey` for the key, and else `NoText`, `BadUri`, `NoUri`, `NoKey` or
     /// `BadKey`.
     Locator,
+    /// The key, a URI, the fields or the octets are none of a certificate that can be issued.
+    Issuing,
 }
 
 /// Where in a question a fault is.
@@ -86,6 +89,16 @@ impl Fault {
         Fault { number, place }
     }
 
+    // Of a certificate that is issued below so many members, or of one of them.
+    pub(crate) fn of_issued(number: u32, index: usize, members: usize) -> Fault {
+        match number {
+            sys::BAD_URI => Fault::new(number),
+            // a list that can't be read stands behind the members
+            100..=299 => Fault::of_path(number, index, members),
+            _ => Fault::of_path(number, index, usize::MAX),
+        }
+    }
+
     // Of the trust anchor at a place of a folder, or of its locator.
     pub(crate) fn of_anchor(number: u32, anchor: usize) -> Fault {
         let place = (100..600)
@@ -116,6 +129,7 @@ impl Fault {
             500..=599 => FaultKind::Revocation,
             600 => FaultKind::Names,
             601 | 700..=799 => FaultKind::Locator,
+            800..=899 => FaultKind::Issuing,
             _ => FaultKind::Decode,
         }
     }
@@ -158,7 +172,7 @@ impl fmt::Display for Fault {
         match self.kind() {
             FaultKind::BadCall => f.write_str(
                 "there are too few members, the last of several is to be a trust anchor, \
-                 or there is no such moment",
+                 or there is no such moment, range or serial number",
             ),
             _ => write!(f, "{} ({})", self.sentence(), self.name()),
         }

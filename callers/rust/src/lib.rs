@@ -1,5 +1,5 @@
-//! Reads and judges resource certificates and revocation lists of the RPKI (RFC 6487), by the proved
-//! library librpki.
+//! Reads and judges resource certificates and revocation lists of the RPKI (RFC 6487), and issues
+//! certificates whose issuer's key lies elsewhere, by the proved library librpki.
 //!
 //! ```no_run
 //! use gonxebhula::{FaultKind, Kind, Moment, Path, Revocation};
@@ -50,11 +50,13 @@
 //! Each call checks first that the library is of this crate's interface, and panics where it isn't.
 mod fault;
 mod folder;
+mod issuing;
 mod moment;
 mod sys;
 
 pub use fault::{Fault, FaultKind, Place};
 pub use folder::{Folder, Judged, Line};
+pub use issuing::{Issuer, Wanted};
 pub use moment::Moment;
 
 use std::net::{Ipv4Addr, Ipv6Addr};

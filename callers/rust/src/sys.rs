@@ -9,6 +9,7 @@ pub const ABI: u32 = 3;
 pub const OK: u32 = 0;
 pub const MEMORY: u32 = 1;
 pub const BAD_CALL: u32 = 2;
+pub const BAD_URI: u32 = 802;
 /// enum rpki_fate of rpki.h.
 pub const ANCHOR: u32 = 1;
 pub const ACCEPTED: u32 = 2;
@@ -150,6 +151,61 @@ pub struct Walk {
     pub anchor: u64,
 }
 
+#[repr(C)]
+struct CAddresses {
+    ranges: *const IpRange,
+    count: usize,
+    state: u32,
+}
+
+#[repr(C)]
+struct CAsNumbers {
+    ranges: *const AsRange,
+    count: usize,
+    state: u32,
+}
+
+/// A pointer and a length, as they stand in a struct.
+#[repr(C)]
+#[derive(Clone, Copy)]
+struct COctets {
+    octets: *const u8,
+    length: usize,
+}
+
+#[repr(C)]
+struct CWanted {
+    size: usize,
+    issuer: CQuestion,
+    key: COctets,
+    v4: CAddresses,
+    v6: CAddresses,
+    asn: CAsNumbers,
+    uris: [COctets; 6],
+    not_before: Time,
+    not_after: Time,
+    serial: [u8; 20],
+    kind: u32,
+    overclaim: u32,
+}
+
+#[repr(C)]
+struct CCompletion {
+    size: usize,
+    issuer: CQuestion,
+    prepared: COctets,
+    signature: COctets,
+    kind: u32,
+}
+
+#[repr(C)]
+#[derive(Default)]
+struct Issued {
+    fault: u32,
+    index: u32,
+    count: u64,
+}
+
 extern "C" {
     fn rpki_abi_version() -> u32;
     fn rpki_fault_name(fault: u32, out: *mut u8, room: usize, count: *mut u64) -> u32;
@@ -217,6 +273,13 @@ extern "C" {
         lines: *mut Line,
         room: usize,
         out: *mut Walk,
+    ) -> u32;
+    fn rpki_prepare(wanted: *const CWanted, out: *mut u8, room: usize, told: *mut Issued) -> u32;
+    fn rpki_complete(
+        completion: *const CCompletion,
+        out: *mut u8,
+        room: usize,
+        told: *mut Issued,
     ) -> u32;
 }
 
@@ -345,6 +408,31 @@ pub struct Question<'a> {
     pub now: Time,
 }
 
+impl Question<'_> {
+    /// The members and the lists.
+    fn strings(&self) -> (Strings, Strings) {
+        let lists = self.lists.unwrap_or_default();
+        (Strings::of(self.members), Strings::of(lists))
+    }
+
+    /// What the library takes. It points into these strings.
+    fn lent(&self, strings: &(Strings, Strings)) -> CQuestion {
+        let locator = self.locator.unwrap_or_default();
+        CQuestion {
+            size: size_of::<CQuestion>(),
+            members: strings.0.lent(),
+            lists: strings.1.lent(),
+            locator: locator.as_ptr(),
+            locator_length: locator.len(),
+            moment: self.now,
+            last: self.last,
+            strict: self.strict.into(),
+            revocation: self.lists.is_none().into(),
+            anchor: self.locator.is_none().into(),
+        }
+    }
+}
+
 /// The ranges that a path holds.
 #[derive(Default)]
 pub struct Held {
@@ -369,21 +457,8 @@ impl Held {
 /// What the last member holds, or a fault and its place: a first call counts the ranges, and a
 /// second one writes them.
 pub fn judge(question: &Question<'_>) -> Result<Held, (u32, usize)> {
-    let members = Strings::of(question.members);
-    let lists = Strings::of(question.lists.unwrap_or_default());
-    let locator = question.locator.unwrap_or_default();
-    let asked = CQuestion {
-        size: size_of::<CQuestion>(),
-        members: members.lent(),
-        lists: lists.lent(),
-        locator: locator.as_ptr(),
-        locator_length: locator.len(),
-        moment: question.now,
-        last: question.last,
-        strict: question.strict.into(),
-        revocation: question.lists.is_none().into(),
-        anchor: question.locator.is_none().into(),
-    };
+    let strings = question.strings();
+    let asked = question.lent(&strings);
     let mut held = Held::default();
     for _ in 0..2 {
         let mut out = Verdict::default();
@@ -432,4 +507,93 @@ pub fn judge_folder(question: &FolderQuestion<'_>) -> Result<(Walk, Vec<Line>), 
     let fault = unsafe { rpki_folder_judge(&asked, lines.as_mut_ptr(), lines.len(), &mut out) };
     answered(fault, ()).map_err(|fault| (fault, out.anchor as usize))?;
     Ok((out, lines))
+}
+
+fn octets_of(octets: &[u8]) -> COctets {
+    COctets {
+        octets: octets.as_ptr(),
+        length: octets.len(),
+    }
+}
+
+/// What a certificate is to be. Each state is an enum rpki_state, and the URIs are those of enum
+/// rpki_uri.
+pub struct Wanted<'a> {
+    pub issuer: Question<'a>,
+    pub key: &'a [u8],
+    pub v4: (u32, Vec<IpRange>),
+    pub v6: (u32, Vec<IpRange>),
+    pub asn: (u32, Vec<AsRange>),
+    pub uris: [&'a [u8]; 6],
+    pub not_before: Time,
+    pub not_after: Time,
+    pub serial: [u8; 20],
+    pub kind: u32,
+    pub trims: bool,
+}
+
+/// What was prepared, and its signature.
+pub struct Completion<'a> {
+    pub issuer: Question<'a>,
+    pub prepared: &'a [u8],
+    pub signature: &'a [u8],
+    pub kind: u32,
+}
+
+/// What a call writes, or a fault and its place: where there is more than a first call has room for,
+/// a second one writes it.
+fn issued(write: impl Fn(*mut u8, usize, *mut Issued) -> u32) -> Result<Vec<u8>, (u32, usize)> {
+    let mut room = vec![0; 4096];
+    loop {
+        let mut told = Issued::default();
+        let fault = write(room.as_mut_ptr(), room.len(), &mut told);
+        answered(fault, ()).map_err(|fault| (fault, told.index as usize))?;
+        let is_whole = told.count as usize <= room.len();
+        room.resize(told.count as usize, 0);
+        if is_whole {
+            return Ok(room);
+        }
+    }
+}
+
+/// What is to be signed, or a fault and its place.
+pub fn prepare(wanted: &Wanted<'_>) -> Result<Vec<u8>, (u32, usize)> {
+    let strings = wanted.issuer.strings();
+    let addresses = |of: &(u32, Vec<IpRange>)| CAddresses {
+        ranges: of.1.as_ptr(),
+        count: of.1.len(),
+        state: of.0,
+    };
+    let asked = CWanted {
+        size: size_of::<CWanted>(),
+        issuer: wanted.issuer.lent(&strings),
+        key: octets_of(wanted.key),
+        v4: addresses(&wanted.v4),
+        v6: addresses(&wanted.v6),
+        asn: CAsNumbers {
+            ranges: wanted.asn.1.as_ptr(),
+            count: wanted.asn.1.len(),
+            state: wanted.asn.0,
+        },
+        uris: wanted.uris.map(octets_of),
+        not_before: wanted.not_before,
+        not_after: wanted.not_after,
+        serial: wanted.serial,
+        kind: wanted.kind,
+        overclaim: wanted.trims.into(),
+    };
+    issued(|out, room, told| unsafe { rpki_prepare(&asked, out, room, told) })
+}
+
+/// The certificate, or a fault and its place.
+pub fn complete(completion: &Completion<'_>) -> Result<Vec<u8>, (u32, usize)> {
+    let strings = completion.issuer.strings();
+    let asked = CCompletion {
+        size: size_of::<CCompletion>(),
+        issuer: completion.issuer.lent(&strings),
+        prepared: octets_of(completion.prepared),
+        signature: octets_of(completion.signature),
+        kind: completion.kind,
+    };
+    issued(|out, room, told| unsafe { rpki_complete(&asked, out, room, told) })
 }

@@ -1,3 +1,4 @@
+mod AnsweredWants
 mod Cutting
 mod EntriesPut
 mod FatesFound
@@ -10,4 +11,7 @@ mod SaidBefore
 mod Sentences
 mod SortedMore
 mod Unread
+mod WantedBlocks
+mod WantedTermsGiven
+mod WantedValues
 mod Writings

@@ -7,7 +7,7 @@ use Rattle.rpki_c.specs.Questions.{question_size, kind_number, choice_number, Ha
 use Rattle.rpki_c.specs.TimeParts.{moment_of_parts}
 use Rattle.rpki_c.specs.declared.question.RpkiQuestion.{RpkiQuestion}
 
-kind_small : (k : Kind) → kind_number k < 5
+pub kind_small : (k : Kind) → kind_number k < 5
 kind_small Anchor = omega arith
 kind_small Authority = omega arith
 kind_small EndEntity = omega arith

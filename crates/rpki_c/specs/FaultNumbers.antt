@@ -10,16 +10,27 @@ use Rattle.rpki_der.specs.declared.error.DecodeError.TheVariants as decoding
 use Rattle.rpki_ext.specs.Inspection.{inspection_error_name}
 use Rattle.rpki_ext.specs.declared.inspection.InspectionError.{InspectionError}
 use Rattle.rpki_cert.specs.Verification.{verification_error_name}
+use Rattle.rpki_cert.specs.declared.validation_error.ValidationError.TheVariants as validation
 use Rattle.rpki_cert.specs.declared.verification_error.VerificationError.{VerificationError}
 use Rattle.rpki_crl.specs.Revocation.{revocation_error_name}
 use Rattle.rpki_crl.specs.declared.revocation_error.RevocationError.{RevocationError}
+use Rattle.rpki_issuing.specs.declared.issuing_error.IssuingError.{IssuingError}
+use Rattle.rpki_issuing.specs.declared.issuing_error.IssuingError.TheVariants as issuing
+use Rattle.rpki_issuing.specs.declared.list_error.ListError.{ListError}
+use Rattle.rpki_issuing.specs.declared.list_error.ListError.TheVariants as listing
+use Rattle.rpki_issuing.specs.declared.next.NextListError.{NextListError}
+use Rattle.rpki_issuing.specs.declared.next.NextListError.TheVariants as next
 use Rattle.rpki_tal.specs.TalErrors.{tal_error_name}
 use Rattle.rpki_tal.specs.declared.tal_error.TalError.{TalError}
 use Rattle.rpki_path.specs.declared.path_fault.PathFault.{PathFault}
 use Rattle.rpki_path.specs.declared.path_fault.PathFault.TheVariants as path
+use Rattle.rpki_wanted.specs.declared.preparing.WantedError.{WantedError}
+use Rattle.rpki_wanted.specs.declared.preparing.WantedError.TheVariants as wanted
 use Rattle.rpki_c.specs.declared.faults.Fault.{Fault}
 use Rattle.rpki_c.specs.declared.refusal.Refusal.{Refusal}
 use Rattle.rpki_c.specs.declared.refusal.Refusal.TheVariants as refusal
+use Rattle.rpki_c.specs.declared.unissued.Unissued.{Unissued}
+use Rattle.rpki_c.specs.declared.unissued.Unissued.TheVariants as unissued
 
 -- ---- the table
 
@@ -119,7 +130,15 @@ fault_rows =
     fault 701 "BadUri" "bad URI" ∷
     fault 702 "NoUri" "no URI" ∷
     fault 703 "NoKey" "no key" ∷
-    fault 704 "BadKey" "bad key" ∷ []
+    fault 704 "BadKey" "bad key" ∷
+    fault 800 "NoKey" "no public key" ∷
+    fault 801 "UnusedKey" "a key that the RPKI doesn't use" ∷
+    fault 802 "BadUri" "bad URI" ∷
+    fault 803 "NoName" "the subject would have no name" ∷
+    fault 804 "Unwritable" "fields of no certificate" ∷
+    fault 805 "TooLong" "content too long" ∷
+    fault 806 "NotToSign" "not what is to be signed" ∷
+    fault 807 "OtherOctets" "not the octets that are prepared of the fields" ∷ []
 
 -- the names of parts, by their numbers
 unfoldable pub field_names : List (List ℕ)
@@ -203,3 +222,47 @@ refusal_number (refusal.Locator e) = locator_number e
 refusal_number refusal.OtherKey = 601
 refusal_number (refusal.List place e) = decode_number e
 refusal_number (refusal.Member e) = path_number e.fault
+
+-- why a certificate isn't ready to be signed, or its signature isn't taken
+abbrev pub issuing_number : IssuingError → ℕ
+issuing_number issuing.Unwritable = 804
+issuing_number issuing.TooLong = 805
+issuing_number (issuing.Invalid (validation.Inspection e)) = inspection_number e
+issuing_number (issuing.Invalid (validation.Verification e)) = verification_number e
+issuing_number issuing.Memory = 1
+
+-- why a list isn't ready to be signed, or its signature isn't taken
+abbrev pub list_number : ListError → ℕ
+list_number (listing.Invalid e) = revocation_number e
+list_number listing.TooLong = 805
+list_number listing.Memory = 1
+
+-- why no such list follows another
+abbrev pub next_list_number : NextListError → ℕ
+next_list_number next.Memory = 1
+next_list_number _ = 2
+
+-- why what is wanted isn't prepared or completed; no call in C asks for a list, so none tells the
+-- faults of lists
+abbrev pub wanted_number : WantedError → ℕ
+wanted_number wanted.NoRole = 2
+wanted_number (wanted.Unready e) = issuing_number e
+wanted_number wanted.OtherOctets = 807
+wanted_number (wanted.Unsigned e) = issuing_number e
+wanted_number (wanted.NoList e) = next_list_number e
+wanted_number (wanted.UnreadyList e) = list_number e
+wanted_number (wanted.UnsignedList e) = list_number e
+wanted_number wanted.Memory = 1
+
+-- why no certificate is prepared or completed
+abbrev pub unissued_number : Unissued → ℕ
+unissued_number unissued.BadCall = 2
+unissued_number unissued.Memory = 1
+unissued_number (unissued.Issuer r) = refusal_number r
+unissued_number unissued.NoKey = 800
+unissued_number unissued.UnusedKey = 801
+unissued_number (unissued.BadUri which) = 802
+unissued_number unissued.NoName = 803
+unissued_number unissued.NotToSign = 806
+unissued_number unissued.OtherName = 600
+unissued_number (unissued.Unfit e) = wanted_number e

@@ -6,9 +6,12 @@ pub mod FaultTexts
 pub mod FolderFates
 pub mod FolderQuestions
 pub mod FolderTelling
+pub mod IssuedTelling
 pub mod Questions
 pub mod Strings
 pub mod Telling
 pub mod TimeParts
 pub mod Verdicts
+pub mod WantedAnswers
+pub mod WantedQuestions
 pub mod Writing

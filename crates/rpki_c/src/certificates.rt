@@ -306,13 +306,32 @@ pub extern "C" fn rpki_certificate_as_numbers(
 
 /// A URI of a certificate.
 #[derive(Clone, Copy)]
-enum CertUri {
+pub(crate) enum CertUri {
     CaIssuer,
     Crl,
     Repository,
     Manifest,
     SignedObject,
     Notify,
+}
+
+impl CertUri {
+    ghost use Rattle.std.specs.Prelude.{◌≡◌};
+    ghost use Rattle.rpki_c.specs.Choices.{uri_number};
+
+    /// Returns the number that the header gives it.
+    pub(crate) fn number(self) -> u32
+        ensures { result ≡ uri_number self }
+    {
+        match self {
+            CertUri::CaIssuer => 0,
+            CertUri::Crl => 1,
+            CertUri::Repository => 2,
+            CertUri::Manifest => 3,
+            CertUri::SignedObject => 4,
+            CertUri::Notify => 5,
+        }
+    }
 }
 
 // The URI that the header numbers so.

@@ -12,15 +12,18 @@ ghost use Rattle.rpki_crl.specs.Revocation.{revocation_error_name};
 ghost use Rattle.rpki_crl.specs.declared.revocation_error.RevocationError.{RevocationError as revocations};
 ghost use Rattle.rpki_tal.specs.TalErrors.{tal_error_name};
 ghost use Rattle.rpki_tal.specs.declared.tal_error.TalError.{TalError as locators};
-ghost use Rattle.rpki_c.specs.FaultNumbers.{fault_fields, fault_rows, field_names, field_number, is_among as among, number_in, number_named, decode_number, inspection_number, verification_number, revocation_number, locator_number, path_number, refusal_number};
+ghost use Rattle.rpki_c.specs.FaultNumbers.{fault_fields, fault_rows, field_names, field_number, is_among as among, number_in, number_named, decode_number, inspection_number, verification_number, revocation_number, locator_number, path_number, refusal_number, issuing_number, list_number, next_list_number, wanted_number, unissued_number};
 ghost use Rattle.rpki_c.specs.FaultTexts.{name_told};
 
 use crate::refusal::Refusal;
-use rpki_cert::{InspectionError, VerificationError};
+use crate::unissued::Unissued;
+use rpki_cert::{InspectionError, ValidationError, VerificationError};
 use rpki_crl::RevocationError;
 use rpki_der::{DecodeError, Field};
+use rpki_issuing::{IssuingError, ListError, NextListError};
 use rpki_path::PathFault;
 use rpki_tal::TalError;
+use rpki_wanted::WantedError;
 
 /// No fault.
 pub(crate) const NONE: u32 = 0;
@@ -32,6 +35,22 @@ pub(crate) const BAD_CALL: u32 = 2;
 pub(crate) const OTHER_NAME: u32 = 600;
 /// The trust anchor's key isn't the locator's.
 pub(crate) const OTHER_KEY: u32 = 601;
+// No key is given.
+const NO_KEY: u32 = 800;
+// The RPKI doesn't use the key.
+const UNUSED_KEY: u32 = 801;
+// The octets of a URI are none.
+const BAD_URI: u32 = 802;
+// The subject would have no name.
+const NO_NAME: u32 = 803;
+// No certificate has the fields.
+const UNWRITABLE: u32 = 804;
+// The certificate would be too long.
+const TOO_LONG: u32 = 805;
+// What was signed is none of what is to be signed.
+const NOT_TO_SIGN: u32 = 806;
+// What was signed isn't what is prepared of its fields.
+const OTHER_OCTETS: u32 = 807;
 
 /// A fault: its number, its name in the library and its sentence. If it speaks of a part of a
 /// certificate or list, the part's number is added to its number, and the part's name stands between
@@ -57,7 +76,7 @@ macro_rules! table {
 }
 
 // All faults. No sentence has the identifier that a fault names.
-const FAULTS: [Fault; 68] = table! {
+const FAULTS: [Fault; 76] = table! {
     0 "None" "no fault",
     1 "Memory" "out of memory",
     2 "BadCall" "lengths or numbers of the call don't fit",
@@ -126,6 +145,14 @@ const FAULTS: [Fault; 68] = table! {
     702 "NoUri" "no URI",
     703 "NoKey" "no key",
     704 "BadKey" "bad key",
+    800 "NoKey" "no public key",
+    801 "UnusedKey" "a key that the RPKI doesn't use",
+    802 "BadUri" "bad URI",
+    803 "NoName" "the subject would have no name",
+    804 "Unwritable" "fields of no certificate",
+    805 "TooLong" "content too long",
+    806 "NotToSign" "not what is to be signed",
+    807 "OtherOctets" "not the octets that are prepared of the fields",
 };
 
 // The names of parts, by their numbers.
@@ -247,6 +274,26 @@ pub(crate) fn of_inspection(error: InspectionError) -> u32
     named(3, error.name())
 }
 
+// The number of a fault of verification.
+fn of_verification(error: &VerificationError) -> u32
+    ensures number { result ≡ verification_number error.now }
+    ensures fault { result ≢ NONE }
+    ensures no_bad_call { result ≢ BAD_CALL }
+    ensures small { result < 500 }
+{
+    named(4, error.name())
+}
+
+// The number of a fault of revocation.
+fn of_revocation(error: &RevocationError) -> u32
+    ensures number { result ≡ revocation_number error.now }
+    ensures fault { result ≢ NONE }
+    ensures no_bad_call { result ≢ BAD_CALL }
+    ensures small { result < 600 }
+{
+    named(5, error.name())
+}
+
 /// The number of a fault of a path's member.
 pub(crate) fn of_path(fault: &PathFault) -> u32
     ensures number { result ≡ path_number fault.now }
@@ -257,8 +304,8 @@ pub(crate) fn of_path(fault: &PathFault) -> u32
     match fault {
         PathFault::Decode(error) => of_decoding(error),
         PathFault::Inspect(error) => of_inspection(*error),
-        PathFault::Verify(error) => named(4, error.name()),
-        PathFault::Revocation(error) => named(5, error.name()),
+        PathFault::Verify(error) => of_verification(error),
+        PathFault::Revocation(error) => of_revocation(error),
         PathFault::Memory => MEMORY,
     }
 }
@@ -275,6 +322,77 @@ pub(crate) fn of_refusal(refusal: &Refusal) -> u32
         Refusal::OtherKey => OTHER_KEY,
         Refusal::List(_, error) => of_decoding(error),
         Refusal::Member(error) => of_path(&error.fault),
+    }
+}
+
+// The number of why a certificate isn't ready to be signed, or its signature isn't taken.
+fn of_issuing(error: &IssuingError) -> u32
+    ensures number { result ≡ issuing_number error.now }
+    ensures fault { result ≢ NONE }
+{
+    match error {
+        IssuingError::Unwritable => UNWRITABLE,
+        IssuingError::TooLong => TOO_LONG,
+        IssuingError::Invalid(ValidationError::Inspection(fault)) => of_inspection(*fault),
+        IssuingError::Invalid(ValidationError::Verification(fault)) => of_verification(fault),
+        IssuingError::Memory => MEMORY,
+    }
+}
+
+// The number of why a list isn't ready to be signed, or its signature isn't taken.
+fn of_list(error: &ListError) -> u32
+    ensures number { result ≡ list_number error.now }
+    ensures fault { result ≢ NONE }
+{
+    match error {
+        ListError::Invalid(fault) => of_revocation(fault),
+        ListError::TooLong => TOO_LONG,
+        ListError::Memory => MEMORY,
+    }
+}
+
+// The number of why no such list follows another.
+fn of_next_list(error: &NextListError) -> u32
+    ensures number { result ≡ next_list_number error.now }
+    ensures fault { result ≢ NONE }
+{
+    match error {
+        NextListError::Memory => MEMORY,
+        _ => BAD_CALL,
+    }
+}
+
+// The number of why what is wanted isn't prepared or completed.
+fn of_wanted(error: &WantedError) -> u32
+    ensures number { result ≡ wanted_number error.now }
+    ensures fault { result ≢ NONE }
+{
+    match error {
+        WantedError::NoRole => BAD_CALL,
+        WantedError::Unready(error) | WantedError::Unsigned(error) => of_issuing(error),
+        WantedError::OtherOctets => OTHER_OCTETS,
+        WantedError::NoList(error) => of_next_list(error),
+        WantedError::UnreadyList(error) | WantedError::UnsignedList(error) => of_list(error),
+        WantedError::Memory => MEMORY,
+    }
+}
+
+/// The number of why no certificate is prepared or completed.
+pub(crate) fn of_unissued(why: &Unissued) -> u32
+    ensures number { result ≡ unissued_number why.now }
+    ensures fault { result ≢ NONE }
+{
+    match why {
+        Unissued::BadCall => BAD_CALL,
+        Unissued::Memory => MEMORY,
+        Unissued::Issuer(refusal) => of_refusal(refusal),
+        Unissued::NoKey => NO_KEY,
+        Unissued::UnusedKey => UNUSED_KEY,
+        Unissued::BadUri(_) => BAD_URI,
+        Unissued::NoName => NO_NAME,
+        Unissued::NotToSign => NOT_TO_SIGN,
+        Unissued::OtherName => OTHER_NAME,
+        Unissued::Unfit(error) => of_wanted(error),
     }
 }
 

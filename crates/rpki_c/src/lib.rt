@@ -5,24 +5,31 @@
 
 mod answers;
 mod certificates;
+mod completing;
 mod copying;
 mod faults;
 mod folder_lines;
 mod folder_question;
 mod folders;
+mod issuer;
+mod issuing;
 mod judging;
 mod lists;
 mod locators;
 mod moments;
 mod names;
 mod paths;
+mod preparing;
 mod question;
 mod refusal;
 mod signatures;
 mod sorting;
 mod strings;
 mod telling;
+mod unissued;
+mod values;
 mod walking;
+mod wanted;
 
 /// Tells the number of this interface. It grows with each change that a caller has to follow.
 #[unsafe(no_mangle)]

@@ -1,135 +1,104 @@
 #!/bin/sh
-# Makes the certificates and revocation lists of this folder anew, with new keys, by OpenSSL 3:
+# Makes certificates and revocation lists like those of this folder, with new keys of OpenSSL's, by
+# `rpki prepare` and `rpki complete`:
 #   anchor.cer          a trust anchor that lists 10.0.0.0/8, 2001:db8::/32 and AS 64496 to 64511
 #   anchor.tal          its locator (RFC 8630)
 #   first.cer           a CA below it that lists a part of that; first.crl, the anchor's list
 #   second.cer          a CA below first.cer that inherits; second.crl, the list of first.cer
 #   object.cer          an end entity below second.cer; object.crl, the list of second.cer
-#   revoked.crl         a list of first.cer that revokes second.cer
+#   revoked.crl         the next list of first.cer, which revokes second.cer
 #   tampered.cer        second.cer with one bit of its serial number changed
-# The keys stay in a temporary folder and are lost. Moments are fixed: 2026-01-01 to 2036-01-01.
+#
+#     make.sh FOLDER
+#
+# The command is that of the variable RPKI, or the script ../../../rpki. The keys stay in a temporary
+# folder and are lost. Moments are fixed: 2026-01-01 to 2036-01-01.
+# shellcheck disable=SC2046 # what functions print are several words
 set -eu
-here=$(cd "$(dirname "$0")" && pwd)
+[ $# -eq 1 ] || {
+    echo 'usage: make.sh FOLDER' >&2
+    exit 2
+}
+top=$(cd "$(dirname "$(readlink -f "$0")")/../../.." && pwd)
+rpki=${RPKI:-$top/rpki}
+there=$(cd "$1" && pwd)
 work=$(mktemp -d)
 trap 'rm -rf "$work"' EXIT
-cd "$work"
+cd "$there"
 
-begin=20260101000000Z
-end=20360101000000Z
+begin=2026-01-01
+end=2036-01-01
 site=rsync://rpki.example.net/repo
 
-key() { openssl genrsa -out "$1.key" 2048 2> /dev/null; }
+for name in anchor first second object; do
+    openssl genrsa -out "$work/$name.key" 2048 2> /dev/null
+    openssl pkey -in "$work/$name.key" -pubout -out "$work/$name.pub"
+done
 
-# The name of a key: its identifier, as RFC 6487 4.5 advises
-name_of() { openssl rsa -in "$1.key" -RSAPublicKey_out -outform DER 2> /dev/null | openssl sha1 -r | cut -c1-40 | tr a-f A-F; }
-
-# Extensions: of a CA with these resources and URIs, or of an end entity
-extensions() { # NAME ISSUER LIST IP AS
-    cat << END
-subjectKeyIdentifier = hash
-basicConstraints = critical,CA:TRUE
-keyUsage = critical,keyCertSign,cRLSign
-certificatePolicies = critical,1.3.6.1.5.5.7.14.2
-subjectInfoAccess = caRepository;URI:$site/$1/,1.3.6.1.5.5.7.48.10;URI:$site/$1/$1.mft,1.3.6.1.5.5.7.48.13;URI:https://rpki.example.net/notification.xml
-sbgp-ipAddrBlock = critical,$4
-sbgp-autonomousSysNum = critical,$5
-END
-    [ -z "$2" ] || below "$2" "$3"
-}
-
-object_extensions() { # NAME ISSUER LIST
-    cat << END
-subjectKeyIdentifier = hash
-keyUsage = critical,digitalSignature
-certificatePolicies = critical,1.3.6.1.5.5.7.14.2
-subjectInfoAccess = 1.3.6.1.5.5.7.48.11;URI:$site/$2/$1.roa
-sbgp-ipAddrBlock = critical,IPv4:10.1.2.0/24
-END
-    below "$2" "$3"
-}
-
-below() { # ISSUER LIST
-    cat << END
-authorityKeyIdentifier = keyid:always
-authorityInfoAccess = caIssuers;URI:$site/$1.cer
-crlDistributionPoints = URI:$site/$1/$2.crl
-END
-}
-
-# Signs NAME's key under ISSUER, with the serial number and the extensions on standard input
-sign() { # NAME ISSUER SERIAL
-    cat > "$1.ext"
-    cat > "$1.cnf" << END
-[ca]
-default_ca = here
-[here]
-new_certs_dir = $work
-database = $work/$1.db
-serial = $work/$1.serial
-default_md = sha256
-policy = any
-unique_subject = no
-email_in_dn = no
-[any]
-commonName = supplied
-[req]
-distinguished_name = dn
-string_mask = pkix
-prompt = no
-[dn]
-CN = $(name_of "$1")
-END
-    : > "$1.db"
-    echo "$3" > "$1.serial"
-    openssl req -new -key "$1.key" -config "$1.cnf" -out "$1.csr"
-    if [ "$1" = "$2" ]; then as="-selfsign"; else as="-cert $2.pem"; fi
-    # shellcheck disable=SC2086
-    openssl ca -batch -notext -config "$1.cnf" -in "$1.csr" -keyfile "$2.key" $as -startdate $begin \
-        -enddate $end -extfile "$1.ext" -preserveDN -out "$1.pem" 2> /dev/null
-    openssl x509 -in "$1.pem" -outform DER -out "$here/$1.cer"
-}
-
-# The list of ISSUER, with serial numbers that it revokes
-list() { # FILE ISSUER NUMBER [SERIAL]..
-    file=$1 issuer=$2 number=$3
+# Has a key sign what was prepared, and completes it at a moment below the files
+finish() { # FILE SIGNER MOMENT [--issuer FILE]..
+    file=$1 signer=$2 at=$3
     shift 3
-    cat > list.cnf << END
-[ca]
-default_ca = here
-[here]
-database = $work/list.db
-crlnumber = $work/list.number
-default_md = sha256
-[more]
-authorityKeyIdentifier = keyid:always
-END
-    : > list.db
-    for serial; do
-        printf 'R\t360101000000Z\t260201000000Z\t%s\tunknown\t/CN=x\n' "$serial" >> list.db
-    done
-    echo "$number" > list.number
-    openssl ca -gencrl -config list.cnf -crlexts more -cert "$issuer.pem" -keyfile "$issuer.key" \
-        -crl_lastupdate $begin -crl_nextupdate $end -out list.pem 2> /dev/null
-    openssl crl -in list.pem -outform DER -out "$here/$file"
+    openssl dgst -sha256 -sign "$work/$signer.key" -out "$work/sig" "$work/tbs"
+    "$rpki" complete --at "$at" "$@" --out "$file" --force "$work/tbs" "$work/sig"
 }
 
-for name in anchor first second object; do key $name; done
-extensions anchor '' '' IPv4:10.0.0.0/8,IPv6:2001:db8::/32 AS:64496-64511 | sign anchor anchor 01
-extensions first anchor anchor IPv4:10.0.0.0/12,IPv4:10.32.0.0-10.40.255.255,IPv6:2001:db8::/40 AS:64500-64503,AS:64510 | sign first anchor 02
-extensions second first first IPv4:inherit,IPv6:inherit AS:inherit | sign second first 03
-object_extensions object second second | sign object second 04
+# Makes a certificate, of the subject's name and number, below the files of the signer
+certificate() { # NAME KIND SERIAL SIGNER OPTION..
+    name=$1 kind=$2 serial=$3 signer=$4
+    shift 4
+    "$rpki" prepare "$kind" --key "$work/$name.pub" --serial "$serial" --from $begin --until $end \
+        --at $begin $(above "$signer") "$@" --out "$work/tbs" --force
+    finish "$name.cer" "${signer:-$name}" $begin $(above "$signer")
+}
+
+# Makes a list of an issuer
+list() { # FILE ISSUER MOMENT OPTION..
+    file=$1 issuer=$2 at=$3
+    shift 3
+    "$rpki" prepare list --at "$at" --next-update $end $(above "$issuer") "$@" --out "$work/tbs" \
+        --force
+    finish "$file" "$issuer" "$at" $(above "$issuer")
+}
+
+# The path down to an issuer
+above() { # ISSUER
+    case $1 in
+        anchor) echo --issuer anchor.cer ;;
+        first) echo --issuer anchor.cer --issuer first.cer ;;
+        second) echo --issuer anchor.cer --issuer first.cer --issuer second.cer ;;
+    esac
+}
+
+# Where a CA publishes, and where its issuer's certificate and list are
+places() { # NAME
+    echo --repository "$site/$1/" --manifest "$site/$1/$1.mft" \
+        --notify https://rpki.example.net/notification.xml
+}
+issuer_places() { # ISSUER
+    echo --issuer-uri "$site/$1.cer" --crl-uri "$site/$1/$1.crl"
+}
+
+certificate anchor anchor 01 '' $(places anchor) --ipv4 10.0.0.0/8 --ipv6 2001:db8::/32 \
+    --as 64496-64511
+certificate first ca 02 anchor $(places first) $(issuer_places anchor) --ipv4 10.0.0.0/12 \
+    --ipv4 10.32.0.0-10.40.255.255 --ipv6 2001:db8::/40 --as 64500-64503 --as 64510
+certificate second ca 03 first $(places second) $(issuer_places first) --ipv4 inherit \
+    --ipv6 inherit --as inherit
+certificate object ee 04 second $(issuer_places second) --ipv4 10.1.2.0/24 \
+    --object "$site/second/object.roa"
 {
-    printf '# The trust anchor of these examples\n%s\n%s\n\n' https://rpki.example.net/repo/anchor.cer "$site/anchor.cer"
-    openssl x509 -in anchor.pem -noout -pubkey | sed '/^-/d'
-} > "$here/anchor.tal"
-list first.crl anchor 01
-list second.crl first 01
-list object.crl second 01
-list revoked.crl first 02 03
-python3 - "$here" << 'END'
-import sys
-octets = bytearray(open(sys.argv[1] + "/second.cer", "rb").read())
+    printf '# The trust anchor of these examples\n%s\n%s\n\n' \
+        https://rpki.example.net/repo/anchor.cer "$site/anchor.cer"
+    sed '/^-/d' "$work/anchor.pub"
+} > anchor.tal
+list first.crl anchor $begin
+list second.crl first $begin
+list object.crl second $begin
+list revoked.crl first 2026-02-01 --previous second.crl --revoke second.cer
+python3 - << 'END'
+octets = bytearray(open("second.cer", "rb").read())
 place = octets.index(bytes.fromhex("a003020102020103")) + 7
 octets[place] ^= 1
-open(sys.argv[1] + "/tampered.cer", "wb").write(octets)
+open("tampered.cer", "wb").write(octets)
 END

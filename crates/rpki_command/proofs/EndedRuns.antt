@@ -128,20 +128,20 @@ as_misuse Ends (Ok WrongUse) ends told = ends
 as_misuse Ends (Ok Unread) ends told = cc
 as_misuse Ends (Err why) ends told = cc
 
-module _ {E F : Type 0} (Ran : Outcome → List ℕ → Type 0) (Wrote : Ended → List ℕ → Type 0) where
-  settled_ends : (ran : Result Ended E) (settled : Result Outcome F) → IfOk ran (λ e. (text : List ℕ) × Ran e.outcome text × Wrote e text) → IfOk settled (λ outcome. IsOkAnd ran (λ e. outcome ≡ e.outcome)) → IfOk settled (λ outcome. (text : List ℕ) × Ran outcome text)
+module _ {E F T : Type 0} (Ran : Outcome → T → Type 0) (Wrote : Ended → T → Type 0) where
+  settled_ends : (ran : Result Ended E) (settled : Result Outcome F) → IfOk ran (λ e. (output : T) × Ran e.outcome output × Wrote e output) → IfOk settled (λ outcome. IsOkAnd ran (λ e. outcome ≡ e.outcome)) → IfOk settled (λ outcome. (output : T) × Ran outcome output)
   settled_ends (Ok e) (Ok outcome) ends same = (ends.0, subst (λ (o : Outcome). Ran o ends.0) (sym same) ends.1)
   settled_ends (Err why) (Ok outcome) ends same = absurd same
   settled_ends ran (Err why) ends same = tt
 
   -- where it is 2
-  pub told_misuse : (ran : Result Ended E) (settled : Result Outcome F) → IfOk ran (λ e. (text : List ℕ) × Ran e.outcome text × Wrote e text) → IfOk settled (λ outcome. IsOkAnd ran (λ e. outcome ≡ e.outcome)) → run_status settled ≡ 2 → (text : List ℕ) × Ran WrongUse text
-  told_misuse ran settled ends same told = as_misuse (λ outcome. (text : List ℕ) × Ran outcome text) settled (settled_ends ran settled ends same) told
+  pub told_misuse : (ran : Result Ended E) (settled : Result Outcome F) → IfOk ran (λ e. (output : T) × Ran e.outcome output × Wrote e output) → IfOk settled (λ outcome. IsOkAnd ran (λ e. outcome ≡ e.outcome)) → run_status settled ≡ 2 → (output : T) × Ran WrongUse output
+  told_misuse ran settled ends same told = as_misuse (λ outcome. (output : T) × Ran outcome output) settled (settled_ends ran settled ends same) told
 
   -- where it is 0
-  pub told_success : (ran : Result Ended E) (settled : Result Outcome F) → IfOk ran (λ e. (text : List ℕ) × Ran e.outcome text × Wrote e text) → IfOk settled (λ outcome. IsOkAnd ran (λ e. outcome ≡ e.outcome)) → run_status settled ≡ 0 → (text : List ℕ) × Ran Success text
-  told_success ran settled ends same told = as_success (λ outcome. (text : List ℕ) × Ran outcome text) settled (settled_ends ran settled ends same) told
+  pub told_success : (ran : Result Ended E) (settled : Result Outcome F) → IfOk ran (λ e. (output : T) × Ran e.outcome output × Wrote e output) → IfOk settled (λ outcome. IsOkAnd ran (λ e. outcome ≡ e.outcome)) → run_status settled ≡ 0 → (output : T) × Ran Success output
+  told_success ran settled ends same told = as_success (λ outcome. (output : T) × Ran outcome output) settled (settled_ends ran settled ends same) told
 
   -- where it is 1
-  pub told_rejection : (ran : Result Ended E) (settled : Result Outcome F) → IfOk ran (λ e. (text : List ℕ) × Ran e.outcome text × Wrote e text) → IfOk settled (λ outcome. IsOkAnd ran (λ e. outcome ≡ e.outcome)) → run_status settled ≡ 1 → (text : List ℕ) × Ran Rejection text
-  told_rejection ran settled ends same told = as_rejection (λ outcome. (text : List ℕ) × Ran outcome text) settled (settled_ends ran settled ends same) told
+  pub told_rejection : (ran : Result Ended E) (settled : Result Outcome F) → IfOk ran (λ e. (output : T) × Ran e.outcome output × Wrote e output) → IfOk settled (λ outcome. IsOkAnd ran (λ e. outcome ≡ e.outcome)) → run_status settled ≡ 1 → (output : T) × Ran Rejection output
+  told_rejection ran settled ends same told = as_rejection (λ outcome. (output : T) × Ran outcome output) settled (settled_ends ran settled ends same) told

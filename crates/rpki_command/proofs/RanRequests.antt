@@ -1,25 +1,35 @@
--- A run is that of a request, or that of a command line.
-use Rattle.std.specs.Prelude.{Option, Result, Ok, Err, IfOk}
-use Rattle.std.proofs.Common.{◌≡◌, ℕ, List, inl, inr}
+-- A run is that of a request, or that of a command line; and a request asks how the command is used, or
+-- something else.
+use Rattle.std.specs.Io.KnownBytes.{Appends}
+use Rattle.std.specs.Prelude.{Option, Result, Ok, Err, IfOk, OnOk}
+use Rattle.std.proofs.Common.{◌≡◌, ℕ, List, inl, inr, refl}
 use Rattle.rpki.specs.Times.{Moment}
 use Rattle.rpki_command.specs.ListedFolders.{Lists}
 use Rattle.rpki_command.specs.Messages.{SaysLineMisuse, SaysRequestMisuse}
+use Rattle.rpki_command.specs.Outputs.{MadeFile, Makes, Output, only_text}
 use Rattle.rpki_command.specs.ReadFiles.{Reads}
-use Rattle.rpki_command.specs.RequestRuns.{RequestEnds}
+use Rattle.rpki_command.specs.RequestRuns.{RequestEnds, WordsEnd}
 use Rattle.rpki_command.specs.Runs.{LineEnds, RunEnds, SaysMisuse}
 use Rattle.rpki_command.specs.declared.outcomes.Ended.{Ended}
 use Rattle.rpki_command.specs.declared.outcomes.Outcome.TheVariants.{WrongUse}
-use Rattle.rpki_requests.specs.RequestWords.{BeginsRequest}
+use Rattle.rpki_command.proofs.WrittenTexts.{makes_none}
+use Rattle.rpki_requests.specs.RequestWords.{AsksHelp, BeginsRequest}
 
 module _ {E : Type 0} (words : List (List ℕ)) where
-  module _ (reads : Reads) (lists : Lists) (tells : Moment → Type 0) (Wrote : Ended → List ℕ → Type 0) where
-    pub request_ran : BeginsRequest words → (ran : Result Ended E) → IfOk ran (λ e. (text : List ℕ) × RequestEnds reads tells words e.outcome text × Wrote e text) → IfOk ran (λ e. (text : List ℕ) × RunEnds reads lists tells words e.outcome text × Wrote e text)
-    request_ran begins (Ok e) (text, ends, wrote) = (text, inl (begins, ends), wrote)
-    request_ran begins (Err why) _ = tt
+  module _ (reads : Reads) (lists : Lists) (tells : Moment → Type 0) where
+    module _ (Put : Ended → Output → Type 0) where
+      pub request_ran : BeginsRequest words → (ran : Result Ended E) → IfOk ran (λ e. (output : Output) × RequestEnds reads tells words e.outcome output × Put e output) → IfOk ran (λ e. (output : Output) × RunEnds reads lists tells words e.outcome output × Put e output)
+      request_ran begins (Ok e) (output, ends, put) = (output, inl (begins, ends), put)
+      request_ran begins (Err why) _ = tt
 
-    pub line_ran : (BeginsRequest words → ⊥) → (ran : Result Ended E) → IfOk ran (λ e. (text : List ℕ) × LineEnds reads lists tells words e.outcome text × Wrote e text) → IfOk ran (λ e. (text : List ℕ) × RunEnds reads lists tells words e.outcome text × Wrote e text)
-    line_ran another (Ok e) (text, ends, wrote) = (text, inr (another, ends), wrote)
-    line_ran another (Err why) _ = tt
+      pub words_ran : (AsksHelp words → ⊥) → (ran : Result Ended E) → IfOk ran (λ e. (output : Output) × WordsEnd reads tells words e.outcome output × Put e output) → IfOk ran (λ e. (output : Output) × RequestEnds reads tells words e.outcome output × Put e output)
+      words_ran no_help (Ok e) (output, ends, put) = (output, inr (no_help, ends), put)
+      words_ran no_help (Err why) _ = tt
+
+    -- a command line makes no file
+    pub line_ran : (before after : Option (List ℕ)) (made : Option (List MadeFile)) → (BeginsRequest words → ⊥) → (ran : Result Ended E) → IfOk ran (λ e. (text : List ℕ) × LineEnds reads lists tells words e.outcome text × OnOk e.written (Appends before after text)) → IfOk ran (λ e. (output : Output) × RunEnds reads lists tells words e.outcome output × OnOk e.written (Appends before after output.text) × Makes made made output.files)
+    line_ran before after made another (Ok e) (text, ends, wrote) = (only_text text, inr (another, ends, refl), wrote, makes_none made)
+    line_ran before after made another (Err why) _ = tt
 
   module _ (before after : Option (List ℕ)) where
     -- and what is said is of that

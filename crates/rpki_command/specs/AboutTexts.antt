@@ -13,6 +13,9 @@ usage_text = concat (
     ∷ codes "       rpki validate --tal FILE.. --in FOLDER.. [--no-names] [BOUND].. [OPTION].. FILE\n"
     ∷ codes "       rpki tree --tal FILE.. [BOUND].. [OPTION].. FILE|FOLDER..\n"
     ∷ codes "       rpki prepare ca|ee|detached|router|anchor [--issuer FILE].. --key FILE FIELD..\n"
+    ∷ codes "       rpki prepare list --issuer FILE.. [--previous FILE] [--number HEX]"
+    ∷ codes " --next-update MOMENT\n"
+    ∷ codes "           [--revoke FILE].. [--serial HEX]..\n"
     ∷ codes "       rpki complete [--issuer FILE].. [--pem] PREPARED SIGNATURE\n"
     ∷ codes "       rpki help | --version\n"
     ∷ codes "OPTION: -o|--output FORMAT, -j|--json (-o json), -q|--quiet (the status alone),"
@@ -33,7 +36,9 @@ usage_text = concat (
     ∷ codes " --as NUMBERS,\n"
     ∷ codes "--repository URI, --manifest URI, --notify URI, --object URI, --issuer-uri URI,"
     ∷ codes " --crl-uri URI,\n"
-    ∷ codes "or --trim; of options prepare and complete take --at and --lenient\n"
+    ∷ codes "or --trim; prepare and complete also take --crl FILE (with which the issuer's path is"
+    ∷ codes " judged), --at,\n"
+    ∷ codes "--lenient, --out FILE, and --force to overwrite it\n"
     ∷ codes "Behind -- each word is a file.\n"
     ∷ [])
 

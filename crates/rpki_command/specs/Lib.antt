@@ -22,6 +22,7 @@ pub mod JsonAnswers
 pub mod AnswerTexts
 pub mod Messages
 pub mod Moments
+pub mod Outputs
 pub mod PemTexts
 pub mod RequestRuns
 pub mod SoughtPaths

@@ -1,4 +1,4 @@
--- A certificate in PEM (RFC 7468 2, 3, 5).
+-- A certificate or a revocation list in PEM (RFC 7468 2, 3, 5, 6).
 use Rattle.std.specs.List.{flat_map}
 use Rattle.std.specs.Prelude.{◌≡◌, ◌<◌, ℕ, All, List, [], ◌∷◌, ◌++◌, length, codes}
 use Rattle.rpki.specs.Digits.{base64_of}
@@ -21,8 +21,12 @@ pub record AreInLines (digits text : List ℕ) : Type 0 where
   pub digits_are : digits ≡ flat_map (λ line. line) lines ++ rest
   pub text_is : text ≡ flat_map ended lines ++ ended_rest rest
 
--- the text is the certificate of these octets in PEM
-pub record IsCertificateText (octets text : List ℕ) : Type 0 where
+-- the line that begins or ends what has this label
+abbrev pub mark : List ℕ → List ℕ → List ℕ
+mark word label = ended (word ++ label ++ codes "-----")
+
+-- the text has these octets in PEM, under this label
+pub record IsPemText (label octets text : List ℕ) : Type 0 where
   pub lines : List ℕ
   pub lines_are : AreInLines (base64_of octets) lines
-  pub text_is : text ≡ ended (codes "-----BEGIN CERTIFICATE-----") ++ lines ++ ended (codes "-----END CERTIFICATE-----")
+  pub text_is : text ≡ mark (codes "-----BEGIN ") label ++ lines ++ mark (codes "-----END ") label

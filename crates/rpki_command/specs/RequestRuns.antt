@@ -1,17 +1,22 @@
--- How a run ends that prepares or completes a certificate, and what it writes, by what reading files
--- gives and by what a clock tells (own).
+-- How a run ends that prepares or completes a certificate or a list, and what it puts out, by what
+-- reading files gives and by what a clock tells (own).
 use Rattle.std.specs.List.{AllZip, Contains}
-use Rattle.std.specs.Prelude.{◌≡◌, ◌⊎◌, ℕ, List, [], Option, Some, Bool, true, false}
+use Rattle.std.specs.Prelude.{◌≡◌, ◌⊎◌, ℕ, List, [], Option, Some, Bool, true, codes}
 use Rattle.rpki.specs.Times.{Moment}
 use Rattle.rpki_arguments.specs.CommandLines.{usual_size}
 use Rattle.rpki_files.specs.PemFiles.{IsObjectOf}
 use Rattle.rpki_requests.specs.Fulfilment.{Fulfils}
 use Rattle.rpki_requests.specs.OptionValues.{IsMomentSaid, SaysAtMostOnce}
 use Rattle.rpki_requests.specs.RequestFiles.{InputFields}
-use Rattle.rpki_requests.specs.RequestWords.{AskedFields, GivenFields, IsRequestLine, values_of}
-use Rattle.rpki_requests.specs.declared.words.Setting.TheVariants.{At, Issuer, Key}
+use Rattle.rpki_requests.specs.RequestWords.{AskedFields, AsksHelp, GivenFields, IsRequestLine, values_of}
+use Rattle.rpki_requests.specs.declared.fulfilling.Made.{Made}
+use Rattle.rpki_requests.specs.declared.fulfilling.Made.TheVariants.{ToSign, Certificate, RevocationList}
+use Rattle.rpki_requests.specs.declared.words.Setting.{Setting}
+use Rattle.rpki_requests.specs.declared.words.Setting.TheVariants.{At, Crl, Issuer, Key, Out, Previous, Revoke}
+use Rattle.rpki_command.specs.AboutTexts.{usage_text}
 use Rattle.rpki_command.specs.Moments.{IsMomentBy}
-use Rattle.rpki_command.specs.PemTexts.{IsCertificateText}
+use Rattle.rpki_command.specs.Outputs.{Output, nothing, only_text, placed}
+use Rattle.rpki_command.specs.PemTexts.{IsPemText}
 use Rattle.rpki_command.specs.ReadFiles.{Reads, IsUnread}
 use Rattle.rpki_command.specs.declared.outcomes.Outcome.{Outcome}
 use Rattle.rpki_command.specs.declared.outcomes.Outcome.TheVariants.{Success, Rejection, WrongUse, Unread}
@@ -31,18 +36,25 @@ AreObjectsNamed reads names objects = AllZip (IsObjectNamed reads) names objects
 -- those of all files of a request
 pub record AreInputs (reads : Reads) (asked : AskedFields) (inputs : InputFields) : Type 0 where
   pub issuers_are : AreObjectsNamed reads (values_of Issuer asked.given) inputs.issuers
+  pub lists_are : AreObjectsNamed reads (values_of Crl asked.given) inputs.lists
   pub keys_are : AreObjectsNamed reads (values_of Key asked.given) inputs.keys
+  pub previous_are : AreObjectsNamed reads (values_of Previous asked.given) inputs.previous
+  pub revoked_are : AreObjectsNamed reads (values_of Revoke asked.given) inputs.revoked
   pub files_are : AreObjectsNamed reads asked.files inputs.files
 
 -- one of these files can't be read
 abbrev pub HasUnread : Reads → List (List ℕ) → Type 0
 HasUnread reads names = (name : List ℕ) × Contains names name × IsUnread reads usual_size name
 
+-- one that an option names
+abbrev pub HasUnreadOf : Reads → AskedFields → Setting → Type 0
+HasUnreadOf reads asked setting = HasUnread reads (values_of setting asked.given)
+
 -- one of a request
 abbrev pub HasUnreadInput : Reads → AskedFields → Type 0
 HasUnreadInput reads asked =
-    HasUnread reads (values_of Issuer asked.given)
-    ⊎ (HasUnread reads (values_of Key asked.given) ⊎ HasUnread reads asked.files)
+    HasUnreadOf reads asked Issuer ⊎ (HasUnreadOf reads asked Crl ⊎ (HasUnreadOf reads asked Key
+    ⊎ (HasUnreadOf reads asked Previous ⊎ (HasUnreadOf reads asked Revoke ⊎ HasUnread reads asked.files))))
 
 -- ---- the moment
 
@@ -57,44 +69,60 @@ IsMomentAsked tells given now =
 
 -- ---- how it ends
 
--- what is written of the octets: these, or the certificate that they are in PEM
-abbrev pub IsWritten : Bool → List ℕ → List ℕ → Type 0
-IsWritten false octets text = text ≡ octets
-IsWritten true octets text = IsCertificateText octets text
+-- the octets that are given
+abbrev pub octets_of : Made → List ℕ
+octets_of (ToSign octets) = octets
+octets_of (Certificate octets) = octets
+octets_of (RevocationList octets) = octets
 
--- with these files at this moment the request ends so: with what it gives, or with rejection and nothing
-abbrev pub InputsEnd : AskedFields → InputFields → Moment → Outcome → List ℕ → Type 0
-InputsEnd asked inputs now Success text =
-    (octets : List ℕ) × Fulfils asked inputs now octets × IsWritten asked.is_pem octets text
-InputsEnd asked inputs now Rejection text =
-    (text ≡ []) × ((octets : List ℕ) → Fulfils asked inputs now octets → ⊥)
-InputsEnd asked inputs now Unread text = ⊥
-InputsEnd asked inputs now WrongUse text = ⊥
+-- what is written of them: these octets, or a certificate or a list in PEM under its label (RFC 7468 5,
+-- 6)
+abbrev pub IsWritten : Bool → Made → List ℕ → Type 0
+IsWritten true (Certificate octets) text = IsPemText (codes "CERTIFICATE") octets text
+IsWritten true (RevocationList octets) text = IsPemText (codes "X509 CRL") octets text
+IsWritten _ given text = text ≡ octets_of given
+
+-- with these files at this moment the request ends so: with what it gives, on standard output or in the
+-- file that `--out` names; or with rejection and nothing
+abbrev pub InputsEnd : AskedFields → InputFields → Moment → Outcome → Output → Type 0
+InputsEnd asked inputs now Success output =
+    (given : Made) × (text : List ℕ) × Fulfils asked inputs now given × IsWritten asked.is_pem given text
+    × (output ≡ placed (values_of Out asked.given) asked.overwrites text)
+InputsEnd asked inputs now Rejection output =
+    (output ≡ nothing) × ((given : Made) → Fulfils asked inputs now given → ⊥)
+InputsEnd asked inputs now Unread output = ⊥
+InputsEnd asked inputs now WrongUse output = ⊥
 
 -- at a moment that may be asked, with the files as they are read, it ends so
-pub record ReadEnds (reads : Reads) (tells : Moment → Type 0) (asked : AskedFields) (outcome : Outcome) (text : List ℕ) : Type 0 where
+pub record ReadEnds (reads : Reads) (tells : Moment → Type 0) (asked : AskedFields) (outcome : Outcome) (output : Output) : Type 0 where
   pub now : Moment
   pub now_is : IsMomentAsked tells asked.given now
   pub inputs : InputFields
   pub inputs_are : AreInputs reads asked inputs
-  pub ends : InputsEnd asked inputs now outcome text
+  pub ends : InputsEnd asked inputs now outcome output
 
 -- `--at` has another value than a moment
 abbrev pub NamesNoMoment : List GivenFields → Type 0
 NamesNoMoment given = (named : Option Moment) → IsNamedMoment given named → ⊥
 
--- a run that asks this ends so, with this text: as its files do; with rejection also where `--at` names
--- no moment; and as unread only where a file can't be read
-abbrev pub AskedEnds : Reads → (Moment → Type 0) → AskedFields → Outcome → List ℕ → Type 0
-AskedEnds reads tells asked Success text = ReadEnds reads tells asked Success text
-AskedEnds reads tells asked Rejection text =
-    ((text ≡ []) × NamesNoMoment asked.given) ⊎ ReadEnds reads tells asked Rejection text
-AskedEnds reads tells asked Unread text = (text ≡ []) × HasUnreadInput reads asked
-AskedEnds reads tells asked WrongUse text = ⊥
+-- a run that asks this ends so, and puts this out: as its files do; with rejection also where `--at`
+-- names no moment; and as unread only where a file can't be read
+abbrev pub AskedEnds : Reads → (Moment → Type 0) → AskedFields → Outcome → Output → Type 0
+AskedEnds reads tells asked Success output = ReadEnds reads tells asked Success output
+AskedEnds reads tells asked Rejection output =
+    ((output ≡ nothing) × NamesNoMoment asked.given) ⊎ ReadEnds reads tells asked Rejection output
+AskedEnds reads tells asked Unread output = (output ≡ nothing) × HasUnreadInput reads asked
+AskedEnds reads tells asked WrongUse output = ⊥
 
--- a run on these words ends so, with this text: with wrong use and none exactly where they ask for
--- nothing to be prepared or completed, else as what they ask does
-abbrev pub RequestEnds : Reads → (Moment → Type 0) → List (List ℕ) → Outcome → List ℕ → Type 0
-RequestEnds reads tells words WrongUse text = ((asked : AskedFields) → IsRequestLine asked words → ⊥) × (text ≡ [])
-RequestEnds reads tells words outcome text =
-    (asked : AskedFields) × IsRequestLine asked words × AskedEnds reads tells asked outcome text
+-- a run on these words, which don't ask how the command is used, ends so: with wrong use and nothing
+-- exactly where they ask for nothing to be prepared or completed, else as what they ask does
+abbrev pub WordsEnd : Reads → (Moment → Type 0) → List (List ℕ) → Outcome → Output → Type 0
+WordsEnd reads tells words WrongUse output = ((asked : AskedFields) → IsRequestLine asked words → ⊥) × (output ≡ nothing)
+WordsEnd reads tells words outcome output =
+    (asked : AskedFields) × IsRequestLine asked words × AskedEnds reads tells asked outcome output
+
+-- a run on these words ends so, and puts this out: how the command is used, where they ask that
+abbrev pub RequestEnds : Reads → (Moment → Type 0) → List (List ℕ) → Outcome → Output → Type 0
+RequestEnds reads tells words outcome output =
+    (AsksHelp words × (outcome ≡ Success) × (output ≡ only_text usage_text))
+    ⊎ ((AsksHelp words → ⊥) × WordsEnd reads tells words outcome output)

@@ -11,6 +11,7 @@ use Rattle.rpki_command.specs.ListedFolders.{Lists, AreFilesOf}
 use Rattle.rpki_command.specs.Outcomes.{EndsBy}
 use Rattle.rpki_command.specs.Messages.{SaysLineMisuse, SaysRequestMisuse}
 use Rattle.rpki_command.specs.Moments.{IsMomentBy}
+use Rattle.rpki_command.specs.Outputs.{Output}
 use Rattle.rpki_command.specs.ReadFiles.{Reads, AreRead}
 use Rattle.rpki_command.specs.RequestRuns.{RequestEnds}
 use Rattle.rpki_requests.specs.RequestWords.{BeginsRequest}
@@ -87,16 +88,16 @@ LineEnds reads lists tells words outcome text =
 
 -- ---- a run
 
--- a run on these words ends so, with this text: as a request to prepare or to complete something where
--- they begin as one, else as a command line
-abbrev pub RunEnds : Reads → Lists → (Moment → Type 0) → List (List ℕ) → Outcome → List ℕ → Type 0
-RunEnds reads lists tells words outcome text =
-    (BeginsRequest words × RequestEnds reads tells words outcome text)
-    ⊎ ((BeginsRequest words → ⊥) × LineEnds reads lists tells words outcome text)
+-- a run on these words ends so, and puts this out: as a request to prepare or to complete something
+-- where they begin as one, else as a command line, which makes no file
+abbrev pub RunEnds : Reads → Lists → (Moment → Type 0) → List (List ℕ) → Outcome → Output → Type 0
+RunEnds reads lists tells words outcome output =
+    (BeginsRequest words × RequestEnds reads tells words outcome output)
+    ⊎ ((BeginsRequest words → ⊥) × LineEnds reads lists tells words outcome output.text × (output.files ≡ []))
 
--- it ends so, with some text
+-- it ends so, whatever it puts out
 abbrev pub RunEndsAs : Reads → Lists → (Moment → Type 0) → List (List ℕ) → Outcome → Type 0
-RunEndsAs reads lists tells words outcome = (text : List ℕ) × RunEnds reads lists tells words outcome text
+RunEndsAs reads lists tells words outcome = (output : Output) × RunEnds reads lists tells words outcome output
 
 -- ---- words that ask nothing
 

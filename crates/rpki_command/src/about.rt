@@ -10,6 +10,8 @@ const USAGE: &str = "usage: rpki show [--all] [OPTION].. FILE..
        rpki validate --tal FILE.. --in FOLDER.. [--no-names] [BOUND].. [OPTION].. FILE
        rpki tree --tal FILE.. [BOUND].. [OPTION].. FILE|FOLDER..
        rpki prepare ca|ee|detached|router|anchor [--issuer FILE].. --key FILE FIELD..
+       rpki prepare list --issuer FILE.. [--previous FILE] [--number HEX] --next-update MOMENT
+           [--revoke FILE].. [--serial HEX]..
        rpki complete [--issuer FILE].. [--pem] PREPARED SIGNATURE
        rpki help | --version
 OPTION: -o|--output FORMAT, -j|--json (-o json), -q|--quiet (the status alone), --at MOMENT,
@@ -24,7 +26,8 @@ LAST: a CA, an end entity or a router
 MOMENT: YYYY-MM-DD, YYYY-MM-DDThh:mm:ssZ or YYYYMMDDhhmmss; the clock's, if it is left out
 FIELD: --serial HEX, --from MOMENT, --until MOMENT, --ipv4 BLOCK, --ipv6 BLOCK, --as NUMBERS,
 --repository URI, --manifest URI, --notify URI, --object URI, --issuer-uri URI, --crl-uri URI,
-or --trim; of options prepare and complete take --at and --lenient
+or --trim; prepare and complete also take --crl FILE (with which the issuer's path is judged), --at,
+--lenient, --out FILE, and --force to overwrite it
 Behind -- each word is a file.
 ";
 

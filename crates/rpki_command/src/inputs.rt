@@ -28,7 +28,10 @@ pub struct Unreadable<'a> {
 #[derive(Drop)]
 pub struct Objects<'a> {
     pub issuers: Vec<Object<'a>>,
+    pub lists: Vec<Object<'a>>,
     pub keys: Vec<Object<'a>>,
+    pub previous: Vec<Object<'a>>,
+    pub revoked: Vec<Object<'a>>,
     pub files: Vec<Object<'a>>,
 }
 
@@ -39,7 +42,10 @@ impl<'a> Objects<'a> {
     {
         Inputs {
             issuers: &self.issuers,
+            lists: &self.lists,
             keys: &self.keys,
+            previous: &self.previous,
+            revoked: &self.revoked,
             files: &self.files,
         }
     }
@@ -71,6 +77,7 @@ fn object_named<'a, F: FileSource>(
             Ok(object) => Ok(object),
             Err(_) => Err(Unread::Memory),
         },
+        Err(Unread::TooLong(most)) => Err(Unread::AboveLimit(most)),
         Err(why) => Err(why),
     }
 }
@@ -156,11 +163,17 @@ pub fn read_inputs<'a, F: FileSource>(
         → HasUnreadInput (F.reads files.now) (asked_fields order.now)) }
 {
     let issuers = objects_of(alloc, files, order, Setting::Issuer)?;
+    let lists = objects_of(alloc, files, order, Setting::Crl)?;
     let keys = objects_of(alloc, files, order, Setting::Key)?;
+    let previous = objects_of(alloc, files, order, Setting::Previous)?;
+    let revoked = objects_of(alloc, files, order, Setting::Revoke)?;
     let others = objects_named(alloc, files, &order.files)?;
     Ok(Objects {
         issuers,
+        lists,
         keys,
+        previous,
+        revoked,
         files: others,
     })
 }

@@ -1,6 +1,6 @@
 //! The command for people, `rpki show`, `rpki validate`, `rpki tree`, `rpki prepare` and `rpki
 //! complete`: shows certificates, revocation lists and locators of files, validates paths of files,
-//! judges all certificates among files, and prepares and completes certificates.
+//! judges all certificates among files, and prepares and completes certificates and lists.
 #![tactic(auto)]
 
 ghost use Rattle.std.specs.Prelude.{◌≡◌, ◌≢◌, ◌↔◌, ◌⊎◌, ◌≤◌, IfOk, IsErr, IsErrAnd, IsOkAnd};
@@ -18,6 +18,7 @@ mod facts;
 mod files;
 mod folders;
 mod inputs;
+mod making;
 mod notes;
 pub mod outcome_laws;
 mod outcomes;
@@ -37,6 +38,7 @@ mod words;
 use anyhow::{Error, Result};
 use clock::MomentSource;
 use files::FileSource;
+use making::{FileMaker, SystemFiles};
 use outcomes::{Ended, Outcome, status_of};
 use running::run;
 use std::alloc::Global;
@@ -81,11 +83,12 @@ fn tell<E: Write>(err: &mut E, error: &Error) {
 // The exit status is 0 where all files were shown, the path or all certificates are accepted, or
 // something was prepared or completed; 1 where a file is no certificate, list or locator, the path is
 // rejected, a file given as a list or a locator is none, or nothing is prepared or completed; 2 where
-// the command line has another form; and 3 where a file can't be read, or the clock, memory or an
-// output failed.
-fn command<S: FileSource + MomentSource, O: Write, E: Write>(
+// the command line has another form; and 3 where a file can't be read or made, or the clock, memory
+// or an output failed.
+fn command<S: FileSource + MomentSource, M: FileMaker, O: Write, E: Write>(
     alloc: Global,
     system: &S,
+    files: &mut M,
     out: &mut O,
     err: &mut E,
     words: &[Vec<u8>],
@@ -98,7 +101,7 @@ fn command<S: FileSource + MomentSource, O: Write, E: Write>(
         → RunEndsAs (S.reads system.now) (S.lists system.now) (S.tells system.now) words Outcome.WrongUse }
     ensures no_other { exit_status result ≤ 3 }
 {
-    let ended = settled(run(alloc, system, out, err, words));
+    let ended = settled(run(alloc, system, files, out, err, words));
     if let Err(error) = &ended {
         tell(err, error);
     }
@@ -121,7 +124,8 @@ fn main(rt: HostRuntime) -> ExitCode {
     let mut err = rt.stderr();
     match words_of(&rt) {
         Ok(words) => {
-            let code = command(rt.alloc(), &rt, &mut out, &mut err, &words);
+            let mut files = SystemFiles { rt: &rt };
+            let code = command(rt.alloc(), &rt, &mut files, &mut out, &mut err, &words);
             drop(words);
             code
         }

@@ -1,6 +1,6 @@
-//! Certificates in PEM.
+//! Certificates and revocation lists in PEM.
 ghost use Rattle.std.specs.Prelude.{◌≡◌, ◌++◌, List, ℕ, IfOk, OnOk};
-ghost use Rattle.rpki_command.specs.PemTexts.{AreInLines, IsCertificateText, ended, ended_rest};
+ghost use Rattle.rpki_command.specs.PemTexts.{AreInLines, IsPemText, ended, ended_rest, mark};
 
 use base64::engine::general_purpose::STANDARD;
 use std::alloc::{AllocError, Global};
@@ -41,15 +41,24 @@ fn push_digits(text: &mut Vec<u8>, digits: &[u8]) -> Result<(), AllocError>
     push_rest(text, rest)
 }
 
-/// Returns the certificate of these octets in PEM.
+// Appends the line that begins or ends what has this label.
+fn push_mark(text: &mut Vec<u8>, word: &str, label: &str) -> Result<(), AllocError>
+    ensures { OnOk result (text.new.items ≡ text.old.items ++ mark word.now label.now) }
+{
+    text.extend_from_slice(word.as_bytes())?;
+    text.extend_from_slice(label.as_bytes())?;
+    push_line(text, b"-----")
+}
+
+/// Returns octets in PEM, under a label.
 #[tactic(auto, unfolding(rpki_tal::specs::Digits::base64_of))]
-pub fn certificate_text(alloc: Global, octets: &[u8]) -> Result<Vec<u8>, AllocError>
-    ensures { IfOk result (λ text. IsCertificateText octets.now text.items) }
+pub fn pem_text(alloc: Global, label: &str, octets: &[u8]) -> Result<Vec<u8>, AllocError>
+    ensures { IfOk result (λ text. IsPemText label.now octets.now text.items) }
 {
     let digits = STANDARD.encode(alloc, octets)?;
     let mut text = Vec::new(alloc);
-    push_line(&mut text, b"-----BEGIN CERTIFICATE-----")?;
+    push_mark(&mut text, "-----BEGIN ", label)?;
     push_digits(&mut text, digits.as_bytes())?;
-    push_line(&mut text, b"-----END CERTIFICATE-----")?;
+    push_mark(&mut text, "-----END ", label)?;
     Ok(text)
 }

@@ -1,27 +1,34 @@
-//! A run that prepares or completes a certificate: from its words, over files and a clock, to what
-//! it writes.
-ghost use Rattle.std.specs.Prelude.{◌≡◌, ◌≢◌, List, ℕ, IfErr, IfOk, OnErr, OnOk, Ok};
+//! A run that prepares or completes a certificate or a list: from its words, over files and a clock,
+//! to what it puts out.
+ghost use Rattle.std.specs.Prelude.{◌≡◌, ◌≢◌, List, ℕ, map, IfErr, IfOk, IsFalse, IsTrue, OnErr, OnOk, Ok};
 ghost use Rattle.std.specs.Io.KnownBytes.{Appends};
 ghost use Rattle.rpki_arguments.specs.CommandLines.Views.{word_octets};
 ghost use Rattle.rpki_requests.specs.Fulfilment.{Fulfils};
 ghost use Rattle.rpki_requests.specs.RequestMisuses.{misuse_text};
 ghost use Rattle.rpki_requests.specs.RequestWords.Views.{asked_fields};
 ghost use Rattle.rpki_command.specs.Messages.{SaysRefusal, SaysRequestMisuse, misuse_message, refusal_message};
-ghost use Rattle.rpki_command.specs.RequestRuns.{AskedEnds, InputsEnd, IsWritten, RequestEnds};
+ghost use Rattle.rpki_command.specs.Outputs.{Makes, Output, placed};
+ghost use Rattle.rpki_command.specs.PemTexts.{IsPemText};
+ghost use Rattle.rpki_command.specs.RequestRuns.{AskedEnds, InputsEnd, IsWritten, RequestEnds, WordsEnd};
 ghost use Rattle.rpki_command.specs.RequestRuns.Views.{input_fields};
 
 use crate::about::usage;
 use crate::clock::{MomentSource, moment};
 use crate::files::{FileSource, Unread};
 use crate::inputs::{Objects, Unreadable, read_inputs};
+use crate::making::{FileMaker, Unmade, make_named};
 use crate::outcomes::{Ended, Outcome};
-use crate::pem::certificate_text;
+use crate::pem::pem_text;
 use crate::reading::tell;
-use anyhow::{Result, anyhow};
+use anyhow::{Error, Result, anyhow};
 use bytes::Bytes;
 use rpki::repository::x509::Time;
-use rpki_requests::{Misuse, Order, Refusal, Setting, fulfil, named_moment, read_request};
+use rpki_requests::{
+    Made, Misuse, Order, Refusal, Setting, asks_help, fulfil, named_moment, read_request,
+};
+use rpki_text::Characters;
 use std::alloc::{AllocError, Global};
+use std::io;
 use std::io::Write;
 
 // Says what is wrong of the words, unless memory ran out.
@@ -73,16 +80,28 @@ fn silent(outcome: Outcome) -> Ended
     }
 }
 
-// What is written of octets: these, or the certificate that they are in PEM.
-fn written_as(alloc: Global, octets: Bytes, is_pem: bool) -> Result<Bytes, AllocError>
-    ensures { IfOk result (IsWritten is_pem octets) }
+// What is written of octets: these, or in PEM under a label.
+fn written_as(alloc: Global, octets: Bytes, is_pem: bool, label: &str) -> Result<Bytes, AllocError>
+    ensures octets { IsFalse is_pem → IfOk result (λ text. text ≡ octets) }
+    ensures pem { IsTrue is_pem → IfOk result (IsPemText label.now octets) }
 {
     if is_pem {
-        let text = certificate_text(alloc, &octets)?;
+        let text = pem_text(alloc, label, &octets)?;
         drop(octets);
         return Ok(Bytes::from_vec(text)?);
     }
     Ok(octets)
+}
+
+// What is written of what is given.
+fn written(alloc: Global, made: Made, is_pem: bool) -> Result<Bytes, AllocError>
+    ensures { IfOk result (IsWritten is_pem made) }
+{
+    match made {
+        Made::ToSign(octets) => Ok(octets),
+        Made::Certificate(octets) => written_as(alloc, octets, is_pem, "CERTIFICATE"),
+        Made::RevocationList(octets) => written_as(alloc, octets, is_pem, "X509 CRL"),
+    }
 }
 
 // What a request gives at a moment, as it is written.
@@ -93,42 +112,81 @@ fn text_of(
     now: Time,
 ) -> Result<Bytes, Refusal>
     ensures given { let asked = asked_fields order.now in
-        IfOk result (λ text. (octets : List ℕ)
-        × Fulfils asked (input_fields objects.now) now octets
-        × IsWritten asked.is_pem octets text) }
-    ensures refused { IfErr result (λ why. why ≢ Refusal.Memory → (octets : List ℕ)
-        → Fulfils (asked_fields order.now) (input_fields objects.now) now octets → ⊥) }
+        IfOk result (λ text. (given : Made)
+        × Fulfils asked (input_fields objects.now) now given
+        × IsWritten asked.is_pem given text) }
+    ensures refused { IfErr result (λ why. why ≢ Refusal.Memory → (given : Made)
+        → Fulfils (asked_fields order.now) (input_fields objects.now) now given → ⊥) }
 {
-    let octets = fulfil(alloc, order, &objects.as_inputs(), now)?;
-    Ok(written_as(alloc, octets, order.is_pem)?)
+    let made = fulfil(alloc, order, &objects.as_inputs(), now)?;
+    Ok(written(alloc, made, order.is_pem)?)
 }
 
-// Writes what a request gives at a moment, or says why it gives nothing.
-fn answer_inputs<O: Write, E: Write>(
+// That a file can't be made, by its name.
+fn unmade(name: &[u8], why: &Unmade) -> Error {
+    let name = Characters(name);
+    anyhow!("{name}: {why}")
+}
+
+// Puts a text into the file that is named, if one is, and else out. Errs where that file can't be
+// made.
+fn put<M: FileMaker, O: Write>(
+    files: &mut M,
+    out: &mut O,
+    names: &[&[u8]],
+    overwrites: bool,
+    text: &[u8],
+) -> Result<io::Result<()>>
+    ensures written { let names = map (λ name. name.now) names.now in IfOk result (λ written.
+        OnOk written (Appends (O.contents out.old) (O.contents out.new)
+        (placed names overwrites text.now).text)) }
+    ensures made { let names = map (λ name. name.now) names.now in IfOk result (λ _.
+        Makes (M.made files.old) (M.made files.new) (placed names overwrites text.now).files) }
+    ensures unwritten { OnErr result (out.new ≡ out.old) }
+{
+    let Some((name, _others)) = names.split_first() else {
+        return Ok(out.write_all(text));
+    };
+    match make_named(files, *name, text, overwrites) {
+        Ok(()) => Ok(Ok(())),
+        Err(why) => Err(unmade(*name, &why)),
+    }
+}
+
+// Puts out what a request gives at a moment, or says why it gives nothing. Errs where a file can't be
+// made.
+fn answer_inputs<M: FileMaker, O: Write, E: Write>(
     alloc: Global,
+    files: &mut M,
     out: &mut O,
     err: &mut E,
     order: &Order<'_>,
     objects: &Objects<'_>,
     now: Time,
 ) -> Result<Ended>
-    ensures ended { let inputs = input_fields objects.now in IfOk result (λ ended. (text : List ℕ)
-        × InputsEnd (asked_fields order.now) inputs now ended.outcome text
-        × OnOk ended.written (Appends (O.contents out.old) (O.contents out.new) text)) }
+    ensures ended { let inputs = input_fields objects.now in IfOk result (λ ended.
+        (output : Output)
+        × InputsEnd (asked_fields order.now) inputs now ended.outcome output
+        × OnOk ended.written (Appends (O.contents out.old) (O.contents out.new) output.text)
+        × Makes (M.made files.old) (M.made files.new) output.files) }
     ensures refused { IfOk result (λ ended. ended.outcome ≡ Outcome.Rejection
         → SaysRefusal (E.contents err.old) (E.contents err.new)) }
     ensures unwritten { OnErr result (out.new ≡ out.old) }
 {
+    let names = order.values_of(alloc, Setting::Out)?;
     match text_of(alloc, order, objects, now) {
         Ok(text) => {
-            let written = out.write_all(&text);
+            let put = put(files, out, &names, order.overwrites, &text);
             drop(text);
+            drop(names);
+            let written = put?;
             Ok(Ended {
                 outcome: Outcome::Success,
                 written,
             })
         }
         Err(refusal) => {
+            drop(names);
             refuse(err, &refusal)?;
             drop(refusal);
             Ok(silent(Outcome::Rejection))
@@ -136,18 +194,21 @@ fn answer_inputs<O: Write, E: Write>(
     }
 }
 
-// Writes what is asked, of files as reading them gives them, at the moment that is named or else at
-// the one that the clock tells; or says why there is nothing.
-fn answer_order<S: FileSource + MomentSource, O: Write, E: Write>(
+// Puts out what is asked, of files as reading them gives them, at the moment that is named or else
+// at the one that the clock tells; or says why there is nothing.
+fn answer_order<S: FileSource + MomentSource, M: FileMaker, O: Write, E: Write>(
     alloc: Global,
     system: &S,
+    files: &mut M,
     out: &mut O,
     err: &mut E,
     order: &Order<'_>,
 ) -> Result<Ended>
-    ensures ended { let asked = asked_fields order.now in IfOk result (λ ended. (text : List ℕ)
-        × AskedEnds (S.reads system.now) (S.tells system.now) asked ended.outcome text
-        × OnOk ended.written (Appends (O.contents out.old) (O.contents out.new) text)) }
+    ensures ended { let asked = asked_fields order.now in IfOk result (λ ended.
+        (output : Output)
+        × AskedEnds (S.reads system.now) (S.tells system.now) asked ended.outcome output
+        × OnOk ended.written (Appends (O.contents out.old) (O.contents out.new) output.text)
+        × Makes (M.made files.old) (M.made files.new) output.files) }
     ensures refused { IfOk result (λ ended. ended.outcome ≡ Outcome.Rejection
         → SaysRefusal (E.contents err.old) (E.contents err.new)) }
     ensures unwritten { OnErr result (out.new ≡ out.old) }
@@ -163,7 +224,7 @@ fn answer_order<S: FileSource + MomentSource, O: Write, E: Write>(
     let now = moment(system, named)?;
     match read_inputs(alloc, system, order) {
         Ok(objects) => {
-            let ended = answer_inputs(alloc, out, err, order, &objects, now);
+            let ended = answer_inputs(alloc, files, out, err, order, &objects, now);
             drop(objects);
             ended
         }
@@ -175,20 +236,19 @@ fn answer_order<S: FileSource + MomentSource, O: Write, E: Write>(
     }
 }
 
-/// Answers words that begin as a request does: writes what is prepared or completed, of files as
-/// reading them gives them, at the moment that is named or else at the one that the clock tells. Of
-/// words that ask nothing it says what is wrong, and why a request gives nothing. Errs where memory
-/// runs out, or where the clock or what says it fails, and has written nothing.
-pub fn run_request<S: FileSource + MomentSource, O: Write, E: Write>(
+// Answers words that don't ask how the command is used.
+fn answer_words<S: FileSource + MomentSource, M: FileMaker, O: Write, E: Write>(
     alloc: Global,
     system: &S,
+    files: &mut M,
     out: &mut O,
     err: &mut E,
     words: &[Vec<u8>],
 ) -> Result<Ended>
-    ensures ended { let words = word_octets words.now in IfOk result (λ ended. (text : List ℕ)
-        × RequestEnds (S.reads system.now) (S.tells system.now) words ended.outcome text
-        × OnOk ended.written (Appends (O.contents out.old) (O.contents out.new) text)) }
+    ensures ended { let words = word_octets words.now in IfOk result (λ ended. (output : Output)
+        × WordsEnd (S.reads system.now) (S.tells system.now) words ended.outcome output
+        × OnOk ended.written (Appends (O.contents out.old) (O.contents out.new) output.text)
+        × Makes (M.made files.old) (M.made files.new) output.files) }
     ensures said { IfOk result (λ ended. ended.outcome ≡ Outcome.WrongUse
         → SaysRequestMisuse (E.contents err.old) (E.contents err.new)) }
     ensures refused { IfOk result (λ ended. ended.outcome ≡ Outcome.Rejection
@@ -197,7 +257,7 @@ pub fn run_request<S: FileSource + MomentSource, O: Write, E: Write>(
 {
     match read_request(alloc, words) {
         Ok(order) => {
-            let ended = answer_order(alloc, system, out, err, &order);
+            let ended = answer_order(alloc, system, files, out, err, &order);
             drop(order);
             ended
         }
@@ -206,4 +266,37 @@ pub fn run_request<S: FileSource + MomentSource, O: Write, E: Write>(
             Ok(silent(Outcome::WrongUse))
         }
     }
+}
+
+/// Answers words that begin as a request does: puts out what is prepared or completed, of files as
+/// reading them gives them, at the moment that is named or else at the one that the clock tells. Of
+/// words that ask nothing it says what is wrong, and why a request gives nothing. Where words ask how
+/// the command is used it writes that. Errs where memory runs out, where the file to write can't be
+/// made, or where the clock or what says it fails, and has written nothing on standard output.
+pub fn run_request<S: FileSource + MomentSource, M: FileMaker, O: Write, E: Write>(
+    alloc: Global,
+    system: &S,
+    files: &mut M,
+    out: &mut O,
+    err: &mut E,
+    words: &[Vec<u8>],
+) -> Result<Ended>
+    ensures ended { let words = word_octets words.now in IfOk result (λ ended. (output : Output)
+        × RequestEnds (S.reads system.now) (S.tells system.now) words ended.outcome output
+        × OnOk ended.written (Appends (O.contents out.old) (O.contents out.new) output.text)
+        × Makes (M.made files.old) (M.made files.new) output.files) }
+    ensures said { IfOk result (λ ended. ended.outcome ≡ Outcome.WrongUse
+        → SaysRequestMisuse (E.contents err.old) (E.contents err.new)) }
+    ensures refused { IfOk result (λ ended. ended.outcome ≡ Outcome.Rejection
+        → SaysRefusal (E.contents err.old) (E.contents err.new)) }
+    ensures unwritten { OnErr result (out.new ≡ out.old) }
+{
+    if asks_help(words) {
+        let written = out.write_all(usage().as_bytes());
+        return Ok(Ended {
+            outcome: Outcome::Success,
+            written,
+        });
+    }
+    answer_words(alloc, system, files, out, err, words)
 }

@@ -1,10 +1,11 @@
-//! A run of the command: from its words, over files and a clock, to what it writes.
+//! A run of the command: from its words, over files and a clock, to what it puts out.
 ghost use Rattle.std.specs.Prelude.{◌≡◌, ◌≢◌, List, ℕ, IfOk, OnErr, OnOk, string_bytes};
 ghost use Rattle.std.specs.Io.KnownBytes.{Appends};
 ghost use Rattle.rpki_arguments.specs.CommandLines.Views.{fields_of, word_octets};
 ghost use Rattle.rpki_command.specs.Outcomes.{AsksOfFiles};
 ghost use Rattle.rpki_arguments.specs.MisuseTexts.{misuse_text};
 ghost use Rattle.rpki_command.specs.Messages.{SaysLineMisuse, SaysRefusal, misuse_message};
+ghost use Rattle.rpki_command.specs.Outputs.{Makes, Output};
 ghost use Rattle.rpki_command.specs.Runs.{IsAnswer, IsAnswerBy, IsAnswerIn, IsAnswerOf, IsAnswerOfNamed, LineEnds, RunEnds, SaysMisuse};
 ghost use Rattle.rpki_requests.specs.RequestWords.{BeginsRequest};
 
@@ -13,6 +14,7 @@ use crate::answering::answer_request;
 use crate::clock::{MomentSource, moment};
 use crate::files::FileSource;
 use crate::folders::{file_names, opened, with_files, with_further, with_path};
+use crate::making::FileMaker;
 use crate::outcomes::{Answer, Ended, Outcome};
 use crate::reading::read_given;
 use crate::requests::run_request;
@@ -220,22 +222,24 @@ fn run_line<S: FileSource + MomentSource, O: Write, E: Write>(
     Ok(answer_named(alloc, system, out, err, request, now)?)
 }
 
-/// Answers the words behind the program's name: writes what they ask, of files and folders as
+/// Answers the words behind the program's name: puts out what they ask, of files and folders as
 /// reading and listing them gives them, at the moment that they name, or else at the one that the
 /// clock tells; or says what is wrong of them. Of a request to prepare or to complete something that
-/// gives nothing it says why. Errs where memory runs out, or where the clock or what says it fails,
-/// and has written nothing.
-pub fn run<S: FileSource + MomentSource, O: Write, E: Write>(
+/// gives nothing it says why. Errs where memory runs out, where a file can't be made, or where the
+/// clock or what says it fails, and has written nothing on standard output.
+pub fn run<S: FileSource + MomentSource, M: FileMaker, O: Write, E: Write>(
     alloc: Global,
     system: &S,
+    files: &mut M,
     out: &mut O,
     err: &mut E,
     words: &[Vec<u8>],
 ) -> Result<Ended>
-    ensures ended { let words = word_octets words.now in IfOk result (λ ended. (text : List ℕ)
+    ensures ended { let words = word_octets words.now in IfOk result (λ ended. (output : Output)
         × RunEnds (S.reads system.now) (S.lists system.now) (S.tells system.now) words
-        ended.outcome text
-        × OnOk ended.written (Appends (O.contents out.old) (O.contents out.new) text)) }
+        ended.outcome output
+        × OnOk ended.written (Appends (O.contents out.old) (O.contents out.new) output.text)
+        × Makes (M.made files.old) (M.made files.new) output.files) }
     ensures said { let words = word_octets words.now in
         IfOk result (λ ended. ended.outcome ≡ Outcome.WrongUse
         → SaysMisuse words (E.contents err.old) (E.contents err.new)) }
@@ -245,7 +249,7 @@ pub fn run<S: FileSource + MomentSource, O: Write, E: Write>(
     ensures unwritten { OnErr result (out.new ≡ out.old) }
 {
     if is_request(words) {
-        return run_request(alloc, system, out, err, words);
+        return run_request(alloc, system, files, out, err, words);
     }
     run_line(alloc, system, out, err, words)
 }

@@ -2,11 +2,13 @@
 use Rattle.std.specs.Prelude.{IsSome, Option, Some, None}
 use Rattle.std.proofs.Common.{◌≡◌, ℕ, List, [], inl, inr, subst}
 use Rattle.std.proofs.lemmas.Bool.{false≢true}
+use Rattle.rpki.specs.Asking.{RevocationChecks, nobody}
+use Rattle.rpki.specs.AskedLists.{by_lists}
 use Rattle.rpki.specs.Certificates.{CertFields}
 use Rattle.rpki.specs.Judged.{Judged}
 use Rattle.rpki.specs.Verification.{Context, ResourceFields}
 use Rattle.rpki_files.specs.SaidKinds.{SaysAuthority}
-use Rattle.rpki_verdicts.specs.PathAnswers.{AreSame, IsVerdictBy}
+use Rattle.rpki_verdicts.specs.PathAnswers.{AreSame, IsPathVerdict, IsVerdictBy}
 use Rattle.rpki_verdicts.specs.declared.path.Fault.{Fault}
 use Rattle.rpki_verdicts.specs.declared.path.Verdict.{Verdict}
 use Rattle.rpki_verdicts.specs.declared.path.Verdict.TheVariants.{Accepted, Rejected}
@@ -18,43 +20,47 @@ held_alone r = record { holder = r; router = None }
 
 module _ (x : Context) where
   -- no files have no verdict
-  no_verdict : (v : Verdict) → IsVerdictBy x chained [] [] v → ⊥
-  no_verdict v (g, inl alone, on) = absurd cc
-  no_verdict v (g, inr last, on) = let is = last.split.strings_are in absurd cc
+  no_path : (asked : RevocationChecks) (v : Verdict) → IsPathVerdict x asked chained [] v → ⊥
+  no_path asked v (g, inl alone, on) = absurd cc
+  no_path asked v (g, inr last, on) = let is = last.split.strings_are in absurd cc
 
-  module _ (files : List (List ℕ)) where
-    unjudged : (v : Verdict) → files ≡ [] → IsVerdictBy x chained files [] v → ⊥
-    unjudged v empty on = no_verdict v (subst (λ (l : List (List ℕ)). IsVerdictBy x chained l [] v) empty on)
+  no_verdict : (lists : List (List ℕ)) (v : Verdict) → IsVerdictBy x chained [] lists v → ⊥
+  no_verdict [] v on = no_path nobody v on
+  no_verdict (list ∷ lists) v (read, are, on) = no_path (by_lists x read) v on
+
+  module _ (files lists : List (List ℕ)) where
+    unjudged : (v : Verdict) → files ≡ [] → IsVerdictBy x chained files lists v → ⊥
+    unjudged v empty on = no_verdict lists v (subst (λ (l : List (List ℕ)). IsVerdictBy x chained l lists v) empty on)
 
     -- where there is no file, there is no issuer
-    pub none_only : files ≡ [] → IsOnlyIssuer x files None
+    pub none_only : files ≡ [] → IsOnlyIssuer x files lists None
     none_only empty None is = tt
     none_only empty (Some r) held = unjudged (Accepted (held_alone r)) empty held.accepted
 
     -- a path that is rejected has none
-    pub rejected_none : (fault : Fault) → ((j : Judged) → IsVerdictBy x chained files [] (Accepted j) → IsVerdictBy x chained files [] (Rejected fault) → ⊥) → IsVerdictBy x chained files [] (Rejected fault) → (issuer : Option ResourceFields) → IsIssuerOf x files issuer → ⊥
+    pub rejected_none : (fault : Fault) → ((j : Judged) → IsVerdictBy x chained files lists (Accepted j) → IsVerdictBy x chained files lists (Rejected fault) → ⊥) → IsVerdictBy x chained files lists (Rejected fault) → (issuer : Option ResourceFields) → IsIssuerOf x files lists issuer → ⊥
     rejected_none fault never on None empty = unjudged (Rejected fault) empty on
     rejected_none fault never on (Some r) held = never (held_alone r) held.accepted on
 
-    module _ (judged : Judged) (one : (j i : Judged) → IsVerdictBy x chained files [] (Accepted j) → IsVerdictBy x chained files [] (Accepted i) → AreSame j i) (on : IsVerdictBy x chained files [] (Accepted judged)) where
+    module _ (judged : Judged) (one : (j i : Judged) → IsVerdictBy x chained files lists (Accepted j) → IsVerdictBy x chained files lists (Accepted i) → AreSame j i) (on : IsVerdictBy x chained files lists (Accepted judged)) where
       -- one that is accepted has the CA that its last member is
-      pub authority_held : (r : ResourceFields) → judged ≡ held_alone r → SaysAuthority r.cert.fields → IsHeldByLast x files r
+      pub authority_held : (r : ResourceFields) → judged ≡ held_alone r → SaysAuthority r.cert.fields → IsHeldByLast x files lists r
       authority_held r is says = record {
-        accepted = subst (λ (j : Judged). IsVerdictBy x chained files [] (Accepted j)) is on;
+        accepted = subst (λ (j : Judged). IsVerdictBy x chained files lists (Accepted j)) is on;
         authority = says;
       }
 
-      pub authority_only : (r : ResourceFields) → judged ≡ held_alone r → IsOnlyIssuer x files (Some r)
+      pub authority_only : (r : ResourceFields) → judged ≡ held_alone r → IsOnlyIssuer x files lists (Some r)
       authority_only r is None empty = absurd (unjudged (Accepted judged) empty on)
       authority_only r is (Some s) held =
-          (one (held_alone s) (held_alone r) held.accepted (subst (λ (j : Judged). IsVerdictBy x chained files [] (Accepted j)) is on)).0
+          (one (held_alone s) (held_alone r) held.accepted (subst (λ (j : Judged). IsVerdictBy x chained files lists (Accepted j)) is on)).0
 
       some_router : (router : Option CertFields) → IsSome router → None ≡ router → ⊥
       some_router None some is = false≢true some
       some_router (Some c) some is = cc
 
       -- and none where that is none
-      pub authority_none : IsNoAuthority judged → (issuer : Option ResourceFields) → IsIssuerOf x files issuer → ⊥
+      pub authority_none : IsNoAuthority judged → (issuer : Option ResourceFields) → IsIssuerOf x files lists issuer → ⊥
       authority_none why None empty = unjudged (Accepted judged) empty on
       authority_none (inl some) (Some s) held =
           some_router judged.router some (one (held_alone s) judged held.accepted on).1

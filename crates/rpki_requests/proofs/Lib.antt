@@ -1,12 +1,16 @@
 -- Lemmas of the proofs about requests.
 mod AddedFiles
+mod AskedLists
 mod GivenValues
 mod GivenWants
 mod JudgedIssuers
+mod KindsApart
 mod OneErrand
 mod OneFields
 mod OneIssuers
 mod OnlyAnswers
+mod PlaceByPlace
 mod RequestParts
+mod RevokedFiles
 mod Settings
 mod WholeOctets

@@ -6,7 +6,7 @@ use Rattle.std.proofs.lemmas.List.Sums.{fold-append}
 use Rattle.rpki_arguments.specs.WordParts.{words_before, words_behind}
 use Rattle.rpki_arguments.proofs.PartsOfWords.{one_list}
 use Rattle.rpki_requests.specs.declared.words.Errand.{Errand}
-use Rattle.rpki_requests.specs.declared.words.Errand.TheVariants.{Authority, EndEntity, Detached, Router, Anchor, Completion}
+use Rattle.rpki_requests.specs.declared.words.Errand.TheVariants.{Authority, EndEntity, Detached, Router, Anchor, RevocationList, Completion}
 use Rattle.rpki_requests.specs.RequestWords.{AskedFields, BeginsRequest, IsRequestLine, RequestPart, Suits, errand_words, file, only_errand, with_part}
 use Rattle.rpki_requests.specs.RequestWords.Steps.{AddsParts, AreRequestParts}
 use Rattle.rpki_requests.proofs.RequestParts.{request_grammar, request_clear}
@@ -21,7 +21,8 @@ prepared_of (word ∷ rest) =
     (cond (bytes_eq word (codes "ee")) (Some EndEntity)
     (cond (bytes_eq word (codes "detached")) (Some Detached)
     (cond (bytes_eq word (codes "router")) (Some Router)
-    (cond (bytes_eq word (codes "anchor")) (Some Anchor) None))))
+    (cond (bytes_eq word (codes "anchor")) (Some Anchor)
+    (cond (bytes_eq word (codes "list")) (Some RevocationList) None)))))
 
 -- the errand that words name
 errand_of : List (List ℕ) → Option Errand
@@ -37,6 +38,7 @@ names EndEntity rest = refl
 names Detached rest = refl
 names Router rest = refl
 names Anchor rest = refl
+names RevocationList rest = refl
 names Completion rest = refl
 
 -- words name one errand at most
@@ -52,6 +54,7 @@ one_rest EndEntity rest behind e = ap (λ (l : List (List ℕ)). drop 2 l) e
 one_rest Detached rest behind e = ap (λ (l : List (List ℕ)). drop 2 l) e
 one_rest Router rest behind e = ap (λ (l : List (List ℕ)). drop 2 l) e
 one_rest Anchor rest behind e = ap (λ (l : List (List ℕ)). drop 2 l) e
+one_rest RevocationList rest behind e = ap (λ (l : List (List ℕ)). drop 2 l) e
 one_rest Completion rest behind e = ap (λ (l : List (List ℕ)). drop 1 l) e
 
 -- the first word of a request is one of two

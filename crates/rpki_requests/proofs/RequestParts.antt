@@ -8,9 +8,9 @@ use Rattle.std.proofs.lemmas.Slice.Eq.{bytes_eq-Decides}
 use Rattle.rpki_arguments.specs.WordParts.{IsOption, GivesValue}
 use Rattle.rpki_arguments.proofs.PartsOfWords.{Sort, single, before, joining, Grammar, Shape, IsClear, alone_is, given_is}
 use Rattle.rpki_requests.specs.declared.words.Setting.{Setting}
-use Rattle.rpki_requests.specs.declared.words.Setting.TheVariants.{Issuer, Key, Serial, From, Until, Ipv4, Ipv6, AsNumbers, Repository, Manifest, Notify, Object, IssuerUri, CrlUri, At}
+use Rattle.rpki_requests.specs.declared.words.Setting.TheVariants.{Issuer, Key, Serial, From, Until, Ipv4, Ipv6, AsNumbers, Repository, Manifest, Notify, Object, IssuerUri, CrlUri, Crl, Previous, Number, Revoke, NextUpdate, At, Out}
 use Rattle.rpki_requests.specs.declared.words.Switch.{Switch}
-use Rattle.rpki_requests.specs.declared.words.Switch.TheVariants.{Trim, Lenient, Pem}
+use Rattle.rpki_requests.specs.declared.words.Switch.TheVariants.{Trim, Lenient, Pem, Force}
 use Rattle.rpki_requests.specs.RequestWords.{AskedFields, IsRequestPart, RequestPart, file, option, switch, setting_name, switch_name, with_part}
 use Rattle.rpki_requests.specs.RequestWords.Steps.{AddsPart, BeginsNoPart, Joins}
 use Rattle.rpki_requests.proofs.Settings.{setting_of, first_named, settings, found, none_found, dashed}
@@ -30,7 +30,8 @@ switch_of : List ℕ → Option Switch
 switch_of word =
     cond (bytes_eq word (codes "--trim")) (Some Trim)
     (cond (bytes_eq word (codes "--lenient")) (Some Lenient)
-    (cond (bytes_eq word (codes "--pem")) (Some Pem) None))
+    (cond (bytes_eq word (codes "--pem")) (Some Pem)
+    (cond (bytes_eq word (codes "--force")) (Some Force) None)))
 
 or_before : Option Setting → RequestSort → RequestSort
 or_before None sort = sort
@@ -72,7 +73,13 @@ joined Notify value = refl
 joined Object value = refl
 joined IssuerUri value = refl
 joined CrlUri value = refl
+joined Crl value = refl
+joined Previous value = refl
+joined Number value = refl
+joined Revoke value = refl
+joined NextUpdate value = refl
 joined At value = refl
+joined Out value = refl
 
 -- what stands before its first `=` is its name
 front_is : (setting : Setting) (value : List ℕ) → before_first is_equals (setting_name setting ++ codes "=" ++ value) ≡ setting_name setting
@@ -90,7 +97,13 @@ front_is Notify value = refl
 front_is Object value = refl
 front_is IssuerUri value = refl
 front_is CrlUri value = refl
+front_is Crl value = refl
+front_is Previous value = refl
+front_is Number value = refl
+front_is Revoke value = refl
+front_is NextUpdate value = refl
 front_is At value = refl
+front_is Out value = refl
 
 place_is : (b : Bool) (n place : ℕ) → cond b (Some n) None ≡ Some place → n ≡ place
 place_is true n place is = cc
@@ -123,7 +136,8 @@ module _ (word : List ℕ) (not_option : IsOption word → ⊥) where
   no_switch =
       cond_none (bytes_eq word (codes "--trim")) _ _ (not_same (codes "--trim") (refl, lit< tt))
       (cond_none (bytes_eq word (codes "--lenient")) _ _ (not_same (codes "--lenient") (refl, lit< tt))
-      (cond_none (bytes_eq word (codes "--pem")) _ _ (not_same (codes "--pem") (refl, lit< tt)) refl))
+      (cond_none (bytes_eq word (codes "--pem")) _ _ (not_same (codes "--pem") (refl, lit< tt))
+      (cond_none (bytes_eq word (codes "--force")) _ _ (not_same (codes "--force") (refl, lit< tt)) refl)))
 
   -- is a part by itself
   file_sort : sort_of word ≡ single (file word)
@@ -152,6 +166,7 @@ unfolding sort_of or_before or_joining or_switch switch_of first_named
 switch_sort Trim = refl
 switch_sort Lenient = refl
 switch_sort Pem = refl
+switch_sort Force = refl
 
 -- the words of a part have its shape
 shape : (part : RequestPart) (words : List (List ℕ)) → IsRequestPart part words → Shape request_grammar part words

@@ -5,17 +5,17 @@ use Rattle.std.proofs.Common.{◌≡◌, ◌<◌, ℕ, Bool, true, false, List, 
 use Rattle.std.proofs.lemmas.Slice.Eq.{bytes_eq-Decides}
 use Rattle.rpki_arguments.specs.WordParts.{IsOption}
 use Rattle.rpki_requests.specs.declared.words.Setting.{Setting}
-use Rattle.rpki_requests.specs.declared.words.Setting.TheVariants.{Issuer, Key, Serial, From, Until, Ipv4, Ipv6, AsNumbers, Repository, Manifest, Notify, Object, IssuerUri, CrlUri, At}
+use Rattle.rpki_requests.specs.declared.words.Setting.TheVariants.{Issuer, Key, Serial, From, Until, Ipv4, Ipv6, AsNumbers, Repository, Manifest, Notify, Object, IssuerUri, CrlUri, Crl, Previous, Number, Revoke, NextUpdate, At, Out}
 use Rattle.rpki_requests.specs.RequestWords.{setting_name}
 
 -- all of them
 abbrev pub settings : List Setting
 settings =
     Issuer ∷ Key ∷ Serial ∷ From ∷ Until ∷ Ipv4 ∷ Ipv6 ∷ AsNumbers ∷ Repository ∷ Manifest ∷ Notify ∷ Object ∷ IssuerUri ∷ CrlUri
-    ∷ At ∷ []
+    ∷ Crl ∷ Previous ∷ Number ∷ Revoke ∷ NextUpdate ∷ At ∷ Out ∷ []
 
 -- what holds of each that is listed holds of each
-pub of_each : (P : Setting → Type 0) → ((k : ℕ) → k < 15 → P (get_or settings k Issuer)) → (setting : Setting) → P setting
+pub of_each : (P : Setting → Type 0) → ((k : ℕ) → k < 21 → P (get_or settings k Issuer)) → (setting : Setting) → P setting
 of_each P each Issuer = each 0 (lit< tt)
 of_each P each Key = each 1 (lit< tt)
 of_each P each Serial = each 2 (lit< tt)
@@ -30,7 +30,13 @@ of_each P each Notify = each 10 (lit< tt)
 of_each P each Object = each 11 (lit< tt)
 of_each P each IssuerUri = each 12 (lit< tt)
 of_each P each CrlUri = each 13 (lit< tt)
-of_each P each At = each 14 (lit< tt)
+of_each P each Crl = each 14 (lit< tt)
+of_each P each Previous = each 15 (lit< tt)
+of_each P each Number = each 16 (lit< tt)
+of_each P each Revoke = each 17 (lit< tt)
+of_each P each NextUpdate = each 18 (lit< tt)
+of_each P each At = each 19 (lit< tt)
+of_each P each Out = each 20 (lit< tt)
 
 -- the first of these that has this name
 unfoldable pub first_named : List Setting → List ℕ → Option Setting
@@ -58,7 +64,13 @@ found Notify = refl
 found Object = refl
 found IssuerUri = refl
 found CrlUri = refl
+found Crl = refl
+found Previous = refl
+found Number = refl
+found Revoke = refl
+found NextUpdate = refl
 found At = refl
+found Out = refl
 
 either : (b : Bool) (here : Option Setting) (later : Option Setting) → (b ≡ true → ⊥) → later ≡ None → cond b here later ≡ None
 either true here later never is = absurd (never refl)
@@ -87,4 +99,10 @@ dashed Notify rest = (refl, omega arith)
 dashed Object rest = (refl, omega arith)
 dashed IssuerUri rest = (refl, omega arith)
 dashed CrlUri rest = (refl, omega arith)
+dashed Crl rest = (refl, omega arith)
+dashed Previous rest = (refl, omega arith)
+dashed Number rest = (refl, omega arith)
+dashed Revoke rest = (refl, omega arith)
+dashed NextUpdate rest = (refl, omega arith)
 dashed At rest = (refl, omega arith)
+dashed Out rest = (refl, omega arith)

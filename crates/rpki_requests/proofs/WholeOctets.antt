@@ -1,12 +1,13 @@
 -- Octets that are an encoding, and nothing behind it.
-use Rattle.std.proofs.Common.{◌≡◌, ◌≢◌, ℕ, List, [], ◌++◌, refl, sym, ap, subst, ◌∙◌}
-use Rattle.std.proofs.lemmas.List.{append-nil, append_cancel_left}
+use Rattle.std.proofs.Common.{◌≡◌, ◌≢◌, ℕ, List, [], ◌++◌, length, refl, sym, ap, subst, ◌∙◌}
+use Rattle.std.proofs.lemmas.List.{append-nil, append_cancel_left, nil_from_length}
 use Rattle.rpki.specs.DecodeError.{DecodeError}
 use Rattle.rpki.specs.DecodeError.TheVariants as decoding
-use Rattle.rpki.specs.Encoding.{Begins}
+use Rattle.rpki.specs.Encoding.{Begins, Means}
 use Rattle.rpki.specs.Place.{Rejects}
 use Rattle.rpki.specs.Values.{IsUnambiguous}
 use Rattle.rpki_der.proofs.Answering.{memory_alone}
+use Rattle.rpki_files.specs.Contents.{BeginsBefore}
 
 module _ {V : Type 0} (encodes : V → List ℕ → Type 0) where
   -- what they begin with, where nothing is left, they are
@@ -30,3 +31,19 @@ module _ {V : Type 0} (encodes : V → List ℕ → Type 0) where
   pub unread_whole : (e : DecodeError) → e ≢ decoding.Memory → (found octets : List ℕ) → found ≡ octets → Rejects e ((y : V) (rest : List ℕ) → Begins encodes found y rest → ⊥) → (w : V) → encodes w octets → ⊥
   unread_whole e not found octets same rejected w h =
       not (memory_alone e rejected (λ none. none w [] (record { text = octets; encoded = h; parts = same ∙ sym (append-nil octets) })))
+
+-- ---- what was found in them
+
+-- what they begin with, with nothing behind it, they are
+pub found_whole : {V : Type 0} (encodes : V → List ℕ → Type 0) (octets : List ℕ) (v : V) (left : ℕ) → BeginsBefore encodes octets v left → left ≡ 0 → encodes v octets
+found_whole encodes octets v left (rest, begins, behind) none =
+    whole_is encodes v octets octets rest refl (nil_from_length rest (sym behind ∙ none)) begins
+
+-- with something behind it, they are of none
+pub found_part : {V : Type 0} (encodes : V → List ℕ → Type 0) → IsUnambiguous encodes → (octets : List ℕ) (v : V) (left : ℕ) → BeginsBefore encodes octets v left → (left ≡ 0 → ⊥) → (w : V) → encodes w octets → ⊥
+found_part encodes one octets v left (rest, begins, behind) some w h =
+    none_whole encodes one v w octets octets rest refl (λ empty. some (behind ∙ ap (λ (l : List ℕ). length l) empty)) begins h
+
+-- where nothing was found, they are of none
+pub found_none : {V : Type 0} (encodes : V → List ℕ → Type 0) (octets : List ℕ) → ((y : V) → Means encodes y octets → ⊥) → (w : V) → encodes w octets → ⊥
+found_none encodes octets none w h = none w ([], record { text = octets; encoded = h; parts = sym (append-nil octets) })

@@ -1,21 +1,28 @@
--- What a request gives: the octets that are to be signed, or a certificate (own).
-use Rattle.std.specs.Prelude.{◌≡◌, ℕ, List, [], ◌∷◌, Option, Some, None}
+-- What a request gives: the octets that are to be signed, or a certificate or a revocation list
+-- (own).
+use Rattle.std.specs.Prelude.{◌≡◌, ℕ, List, [], ◌∷◌, option_map, Option, Some}
 use Rattle.rpki.specs.Certificates.{TbsFields}
 use Rattle.rpki.specs.Keys.{KeyFields}
 use Rattle.rpki.specs.Kind.{Kind}
 use Rattle.rpki.specs.Kind.TheVariants as kind
+use Rattle.rpki.specs.Lists.{CrlFields, IsTbsCertList, ListFields}
 use Rattle.rpki.specs.Names.{IsName}
+use Rattle.rpki.specs.RevokedEntries.{Revoked}
 use Rattle.rpki.specs.RsaSignatures.{IsSignedByRsa}
 use Rattle.rpki.specs.Times.{Moment}
 use Rattle.rpki.specs.Verification.{Context, ResourceFields, context}
 use Rattle.rpki_wanted.specs.AskedFields.{fields_asked, issuer_name, subject_asked}
 use Rattle.rpki_wanted.specs.PreparedOctets.{IsPrepared, IsCompleted}
+use Rattle.rpki_wanted.specs.WantedLists.{IsListCompleted, IsListPrepared, IsListWanted, WantedListFields}
 use Rattle.rpki_wanted.specs.declared.wanted.Wanted.{Wanted}
-use Rattle.rpki_requests.specs.OptionValues.{GivesWanted}
-use Rattle.rpki_requests.specs.RequestFiles.{InputFields, IsCompletedAs, IsIssuerOf, IsKeyFile, IsToSign, fields_above}
+use Rattle.rpki_requests.specs.OptionValues.{GivesList, GivesWanted}
+use Rattle.rpki_requests.specs.RequestFiles.{InputFields, IsCompletedAs, IsHeldByLast, IsIssuerOf, IsKeyFile, IsPreviousOf, IsToSign, fields_above}
 use Rattle.rpki_requests.specs.RequestWords.{AskedFields}
+use Rattle.rpki_requests.specs.declared.fulfilling.Made.{Made}
+use Rattle.rpki_requests.specs.declared.fulfilling.Made.TheVariants.{ToSign, Certificate}
+use Rattle.rpki_requests.specs.declared.fulfilling.Made.TheVariants as made
 use Rattle.rpki_requests.specs.declared.words.Errand.{Errand}
-use Rattle.rpki_requests.specs.declared.words.Errand.TheVariants.{Authority, EndEntity, Detached, Router, Anchor, Completion}
+use Rattle.rpki_requests.specs.declared.words.Errand.TheVariants.{Authority, EndEntity, Detached, Router, Anchor, RevocationList, Completion}
 
 -- under what a request is judged: with real signatures, at the moment, strictly or not
 abbrev pub context_of : AskedFields → Moment → Context
@@ -42,11 +49,36 @@ pub record PreparesBelow (kind : Kind) (asked : AskedFields) (keys : List (List 
   pub prepared : IsPrepared kind issuer at asked.strict fields octets
 
 -- below the issuer that the files are
-pub record Prepares (kind : Kind) (asked : AskedFields) (issuers keys : List (List ℕ)) (at : Moment)
+pub record Prepares (kind : Kind) (asked : AskedFields) (inputs : InputFields) (at : Moment)
     (octets : List ℕ) : Type 0 where
   pub issuer : Option ResourceFields
-  pub issuer_is : IsIssuerOf (context_of asked at) issuers issuer
-  pub prepares : PreparesBelow kind asked keys at issuer octets
+  pub issuer_is : IsIssuerOf (context_of asked at) inputs.issuers inputs.lists issuer
+  pub prepares : PreparesBelow kind asked inputs.keys at issuer octets
+
+-- ---- which list is prepared
+
+-- the fields of the list that options and files ask for below this issuer, behind its list before
+pub record AsksList (asked : AskedFields) (inputs : InputFields) (at : Moment) (issuer : TbsFields)
+    (f : ListFields Revoked) : Type 0 where
+  pub previous : Option CrlFields
+  pub previous_is : IsPreviousOf issuer inputs.previous previous
+  pub wanted : WantedListFields
+  pub wanted_is : GivesList asked.given inputs.revoked issuer at wanted
+  pub fields_are : IsListWanted wanted (option_map (λ list. list.fields) previous) issuer f
+
+-- the octets of these fields, of which only the signature is missing below the issuer
+pub record PreparesListBelow (asked : AskedFields) (inputs : InputFields) (at : Moment)
+    (issuer : TbsFields) (octets : List ℕ) : Type 0 where
+  pub fields : ListFields Revoked
+  pub asks : AsksList asked inputs at issuer fields
+  pub prepared : IsListPrepared at asked.strict issuer fields octets
+
+-- below the issuer that the files are
+pub record PreparesList (asked : AskedFields) (inputs : InputFields) (at : Moment)
+    (octets : List ℕ) : Type 0 where
+  pub issuer : ResourceFields
+  pub issuer_is : IsHeldByLast (context_of asked at) inputs.issuers inputs.lists issuer
+  pub prepares : PreparesListBelow asked inputs at issuer.cert.fields octets
 
 -- ---- what is completed
 
@@ -61,32 +93,51 @@ pub record CompletesBelow (asked : AskedFields) (at : Moment) (issuer : Option R
   pub kind_is : IsCompletedAs issuer fields kind
   pub completed : IsCompleted kind issuer at asked.strict fields prepared signature octets
 
--- the two files are these, and the octets are the certificate that they make
-pub record Completes (asked : AskedFields) (issuers files : List (List ℕ)) (at : Moment)
-    (octets : List ℕ) : Type 0 where
+-- a TBSCertList, a signature of it, and the list that these make below the issuer, whose name it has
+-- (RFC 5280 5.1.2.3)
+pub record CompletesListBelow (asked : AskedFields) (at : Moment) (issuer : TbsFields)
+    (prepared signature octets : List ℕ) : Type 0 where
+  pub fields : ListFields Revoked
+  pub fields_are : IsTbsCertList fields prepared
+  pub named : fields.issuer ≡ issuer.subject
+  pub completed : IsListCompleted at asked.strict issuer fields prepared signature octets
+
+-- the certificate or the list that they make below the issuer; a list has one
+abbrev pub CompletesAs : AskedFields → Moment → Option ResourceFields → List ℕ → List ℕ → Made
+    → Type 0
+CompletesAs asked at issuer prepared signature (Certificate octets) =
+    CompletesBelow asked at issuer prepared signature octets
+CompletesAs asked at (Some issuer) prepared signature (made.RevocationList octets) =
+    CompletesListBelow asked at issuer.cert.fields prepared signature octets
+CompletesAs asked at issuer prepared signature given = ⊥
+
+-- the two files are these, and this is what they make
+pub record Completes (asked : AskedFields) (inputs : InputFields) (at : Moment)
+    (given : Made) : Type 0 where
   pub issuer : Option ResourceFields
-  pub issuer_is : IsIssuerOf (context_of asked at) issuers issuer
+  pub issuer_is : IsIssuerOf (context_of asked at) inputs.issuers inputs.lists issuer
   pub prepared : List ℕ
   pub signature : List ℕ
-  pub files_are : files ≡ prepared ∷ signature ∷ []
-  pub completes : CompletesBelow asked at issuer prepared signature octets
+  pub files_are : inputs.files ≡ prepared ∷ signature ∷ []
+  pub completes : CompletesAs asked at issuer prepared signature given
 
 -- ---- the whole
 
--- the kind of what an errand prepares; one completes what was prepared
-abbrev pub kind_prepared : Errand → Option Kind
-kind_prepared Authority = Some kind.Authority
-kind_prepared EndEntity = Some kind.EndEntity
-kind_prepared Detached = Some kind.Detached
-kind_prepared Router = Some kind.Router
-kind_prepared Anchor = Some kind.Anchor
-kind_prepared Completion = None
+-- octets that are to be signed are given, and they are such
+abbrev pub GivesToSign : (List ℕ → Type 0) → Made → Type 0
+GivesToSign Are (ToSign octets) = Are octets
+GivesToSign Are given = ⊥
 
-abbrev pub FulfilsAs : Option Kind → AskedFields → InputFields → Moment → List ℕ → Type 0
-FulfilsAs (Some kind) asked inputs at octets =
-    Prepares kind asked inputs.issuers inputs.keys at octets
-FulfilsAs None asked inputs at octets = Completes asked inputs.issuers inputs.files at octets
+-- what an errand gives: octets that are to be signed, or a certificate or a list
+abbrev pub FulfilsAs : Errand → AskedFields → InputFields → Moment → Made → Type 0
+FulfilsAs Authority asked inputs at given = GivesToSign (Prepares kind.Authority asked inputs at) given
+FulfilsAs EndEntity asked inputs at given = GivesToSign (Prepares kind.EndEntity asked inputs at) given
+FulfilsAs Detached asked inputs at given = GivesToSign (Prepares kind.Detached asked inputs at) given
+FulfilsAs Router asked inputs at given = GivesToSign (Prepares kind.Router asked inputs at) given
+FulfilsAs Anchor asked inputs at given = GivesToSign (Prepares kind.Anchor asked inputs at) given
+FulfilsAs RevocationList asked inputs at given = GivesToSign (PreparesList asked inputs at) given
+FulfilsAs Completion asked inputs at given = Completes asked inputs at given
 
--- what is asked gives these octets, with these files at this moment
-abbrev pub Fulfils : AskedFields → InputFields → Moment → List ℕ → Type 0
-Fulfils asked inputs at octets = FulfilsAs (kind_prepared asked.errand) asked inputs at octets
+-- what is asked gives this, with these files at this moment
+abbrev pub Fulfils : AskedFields → InputFields → Moment → Made → Type 0
+Fulfils asked inputs at given = FulfilsAs asked.errand asked inputs at given

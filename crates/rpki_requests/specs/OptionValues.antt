@@ -1,5 +1,9 @@
--- What the values of options say: those of the certificate that is wanted, and the moment (own).
-use Rattle.std.specs.Prelude.{◌≡◌, ℕ, List, [], ◌∷◌, Option, Some, None}
+-- What the values of options say: those of the certificate or of the list that is wanted, and the
+-- moment (own).
+use Rattle.std.specs.List.{AllZip}
+use Rattle.std.specs.Prelude.{◌≡◌, ℕ, List, [], ◌∷◌, ◌++◌, map, Option, Some, None}
+use Rattle.rpki.specs.Certificates.{TbsFields}
+use Rattle.rpki.specs.RevokedEntries.{Entry}
 use Rattle.rpki.specs.Times.{Moment, IsMoment}
 use Rattle.rpki_text.specs.MomentTexts.{IsMomentText}
 use Rattle.rpki_values.specs.BlockTexts.{AreListed, IsAddressesText, IsAsText}
@@ -8,8 +12,10 @@ use Rattle.rpki_values.specs.declared.families.Family.TheVariants.{V4, V6}
 use Rattle.rpki_wanted.specs.declared.wanted.Numbers.{Numbers}
 use Rattle.rpki_wanted.specs.declared.wanted.Places.{Places}
 use Rattle.rpki_wanted.specs.declared.wanted.Wanted.{Wanted}
+use Rattle.rpki_wanted.specs.WantedLists.{WantedListFields}
+use Rattle.rpki_requests.specs.RequestFiles.{IsRevokedFile}
 use Rattle.rpki_requests.specs.RequestWords.{GivenFields, values_of}
-use Rattle.rpki_requests.specs.declared.words.Setting.TheVariants.{Serial, From, Until, Ipv4, Ipv6, AsNumbers, Repository, Manifest, Notify, Object, IssuerUri, CrlUri}
+use Rattle.rpki_requests.specs.declared.words.Setting.TheVariants.{Serial, From, Until, Ipv4, Ipv6, AsNumbers, Repository, Manifest, Notify, Object, IssuerUri, CrlUri, Number, NextUpdate}
 
 -- ---- one option
 
@@ -59,3 +65,32 @@ pub record GivesWanted (given : List GivenFields) (wanted : Wanted) : Type 0 whe
   pub until_is : SaysOnce IsMomentSaid (values_of Until given) wanted.not_after
   pub numbers_are : GivesNumbers given wanted.numbers
   pub places_are : GivesPlaces given wanted.places
+
+-- ---- the list that is wanted
+
+-- the serial numbers of what is revoked: of the certificates that the files are, and those that are
+-- given as numbers
+pub record GivesSerials (given : List GivenFields) (files : List (List ℕ)) (issuer : TbsFields) (serials : List ℕ) : Type 0 where
+  pub by_files : List ℕ
+  pub files_are : AllZip (IsRevokedFile issuer) by_files files
+  pub by_numbers : List ℕ
+  pub numbers_are : AllZip IsSerialText by_numbers (values_of Serial given)
+  pub serials_are : serials ≡ by_files ++ by_numbers
+
+-- an entry that revokes at the moment
+abbrev pub revoked_at : Moment → ℕ → Entry
+revoked_at at serial = record { serial = serial; date = at }
+
+-- the entries that revoke what options and files name, at the moment
+pub record GivesEntries (given : List GivenFields) (files : List (List ℕ)) (issuer : TbsFields) (at : Moment) (es : List Entry) : Type 0 where
+  pub serials : List ℕ
+  pub serials_are : GivesSerials given files issuer serials
+  pub entries_are : es ≡ map (revoked_at at) serials
+
+-- options and files say that this is wanted of the issuer's list, which is made and revokes at the
+-- moment
+pub record GivesList (given : List GivenFields) (files : List (List ℕ)) (issuer : TbsFields) (at : Moment) (wanted : WantedListFields) : Type 0 where
+  pub number_is : SaysAtMostOnce IsSerialText (values_of Number given) wanted.number
+  pub revoked_are : GivesEntries given files issuer at wanted.revoked
+  pub this_update_is : wanted.this_update ≡ at
+  pub next_update_is : SaysOnce IsMomentSaid (values_of NextUpdate given) wanted.next_update

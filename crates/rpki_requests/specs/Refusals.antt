@@ -4,10 +4,15 @@ use Rattle.std.specs.Fmt.{decimal}
 use Rattle.rpki.specs.Inspection.{inspection_error_name}
 use Rattle.rpki.specs.IssuingError.{IssuingError}
 use Rattle.rpki.specs.IssuingError.TheVariants as issuing
+use Rattle.rpki.specs.ListError.{ListError}
+use Rattle.rpki.specs.ListError.TheVariants as listing
+use Rattle.rpki.specs.NextListError.{NextListError}
+use Rattle.rpki.specs.NextListError.TheVariants as next
+use Rattle.rpki.specs.Revocation.{revocation_error_name}
 use Rattle.rpki.specs.Judged.{Judged}
 use Rattle.rpki.specs.ValidationError.TheVariants.{Inspection, Verification}
 use Rattle.rpki.specs.Verification.{Context, verification_error_name}
-use Rattle.rpki_files.specs.FaultRules.{RuleFields, inspection_rule, key_rule, name_rule, rule_of, verification_rule}
+use Rattle.rpki_files.specs.FaultRules.{RuleFields, inspection_rule, key_rule, name_rule, revocation_rule, rule_of, verification_rule}
 use Rattle.rpki_values.specs.OnlyValues.{IsOnly}
 use Rattle.rpki_verdicts.specs.PathAnswers.{IsVerdictBy}
 use Rattle.rpki_verdicts.specs.declared.path.Fault.{Fault}
@@ -17,7 +22,7 @@ use Rattle.rpki_wanted.specs.declared.preparing.WantedError.TheVariants as wante
 use Rattle.rpki_requests.specs.RequestFiles.{IsNoAuthority, chained}
 use Rattle.rpki_requests.specs.RequestWords.{setting_name}
 use Rattle.rpki_requests.specs.declared.refusals.Refusal.{Refusal}
-use Rattle.rpki_requests.specs.declared.refusals.Refusal.TheVariants.{Value, NoKey, UnusedKey, Rejected, NoAuthority, NoName, Files, NotToSign, OtherName, Unfit, Memory}
+use Rattle.rpki_requests.specs.declared.refusals.Refusal.TheVariants.{Value, NoKey, UnusedKey, Rejected, NoAuthority, NoIssuer, OtherList, OtherCertificate, NoName, Files, NotToSign, OtherName, Unfit, Memory}
 
 -- ---- when one comes
 
@@ -33,18 +38,23 @@ abbrev pub AnswersOnly : {V : Type 0} → (V → Type 0) → Result V Refusal �
 AnswersOnly {V} Is (Ok v) = IsOnly Is v
 AnswersOnly {V} Is (Err why) = IsPathless why × (why ≢ Memory → (v : V) → Is v → ⊥)
 
--- the path that the files are is accepted, but its last member isn't a CA
-pub record EndsInNoAuthority (x : Context) (files : List (List ℕ)) : Type 0 where
+-- the same of an answer that is seen by view
+abbrev pub AnswersOnlyBy : {X V : Type 0} → (X → V) → (V → Type 0) → Result X Refusal → Type 0
+AnswersOnlyBy {X} {V} view Is (Ok x) = IsOnly Is (view x)
+AnswersOnlyBy {X} {V} view Is (Err why) = IsPathless why × (why ≢ Memory → (v : V) → Is v → ⊥)
+
+-- the path that the files are is accepted, with these lists, but its last member isn't a CA
+pub record EndsInNoAuthority (x : Context) (files lists : List (List ℕ)) : Type 0 where
   pub judged : Judged
-  pub accepted : IsVerdictBy x chained files [] (verdict.Accepted judged)
+  pub accepted : IsVerdictBy x chained files lists (verdict.Accepted judged)
   pub no_authority : IsNoAuthority judged
 
 -- what it says of the issuer's path is so: the path is rejected for this fault, or it is accepted,
 -- but ends in no CA
-abbrev pub TellsPath : Context → List (List ℕ) → Refusal → Type 0
-TellsPath x files (Rejected fault) = IsVerdictBy x chained files [] (verdict.Rejected fault)
-TellsPath x files NoAuthority = EndsInNoAuthority x files
-TellsPath x files _ = Unit {0}
+abbrev pub TellsPath : Context → List (List ℕ) → List (List ℕ) → Refusal → Type 0
+TellsPath x files lists (Rejected fault) = IsVerdictBy x chained files lists (verdict.Rejected fault)
+TellsPath x files lists NoAuthority = EndsInNoAuthority x files lists
+TellsPath x files lists _ = Unit {0}
 
 -- ---- what is said of it
 
@@ -63,11 +73,27 @@ issuing_text (issuing.Invalid (Verification e)) =
     fault_text (verification_error_name e) (verification_rule e)
 issuing_text issuing.Memory = codes "out of memory"
 
+-- why no such list may follow the one before
+abbrev pub next_text : NextListError → List ℕ
+next_text next.Number = codes "the number isn't greater than that of the previous list"
+next_text next.LongNumber = codes "the number of the list has more than 20 octets"
+next_text next.UpdateOrder = codes "the next update is before this one"
+next_text next.Memory = codes "out of memory"
+
+-- why a list isn't ready, or why a signature isn't its own
+abbrev pub list_text : ListError → List ℕ
+list_text (listing.Invalid e) = fault_text (revocation_error_name e) (revocation_rule e)
+list_text listing.TooLong = codes "the list would be too long"
+list_text listing.Memory = codes "out of memory"
+
 abbrev pub wanted_text : WantedError → List ℕ
 wanted_text wanted.NoRole = codes "a trust anchor has no issuer, and other certificates have one"
 wanted_text (wanted.Unready e) = issuing_text e
 wanted_text wanted.OtherOctets = codes "the first file isn't what is prepared of its fields"
 wanted_text (wanted.Unsigned e) = issuing_text e
+wanted_text (wanted.NoList e) = next_text e
+wanted_text (wanted.UnreadyList e) = list_text e
+wanted_text (wanted.UnsignedList e) = list_text e
 wanted_text wanted.Memory = codes "out of memory"
 
 -- of the issuer's path the member that is wrong, the step, and why
@@ -82,9 +108,13 @@ refusal_text NoKey = codes "the key's file is no public key"
 refusal_text (UnusedKey format) = fault_text (codes "BadKey") (key_rule format)
 refusal_text (Rejected fault) = path_text fault
 refusal_text NoAuthority = codes "the last issuer is no CA"
+refusal_text NoIssuer = codes "a revocation list has an issuer"
+refusal_text OtherList = codes "the previous list isn't one that the issuer signed"
+refusal_text (OtherCertificate place) =
+    codes "file " ++ (decimal place ++ codes " of --revoke isn't a certificate of the issuer")
 refusal_text NoName = codes "the subject would have no name"
 refusal_text Files = codes "complete takes two files"
-refusal_text NotToSign = codes "the first file isn't what is to be signed of a certificate"
+refusal_text NotToSign = codes "the first file isn't what is to be signed of a certificate or a list"
 refusal_text (OtherName place) = fault_text (codes "OtherName") (name_rule place)
 refusal_text (Unfit e) = wanted_text e
 refusal_text Memory = codes "out of memory"

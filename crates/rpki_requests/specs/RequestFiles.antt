@@ -1,22 +1,30 @@
--- What the files of a request are: the issuer's path, the subject's key, what is completed (own).
+-- What the files of a request are: the issuer's path, the subject's key, the issuer's list before,
+-- what is revoked, what is completed (own).
 use Rattle.std.specs.Prelude.{◌≡◌, ◌⊎◌, ℕ, List, [], ◌∷◌, true, option_map, IsSome, Option, Some, None}
-use Rattle.rpki.specs.Certificates.{TbsFields, IsTbsCertificate}
+use Rattle.rpki.specs.Certificates.{TbsFields, CertFields, IsCertificate, IsTbsCertificate}
 use Rattle.rpki.specs.Judged.{Judged}
 use Rattle.rpki.specs.KeyForms.{IsUsableKey}
 use Rattle.rpki.specs.Keys.{KeyFields, IsPublicKey}
 use Rattle.rpki.specs.Kind.{Kind}
 use Rattle.rpki.specs.Kind.TheVariants.{Anchor}
-use Rattle.rpki.specs.Verification.{Context, ResourceFields}
+use Rattle.rpki.specs.Lists.{CrlFields, IsCertificateList}
+use Rattle.rpki.specs.Revocation.{NamesIssuer}
+use Rattle.rpki.specs.RsaSignatures.{IsSignedByRsa}
+use Rattle.rpki.specs.Verification.{Context, ResourceFields, IsSignedBy}
 use Rattle.rpki_files.specs.SaidKinds.{SaysAuthority, SaysKind}
 use Rattle.rpki_verdicts.specs.PathFiles.{Demands}
 use Rattle.rpki_verdicts.specs.PathAnswers.{HoldSame, IsVerdictBy}
 use Rattle.rpki_verdicts.specs.declared.path.Verdict.TheVariants.{Accepted}
 
--- the octets of the objects of the files that a request names: those of the issuer's path, those of
--- the subject's key, and the others
+-- the octets of the objects of the files that a request names: those of the issuer's path, the lists
+-- that it is judged with, those of the subject's key, of the list before, of what is revoked, and the
+-- others
 pub record InputFields : Type 0 where
   pub issuers : List (List ℕ)
+  pub lists : List (List ℕ)
   pub keys : List (List ℕ)
+  pub previous : List (List ℕ)
+  pub revoked : List (List ℕ)
   pub files : List (List ℕ)
 
 -- ---- who issues
@@ -25,9 +33,10 @@ pub record InputFields : Type 0 where
 abbrev pub chained : Demands
 chained = record { locators = []; names = true }
 
--- the files are accepted as a path without lists, and its last member is a CA, which holds this
-pub record IsHeldByLast (x : Context) (files : List (List ℕ)) (r : ResourceFields) : Type 0 where
-  pub accepted : IsVerdictBy x chained files [] (Accepted (record { holder = r; router = None }))
+-- the files are accepted as a path, with these lists where there are some, and its last member is a CA,
+-- which holds this
+pub record IsHeldByLast (x : Context) (files lists : List (List ℕ)) (r : ResourceFields) : Type 0 where
+  pub accepted : IsVerdictBy x chained files lists (Accepted (record { holder = r; router = None }))
   pub authority : SaysAuthority r.cert.fields
 
 -- what is judged ends in no CA: in a router, or in an end entity
@@ -35,9 +44,9 @@ abbrev pub IsNoAuthority : Judged → Type 0
 IsNoAuthority judged = IsSome judged.router ⊎ (SaysAuthority judged.holder.cert.fields → ⊥)
 
 -- the issuer, and what it holds; where there is no file, there is none
-abbrev pub IsIssuerOf : Context → List (List ℕ) → Option ResourceFields → Type 0
-IsIssuerOf x files None = files ≡ []
-IsIssuerOf x files (Some r) = IsHeldByLast x files r
+abbrev pub IsIssuerOf : Context → List (List ℕ) → List (List ℕ) → Option ResourceFields → Type 0
+IsIssuerOf x files lists None = files ≡ []
+IsIssuerOf x files lists (Some r) = IsHeldByLast x files lists r
 
 -- two are one: they have one certificate, and hold the same numbers
 abbrev pub AreOneIssuer : Option ResourceFields → Option ResourceFields → Type 0
@@ -46,9 +55,9 @@ AreOneIssuer (Some r) (Some s) = HoldSame r s
 AreOneIssuer _ _ = ⊥
 
 -- there is no other one
-abbrev pub IsOnlyIssuer : Context → List (List ℕ) → Option ResourceFields → Type 0
-IsOnlyIssuer x files issuer =
-    (other : Option ResourceFields) → IsIssuerOf x files other → AreOneIssuer other issuer
+abbrev pub IsOnlyIssuer : Context → List (List ℕ) → List (List ℕ) → Option ResourceFields → Type 0
+IsOnlyIssuer x files lists issuer =
+    (other : Option ResourceFields) → IsIssuerOf x files lists other → AreOneIssuer other issuer
 
 -- the fields of its certificate
 abbrev pub fields_above : Option ResourceFields → Option TbsFields
@@ -62,6 +71,36 @@ pub record IsKeyFile (files : List (List ℕ)) (key : KeyFields) : Type 0 where
   pub alone : files ≡ octets ∷ []
   pub is_key : IsPublicKey key octets
   pub usable : IsUsableKey key
+
+-- ---- the list before, and what is revoked
+
+-- the list names the issuer's key, and this key signed it; it may be stale
+pub record IsOwnList (issuer : TbsFields) (list : CrlFields) : Type 0 where
+  pub names : NamesIssuer issuer list
+  pub signed : IsSignedBy IsSignedByRsa issuer.key list.signed_data
+
+-- the octets are such a list
+pub record IsOwnListIn (issuer : TbsFields) (octets : List ℕ) (list : CrlFields) : Type 0 where
+  pub is_list : IsCertificateList list octets
+  pub own : IsOwnList issuer list
+
+-- there is one file, and it is a list of the issuer
+pub record IsPreviousFile (issuer : TbsFields) (files : List (List ℕ)) (list : CrlFields) : Type 0 where
+  pub octets : List ℕ
+  pub alone : files ≡ octets ∷ []
+  pub is_own : IsOwnListIn issuer octets list
+
+-- the list before; where there is no file, there was none
+abbrev pub IsPreviousOf : TbsFields → List (List ℕ) → Option CrlFields → Type 0
+IsPreviousOf issuer files None = files ≡ []
+IsPreviousOf issuer files (Some list) = IsPreviousFile issuer files list
+
+-- the file is a certificate that names the issuer's key, with this serial number
+pub record IsRevokedFile (issuer : TbsFields) (serial : ℕ) (octets : List ℕ) : Type 0 where
+  pub cert : CertFields
+  pub is_cert : IsCertificate cert octets
+  pub names : cert.fields.extensions.authority_key_identifier ≡ Some issuer.extensions.subject_key_identifier
+  pub serial_is : serial ≡ cert.fields.serial
 
 -- ---- what is completed
 

@@ -1,16 +1,16 @@
--- Which words behind the program's name ask for a certificate to be prepared or completed, and what
--- they ask (own). A word is the octets that the system has.
-use Rattle.std.specs.Prelude.{◌≡◌, ◌≤◌, ◌⊎◌, ℕ, List, [], ◌∷◌, ◌++◌, length, map, filter, Bool, true, false, fold, codes}
+-- Which words behind the program's name ask for a certificate or a revocation list to be prepared or
+-- completed, and what they ask (own). A word is the octets that the system has.
+use Rattle.std.specs.Prelude.{◌≡◌, ◌≤◌, ◌⊎◌, ℕ, List, [], ◌∷◌, ◌++◌, length, map, filter, Contains, Bool, true, false, fold, codes}
 use Rattle.std.specs.Str.{bytes_eq}
 use Rattle.rpki_arguments.specs.WordParts.{IsOption, GivesValue, AreInOrder, words_before, words_behind}
 use Rattle.rpki_requests.specs.declared.words.Demand.{Demand}
 use Rattle.rpki_requests.specs.declared.words.Demand.TheVariants.{Never, AtMostOnce, Once, AnyNumber, AtLeastOnce}
 use Rattle.rpki_requests.specs.declared.words.Errand.{Errand}
-use Rattle.rpki_requests.specs.declared.words.Errand.TheVariants.{Authority, EndEntity, Detached, Router, Anchor, Completion}
+use Rattle.rpki_requests.specs.declared.words.Errand.TheVariants.{Authority, EndEntity, Detached, Router, Anchor, RevocationList, Completion}
 use Rattle.rpki_requests.specs.declared.words.Setting.{Setting}
-use Rattle.rpki_requests.specs.declared.words.Setting.TheVariants.{Issuer, Key, Serial, From, Until, Ipv4, Ipv6, AsNumbers, Repository, Manifest, Notify, Object, IssuerUri, CrlUri, At}
+use Rattle.rpki_requests.specs.declared.words.Setting.TheVariants.{Issuer, Key, Serial, From, Until, Ipv4, Ipv6, AsNumbers, Repository, Manifest, Notify, Object, IssuerUri, CrlUri, Crl, Previous, Number, Revoke, NextUpdate, At, Out}
 use Rattle.rpki_requests.specs.declared.words.Switch.{Switch}
-use Rattle.rpki_requests.specs.declared.words.Switch.TheVariants.{Trim, Lenient, Pem}
+use Rattle.rpki_requests.specs.declared.words.Switch.TheVariants.{Trim, Lenient, Pem, Force}
 pub mod Steps
 pub mod Views
 
@@ -23,6 +23,7 @@ errand_words EndEntity = codes "prepare" ∷ codes "ee" ∷ []
 errand_words Detached = codes "prepare" ∷ codes "detached" ∷ []
 errand_words Router = codes "prepare" ∷ codes "router" ∷ []
 errand_words Anchor = codes "prepare" ∷ codes "anchor" ∷ []
+errand_words RevocationList = codes "prepare" ∷ codes "list" ∷ []
 errand_words Completion = codes "complete" ∷ []
 
 -- the first word is one that requests begin with
@@ -30,6 +31,10 @@ abbrev pub BeginsRequest : List (List ℕ) → Type 0
 BeginsRequest words =
     (first : List ℕ) × (rest : List (List ℕ)) × (words ≡ first ∷ rest)
     × ((first ≡ codes "prepare") ⊎ (first ≡ codes "complete"))
+
+-- `--help` or `-h` stands before `--`: the words ask how the command is used, and nothing else
+abbrev pub AsksHelp : List (List ℕ) → Type 0
+AsksHelp words = Contains (words_before words) (codes "--help") ⊎ Contains (words_before words) (codes "-h")
 
 -- the name of an option that takes a value
 abbrev pub setting_name : Setting → List ℕ
@@ -47,13 +52,20 @@ setting_name Notify = codes "--notify"
 setting_name Object = codes "--object"
 setting_name IssuerUri = codes "--issuer-uri"
 setting_name CrlUri = codes "--crl-uri"
+setting_name Crl = codes "--crl"
+setting_name Previous = codes "--previous"
+setting_name Number = codes "--number"
+setting_name Revoke = codes "--revoke"
+setting_name NextUpdate = codes "--next-update"
 setting_name At = codes "--at"
+setting_name Out = codes "--out"
 
 -- the name of one that takes none
 abbrev pub switch_name : Switch → List ℕ
 switch_name Trim = codes "--trim"
 switch_name Lenient = codes "--lenient"
 switch_name Pem = codes "--pem"
+switch_name Force = codes "--force"
 
 -- an option with its value
 pub record GivenFields : Type 0 where
@@ -75,8 +87,8 @@ IsRequestPart (switch s) words = words ≡ switch_name s ∷ []
 -- ---- what they ask
 
 -- the errand, the options that take a value and the files, each in the order of the words, whether
--- resources that the issuer doesn't hold are trimmed, whether names are read strictly, and whether
--- what is completed is written in PEM
+-- resources that the issuer doesn't hold are trimmed, whether names are read strictly, whether what is
+-- completed is written in PEM, and whether a file that is there is overwritten
 pub record AskedFields : Type 0 where
   pub errand : Errand
   pub given : List GivenFields
@@ -84,11 +96,20 @@ pub record AskedFields : Type 0 where
   pub trims : Bool
   pub strict : Bool
   pub is_pem : Bool
+  pub overwrites : Bool
 
 -- an errand, and nothing more
 abbrev pub only_errand : Errand → AskedFields
 only_errand errand =
-    record { errand = errand; given = []; files = []; trims = false; strict = true; is_pem = false }
+    record {
+      errand = errand;
+      given = [];
+      files = [];
+      trims = false;
+      strict = true;
+      is_pem = false;
+      overwrites = false;
+    }
 
 -- with what a further part says
 abbrev pub with_part : AskedFields → RequestPart → AskedFields
@@ -97,6 +118,7 @@ with_part asked (option g) = record asked { given = asked.given ++ g ∷ [] }
 with_part asked (switch Trim) = record asked { trims = true }
 with_part asked (switch Lenient) = record asked { strict = false }
 with_part asked (switch Pem) = record asked { is_pem = true }
+with_part asked (switch Force) = record asked { overwrites = true }
 
 -- ---- which options suit an errand
 
@@ -110,6 +132,7 @@ values_of setting given = map (λ g. g.value) (filter (λ g. is_same g.setting s
 
 -- how often certificates take an option that nothing else takes
 abbrev pub of_certificates : Demand → Errand → Demand
+of_certificates often RevocationList = Never
 of_certificates often Completion = Never
 of_certificates often _ = often
 
@@ -124,11 +147,26 @@ of_authorities often Authority = often
 of_authorities often Anchor = often
 of_authorities often _ = Never
 
+-- how often those of revocation lists do
+abbrev pub of_lists : Demand → Errand → Demand
+of_lists often RevocationList = often
+of_lists often _ = Never
+
 -- how often the issuer's path is given, which a trust anchor has none of
 abbrev pub issuers_demand : Errand → Demand
 issuers_demand Anchor = Never
 issuers_demand Completion = AnyNumber
 issuers_demand _ = AtLeastOnce
+
+-- how often lists are that this path is judged with
+abbrev pub lists_demand : Errand → Demand
+lists_demand Anchor = Never
+lists_demand _ = AnyNumber
+
+-- how often serial numbers are: a certificate has one, and a list revokes any number
+abbrev pub serial_demand : Errand → Demand
+serial_demand RevocationList = AnyNumber
+serial_demand errand = of_certificates Once errand
 
 -- how often addresses are, of which a router has none (RFC 8209 3.1.3.4)
 abbrev pub addresses_demand : Errand → Demand
@@ -149,7 +187,7 @@ object_demand _ = Never
 abbrev pub demand : Setting → Errand → Demand
 demand Issuer errand = issuers_demand errand
 demand Key errand = of_certificates Once errand
-demand Serial errand = of_certificates Once errand
+demand Serial errand = serial_demand errand
 demand From errand = of_certificates Once errand
 demand Until errand = of_certificates Once errand
 demand Ipv4 errand = addresses_demand errand
@@ -161,7 +199,13 @@ demand Notify errand = of_authorities AtMostOnce errand
 demand Object errand = object_demand errand
 demand IssuerUri errand = of_issued Once errand
 demand CrlUri errand = of_issued Once errand
+demand Crl errand = lists_demand errand
+demand Previous errand = of_lists AtMostOnce errand
+demand Number errand = of_lists AtMostOnce errand
+demand Revoke errand = of_lists AnyNumber errand
+demand NextUpdate errand = of_lists Once errand
 demand At errand = AtMostOnce
+demand Out errand = AtMostOnce
 
 -- an option that stands so often meets what is demanded
 abbrev pub Meets : Demand → ℕ → Type 0
@@ -173,11 +217,13 @@ Meets AtLeastOnce n = 1 ≤ n
 
 -- whether an errand takes an option without a value
 abbrev pub takes : Switch → Errand → Bool
+takes Trim RevocationList = false
 takes Trim Completion = false
 takes Trim _ = true
 takes Lenient _ = true
 takes Pem Completion = true
 takes Pem _ = false
+takes Force _ = true
 
 -- how many files it wants: what was prepared, and its signature
 abbrev pub files_wanted : Errand → ℕ

@@ -1,9 +1,11 @@
-//! What a request gives: the octets that are to be signed, or a certificate.
-ghost use Rattle.std.specs.Prelude.{◌≡◌, ◌≢◌, ◌↔◌, ℕ, List, [], ◌∷◌, option_map, IfErr, IfOk, IsTrue, MatchOption};
+//! What a request gives: the octets that are to be signed, or a certificate or a revocation list.
+ghost use Rattle.std.specs.Prelude.{◌≡◌, ◌≢◌, ◌↔◌, ℕ, List, [], ◌∷◌, option_map, Option, IfErr, IfOk, IsTrue, MatchOption};
 ghost use Rattle.rpki_files.specs.Files.{contents};
+ghost use Rattle.rpki.specs.Lists.{IsTbsCertList};
+ghost use Rattle.rpki.specs.Verification.{ResourceFields};
 ghost use Rattle.rpki_wanted.specs.AskedFields.{issuer_name};
-ghost use Rattle.rpki_requests.specs.Fulfilment.{AsksFields, Completes, CompletesBelow, Fulfils, Prepares, PreparesBelow, context_of, kind_prepared};
-ghost use Rattle.rpki_requests.specs.RequestFiles.{IsCompletedAs, fields_above};
+ghost use Rattle.rpki_requests.specs.Fulfilment.{AsksFields, Completes, CompletesAs, CompletesBelow, CompletesListBelow, Fulfils, GivesToSign, Prepares, PreparesBelow, PreparesList, PreparesListBelow, context_of};
+ghost use Rattle.rpki_requests.specs.RequestFiles.{IsCompletedAs, IsIssuerOf, IsOnlyIssuer, fields_above};
 ghost use Rattle.rpki_requests.specs.RequestWords.Views.{asked_fields};
 ghost use Rattle.rpki_requests.specs.Refusals.{AnswersOnly, IsPathless, TellsPath};
 ghost use Rattle.rpki_requests.specs.declared.refusals.Refusal.TheVariants.{Memory};
@@ -11,23 +13,32 @@ ghost use Rattle.rpki_wanted.specs.declared.preparing.WantedError.TheVariants as
 
 use crate::issuers::issuer_of;
 use crate::keys::{subject_key, to_sign};
+use crate::lists::{list_asked, list_to_sign};
 use crate::refusals::Refusal;
 use crate::values::{both, wanted};
 use crate::words::{Errand, Order};
 use bytes::Bytes;
+use rpki::laws;
 use rpki::repository::cert::{Kind, ResourceCert, TbsCert};
+use rpki::repository::crl::{RevokedCertificates, TbsCertList};
 use rpki::repository::x509::{Name, Time};
 use rpki_files::{Object, said_kind};
-use rpki_wanted::{WantedError, complete_octets, fields, prepare_octets};
+use rpki_wanted::{
+    WantedError, complete_list_octets, complete_octets, fields, prepare_list_octets, prepare_octets,
+};
 use std::alloc::Global;
 use std::marker::Model;
 
 /// The files that a request names, as they were read: those of the issuer's path, from the trust
-/// anchor down, those of the subject's key, and the others.
+/// anchor down, the lists that it is judged with, those of the subject's key, of the issuer's list
+/// before, of the certificates that are revoked, and the others.
 #[derive(Drop)]
 pub struct Inputs<'f, 'n> {
     pub issuers: &'f [Object<'n>],
+    pub lists: &'f [Object<'n>],
     pub keys: &'f [Object<'n>],
+    pub previous: &'f [Object<'n>],
+    pub revoked: &'f [Object<'n>],
     pub files: &'f [Object<'n>],
 }
 
@@ -39,13 +50,27 @@ impl<'f, 'n> Model for Inputs<'f, 'n> {
 
     ghost view = { λ i. record {
       issuers = contents i.issuers.now;
+      lists = contents i.lists.now;
       keys = contents i.keys.now;
+      previous = contents i.previous.now;
+      revoked = contents i.revoked.now;
       files = contents i.files.now;
     } };
 }
 
+/// What a request gives.
+#[derive(Drop)]
+pub enum Made {
+    /// The octets that are to be signed.
+    ToSign(Bytes),
+    /// A certificate, in DER.
+    Certificate(Bytes),
+    /// A revocation list, in DER.
+    RevocationList(Bytes),
+}
+
 // Why nothing is prepared or completed, where memory didn't run out.
-fn unfit(error: WantedError) -> Refusal
+pub(crate) fn unfit(error: WantedError) -> Refusal
     ensures memory { result ≢ Memory → error ≢ wanting.Memory }
     ensures pathless { IsPathless result }
 {
@@ -119,27 +144,93 @@ fn prepared_below(
     }
 }
 
-// What is to be signed.
+// The issuer that the files are, if there are some.
+fn issuer_asked(
+    alloc: Global,
+    order: &Order<'_>,
+    inputs: &Inputs<'_, '_>,
+    at: Time,
+) -> Result<Option<ResourceCert>, Refusal>
+    ensures issuer { let x = context_of (asked_fields order.now) at in
+        IfOk result (IsIssuerOf x inputs.now.issuers inputs.now.lists) }
+    ensures only { let x = context_of (asked_fields order.now) at in
+        IfOk result (IsOnlyIssuer x inputs.now.issuers inputs.now.lists) }
+    ensures none { let x = context_of (asked_fields order.now) at in
+        IfErr result (λ why. why ≢ Memory → (issuer : Option ResourceFields)
+        → IsIssuerOf x inputs.now.issuers inputs.now.lists issuer → ⊥) }
+    ensures told { let x = context_of (asked_fields order.now) at in
+        IfErr result (TellsPath x inputs.now.issuers inputs.now.lists) }
+{
+    issuer_of(alloc, inputs.issuers, inputs.lists, order.strict, at)
+}
+
+// What is to be signed of a certificate.
 fn prepared(
     alloc: Global,
     order: &Order<'_>,
     kind: Kind,
-    issuers: &[Object<'_>],
-    keys: &[Object<'_>],
+    inputs: &Inputs<'_, '_>,
+    at: Time,
+) -> Result<Made, Refusal>
+    ensures prepared { let asked = asked_fields order.now in
+        IfOk result (GivesToSign (Prepares kind asked inputs.now at)) }
+    ensures refused { let asked = asked_fields order.now in
+        IfErr result (λ why. why ≢ Memory → (given : Made)
+        → GivesToSign (Prepares kind asked inputs.now at) given → ⊥) }
+    ensures told { let x = context_of (asked_fields order.now) at in
+        IfErr result (TellsPath x inputs.now.issuers inputs.now.lists) }
+{
+    let issuer = issuer_asked(alloc, order, inputs, at)?;
+    let octets = prepared_below(alloc, order, kind, inputs.keys, issuer.as_ref(), at);
+    drop(issuer);
+    Ok(Made::ToSign(octets?))
+}
+
+// What is to be signed of the issuer's list.
+fn list_prepared_below(
+    alloc: Global,
+    order: &Order<'_>,
+    inputs: &Inputs<'_, '_>,
+    issuer: &ResourceCert,
     at: Time,
 ) -> Result<Bytes, Refusal>
     ensures prepared { let asked = asked_fields order.now in
-        IfOk result (Prepares kind asked (contents issuers.now) (contents keys.now) at) }
+        IfOk result (PreparesListBelow asked inputs.now at issuer.now.cert.fields) }
     ensures refused { let asked = asked_fields order.now in
         IfErr result (λ why. why ≢ Memory → (octets : List ℕ)
-        → Prepares kind asked (contents issuers.now) (contents keys.now) at octets → ⊥) }
-    ensures told { let x = context_of (asked_fields order.now) at in
-        IfErr result (TellsPath x (contents issuers.now)) }
+        → PreparesListBelow asked inputs.now at issuer.now.cert.fields octets → ⊥) }
+    ensures pathless { IfErr result IsPathless }
 {
-    let issuer = issuer_of(alloc, issuers, order.strict, at)?;
-    let made = prepared_below(alloc, order, kind, keys, issuer.as_ref(), at);
+    let list = list_asked(alloc, order, inputs, issuer, at)?;
+    let octets = prepare_list_octets(alloc, &list, issuer, order.strict, at);
+    drop(list);
+    match octets {
+        Ok(octets) => Ok(octets),
+        Err(error) => Err(unfit(error)),
+    }
+}
+
+// What is to be signed of a list.
+fn list_prepared(
+    alloc: Global,
+    order: &Order<'_>,
+    inputs: &Inputs<'_, '_>,
+    at: Time,
+) -> Result<Made, Refusal>
+    ensures prepared { let asked = asked_fields order.now in
+        IfOk result (GivesToSign (PreparesList asked inputs.now at)) }
+    ensures refused { let asked = asked_fields order.now in
+        IfErr result (λ why. why ≢ Memory → (given : Made)
+        → GivesToSign (PreparesList asked inputs.now at) given → ⊥) }
+    ensures told { let x = context_of (asked_fields order.now) at in
+        IfErr result (TellsPath x inputs.now.issuers inputs.now.lists) }
+{
+    let Some(issuer) = issuer_asked(alloc, order, inputs, at)? else {
+        return Err(Refusal::NoIssuer);
+    };
+    let octets = list_prepared_below(alloc, order, inputs, &issuer, at);
     drop(issuer);
-    made
+    Ok(Made::ToSign(octets?))
 }
 
 // The name of who issues.
@@ -216,6 +307,75 @@ fn completed_below(
     }
 }
 
+// Whether the list is named as its issuer is.
+fn is_list_named(list: &TbsCertList<RevokedCertificates>, issuer: &ResourceCert) -> bool
+    ensures { IsTrue result ↔ (list.now.issuer ≡ issuer.now.cert.fields.subject) }
+{
+    list.issuer().as_bytes() == issuer.as_cert().as_tbs().subject().as_bytes()
+}
+
+// The list that is completed below the issuer.
+fn list_completed_below(
+    alloc: Global,
+    order: &Order<'_>,
+    issuer: &ResourceCert,
+    list: &TbsCertList<RevokedCertificates>,
+    prepared: &[u8],
+    signature: &[u8],
+    at: Time,
+) -> Result<Bytes, Refusal>
+    requires { IsTbsCertList list.now prepared.now }
+    ensures completed { let asked = asked_fields order.now in
+        let issuer = issuer.now.cert.fields in
+        IfOk result (CompletesListBelow asked at issuer prepared.now signature.now) }
+    ensures refused { let asked = asked_fields order.now in
+        let issuer = issuer.now.cert.fields in
+        IfErr result (λ why. why ≢ Memory → (octets : List ℕ)
+        → CompletesListBelow asked at issuer prepared.now signature.now octets → ⊥) }
+    ensures pathless { IfErr result IsPathless }
+{
+    // Called for what it ensures alone.
+    laws::lists::unambiguous();
+    if !is_list_named(list, issuer) {
+        return Err(Refusal::OtherName(1));
+    }
+    match complete_list_octets(alloc, list, prepared, signature, issuer, order.strict, at) {
+        Ok(octets) => Ok(octets),
+        Err(error) => Err(unfit(error)),
+    }
+}
+
+// The certificate or the list that is completed below the issuer.
+fn made_below(
+    alloc: Global,
+    order: &Order<'_>,
+    issuer: Option<&ResourceCert>,
+    prepared: &Bytes,
+    signature: &[u8],
+    at: Time,
+) -> Result<Made, Refusal>
+    ensures completed { let issuer = option_map (λ r. r.now) issuer.entry in
+        let asked = asked_fields order.now in
+        IfOk result (CompletesAs asked at issuer prepared.now signature.now) }
+    ensures refused { let issuer = option_map (λ r. r.now) issuer.entry in
+        let asked = asked_fields order.now in
+        IfErr result (λ why. why ≢ Memory → (given : Made)
+        → CompletesAs asked at issuer prepared.now signature.now given → ⊥) }
+    ensures pathless { IfErr result IsPathless }
+{
+    let Some(list) = list_to_sign(alloc, prepared)? else {
+        let octets = completed_below(alloc, order, issuer, prepared, signature, at)?;
+        return Ok(Made::Certificate(octets));
+    };
+    let Some(issuer) = issuer else {
+        drop(list);
+        return Err(Refusal::NoIssuer);
+    };
+    let octets = list_completed_below(alloc, order, issuer, &list, prepared, signature, at);
+    drop(list);
+    Ok(Made::RevocationList(octets?))
+}
+
 // The two files, if there are two.
 fn two_files<'f>(files: &'f [Object<'_>]) -> Option<(&'f Bytes, &'f Bytes)>
     ensures { MatchOption result
@@ -228,43 +388,26 @@ fn two_files<'f>(files: &'f [Object<'_>]) -> Option<(&'f Bytes, &'f Bytes)>
     Some((files[0].octets(), files[1].octets()))
 }
 
-// The certificate that is completed.
+// What is completed.
 fn completed(
     alloc: Global,
     order: &Order<'_>,
-    issuers: &[Object<'_>],
-    files: &[Object<'_>],
+    inputs: &Inputs<'_, '_>,
     at: Time,
-) -> Result<Bytes, Refusal>
-    ensures completed { let asked = asked_fields order.now in
-        IfOk result (Completes asked (contents issuers.now) (contents files.now) at) }
-    ensures refused { let asked = asked_fields order.now in
-        IfErr result (λ why. why ≢ Memory → (octets : List ℕ)
-        → Completes asked (contents issuers.now) (contents files.now) at octets → ⊥) }
+) -> Result<Made, Refusal>
+    ensures completed { IfOk result (Completes (asked_fields order.now) inputs.now at) }
+    ensures refused { IfErr result (λ why. why ≢ Memory → (given : Made)
+        → Completes (asked_fields order.now) inputs.now at given → ⊥) }
     ensures told { let x = context_of (asked_fields order.now) at in
-        IfErr result (TellsPath x (contents issuers.now)) }
+        IfErr result (TellsPath x inputs.now.issuers inputs.now.lists) }
 {
-    let Some((prepared, signature)) = two_files(files) else {
+    let Some((prepared, signature)) = two_files(inputs.files) else {
         return Err(Refusal::Files);
     };
-    let issuer = issuer_of(alloc, issuers, order.strict, at)?;
-    let made = completed_below(alloc, order, issuer.as_ref(), prepared, signature, at);
+    let issuer = issuer_asked(alloc, order, inputs, at)?;
+    let made = made_below(alloc, order, issuer.as_ref(), prepared, signature, at);
     drop(issuer);
     made
-}
-
-// The kind of what an errand prepares, if it prepares something.
-fn kind_to_prepare(errand: Errand) -> Option<Kind>
-    ensures { result ≡ kind_prepared errand }
-{
-    match errand {
-        Errand::Authority => Some(Kind::Authority),
-        Errand::EndEntity => Some(Kind::EndEntity),
-        Errand::Detached => Some(Kind::Detached),
-        Errand::Router => Some(Kind::Router),
-        Errand::Anchor => Some(Kind::Anchor),
-        Errand::Completion => None,
-    }
 }
 
 /// Fulfils a request by the files that it names, at a moment: prepares what is to be signed, or
@@ -274,15 +417,20 @@ pub fn fulfil(
     order: &Order<'_>,
     inputs: &Inputs<'_, '_>,
     at: Time,
-) -> Result<Bytes, Refusal>
+) -> Result<Made, Refusal>
     ensures fulfilled { IfOk result (Fulfils (asked_fields order.now) inputs.now at) }
-    ensures refused { IfErr result (λ why. why ≢ Memory → (octets : List ℕ)
-        → Fulfils (asked_fields order.now) inputs.now at octets → ⊥) }
+    ensures refused { IfErr result (λ why. why ≢ Memory → (given : Made)
+        → Fulfils (asked_fields order.now) inputs.now at given → ⊥) }
     ensures told { let x = context_of (asked_fields order.now) at in
-        IfErr result (TellsPath x inputs.now.issuers) }
+        IfErr result (TellsPath x inputs.now.issuers inputs.now.lists) }
 {
-    match kind_to_prepare(order.errand) {
-        Some(kind) => prepared(alloc, order, kind, inputs.issuers, inputs.keys, at),
-        None => completed(alloc, order, inputs.issuers, inputs.files, at),
+    match order.errand {
+        Errand::Authority => prepared(alloc, order, Kind::Authority, inputs, at),
+        Errand::EndEntity => prepared(alloc, order, Kind::EndEntity, inputs, at),
+        Errand::Detached => prepared(alloc, order, Kind::Detached, inputs, at),
+        Errand::Router => prepared(alloc, order, Kind::Router, inputs, at),
+        Errand::Anchor => prepared(alloc, order, Kind::Anchor, inputs, at),
+        Errand::RevocationList => list_prepared(alloc, order, inputs, at),
+        Errand::Completion => completed(alloc, order, inputs, at),
     }
 }

@@ -37,29 +37,30 @@ fn authority_of(judged: Judged) -> Result<ResourceCert, Refusal>
 }
 
 /// Returns the CA that the path of these files ends in, and what it holds. The path is judged with
-/// real signatures, and its names have to chain. Gives `None` where there is no file.
+/// real signatures and with the lists that are given, and its names have to chain. Gives `None` where there is no file.
 pub(crate) fn issuer_of(
     alloc: Global,
     files: &[Object<'_>],
+    lists: &[Object<'_>],
     strict: bool,
     at: Time,
 ) -> Result<Option<ResourceCert>, Refusal>
     ensures issuer { let x = context IsSignedByRsa at strict in
-        IfOk result (IsIssuerOf x (contents files.now)) }
+        IfOk result (IsIssuerOf x (contents files.now) (contents lists.now)) }
     ensures only { let x = context IsSignedByRsa at strict in
-        IfOk result (IsOnlyIssuer x (contents files.now)) }
+        IfOk result (IsOnlyIssuer x (contents files.now) (contents lists.now)) }
     ensures none { let x = context IsSignedByRsa at strict in
         IfErr result (λ why. why ≢ Memory → (issuer : Option ResourceFields)
-        → IsIssuerOf x (contents files.now) issuer → ⊥) }
+        → IsIssuerOf x (contents files.now) (contents lists.now) issuer → ⊥) }
     ensures told { let x = context IsSignedByRsa at strict in
-        IfErr result (TellsPath x (contents files.now)) }
+        IfErr result (TellsPath x (contents files.now) (contents lists.now)) }
 {
     // Called for what they ensure alone.
     one_answer();
     one_acceptance();
     let question = Question {
         members: files,
-        lists: &[],
+        lists,
         locators: &[],
         names: true,
         strict,

@@ -2,14 +2,14 @@
 ghost use Rattle.std.specs.Prelude.{◌≡◌, Some};
 ghost use Rattle.std.specs.Fmt.{WritesOnOk};
 ghost use Rattle.rpki_files.specs.FaultRules.{rule_of};
-ghost use Rattle.rpki_requests.specs.Refusals.{fault_text, issuing_text, path_text, refusal_text, wanted_text};
+ghost use Rattle.rpki_requests.specs.Refusals.{fault_text, issuing_text, list_text, next_text, path_text, refusal_text, wanted_text};
 ghost use Rattle.rpki_requests.specs.declared.refusals.Refusal.TheVariants.{Memory};
 
 use crate::words::Setting;
 use rpki::crypto::PublicKeyFormat;
 use rpki::repository::error::ValidationError;
-use rpki::repository::issuing::IssuingError;
-use rpki_files::rules::{Rule, of_inspection, of_key, of_name, of_verification};
+use rpki::repository::issuing::{IssuingError, ListError, NextListError};
+use rpki_files::rules::{Rule, of_inspection, of_key, of_name, of_revocation, of_verification};
 use rpki_verdicts::Fault;
 use rpki_wanted::WantedError;
 use std::alloc::AllocError;
@@ -28,11 +28,17 @@ pub enum Refusal {
     Rejected(Fault),
     /// The last member of the issuer's path isn't a CA.
     NoAuthority,
+    /// A revocation list has no issuer.
+    NoIssuer,
+    /// The previous list isn't one that the issuer's key signed.
+    OtherList,
+    /// What is to be revoked, at this place, isn't a certificate that names the issuer's key.
+    OtherCertificate(usize),
     /// The subject would have no name.
     NoName,
     /// There aren't two files to be completed.
     Files,
-    /// The first of them isn't a TBSCertificate.
+    /// The first of them is neither a TBSCertificate nor a TBSCertList.
     NotToSign,
     /// The name of its issuer isn't that of the certificate above, if there is one, or its own.
     OtherName(usize),
@@ -93,6 +99,35 @@ fn write_issuing<W: fmt::Write>(f: &mut fmt::Formatter<W>, error: &IssuingError)
     }
 }
 
+// Writes why no such list may follow the one before.
+fn write_next<W: fmt::Write>(f: &mut fmt::Formatter<W>, error: &NextListError) -> fmt::Result
+    ensures { WritesOnOk W.write_str_gives f.old result (next_text error.now) f.new }
+{
+    f.write_str(match error {
+        NextListError::Number => "the number isn't greater than that of the previous list",
+        NextListError::LongNumber => "the number of the list has more than 20 octets",
+        NextListError::UpdateOrder => "the next update is before this one",
+        NextListError::Memory => "out of memory",
+    })
+}
+
+// Writes why a list isn't ready, or why a signature isn't its own.
+fn write_list<W: fmt::Write>(f: &mut fmt::Formatter<W>, error: &ListError) -> fmt::Result
+    ensures { WritesOnOk W.write_str_gives f.old result (list_text error.now) f.new }
+{
+    match error {
+        ListError::Invalid(fault) => {
+            let reason = Reason {
+                name: fault.name(),
+                rule: of_revocation(fault),
+            };
+            write!(f, "{reason}")
+        }
+        ListError::TooLong => f.write_str("the list would be too long"),
+        ListError::Memory => f.write_str("out of memory"),
+    }
+}
+
 // Writes why what is wanted isn't ready to be signed, or wasn't signed.
 fn write_wanted<W: fmt::Write>(f: &mut fmt::Formatter<W>, error: &WantedError) -> fmt::Result
     ensures { WritesOnOk W.write_str_gives f.old result (wanted_text error.now) f.new }
@@ -105,6 +140,8 @@ fn write_wanted<W: fmt::Write>(f: &mut fmt::Formatter<W>, error: &WantedError) -
             f.write_str("the first file isn't what is prepared of its fields")
         }
         WantedError::Unready(error) | WantedError::Unsigned(error) => write_issuing(f, error),
+        WantedError::NoList(error) => write_next(f, error),
+        WantedError::UnreadyList(error) | WantedError::UnsignedList(error) => write_list(f, error),
         WantedError::Memory => f.write_str("out of memory"),
     }
 }
@@ -141,10 +178,21 @@ impl fmt::Display for Refusal {
             }
             Refusal::Rejected(fault) => write_fault(f, fault),
             Refusal::NoAuthority => f.write_str("the last issuer is no CA"),
+            Refusal::NoIssuer => f.write_str("a revocation list has an issuer"),
+            Refusal::OtherList => {
+                f.write_str("the previous list isn't one that the issuer signed")
+            }
+            Refusal::OtherCertificate(place) => {
+                let place = *place;
+                write!(
+                    f,
+                    "file {place} of --revoke isn't a certificate of the issuer"
+                )
+            }
             Refusal::NoName => f.write_str("the subject would have no name"),
             Refusal::Files => f.write_str("complete takes two files"),
             Refusal::NotToSign => {
-                f.write_str("the first file isn't what is to be signed of a certificate")
+                f.write_str("the first file isn't what is to be signed of a certificate or a list")
             }
             Refusal::OtherName(place) => {
                 let reason = Reason {

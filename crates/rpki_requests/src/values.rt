@@ -40,7 +40,7 @@ fn value_of<'a>(
 }
 
 // What the one value of an option says, if it is given one.
-fn at_most_once<T: Textual>(
+pub(crate) fn at_most_once<T: Textual>(
     alloc: Global,
     order: &Order<'_>,
     setting: Setting,
@@ -87,7 +87,7 @@ pub fn named_moment(
 }
 
 // The moment that an option names.
-fn moment(alloc: Global, order: &Order<'_>, setting: Setting) -> Result<Time, Refusal>
+pub(crate) fn moment(alloc: Global, order: &Order<'_>, setting: Setting) -> Result<Time, Refusal>
     ensures { let texts = values_of setting (asked_fields order.now).given in
         AnswersOnly (SaysOnce IsMomentSaid texts) result }
 {

@@ -1,9 +1,9 @@
-//! Which words ask for a certificate to be prepared, or to be completed.
-ghost use Rattle.std.specs.Prelude.{◌≡◌, ◌≢◌, ◌↔◌, ◌==◌, ℕ, List, [], ◌∷◌, ◌++◌, codes, count_by, filter, length, map, fold, position, IfErr, IfNone, IfOk, IfSome, IsTrue, MatchOption, OnOk, Some};
+//! Which words ask for a certificate or a revocation list to be prepared, or to be completed.
+ghost use Rattle.std.specs.Prelude.{◌≡◌, ◌≢◌, ◌↔◌, ◌==◌, ℕ, List, [], ◌∷◌, ◌++◌, codes, count_by, filter, Contains, length, map, fold, position, IfErr, IfNone, IfOk, IfSome, IsTrue, MatchOption, OnOk, Some};
 ghost use Rattle.std.specs.Fmt.{WritesOnOk};
 ghost use Rattle.rpki_arguments.specs.CommandLines.Views.{word_octets};
 ghost use Rattle.rpki_requests.specs.RequestMisuses.{misuse_text};
-ghost use Rattle.rpki_requests.specs.RequestWords.{AskedFields, BeginsRequest, IsRequestLine, Meets, RequestPart, Suits, demand, errand_words, file, files_wanted, is_same, of_authorities, of_certificates, of_issued, only_errand, option, setting_name, switch, switch_name, takes, values_of, with_part};
+ghost use Rattle.rpki_requests.specs.RequestWords.{AskedFields, AsksHelp, BeginsRequest, IsRequestLine, Meets, RequestPart, Suits, demand, errand_words, file, files_wanted, is_same, of_authorities, of_certificates, of_issued, of_lists, only_errand, option, setting_name, switch, switch_name, takes, values_of, with_part};
 ghost use Rattle.rpki_requests.specs.RequestWords.Steps.{AddsPart, AddsParts, AreRequestParts, BeginsNoPart, Joins};
 ghost use Rattle.rpki_requests.specs.RequestWords.Views.{asked_fields, given_fields};
 
@@ -12,8 +12,8 @@ use rpki_text::Characters;
 use std::alloc::{AllocError, Global};
 use std::fmt;
 
-/// What is to be prepared for signing, of a certificate its kind; or that what is signed is to be
-/// completed.
+/// What is to be prepared for signing, of a certificate its kind, or a revocation list; or that what
+/// is signed is to be completed.
 #[derive(Clone, Copy, PartialEq, Eq)]
 pub enum Errand {
     /// A CA's certificate: `prepare ca`.
@@ -26,6 +26,8 @@ pub enum Errand {
     Router,
     /// A trust anchor's: `prepare anchor`.
     Anchor,
+    /// A revocation list: `prepare list`.
+    RevocationList,
     /// What was prepared, with its signature: `complete`.
     Completion,
 }
@@ -37,7 +39,7 @@ pub enum Setting {
     Issuer,
     /// The file of the subject's key: `--key`.
     Key,
-    /// The serial number: `--serial`.
+    /// The serial number, of a certificate that is wanted or of one that is revoked: `--serial`.
     Serial,
     /// The first moment of the validity: `--from`.
     From,
@@ -61,8 +63,20 @@ pub enum Setting {
     IssuerUri,
     /// The URI of the issuer's revocation list: `--crl-uri`.
     CrlUri,
-    /// The moment at which the issuer's path is judged: `--at`.
+    /// A file of a list that the issuer's path is judged with: `--crl`.
+    Crl,
+    /// The file of the issuer's list before: `--previous`.
+    Previous,
+    /// The number of the list: `--number`.
+    Number,
+    /// The file of a certificate that is revoked: `--revoke`.
+    Revoke,
+    /// The moment by which the next list is to be made: `--next-update`.
+    NextUpdate,
+    /// The moment at which the issuer's path is judged, and a list is made: `--at`.
     At,
+    /// The file to which is written what is prepared or completed: `--out`.
+    Out,
 }
 
 /// An option that takes no value.
@@ -74,6 +88,8 @@ pub enum Switch {
     Lenient,
     /// What is completed is written in PEM: `--pem`.
     Pem,
+    /// A file that is there is overwritten: `--force`.
+    Force,
 }
 
 /// How often an errand takes an option.
@@ -105,6 +121,8 @@ pub struct Order<'a> {
     pub strict: bool,
     /// Whether what is completed is written in PEM.
     pub is_pem: bool,
+    /// Whether a file that is there is overwritten.
+    pub overwrites: bool,
 }
 
 /// Why the words ask nothing.
@@ -149,7 +167,13 @@ impl Setting {
             Setting::Object => "--object",
             Setting::IssuerUri => "--issuer-uri",
             Setting::CrlUri => "--crl-uri",
+            Setting::Crl => "--crl",
+            Setting::Previous => "--previous",
+            Setting::Number => "--number",
+            Setting::Revoke => "--revoke",
+            Setting::NextUpdate => "--next-update",
             Setting::At => "--at",
+            Setting::Out => "--out",
         }
     }
 }
@@ -163,6 +187,7 @@ impl Switch {
             Switch::Trim => "--trim",
             Switch::Lenient => "--lenient",
             Switch::Pem => "--pem",
+            Switch::Force => "--force",
         }
     }
 }
@@ -204,7 +229,7 @@ impl fmt::Display for Misuse<'_> {
 }
 
 // The options that take a value.
-const SETTINGS: [Setting; 15] = [
+const SETTINGS: [Setting; 21] = [
     Setting::Issuer,
     Setting::Key,
     Setting::Serial,
@@ -219,7 +244,13 @@ const SETTINGS: [Setting; 15] = [
     Setting::Object,
     Setting::IssuerUri,
     Setting::CrlUri,
+    Setting::Crl,
+    Setting::Previous,
+    Setting::Number,
+    Setting::Revoke,
+    Setting::NextUpdate,
     Setting::At,
+    Setting::Out,
 ];
 
 // What is to be prepared, by the word behind `prepare`.
@@ -243,6 +274,9 @@ fn prepared_of(word: &[u8]) -> Option<Errand>
     }
     if is(word, "anchor") {
         return Some(Errand::Anchor);
+    }
+    if is(word, "list") {
+        return Some(Errand::RevocationList);
     }
     None
 }
@@ -324,6 +358,9 @@ fn switch_of(word: &[u8]) -> Option<Switch>
     if is(word, "--pem") {
         return Some(Switch::Pem);
     }
+    if is(word, "--force") {
+        return Some(Switch::Force);
+    }
     None
 }
 
@@ -338,6 +375,7 @@ fn new_asked<'a>(alloc: Global, errand: Errand) -> Order<'a>
         trims: false,
         strict: true,
         is_pem: false,
+        overwrites: false,
     }
 }
 
@@ -373,6 +411,7 @@ fn add_switch(asked: &mut Order<'_>, given: Switch)
         Switch::Trim => asked.trims = true,
         Switch::Lenient => asked.strict = false,
         Switch::Pem => asked.is_pem = true,
+        Switch::Force => asked.overwrites = true,
     }
 }
 
@@ -442,7 +481,7 @@ fn of_certificates(often: Demand, errand: Errand) -> Demand
     ensures { result ≡ of_certificates often errand }
 {
     match errand {
-        Errand::Completion => Demand::Never,
+        Errand::RevocationList | Errand::Completion => Demand::Never,
         _ => often,
     }
 }
@@ -467,6 +506,16 @@ fn of_authorities(often: Demand, errand: Errand) -> Demand
     }
 }
 
+// How often revocation lists take an option that nothing else takes.
+fn of_lists(often: Demand, errand: Errand) -> Demand
+    ensures { result ≡ of_lists often errand }
+{
+    match errand {
+        Errand::RevocationList => often,
+        _ => Demand::Never,
+    }
+}
+
 /// Returns how often an errand takes an option.
 pub fn demand_of(setting: Setting, errand: Errand) -> Demand
     ensures { result ≡ demand setting errand }
@@ -477,9 +526,11 @@ pub fn demand_of(setting: Setting, errand: Errand) -> Demand
             Errand::Completion => Demand::AnyNumber,
             _ => Demand::AtLeastOnce,
         },
-        Setting::Key | Setting::Serial | Setting::From | Setting::Until => {
-            of_certificates(Demand::Once, errand)
-        }
+        Setting::Key | Setting::From | Setting::Until => of_certificates(Demand::Once, errand),
+        Setting::Serial => match errand {
+            Errand::RevocationList => Demand::AnyNumber,
+            _ => of_certificates(Demand::Once, errand),
+        },
         Setting::Ipv4 | Setting::Ipv6 => match errand {
             Errand::Router => Demand::Never,
             _ => of_certificates(Demand::AnyNumber, errand),
@@ -495,7 +546,14 @@ pub fn demand_of(setting: Setting, errand: Errand) -> Demand
             _ => Demand::Never,
         },
         Setting::IssuerUri | Setting::CrlUri => of_issued(Demand::Once, errand),
-        Setting::At => Demand::AtMostOnce,
+        Setting::Crl => match errand {
+            Errand::Anchor => Demand::Never,
+            _ => Demand::AnyNumber,
+        },
+        Setting::Previous | Setting::Number => of_lists(Demand::AtMostOnce, errand),
+        Setting::Revoke => of_lists(Demand::AnyNumber, errand),
+        Setting::NextUpdate => of_lists(Demand::Once, errand),
+        Setting::At | Setting::Out => Demand::AtMostOnce,
     }
 }
 
@@ -504,8 +562,8 @@ fn takes(given: Switch, errand: Errand) -> bool
     ensures { result ≡ takes given errand }
 {
     match given {
-        Switch::Trim => !matches!(errand, Errand::Completion),
-        Switch::Lenient => true,
+        Switch::Trim => !matches!(errand, Errand::RevocationList | Errand::Completion),
+        Switch::Lenient | Switch::Force => true,
         Switch::Pem => matches!(errand, Errand::Completion),
     }
 }
@@ -621,6 +679,26 @@ pub fn is_request(words: &[Vec<u8>]) -> bool
     };
     let word = first.as_slice();
     is(word, "prepare") || is(word, "complete")
+}
+
+// Whether one of the words is this text.
+fn has_word(words: &[Vec<u8>], text: &str) -> bool
+    ensures { IsTrue result ↔ Contains (word_octets words.now) text.now }
+{
+    for word in words {
+        if is(word.as_slice(), text) {
+            return true;
+        }
+    }
+    false
+}
+
+/// Tells whether the words ask how the command is used.
+pub fn asks_help(words: &[Vec<u8>]) -> bool
+    ensures { IsTrue result ↔ AsksHelp (word_octets words.now) }
+{
+    let (before, _behind) = around_dashes(words);
+    has_word(before, "--help") || has_word(before, "-h")
 }
 
 /// Reads the words behind the program's name.

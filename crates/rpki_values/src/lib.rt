@@ -10,4 +10,4 @@ mod texts;
 pub use families::{Family, V4Texts, V6Texts, addresses};
 pub use listing::{BlockText, listed};
 pub use systems::{AsTexts, as_numbers};
-pub use texts::Textual;
+pub use texts::{Textual, serial_of};

@@ -50,8 +50,9 @@ impl Textual for Https {
 // The octets of 2^159, the greatest first.
 const LIMIT: [u8; 20] = [128, 0, 0, 0, 0, 0, 0, 0, 0, 0, 0, 0, 0, 0, 0, 0, 0, 0, 0, 0];
 
-// The serial number of these octets.
-fn serial_of(octets: &[u8]) -> Option<Serial>
+/// Returns the serial number of these octets, the greatest first, if a certificate may have it: it
+/// is positive and below 2^159 (RFC 5280 4.1.2.2).
+pub fn serial_of(octets: &[u8]) -> Option<Serial>
     ensures { Finds (λ n. IsAllowedSerial n octets.now) result }
 {
     let serial = Serial::from_slice(octets)?;

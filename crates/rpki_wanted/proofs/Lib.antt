@@ -1,2 +1,6 @@
 pub mod RouterNames
 pub mod SameRoles
+pub mod SignedLists
+mod ToldFaults
+pub mod WantedEntries
+mod WholeOctets

@@ -1,3 +1,4 @@
--- The definitions that the contracts of wanted certificates cite.
+-- The definitions that the contracts of wanted certificates and lists cite.
 pub mod AskedFields
 pub mod PreparedOctets
+pub mod WantedLists

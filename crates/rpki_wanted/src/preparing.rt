@@ -1,17 +1,17 @@
 //! Certificates are prepared for signing, and completed by their signatures, as octets.
-ghost use Rattle.std.specs.Prelude.{◌≡◌, ◌≢◌, ◌↔◌, ◌<◌, ◌≤◌, ◌^◌, ℕ, List, length, option_map, IsOk, IsTrue, OnOk, IfOk, IfErr, MatchOption};
+ghost use Rattle.std.specs.Prelude.{◌≡◌, ◌≢◌, ◌⊎◌, ◌↔◌, ◌<◌, ◌≤◌, ◌^◌, ℕ, List, length, option_map, IsOk, IsTrue, OnOk, IfOk, IfErr, MatchOption};
 ghost use Rattle.rpki_cert.specs.Certificates.{encoding};
 ghost use Rattle.rpki_issuing.specs.Readiness.{signed_with, IsReady, IsSignatureOf};
-ghost use Rattle.rpki_issuing.specs.declared.role.Role.{Role as Roles};
+ghost use Rattle.rpki_issuing.specs.declared.issuing_error.IssuingError.TheVariants.{TooLong};
 ghost use Rattle.rpki_keys.specs.RsaSignatures.{IsSignedByRsa};
 ghost use Rattle.rpki_parts.specs.SignedDatas.{signed_content, signed_data};
-ghost use Rattle.rpki_wanted.specs.PreparedOctets.{IsCompleted, IsPrepared, IsRoleOf};
-ghost use Rattle.rpki_wanted.specs.declared.preparing.WantedError.TheVariants.{Memory};
+ghost use Rattle.rpki_wanted.specs.PreparedOctets.{HasNoRole, IsCompleted, IsPrepared, IsRoleOf, IsUncompleted, IsUnprepared, IsUnpreparedAs, IsUnsignedAs};
+ghost use Rattle.rpki_wanted.specs.declared.preparing.WantedError.TheVariants.{Memory, Unsigned};
 
 use bytes::Bytes;
 use rpki_cert::{Cert, Kind, ResourceCert, TbsCert};
 use rpki_der::{EncodeError, Time};
-use rpki_issuing::{IssuingError, Prepared, Role, complete, prepare};
+use rpki_issuing::{IssuingError, ListError, NextListError, Prepared, Role, complete, prepare};
 use rpki_keys::RsaVerifier;
 use std::alloc::{AllocError, Global};
 
@@ -26,6 +26,12 @@ pub enum WantedError {
     OtherOctets,
     /// The signature isn't one of the octets by the key of who issues.
     Unsigned(IssuingError),
+    /// The list that is wanted can't follow the previous one.
+    NoList(NextListError),
+    /// The fields of the list aren't ready to be signed.
+    UnreadyList(ListError),
+    /// The signature isn't one of the list's octets by the issuer's key.
+    UnsignedList(ListError),
     /// Memory ran out.
     Memory,
 }
@@ -41,7 +47,7 @@ impl From<AllocError> for WantedError {
 // The role of a certificate of the kind below this issuer.
 fn role_of<'i>(kind: Kind, issuer: Option<&'i ResourceCert>) -> Option<Role<'i>>
     ensures { let above = option_map (λ above. above.now) issuer.entry in
-        MatchOption result ((r : Roles) → IsRoleOf kind above r → ⊥) (IsRoleOf kind above) }
+        MatchOption result (HasNoRole kind above) (IsRoleOf kind above) }
 {
     match (kind, issuer) {
         (Kind::Anchor, None) => Some(Role::Anchor),
@@ -64,6 +70,7 @@ fn prepared(
     ensures fields { IfOk result (λ p. p ≡ tbs.now) }
     ensures ready { OnOk result (IsReady at strict role.now tbs.now) }
     ensures unready { IfErr result (λ e. e ≢ Memory → IsReady at strict role.now tbs.now → ⊥) }
+    ensures told { IfErr result (IsUnpreparedAs at strict role.now tbs.now) }
 {
     match prepare(alloc, tbs, role, strict, at) {
         Ok(prepared) => Ok(prepared),
@@ -99,6 +106,8 @@ pub fn prepare_octets(
     ensures refused { let above = option_map (λ above. above.now) issuer.entry in
         IfErr result (λ e. e ≢ Memory → (octets : List ℕ)
         → IsPrepared kind above at strict tbs.now octets → ⊥) }
+    ensures told { let above = option_map (λ above. above.now) issuer.entry in
+        IfErr result (IsUnprepared kind above at strict tbs.now) }
 {
     let Some(role) = role_of(kind, issuer) else {
         return Err(WantedError::NoRole);
@@ -115,6 +124,8 @@ fn octets_of(alloc: Global, cert: &Cert) -> Result<Bytes, WantedError>
     ensures fits { IsOk result → length (signed_content cert.now.signed_data) < 2 ^ 32 }
     ensures too_long { IfErr result (λ e. e ≢ Memory
         → 2 ^ 32 ≤ length (signed_content cert.now.signed_data)) }
+    ensures told { IfErr result (λ e. (e ≡ Memory) ⊎ ((e ≡ Unsigned TooLong)
+        × (2 ^ 32 ≤ length (signed_content cert.now.signed_data)))) }
 {
     match cert.to_captured(alloc) {
         Ok(octets) => Ok(octets),
@@ -139,6 +150,7 @@ fn completed(
     ensures unsigned { let signed = (signed_with prepared.now signature.now).signed_data in
         IfErr result (λ e. e ≢ Memory → length (signed_content signed) < 2 ^ 32
         → IsSignatureOf IsSignedByRsa role.now prepared.now signature.now → ⊥) }
+    ensures told { IfErr result (IsUnsignedAs role.now prepared.now signature.now) }
 {
     match complete(alloc, prepared, signature, role, strict, at, &RsaVerifier) {
         Ok(cert) => Ok(cert),
@@ -170,6 +182,8 @@ pub fn complete_octets(
     ensures refused { let above = option_map (λ above. above.now) issuer.entry in
         IfErr result (λ e. e ≢ Memory → (made : List ℕ)
         → IsCompleted kind above at strict tbs.now octets.now signature.now made → ⊥) }
+    ensures told { let above = option_map (λ above. above.now) issuer.entry in
+        IfErr result (IsUncompleted kind above at strict tbs.now octets.now signature.now) }
 {
     let Some(role) = role_of(kind, issuer) else {
         return Err(WantedError::NoRole);

@@ -7,6 +7,9 @@ use Rattle.rpki_command.specs.declared.inputs.Objects.{Objects}
 abbrev pub input_fields : Objects → InputFields
 input_fields objects = record {
   issuers = contents objects.issuers.items;
+  lists = contents objects.lists.items;
   keys = contents objects.keys.items;
+  previous = contents objects.previous.items;
+  revoked = contents objects.revoked.items;
   files = contents objects.files.items;
 }

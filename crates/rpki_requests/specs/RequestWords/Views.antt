@@ -17,4 +17,5 @@ asked_fields asked = record {
   trims = asked.trims;
   strict = asked.strict;
   is_pem = asked.is_pem;
+  overwrites = asked.overwrites;
 }

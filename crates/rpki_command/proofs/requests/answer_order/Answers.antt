@@ -1,9 +1,10 @@
-use Rattle.std.proofs.Common.{[], refl}
-use Rattle.rpki_command.proofs.WrittenTexts.{appends_none}
+use Rattle.std.proofs.Common.{refl}
+use Rattle.rpki_command.specs.Outputs.{nothing}
+use Rattle.rpki_command.proofs.WrittenTexts.{appends_none, makes_none}
 use Rattle.rpki_command.proofs.requests.answer_order.Goals as goal
 
 pub returns-in_ok-tell_unreadable-in-Err-read_inputs-clause-ended : goal.returns-in_ok-tell_unreadable-in-Err-read_inputs-clause-ended
 returns-in_ok-tell_unreadable-in-Err-read_inputs-clause-ended g c =
     let ended = c.silent-in-Err-read_inputs.ensures in
     let unread = c.in-Err-read_inputs.ensures.unread c.in_ok-tell_unreadable-in-Err-read_inputs.ensures in
-    ([], rw ended.outcome (refl, unread), rw ended.written (appends_none (g.O.Write.contents c.args.out.now)))
+    (nothing, rw ended.outcome (refl, unread), rw ended.written (appends_none (g.O.Write.contents c.args.out.now)), makes_none (g.M.FileMaker.made c.args.files.now))

@@ -1,38 +1,46 @@
 use Rattle.std.specs.Prelude.{option_map}
-use Rattle.std.proofs.Common.{◌≡◌, ℕ, List, [], ◌∷◌, Bor, Option, sym, subst, ◌∙◌}
+use Rattle.std.proofs.Common.{◌≡◌, ℕ, List, [], ◌∷◌, Bor, Option, rules, sym, subst, ◌∙◌}
 use Rattle.rpki.specs.Verification.{ResourceFields}
+use Rattle.rpki_files.specs.Files.{contents}
 use Rattle.rpki_wanted.proofs.SameRoles.{on_ok, on_err}
-use Rattle.rpki_requests.specs.Fulfilment.{CompletesBelow}
+use Rattle.rpki_requests.specs.Fulfilment.{CompletesAs}
 use Rattle.rpki_requests.specs.RequestFiles.{AreOneIssuer}
 use Rattle.rpki_requests.specs.RequestWords.Views.{asked_fields}
-use Rattle.rpki_requests.proofs.OneIssuers.{completes_moved}
+use Rattle.rpki_requests.proofs.AskedLists.{completes_as_moved}
 use Rattle.rpki_requests.proofs.fulfilling.completed.Goals as goal
+
+pub returns-in_default-clause-refused : goal.returns-in_default-clause-refused
+returns-in_default-clause-refused c = λ not given p.
+    let files : contents c.inputs.inside.files.now ≡ c.args.inputs.now.files = search rules in
+    c.in_default.ensures p.prepared p.signature (files ∙ p.files_are)
 
 pub returns-clause-completed : goal.returns-clause-completed
 returns-clause-completed c =
     let asked = asked_fields c.args.order.now in
     let above = option_map (λ (r : Bor ResourceFields). r.now) c.as_ref.result in
-    on_ok _ _ (Unit {0}) c.completed_below-made.result c.completed_below-made.ensures.completed (λ _. tt)
-    (λ octets below _. record {
+    let files : contents c.inputs.inside.files.now ≡ c.args.inputs.now.files = search rules in
+    on_ok _ _ (Unit {0}) c.made_below-made.result c.made_below-made.ensures.completed (λ _. tt)
+    (λ given below _. record {
       issuer = c.in_ok-issuer.issuer;
       issuer_is = c.in_ok-issuer.ensures.issuer;
       prepared = c.in-Some.prepared.now;
       signature = c.in-Some.signature.now;
-      files_are = c.in-Some.ensures;
+      files_are = sym files ∙ c.in-Some.ensures;
       completes =
-          subst (λ (o : Option ResourceFields). CompletesBelow asked c.args.at o c.in-Some.prepared.now c.in-Some.signature.now octets) c.as_ref.ensures.value
-          (subst (λ (l : List ℕ). CompletesBelow asked c.args.at above c.in-Some.prepared.now l octets) c.deref.ensures below);
+          subst (λ (o : Option ResourceFields). CompletesAs asked c.args.at o c.in-Some.prepared.now c.in-Some.signature.now given) c.as_ref.ensures.value
+          (subst (λ (l : List ℕ). CompletesAs asked c.args.at above c.in-Some.prepared.now l given) c.deref.ensures below);
     })
 
 pub returns-clause-refused : goal.returns-clause-refused
 returns-clause-refused c =
     let asked = asked_fields c.args.order.now in
-    on_err _ _ c.completed_below-made.result c.completed_below-made.ensures.refused
-    (λ why below not octets p.
-    let files : p.prepared ∷ p.signature ∷ [] ≡ c.in-Some.prepared.now ∷ c.in-Some.signature.now ∷ [] = sym p.files_are ∙ c.in-Some.ensures in
+    let files : contents c.inputs.inside.files.now ≡ c.args.inputs.now.files = search rules in
+    on_err _ _ c.made_below-made.result c.made_below-made.ensures.refused
+    (λ why below not given p.
+    let both : p.prepared ∷ p.signature ∷ [] ≡ c.in-Some.prepared.now ∷ c.in-Some.signature.now ∷ [] = sym p.files_are ∙ sym files ∙ c.in-Some.ensures in
     let first : p.prepared ≡ c.in-Some.prepared.now = cc in
     let second : p.signature ≡ c.in-Some.signature.now = cc in
     let one = subst (λ (o : Option ResourceFields). AreOneIssuer p.issuer o) (sym c.as_ref.ensures.value) (c.in_ok-issuer.ensures.only p.issuer p.issuer_is) in
-    below not octets (completes_moved asked c.args.at c.in-Some.prepared.now c.deref.result.now octets p.issuer c.as_ref.result one
-    (subst (λ (l : List ℕ). CompletesBelow asked c.args.at p.issuer l c.deref.result.now octets) first
-    (subst (λ (l : List ℕ). CompletesBelow asked c.args.at p.issuer p.prepared l octets) (second ∙ sym c.deref.ensures) p.completes))))
+    below not given (completes_as_moved asked c.args.at c.in-Some.prepared.now c.deref.result.now p.issuer c.as_ref.result given one
+    (subst (λ (l : List ℕ). CompletesAs asked c.args.at p.issuer l c.deref.result.now given) first
+    (subst (λ (l : List ℕ). CompletesAs asked c.args.at p.issuer p.prepared l given) (second ∙ sym c.deref.ensures) p.completes))))

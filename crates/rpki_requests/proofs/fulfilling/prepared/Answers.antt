@@ -1,15 +1,39 @@
-use Rattle.std.proofs.Common.{Option, sym, subst}
+use Rattle.std.specs.Prelude.{Err, option_map}
+use Rattle.std.proofs.Common.{◌≡◌, ℕ, List, Bor, Option, rules, sym, subst}
 use Rattle.rpki.specs.Verification.{ResourceFields}
 use Rattle.rpki_files.specs.Files.{contents}
-use Rattle.rpki_wanted.proofs.SameRoles.{on_err}
+use Rattle.rpki_requests.specs.Fulfilment.{Prepares, PreparesBelow}
 use Rattle.rpki_requests.specs.RequestFiles.{AreOneIssuer}
 use Rattle.rpki_requests.specs.RequestWords.Views.{asked_fields}
+use Rattle.rpki_requests.proofs.AskedLists.{none_to_sign}
 use Rattle.rpki_requests.proofs.OneIssuers.{prepares_moved}
 use Rattle.rpki_requests.proofs.fulfilling.prepared.Goals as goal
 
-pub returns-clause-refused : goal.returns-clause-refused
-returns-clause-refused c =
-    on_err _ _ c.prepared_below-made.result c.prepared_below-made.ensures.refused
-    (λ why below not octets p.
+pub returns-in_err-issuer-clause-refused : goal.returns-in_err-issuer-clause-refused
+returns-in_err-issuer-clause-refused c =
+    let same : c.from_residual.result ≡ Err c.in_err-issuer.field-0.0 = search rules in
+    rw same (λ not. none_to_sign (Prepares c.args.kind (asked_fields c.args.order.now) c.args.inputs.now c.args.at) (λ octets p. c.in_err-issuer.ensures.none not p.issuer p.issuer_is))
+
+pub returns-clause-prepared : goal.returns-clause-prepared
+returns-clause-prepared c =
+    let asked = asked_fields c.args.order.now in
+    let above = option_map (λ (r : Bor ResourceFields). r.now) c.as_ref.result in
+    let keys : contents c.inputs.inside.keys.now ≡ c.args.inputs.now.keys = search rules in
+    let octets = c.in_ok-octets.field-0 in
+    record {
+      issuer = c.in_ok-issuer.issuer;
+      issuer_is = c.in_ok-issuer.ensures.issuer;
+      prepares =
+          subst (λ (o : Option ResourceFields). PreparesBelow c.args.kind asked c.args.inputs.now.keys c.args.at o octets) c.as_ref.ensures.value
+          (subst (λ (l : List (List ℕ)). PreparesBelow c.args.kind asked l c.args.at above octets) keys c.in_ok-octets.ensures.prepared);
+    }
+
+pub returns-in_err-octets-clause-refused : goal.returns-in_err-octets-clause-refused
+returns-in_err-octets-clause-refused c =
+    let asked = asked_fields c.args.order.now in
+    let keys : contents c.inputs.inside.keys.now ≡ c.args.inputs.now.keys = search rules in
+    let same : c.from_residual-in_err-octets.result ≡ Err c.in_err-octets.field-0.0 = search rules in
+    rw same (λ not. none_to_sign (Prepares c.args.kind asked c.args.inputs.now c.args.at) (λ octets p.
     let one = subst (λ (o : Option ResourceFields). AreOneIssuer p.issuer o) (sym c.as_ref.ensures.value) (c.in_ok-issuer.ensures.only p.issuer p.issuer_is) in
-    below not octets (prepares_moved (asked_fields c.args.order.now) c.args.at c.args.kind (contents c.args.keys.now) octets p.issuer c.as_ref.result one p.prepares))
+    c.in_err-octets.ensures.refused not octets (prepares_moved asked c.args.at c.args.kind (contents c.inputs.inside.keys.now) octets p.issuer c.as_ref.result one
+    (subst (λ (l : List (List ℕ)). PreparesBelow c.args.kind asked l c.args.at p.issuer octets) (sym keys) p.prepares))))

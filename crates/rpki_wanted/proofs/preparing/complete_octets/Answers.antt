@@ -7,6 +7,8 @@ use Rattle.rpki_parts.specs.Keys.{KeyFields}
 use Rattle.rpki_parts.specs.SignedDatas.{SignedFields, signed_content, signed_data}
 use Rattle.rpki_wanted.specs.declared.preparing.WantedError.TheVariants.{Memory}
 use Rattle.rpki_wanted.proofs.SameRoles.{role_ready, role_key, on_ok, on_err}
+use Rattle.rpki_wanted.specs.PreparedOctets.{IsUnsignedAs}
+use Rattle.rpki_wanted.proofs.ToldFaults.{uncompleted, unsigned, too_long}
 use Rattle.rpki_wanted.proofs.preparing.complete_octets.Goals as goal
 
 pub returns-in_err-prepared-clause-refused : goal.returns-in_err-prepared-clause-refused
@@ -60,3 +62,26 @@ returns-clause-refused c =
     let short = p.short in
     let more = subst (λ (s : SignedFields). 2 ^ 32 ≤ length (signed_content s)) content (long apart) in
     omega arith)
+
+pub returns-in_err-prepared-clause-told : goal.returns-in_err-prepared-clause-told
+returns-in_err-prepared-clause-told c =
+    let e = c.in_err-prepared.field-0.0 in
+    let same : c.from_residual.result ≡ Err e = search rules in
+    rw same (uncompleted c.args.kind _ c.args.at c.args.strict c.args.tbs.now c.in-Some.role c.in-Some.ensures c.args.octets.now c.args.signature.now e c.in_err-prepared.ensures.told)
+
+pub returns-in_err-cert-clause-told : goal.returns-in_err-cert-clause-told
+returns-in_err-cert-clause-told c =
+    let value = c.args.signature.now in
+    let role = c.in-Some.role in
+    let e = c.in_err-cert.field-0.0 in
+    let same : c.from_residual-in_err-cert.result ≡ Err e = search rules in
+    rw same (unsigned c.args.kind _ c.args.at c.args.strict c.args.tbs.now role c.in-Some.ensures c.args.octets.now value e
+    (subst (λ (g : TbsFields). IsUnsignedAs role g value e) c.in_ok-prepared.ensures.fields c.in_err-cert.ensures.told))
+
+pub returns-clause-told : goal.returns-clause-told
+returns-clause-told c =
+    let f = c.args.tbs.now in
+    let value = c.args.signature.now in
+    let content : c.in_ok-cert.cert.signed_data ≡ (signed_with f value).signed_data = ap (λ (d : CertFields). d.signed_data) c.in_ok-cert.ensures.same ∙ ap (λ (g : TbsFields). (signed_with g value).signed_data) c.in_ok-prepared.ensures.fields in
+    on_err _ _ c.octets_of-made.result c.octets_of-made.ensures.told
+    (λ e long. too_long c.args.kind _ c.args.at c.args.strict f c.in-Some.role c.in-Some.ensures c.args.octets.now value e c.in_ok-cert.cert content long)

@@ -1,0 +1,173 @@
+//! Certificates that are issued where the issuer's key lies elsewhere.
+use crate::{
+    check_library, sys, AsRanges, Certificate, Fault, Ipv4Ranges, Ipv6Ranges, Kind, Moment,
+    Resources, Uri,
+};
+
+/// What a certificate is to be. What RFC 6487 fixes isn't asked: the names, key identifiers, key usage
+/// and policy.
+#[derive(Clone, Debug)]
+pub struct Wanted<'a> {
+    /// What it is.
+    pub kind: Kind,
+    /// The subject's SubjectPublicKeyInfo in DER.
+    pub key: &'a [u8],
+    /// The serial number, its greatest octet first: above 0 and below 2^159.
+    pub serial_number: [u8; 20],
+    /// The first moment at which it is valid.
+    pub not_before: Moment,
+    /// The last moment at which it is valid.
+    pub not_after: Moment,
+    /// IPv4 addresses. Ranges stand in any order, and may overlap.
+    pub ipv4: Resources<Ipv4Ranges>,
+    /// IPv6 addresses.
+    pub ipv6: Resources<Ipv6Ranges>,
+    /// AS numbers.
+    pub as_numbers: Resources<AsRanges>,
+    /// The URIs that it has. Of several of one kind the last counts.
+    pub uris: &'a [(Uri, &'a str)],
+    /// Whether what it lists beyond its issuer is cut off (RFC 8360), and not rejected.
+    pub trims_resources: bool,
+}
+
+/// What is listed of a kind of numbers, as the library takes it.
+fn resources<T, R>(listed: &Resources<T>, ranges: impl Fn(&T) -> Vec<R>) -> (u32, Vec<R>) {
+    match listed {
+        Resources::Missing => (0, Vec::new()),
+        Resources::Inherited => (1, Vec::new()),
+        Resources::Listed(listed) => (2, ranges(listed)),
+    }
+}
+
+fn ipv4(ranges: &Ipv4Ranges) -> Vec<sys::IpRange> {
+    let octets = |it: std::net::Ipv4Addr| {
+        let mut octets = [0; 16];
+        octets[..4].copy_from_slice(&it.octets());
+        octets
+    };
+    let range = |it: &(_, _)| sys::IpRange {
+        min: octets(it.0),
+        max: octets(it.1),
+    };
+    ranges.iter().map(range).collect()
+}
+
+fn ipv6(ranges: &Ipv6Ranges) -> Vec<sys::IpRange> {
+    let range = |it: &(std::net::Ipv6Addr, std::net::Ipv6Addr)| sys::IpRange {
+        min: it.0.octets(),
+        max: it.1.octets(),
+    };
+    ranges.iter().map(range).collect()
+}
+
+fn as_numbers(ranges: &AsRanges) -> Vec<sys::AsRange> {
+    let range = |it: &std::ops::RangeInclusive<u32>| sys::AsRange {
+        min: *it.start(),
+        max: *it.end(),
+    };
+    ranges.iter().map(range).collect()
+}
+
+/// Who issues: the CA that a path ends in, as it is judged at a moment; or nobody above a trust anchor,
+/// which signs itself.
+#[derive(Clone, Debug)]
+pub struct Issuer<'a> {
+    path: &'a [&'a [u8]],
+    lists: Option<&'a [&'a [u8]]>,
+    locator: Option<&'a [u8]>,
+    strict: bool,
+    now: Moment,
+}
+
+impl<'a> Issuer<'a> {
+    /// Makes the issuer that a path of certificates ends in, in order, the trust anchor first. Above a
+    /// trust anchor there are none.
+    pub fn new(path: &'a [&'a [u8]], now: Moment) -> Issuer<'a> {
+        Issuer {
+            path,
+            lists: None,
+            locator: None,
+            strict: true,
+            now,
+        }
+    }
+
+    /// Asks that each member below the trust anchor is unrevoked by these lists.
+    pub fn by_lists(mut self, lists: &'a [&'a [u8]]) -> Issuer<'a> {
+        self.lists = Some(lists);
+        self
+    }
+
+    /// Asks that the trust anchor has the key of this file of a locator (RFC 8630).
+    pub fn locator(mut self, file: &'a [u8]) -> Issuer<'a> {
+        self.locator = Some(file);
+        self
+    }
+
+    /// Lets names have other strings than RFC 6487 4.4 asks.
+    pub fn lenient(mut self) -> Issuer<'a> {
+        self.strict = false;
+        self
+    }
+
+    fn question(&self, kind: Kind) -> sys::Question<'a> {
+        let last = match kind {
+            Kind::TrustAnchor => Kind::TrustAnchor,
+            _ => Kind::Authority,
+        };
+        sys::Question {
+            members: self.path,
+            last: last as u32,
+            lists: self.lists,
+            locator: self.locator,
+            strict: self.strict,
+            now: self.now.0,
+        }
+    }
+
+    /// Prepares a certificate for its signature: returns what the issuer's key has to sign
+    /// (RSASSA-PKCS1-v1_5 with SHA-256, RFC 7935). All is checked that its validators will check, but
+    /// for the signature. Errs with the fault of a member of the path, or of the certificate behind
+    /// them.
+    pub fn prepare(&self, wanted: &Wanted<'_>) -> Result<Vec<u8>, Fault> {
+        check_library();
+        let mut uris: [&[u8]; 6] = [&[]; 6];
+        for (which, uri) in wanted.uris {
+            uris[*which as usize] = uri.as_bytes();
+        }
+        let asked = sys::Wanted {
+            issuer: self.question(wanted.kind),
+            key: wanted.key,
+            v4: resources(&wanted.ipv4, ipv4),
+            v6: resources(&wanted.ipv6, ipv6),
+            asn: resources(&wanted.as_numbers, as_numbers),
+            uris,
+            not_before: wanted.not_before.0,
+            not_after: wanted.not_after.0,
+            serial: wanted.serial_number,
+            kind: wanted.kind as u32,
+            trims: wanted.trims_resources,
+        };
+        sys::prepare(&asked).map_err(|it| Fault::of_issued(it.0, it.1, self.path.len()))
+    }
+
+    /// Completes what was prepared by its signature: returns the certificate, exactly where the
+    /// issuer's key (of a trust anchor its own) signed it. Errs as [`Issuer::prepare`] does.
+    pub fn complete(
+        &self,
+        kind: Kind,
+        prepared: &[u8],
+        signature: &[u8],
+    ) -> Result<Certificate, Fault> {
+        check_library();
+        let asked = sys::Completion {
+            issuer: self.question(kind),
+            prepared,
+            signature,
+            kind: kind as u32,
+        };
+        let octets =
+            sys::complete(&asked).map_err(|it| Fault::of_issued(it.0, it.1, self.path.len()))?;
+        Certificate::read(&octets)
+    }
+}

@@ -1,0 +1,198 @@
+//! Issues certificates with keys of openssl, where that is there.
+use gonxebhula::{
+    Certificate, Fault, FaultKind, Issuer, Kind, Moment, Path, Place, Resources, Revocation, Uri,
+    Wanted,
+};
+use std::io::Write;
+use std::net::Ipv4Addr;
+use std::path::PathBuf;
+use std::process::{Command, Stdio};
+
+const URIS: [(Uri, &str); 4] = [
+    (Uri::Repository, "rsync://rpki.example.net/repo/ca/"),
+    (Uri::Manifest, "rsync://rpki.example.net/repo/ca/ca.mft"),
+    (Uri::CaIssuer, "rsync://rpki.example.net/repo/anchor.cer"),
+    (Uri::Crl, "rsync://rpki.example.net/repo/anchor/anchor.crl"),
+];
+
+fn openssl(words: &[&str], given: &[u8]) -> Vec<u8> {
+    let mut child = Command::new("openssl")
+        .args(words)
+        .stdin(Stdio::piped())
+        .stdout(Stdio::piped())
+        .stderr(Stdio::null())
+        .spawn()
+        .unwrap();
+    child.stdin.take().unwrap().write_all(given).unwrap();
+    let done = child.wait_with_output().unwrap();
+    assert!(done.status.success(), "openssl {words:?}");
+    done.stdout
+}
+
+fn is_there() -> bool {
+    let version = Command::new("openssl").arg("version").output();
+    matches!(version, Ok(done) if done.status.success())
+}
+
+/// A key of openssl, in a file.
+struct Key {
+    file: PathBuf,
+    public: Vec<u8>,
+}
+
+impl Key {
+    fn new(name: &str) -> Key {
+        let pem = openssl(&["genrsa", "2048"], b"");
+        let file = format!("gonxebhula-{name}-{}.key", std::process::id());
+        let file = std::env::temp_dir().join(file);
+        std::fs::write(&file, &pem).unwrap();
+        let public = openssl(&["pkey", "-pubout", "-outform", "DER"], &pem);
+        Key { file, public }
+    }
+
+    fn sign(&self, octets: &[u8]) -> Vec<u8> {
+        let file = self.file.to_str().unwrap();
+        openssl(&["dgst", "-sha256", "-sign", file], octets)
+    }
+}
+
+impl Drop for Key {
+    fn drop(&mut self) {
+        let _ = std::fs::remove_file(&self.file);
+    }
+}
+
+fn now() -> Moment {
+    Moment::new(2026, 6, 1, 0, 0, 0)
+}
+
+fn wanted<'a>(kind: Kind, key: &'a Key, uris: &'a [(Uri, &'a str)], block: u8) -> Wanted<'a> {
+    let mut serial_number = [0; 20];
+    serial_number[19] = 5;
+    let range = (
+        Ipv4Addr::new(10, block, 0, 0),
+        Ipv4Addr::new(10, 7, 255, 255),
+    );
+    Wanted {
+        kind,
+        key: &key.public,
+        serial_number,
+        not_before: Moment::new(2026, 1, 1, 0, 0, 0),
+        not_after: Moment::new(2036, 1, 1, 0, 0, 0),
+        ipv4: Resources::Listed(vec![range]),
+        ipv6: Resources::Missing,
+        as_numbers: Resources::Listed(vec![64500..=64503]),
+        uris,
+        trims_resources: false,
+    }
+}
+
+fn anchor(key: &Key) -> Certificate {
+    let issuer = Issuer::new(&[], now());
+    let octets = issuer
+        .prepare(&wanted(Kind::TrustAnchor, key, &URIS[..2], 0))
+        .unwrap();
+    issuer
+        .complete(Kind::TrustAnchor, &octets, &key.sign(&octets))
+        .unwrap()
+}
+
+fn is_fault(it: Fault, name: &str, kind: FaultKind, place: Option<Place>) {
+    assert_eq!(
+        (it.name().as_str(), it.kind(), it.place()),
+        (name, kind, place)
+    );
+}
+
+#[test]
+fn certificates_are_issued() {
+    if !is_there() {
+        return;
+    }
+    let (above, below) = (Key::new("above"), Key::new("below"));
+    let anchor = anchor(&above);
+    let path = [anchor.as_bytes()];
+    let issuer = Issuer::new(&path, now());
+    let octets = issuer
+        .prepare(&wanted(Kind::Authority, &below, &URIS, 1))
+        .unwrap();
+    let it = issuer
+        .complete(Kind::Authority, &octets, &above.sign(&octets))
+        .unwrap();
+    let held = Path::new(
+        &[anchor.as_bytes(), it.as_bytes()],
+        Kind::Authority,
+        Revocation::NotAsked,
+    )
+    .validate(now())
+    .unwrap();
+    let range = (Ipv4Addr::new(10, 1, 0, 0), Ipv4Addr::new(10, 7, 255, 255));
+    assert_eq!(held.ipv4, [range]);
+    assert_eq!(held.as_numbers, [64500..=64503]);
+    for (which, uri) in URIS {
+        assert_eq!(it.uri(which).unwrap().as_deref(), Some(uri));
+    }
+
+    let certificate = Some(Place::Member(1));
+    let refused = |signature: &[u8]| {
+        let fault = issuer
+            .complete(Kind::Authority, &octets, signature)
+            .unwrap_err();
+        is_fault(fault, "BadSignature", FaultKind::Verification, certificate);
+    };
+    refused(&below.sign(&octets));
+    refused(&above.sign(b"other octets"));
+    refused(b"");
+    let fault = issuer.complete(Kind::Authority, b"", b"").unwrap_err();
+    is_fault(fault, "NotToSign", FaultKind::Issuing, certificate);
+}
+
+#[test]
+fn what_is_wrong_is_refused_before_it_is_signed() {
+    if !is_there() {
+        return;
+    }
+    let key = Key::new("refused");
+    let anchor = anchor(&key);
+    let path = [anchor.as_bytes()];
+    let issuer = Issuer::new(&path, now());
+    let good = wanted(Kind::Authority, &key, &URIS, 1);
+    let refused = |issuer: &Issuer<'_>, wanted: &Wanted<'_>, name, kind, place| {
+        is_fault(issuer.prepare(wanted).unwrap_err(), name, kind, place);
+    };
+    let member = |place| Some(Place::Member(place));
+    let mut wrong = good.clone();
+    wrong.as_numbers = Resources::Listed(vec![64504..=64504]);
+    refused(
+        &issuer,
+        &wrong,
+        "OverclaimAs",
+        FaultKind::Verification,
+        member(1),
+    );
+    let mut wrong = good.clone();
+    wrong.uris = &URIS[..2];
+    refused(
+        &issuer,
+        &wrong,
+        "MissingCrlUri",
+        FaultKind::Inspection,
+        member(1),
+    );
+    let mut wrong = good.clone();
+    wrong.uris = &[(Uri::Crl, "http://rpki.example.net/")];
+    refused(&issuer, &wrong, "BadUri", FaultKind::Issuing, None);
+    let mut wrong = good.clone();
+    wrong.key = b"";
+    refused(&issuer, &wrong, "NoKey", FaultKind::Issuing, member(1));
+    let mut wrong = good.clone();
+    wrong.serial_number = [0; 20];
+    refused(&issuer, &wrong, "BadCall", FaultKind::BadCall, None);
+    let late = Issuer::new(&path, Moment::new(2040, 1, 1, 0, 0, 0));
+    refused(&late, &good, "Expired", FaultKind::Verification, member(0));
+    let alone = Issuer::new(&[], now());
+    refused(&alone, &good, "BadCall", FaultKind::BadCall, None);
+    let listed = issuer.clone().by_lists(&[b"no list"]);
+    let fault = listed.prepare(&good).unwrap_err();
+    assert_eq!(fault.place(), Some(Place::List(0)));
+}

@@ -1,0 +1,207 @@
+-- What is answered to what a caller wants of a certificate: the octets that are to be signed, those of
+-- the certificate, or why there are none (own).
+use Rattle.std.specs.Prelude.{◌≡◌, ◌≢◌, ◌⊎◌, ◌≤◌, ◌<◌, ℕ, List, [], Option, Some, None, option_map, Result, Ok, Err}
+use Rattle.rpki_cert.specs.Certificates.{TbsFields, IsTbsCertificate}
+use Rattle.rpki_cert.specs.Verification.{ResourceFields}
+use Rattle.rpki_cert.specs.declared.inspect.Kind.{Kind}
+use Rattle.rpki_cert.specs.declared.inspect.Kind.TheVariants.{Anchor}
+use Rattle.rpki_keys.specs.KeyForms.{IsUsableKey}
+use Rattle.rpki_keys.specs.RsaSignatures.{IsSignedByRsa}
+use Rattle.rpki_parts.specs.Keys.{KeyFields, IsPublicKey}
+use Rattle.rpki_parts.specs.Names.{IsName}
+use Rattle.rpki_parts.specs.Uris.{IsHttps, IsRsync}
+use Rattle.rpki_path.specs.declared.judging.Judged.{Judged}
+use Rattle.rpki_wanted.specs.AskedFields.{fields_asked, issuer_name, subject_asked}
+use Rattle.rpki_wanted.specs.PreparedOctets.{IsCompleted, IsPrepared, IsUncompleted, IsUnprepared}
+use Rattle.rpki_wanted.specs.declared.preparing.WantedError.{WantedError}
+use Rattle.rpki_wanted.specs.declared.preparing.WantedError.TheVariants as wanting
+use Rattle.rpki_wanted.specs.declared.wanted.Wanted.{Wanted}
+use Rattle.rpki_c.specs.Verdicts.{AnswersQuestion}
+use Rattle.rpki_c.specs.WantedQuestions.{GivesWanted, HasCompletionTerms, HasNoCompletionTerms, HasNoWantedTerms, HasWantedTerms, IsKeyGiven}
+use Rattle.rpki_c.specs.declared.certificates.CertUri.{CertUri}
+use Rattle.rpki_c.specs.declared.certificates.CertUri.TheVariants as uri
+use Rattle.rpki_c.specs.declared.completing.CompletionTerms.{CompletionTerms}
+use Rattle.rpki_c.specs.declared.completing.RpkiCompletion.{RpkiCompletion}
+use Rattle.rpki_c.specs.declared.question.RpkiQuestion.{RpkiQuestion}
+use Rattle.rpki_c.specs.declared.refusal.Refusal.{Refusal}
+use Rattle.rpki_c.specs.declared.unissued.Unissued.{Unissued}
+use Rattle.rpki_c.specs.declared.unissued.Unissued.TheVariants as why
+use Rattle.rpki_c.specs.declared.wanted.RpkiUris.{RpkiUris}
+use Rattle.rpki_c.specs.declared.wanted.RpkiWanted.{RpkiWanted}
+use Rattle.rpki_c.specs.declared.wanted.WantedTerms.{WantedTerms}
+
+-- ---- values
+
+-- the octets of a URI that is wanted
+abbrev pub uri_wanted : CertUri → RpkiUris → List ℕ
+uri_wanted uri.CaIssuer uris = uris.ca_issuer.now
+uri_wanted uri.Crl uris = uris.crl.now
+uri_wanted uri.Repository uris = uris.repository.now
+uri_wanted uri.Manifest uris = uris.manifest.now
+uri_wanted uri.SignedObject uris = uris.signed_object.now
+uri_wanted uri.Notify uris = uris.notify.now
+
+-- the form that it has to have
+abbrev pub IsUri : CertUri → List ℕ → Type 0
+IsUri uri.Notify octets = IsHttps octets
+IsUri which octets = IsRsync octets
+
+-- the octets are no such URI, and are there
+abbrev pub IsBadUri : RpkiUris → CertUri → Type 0
+IsBadUri uris which = (uri_wanted which uris ≢ []) × (IsUri which (uri_wanted which uris) → ⊥)
+
+-- the octets are none of what has this text
+abbrev pub IsNoText : {V : Type 0} → (V → List ℕ → Type 0) → List ℕ → Type 0
+IsNoText {V} IsText octets = (v : V) → IsText v octets → ⊥
+
+-- the octets are no key, or that of one that the RPKI doesn't use
+abbrev pub IsNoKey : List ℕ → Type 0
+IsNoKey octets = (key : KeyFields) → IsPublicKey key octets → ⊥
+
+abbrev pub IsUnusedKey : List ℕ → Type 0
+IsUnusedKey octets = (key : KeyFields) × IsPublicKey key octets × (IsUsableKey key → ⊥)
+
+-- a value of which it is so; or numbers that don't fit, so that it is so of none; or what is wrong of
+-- a URI or of the key; or memory was wanted
+abbrev pub AnswersValue : {V : Type 0} → RpkiWanted → (V → Type 0) → Result V Unissued → Type 0
+AnswersValue {V} w Is (Ok v) = Is v
+AnswersValue {V} w Is (Err why.BadCall) = (v : V) → Is v → ⊥
+AnswersValue {V} w Is (Err (why.BadUri which)) = IsBadUri w.uris which
+AnswersValue {V} w Is (Err why.NoKey) = IsNoKey w.key.now
+AnswersValue {V} w Is (Err why.UnusedKey) = IsUnusedKey w.key.now
+AnswersValue {V} w Is (Err why.Memory) = Unit {0}
+AnswersValue {V} w Is (Err _) = ⊥
+
+-- ---- who issues
+
+-- the fields of the issuer's certificate
+abbrev pub fields_above : Option ResourceFields → Option TbsFields
+fields_above issuer = option_map (λ r. r.cert.fields) issuer
+
+-- a trust anchor has no path above it; the path of another certificate ends in a CA
+abbrev pub EndsWell : Kind → RpkiQuestion → Type 0
+EndsWell kind q = ((kind ≡ Anchor) × (q.members.lengths.now ≡ [])) ⊎ ((kind ≢ Anchor) × (q.last < 2))
+
+-- the path that is asked about is accepted, and its last member holds this
+abbrev pub IsHeld : RpkiQuestion → ResourceFields → Type 0
+IsHeld q r = (judged : Judged) × AnswersQuestion IsSignedByRsa q (Ok judged) × (judged.holder ≡ r)
+
+-- nobody above a trust anchor; else the CA that the path ends in, and what it holds
+abbrev pub IsIssuerOf : Kind → RpkiQuestion → Option ResourceFields → Type 0
+IsIssuerOf kind q None = (kind ≡ Anchor) × (q.members.lengths.now ≡ [])
+IsIssuerOf kind q (Some r) = (kind ≢ Anchor) × (q.last < 2) × IsHeld q r
+
+-- why nobody issues: the path doesn't go with the kind, or isn't accepted
+abbrev pub IsNoIssuer : Kind → RpkiQuestion → Unissued → Type 0
+IsNoIssuer kind q why.BadCall = EndsWell kind q → ⊥
+IsNoIssuer kind q (why.Issuer r) = (kind ≢ Anchor) × AnswersQuestion IsSignedByRsa q (Err r)
+IsNoIssuer kind q _ = ⊥
+
+-- ---- what is prepared
+
+-- the values that are given, and the key
+abbrev pub GivesValues : RpkiWanted → WantedTerms → (Wanted × KeyFields) → Type 0
+GivesValues w t values = GivesWanted w t values.0 × IsKeyGiven w.key.now values.1
+
+-- the subject's name
+abbrev pub subject_of : WantedTerms → (Wanted × KeyFields) → List ℕ
+subject_of t values = subject_asked t.kind values.0.numbers.systems values.1
+
+-- the fields that are asked for below this issuer; and their subject is a name
+pub record AsksFields (w : RpkiWanted) (t : WantedTerms) (issuer : Option ResourceFields)
+    (f : TbsFields) : Type 0 where
+  pub values : Wanted × KeyFields
+  pub given : GivesValues w t values
+  pub named : IsName (subject_of t values) (subject_of t values)
+  pub fields_are : f ≡ fields_asked t.kind t.trims values.0 (fields_above issuer) values.1
+
+-- values are given whose subject has no name
+abbrev pub IsUnnamed : RpkiWanted → WantedTerms → Type 0
+IsUnnamed w t =
+    (values : Wanted × KeyFields) × GivesValues w t values
+    × (IsName (subject_of t values) (subject_of t values) → ⊥)
+
+-- the fields, or why there are none
+abbrev pub AnswersFields : RpkiWanted → WantedTerms → Option ResourceFields → Result TbsFields Unissued → Type 0
+AnswersFields w t issuer (Ok f) = AsksFields w t issuer f
+AnswersFields w t issuer (Err why.NoName) = IsUnnamed w t
+AnswersFields w t issuer (Err e) = AnswersValue w (GivesValues w t) (Err e)
+
+-- why nothing is prepared or completed, as it is told
+abbrev pub unfit_of : WantedError → Unissued
+unfit_of wanting.Memory = why.Memory
+unfit_of e = why.Unfit e
+
+-- the octets of these fields, of which only the signature is missing below the issuer; or why they
+-- aren't ready to be signed, or aren't there
+abbrev pub AnswersBelow : RpkiWanted → WantedTerms → Option ResourceFields → Result (List ℕ) Unissued → Type 0
+AnswersBelow w t issuer (Ok octets) =
+    (f : TbsFields) × AsksFields w t issuer f
+    × IsPrepared t.kind issuer t.asked.now t.asked.strict f octets
+AnswersBelow w t issuer (Err (why.Unfit e)) =
+    (f : TbsFields) × AsksFields w t issuer f
+    × IsUnprepared t.kind issuer t.asked.now t.asked.strict f e
+AnswersBelow w t issuer (Err e) = AnswersFields w t issuer (Err e)
+
+-- the answer below who issues, or why nobody does
+abbrev pub AnswersTerms : RpkiWanted → WantedTerms → Result (List ℕ) Unissued → Type 0
+AnswersTerms w t r =
+    ((e : Unissued) × (r ≡ Err e) × IsNoIssuer t.kind w.issuer e)
+    ⊎ ((issuer : Option ResourceFields) × IsIssuerOf t.kind w.issuer issuer
+    × AnswersBelow w t issuer r)
+
+-- the octets that are to be signed of the certificate that is wanted, or why there are none
+abbrev pub AnswersWanted : RpkiWanted → Result (List ℕ) Unissued → Type 0
+AnswersWanted w r =
+    (HasNoWantedTerms w × (r ≡ Err why.BadCall))
+    ⊎ ((t : WantedTerms) × HasWantedTerms w t × AnswersTerms w t r)
+
+-- ---- what is completed
+
+-- the octets are a TBSCertificate with these fields, of a key that the RPKI uses
+pub record IsToSign (f : TbsFields) (octets : List ℕ) : Type 0 where
+  pub is_data : IsTbsCertificate f octets
+  pub usable : IsUsableKey f.key
+
+-- its issuer is named as the certificate above, and without one as the subject (RFC 6487 4.4)
+abbrev pub IsNamed : Option ResourceFields → TbsFields → Type 0
+IsNamed issuer f = f.issuer ≡ issuer_name (fields_above issuer) f.subject
+
+-- the fields of what was signed, or why there are none
+abbrev pub AnswersSigned : List ℕ → Result TbsFields Unissued → Type 0
+AnswersSigned octets (Ok f) = IsToSign f octets
+AnswersSigned octets (Err why.NotToSign) = (f : TbsFields) → IsTbsCertificate f octets → ⊥
+AnswersSigned octets (Err why.UnusedKey) =
+    (f : TbsFields) × IsTbsCertificate f octets × (IsUsableKey f.key → ⊥)
+AnswersSigned octets (Err why.Memory) = Unit {0}
+AnswersSigned octets (Err _) = ⊥
+
+-- the fields of what was signed below this issuer
+abbrev pub AnswersNamed : Option ResourceFields → List ℕ → Result TbsFields Unissued → Type 0
+AnswersNamed issuer octets (Ok f) = IsToSign f octets × IsNamed issuer f
+AnswersNamed issuer octets (Err why.OtherName) =
+    (f : TbsFields) × IsToSign f octets × (IsNamed issuer f → ⊥)
+AnswersNamed issuer octets (Err e) = AnswersSigned octets (Err e)
+
+-- the certificate that the signature makes of these fields below the issuer, or why there is none
+abbrev pub AnswersCompletedBelow : RpkiCompletion → CompletionTerms → Option ResourceFields → Result (List ℕ) Unissued → Type 0
+AnswersCompletedBelow c t issuer (Ok octets) =
+    (f : TbsFields) × IsToSign f c.prepared.now × IsNamed issuer f
+    × IsCompleted t.kind issuer t.asked.now t.asked.strict f c.prepared.now c.signature.now octets
+AnswersCompletedBelow c t issuer (Err (why.Unfit e)) =
+    (f : TbsFields) × IsToSign f c.prepared.now × IsNamed issuer f
+    × IsUncompleted t.kind issuer t.asked.now t.asked.strict f c.prepared.now c.signature.now e
+AnswersCompletedBelow c t issuer (Err e) = AnswersNamed issuer c.prepared.now (Err e)
+
+-- the answer below who issues, or why nobody does
+abbrev pub AnswersCompletionTerms : RpkiCompletion → CompletionTerms → Result (List ℕ) Unissued → Type 0
+AnswersCompletionTerms c t r =
+    ((e : Unissued) × (r ≡ Err e) × IsNoIssuer t.kind c.issuer e)
+    ⊎ ((issuer : Option ResourceFields) × IsIssuerOf t.kind c.issuer issuer
+    × AnswersCompletedBelow c t issuer r)
+
+-- the certificate that is completed, or why there is none
+abbrev pub AnswersCompletion : RpkiCompletion → Result (List ℕ) Unissued → Type 0
+AnswersCompletion c r =
+    (HasNoCompletionTerms c × (r ≡ Err why.BadCall))
+    ⊎ ((t : CompletionTerms) × HasCompletionTerms c t × AnswersCompletionTerms c t r)

@@ -1,0 +1,159 @@
+//! Certificates that are completed by their signatures.
+ghost use Rattle.std.specs.Prelude.{◌≡◌, ◌↔◌, option_map, IsNone, IsTrue, IfSome};
+ghost use Rattle.rpki_c.specs.WantedAnswers.{AnswersCompletedBelow, AnswersCompletion, AnswersCompletionTerms, AnswersNamed, AnswersSigned, IsNamed, fields_above};
+ghost use Rattle.rpki_c.specs.WantedQuestions.{HasCompletionTerms, HasNoCompletionTerms};
+ghost use Rattle.rpki_wanted.specs.AskedFields.{issuer_name};
+
+use crate::certificates::kind_of;
+use crate::issuer::issuer_of;
+use crate::preparing::unfit;
+use crate::question::{RpkiQuestion, Terms, terms_of};
+use crate::unissued::Unissued;
+use bytes::Bytes;
+use rpki_cert::{Kind, ResourceCert, TbsCert};
+use rpki_keys::is_usable;
+use rpki_parts::Name;
+use rpki_wanted::{complete_octets, read_tbs};
+use std::alloc::Global;
+
+/// What was prepared and signed.
+#[repr(C)]
+#[derive(Clone, Copy)]
+pub struct RpkiCompletion<'c> {
+    /// How many octets this struct has, as the caller knows it.
+    pub size: usize,
+    /// The path of the issuer, the moment, and whether names are read strictly.
+    pub issuer: RpkiQuestion<'c>,
+    /// What was prepared.
+    pub prepared: &'c [u8],
+    /// The octets of its signature.
+    pub signature: &'c [u8],
+    /// What it is: 0 a trust anchor, 1 a CA, 2 an end entity, 3 a detached one, 4 a router.
+    pub kind: u32,
+}
+
+/// How many octets a completion has.
+pub(crate) const COMPLETION_SIZE: usize = size_of::<RpkiCompletion<'_>>();
+
+/// How a certificate is completed.
+#[derive(Clone, Copy)]
+pub(crate) struct CompletionTerms {
+    pub(crate) kind: Kind,
+    /// How the issuer's path is judged, and when.
+    pub(crate) asked: Terms,
+}
+
+// How the certificate is completed. `None` where no kind has its number, where the path of the
+// issuer has no terms, and where the caller knows another struct.
+#[tactic(auto, using(crate::proofs::WantedTermsGiven::no_completion_size, crate::proofs::WantedTermsGiven::no_completion_kind, crate::proofs::WantedTermsGiven::no_completion_path))]
+fn completion_terms_of(completion: &RpkiCompletion<'_>) -> Option<CompletionTerms>
+    ensures terms { IfSome result (HasCompletionTerms completion.now) }
+    ensures none { IsNone result → HasNoCompletionTerms completion.now }
+{
+    if completion.size != COMPLETION_SIZE {
+        return None;
+    }
+    Some(CompletionTerms {
+        kind: kind_of(completion.kind)?,
+        asked: terms_of(&completion.issuer)?,
+    })
+}
+
+// The name of who issues.
+fn name_above<'a>(tbs: &'a TbsCert, issuer: Option<&'a ResourceCert>) -> &'a Name
+    ensures { let above = fields_above (option_map (λ r. r.now) issuer.entry) in
+        result.now ≡ issuer_name above tbs.now.subject }
+{
+    match issuer {
+        Some(issuer) => issuer.as_cert().as_tbs().subject(),
+        None => tbs.subject(),
+    }
+}
+
+// Whether the issuer is named as the certificate above, if there is one, and else as the subject.
+fn is_named(tbs: &TbsCert, issuer: Option<&ResourceCert>) -> bool
+    ensures { IsTrue result ↔ IsNamed (option_map (λ r. r.now) issuer.entry) tbs.now }
+{
+    let name = name_above(tbs, issuer);
+    tbs.issuer().as_bytes() == name.as_bytes()
+}
+
+// The fields of what was signed.
+fn to_sign(alloc: Global, octets: &[u8]) -> Result<TbsCert, Unissued>
+    ensures { AnswersSigned octets.now result }
+{
+    let octets = Bytes::copy_from_slice(alloc, octets)?;
+    let found = read_tbs(alloc, &octets);
+    drop(octets);
+    let Some(tbs) = found? else {
+        return Err(Unissued::NotToSign);
+    };
+    if is_usable(tbs.subject_public_key_info()) {
+        return Ok(tbs);
+    }
+    drop(tbs);
+    Err(Unissued::UnusedKey)
+}
+
+// The fields of what was signed, whose issuer is named as the one above.
+fn signed_below(
+    alloc: Global,
+    octets: &[u8],
+    issuer: Option<&ResourceCert>,
+) -> Result<TbsCert, Unissued>
+    ensures { let issuer = option_map (λ r. r.now) issuer.entry in
+        AnswersNamed issuer octets.now result }
+{
+    let tbs = to_sign(alloc, octets)?;
+    if is_named(&tbs, issuer) {
+        return Ok(tbs);
+    }
+    drop(tbs);
+    Err(Unissued::OtherName)
+}
+
+// The certificate below the issuer.
+fn completed_below(
+    alloc: Global,
+    completion: &RpkiCompletion<'_>,
+    terms: CompletionTerms,
+    issuer: Option<&ResourceCert>,
+) -> Result<Bytes, Unissued>
+    ensures { let issuer = option_map (λ r. r.now) issuer.entry in
+        AnswersCompletedBelow completion.now terms issuer result }
+{
+    let tbs = signed_below(alloc, completion.prepared, issuer)?;
+    let (prepared, signature) = (completion.prepared, completion.signature);
+    let (kind, asked) = (terms.kind, terms.asked);
+    let (strict, now) = (asked.strict, asked.now);
+    let octets = complete_octets(alloc, &tbs, prepared, signature, kind, issuer, strict, now);
+    drop(tbs);
+    match octets {
+        Ok(octets) => Ok(octets),
+        Err(error) => Err(unfit(error)),
+    }
+}
+
+// The certificate, on these terms.
+fn completed(
+    alloc: Global,
+    completion: &RpkiCompletion<'_>,
+    terms: CompletionTerms,
+) -> Result<Bytes, Unissued>
+    ensures { AnswersCompletionTerms completion.now terms result }
+{
+    let issuer = issuer_of(alloc, terms.kind, &completion.issuer)?;
+    let octets = completed_below(alloc, completion, terms, issuer.as_ref());
+    drop(issuer);
+    octets
+}
+
+/// Completes what was prepared by its signature: returns the octets of the certificate.
+pub(crate) fn complete(alloc: Global, completion: &RpkiCompletion<'_>) -> Result<Bytes, Unissued>
+    ensures { AnswersCompletion completion.now result }
+{
+    match completion_terms_of(completion) {
+        Some(terms) => completed(alloc, completion, terms),
+        None => Err(Unissued::BadCall),
+    }
+}

@@ -1,0 +1,71 @@
+//! Who issues: the CA that a path ends in, or nobody above a trust anchor.
+ghost use Rattle.std.specs.Prelude.{◌≡◌, ◌↔◌, option_map, Err, IfErr, IfOk, IsTrue};
+ghost use Rattle.rpki_cert.specs.declared.inspect.Kind.TheVariants.{Anchor};
+ghost use Rattle.rpki_c.specs.Verdicts.{AnswersQuestion};
+ghost use Rattle.rpki_c.specs.WantedAnswers.{IsHeld, IsIssuerOf, IsNoIssuer, fields_above};
+ghost use Rattle.rpki_keys.specs.RsaSignatures.{IsSignedByRsa};
+
+use crate::judging::judge_question;
+use crate::question::RpkiQuestion;
+use crate::refusal::Refusal;
+use crate::unissued::Unissued;
+use rpki_cert::{Kind, ResourceCert, TbsCert};
+use rpki_path::Judged;
+use std::alloc::Global;
+
+// Whether it is a trust anchor.
+fn is_anchor(kind: Kind) -> bool
+    ensures { IsTrue result ↔ (kind ≡ Anchor) }
+{
+    match kind {
+        Kind::Anchor => true,
+        _ => false,
+    }
+}
+
+// The last member of the path, and what it holds.
+fn held(alloc: Global, question: &RpkiQuestion<'_>) -> Result<ResourceCert, Refusal>
+    ensures held { IfOk result (IsHeld question.now) }
+    ensures refused { IfErr result (λ e. AnswersQuestion IsSignedByRsa question.now (Err e)) }
+{
+    let judged = judge_question(alloc, question)?;
+    let Judged { holder, router } = judged;
+    drop(router);
+    Ok(holder)
+}
+
+/// Returns the CA that the path of a question ends in, and what it holds; `None` for a trust
+/// anchor, above which there is no path.
+pub(crate) fn issuer_of(
+    alloc: Global,
+    kind: Kind,
+    question: &RpkiQuestion<'_>,
+) -> Result<Option<ResourceCert>, Unissued>
+    ensures issuer { IfOk result (IsIssuerOf kind question.now) }
+    ensures none { IfErr result (IsNoIssuer kind question.now) }
+{
+    if is_anchor(kind) {
+        if question.members.lengths.is_empty() {
+            return Ok(None);
+        }
+        return Err(Unissued::BadCall);
+    }
+    if question.last > 1 {
+        return Err(Unissued::BadCall);
+    }
+    match held(alloc, question) {
+        Ok(issuer) => Ok(Some(issuer)),
+        Err(refusal) => Err(Unissued::Issuer(refusal)),
+    }
+}
+
+/// Returns the fields of the issuer's certificate.
+pub(crate) fn above<'i>(issuer: Option<&'i ResourceCert>) -> Option<&'i TbsCert>
+    ensures { option_map (λ f. f.now) result
+        ≡ fields_above (option_map (λ r. r.now) issuer.entry) }
+{
+    match issuer {
+        Some(issuer) => Some(issuer.as_cert().as_tbs()),
+        None => None,
+    }
+}

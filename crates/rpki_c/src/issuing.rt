@@ -1,0 +1,85 @@
+//! Issuing for C, where the key is elsewhere.
+ghost use Rattle.std.specs.Prelude.{◌≡◌};
+ghost use Rattle.rpki_c.specs.IssuedTelling.{AreOctetsPut, IsToldCompleted, IsToldPrepared, issued_of};
+
+use crate::completing::{RpkiCompletion, complete};
+use crate::copying::put_octets;
+use crate::faults::{NONE, of_unissued};
+use crate::preparing::prepare;
+use crate::unissued::Unissued;
+use crate::wanted::RpkiWanted;
+use bytes::Bytes;
+use std::alloc::Global;
+
+/// What became of a certificate that was to be prepared or completed.
+#[repr(C)]
+#[derive(Clone, Copy)]
+pub struct RpkiIssued {
+    /// 0 where there are octets; else the number of the fault.
+    pub fault: u32,
+    /// The place of what is wrong.
+    pub index: u32,
+    /// How many octets there are.
+    pub count: u64,
+}
+
+// What is told of the answer below so many members, with its octets.
+fn put(answer: Result<Bytes, Unissued>, members: usize, out: &mut [u8]) -> RpkiIssued
+    ensures told { result ≡ issued_of members answer }
+    ensures put { AreOctetsPut answer out.old out.new }
+{
+    match answer {
+        Ok(octets) => {
+            let count = put_octets(octets.as_slice(), out);
+            drop(octets);
+            RpkiIssued {
+                fault: NONE,
+                index: 0,
+                count,
+            }
+        }
+        Err(why) => {
+            let (fault, index) = (of_unissued(&why), why.index(members));
+            drop(why);
+            RpkiIssued {
+                fault,
+                index,
+                count: 0,
+            }
+        }
+    }
+}
+
+/// Prepares a certificate for its signature: writes what is to be signed, as many octets as there
+/// is room for. Answers what is told as its fault.
+#[unsafe(no_mangle)]
+pub extern "C" fn rpki_prepare(
+    alloc: Global,
+    wanted: &RpkiWanted<'_>,
+    out: &mut [u8],
+    told: &mut RpkiIssued,
+) -> u32
+    ensures told { IsToldPrepared wanted.now out.old out.new told.new }
+    ensures answered { result ≡ told.new.fault }
+{
+    let answer = prepare(alloc, wanted);
+    *told = put(answer, wanted.issuer.members.lengths.len(), out);
+    told.fault
+}
+
+/// Completes what was prepared by its signature: writes the certificate, as many octets as there is
+/// room for. Answers what is told as its fault.
+#[unsafe(no_mangle)]
+pub extern "C" fn rpki_complete(
+    alloc: Global,
+    completion: &RpkiCompletion<'_>,
+    out: &mut [u8],
+    told: &mut RpkiIssued,
+) -> u32
+    ensures told { IsToldCompleted completion.now out.old out.new told.new }
+    ensures answered { result ≡ told.new.fault }
+{
+    let answer = complete(alloc, completion);
+    *told = put(answer, completion.issuer.members.lengths.len(), out);
+    told.fault
+}

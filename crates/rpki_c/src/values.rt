@@ -1,0 +1,337 @@
+//! The values of a certificate that a caller wants.
+ghost use Rattle.std.specs.Int.{w128, from_be_bytes};
+ghost use Rattle.std.specs.Prelude.{◌≡◌, ◌≢◌, ◌⊎◌, ◌<◌, ◌≤◌, [], length, map, Ok, Err, IfErr, IfOk, MatchOption};
+ghost use Rattle.rpki_blocks.specs.Sets.{Block as Span, between};
+ghost use Rattle.rpki_blocks.specs.Unions.{IsUnion};
+ghost use Rattle.rpki_parts.specs.Keys.{IsPublicKey};
+ghost use Rattle.rpki_values.specs.ValueTexts.{IsHttpsText, IsRsyncText};
+ghost use Rattle.rpki_c.specs.WantedAnswers.{AnswersValue, GivesValues, IsNoKey, IsNoText, uri_wanted};
+ghost use Rattle.rpki_c.specs.WantedQuestions.{AreGiven, AreOrdered, GivesNumbers, GivesPlaces, GivesWanted, IsKeyGiven, IsUriGiven, as_span, first_v4, last_v4, v4_span, v6_span};
+ghost use Rattle.rpki_c.specs.declared.certificates.CertUri.TheVariants.{Notify};
+ghost use Rattle.rpki_c.specs.declared.unissued.Unissued.TheVariants.{BadUri, Memory, NoKey};
+ghost use Rattle.rpki_c.specs.declared.wanted.RpkiWanted.{RpkiWanted as Asked};
+
+use crate::certificates::CertUri;
+use crate::copying::{RpkiAsRange, RpkiIpRange};
+use crate::unissued::Unissued;
+use crate::wanted::{RpkiUris, RpkiWanted, WantedTerms};
+use bytes::Bytes;
+use rpki_blocks::{Addr, AsBlock, Asn, Block, BlocksBuilder, Bound, IpBlock, Resources};
+use rpki_keys::is_usable;
+use rpki_parts::{Https, PublicKey, Rsync};
+use rpki_values::{Textual, serial_of};
+use rpki_wanted::{Numbers, Places, Wanted};
+use std::alloc::{AllocError, Global};
+
+// How ranges of a kind of numbers stand in the caller's memory.
+trait Ranges<R, B: Bound> {
+    ghost span: { R → Span };
+
+    // The block of a range's numbers, if it doesn't end before it begins.
+    fn block(range: &R) -> Option<Block<B>>
+        ensures { let b = span range.now in
+            MatchOption result (b.max < b.min) (λ it. (it ≡ b) × (b.min ≤ b.max)) };
+}
+
+// The first of the addresses of 128 bits that begin with the first 32 bits of this one.
+fn first_of_v4(octets: &[u8; 16]) -> Addr
+    ensures { result ≡ first_v4 (from_be_bytes w128 octets.now) }
+{
+    Addr::from(u128::from_be_bytes(*octets) / (1 << 96) * (1 << 96))
+}
+
+// The last of them.
+fn last_of_v4(octets: &[u8; 16]) -> Addr
+    ensures { result ≡ last_v4 (from_be_bytes w128 octets.now) }
+{
+    Addr::from(u128::from_be_bytes(*octets) / (1 << 96) * (1 << 96) + ((1 << 96) - 1))
+}
+
+// The addresses from the first to the last.
+fn addresses(first: Addr, last: Addr) -> Option<IpBlock>
+    ensures { MatchOption result (last < first)
+        (λ b. (b ≡ between first last) × (first ≤ last)) }
+{
+    if first > last {
+        return None;
+    }
+    Some(IpBlock::from((first, last)))
+}
+
+// Ranges of IPv4 addresses.
+struct V4Ranges;
+
+impl Ranges<RpkiIpRange, Addr> for V4Ranges {
+    ghost span = { v4_span };
+
+    fn block(range: &RpkiIpRange) -> Option<IpBlock> {
+        addresses(first_of_v4(&range.min), last_of_v4(&range.max))
+    }
+}
+
+// Ranges of IPv6 addresses.
+struct V6Ranges;
+
+impl Ranges<RpkiIpRange, Addr> for V6Ranges {
+    ghost span = { v6_span };
+
+    fn block(range: &RpkiIpRange) -> Option<IpBlock> {
+        let first = Addr::from(u128::from_be_bytes(range.min));
+        let last = Addr::from(u128::from_be_bytes(range.max));
+        addresses(first, last)
+    }
+}
+
+// Ranges of AS numbers.
+struct AsRanges;
+
+impl Ranges<RpkiAsRange, Asn> for AsRanges {
+    ghost span = { as_span };
+
+    fn block(range: &RpkiAsRange) -> Option<AsBlock> {
+        if range.min > range.max {
+            return None;
+        }
+        Some(AsBlock::from((Asn::from(range.min), Asn::from(range.max))))
+    }
+}
+
+// The blocks of ranges, if none ends before it begins.
+fn blocks_of<R, B: Bound, T: Ranges<R, B>>(
+    alloc: Global,
+    ranges: &[R],
+) -> Result<Option<BlocksBuilder<B>>, AllocError>
+    ensures { IfOk result (λ found. MatchOption found (AreOrdered (map T.span ranges.now) → ⊥)
+        (λ bs. (bs ≡ map T.span ranges.now) × AreOrdered bs)) }
+{
+    let mut blocks = BlocksBuilder::new(alloc);
+    for range in ranges {
+        let Some(block) = T::block(range) else {
+            return Ok(None);
+        };
+        blocks.push(block)?;
+    }
+    Ok(Some(blocks))
+}
+
+// The set of the numbers of ranges. There has to be one.
+fn set_of<R, B: Bound, T: Ranges<R, B>>(
+    alloc: Global,
+    ranges: &[R],
+) -> Result<Option<Resources<B>>, AllocError>
+    ensures { let bs = map T.span ranges.now in
+        IfOk result (λ found. MatchOption found ((bs ≢ []) × AreOrdered bs → ⊥)
+        (λ r. (bs ≢ []) × AreOrdered bs × IsUnion bs r)) }
+{
+    if ranges.is_empty() {
+        return Ok(None);
+    }
+    let Some(blocks) = blocks_of::<R, B, T>(alloc, ranges)? else {
+        return Ok(None);
+    };
+    Ok(Some(Resources::blocks(blocks.finalize()?)))
+}
+
+// What the ranges and the number of a state list of a kind of numbers.
+fn resources_of<R, B: Bound, T: Ranges<R, B>>(
+    alloc: Global,
+    state: u32,
+    ranges: &[R],
+) -> Result<Resources<B>, Unissued>
+    ensures { (w : Asked) → AnswersValue w (AreGiven state (map T.span ranges.now)) result }
+{
+    match state {
+        0 if ranges.is_empty() => Ok(Resources::missing()),
+        1 if ranges.is_empty() => Ok(Resources::inherit()),
+        2 => match set_of::<R, B, T>(alloc, ranges)? {
+            Some(set) => Ok(set),
+            None => Err(Unissued::BadCall),
+        },
+        _ => Err(Unissued::BadCall),
+    }
+}
+
+// Two values, or why one isn't there.
+fn both<A: Drop, B: Drop>(
+    first: Result<A, Unissued>,
+    second: Result<B, Unissued>,
+) -> Result<(A, B), Unissued>
+    ensures both { IfOk result (λ r. (first ≡ Ok r.0) × (second ≡ Ok r.1)) }
+    ensures refused { IfErr result (λ e. (first ≡ Err e) ⊎ (second ≡ Err e)) }
+{
+    match first {
+        Ok(one) => match second {
+            Ok(other) => Ok((one, other)),
+            Err(why) => {
+                drop(one);
+                Err(why)
+            }
+        },
+        Err(why) => {
+            drop(second);
+            Err(why)
+        }
+    }
+}
+
+// What is listed of each kind of numbers.
+fn numbers(alloc: Global, w: &RpkiWanted<'_>) -> Result<Numbers, Unissued>
+    ensures { AnswersValue w.now (GivesNumbers w.now) result }
+{
+    let v4 = resources_of::<_, _, V4Ranges>(alloc, w.v4.state, w.v4.ranges);
+    let v6 = resources_of::<_, _, V6Ranges>(alloc, w.v6.state, w.v6.ranges);
+    let systems = resources_of::<_, _, AsRanges>(alloc, w.asn.state, w.asn.ranges);
+    let addresses = both(v4, v6);
+    let all = both(addresses, systems);
+    match all {
+        Ok((addresses, systems)) => {
+            let (v4, v6) = addresses;
+            Ok(Numbers { v4, v6, systems })
+        }
+        Err(why) => Err(why),
+    }
+}
+
+// The octets of a URI.
+fn octets_of<'c>(uris: &RpkiUris<'c>, which: CertUri) -> &'c [u8]
+    ensures { result.now ≡ uri_wanted which uris.now }
+{
+    match which {
+        CertUri::CaIssuer => uris.ca_issuer,
+        CertUri::Crl => uris.crl,
+        CertUri::Repository => uris.repository,
+        CertUri::Manifest => uris.manifest,
+        CertUri::SignedObject => uris.signed_object,
+        CertUri::Notify => uris.notify,
+    }
+}
+
+// The URI that the octets are. Without octets there is none.
+fn uri_of<T: Textual>(alloc: Global, octets: &[u8], which: CertUri) -> Result<Option<T>, Unissued>
+    ensures given { IfOk result (IsUriGiven T.is_text octets.now) }
+    ensures bad { IfErr result (λ e. (e ≡ Memory)
+        ⊎ ((e ≡ BadUri which) × (octets.now ≢ []) × IsNoText T.is_text octets.now)) }
+{
+    if octets.is_empty() {
+        return Ok(None);
+    }
+    match T::from_text(alloc, octets)? {
+        Some(uri) => Ok(Some(uri)),
+        None => Err(Unissued::BadUri(which)),
+    }
+}
+
+// A URI of the scheme rsync.
+fn rsync_of(alloc: Global, w: &RpkiWanted<'_>, which: CertUri) -> Result<Option<Rsync>, Unissued>
+    requires { which ≢ Notify }
+    ensures { let octets = uri_wanted which w.now.uris in
+        AnswersValue w.now (IsUriGiven IsRsyncText octets) result }
+{
+    uri_of::<Rsync>(alloc, octets_of(&w.uris, which), which)
+}
+
+// The URI of the notification file.
+fn notify_of(alloc: Global, w: &RpkiWanted<'_>) -> Result<Option<Https>, Unissued>
+    ensures { AnswersValue w.now (IsUriGiven IsHttpsText w.now.uris.notify.now) result }
+{
+    uri_of::<Https>(alloc, w.uris.notify, CertUri::Notify)
+}
+
+// The URIs.
+fn places(alloc: Global, w: &RpkiWanted<'_>) -> Result<Places, Unissued>
+    ensures { AnswersValue w.now (GivesPlaces w.now.uris) result }
+{
+    let repository = rsync_of(alloc, w, CertUri::Repository);
+    let manifest = rsync_of(alloc, w, CertUri::Manifest);
+    let object = rsync_of(alloc, w, CertUri::SignedObject);
+    let notify = notify_of(alloc, w);
+    let issuer = rsync_of(alloc, w, CertUri::CaIssuer);
+    let list = rsync_of(alloc, w, CertUri::Crl);
+    let own = both(repository, manifest);
+    let more = both(object, notify);
+    let below = both(own, more);
+    let above = both(issuer, list);
+    let all = both(below, above);
+    match all {
+        Ok((below, above)) => {
+            let (own, more) = below;
+            let (repository, manifest) = own;
+            let (object, notify) = more;
+            let (issuer, list) = above;
+            Ok(Places {
+                repository,
+                manifest,
+                object,
+                notify,
+                issuer,
+                list,
+            })
+        }
+        Err(why) => Err(why),
+    }
+}
+
+// What is wanted of the certificate.
+fn wanted_of(alloc: Global, w: &RpkiWanted<'_>, terms: WantedTerms) -> Result<Wanted, Unissued>
+    ensures { AnswersValue w.now (GivesWanted w.now terms) result }
+{
+    let Some(serial) = serial_of(&w.serial) else {
+        return Err(Unissued::BadCall);
+    };
+    let numbers = numbers(alloc, w);
+    let places = places(alloc, w);
+    match both(numbers, places) {
+        Ok((numbers, places)) => Ok(Wanted {
+            serial,
+            not_before: terms.not_before,
+            not_after: terms.not_after,
+            numbers,
+            places,
+        }),
+        Err(why) => Err(why),
+    }
+}
+
+// The key that the octets are.
+fn read_key(alloc: Global, octets: &[u8]) -> Result<PublicKey, Unissued>
+    ensures read { IfOk result (λ key. IsPublicKey key octets.now) }
+    ensures none { IfErr result (λ e. (e ≡ Memory) ⊎ ((e ≡ NoKey) × IsNoKey octets.now)) }
+{
+    match PublicKey::from_bytes(alloc, Bytes::copy_from_slice(alloc, octets)?) {
+        Ok(key) => Ok(key),
+        Err(error) => {
+            let is_memory = error.is_memory();
+            drop(error);
+            if is_memory {
+                Err(Unissued::Memory)
+            } else {
+                Err(Unissued::NoKey)
+            }
+        }
+    }
+}
+
+// The subject's key.
+fn key_of(alloc: Global, w: &RpkiWanted<'_>) -> Result<PublicKey, Unissued>
+    ensures { AnswersValue w.now (IsKeyGiven w.now.key.now) result }
+{
+    let key = read_key(alloc, w.key)?;
+    if is_usable(&key) {
+        return Ok(key);
+    }
+    drop(key);
+    Err(Unissued::UnusedKey)
+}
+
+/// Returns what is wanted of a certificate, and the subject's key.
+pub(crate) fn values_of(
+    alloc: Global,
+    w: &RpkiWanted<'_>,
+    terms: WantedTerms,
+) -> Result<(Wanted, PublicKey), Unissued>
+    ensures { AnswersValue w.now (GivesValues w.now terms) result }
+{
+    let wanted = wanted_of(alloc, w, terms);
+    let key = key_of(alloc, w);
+    both(wanted, key)
+}

@@ -1,0 +1,31 @@
+-- What a run puts out: a text on standard output, and files that it makes (own).
+use Rattle.std.specs.Prelude.{◌≡◌, ℕ, List, [], ◌∷◌, ◌++◌, Bool, Option, Some, None}
+
+-- a file that is made: its name and its octets, and whether one that was there may be overwritten
+pub record MadeFile : Type 0 where
+  pub name : List ℕ
+  pub octets : List ℕ
+  pub overwrites : Bool
+
+pub record Output : Type 0 where
+  pub text : List ℕ
+  pub files : List MadeFile
+
+-- a text and no file
+abbrev pub only_text : List ℕ → Output
+only_text text = record { text = text; files = [] }
+
+abbrev pub nothing : Output
+nothing = only_text []
+
+-- octets on standard output, or in the file that is named
+abbrev pub placed : List (List ℕ) → Bool → List ℕ → Output
+placed [] overwrites octets = only_text octets
+placed (name ∷ more) overwrites octets =
+    record { text = []; files = record { name = name; octets = octets; overwrites = overwrites } ∷ [] }
+
+-- the files that were made, where they are known, are those from before and these
+abbrev pub Makes : Option (List MadeFile) → Option (List MadeFile) → List MadeFile → Type 0
+Makes None after files = Unit {0}
+Makes (Some before) None files = ⊥
+Makes (Some before) (Some after) files = after ≡ before ++ files

@@ -1,0 +1,17 @@
+use Rattle.std.specs.Prelude.{map}
+use Rattle.std.specs.declared.vec.Vec.{Vec}
+use Rattle.std.proofs.Common.{ℕ, sym, ap, ◌∙◌}
+use Rattle.rpki_files.specs.Files.{contents}
+use Rattle.rpki_requests.specs.RequestWords.Views.{given_fields}
+use Rattle.rpki_requests.proofs.OnlyAnswers.{both_only_by, by_err, by_ok}
+use Rattle.rpki_requests.proofs.RevokedFiles.{OfFiles, OfNumbers, entries_none, entries_ok}
+use Rattle.rpki_requests.proofs.lists.entries_revoked.Goals as goal
+
+pub returns-in-Err : goal.returns-in-Err
+returns-in-Err c =
+    let given = map given_fields c.args.order.now.given.items in
+    let files = contents c.args.files.now in
+    let issuer = c.args.issuer.now in
+    let all = both_only_by (λ v. v.items) (λ v. v.items) (OfFiles given files issuer c.args.at) (OfNumbers given files issuer c.args.at) c.serials_of-by_files.result c.serials_given-by_numbers.result c.both.result c.both.ensures.both c.both.ensures.refused c.serials_of-by_files.ensures c.serials_given-by_numbers.ensures in
+    let none = by_err _ _ c.both.result c.in-Err.why c.in-Err.is all in
+    (none.0, λ not. entries_none given files issuer c.args.at (none.1 not))

@@ -1,0 +1,56 @@
+use Rattle.std.specs.Prelude.{Err, option_map, Option}
+use Rattle.std.proofs.Common.{◌≡◌, ℕ, List, Bor, rules, sym, subst}
+use Rattle.rpki.specs.Certificates.{TbsFields}
+use Rattle.rpki.specs.Lists.{CrlFields, CrlState, ListFields}
+use Rattle.rpki.specs.RevokedEntries.{Revoked}
+use Rattle.rpki_files.specs.Files.{contents}
+use Rattle.rpki_values.specs.OnlyValues.{IsOnly}
+use Rattle.rpki_wanted.specs.WantedLists.{IsListWanted}
+use Rattle.rpki_requests.specs.OptionValues.{GivesList}
+use Rattle.rpki_requests.specs.RequestFiles.{IsPreviousOf}
+use Rattle.rpki_requests.specs.RequestWords.Views.{asked_fields}
+use Rattle.rpki_requests.proofs.AskedLists.{asks_list, asks_no_list, fields_before}
+use Rattle.rpki_requests.proofs.lists.list_asked.Goals as goal
+
+pub returns-in-Err : goal.returns-in-Err
+returns-in-Err c =
+    let files : contents c.inputs.inside.previous.now ≡ c.args.inputs.now.previous = search rules in
+    (c.in-Err.ensures.0, λ not f h. c.in-Err.ensures.1 not h.previous (subst (λ (l : List (List ℕ)). IsPreviousOf c.args.issuer.now.cert.fields l h.previous) (sym files) h.previous_is))
+
+pub returns-in_err-wanted : goal.returns-in_err-wanted
+returns-in_err-wanted c =
+    let asked = asked_fields c.args.order.now in
+    let files : contents c.inputs.inside.revoked.now ≡ c.args.inputs.now.revoked = search rules in
+    let issuer : c.as_tbs.result.now ≡ c.args.issuer.now.cert.fields = search rules in
+    let same : c.from_residual.result ≡ Err c.in_err-wanted.field-0.0 = search rules in
+    rw same (c.in_err-wanted.ensures.0, λ not f h. c.in_err-wanted.ensures.1 not h.wanted
+    (subst (λ (i : TbsFields). GivesList asked.given (contents c.inputs.inside.revoked.now) i c.args.at h.wanted) (sym issuer)
+    (subst (λ (l : List (List ℕ)). GivesList asked.given l c.args.issuer.now.cert.fields c.args.at h.wanted) (sym files) h.wanted_is)))
+
+pub returns-in-Ok-list : goal.returns-in-Ok-list
+returns-in-Ok-list c =
+    let asked = asked_fields c.args.order.now in
+    let above = c.args.issuer.now.cert.fields in
+    let before = option_map (λ (l : Bor CrlState). l.now.list) c.in-Ok.previous in
+    let previous : contents c.inputs.inside.previous.now ≡ c.args.inputs.now.previous = search rules in
+    let revoked : contents c.inputs.inside.revoked.now ≡ c.args.inputs.now.revoked = search rules in
+    let issuer : c.as_tbs.result.now ≡ above = search rules in
+    let one = subst (λ (l : List (List ℕ)). IsOnly (IsPreviousOf above l) before) previous c.in-Ok.ensures in
+    let only = subst (λ (l : List (List ℕ)). IsOnly (GivesList asked.given l above c.args.at) c.in_ok-wanted.wanted) revoked
+    (subst (λ (i : TbsFields). IsOnly (GivesList asked.given (contents c.inputs.inside.revoked.now) i c.args.at) c.in_ok-wanted.wanted) issuer c.in_ok-wanted.ensures) in
+    asks_list asked c.args.inputs.now c.args.at above before one c.in_ok-wanted.wanted only c.in-Ok-list.list
+    (subst (λ (o : Option (ListFields Revoked)). IsListWanted c.in_ok-wanted.wanted o above c.in-Ok-list.list) (sym (fields_before c.in-Ok.previous)) c.in-Ok-list.ensures.wanted)
+
+pub returns-in-Err-list : goal.returns-in-Err-list
+returns-in-Err-list c =
+    let asked = asked_fields c.args.order.now in
+    let above = c.args.issuer.now.cert.fields in
+    let before = option_map (λ (l : Bor CrlState). l.now.list) c.in-Ok.previous in
+    let previous : contents c.inputs.inside.previous.now ≡ c.args.inputs.now.previous = search rules in
+    let revoked : contents c.inputs.inside.revoked.now ≡ c.args.inputs.now.revoked = search rules in
+    let issuer : c.as_tbs.result.now ≡ above = search rules in
+    let one = subst (λ (l : List (List ℕ)). IsOnly (IsPreviousOf above l) before) previous c.in-Ok.ensures in
+    let only = subst (λ (l : List (List ℕ)). IsOnly (GivesList asked.given l above c.args.at) c.in_ok-wanted.wanted) revoked
+    (subst (λ (i : TbsFields). IsOnly (GivesList asked.given (contents c.inputs.inside.revoked.now) i c.args.at) c.in_ok-wanted.wanted) issuer c.in_ok-wanted.ensures) in
+    (c.unfit.ensures.pathless, λ not. asks_no_list asked c.args.inputs.now c.args.at above before one c.in_ok-wanted.wanted only
+    (λ f is. c.in-Err-list.ensures.refused (c.unfit.ensures.memory not) f (subst (λ (o : Option (ListFields Revoked)). IsListWanted c.in_ok-wanted.wanted o above f) (fields_before c.in-Ok.previous) is)))

@@ -1,0 +1,35 @@
+use Rattle.std.specs.List.{AllZip}
+use Rattle.std.proofs.Common.{◌≡◌, ◌+◌, ◌<◌, ◌≤◌, ◌++◌, ◌∷◌, [], ℕ, List, length, map, rules, sym, subst, arith}
+use Rattle.std.proofs.lemmas.List.{take_all}
+use Rattle.rpki_files.specs.Files.{FileFields}
+use Rattle.rpki_values.specs.OnlyValues.{IsOnly}
+use Rattle.rpki_values.proofs.ZippedTexts.{only_none}
+use Rattle.rpki_requests.specs.RequestFiles.{IsRevokedFile}
+use Rattle.rpki_requests.proofs.PlaceByPlace.{AreOnlySoFar, none_there, one_on}
+use Rattle.rpki_requests.proofs.lists.serials_of.Goals as goal
+
+pub loop-place-init : goal.loop-place-init
+loop-place-init c =
+    let none : c.new-serials.result.items ≡ [] = search rules in
+    subst (λ (vs : List ℕ). AreOnlySoFar (IsRevokedFile c.args.issuer.now) (λ (f : FileFields). f.octets) c.args.files.now 0 vs) (sym none) (only_none (IsRevokedFile c.args.issuer.now))
+
+pub returns-in_default : goal.returns-in_default
+returns-in_default c =
+    let low : c.loop-place.place < length c.args.files.now = omega arith in
+    (tt, λ not. none_there (IsRevokedFile c.args.issuer.now) (λ (f : FileFields). f.octets) c.args.files.now c.loop-place.place c.index-files-place.result low c.index-files-place.is c.in_default.ensures)
+
+pub loop-place-preserved : goal.loop-place-preserved
+loop-place-preserved c =
+    let R = IsRevokedFile c.args.issuer.now in
+    let files = c.args.files.now in
+    let low : c.loop-place.place < length files = omega arith in
+    let serials = c.loop-place.serials.items in
+    let pushed : c.push.new.serials.items ≡ serials ++ c.in-Some.serial ∷ [] = c.in_ok-push.ensures in
+    subst (λ (vs : List ℕ). AreOnlySoFar R (λ (f : FileFields). f.octets) files (c.loop-place.place + 1) vs) (sym pushed)
+    (one_on R (λ (f : FileFields). f.octets) files c.loop-place.place c.index-files-place.result serials c.in-Some.serial low c.index-files-place.is c.loop-place.invariant c.in-Some.ensures)
+
+pub returns : goal.returns
+returns c =
+    let R = IsRevokedFile c.args.issuer.now in
+    let high : length c.args.files.now ≤ c.loop-place.place = omega arith in
+    subst (λ (l : List FileFields). IsOnly (λ vs. AllZip R vs (map (λ (f : FileFields). f.octets) l)) c.loop-place.serials.items) (take_all c.loop-place.place c.args.files.now high) c.loop-place.invariant

@@ -1,0 +1,34 @@
+//! What is to be signed, read from its octets.
+ghost use Rattle.std.specs.Prelude.{IfOk, MatchOption};
+ghost use Rattle.rpki_cert.specs.Certificates.{TbsFields, IsTbsCertificate};
+
+use bytes::Bytes;
+use rpki_cert::{TbsCert, laws};
+use rpki_der::Cursor;
+use std::alloc::{AllocError, Global};
+
+/// Reads the fields of the TBSCertificate that the octets are. Gives `None` where they are none,
+/// also where one is only their beginning.
+pub fn read_tbs(alloc: Global, octets: &Bytes) -> Result<Option<TbsCert>, AllocError>
+    ensures { IfOk result (λ found. MatchOption found
+        ((f : TbsFields) → IsTbsCertificate f octets.now → ⊥)
+        (λ f. IsTbsCertificate f octets.now)) }
+{
+    // Called for what it ensures alone.
+    laws::unambiguous();
+    let mut cursor = Cursor::new(octets);
+    match TbsCert::from_constructed(alloc, &mut cursor) {
+        Ok(tbs) => {
+            if cursor.is_empty() {
+                return Ok(Some(tbs));
+            }
+            drop(tbs);
+            Ok(None)
+        }
+        Err(error) => {
+            let is_memory = error.is_memory();
+            drop(error);
+            if is_memory { Err(AllocError) } else { Ok(None) }
+        }
+    }
+}
