@@ -37,7 +37,8 @@ fn authority_of(judged: Judged) -> Result<ResourceCert, Refusal>
 }
 
 /// Returns the CA that the path of these files ends in, and what it holds. The path is judged with
-/// real signatures and with the lists that are given, and its names have to chain. Gives `None` where there is no file.
+/// real signatures and with the lists that are given, and its names have to chain. Gives `None` where
+/// there is no file.
 pub(crate) fn issuer_of(
     alloc: Global,
     files: &[Object<'_>],

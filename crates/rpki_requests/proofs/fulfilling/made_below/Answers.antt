@@ -1,17 +1,37 @@
-use Rattle.std.specs.Prelude.{Err, Some, None, Option, option_map}
-use Rattle.std.proofs.Common.{◌≡◌, Bor, rules, sym, ap, subst}
+use Rattle.std.specs.Prelude.{Err, Option, option_map}
+use Rattle.std.proofs.Common.{◌≡◌, ℕ, List, Bor, rules, sym, subst}
 use Rattle.rpki.specs.Lists.{IsTbsCertList, ListFields}
 use Rattle.rpki.specs.RevokedEntries.{Revoked}
 use Rattle.rpki.specs.Verification.{ResourceFields}
-use Rattle.rpki_requests.specs.Fulfilment.{CompletesAs}
+use Rattle.rpki_values.specs.OnlyValues.{IsOnly}
+use Rattle.rpki_requests.specs.Fulfilment.{CompletesAs, CompletesListBelow}
 use Rattle.rpki_requests.specs.RequestWords.Views.{asked_fields}
-use Rattle.rpki_requests.specs.declared.fulfilling.Made.{Made}
 use Rattle.rpki_requests.proofs.AskedLists.{none_as_certificate, none_as_list, none_without}
 use Rattle.rpki_requests.proofs.fulfilling.made_below.Goals as goal
 
 pub returns-in_err-octets-clause-refused : goal.returns-in_err-octets-clause-refused
 returns-in_err-octets-clause-refused c =
     let issuer = option_map (λ (r : Bor ResourceFields). r.now) c.args.issuer in
-    let none : (f : ListFields Revoked) → IsTbsCertList f c.args.prepared.now → ⊥ = rw c.in_default.is at c.in_ok-list_to_sign.ensures in
+    let none : (f : ListFields Revoked) → IsTbsCertList f c.args.prepared.now → ⊥ = rw c.in_default.is at c.in_ok-list.ensures in
     let same : c.from_residual-in_err-octets.result ≡ Err c.in_err-octets.field-0.0 = search rules in
     rw same (λ not. none_as_certificate (asked_fields c.args.order.now) c.args.at c.args.prepared.now c.args.signature.now none issuer (c.in_err-octets.ensures.refused not))
+
+pub returns-in_default-issuer-clause-refused : goal.returns-in_default-issuer-clause-refused
+returns-in_default-issuer-clause-refused c = λ not given p.
+    let asked = asked_fields c.args.order.now in
+    let prepared = c.args.prepared.now in
+    let signature = c.args.signature.now in
+    let found : IsOnly (λ (f : ListFields Revoked). IsTbsCertList f prepared) c.in-Some.list = rw c.in-Some.is at c.in_ok-list.ensures in
+    none_without asked c.args.at prepared signature c.in-Some.list found.0 given
+    (subst (λ (o : Option (Bor ResourceFields)). CompletesAs asked c.args.at (option_map (λ (r : Bor ResourceFields). r.now) o) prepared signature given) c.in_default-issuer.is p)
+
+pub returns-in_err-octets-2-clause-refused : goal.returns-in_err-octets-2-clause-refused
+returns-in_err-octets-2-clause-refused c =
+    let asked = asked_fields c.args.order.now in
+    let prepared = c.args.prepared.now in
+    let signature = c.args.signature.now in
+    let found : IsOnly (λ (f : ListFields Revoked). IsTbsCertList f prepared) c.in-Some.list = rw c.in-Some.is at c.in_ok-list.ensures in
+    let same : c.from_residual-in_err-octets-2.result ≡ Err c.in_err-octets-2.field-0.0 = search rules in
+    rw same (λ not given p. none_as_list asked c.args.at prepared signature c.in-Some.list found.0 c.in-Some-issuer.issuer.now
+    (λ octets is. c.in_err-octets-2.ensures.refused not octets (subst (λ (l : List ℕ). CompletesListBelow asked c.args.at c.in-Some-issuer.issuer.now.cert.fields l signature octets) (sym c.deref.ensures) is)) given
+    (subst (λ (o : Option (Bor ResourceFields)). CompletesAs asked c.args.at (option_map (λ (r : Bor ResourceFields). r.now) o) prepared signature given) c.in-Some-issuer.is p))

@@ -14,7 +14,7 @@ loop-text-init c =
 pub returns-in_default : goal.returns-in_default
 returns-in_default c =
     let d : Bor (List ℕ) = record { ref_ptr = (0, 0); now = [] } in
-    (tt, λ not. none_at IsSerialText c.args.texts.now c.loop-text.text-index d c.loop-text-test.true (rw c.in_default.is at c.in_ok-from_text.ensures))
+    (tt, λ not. none_at IsSerialText c.args.texts.now c.loop-text.text-index d c.loop-text-test.true (rw c.in_default.is at c.in_ok-serial.ensures))
 
 pub loop-text-preserved : goal.loop-text-preserved
 loop-text-preserved c =
@@ -25,7 +25,7 @@ loop-text-preserved c =
     let d : Bor (List ℕ) = record { ref_ptr = (0, 0); now = [] } in
     let text = (get_or texts i d).now in
     let front = map (λ (t : Bor (List ℕ)). t.now) (take i texts) in
-    let said : IsOnly (λ (v : ℕ). IsSerialText v text) serial = rw c.in-Some.is at c.in_ok-from_text.ensures in
+    let said : IsOnly (λ (v : ℕ). IsSerialText v text) serial = rw c.in-Some.is at c.in_ok-serial.ensures in
     let whole : IsOnly (λ (vs : List ℕ). AllZip IsSerialText vs (front ++ text ∷ [])) (serials ++ serial ∷ []) = only_more IsSerialText serials front serial text c.loop-text.invariant said in
     let longer = subst (λ (l : List (List ℕ)). IsOnly (λ (vs : List ℕ). AllZip IsSerialText vs l) (serials ++ serial ∷ [])) (sym (take_more texts i d c.loop-text-test.true)) whole in
     let pushed : c.push.new.serials.items ≡ serials ++ serial ∷ [] = c.in_ok-push.ensures in
