@@ -106,8 +106,12 @@ module _ (given : List GivenFields) (files : List (List ℕ)) (issuer : TbsField
         λ i. record { number = n i; revoked = e i; this_update = t i; next_update = u i },
   )
 
+-- the code's entry that revokes this serial number
+abbrev pub made_at : Moment → ℕ → CrlEntry
+made_at at serial = record { user_certificate = serial; revocation_date = at }
+
 -- the code's entries that revoke these serial numbers are seen so
-pub entries_seen : {E Z : Type 0} (at : Moment) (serials : List ℕ) (r : Result (Vec CrlEntry Z) E) → IfOk r (λ v. v.items ≡ map (λ (serial : ℕ). record { user_certificate = serial; revocation_date = at }) serials) → IfOk r (λ v. map entry_of v.items ≡ map (revoked_at at) serials)
+pub entries_seen : {E Z : Type 0} (at : Moment) (serials : List ℕ) (r : Result (Vec CrlEntry Z) E) → IfOk r (λ v. v.items ≡ map (made_at at) serials) → IfOk r (λ v. map entry_of v.items ≡ map (revoked_at at) serials)
 entries_seen at serials (Ok v) is =
-    ap (λ (l : List CrlEntry). map entry_of l) is ∙ map-map entry_of (λ (serial : ℕ). record { user_certificate = serial; revocation_date = at }) serials
+    ap (λ (l : List CrlEntry). map entry_of l) is ∙ map-map entry_of (made_at at) serials
 entries_seen at serials (Err e) is = tt

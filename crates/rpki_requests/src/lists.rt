@@ -191,12 +191,12 @@ fn serials_given(alloc: Global, order: &Order<'_>) -> Result<Vec<Serial>, Refusa
 
 // The entries that revoke these serial numbers at the moment.
 fn entries_at(alloc: Global, serials: &[Serial], at: Time) -> Result<Vec<CrlEntry>, AllocError>
-    ensures { IfOk result (λ all.
-        map entry_of all.items ≡ map (revoked_at at) serials.now) }
+    ensures { IfOk result (λ all. all.items
+        ≡ map (λ serial. record { user_certificate = serial; revocation_date = at }) serials.now) }
 {
     serials
         .iter()
-        .map(|serial| CrlEntry {
+        .map(move |serial| CrlEntry {
             user_certificate: *serial,
             revocation_date: at,
         })

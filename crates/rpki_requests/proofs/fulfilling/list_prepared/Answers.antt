@@ -7,19 +7,19 @@ use Rattle.rpki_requests.specs.RequestWords.Views.{asked_fields}
 use Rattle.rpki_requests.proofs.AskedLists.{list_prepares_moved, none_to_sign}
 use Rattle.rpki_requests.proofs.fulfilling.list_prepared.Goals as goal
 
-pub returns-in_err-issuer_asked-clause-refused : goal.returns-in_err-issuer_asked-clause-refused
-returns-in_err-issuer_asked-clause-refused c =
-    let same : c.from_residual.result ≡ Err c.in_err-issuer_asked.field-0.0 = search rules in
-    rw same (λ not. none_to_sign (PreparesList (asked_fields c.args.order.now) c.args.inputs.now c.args.at) (λ octets p. c.in_err-issuer_asked.ensures.none not (Some p.issuer) p.issuer_is))
+pub returns-in_err-issuer-clause-refused : goal.returns-in_err-issuer-clause-refused
+returns-in_err-issuer-clause-refused c =
+    let same : c.from_residual.result ≡ Err c.in_err-issuer.field-0.0 = search rules in
+    rw same (λ not. none_to_sign (PreparesList (asked_fields c.args.order.now) c.args.inputs.now c.args.at) (λ octets p. c.in_err-issuer.ensures.none not (Some p.issuer) p.issuer_is))
 
 pub returns-in_default-clause-refused : goal.returns-in_default-clause-refused
 returns-in_default-clause-refused c = λ not. none_to_sign (PreparesList (asked_fields c.args.order.now) c.args.inputs.now c.args.at) (λ octets p.
-    subst (λ (o : Option ResourceFields). AreOneIssuer (Some p.issuer) o) c.in_default.is (c.in_ok-issuer_asked.ensures.only (Some p.issuer) p.issuer_is))
+    subst (λ (o : Option ResourceFields). AreOneIssuer (Some p.issuer) o) c.in_default.is (c.in_ok-issuer.ensures.only (Some p.issuer) p.issuer_is))
 
 pub returns-in_err-octets-clause-refused : goal.returns-in_err-octets-clause-refused
 returns-in_err-octets-clause-refused c =
     let asked = asked_fields c.args.order.now in
     let same : c.from_residual-in_err-octets.result ≡ Err c.in_err-octets.field-0.0 = search rules in
     rw same (λ not. none_to_sign (PreparesList asked c.args.inputs.now c.args.at) (λ octets p.
-    let one = subst (λ (o : Option ResourceFields). AreOneIssuer (Some p.issuer) o) c.in-Some.is (c.in_ok-issuer_asked.ensures.only (Some p.issuer) p.issuer_is) in
+    let one = subst (λ (o : Option ResourceFields). AreOneIssuer (Some p.issuer) o) c.in-Some.is (c.in_ok-issuer.ensures.only (Some p.issuer) p.issuer_is) in
     c.in_err-octets.ensures.refused not octets (list_prepares_moved asked c.args.at c.args.inputs.now p.issuer c.in-Some.issuer one octets p.prepares)))

@@ -1,4 +1,3 @@
-use Rattle.std.proofs.Common.{sym, ◌∙◌}
 use Rattle.std.proofs.lemmas.Bool.{false≢true}
 use Rattle.rpki_requests.proofs.RevokedFiles.{own_is, own_not}
 use Rattle.rpki_requests.proofs.lists.own_list.Goals as goal
@@ -12,4 +11,4 @@ returns-then-not-is_own c =
 
 pub returns : goal.returns
 returns c =
-    own_is c.args.issuer.now.cert.fields c.args.file.now.octets c.unambiguous.ensures.list c.in-Some.list.now.list c.in-Some.ensures (c.if-not-is_own.ensures.0 ?)
+    own_is c.args.issuer.now.cert.fields c.args.file.now.octets c.unambiguous.ensures.list c.in-Some.list.now.list c.in-Some.ensures (c.is_own.ensures.0 c.if-not-is_own.false)

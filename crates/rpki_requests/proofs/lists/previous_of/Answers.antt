@@ -1,17 +1,15 @@
-use Rattle.std.specs.Prelude.{Err}
-use Rattle.std.proofs.Common.{◌≡◌, rules}
 use Rattle.rpki_files.specs.Files.{contents}
 use Rattle.rpki_requests.proofs.RevokedFiles.{previous_none, previous_not, previous_one}
 use Rattle.rpki_requests.proofs.lists.previous_of.Goals as goal
 
 pub returns-in_default : goal.returns-in_default
 returns-in_default c =
-    previous_none c.args.issuer.now.cert.fields (contents c.args.files.now) (rw c.in_default.is at c.in_ok-file_alone.ensures.alone)
+    previous_none c.args.issuer.now.cert.fields (contents c.args.files.now) (rw c.in_default.is at c.in_ok-file.ensures.alone)
 
 pub returns-in-Some-own_list : goal.returns-in-Some-own_list
 returns-in-Some-own_list c =
-    previous_one c.args.issuer.now.cert.fields (contents c.args.files.now) c.in-Some.file.now.octets (rw c.in-Some.is at c.in_ok-file_alone.ensures.alone) c.in-Some-own_list.list.now.list c.in-Some-own_list.ensures
+    previous_one c.args.issuer.now.cert.fields (contents c.args.files.now) c.in-Some.file.now.octets (rw c.in-Some.is at c.in_ok-file.ensures.alone) c.in-Some-own_list.list.now.list c.in-Some-own_list.ensures
 
 pub returns-in-None : goal.returns-in-None
 returns-in-None c =
-    (tt, λ not. previous_not c.args.issuer.now.cert.fields (contents c.args.files.now) c.in-Some.file.now.octets (rw c.in-Some.is at c.in_ok-file_alone.ensures.alone) c.in-None.ensures)
+    (tt, λ not. previous_not c.args.issuer.now.cert.fields (contents c.args.files.now) c.in-Some.file.now.octets (rw c.in-Some.is at c.in_ok-file.ensures.alone) c.in-None.ensures)

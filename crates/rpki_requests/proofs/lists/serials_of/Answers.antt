@@ -1,6 +1,7 @@
 use Rattle.std.specs.List.{AllZip}
-use Rattle.std.proofs.Common.{◌≡◌, ◌+◌, ◌<◌, ◌≤◌, ◌++◌, ◌∷◌, [], ℕ, List, length, map, rules, sym, subst, arith}
+use Rattle.std.proofs.Common.{◌≡◌, ◌+◌, ◌<◌, ◌≤◌, ◌++◌, ◌∷◌, [], ℕ, List, length, map, refl, rules, sym, subst, arith}
 use Rattle.std.proofs.lemmas.List.{take_all}
+use Rattle.std.proofs.lemmas.Result.{err_from_is_err_and}
 use Rattle.rpki_files.specs.Files.{FileFields}
 use Rattle.rpki_values.specs.OnlyValues.{IsOnly}
 use Rattle.rpki_values.proofs.ZippedTexts.{only_none}
@@ -12,6 +13,11 @@ pub loop-place-init : goal.loop-place-init
 loop-place-init c =
     let none : c.new-serials.result.items ≡ [] = search rules in
     subst (λ (vs : List ℕ). AreOnlySoFar (IsRevokedFile c.args.issuer.now) (λ (f : FileFields). f.octets) c.args.files.now 0 vs) (sym none) (only_none (IsRevokedFile c.args.issuer.now))
+
+pub returns-in_err-push : goal.returns-in_err-push
+returns-in_err-push c =
+    let gives = err_from_is_err_and c.from_residual.result c.from_residual.ensures.1 in
+    rw (gives.1, gives.2) (tt, λ not. absurd (not refl))
 
 pub returns-in_default : goal.returns-in_default
 returns-in_default c =
