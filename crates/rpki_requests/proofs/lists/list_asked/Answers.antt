@@ -23,9 +23,12 @@ returns-in_err-wanted c =
     let files : contents c.inputs.inside.revoked.now ≡ c.args.inputs.now.revoked = search rules in
     let issuer : c.as_tbs.result.now ≡ c.args.issuer.now.cert.fields = search rules in
     let same : c.from_residual.result ≡ Err c.in_err-wanted.field-0.0 = search rules in
-    rw same (c.in_err-wanted.ensures.0, λ not f h. c.in_err-wanted.ensures.1 not h.wanted
-    (subst (λ (i : TbsFields). GivesList asked.given (contents c.inputs.inside.revoked.now) i c.args.at h.wanted) (sym issuer)
-    (subst (λ (l : List (List ℕ)). GivesList asked.given l c.args.issuer.now.cert.fields c.args.at h.wanted) (sym files) h.wanted_is)))
+    rw same (
+      c.in_err-wanted.ensures.0,
+      λ not f h. c.in_err-wanted.ensures.1 not h.wanted
+          (subst (λ (i : TbsFields). GivesList asked.given (contents c.inputs.inside.revoked.now) i c.args.at h.wanted) (sym issuer)
+          (subst (λ (l : List (List ℕ)). GivesList asked.given l c.args.issuer.now.cert.fields c.args.at h.wanted) (sym files) h.wanted_is)),
+    )
 
 pub returns-in-Ok-list : goal.returns-in-Ok-list
 returns-in-Ok-list c =
@@ -51,6 +54,8 @@ returns-in-Err-list c =
     let issuer : c.as_tbs.result.now ≡ above = search rules in
     let one = subst (λ (l : List (List ℕ)). IsOnly (IsPreviousOf above l) before) previous c.in-Ok.ensures in
     let only = subst (λ (l : List (List ℕ)). IsOnly (GivesList asked.given l above c.args.at) c.in_ok-wanted.wanted) revoked
-    (subst (λ (i : TbsFields). IsOnly (GivesList asked.given (contents c.inputs.inside.revoked.now) i c.args.at) c.in_ok-wanted.wanted) issuer c.in_ok-wanted.ensures) in
-    (c.unfit.ensures.pathless, λ not. asks_no_list asked c.args.inputs.now c.args.at above before one c.in_ok-wanted.wanted only
-    (λ f is. c.in-Err-list.ensures.refused (c.unfit.ensures.memory not) f (subst (λ (o : Option (ListFields Revoked)). IsListWanted c.in_ok-wanted.wanted o above f) (fields_before c.in-Ok.previous) is)))
+    (subst (λ (i : TbsFields). IsOnly (GivesList asked.given (contents c.inputs.inside.revoked.now) i c.args.at) c.in_ok-wanted.wanted) issuer c.in_ok-wanted.ensures) in (
+      c.unfit.ensures.pathless,
+      λ not. asks_no_list asked c.args.inputs.now c.args.at above before one c.in_ok-wanted.wanted only
+          (λ f is. c.in-Err-list.ensures.refused (c.unfit.ensures.memory not) f (subst (λ (o : Option (ListFields Revoked)). IsListWanted c.in_ok-wanted.wanted o above f) (fields_before c.in-Ok.previous) is)),
+    )
