@@ -1,6 +1,6 @@
 -- The list that a request asks for, and what is completed as one.
 use Rattle.std.specs.Prelude.{option_map, Option, Some, None}
-use Rattle.std.proofs.Common.{◌≡◌, ℕ, List, [], ◌∷◌, Bor, refl, sym, ap, subst, ◌∙◌}
+use Rattle.std.proofs.Common.{◌≡◌, ℕ, List, Bor, refl, sym, subst, ◌∙◌}
 use Rattle.rpki.specs.Certificates.{TbsFields, CertFields}
 use Rattle.rpki.specs.Lists.{CrlFields, CrlState, IsTbsCertList, ListFields}
 use Rattle.rpki.specs.RevokedEntries.{Revoked}
@@ -8,7 +8,7 @@ use Rattle.rpki.specs.Times.{Moment}
 use Rattle.rpki.specs.Verification.{ResourceFields}
 use Rattle.rpki_values.specs.OnlyValues.{IsOnly}
 use Rattle.rpki_verdicts.specs.PathAnswers.{HoldSame}
-use Rattle.rpki_wanted.specs.WantedLists.{IsListWanted, WantedListFields, list_wanted}
+use Rattle.rpki_wanted.specs.WantedLists.{IsListWanted, WantedListFields}
 use Rattle.rpki_requests.specs.Fulfilment.{AsksList, CompletesAs, CompletesBelow, CompletesListBelow, GivesToSign, PreparesListBelow}
 use Rattle.rpki_requests.specs.OptionValues.{GivesList}
 use Rattle.rpki_requests.specs.RequestFiles.{AreOneIssuer, InputFields, IsPreviousOf}

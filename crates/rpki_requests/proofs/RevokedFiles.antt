@@ -13,8 +13,7 @@ use Rattle.rpki.specs.Times.{Moment}
 use Rattle.rpki.specs.Values.{IsUnambiguous}
 use Rattle.rpki_values.specs.OnlyValues.{IsOnly}
 use Rattle.rpki_values.specs.ValueTexts.{IsSerialText}
-use Rattle.rpki_wanted.specs.WantedLists.{WantedListFields}
-use Rattle.rpki_requests.specs.OptionValues.{GivesEntries, GivesList, GivesSerials, IsMomentSaid, SaysAtMostOnce, SaysOnce, given_alone, revoked_at}
+use Rattle.rpki_requests.specs.OptionValues.{GivesEntries, GivesList, IsMomentSaid, SaysAtMostOnce, SaysOnce, given_alone, revoked_at}
 use Rattle.rpki_requests.specs.RequestFiles.{IsOwnList, IsOwnListIn, IsPreviousOf, IsRevokedFile}
 use Rattle.rpki_requests.specs.RequestWords.{GivenFields, values_of}
 use Rattle.rpki_requests.specs.declared.words.Setting.TheVariants.{Number, NextUpdate, Serial}

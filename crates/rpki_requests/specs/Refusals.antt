@@ -1,5 +1,5 @@
 -- Why a request gives nothing, and what is said of it (own).
-use Rattle.std.specs.Prelude.{◌≢◌, ℕ, List, [], ◌++◌, Result, Ok, Err, codes}
+use Rattle.std.specs.Prelude.{◌≢◌, ℕ, List, ◌++◌, Result, Ok, Err, codes}
 use Rattle.std.specs.Fmt.{decimal}
 use Rattle.rpki.specs.Inspection.{inspection_error_name}
 use Rattle.rpki.specs.IssuingError.{IssuingError}

@@ -1,7 +1,7 @@
 use Rattle.std.specs.Prelude.{Err, option_map, Option}
 use Rattle.std.proofs.Common.{◌≡◌, ℕ, List, Bor, rules, sym, subst}
 use Rattle.rpki.specs.Certificates.{TbsFields}
-use Rattle.rpki.specs.Lists.{CrlFields, CrlState, ListFields}
+use Rattle.rpki.specs.Lists.{CrlState, ListFields}
 use Rattle.rpki.specs.RevokedEntries.{Revoked}
 use Rattle.rpki_files.specs.Files.{contents}
 use Rattle.rpki_values.specs.OnlyValues.{IsOnly}

@@ -1,5 +1,5 @@
 use Rattle.std.specs.Prelude.{Contains, codes}
-use Rattle.std.proofs.Common.{◌≡◌, ℕ, List, inl, inr, sym, subst, ◌∙◌}
+use Rattle.std.proofs.Common.{ℕ, List, inl, inr, sym, subst, ◌∙◌}
 use Rattle.std.proofs.lemmas.Bool.{false≢true}
 use Rattle.rpki_requests.proofs.words.asks_help.Goals as goal
 
