@@ -12,7 +12,7 @@ use Rattle.rpki_verdicts.specs.PathFiles.{IsGivenBy}
 use Rattle.rpki_verdicts.specs.declared.path.Fault.{Fault}
 use Rattle.rpki_verdicts.specs.declared.path.Verdict.{Verdict}
 use Rattle.rpki_verdicts.specs.declared.path.Verdict.TheVariants.{Accepted, Rejected}
-use Rattle.rpki_requests.specs.RequestFiles.{AreOneIssuer, IsHeldByLast, IsIssuerOf, IsNoAuthority, chained}
+use Rattle.rpki_requests.specs.RequestFiles.{AreOneIssuer, IsHeldByLast, IsPathIssuer, IsNoAuthority, chained}
 
 -- what the last member of a path holds, where it isn't a router
 abbrev held_alone : ResourceFields → Judged
@@ -40,12 +40,12 @@ module _ (x : Context) where
     unjudged v empty on = no_verdict lists v (subst (λ (l : List (List ℕ)). IsVerdictBy x chained l lists v) empty on)
 
     -- where there is no file, there is no issuer
-    pub none_only : files ≡ [] → (other : Option ResourceFields) → IsIssuerOf x files lists other → AreOneIssuer other None
+    pub none_only : files ≡ [] → (other : Option ResourceFields) → IsPathIssuer x files lists other → AreOneIssuer other None
     none_only empty None is = tt
     none_only empty (Some r) held = unjudged (Accepted (held_alone r)) empty held.accepted
 
     -- a path that is rejected has none
-    pub rejected_none : (fault : Fault) → ((j : Judged) → IsVerdictBy x chained files lists (Accepted j) → IsVerdictBy x chained files lists (Rejected fault) → ⊥) → IsVerdictBy x chained files lists (Rejected fault) → (issuer : Option ResourceFields) → IsIssuerOf x files lists issuer → ⊥
+    pub rejected_none : (fault : Fault) → ((j : Judged) → IsVerdictBy x chained files lists (Accepted j) → IsVerdictBy x chained files lists (Rejected fault) → ⊥) → IsVerdictBy x chained files lists (Rejected fault) → (issuer : Option ResourceFields) → IsPathIssuer x files lists issuer → ⊥
     rejected_none fault never on None empty = unjudged (Rejected fault) empty on
     rejected_none fault never on (Some r) held = never (held_alone r) held.accepted on
 
@@ -59,7 +59,7 @@ module _ (x : Context) where
 
       module _ (one : (j i : Judged) → IsVerdictBy x chained files lists (Accepted j) → IsVerdictBy x chained files lists (Accepted i) → AreSame j i) where
         -- and no other
-        pub authority_only : (r : ResourceFields) → judged ≡ held_alone r → (other : Option ResourceFields) → IsIssuerOf x files lists other → AreOneIssuer other (Some r)
+        pub authority_only : (r : ResourceFields) → judged ≡ held_alone r → (other : Option ResourceFields) → IsPathIssuer x files lists other → AreOneIssuer other (Some r)
         authority_only r is None empty = unjudged (Accepted judged) empty on
         authority_only r is (Some s) held =
             (one (held_alone s) (held_alone r) held.accepted (subst (λ (j : Judged). IsVerdictBy x chained files lists (Accepted j)) is on)).0
@@ -69,7 +69,7 @@ module _ (x : Context) where
         some_router (Some c) some is = cc
 
         -- and none where that is none
-        pub authority_none : IsNoAuthority judged → (issuer : Option ResourceFields) → IsIssuerOf x files lists issuer → ⊥
+        pub authority_none : IsNoAuthority judged → (issuer : Option ResourceFields) → IsPathIssuer x files lists issuer → ⊥
         authority_none why None empty = unjudged (Accepted judged) empty on
         authority_none (inl some) (Some s) held =
             some_router judged.router some (one (held_alone s) judged held.accepted on).1

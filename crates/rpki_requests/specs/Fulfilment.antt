@@ -16,7 +16,7 @@ use Rattle.rpki_wanted.specs.PreparedOctets.{IsPrepared, IsCompleted}
 use Rattle.rpki_wanted.specs.WantedLists.{IsListCompleted, IsListPrepared, IsListWanted, WantedListFields}
 use Rattle.rpki_wanted.specs.declared.wanted.Wanted.{Wanted}
 use Rattle.rpki_requests.specs.OptionValues.{GivesList, GivesWanted}
-use Rattle.rpki_requests.specs.RequestFiles.{InputFields, IsCompletedAs, IsHeldByLast, IsIssuerOf, IsKeyFile, IsPreviousOf, IsToSign, fields_above}
+use Rattle.rpki_requests.specs.RequestFiles.{InputFields, IsCompletedAs, IsIssuerOf, IsKeyFile, IsPreviousOf, IsToSign, fields_above}
 use Rattle.rpki_requests.specs.RequestWords.{AskedFields}
 use Rattle.rpki_requests.specs.declared.fulfilling.Made.{Made}
 use Rattle.rpki_requests.specs.declared.fulfilling.Made.TheVariants.{ToSign, Certificate}
@@ -77,7 +77,7 @@ pub record PreparesListBelow (asked : AskedFields) (inputs : InputFields) (at : 
 pub record PreparesList (asked : AskedFields) (inputs : InputFields) (at : Moment)
     (octets : List ℕ) : Type 0 where
   pub issuer : ResourceFields
-  pub issuer_is : IsHeldByLast (context_of asked at) inputs.issuers inputs.lists issuer
+  pub issuer_is : IsIssuerOf (context_of asked at) inputs.issuers inputs.lists (Some issuer)
   pub prepares : PreparesListBelow asked inputs at issuer.cert.fields octets
 
 -- ---- what is completed

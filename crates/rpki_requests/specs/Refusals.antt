@@ -19,17 +19,18 @@ use Rattle.rpki_verdicts.specs.declared.path.Fault.{Fault}
 use Rattle.rpki_verdicts.specs.declared.path.Verdict.TheVariants as verdict
 use Rattle.rpki_wanted.specs.declared.preparing.WantedError.{WantedError}
 use Rattle.rpki_wanted.specs.declared.preparing.WantedError.TheVariants as wanted
-use Rattle.rpki_requests.specs.RequestFiles.{IsNoAuthority, chained}
+use Rattle.rpki_requests.specs.RequestFiles.{IsNoAuthority, IsNoListAt, chained}
 use Rattle.rpki_requests.specs.RequestWords.{setting_name}
 use Rattle.rpki_requests.specs.declared.refusals.Refusal.{Refusal}
-use Rattle.rpki_requests.specs.declared.refusals.Refusal.TheVariants.{Value, NoKey, UnusedKey, Rejected, NoAuthority, NoIssuer, OtherList, OtherCertificate, NoName, Files, NotToSign, OtherName, Unfit, Memory}
+use Rattle.rpki_requests.specs.declared.refusals.Refusal.TheVariants.{Value, NoKey, UnusedKey, Rejected, NoAuthority, OtherCrl, NoIssuer, OtherList, OtherCertificate, NoName, Files, NotToSign, OtherName, Unfit, Memory}
 
 -- ---- when one comes
 
--- it says nothing of the issuer's path
+-- it says nothing of the issuer's path, nor of the lists that this is judged with
 abbrev pub IsPathless : Refusal → Type 0
 IsPathless (Rejected fault) = ⊥
 IsPathless NoAuthority = ⊥
+IsPathless (OtherCrl place) = ⊥
 IsPathless _ = Unit {0}
 
 -- the answer is the only one of which it is so; or, unless memory ran out, it is so of none, and no
@@ -50,10 +51,11 @@ pub record EndsInNoAuthority (x : Context) (files lists : List (List ℕ)) : Typ
   pub no_authority : IsNoAuthority judged
 
 -- what it says of the issuer's path is so: the path is rejected for this fault, or it is accepted,
--- but ends in no CA
+-- but ends in no CA; or the file that is given as a list at this place begins with none
 abbrev pub TellsPath : Context → List (List ℕ) → List (List ℕ) → Refusal → Type 0
 TellsPath x files lists (Rejected fault) = IsVerdictBy x chained files lists (verdict.Rejected fault)
 TellsPath x files lists NoAuthority = EndsInNoAuthority x files lists
+TellsPath x files lists (OtherCrl place) = IsNoListAt lists place
 TellsPath x files lists _ = Unit {0}
 
 -- ---- what is said of it
@@ -108,6 +110,8 @@ refusal_text NoKey = codes "the key's file is no public key"
 refusal_text (UnusedKey format) = fault_text (codes "BadKey") (key_rule format)
 refusal_text (Rejected fault) = path_text fault
 refusal_text NoAuthority = codes "the last issuer is no CA"
+refusal_text (OtherCrl place) =
+    codes "file " ++ (decimal place ++ codes " of --crl is no revocation list")
 refusal_text NoIssuer = codes "a revocation list has an issuer"
 refusal_text OtherList = codes "the previous list isn't one that the issuer signed"
 refusal_text (OtherCertificate place) =

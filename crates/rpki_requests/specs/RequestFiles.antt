@@ -1,6 +1,6 @@
 -- What the files of a request are: the issuer's path, the subject's key, the issuer's list before,
 -- what is revoked, what is completed (own).
-use Rattle.std.specs.Prelude.{◌≡◌, ◌⊎◌, ℕ, List, [], ◌∷◌, true, option_map, IsSome, Option, Some, None}
+use Rattle.std.specs.Prelude.{◌≡◌, ◌⊎◌, ◌<◌, ℕ, All, List, [], ◌∷◌, true, get_or, length, option_map, IsSome, Option, Some, None}
 use Rattle.rpki.specs.Certificates.{TbsFields, CertFields, IsCertificate, IsTbsCertificate}
 use Rattle.rpki.specs.Judged.{Judged}
 use Rattle.rpki.specs.KeyForms.{IsUsableKey}
@@ -11,6 +11,7 @@ use Rattle.rpki.specs.Lists.{CrlFields, IsCertificateList}
 use Rattle.rpki.specs.Revocation.{NamesIssuer}
 use Rattle.rpki.specs.RsaSignatures.{IsSignedByRsa}
 use Rattle.rpki.specs.Verification.{Context, ResourceFields, IsSignedBy}
+use Rattle.rpki_files.specs.Contents.{BeginsWithList}
 use Rattle.rpki_files.specs.SaidKinds.{SaysAuthority, SaysKind}
 use Rattle.rpki_verdicts.specs.PathFiles.{Demands}
 use Rattle.rpki_verdicts.specs.PathAnswers.{HoldSame, IsVerdictBy}
@@ -43,16 +44,29 @@ pub record IsHeldByLast (x : Context) (files lists : List (List ℕ)) (r : Resou
 abbrev pub IsNoAuthority : Judged → Type 0
 IsNoAuthority judged = IsSome judged.router ⊎ (SaysAuthority judged.holder.cert.fields → ⊥)
 
--- the issuer, and what it holds; where there is no file, there is none
+-- the CA that the path ends in, and what it holds; where there is no file, there is none
+abbrev pub IsPathIssuer : Context → List (List ℕ) → List (List ℕ) → Option ResourceFields → Type 0
+IsPathIssuer x files lists None = files ≡ []
+IsPathIssuer x files lists (Some r) = IsHeldByLast x files lists r
+
+-- the issuer is this one, and each file that is given as a list begins with one
 abbrev pub IsIssuerOf : Context → List (List ℕ) → List (List ℕ) → Option ResourceFields → Type 0
-IsIssuerOf x files lists None = files ≡ []
-IsIssuerOf x files lists (Some r) = IsHeldByLast x files lists r
+IsIssuerOf x files lists issuer = All BeginsWithList lists × IsPathIssuer x files lists issuer
+
+-- the file that is given as a list at this place begins with none
+abbrev pub IsNoListAt : List (List ℕ) → ℕ → Type 0
+IsNoListAt lists place = (place < length lists) × (BeginsWithList (get_or lists place []) → ⊥)
 
 -- two are one: they have one certificate, and hold the same numbers
 abbrev pub AreOneIssuer : Option ResourceFields → Option ResourceFields → Type 0
 AreOneIssuer None None = Unit {0}
 AreOneIssuer (Some r) (Some s) = HoldSame r s
 AreOneIssuer _ _ = ⊥
+
+-- the path has no other one
+abbrev pub IsOnlyPathIssuer : Context → List (List ℕ) → List (List ℕ) → Option ResourceFields → Type 0
+IsOnlyPathIssuer x files lists issuer =
+    (other : Option ResourceFields) → IsPathIssuer x files lists other → AreOneIssuer other issuer
 
 -- there is no other one
 abbrev pub IsOnlyIssuer : Context → List (List ℕ) → List (List ℕ) → Option ResourceFields → Type 0

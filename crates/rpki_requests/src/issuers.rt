@@ -1,11 +1,12 @@
 //! Who issues: the last of the CAs of a path.
-ghost use Rattle.std.specs.Prelude.{◌≡◌, ◌≢◌, Option, None, IfErr, IfOk};
+ghost use Rattle.std.specs.Prelude.{◌≡◌, ◌≢◌, All, Option, None, IfErr, IfOk, MatchOption};
 ghost use Rattle.rpki.specs.RsaSignatures.{IsSignedByRsa};
 ghost use Rattle.rpki.specs.Verification.{ResourceFields, context};
+ghost use Rattle.rpki_files.specs.Contents.{BeginsWithList};
 ghost use Rattle.rpki_files.specs.Files.{contents};
 ghost use Rattle.rpki_files.specs.SaidKinds.{SaysAuthority};
 ghost use Rattle.rpki_requests.specs.Refusals.{TellsPath};
-ghost use Rattle.rpki_requests.specs.RequestFiles.{IsIssuerOf, IsNoAuthority, IsOnlyIssuer};
+ghost use Rattle.rpki_requests.specs.RequestFiles.{IsIssuerOf, IsNoAuthority, IsNoListAt, IsOnlyIssuer, IsOnlyPathIssuer, IsPathIssuer};
 ghost use Rattle.rpki_requests.specs.declared.refusals.Refusal.TheVariants.{Memory, NoAuthority};
 
 use crate::refusals::Refusal;
@@ -36,10 +37,21 @@ fn authority_of(judged: Judged) -> Result<ResourceCert, Refusal>
     Err(Refusal::NoAuthority)
 }
 
-/// Returns the CA that the path of these files ends in, and what it holds. The path is judged with
-/// real signatures and with the lists that are given, and its names have to chain. Gives `None` where
-/// there is no file.
-pub(crate) fn issuer_of(
+// The place of the first file that begins with no list.
+fn first_no_list(lists: &[Object<'_>]) -> Option<usize>
+    ensures { MatchOption result (All BeginsWithList (contents lists.now))
+        (IsNoListAt (contents lists.now)) }
+{
+    for (place, list) in lists.iter().enumerate() {
+        if !list.is_list() {
+            return Some(place);
+        }
+    }
+    None
+}
+
+// The CA that the path of these files ends in, by the lists that are given.
+fn issuer_of_path(
     alloc: Global,
     files: &[Object<'_>],
     lists: &[Object<'_>],
@@ -47,12 +59,12 @@ pub(crate) fn issuer_of(
     at: Time,
 ) -> Result<Option<ResourceCert>, Refusal>
     ensures issuer { let x = context IsSignedByRsa at strict in
-        IfOk result (IsIssuerOf x (contents files.now) (contents lists.now)) }
+        IfOk result (IsPathIssuer x (contents files.now) (contents lists.now)) }
     ensures only { let x = context IsSignedByRsa at strict in
-        IfOk result (IsOnlyIssuer x (contents files.now) (contents lists.now)) }
+        IfOk result (IsOnlyPathIssuer x (contents files.now) (contents lists.now)) }
     ensures none { let x = context IsSignedByRsa at strict in
         IfErr result (λ why. why ≢ Memory → (issuer : Option ResourceFields)
-        → IsIssuerOf x (contents files.now) (contents lists.now) issuer → ⊥) }
+        → IsPathIssuer x (contents files.now) (contents lists.now) issuer → ⊥) }
     ensures told { let x = context IsSignedByRsa at strict in
         IfErr result (TellsPath x (contents files.now) (contents lists.now)) }
 {
@@ -74,4 +86,30 @@ pub(crate) fn issuer_of(
         Some(Verdict::Accepted(judged)) => Ok(Some(authority_of(judged)?)),
         Some(Verdict::Rejected(fault)) => Err(Refusal::Rejected(fault)),
     }
+}
+
+/// Returns the CA that the path of these files ends in, and what it holds, where each file that is
+/// given as a list begins with one. The path is judged with real signatures and with these lists, and
+/// its names have to chain. Gives `None` where there is no file.
+pub(crate) fn issuer_of(
+    alloc: Global,
+    files: &[Object<'_>],
+    lists: &[Object<'_>],
+    strict: bool,
+    at: Time,
+) -> Result<Option<ResourceCert>, Refusal>
+    ensures issuer { let x = context IsSignedByRsa at strict in
+        IfOk result (IsIssuerOf x (contents files.now) (contents lists.now)) }
+    ensures only { let x = context IsSignedByRsa at strict in
+        IfOk result (IsOnlyIssuer x (contents files.now) (contents lists.now)) }
+    ensures none { let x = context IsSignedByRsa at strict in
+        IfErr result (λ why. why ≢ Memory → (issuer : Option ResourceFields)
+        → IsIssuerOf x (contents files.now) (contents lists.now) issuer → ⊥) }
+    ensures told { let x = context IsSignedByRsa at strict in
+        IfErr result (TellsPath x (contents files.now) (contents lists.now)) }
+{
+    if let Some(place) = first_no_list(lists) {
+        return Err(Refusal::OtherCrl(place));
+    }
+    issuer_of_path(alloc, files, lists, strict, at)
 }

@@ -28,6 +28,8 @@ pub enum Refusal {
     Rejected(Fault),
     /// The last member of the issuer's path isn't a CA.
     NoAuthority,
+    /// The file that is given as a list for the issuer's path, at this place, is none.
+    OtherCrl(usize),
     /// A revocation list has no issuer.
     NoIssuer,
     /// The previous list isn't one that the issuer's key signed.
@@ -178,6 +180,10 @@ impl fmt::Display for Refusal {
             }
             Refusal::Rejected(fault) => write_fault(f, fault),
             Refusal::NoAuthority => f.write_str("the last issuer is no CA"),
+            Refusal::OtherCrl(place) => {
+                let place = *place;
+                write!(f, "file {place} of --crl is no revocation list")
+            }
             Refusal::NoIssuer => f.write_str("a revocation list has an issuer"),
             Refusal::OtherList => {
                 f.write_str("the previous list isn't one that the issuer signed")

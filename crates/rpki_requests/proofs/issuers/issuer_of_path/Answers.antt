@@ -9,7 +9,7 @@ use Rattle.rpki_requests.specs.Refusals.{TellsPath}
 use Rattle.rpki_requests.specs.RequestFiles.{chained}
 use Rattle.rpki_requests.specs.declared.refusals.Refusal.{Refusal}
 use Rattle.rpki_requests.proofs.JudgedIssuers.{authority_held, authority_none, authority_only, none_only, rejected_none}
-use Rattle.rpki_requests.proofs.issuers.issuer_of.Goals as goal
+use Rattle.rpki_requests.proofs.issuers.issuer_of_path.Goals as goal
 
 pub returns-in-None-clause-only : goal.returns-in-None-clause-only
 returns-in-None-clause-only c =
