@@ -7,6 +7,8 @@ Calls; help(rpki.validate) says more of one:
     judge_folder(octets, locator=)       which of many certificates and lists are valid
     Certificate(octets)                  a certificate that is read, and not judged
     RevocationList(octets)               a list that is read, and not judged
+    prepare(kind, issuers=, key=, ..)    what an issuer's key has to sign of a certificate
+    complete(kind, issuers=, ..)         the certificate that its signature completes
 
 Exceptions. str(fault) is such as "member 2: certificate revoked (Revoked)":
 
@@ -17,6 +19,7 @@ Exceptions. str(fault) is such as "member 2: certificate revoked (Revoked)":
     RevocationFault      the lists don't show that it isn't revoked
     NamesFault           its issuer isn't the subject of the member above it
     LocatorFault         the file is no locator, or the trust anchor has another key
+    IssuingFault         the key, the fields or the octets are none of a certificate
     TypeError            octets are wanted, and a text, a path or another value was given
     ValueError           the call itself is wrong: no members, a moment without a time zone ..
     MemoryError          memory ran out
@@ -75,7 +78,6 @@ from __future__ import annotations
 import enum
 import ipaddress
 import os
-from collections.abc import Iterator, Sequence
 from collections.abc import Iterable, Iterator, Mapping, Sequence
 from dataclasses import dataclass
 from datetime import datetime, timezone
@@ -766,10 +768,10 @@ def _issuer(
     strict: bool,
 ) -> raw.Question:
     """The question about the issuer's path. A trust anchor has none: nothing of it is asked."""
-    members = [_octets(it) for it in issuers]
-    all_lists = None if lists is None else [_octets(it) for it in lists]
+    members = _all_octets(issuers, "issuers")
+    all_lists = None if lists is None else _all_octets(lists, "lists")
     now = _time(datetime.now(timezone.utc) if at is None else at)
-    key = None if locator is None else _bytes(locator)
+    key = None if locator is None else _bytes(locator, "locator")
     last = Kind.TRUST_ANCHOR if kind is Kind.TRUST_ANCHOR else Kind.AUTHORITY
     return raw.question(members, last.value, now, strict, all_lists, key)
 
@@ -831,7 +833,7 @@ def prepare(
     asked = raw.wanted(
         _issuer(Kind(kind), issuers, lists, locator, at, strict),
         Kind(kind).value,
-        _bytes(key),
+        _bytes(key, "key"),
         (_addresses(4, ipv4), _addresses(6, ipv6), _systems(as_numbers)),
         texts,
         (_time(not_before), _time(not_after)),
@@ -864,8 +866,8 @@ def complete(
     asked = raw.completion(
         _issuer(Kind(kind), issuers, lists, locator, at, strict),
         Kind(kind).value,
-        _bytes(prepared),
-        _bytes(signature),
+        _bytes(prepared, "prepared"),
+        _bytes(signature, "signature"),
     )
     told, octets = raw.complete(asked)
     _raise_issued(told, len(issuers))
