@@ -30,6 +30,14 @@ static size_t append(const char *name) {
         exit(2);
     }
     size_t length = fread(octets + used, 1, MOST - used, file);
+    if (ferror(file)) { /* of a folder too */
+        perror(name);
+        exit(2);
+    }
+    if (fgetc(file) != EOF) {
+        fprintf(stderr, "issue: %s: the files have more than 1 MiB\n", name);
+        exit(2);
+    }
     fclose(file);
     used += length;
     return length;
