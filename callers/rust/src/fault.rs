@@ -10,8 +10,7 @@ pub enum FaultKind {
     /// Memory ran out. Its name is `Memory`.
     Memory,
     /// There are too few members, the last of several is to be a trust anchor, or there is no such
-    /// moment. No member is at fault. Its name is `BadCall`.
-    /// moment, range or serial number.
+    /// moment, range or serial number. No member is at fault. Its name is `BadCall`.
     BadCall,
     /// The octets begin with no certificate, or with no revocation list.
     ///
@@ -51,6 +50,9 @@ pub enum FaultKind {
     /// `BadKey`.
     Locator,
     /// The key, a URI, the fields or the octets are none of a certificate that can be issued.
+    ///
+    /// Its name is `NoKey`, `UnusedKey`, `BadUri`, `NoName`, `Unwritable`, `TooLong`, `NotToSign` or
+    /// `OtherOctets`.
     Issuing,
 }
 

@@ -1,6 +1,6 @@
 //! Certificates that are issued where the issuer's key lies elsewhere.
 use crate::{
-    check_library, sys, AsRanges, Certificate, Fault, Ipv4Ranges, Ipv6Ranges, Kind, Moment,
+    check_library, slices, sys, AsRanges, Certificate, Fault, Ipv4Ranges, Ipv6Ranges, Kind, Moment,
     Resources, Uri,
 };
 
@@ -72,17 +72,29 @@ fn as_numbers(ranges: &AsRanges) -> Vec<sys::AsRange> {
 /// which signs itself.
 #[derive(Clone, Debug)]
 pub struct Issuer<'a> {
-    path: &'a [&'a [u8]],
-    lists: Option<&'a [&'a [u8]]>,
+    path: Vec<&'a [u8]>,
+    lists: Option<Vec<&'a [u8]>>,
     locator: Option<&'a [u8]>,
     strict: bool,
     now: Moment,
 }
 
 impl<'a> Issuer<'a> {
-    /// Makes the issuer that a path of certificates ends in, in order, the trust anchor first. Above a
-    /// trust anchor there are none.
-    pub fn new(path: &'a [&'a [u8]], now: Moment) -> Issuer<'a> {
+    /// Makes the issuer that a path of certificates ends in, as `&[Certificate]` or `&Vec<Vec<u8>>` has
+    /// them, in order, the trust anchor first.
+    pub fn new<T>(path: impl IntoIterator<Item = &'a T>, now: Moment) -> Issuer<'a>
+    where
+        T: AsRef<[u8]> + ?Sized + 'a,
+    {
+        Issuer::below(slices(path), now)
+    }
+
+    /// Makes the issuer of a trust anchor: nobody is above it, and it signs itself.
+    pub fn of_anchor(now: Moment) -> Issuer<'a> {
+        Issuer::below(Vec::new(), now)
+    }
+
+    fn below(path: Vec<&'a [u8]>, now: Moment) -> Issuer<'a> {
         Issuer {
             path,
             lists: None,
@@ -93,8 +105,11 @@ impl<'a> Issuer<'a> {
     }
 
     /// Asks that each member below the trust anchor is unrevoked by these lists.
-    pub fn by_lists(mut self, lists: &'a [&'a [u8]]) -> Issuer<'a> {
-        self.lists = Some(lists);
+    pub fn by_lists<T>(mut self, lists: impl IntoIterator<Item = &'a T>) -> Issuer<'a>
+    where
+        T: AsRef<[u8]> + ?Sized + 'a,
+    {
+        self.lists = Some(slices(lists));
         self
     }
 
@@ -110,15 +125,15 @@ impl<'a> Issuer<'a> {
         self
     }
 
-    fn question(&self, kind: Kind) -> sys::Question<'a> {
+    fn question(&self, kind: Kind) -> sys::Question<'_> {
         let last = match kind {
             Kind::TrustAnchor => Kind::TrustAnchor,
             _ => Kind::Authority,
         };
         sys::Question {
-            members: self.path,
+            members: &self.path,
             last: last as u32,
-            lists: self.lists,
+            lists: self.lists.as_deref(),
             locator: self.locator,
             strict: self.strict,
             now: self.now.0,

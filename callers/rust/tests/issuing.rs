@@ -88,7 +88,7 @@ fn wanted<'a>(kind: Kind, key: &'a Key, uris: &'a [(Uri, &'a str)], block: u8) -
 }
 
 fn anchor(key: &Key) -> Certificate {
-    let issuer = Issuer::new(&[], now());
+    let issuer = Issuer::of_anchor(now());
     let octets = issuer
         .prepare(&wanted(Kind::TrustAnchor, key, &URIS[..2], 0))
         .unwrap();
@@ -111,21 +111,15 @@ fn certificates_are_issued() {
     }
     let (above, below) = (Key::new("above"), Key::new("below"));
     let anchor = anchor(&above);
-    let path = [anchor.as_bytes()];
-    let issuer = Issuer::new(&path, now());
+    let issuer = Issuer::new([&anchor], now());
     let octets = issuer
         .prepare(&wanted(Kind::Authority, &below, &URIS, 1))
         .unwrap();
     let it = issuer
         .complete(Kind::Authority, &octets, &above.sign(&octets))
         .unwrap();
-    let held = Path::new(
-        &[anchor.as_bytes(), it.as_bytes()],
-        Kind::Authority,
-        Revocation::NotAsked,
-    )
-    .validate(now())
-    .unwrap();
+    let path = Path::new([&anchor, &it], Kind::Authority, Revocation::NotAsked);
+    let held = path.validate(now()).unwrap();
     let range = (Ipv4Addr::new(10, 1, 0, 0), Ipv4Addr::new(10, 7, 255, 255));
     assert_eq!(held.ipv4, [range]);
     assert_eq!(held.as_numbers, [64500..=64503]);
@@ -154,8 +148,7 @@ fn what_is_wrong_is_refused_before_it_is_signed() {
     }
     let key = Key::new("refused");
     let anchor = anchor(&key);
-    let path = [anchor.as_bytes()];
-    let issuer = Issuer::new(&path, now());
+    let issuer = Issuer::new([&anchor], now());
     let good = wanted(Kind::Authority, &key, &URIS, 1);
     let refused = |issuer: &Issuer<'_>, wanted: &Wanted<'_>, name, kind, place| {
         is_fault(issuer.prepare(wanted).unwrap_err(), name, kind, place);
@@ -188,9 +181,9 @@ fn what_is_wrong_is_refused_before_it_is_signed() {
     let mut wrong = good.clone();
     wrong.serial_number = [0; 20];
     refused(&issuer, &wrong, "BadCall", FaultKind::BadCall, None);
-    let late = Issuer::new(&path, Moment::new(2040, 1, 1, 0, 0, 0));
+    let late = Issuer::new([&anchor], Moment::new(2040, 1, 1, 0, 0, 0));
     refused(&late, &good, "Expired", FaultKind::Verification, member(0));
-    let alone = Issuer::new(&[], now());
+    let alone = Issuer::of_anchor(now());
     refused(&alone, &good, "BadCall", FaultKind::BadCall, None);
     let listed = issuer.clone().by_lists(&[b"no list"]);
     let fault = listed.prepare(&good).unwrap_err();
