@@ -14,6 +14,7 @@ rpki-client is there it reads what `show` prints of them. PATH is the command as
 Prints each difference, and at the end `N passed, M failed`.
 """
 import argparse
+import dataclasses
 import importlib.machinery
 import importlib.util
 import json
@@ -46,6 +47,7 @@ def script(name):
 clients = script('clients')
 
 SITE = 'rsync://rpki.example.net/repo'
+ELSEWHERE = 'rsync://elsewhere.example.net/repo'
 NOTIFICATION = 'https://rpki.example.net/notification.xml'
 AT = '2026-06-01'
 
@@ -218,24 +220,41 @@ MADE = [
     ('ca', {'until': '20260531235959'}, 'Expired'),
     ('ee', {'until': '2026-05-31'}, 'Expired'),
     ('router', {'until': '2026-05-31'}, 'Expired'),
+    ('detached', {'ipv4': '10.1.0.0/16', 'ipv6': '2001:db9::/48'}, 'OverclaimV6'),
+    ('detached', {'until': '2026-05-31'}, 'Expired'),
+    ('detached', {'from': '2026-06-02'}, 'NotYetValid'),
+    ('ee', {'from': '2026-06-02'}, 'NotYetValid'),
+    ('router', {'from': '2026-06-02'}, 'NotYetValid'),
+    ('router', {'as': ['64496', '65000-65001']}, 'OverclaimAs'),
+]
+# of what no other moment or issuer lets the command make: the fields by which the reference does,
+# and what `validate` tells of that
+WRITTEN = [
+    ('anchor', {'ipv4': 'inherit'}, {'v4': ref.INHERIT}, 'InheritedV4'),
+    ('anchor', {'ipv6': 'inherit'}, {'v6': ref.INHERIT}, 'InheritedV6'),
+    ('anchor', {'as': 'inherit'}, {'asn': ref.INHERIT}, 'InheritedAs'),
+    ('anchor', {'until': '2026-05-31'}, {'not_after': (2026, 5, 31, 0, 0, 0)}, 'Expired'),
+    ('anchor', {'from': '2026-06-02'}, {'not_before': (2026, 6, 2, 0, 0, 0)}, 'NotYetValid'),
+    ('anchor', {'manifest': f'{SITE}/other/ca.mft'},
+     {'rpki_manifest': f'{SITE}/other/ca.mft'.encode()}, 'ManifestNotChild'),
+    ('anchor', {'key': 'router.pub'}, {'key': 'router.pub'}, 'KeyAlgorithm'),
+    ('ca', {'manifest': f'{SITE}/other/ca.mft'},
+     {'rpki_manifest': f'{SITE}/other/ca.mft'.encode()}, 'ManifestNotChild'),
+    ('ca', {'manifest': f'{ELSEWHERE}/ca/ca.mft'},
+     {'rpki_manifest': f'{ELSEWHERE}/ca/ca.mft'.encode()}, 'ManifestNotChild'),
+    ('ca', {'from': '2030-01-01', 'until': '2029-01-01'},
+     {'not_before': (2030, 1, 1, 0, 0, 0), 'not_after': (2029, 1, 1, 0, 0, 0)}, 'NotYetValid'),
+    ('ca', {'key': 'router.pub'}, {'key': 'router.pub'}, 'KeyAlgorithm'),
+    ('ee', {'key': 'router.pub'}, {'key': 'router.pub'}, 'KeyAlgorithm'),
+    ('router', {'key': 'ca.pub'}, {'key': 'ca.pub'}, 'KeyAlgorithm'),
+    ('router', {'as': 'inherit'}, {'asn': ref.INHERIT}, 'InheritedAsResources'),
+    ('ca', {'key': 'short.pub'}, {'key': 'short.pub'}, 'BadKey'),
+    ('ca', {'key': 'long.pub'}, {'key': 'long.pub'}, 'BadKey'),
+    ('ee', {'key': 'short.pub'}, {'key': 'short.pub'}, 'BadKey'),
 ]
 # of others: the fault, or the option
 REFUSED = [
-    ('anchor', {'ipv4': 'inherit'}, 'InheritedV4: '),
-    ('anchor', {'ipv6': 'inherit'}, 'InheritedV6: '),
-    ('anchor', {'as': 'inherit'}, 'InheritedAs: '),
-    ('anchor', {'until': '2026-05-31'}, 'Expired: '),
-    ('anchor', {'from': '2026-06-02'}, 'NotYetValid: '),
-    ('anchor', {'manifest': f'{SITE}/other/ca.mft'}, 'ManifestNotChild: '),
-    ('ca', {'manifest': f'{SITE}/other/ca.mft'}, 'ManifestNotChild: '),
-    ('ca', {'manifest': 'rsync://elsewhere.example.net/repo/ca/ca.mft'}, 'ManifestNotChild: '),
-    ('ca', {'from': '2030-01-01', 'until': '2029-01-01'}, 'NotYetValid: '),
-    ('ca', {'key': 'router.pub'}, 'KeyAlgorithm: '),
-    ('ee', {'key': 'router.pub'}, 'KeyAlgorithm: '),
-    ('router', {'key': 'ca.pub'}, 'KeyAlgorithm: '),
-    ('router', {'as': 'inherit'}, 'InheritedAsResources: '),
-    ('ca', {'key': 'short.pub'}, 'BadKey: '),
-    ('ca', {'key': 'long.pub'}, 'BadKey: '),
+    ('ca', {'ipv4': None, 'ipv6': None, 'as': None}, 'no certificate has these fields'),
     ('router', {'key': 'curve.pub'}, "the key's file is no public key"),
     ('ca', {'key': 'ca.key'}, "the key's file is no public key"),
     ('ca', {'key': 'anchor.cer'}, "the key's file is no public key"),
@@ -272,6 +291,24 @@ REFUSED = [
 ]
 
 
+def key_in(file):
+    """The public key in a file, as the reference has it."""
+    octets = openssl('pkey', '-pubin', '-in', file, '-outform', 'DER')
+    return ref.take_key(ref.Cursor(octets))
+
+
+def write(kind, fields):
+    """Writes made.cer: one of the kind, but with these fields, signed by the key of anchor.cer."""
+    tbs = ref.decode_cert(make('made.cer', kind, 'anchor')).tbs
+    if 'key' in fields:
+        key = key_in(fields['key'])
+        fields = {'key': key, 'subject_key_identifier': key.identifier()}
+    octets = ref.encode_tbs(dataclasses.replace(tbs, **fields))
+    sign(octets, 'anchor')
+    signature = Path('signed.sig').read_bytes()
+    Path('made.cer').write_bytes(ref.SignedData(octets, True, signature).octets())
+
+
 def try_refused():
     for kind, changes, fault in MADE:
         what = f'prepare {kind} {changes}'
@@ -279,6 +316,12 @@ def try_refused():
         at = {'from': '2026-07-01', 'until': '2026-01-15'}.get(next(iter(changes)), AT)
         make('made.cer', kind, 'anchor', **changes, issuer=['wide.cer'], at=at)
         found = told(['anchor.cer', 'made.cer'])
+        check(f'validate tells {fault} of {what}, and not {found}', found == fault)
+    for kind, changes, fields, fault in WRITTEN:
+        what = f'prepare {kind} {changes}'
+        is_refused(what, prepare(kind, **changes), f'{fault}: ')
+        write(kind, fields)
+        found = told(['made.cer'] if kind == 'anchor' else ['anchor.cer', 'made.cer'])
         check(f'validate tells {fault} of {what}, and not {found}', found == fault)
     for kind, changes, text in REFUSED:
         is_refused(f'prepare {kind} {changes}', prepare(kind, **changes), text)
