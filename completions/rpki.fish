@@ -70,7 +70,7 @@ complete -c rpki -n $certificate -l trim -d 'Trim resources that the issuer does
 
 complete -c rpki -n $list -l previous -r -F -d 'The list before'
 complete -c rpki -n $list -l number -x -d 'The number of the list'
-complete -c rpki -n $list -l next-update -x -d 'From when on it is stale (YYYY-MM-DD)'
+complete -c rpki -n $list -l next-update -x -d 'After which moment it is stale (YYYY-MM-DD)'
 complete -c rpki -n $list -l revoke -r -F -d 'Add a certificate that is revoked'
 
 complete -c rpki -n $complete -l pem -d 'Write PEM'
