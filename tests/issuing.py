@@ -87,6 +87,7 @@ BELOW = EVERY | {'issuer': ['anchor.cer'], 'issuer-uri': f'{SITE}/anchor.cer',
                  'crl-uri': f'{SITE}/anchor/anchor.crl'}
 HOLDS = {'ipv4': '10.1.0.0/16', 'ipv6': '2001:db8:1::/48', 'as': '64496'}
 PLACES = {'repository': f'{SITE}/ca/', 'manifest': f'{SITE}/ca/ca.mft'}
+GREATEST = '7f' + 19 * 'ff'    # of the numbers of 20 octets
 WANTED = {
     'anchor': EVERY | PLACES | {'key': 'anchor.pub', 'ipv4': '10.0.0.0/8',
                                 'ipv6': '2001:db8::/32', 'as': '64496-64511'},
@@ -550,6 +551,12 @@ def make_lists():
     octets = make('pem.crl', 'list', 'anchor', previous='first.pem', revoke=['ca.pem'])
     check('a list and a certificate in PEM are read', fields_of_list(octets)[:2]
           == (2, [(5, today)]))
+    octets = make('after.crl', 'list', 'anchor', previous='next.crl', number='0003')
+    check('a list of a later moment is followed, and zeros lead a number',
+          fields_of_list(octets) == (3, entries[:3], today, stale))
+    octets = make('last.crl', 'list', 'anchor', number=GREATEST, revoke=['old.cer'])
+    check('the greatest number, and a certificate that has expired',
+          fields_of_list(octets)[:2] == (int(GREATEST, 16), [(5, today)]))
     make('below.crl', 'list', 'ca', issuer=['anchor.cer', 'ca.cer'], serial=['05'])
     octets = bytearray(first)
     octets[-1] ^= 1
@@ -557,6 +564,17 @@ def make_lists():
 
 
 LISTS_REFUSED = [
+    ({'previous': 'last.crl'}, 'the number of the list has more than 20 octets'),
+    ({'previous': 'last.crl', 'number': GREATEST}, "the number isn't greater"),
+    ({'next-update': '2026-06-30T23:59:60Z'}, '--next-update'),
+    ({'at': '2026-06-01T00:00:60Z'}, '--at'),
+    ({'at': '2025-12-31T23:59:59Z'}, 'issuer 0 is rejected at verification, NotYetValid: '),
+    ({'at': '2036-01-01T00:00:01Z', 'next-update': '2037-01-01'},
+     'issuer 0 is rejected at verification, Expired: '),
+    ({'issuer': ['anchor.cer', 'ca.cer'], 'crl': ['next.crl']},
+     'issuer 1 is rejected at revocation, Stale: '),
+    ({'issuer': ['anchor.cer', 'ca.cer'], 'crl': ['first.crl', 'next.crl'], 'at': '2026-06-02'},
+     'issuer 1 is rejected at revocation, Revoked: '),
     ({'previous': 'next.crl', 'number': '02'}, "the number isn't greater"),
     ({'previous': 'next.crl', 'number': '01'}, "the number isn't greater"),
     ({'number': '80' + 19 * '00'}, '--number'),
@@ -666,6 +684,10 @@ def try_out():
     is_refused('a request that is refused', prepare('ca', ipv4='11.0.0.0/8', out='none.tbs'),
                'OverclaimV4: ')
     check('and makes no file', not Path('none.tbs').exists())
+    os.symlink('nowhere', 'link')
+    fails('a link to nowhere', prepare('ca', out='link'), 'rpki: link: is there already')
+    check('and makes no file', not Path('nowhere').exists())
+    fails('no name', prepare('ca', out=''), 'no such file or directory')
     fails('a folder that is missing', prepare('ca', out='none/made.tbs'),
           'rpki: none/made.tbs: no such file or directory')
     fails('a folder', rpki('prepare', 'ca', *words_of(WANTED['ca'] | {'at': AT, 'out': '.'}),
