@@ -161,13 +161,7 @@ enum rpki_fault {
     RPKI_LOCATOR_BAD_URI = 701, /* among its URIs is a line that is no rsync or https URI */
     RPKI_LOCATOR_NO_URI = 702,  /* the locator has no URI */
     RPKI_LOCATOR_NO_KEY = 703,  /* it ends before the empty line behind its URIs */
-    RPKI_LOCATOR_BAD_KEY = 704  /* what follows that line isn't a public key in base64 */
-    /* The octets aren't a trust anchor locator. */
-    RPKI_LOCATOR_NO_TEXT = 700,
-    RPKI_LOCATOR_BAD_URI = 701,
-    RPKI_LOCATOR_NO_URI = 702,
-    RPKI_LOCATOR_NO_KEY = 703,
-    RPKI_LOCATOR_BAD_KEY = 704,
+    RPKI_LOCATOR_BAD_KEY = 704, /* what follows that line isn't a public key in base64 */
 
     /* No certificate is prepared or completed. */
     RPKI_ISSUING_NO_KEY = 800,      /* the key isn't a SubjectPublicKeyInfo */
