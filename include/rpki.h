@@ -601,12 +601,12 @@ struct rpki_wanted_list {
 
 /* Prepares the issuer's next revocation list for its signature: writes the TBSCertList, which is
  * what is to be signed, as rpki_prepare does. All entries of the list before stay, and those that
- * are revoked now come in behind them, each serial number once. All is asked that
- * rpki_path_validate asks of a list of this issuer at this moment, but for the signature.
+ * are revoked now come in behind them, each serial number once. No signature is spent on a list
+ * that is stale at the moment, or that may not follow the one before.
  * *told holds after every fault, and *out is then as it was. The fault is RPKI_BAD_CALL where
  * `size` is another, a moment is no such, or the path ends in no CA; one of the issuer's path; one
- * of RPKI_ISSUING_OTHER_LIST and those behind it; RPKI_ISSUING_TOO_LONG; or
- * RPKI_REVOCATION_STALE where the next update is before the moment. */
+ * from RPKI_ISSUING_OTHER_LIST on; RPKI_ISSUING_TOO_LONG; or RPKI_REVOCATION_STALE where the next
+ * update is before the moment. */
 uint32_t rpki_prepare_list(const struct rpki_wanted_list *wanted, uint8_t *out, size_t room,
                            struct rpki_issued *told);
 

@@ -59,11 +59,7 @@ fn own_list(alloc: Global, octets: &[u8], issuer: &ResourceCert) -> Result<Crl, 
 }
 
 // The list before. Without octets there was none.
-fn previous_of(
-    alloc: Global,
-    octets: &[u8],
-    issuer: &ResourceCert,
-) -> Result<Option<Crl>, Unissued>
+fn previous_of(alloc: Global, octets: &[u8], issuer: &ResourceCert) -> Result<Option<Crl>, Unissued>
     ensures previous { IfOk result (IsPreviousOf issuer.now.cert.fields octets.now) }
     ensures other { IfErr result (IsNoPrevious issuer.now.cert.fields octets.now) }
 {
@@ -133,11 +129,7 @@ fn prepared_below(
 }
 
 // What is to be signed, on these terms.
-fn prepared(
-    alloc: Global,
-    list: &RpkiWantedList<'_>,
-    terms: ListTerms,
-) -> Result<Bytes, Unissued>
+fn prepared(alloc: Global, list: &RpkiWantedList<'_>, terms: ListTerms) -> Result<Bytes, Unissued>
     ensures { AnswersListTerms list.now terms result }
 {
     let issuer = authority_of(alloc, &list.issuer)?;

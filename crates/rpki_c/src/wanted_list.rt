@@ -94,10 +94,7 @@ fn entry_given(it: &RpkiEntry) -> Option<CrlEntry>
 }
 
 // The entries that are given, if there are such moments.
-fn entries_given(
-    alloc: Global,
-    revoked: &[RpkiEntry],
-) -> Result<Option<Vec<CrlEntry>>, AllocError>
+fn entries_given(alloc: Global, revoked: &[RpkiEntry]) -> Result<Option<Vec<CrlEntry>>, AllocError>
     ensures { IfOk result (λ found. MatchOption found (HaveDates revoked.now → ⊥)
         (λ all. (map entry_of all.items ≡ map given_entry revoked.now) × HaveDates revoked.now)) }
 {
