@@ -49,10 +49,12 @@ pub enum FaultKind {
     /// Its name is `OtherKey` for the key, and else `NoText`, `BadUri`, `NoUri`, `NoKey` or
     /// `BadKey`.
     Locator,
-    /// The key, a URI, the fields or the octets are none of a certificate that can be issued.
+    /// The key, a URI, the fields or the octets are none of a certificate or a list that can be
+    /// issued.
     ///
     /// Its name is `NoKey`, `UnusedKey`, `BadUri`, `NoName`, `Unwritable`, `TooLong`, `NotToSign` or
-    /// `OtherOctets`.
+    /// `OtherOctets`; of a list alone it is `OtherList` where the one before isn't the issuer's,
+    /// `Number`, `LongNumber` or `UpdateOrder`.
     Issuing,
 }
 
@@ -91,7 +93,7 @@ impl Fault {
         Fault { number, place }
     }
 
-    // Of a certificate that is issued below so many members, or of one of them.
+    // Of what is issued below so many members, or of one of them.
     pub(crate) fn of_issued(number: u32, index: usize, members: usize) -> Fault {
         match number {
             sys::BAD_URI => Fault::new(number),

@@ -1,5 +1,5 @@
 //! Reads and judges resource certificates and revocation lists of the RPKI (RFC 6487), and issues
-//! certificates whose issuer's key lies elsewhere, by the proved library librpki.
+//! those whose issuer's key lies elsewhere, by the proved library librpki.
 //!
 //! ```no_run
 //! use gonxebhula::{FaultKind, Kind, Moment, Path, Revocation};
@@ -54,7 +54,7 @@ mod sys;
 
 pub use fault::{Fault, FaultKind, Place};
 pub use folder::{Folder, Judged, Line};
-pub use issuing::{Issuer, Wanted};
+pub use issuing::{Issuer, Wanted, WantedList};
 pub use moment::Moment;
 
 use std::net::{Ipv4Addr, Ipv6Addr};
