@@ -16,8 +16,8 @@
  *     was looked at (crates/rpki_c/specs/FolderFates.antt).
  *   - What is written of a certificate's or list's fields is theirs.
  *   - What is to be signed is written exactly where only a signature is missing, and a certificate
- *     exactly where the issuer's key signed it (crates/rpki_c/specs/WantedAnswers.antt), unless
- *     memory runs out.
+ *     or list exactly where the issuer's key signed it (crates/rpki_c/specs/WantedAnswers.antt and
+ *     ListAnswers.antt), unless memory runs out.
  * Only tested is that the caller's memory then holds those ranges, entries and places.
  *
  * What the caller has to keep:
@@ -161,23 +161,21 @@ enum rpki_fault {
     RPKI_LOCATOR_BAD_URI = 701, /* among its URIs is a line that is no rsync or https URI */
     RPKI_LOCATOR_NO_URI = 702,  /* the locator has no URI */
     RPKI_LOCATOR_NO_KEY = 703,  /* it ends before the empty line behind its URIs */
-    RPKI_LOCATOR_BAD_KEY = 704  /* what follows that line isn't a public key in base64 */
-    /* The octets aren't a trust anchor locator. */
-    RPKI_LOCATOR_NO_TEXT = 700,
-    RPKI_LOCATOR_BAD_URI = 701,
-    RPKI_LOCATOR_NO_URI = 702,
-    RPKI_LOCATOR_NO_KEY = 703,
-    RPKI_LOCATOR_BAD_KEY = 704,
+    RPKI_LOCATOR_BAD_KEY = 704, /* what follows that line isn't a public key in base64 */
 
-    /* No certificate is prepared or completed. */
-    RPKI_ISSUING_NO_KEY = 800,      /* the key isn't a SubjectPublicKeyInfo */
-    RPKI_ISSUING_UNUSED_KEY = 801,  /* the RPKI doesn't use the key */
-    RPKI_ISSUING_BAD_URI = 802,     /* the index is of enum rpki_uri */
-    RPKI_ISSUING_NO_NAME = 803,     /* the subject would have no name */
-    RPKI_ISSUING_UNWRITABLE = 804,  /* no certificate has the fields: no resources are there .. */
-    RPKI_ISSUING_TOO_LONG = 805,    /* it would have 2^32 octets or more */
-    RPKI_ISSUING_NOT_TO_SIGN = 806, /* what was signed isn't a TBSCertificate */
-    RPKI_ISSUING_OTHER_OCTETS = 807 /* what was signed isn't what is prepared of its fields */
+    /* No certificate and no revocation list is prepared or completed. */
+    RPKI_ISSUING_NO_KEY = 800,       /* the key isn't a SubjectPublicKeyInfo */
+    RPKI_ISSUING_UNUSED_KEY = 801,   /* the RPKI doesn't use the key */
+    RPKI_ISSUING_BAD_URI = 802,      /* the index is of enum rpki_uri */
+    RPKI_ISSUING_NO_NAME = 803,      /* the subject would have no name */
+    RPKI_ISSUING_UNWRITABLE = 804,   /* no certificate has the fields: no resources are there .. */
+    RPKI_ISSUING_TOO_LONG = 805,     /* it would have 2^32 octets or more */
+    RPKI_ISSUING_NOT_TO_SIGN = 806,  /* what was signed is no TBSCertificate, or no TBSCertList */
+    RPKI_ISSUING_OTHER_OCTETS = 807, /* what was signed isn't what is prepared of its fields */
+    RPKI_ISSUING_OTHER_LIST = 808,   /* the list before isn't one that the issuer signed */
+    RPKI_ISSUING_NUMBER = 809,       /* the list's number isn't greater than the one before */
+    RPKI_ISSUING_LONG_NUMBER = 810,  /* the list's number is 2^159 or more */
+    RPKI_ISSUING_UPDATE_ORDER = 811  /* the next update is before this one */
 };
 
 /* Every function with `out`, `room` and `count` writes as many elements as there is
@@ -550,7 +548,8 @@ struct rpki_wanted {
 struct rpki_issued {
     uint32_t fault; /* is what the function answers */
     uint32_t index; /* is the place of what is wrong: of the issuer's path as in struct
-                     * rpki_verdict, or the number of members where it is the certificate itself */
+                     * rpki_verdict, or the number of members where it is the certificate or the
+                     * list itself */
     uint64_t count; /* is how many octets there are, and 0 at a fault */
 };
 
@@ -584,6 +583,50 @@ struct rpki_completion {
  * RPKI_VERIFICATION_BAD_SIGNATURE. */
 uint32_t rpki_complete(const struct rpki_completion *completion, uint8_t *out, size_t room,
                        struct rpki_issued *told);
+
+/* Holds what a revocation list is to be: the issuer's next one, or its first. What RFC 6487 5 fixes
+ * isn't asked: the issuer's name and the identifier of its key. */
+struct rpki_wanted_list {
+    size_t size;                 /* is sizeof(struct rpki_wanted_list) */
+    struct rpki_question issuer; /* is as in struct rpki_wanted, and has members */
+    const uint8_t *previous;     /* is the issuer's list before, which the same key signed; with
+                                  * length 0 there was none */
+    size_t previous_length;
+    const struct rpki_entry *revoked; /* are revoked now, beside all that the list before has */
+    size_t revoked_count;
+    struct rpki_time this_update, next_update;
+    uint8_t number[20]; /* is greater than the one before and below 2^159, its greatest octet first.
+                         * Zeros choose none: it is one more then, and 1 of a first list */
+};
+
+/* Prepares the issuer's next revocation list for its signature: writes the TBSCertList, which is
+ * what is to be signed, as rpki_prepare does. All entries of the list before stay, and those that
+ * are revoked now come in behind them, each serial number once. No signature is spent on a list
+ * that is stale at the moment, or that may not follow the one before.
+ * *told holds after every fault, and *out is then as it was. The fault is RPKI_BAD_CALL where
+ * `size` is another, a moment is no such, or the path ends in no CA; one of the issuer's path; one
+ * from RPKI_ISSUING_OTHER_LIST on; RPKI_ISSUING_TOO_LONG; or RPKI_REVOCATION_STALE where the next
+ * update is before the moment. */
+uint32_t rpki_prepare_list(const struct rpki_wanted_list *wanted, uint8_t *out, size_t room,
+                           struct rpki_issued *told);
+
+/* Holds what was prepared of a revocation list, and its signature. */
+struct rpki_list_completion {
+    size_t size;                 /* is sizeof(struct rpki_list_completion) */
+    struct rpki_question issuer; /* is as in struct rpki_wanted_list, or at a later moment */
+    const uint8_t *prepared;     /* is what rpki_prepare_list wrote */
+    size_t prepared_length;
+    const uint8_t *signature; /* is what the key made of it, without the BIT STRING around it */
+    size_t signature_length;
+};
+
+/* Completes a revocation list: writes it exactly where the issuer's key signed what was prepared,
+ * which is asked again at this moment, as rpki_complete does. The list before isn't asked again.
+ * *told holds after every fault, and *out is then as it was. The fault is as for
+ * rpki_prepare_list; where the list has another name than its issuer, RPKI_OTHER_NAME; where the
+ * signature isn't good, RPKI_REVOCATION_BAD_SIGNATURE. */
+uint32_t rpki_complete_list(const struct rpki_list_completion *completion, uint8_t *out,
+                            size_t room, struct rpki_issued *told);
 
 #ifdef __cplusplus
 }

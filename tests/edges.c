@@ -1412,6 +1412,218 @@ static void issuing(struct file anchor) {
     check(rpki_complete(&completion, NULL, 0, &told) == RPKI_BAD_CALL && told.count == 0, "a completion of zeros");
 }
 
+/* ---- issuing lists */
+
+/* the issuer's next list, which revokes 7 */
+static const struct rpki_entry seven = {{2026, 3, 1, 0, 0, 0, 0}, {[19] = 7}};
+static struct rpki_wanted_list list_below(struct rpki_strings members, struct file previous) {
+    struct rpki_wanted_list wanted = {
+        .size = sizeof wanted,
+        .issuer = about(members, RPKI_AUTHORITY, &now),
+        .previous = previous.octets,
+        .previous_length = previous.length,
+        .revoked = &seven,
+        .revoked_count = 1,
+        .this_update = now,
+        .next_update = {2030, 1, 1, 0, 0, 0, 0},
+    };
+    return wanted;
+}
+
+/* no list is prepared, for this fault at this place, and nothing is written */
+static void no_list(struct rpki_wanted_list wanted, uint32_t fault, uint32_t index, const char *what) {
+    struct rpki_issued told = {7, 7, 7};
+    uint8_t out[] = {7, 7};
+    uint32_t answered = rpki_prepare_list(&wanted, out, sizeof out, &told);
+    check(answered == fault && told.fault == fault && told.index == index && told.count == 0, what);
+    check(out[0] == 7 && out[1] == 7, "nothing is written where no list is prepared");
+}
+
+/* what is prepared of the list, in a block of just its length */
+static struct file list_prepared(struct rpki_wanted_list wanted, const char *what) {
+    struct rpki_issued told, again;
+    check(rpki_prepare_list(&wanted, NULL, 0, &told) == RPKI_OK && told.index == 0 && told.count > 100, what);
+    struct file made = {malloc((size_t)told.count), (size_t)told.count};
+    memset(made.octets, 0xa5, made.length);
+    check(rpki_prepare_list(&wanted, made.octets, made.length - 1, &again) == RPKI_OK && again.count == told.count
+              && made.octets[made.length - 1] == 0xa5,
+          "nothing of a list is written behind the room");
+    check(rpki_prepare_list(&wanted, made.octets, made.length, &again) == RPKI_OK && again.count == told.count
+              && made.octets[0] == 0x30,
+          "all of a list is written where there is room");
+    return made;
+}
+
+/* how often octets stand in what is prepared, which goes with that */
+static size_t times(struct file made, const char *octets, size_t length) {
+    size_t found = 0;
+    for (size_t i = 0; i + length <= made.length; i++) found += memcmp(made.octets + i, octets, length) == 0;
+    return found;
+}
+static size_t times_once(struct rpki_wanted_list wanted, const char *octets, size_t length, const char *what) {
+    struct file made = list_prepared(wanted, what);
+    size_t found = times(made, octets, length);
+    free(made.octets);
+    return found;
+}
+
+/* entries of 7 and of 3, as DER (RFC 5280 5.1) */
+static const char seven_in[] = "0\022\002\001\007\027\r260301000000Z", three_in[] = "0\022\002\001\003\027\r260201000000Z";
+
+/* the number of the list's extension is one octet (RFC 5280 5.2.3) */
+static size_t has_number(struct rpki_wanted_list wanted, char number) {
+    const char extension[] = {6, 3, 0x55, 0x1d, 20, 4, 3, 2, 1, number};
+    return times_once(wanted, extension, sizeof extension, "the number is told apart");
+}
+
+/* numbers that are none, of a list that is wanted, and lists that can't follow */
+static void lists_wanted(struct rpki_wanted_list good, struct file other) {
+    static const size_t sizes[] = {0, 1, sizeof good - 8, sizeof good - 1, sizeof good + 1, SIZE_MAX};
+    struct rpki_wanted_list wanted = good;
+    for (size_t i = 0; i < sizeof sizes / sizeof *sizes; i++) {
+        wanted.size = sizes[i];
+        no_list(wanted, RPKI_BAD_CALL, 0, "a wanted list of another size");
+    }
+    static const uint32_t none[] = {RPKI_END_ENTITY, RPKI_ROUTER, 5, UINT32_MAX};
+    for (size_t i = 0; i < 4; i++) {
+        wanted = good, wanted.issuer.last = none[i];
+        no_list(wanted, RPKI_BAD_CALL, 0, "an issuer of lists is a CA");
+    }
+    wanted = good, wanted.issuer.size--;
+    no_list(wanted, RPKI_BAD_CALL, 0, "the question about the list's issuer has another size");
+    wanted = good, wanted.issuer.members = strings(NULL, 0, NULL, 0);
+    no_list(wanted, RPKI_BAD_CALL, 0, "a list has an issuer");
+    wanted = good, wanted.issuer.members.length--;
+    no_list(wanted, RPKI_BAD_CALL, 0, "the lengths of the list's path don't add up");
+    wanted = good, wanted.this_update.month = 13;
+    no_list(wanted, RPKI_BAD_CALL, 0, "there is no such month");
+    wanted = good, wanted.next_update.day = 0;
+    no_list(wanted, RPKI_BAD_CALL, 0, "no month has a day 0");
+    struct rpki_entry entries[] = {seven, seven};
+    entries[1].date.hour = 24;
+    wanted = good, wanted.revoked = entries, wanted.revoked_count = 2;
+    no_list(wanted, RPKI_BAD_CALL, 0, "no day has an hour 24");
+    wanted = good, wanted.issuer.moment.year = 2045;
+    no_list(wanted, RPKI_VERIFICATION_EXPIRED, 0, "the list's issuer has expired");
+    wanted = good, wanted.previous_length--;
+    no_list(wanted, RPKI_ISSUING_OTHER_LIST, 1, "a cut list is none");
+    wanted = good, wanted.previous = other.octets, wanted.previous_length = other.length;
+    no_list(wanted, RPKI_ISSUING_OTHER_LIST, 1, "the list of another issuer");
+    wanted = good, wanted.number[19] = 1;
+    no_list(wanted, RPKI_ISSUING_NUMBER, 1, "the list before has the number 1");
+    wanted = good, wanted.number[0] = 128;
+    no_list(wanted, RPKI_ISSUING_LONG_NUMBER, 1, "2^159 has 21 octets");
+    wanted = good, memset(wanted.number, 0xff, 20);
+    no_list(wanted, RPKI_ISSUING_LONG_NUMBER, 1, "2^160 - 1 has 21 octets");
+    wanted = good, wanted.next_update = (struct rpki_time){2026, 5, 31, 23, 59, 59, 0};
+    no_list(wanted, RPKI_ISSUING_UPDATE_ORDER, 1, "the next update is a second before this one");
+    wanted.this_update.year = 2025;
+    no_list(wanted, RPKI_REVOCATION_STALE, 1, "the next update is a second before the moment");
+}
+
+/* which entries and which number lists have */
+static void entries_wanted(struct rpki_wanted_list good, struct rpki_wanted_list behind) {
+    check(times_once(good, seven_in, 20, "the anchor's next list") == 1, "7 is revoked");
+    check(has_number(good, 2) == 1, "behind the number 1 is 2");
+    struct rpki_wanted_list wanted = good;
+    wanted.number[19] = 9;
+    check(has_number(wanted, 9) == 1, "a number may be chosen");
+    wanted = good, wanted.previous = NULL, wanted.previous_length = 0;
+    check(has_number(wanted, 1) == 1, "a first list has the number 1");
+    wanted = good, wanted.number[0] = 127, memset(wanted.number + 1, 0xff, 19);
+    free(list_prepared(wanted, "the greatest number").octets);
+    wanted = good, wanted.revoked = NULL, wanted.revoked_count = 0;
+    check(times_once(wanted, "\027\r260301000000Z", 15, "nothing more is revoked") == 0, "NULL of no entries revokes nothing");
+    wanted = good, wanted.next_update = now;
+    free(list_prepared(wanted, "a list that is current for a second").octets);
+    struct rpki_entry entries[] = {seven, {{2026, 4, 1, 0, 0, 0, 9}, {[19] = 7}}, {{2026, 4, 1, 0, 0, 0, 0}, {0}}};
+    memset(entries[2].serial, 0xff, 20);
+    wanted = good, wanted.revoked = entries, wanted.revoked_count = 3;
+    check(times_once(wanted, seven_in, 20, "7 twice") == 1 && times_once(wanted, "260401000000Z", 13, "7 twice") == 1,
+          "the first of two entries with one serial number counts");
+    check(times_once(behind, three_in, 20, "behind a list that revokes 3") == 1 && times_once(behind, seven_in, 20, "7 too") == 1
+              && has_number(behind, 3) == 1,
+          "what was revoked stays");
+    entries[0].serial[19] = 3;
+    behind.revoked = entries, behind.revoked_count = 1;
+    check(times_once(behind, three_in, 20, "3 again") == 1 && times_once(behind, "260301000000Z", 13, "3 again") == 0,
+          "what was revoked keeps its date");
+}
+
+/* no list is completed, for this fault at this place */
+static void no_completed(struct rpki_list_completion completion, uint32_t fault, uint32_t index, const char *what) {
+    struct rpki_issued told = {7, 7, 7};
+    uint8_t out[] = {7, 7};
+    check(rpki_complete_list(&completion, out, sizeof out, &told) == fault && told.fault == fault && told.index == index
+              && told.count == 0 && out[0] == 7,
+          what);
+}
+
+/* signatures that are none, and what wasn't prepared of a list */
+static void list_completions(struct rpki_wanted_list wanted, struct rpki_strings longer) {
+    uint8_t signature[256] = {0};
+    struct file made = list_prepared(wanted, "what is to be completed");
+    struct rpki_list_completion good = {
+        .size = sizeof good,
+        .issuer = wanted.issuer,
+        .prepared = made.octets,
+        .prepared_length = made.length,
+        .signature = signature,
+        .signature_length = sizeof signature,
+    };
+    struct rpki_list_completion completion = good;
+    no_completed(good, RPKI_REVOCATION_BAD_SIGNATURE, 1, "zeros sign no list");
+    completion.signature = NULL, completion.signature_length = 0;
+    no_completed(completion, RPKI_REVOCATION_BAD_SIGNATURE, 1, "NULL of no octets signs no list");
+    static const size_t sizes[] = {0, 1, sizeof good - 8, sizeof good - 1, sizeof good + 1, sizeof(struct rpki_completion), SIZE_MAX};
+    for (size_t i = 0; i < sizeof sizes / sizeof *sizes; i++) {
+        completion = good, completion.size = sizes[i];
+        no_completed(completion, RPKI_BAD_CALL, 0, "a list's completion of another size");
+    }
+    completion = good, completion.issuer.last = RPKI_END_ENTITY;
+    no_completed(completion, RPKI_BAD_CALL, 0, "an end entity completes no list");
+    completion = good, completion.issuer.members = longer;
+    no_completed(completion, RPKI_OTHER_NAME, 2, "the list is the anchor's");
+    completion = good, completion.issuer.moment.year = 2030;
+    no_completed(completion, RPKI_REVOCATION_STALE, 1, "the list is stale in the meantime");
+    completion = good, completion.prepared = NULL, completion.prepared_length = 0;
+    no_completed(completion, RPKI_ISSUING_NOT_TO_SIGN, 1, "NULL of no octets is no list's data");
+    for (size_t length = 0; length < made.length; length += 7) {
+        uint8_t *octets = malloc(length > 0 ? length : 1);
+        memcpy(octets, made.octets, length);
+        completion.prepared = octets, completion.prepared_length = length;
+        no_completed(completion, RPKI_ISSUING_NOT_TO_SIGN, 1, "what is cut short isn't a list's data");
+        free(octets);
+    }
+    struct file more = {malloc(made.length + 1), made.length + 1};
+    memcpy(more.octets, made.octets, made.length);
+    more.octets[made.length] = 0;
+    completion = good, completion.prepared = more.octets, completion.prepared_length = more.length;
+    no_completed(completion, RPKI_ISSUING_OTHER_OCTETS, 1, "nothing stands behind what is signed");
+    free(more.octets);
+    free(made.octets);
+}
+
+static void issuing_lists(struct file anchor, struct file first, struct file empty, struct file list) {
+    const struct rpki_strings alone = strings(anchor.octets, anchor.length, &anchor.length, 1);
+    struct file both = {malloc(anchor.length + first.length), anchor.length + first.length};
+    memcpy(both.octets, anchor.octets, anchor.length);
+    memcpy(both.octets + anchor.length, first.octets, first.length);
+    const size_t parts[] = {anchor.length, first.length};
+    const struct rpki_strings path = strings(both.octets, both.length, parts, 2);
+    lists_wanted(list_below(alone, empty), list);
+    entries_wanted(list_below(alone, empty), list_below(path, list));
+    list_completions(list_below(alone, empty), path);
+    struct rpki_issued told;
+    struct rpki_wanted_list wanted;
+    memset(&wanted, 0, sizeof wanted);
+    check(rpki_prepare_list(&wanted, NULL, 0, &told) == RPKI_BAD_CALL && told.count == 0, "a wanted list of zeros");
+    struct rpki_list_completion completion;
+    memset(&completion, 0, sizeof completion);
+    check(rpki_complete_list(&completion, NULL, 0, &told) == RPKI_BAD_CALL && told.count == 0, "a list's completion of zeros");
+    free(both.octets);
+}
+
 int main(int count, char **words) {
     if (count != 4) return 2;
     struct file anchor = contents(words[1], "anchor.cer"), first = contents(words[1], "first.cer");
@@ -1445,6 +1657,7 @@ int main(int count, char **words) {
     locators(words[3], list);
     folders(words[1]);
     issuing(anchor);
+    issuing_lists(anchor, first, empty, list);
     const struct file files[] = {anchor, first, second, object, list, empty, above, router, trimming};
     for (size_t i = 0; i < sizeof files / sizeof *files; i++) free(files[i].octets);
     printf("%u passed, %u failed\n", passed, failed);

@@ -14,6 +14,7 @@ rpki-client is there it reads what `show` prints of them. PATH is the command as
 Prints each difference, and at the end `N passed, M failed`.
 """
 import argparse
+import dataclasses
 import importlib.machinery
 import importlib.util
 import json
@@ -46,6 +47,7 @@ def script(name):
 clients = script('clients')
 
 SITE = 'rsync://rpki.example.net/repo'
+ELSEWHERE = 'rsync://elsewhere.example.net/repo'
 NOTIFICATION = 'https://rpki.example.net/notification.xml'
 AT = '2026-06-01'
 
@@ -85,6 +87,7 @@ BELOW = EVERY | {'issuer': ['anchor.cer'], 'issuer-uri': f'{SITE}/anchor.cer',
                  'crl-uri': f'{SITE}/anchor/anchor.crl'}
 HOLDS = {'ipv4': '10.1.0.0/16', 'ipv6': '2001:db8:1::/48', 'as': '64496'}
 PLACES = {'repository': f'{SITE}/ca/', 'manifest': f'{SITE}/ca/ca.mft'}
+GREATEST = '7f' + 19 * 'ff'    # of the numbers of 20 octets
 WANTED = {
     'anchor': EVERY | PLACES | {'key': 'anchor.pub', 'ipv4': '10.0.0.0/8',
                                 'ipv6': '2001:db8::/32', 'as': '64496-64511'},
@@ -218,24 +221,41 @@ MADE = [
     ('ca', {'until': '20260531235959'}, 'Expired'),
     ('ee', {'until': '2026-05-31'}, 'Expired'),
     ('router', {'until': '2026-05-31'}, 'Expired'),
+    ('detached', {'ipv4': '10.1.0.0/16', 'ipv6': '2001:db9::/48'}, 'OverclaimV6'),
+    ('detached', {'until': '2026-05-31'}, 'Expired'),
+    ('detached', {'from': '2026-06-02'}, 'NotYetValid'),
+    ('ee', {'from': '2026-06-02'}, 'NotYetValid'),
+    ('router', {'from': '2026-06-02'}, 'NotYetValid'),
+    ('router', {'as': ['64496', '65000-65001']}, 'OverclaimAs'),
+]
+# of what no other moment or issuer lets the command make: the fields by which the reference does,
+# and what `validate` tells of that
+WRITTEN = [
+    ('anchor', {'ipv4': 'inherit'}, {'v4': ref.INHERIT}, 'InheritedV4'),
+    ('anchor', {'ipv6': 'inherit'}, {'v6': ref.INHERIT}, 'InheritedV6'),
+    ('anchor', {'as': 'inherit'}, {'asn': ref.INHERIT}, 'InheritedAs'),
+    ('anchor', {'until': '2026-05-31'}, {'not_after': (2026, 5, 31, 0, 0, 0)}, 'Expired'),
+    ('anchor', {'from': '2026-06-02'}, {'not_before': (2026, 6, 2, 0, 0, 0)}, 'NotYetValid'),
+    ('anchor', {'manifest': f'{SITE}/other/ca.mft'},
+     {'rpki_manifest': f'{SITE}/other/ca.mft'.encode()}, 'ManifestNotChild'),
+    ('anchor', {'key': 'router.pub'}, {'key': 'router.pub'}, 'KeyAlgorithm'),
+    ('ca', {'manifest': f'{SITE}/other/ca.mft'},
+     {'rpki_manifest': f'{SITE}/other/ca.mft'.encode()}, 'ManifestNotChild'),
+    ('ca', {'manifest': f'{ELSEWHERE}/ca/ca.mft'},
+     {'rpki_manifest': f'{ELSEWHERE}/ca/ca.mft'.encode()}, 'ManifestNotChild'),
+    ('ca', {'from': '2030-01-01', 'until': '2029-01-01'},
+     {'not_before': (2030, 1, 1, 0, 0, 0), 'not_after': (2029, 1, 1, 0, 0, 0)}, 'NotYetValid'),
+    ('ca', {'key': 'router.pub'}, {'key': 'router.pub'}, 'KeyAlgorithm'),
+    ('ee', {'key': 'router.pub'}, {'key': 'router.pub'}, 'KeyAlgorithm'),
+    ('router', {'key': 'ca.pub'}, {'key': 'ca.pub'}, 'KeyAlgorithm'),
+    ('router', {'as': 'inherit'}, {'asn': ref.INHERIT}, 'InheritedAsResources'),
+    ('ca', {'key': 'short.pub'}, {'key': 'short.pub'}, 'BadKey'),
+    ('ca', {'key': 'long.pub'}, {'key': 'long.pub'}, 'BadKey'),
+    ('ee', {'key': 'short.pub'}, {'key': 'short.pub'}, 'BadKey'),
 ]
 # of others: the fault, or the option
 REFUSED = [
-    ('anchor', {'ipv4': 'inherit'}, 'InheritedV4: '),
-    ('anchor', {'ipv6': 'inherit'}, 'InheritedV6: '),
-    ('anchor', {'as': 'inherit'}, 'InheritedAs: '),
-    ('anchor', {'until': '2026-05-31'}, 'Expired: '),
-    ('anchor', {'from': '2026-06-02'}, 'NotYetValid: '),
-    ('anchor', {'manifest': f'{SITE}/other/ca.mft'}, 'ManifestNotChild: '),
-    ('ca', {'manifest': f'{SITE}/other/ca.mft'}, 'ManifestNotChild: '),
-    ('ca', {'manifest': 'rsync://elsewhere.example.net/repo/ca/ca.mft'}, 'ManifestNotChild: '),
-    ('ca', {'from': '2030-01-01', 'until': '2029-01-01'}, 'NotYetValid: '),
-    ('ca', {'key': 'router.pub'}, 'KeyAlgorithm: '),
-    ('ee', {'key': 'router.pub'}, 'KeyAlgorithm: '),
-    ('router', {'key': 'ca.pub'}, 'KeyAlgorithm: '),
-    ('router', {'as': 'inherit'}, 'InheritedAsResources: '),
-    ('ca', {'key': 'short.pub'}, 'BadKey: '),
-    ('ca', {'key': 'long.pub'}, 'BadKey: '),
+    ('ca', {'ipv4': None, 'ipv6': None, 'as': None}, 'no certificate has these fields'),
     ('router', {'key': 'curve.pub'}, "the key's file is no public key"),
     ('ca', {'key': 'ca.key'}, "the key's file is no public key"),
     ('ca', {'key': 'anchor.cer'}, "the key's file is no public key"),
@@ -272,6 +292,24 @@ REFUSED = [
 ]
 
 
+def key_in(file):
+    """The public key in a file, as the reference has it."""
+    octets = openssl('pkey', '-pubin', '-in', file, '-outform', 'DER')
+    return ref.take_key(ref.Cursor(octets))
+
+
+def write(kind, fields):
+    """Writes made.cer: one of the kind, but with these fields, signed by the key of anchor.cer."""
+    tbs = ref.decode_cert(make('made.cer', kind, 'anchor')).tbs
+    if 'key' in fields:
+        key = key_in(fields['key'])
+        fields = {'key': key, 'subject_key_identifier': key.identifier()}
+    octets = ref.encode_tbs(dataclasses.replace(tbs, **fields))
+    sign(octets, 'anchor')
+    signature = Path('signed.sig').read_bytes()
+    Path('made.cer').write_bytes(ref.SignedData(octets, True, signature).octets())
+
+
 def try_refused():
     for kind, changes, fault in MADE:
         what = f'prepare {kind} {changes}'
@@ -279,6 +317,12 @@ def try_refused():
         at = {'from': '2026-07-01', 'until': '2026-01-15'}.get(next(iter(changes)), AT)
         make('made.cer', kind, 'anchor', **changes, issuer=['wide.cer'], at=at)
         found = told(['anchor.cer', 'made.cer'])
+        check(f'validate tells {fault} of {what}, and not {found}', found == fault)
+    for kind, changes, fields, fault in WRITTEN:
+        what = f'prepare {kind} {changes}'
+        is_refused(what, prepare(kind, **changes), f'{fault}: ')
+        write(kind, fields)
+        found = told(['made.cer'] if kind == 'anchor' else ['anchor.cer', 'made.cer'])
         check(f'validate tells {fault} of {what}, and not {found}', found == fault)
     for kind, changes, text in REFUSED:
         is_refused(f'prepare {kind} {changes}', prepare(kind, **changes), text)
@@ -507,6 +551,12 @@ def make_lists():
     octets = make('pem.crl', 'list', 'anchor', previous='first.pem', revoke=['ca.pem'])
     check('a list and a certificate in PEM are read', fields_of_list(octets)[:2]
           == (2, [(5, today)]))
+    octets = make('after.crl', 'list', 'anchor', previous='next.crl', number='0003')
+    check('a list of a later moment is followed, and zeros lead a number',
+          fields_of_list(octets) == (3, entries[:3], today, stale))
+    octets = make('last.crl', 'list', 'anchor', number=GREATEST, revoke=['old.cer'])
+    check('the greatest number, and a certificate that has expired',
+          fields_of_list(octets)[:2] == (int(GREATEST, 16), [(5, today)]))
     make('below.crl', 'list', 'ca', issuer=['anchor.cer', 'ca.cer'], serial=['05'])
     octets = bytearray(first)
     octets[-1] ^= 1
@@ -514,6 +564,17 @@ def make_lists():
 
 
 LISTS_REFUSED = [
+    ({'previous': 'last.crl'}, 'the number of the list has more than 20 octets'),
+    ({'previous': 'last.crl', 'number': GREATEST}, "the number isn't greater"),
+    ({'next-update': '2026-06-30T23:59:60Z'}, '--next-update'),
+    ({'at': '2026-06-01T00:00:60Z'}, '--at'),
+    ({'at': '2025-12-31T23:59:59Z'}, 'issuer 0 is rejected at verification, NotYetValid: '),
+    ({'at': '2036-01-01T00:00:01Z', 'next-update': '2037-01-01'},
+     'issuer 0 is rejected at verification, Expired: '),
+    ({'issuer': ['anchor.cer', 'ca.cer'], 'crl': ['next.crl']},
+     'issuer 1 is rejected at revocation, Stale: '),
+    ({'issuer': ['anchor.cer', 'ca.cer'], 'crl': ['first.crl', 'next.crl'], 'at': '2026-06-02'},
+     'issuer 1 is rejected at revocation, Revoked: '),
     ({'previous': 'next.crl', 'number': '02'}, "the number isn't greater"),
     ({'previous': 'next.crl', 'number': '01'}, "the number isn't greater"),
     ({'number': '80' + 19 * '00'}, '--number'),
@@ -623,6 +684,10 @@ def try_out():
     is_refused('a request that is refused', prepare('ca', ipv4='11.0.0.0/8', out='none.tbs'),
                'OverclaimV4: ')
     check('and makes no file', not Path('none.tbs').exists())
+    os.symlink('nowhere', 'link')
+    fails('a link to nowhere', prepare('ca', out='link'), 'rpki: link: is there already')
+    check('and makes no file', not Path('nowhere').exists())
+    fails('no name', prepare('ca', out=''), 'no such file or directory')
     fails('a folder that is missing', prepare('ca', out='none/made.tbs'),
           'rpki: none/made.tbs: no such file or directory')
     fails('a folder', rpki('prepare', 'ca', *words_of(WANTED['ca'] | {'at': AT, 'out': '.'}),

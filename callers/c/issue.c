@@ -1,11 +1,16 @@
-/* Prepares and completes a CA's certificate, where the issuer's key lies elsewhere.
+/* Prepares and completes a CA's certificate, and a CA's revocation list, where the issuer's key lies
+ * elsewhere.
  *
  * usage: issue prepare KEY.der [MEMBER.cer..] > TBS
  *        issue complete TBS SIGNATURE [MEMBER.cer..] > CERTIFICATE
+ *        issue prepare-list PREVIOUS.crl SERIAL MEMBER.cer.. > TBS
+ *        issue complete-list TBS SIGNATURE MEMBER.cer.. > LIST
  *
  * KEY.der is the subject's SubjectPublicKeyInfo. The last of the members issues, and the first is
- * the trust anchor; without a member it is a trust anchor itself. What is written first is to be
- * signed by the issuer's key (of a trust anchor its own), as openssl does it:
+ * the trust anchor; without a member it is a trust anchor itself. PREVIOUS.crl is the issuer's list
+ * before, and empty where there was none; SERIAL is the number of a certificate that is revoked now,
+ * and 0 where there is none. What is written first is to be signed by the issuer's key (of a trust
+ * anchor its own), as openssl does it:
  *
  *     openssl dgst -sha256 -sign ca.key -out SIGNATURE TBS
  *
@@ -30,6 +35,14 @@ static size_t append(const char *name) {
         exit(2);
     }
     size_t length = fread(octets + used, 1, MOST - used, file);
+    if (ferror(file)) { /* of a folder too */
+        perror(name);
+        exit(2);
+    }
+    if (fgetc(file) != EOF) {
+        fprintf(stderr, "issue: %s: the files have more than 1 MiB\n", name);
+        exit(2);
+    }
     fclose(file);
     used += length;
     return length;
@@ -60,7 +73,7 @@ static struct rpki_question issuer(char **members, size_t count, size_t *lengths
 }
 
 /* A trust anchor holds 10.0.0.0/8 and AS64496 to AS64511, and each CA below it a part of them. */
-static uint32_t prepare(const char *key, char **members, size_t count, size_t *lengths, struct rpki_issued *told) {
+static uint32_t prepare(char **words, char **members, size_t count, size_t *lengths, struct rpki_issued *told) {
     static const struct rpki_ip_range v4[] = {{{10, 0}, {10, 255, 255, 255}}, {{10, 1}, {10, 1, 255, 255}}};
     static const struct rpki_as_range asn[] = {{64496, 64511}, {64496, 64496}};
     static const char repository[] = "rsync://rpki.example.net/repo/ca/";
@@ -70,7 +83,7 @@ static uint32_t prepare(const char *key, char **members, size_t count, size_t *l
     struct rpki_wanted wanted = {
         .size = sizeof wanted,
         .key = octets,
-        .key_length = append(key),
+        .key_length = append(words[0]),
         .v4 = {v4 + below, 1, RPKI_LISTED},
         .asn = {asn + below, 1, RPKI_LISTED},
         .uris.repository = (const uint8_t *)repository,
@@ -104,6 +117,56 @@ static uint32_t complete(char **files, char **members, size_t count, size_t *len
     return rpki_complete(&completion, out, MOST, told);
 }
 
+/* The issuer's next list, which revokes what the list before does and one certificate more. */
+static uint32_t prepare_list(char **words, char **members, size_t count, size_t *lengths, struct rpki_issued *told) {
+    unsigned long long serial = strtoull(words[1], NULL, 10);
+    struct rpki_entry revoked = {.date = moment(0)};
+    for (int i = 0; i < 8; i++) revoked.serial[19 - i] = (uint8_t)(serial >> 8 * i);
+    struct rpki_wanted_list wanted = {
+        .size = sizeof wanted,
+        .previous = octets,
+        .previous_length = append(words[0]),
+        .revoked = &revoked,
+        .revoked_count = serial > 0,
+        .this_update = moment(0),
+        .next_update = moment(1),
+    };
+    wanted.issuer = issuer(members, count, lengths);
+    return rpki_prepare_list(&wanted, out, MOST, told);
+}
+
+static uint32_t complete_list(char **files, char **members, size_t count, size_t *lengths, struct rpki_issued *told) {
+    struct rpki_list_completion completion = {
+        .size = sizeof completion,
+        .prepared = octets,
+        .prepared_length = append(files[0]),
+    };
+    completion.signature = octets + used;
+    completion.signature_length = append(files[1]);
+    completion.issuer = issuer(members, count, lengths);
+    return rpki_complete_list(&completion, out, MOST, told);
+}
+
+/* What words ask for: how many stand before the members, and who answers. */
+static const struct errand {
+    const char *name;
+    int words;
+    uint32_t (*answer)(char **words, char **members, size_t count, size_t *lengths, struct rpki_issued *told);
+} errands[] = {
+    {"prepare", 1, prepare},
+    {"complete", 2, complete},
+    {"prepare-list", 2, prepare_list},
+    {"complete-list", 2, complete_list},
+};
+
+/* What the first of the words names, or NULL. */
+static const struct errand *errand_of(int count, char **words) {
+    for (size_t i = 0; i < sizeof errands / sizeof *errands; i++) {
+        if (count > 1 + errands[i].words && strcmp(words[1], errands[i].name) == 0) return errands + i;
+    }
+    return NULL;
+}
+
 /* Says why there are no octets, as the library names and words it. */
 static int refuse(struct rpki_issued told) {
     uint8_t name[64], sentence[128];
@@ -118,19 +181,20 @@ static int refuse(struct rpki_issued told) {
 int main(int count, char **words) {
     size_t lengths[64];
     struct rpki_issued told;
-    int prepares = count > 2 && strcmp(words[1], "prepare") == 0;
-    int first = prepares ? 3 : 4;
-    if (count < first || count - first > 64 || (!prepares && strcmp(words[1], "complete") != 0)) {
-        fprintf(stderr, "usage: issue prepare KEY.der [MEMBER.cer..]\n       issue complete TBS SIGNATURE [MEMBER.cer..]\n");
+    const struct errand *errand = errand_of(count, words);
+    if (errand == NULL || count - 2 - errand->words > 64) {
+        fprintf(stderr, "usage: issue prepare KEY.der [MEMBER.cer..]\n"
+                        "       issue complete TBS SIGNATURE [MEMBER.cer..]\n"
+                        "       issue prepare-list PREVIOUS.crl SERIAL MEMBER.cer..\n"
+                        "       issue complete-list TBS SIGNATURE MEMBER.cer..\n");
         return 2;
     }
     if (rpki_abi_version() != RPKI_ABI) {
         fprintf(stderr, "issue: the library isn't of the version of this program\n");
         return 2;
     }
-    size_t members = (size_t)(count - first);
-    uint32_t fault = prepares ? prepare(words[2], words + first, members, lengths, &told)
-                              : complete(words + 2, words + first, members, lengths, &told);
+    char **members = words + 2 + errand->words;
+    uint32_t fault = errand->answer(words + 2, members, (size_t)(count - 2 - errand->words), lengths, &told);
     if (fault != RPKI_OK) return refuse(told);
     if (told.count > MOST) return 2;
     return fwrite(out, 1, (size_t)told.count, stdout) == told.count && fflush(stdout) == 0 ? 0 : 2;

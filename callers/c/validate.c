@@ -218,13 +218,25 @@ static void print_held(const struct rpki_room *it) {
         printf("  AS%u-AS%u\n", it->asn[i].min, it->asn[i].max);
 }
 
-static void print_fault(const struct rpki_verdict *it) {
+/* Names what is at fault: the locator, a list or a member of the path. */
+static void print_place(const struct request *it, const struct rpki_verdict *verdict) {
+    if (verdict->fault >= RPKI_LOCATOR_NO_TEXT && verdict->fault <= RPKI_LOCATOR_BAD_KEY)
+        printf("locator");
+    else if (verdict->index >= it->path.count)
+        printf("list %zu", verdict->index - it->path.count);
+    else
+        printf("member %u", verdict->index);
+}
+
+static void print_fault(const struct request *it, const struct rpki_verdict *verdict) {
     uint8_t name[64], sentence[256];
     uint64_t name_length, sentence_length;
-    rpki_fault_name(it->fault, name, sizeof name, &name_length);
-    rpki_fault_sentence(it->fault, sentence, sizeof sentence, &sentence_length);
-    printf("refused: member %u, fault %u, %.*s: %.*s\n", it->index, it->fault, (int)name_length,
-           (const char *)name, (int)sentence_length, (const char *)sentence);
+    rpki_fault_name(verdict->fault, name, sizeof name, &name_length);
+    rpki_fault_sentence(verdict->fault, sentence, sizeof sentence, &sentence_length);
+    printf("refused: ");
+    print_place(it, verdict);
+    printf(", fault %u, %.*s: %.*s\n", verdict->fault, (int)name_length, (const char *)name,
+           (int)sentence_length, (const char *)sentence);
 }
 
 static void let_go(struct strings *it) {
@@ -252,7 +264,7 @@ int main(int count, char **words) {
     if (verdict.fault == RPKI_OK)
         print_held(&held);
     else
-        print_fault(&verdict);
+        print_fault(&it, &verdict);
     if (fflush(stdout) != 0 || ferror(stdout)) fail("output", strerror(errno));
     let_go(&it.path);
     let_go(&it.lists);

@@ -7,6 +7,10 @@ Calls; help(rpki.validate) says more of one:
     judge_folder(octets, locator=)       which of many certificates and lists are valid
     Certificate(octets)                  a certificate that is read, and not judged
     RevocationList(octets)               a list that is read, and not judged
+    prepare(kind, issuers=, key=, ..)    what is to be signed of a certificate
+    complete(kind, prepared=, ..)        the certificate that its signature makes of it
+    prepare_list(issuers=, ..)           what is to be signed of an issuer's next revocation list
+    complete_list(prepared=, ..)         the list that its signature makes of it
 
 Exceptions. str(fault) is such as "member 2: certificate revoked (Revoked)":
 
@@ -17,6 +21,7 @@ Exceptions. str(fault) is such as "member 2: certificate revoked (Revoked)":
     RevocationFault      the lists don't show that it isn't revoked
     NamesFault           its issuer isn't the subject of the member above it
     LocatorFault         the file is no locator, or the trust anchor has another key
+    IssuingFault         no certificate or list can be issued so
     TypeError            octets are wanted, and a text, a path or another value was given
     ValueError           the call itself is wrong: no members, a moment without a time zone ..
     MemoryError          memory ran out
@@ -75,7 +80,6 @@ from __future__ import annotations
 import enum
 import ipaddress
 import os
-from collections.abc import Iterator, Sequence
 from collections.abc import Iterable, Iterator, Mapping, Sequence
 from dataclasses import dataclass
 from datetime import datetime, timezone
@@ -106,8 +110,10 @@ __all__ = [
     "State",
     "VerificationFault",
     "complete",
+    "complete_list",
     "judge_folder",
     "prepare",
+    "prepare_list",
     "validate",
 ]
 
@@ -179,7 +185,7 @@ class LocatorFault(Fault):
 
 
 class IssuingFault(Fault):
-    """The key, the fields or the octets are none of a certificate that can be issued."""
+    """The key, the fields or the octets are none of a certificate or list that can be issued."""
 
 
 # by the number, or by its hundreds
@@ -758,27 +764,37 @@ def _systems(wanted: Iterable[int | range] | Inherit | None) -> raw.AsNumbers:
 
 
 def _issuer(
-    kind: Kind,
+    last: Kind,
     issuers: Sequence[Octets | Certificate],
     lists: Sequence[Octets | RevocationList] | None,
     locator: Octets | None,
     at: datetime | None,
     strict: bool,
 ) -> raw.Question:
-    """The question about the issuer's path. A trust anchor has none: nothing of it is asked."""
-    members = [_octets(it) for it in issuers]
-    all_lists = None if lists is None else [_octets(it) for it in lists]
+    """The question about the issuer's path, which ends in the kind."""
+    members = _all_octets(issuers, "issuers")
+    all_lists = None if lists is None else _all_octets(lists, "lists")
     now = _time(datetime.now(timezone.utc) if at is None else at)
-    key = None if locator is None else _bytes(locator)
-    last = Kind.TRUST_ANCHOR if kind is Kind.TRUST_ANCHOR else Kind.AUTHORITY
-    return raw.question(members, last.value, now, strict, all_lists, key)
+    file = None if locator is None else _bytes(locator, "locator")
+    return raw.question(members, last.value, now, strict, all_lists, file)
 
 
-def _raise_issued(told: raw.Issued, members: int) -> None:
+def _kind_above(kind: Kind) -> Kind:
+    """What the path above a certificate of the kind ends in: that of a trust anchor has no members,
+    and nothing of it is asked."""
+    return Kind.TRUST_ANCHOR if kind is Kind.TRUST_ANCHOR else Kind.AUTHORITY
+
+
+_NO_CERTIFICATE = (
+    "the serial number isn't above 0 and below 2^159, nothing is listed, a range ends before it "
+    "begins, or the issuers don't go with the kind"
+)
+
+
+def _raise_issued(told: raw.Issued, members: int, no_call: str) -> None:
     """Raises the exception of why nothing is issued below so many members, if there is one."""
     if told.fault == raw.BAD_CALL:
-        raise ValueError("the serial number isn't above 0 and below 2^159, nothing is listed, a range "
-                         "ends before it begins, or the issuers don't go with the kind")
+        raise ValueError(no_call)
     if told.fault == raw.BAD_URI:
         raise ValueError(f"the URI {raw.URIS[told.index]} isn't one")
     of_list = 100 <= told.fault < 300 and told.index >= members
@@ -829,9 +845,9 @@ def prepare(
     if not 0 <= serial_number < 1 << 160:
         raise ValueError("the serial number isn't above 0 and below 2^159")
     asked = raw.wanted(
-        _issuer(Kind(kind), issuers, lists, locator, at, strict),
+        _issuer(_kind_above(Kind(kind)), issuers, lists, locator, at, strict),
         Kind(kind).value,
-        _bytes(key),
+        _bytes(key, "key"),
         (_addresses(4, ipv4), _addresses(6, ipv6), _systems(as_numbers)),
         texts,
         (_time(not_before), _time(not_after)),
@@ -839,7 +855,7 @@ def prepare(
         trims_resources,
     )
     told, octets = raw.prepare(asked)
-    _raise_issued(told, len(issuers))
+    _raise_issued(told, len(issuers), _NO_CERTIFICATE)
     return octets
 
 
@@ -862,11 +878,97 @@ def complete(
     Fault of what is wrong.
     """
     asked = raw.completion(
-        _issuer(Kind(kind), issuers, lists, locator, at, strict),
+        _issuer(_kind_above(Kind(kind)), issuers, lists, locator, at, strict),
         Kind(kind).value,
-        _bytes(prepared),
-        _bytes(signature),
+        _bytes(prepared, "prepared"),
+        _bytes(signature, "signature"),
     )
     told, octets = raw.complete(asked)
-    _raise_issued(told, len(issuers))
+    _raise_issued(told, len(issuers), _NO_CERTIFICATE)
     return Certificate(octets)
+
+
+_NO_LIST = "the issuers are no path to a CA"
+
+
+def _revoked(what: int | Certificate | Entry, since: datetime) -> tuple[raw.Time, bytes]:
+    """Since when a certificate is revoked, and its serial number."""
+    if isinstance(what, Entry):
+        since, number = what.revoked_at, what.serial_number
+    else:
+        number = what.serial_number if isinstance(what, Certificate) else what
+    return _time(since), _list_number(number, "a serial number")
+
+
+def _list_number(number: int, name: str) -> bytes:
+    if not 0 <= number < 1 << 160:
+        raise ValueError(f"{name} isn't below 2^160")
+    return number.to_bytes(20, "big")
+
+
+def prepare_list(
+    *,
+    issuers: Sequence[Octets | Certificate],
+    next_update: datetime,
+    this_update: datetime | None = None,
+    revoked: Iterable[int | Certificate | Entry] = (),
+    previous: Octets | RevocationList | None = None,
+    number: int | None = None,
+    lists: Sequence[Octets | RevocationList] | None = None,
+    locator: Octets | None = None,
+    at: datetime | None = None,
+    strict: bool = True,
+) -> bytes:
+    """Prepares the issuer's next revocation list for its signature, or its first one, and gives the
+    octets that are to be signed by the issuer's key, as `prepare` does.
+
+    `previous` is the issuer's list before, all of whose entries stay. `revoked` are revoked now:
+    certificates or serial numbers, from this update on, or an Entry with a moment of its own.
+    `number` is greater than that of the list before; it is one more where it isn't given, and 1 of
+    a first list. `this_update` is the moment of `at` where it isn't given. The others are as for
+    `prepare`.
+
+    Raises the Fault of what is wrong: of the issuer's path with its place, and else IssuingFault or
+    RevocationFault with the place behind the path; and ValueError where a value is none.
+    """
+    now = datetime.now(timezone.utc) if at is None else at
+    since = now if this_update is None else this_update
+    if number is not None and number < 1:
+        raise ValueError("the number of a list isn't above 0")
+    asked = raw.wanted_list(
+        _issuer(Kind.AUTHORITY, issuers, lists, locator, now, strict),
+        b"" if previous is None else _octets(previous, "previous"),
+        [_revoked(it, since) for it in revoked],
+        (_time(since), _time(next_update)),
+        _list_number(number or 0, "the number of a list"),
+    )
+    told, octets = raw.prepare_list(asked)
+    _raise_issued(told, len(issuers), _NO_LIST)
+    return octets
+
+
+def complete_list(
+    *,
+    issuers: Sequence[Octets | Certificate],
+    prepared: Octets,
+    signature: Octets,
+    lists: Sequence[Octets | RevocationList] | None = None,
+    locator: Octets | None = None,
+    at: datetime | None = None,
+    strict: bool = True,
+) -> RevocationList:
+    """Completes a revocation list that was prepared by its signature, and gives it, exactly where the
+    issuer's key signed what was prepared. The others are as for `prepare_list`; they are asked
+    again, at this moment.
+
+    Raises RevocationFault with the name BadSignature where the signature isn't good, and else the
+    Fault of what is wrong.
+    """
+    asked = raw.list_completion(
+        _issuer(Kind.AUTHORITY, issuers, lists, locator, at, strict),
+        _bytes(prepared, "prepared"),
+        _bytes(signature, "signature"),
+    )
+    told, octets = raw.complete_list(asked)
+    _raise_issued(told, len(issuers), _NO_LIST)
+    return RevocationList(octets)

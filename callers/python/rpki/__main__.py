@@ -196,7 +196,10 @@ def path(
     try:
         held = validate(members, last=LAST[last], lists=given, locator=key, at=at)
     except Fault as fault:
-        why = {"member": fault.member, "fault": fault.name, "sentence": fault.sentence}
+        place = {"member": fault.member}
+        if fault.revocation_list is not None:
+            place = {"list": fault.revocation_list}
+        why = place | {"fault": fault.name, "sentence": fault.sentence}
         return {"accepted": False, "rejected": why}
     holds = systems(held.as_numbers) + blocks(held.ipv4, 4) + blocks(held.ipv6, 6)
     return {"accepted": True, "holds": holds}

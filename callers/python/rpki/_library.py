@@ -193,6 +193,30 @@ class Completion(ctypes.Structure):
     ]
 
 
+class WantedList(ctypes.Structure):
+    """struct rpki_wanted_list"""
+
+    _fields_ = [
+        ("size", c_size_t),
+        ("issuer", Question),
+        ("previous", Octets),
+        ("revoked", ctypes.POINTER(Entry)),
+        ("revoked_count", c_size_t),
+        *((name, Time) for name in ("this_update", "next_update")),
+        ("number", c_uint8 * 20),
+    ]
+
+
+class ListCompletion(ctypes.Structure):
+    """struct rpki_list_completion"""
+
+    _fields_ = [
+        ("size", c_size_t),
+        ("issuer", Question),
+        *((name, Octets) for name in ("prepared", "signature")),
+    ]
+
+
 class Issued(ctypes.Structure):
     """struct rpki_issued"""
 
@@ -446,6 +470,32 @@ def completion(issuer: Question, kind: int, prepared: bytes, signature: bytes) -
     return Completion(ctypes.sizeof(Completion), issuer, *octets, kind)
 
 
+def wanted_list(
+    issuer: Question,
+    previous: bytes,
+    revoked: Sequence[tuple[Time, bytes]],
+    updates: tuple[Time, Time],
+    number: bytes,
+) -> WantedList:
+    """What a list is to be: what is revoked has a date, and a serial number of 20 octets."""
+    entries = (Entry(date, (c_uint8 * 20).from_buffer_copy(serial)) for date, serial in revoked)
+    return WantedList(
+        ctypes.sizeof(WantedList),
+        issuer,
+        Octets(*octets_of(previous)),
+        (Entry * len(revoked))(*entries),
+        len(revoked),
+        *updates,
+        (c_uint8 * 20).from_buffer_copy(number),
+    )
+
+
+def list_completion(issuer: Question, prepared: bytes, signature: bytes) -> ListCompletion:
+    """What was prepared of a list, and its signature."""
+    octets = (Octets(*octets_of(data)) for data in (prepared, signature))
+    return ListCompletion(ctypes.sizeof(ListCompletion), issuer, *octets)
+
+
 def issued(function: Any, asked: ctypes.Structure) -> tuple[Issued, bytes]:
     """What is told of what is issued, and its octets. A second call has room for more than 4 KiB."""
     told, length = Issued(), 4096
@@ -466,3 +516,11 @@ def prepare(asked: Wanted) -> tuple[Issued, bytes]:
 
 def complete(asked: Completion) -> tuple[Issued, bytes]:
     return issued(lib.rpki_complete, asked)
+
+
+def prepare_list(asked: WantedList) -> tuple[Issued, bytes]:
+    return issued(lib.rpki_prepare_list, asked)
+
+
+def complete_list(asked: ListCompletion) -> tuple[Issued, bytes]:
+    return issued(lib.rpki_complete_list, asked)

@@ -28,8 +28,10 @@ from rpki import (
     RevocationList,
     State,
     complete,
+    complete_list,
     judge_folder,
     prepare,
+    prepare_list,
     validate,
 )
 
@@ -567,6 +569,103 @@ class Issuing(unittest.TestCase):
             self.refuses(name, 1, complete, Kind.AUTHORITY, **asked)
         with self.assertRaises(rpki.InspectionFault):
             complete(Kind.END_ENTITY, **words, signature=good)
+
+    def list_prepared(self, issuers: list[bytes], **changes: Any) -> bytes:
+        wanted: dict[str, Any] = {"next_update": END, "at": self.at}
+        return prepare_list(issuers=issuers, **(wanted | changes))
+
+    def listed(self, signer: str, issuers: list[bytes], **changes: Any) -> RevocationList:
+        octets = self.list_prepared(issuers, **changes)
+        signature = sign(octets, signer)
+        return complete_list(issuers=issuers, prepared=octets, signature=signature, at=self.at)
+
+    def test_lists(self) -> None:
+        anchor = self.anchor
+        below = self.made(Kind.AUTHORITY, "ca", "anchor", [anchor], **self.ca())
+        path = [anchor, below]
+        first = self.listed("anchor", [anchor])
+        self.assertEqual((first.number, list(first)), (1, []))
+        self.assertEqual((first.this_update, first.next_update), (self.at, END))
+        self.assertEqual(first.issuer, Certificate(anchor).subject)
+        validate(path, last=Kind.AUTHORITY, lists=[first], at=self.at)
+        # each serial number comes in once, with the moment of the first that has it
+        early = Entry(7, BEGIN)
+        revoked = [Certificate(below), early, 9, 7, Entry(9, BEGIN)]
+        second = self.listed("anchor", [anchor], previous=first, revoked=revoked)
+        self.assertEqual(second.number, 2)
+        entries = [Entry(5, self.at), early, Entry(9, self.at)]
+        self.assertEqual(list(second), entries)
+        with self.assertRaises(rpki.RevocationFault) as caught:
+            validate(path, last=Kind.AUTHORITY, lists=[first, second], at=self.at)
+        self.assertEqual((caught.exception.name, caught.exception.member), ("Revoked", 1))
+        # what was revoked stays, and a number may be chosen
+        third = self.listed("anchor", [anchor], previous=second.octets, number=9, revoked=[5, 1])
+        self.assertEqual((third.number, list(third)), (9, [*entries, Entry(1, self.at)]))
+        # that of a CA, whose own issuer has to have it unrevoked
+        asked: dict[str, Any] = {"lists": [first], "this_update": BEGIN, "number": 1 << 158}
+        mine = self.listed("ca", path, **asked)
+        self.assertEqual((mine.number, mine.this_update), (1 << 158, BEGIN))
+        self.assertEqual(mine.issuer, Certificate(below).subject)
+        self.refuses("Revoked", 1, self.list_prepared, path, lists=[second])
+        # as openssl judges and reads them
+        with tempfile.NamedTemporaryFile() as file:
+            file.write(openssl("x509", "-inform", "DER", given=anchor))
+            file.flush()
+            for it in (first, second, third):
+                openssl("crl", "-verify", "-CAfile", file.name, "-noout", given=it.octets)
+                said = openssl("crl", "-crlnumber", "-noout", given=it.octets)
+                self.assertEqual(int(said.partition(b"=")[2], 16), it.number)
+
+    def test_lists_that_are_refused(self) -> None:
+        anchor = self.anchor
+        below = self.made(Kind.AUTHORITY, "ca", "anchor", [anchor], **self.ca())
+        first = self.listed("anchor", [anchor], number=3)
+        of_ca = self.listed("ca", [anchor, below])
+        second = timedelta(seconds=1)
+        wrong: list[tuple[str, dict[str, Any]]] = [
+            ("OtherList", {"previous": of_ca}),
+            ("OtherList", {"previous": b"no list"}),
+            ("OtherList", {"previous": first.octets[:-1] + bytes([first.octets[-1] ^ 1])}),
+            ("Number", {"previous": first, "number": 3}),
+            ("LongNumber", {"number": 1 << 159}),
+            ("LongNumber", {"previous": first, "number": (1 << 160) - 1}),
+            ("UpdateOrder", {"next_update": self.at - second}),
+            ("Stale", {"this_update": BEGIN, "next_update": self.at - second}),
+        ]
+        for name, changes in wrong:
+            self.refuses(name, 1, self.list_prepared, [anchor], **changes)
+        self.refuses("Expired", 0, self.list_prepared, [anchor], at=END + second)
+        no_calls: list[tuple[list[bytes], dict[str, Any]]] = [
+            ([], {}),
+            ([anchor], {"number": 0}),
+            ([anchor], {"number": 1 << 160}),
+            ([anchor], {"revoked": [-1]}),
+            ([anchor], {"revoked": [1 << 160]}),
+            ([anchor], {"next_update": datetime(2036, 1, 1)}),
+        ]
+        for issuers, changes in no_calls:
+            with self.assertRaises(ValueError):
+                self.list_prepared(issuers, **changes)
+        prepared = self.list_prepared([anchor])
+        good = sign(prepared, "anchor")
+        words: dict[str, Any] = {"issuers": [anchor], "prepared": prepared, "at": self.at}
+        flipped = bytes([good[0] ^ 1]) + good[1:]
+        for signature in (sign(prepared, "ca"), sign(prepared + b"0", "anchor"), flipped, b""):
+            asked = {**words, "signature": signature}
+            self.refuses("BadSignature", 1, complete_list, **asked)
+        certificate = self.prepared(Kind.AUTHORITY, "ca", [anchor], **self.ca())
+        others = [
+            ("NotToSign", prepared[:-1]),
+            ("NotToSign", certificate),
+            ("OtherOctets", prepared + b"0"),
+            ("WrongKeyId", prepared.replace(Certificate(anchor).subject_key_identifier, bytes(20))),
+        ]
+        for name, octets_signed in others:
+            asked = {**words, "prepared": octets_signed, "signature": sign(octets_signed, "anchor")}
+            self.refuses(name, 1, complete_list, **asked)
+        words["signature"] = good
+        self.refuses("OtherName", 2, complete_list, **(words | {"issuers": [anchor, below]}))
+        self.refuses("Expired", 0, complete_list, **(words | {"at": END + second}))
 
 
 if __name__ == "__main__":

@@ -33,18 +33,15 @@ fn print(held: &Holdings) -> io::Result<()> {
     out.flush()
 }
 
-fn print_fault(fault: &Fault, members: usize) -> io::Result<()> {
-    let member = match fault.place() {
-        Some(Place::Member(at)) => at,
-        Some(Place::List(at)) => members + at,
-        _ => 0,
+fn print_fault(fault: &Fault) -> io::Result<()> {
+    let place = match fault.place() {
+        Some(Place::Member(at)) => format!("member {at}"),
+        Some(Place::List(at)) => format!("list {at}"),
+        None => "locator".to_owned(),
     };
     let (number, name, sentence) = (fault.number(), fault.name(), fault.sentence());
     let mut out = io::stdout().lock();
-    writeln!(
-        out,
-        "refused: member {member}, fault {number}, {name}: {sentence}"
-    )?;
+    writeln!(out, "refused: {place}, fault {number}, {name}: {sentence}")?;
     out.flush()
 }
 
@@ -117,12 +114,10 @@ fn run(mut words: &[OsString]) -> Result<ExitCode, String> {
         moment(&day.to_string_lossy())?,
     );
     let members: Vec<Vec<u8>> = files.iter().map(contents).collect::<Result<_, _>>()?;
-    let members: Vec<&[u8]> = members.iter().map(Vec::as_slice).collect();
-    let lists: Vec<&[u8]> = lists.iter().map(Vec::as_slice).collect();
     let asked = if lists.is_empty() {
         Revocation::NotAsked
     } else {
-        Revocation::ByLists(&lists)
+        Revocation::by_lists(&lists)
     };
     let mut path = Path::new(&members, last, asked);
     if let Some(file) = &locator {
@@ -137,7 +132,7 @@ fn run(mut words: &[OsString]) -> Result<ExitCode, String> {
             FaultKind::Memory => Err("there is no more memory".to_owned()),
             FaultKind::BadCall => Err("no such day, or too few members".to_owned()),
             _ => {
-                print_fault(&fault, members.len()).map_err(unwritten)?;
+                print_fault(&fault).map_err(unwritten)?;
                 Ok(ExitCode::from(1))
             }
         },

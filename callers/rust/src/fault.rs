@@ -10,8 +10,7 @@ pub enum FaultKind {
     /// Memory ran out. Its name is `Memory`.
     Memory,
     /// There are too few members, the last of several is to be a trust anchor, or there is no such
-    /// moment. No member is at fault. Its name is `BadCall`.
-    /// moment, range or serial number.
+    /// moment, range or serial number. No member is at fault. Its name is `BadCall`.
     BadCall,
     /// The octets begin with no certificate, or with no revocation list.
     ///
@@ -50,7 +49,12 @@ pub enum FaultKind {
     /// Its name is `OtherKey` for the key, and else `NoText`, `BadUri`, `NoUri`, `NoKey` or
     /// `BadKey`.
     Locator,
-    /// The key, a URI, the fields or the octets are none of a certificate that can be issued.
+    /// The key, a URI, the fields or the octets are none of a certificate or a list that can be
+    /// issued.
+    ///
+    /// Its name is `NoKey`, `UnusedKey`, `BadUri`, `NoName`, `Unwritable`, `TooLong`, `NotToSign` or
+    /// `OtherOctets`; of a list alone it is `OtherList` where the one before isn't the issuer's,
+    /// `Number`, `LongNumber` or `UpdateOrder`.
     Issuing,
 }
 
@@ -89,7 +93,7 @@ impl Fault {
         Fault { number, place }
     }
 
-    // Of a certificate that is issued below so many members, or of one of them.
+    // Of what is issued below so many members, or of one of them.
     pub(crate) fn of_issued(number: u32, index: usize, members: usize) -> Fault {
         match number {
             sys::BAD_URI => Fault::new(number),

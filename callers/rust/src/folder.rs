@@ -1,5 +1,5 @@
 //! Certificates and revocation lists in any order.
-use crate::{check_library, sys, Fault, Moment};
+use crate::{check_library, slices, sys, Fault, Moment};
 
 /// What became of one of the octets of a folder.
 #[derive(Clone, Copy, Debug, PartialEq, Eq, Hash)]
@@ -75,9 +75,8 @@ pub struct Judged {
 /// for name in names {
 ///     files.push(std::fs::read(name)?);
 /// }
-/// let octets: Vec<&[u8]> = files.iter().map(Vec::as_slice).collect();
 /// let locator = std::fs::read("anchor.tal")?;
-/// let judged = Folder::new(&octets, &locator).judge(Moment::now())?;
+/// let judged = Folder::new(&files, &locator).judge(Moment::now())?;
 /// for (name, line) in names.iter().zip(&judged.lines) {
 ///     println!("{name}: {line:?}");
 /// }
@@ -86,7 +85,7 @@ pub struct Judged {
 /// ```
 #[derive(Clone, Debug)]
 pub struct Folder<'a> {
-    octets: &'a [&'a [u8]],
+    octets: Vec<&'a [u8]>,
     locator: &'a [u8],
     strict: bool,
     depth: usize,
@@ -94,11 +93,14 @@ pub struct Folder<'a> {
 }
 
 impl<'a> Folder<'a> {
-    /// Makes a folder of these octets, below the trust anchor among them that has the key of this file
-    /// of a locator (RFC 8630); where several have it, below the first.
-    pub fn new(octets: &'a [&'a [u8]], locator: &'a [u8]) -> Folder<'a> {
+    /// Makes a folder of these octets, as `&Vec<Vec<u8>>` has them, below the trust anchor among them
+    /// that has the key of this file of a locator (RFC 8630); where several have it, below the first.
+    pub fn new<T>(octets: impl IntoIterator<Item = &'a T>, locator: &'a [u8]) -> Folder<'a>
+    where
+        T: AsRef<[u8]> + ?Sized + 'a,
+    {
         Folder {
-            octets,
+            octets: slices(octets),
             locator,
             strict: true,
             depth: 0,
@@ -132,7 +134,7 @@ impl<'a> Folder<'a> {
     pub fn judge(&self, now: Moment) -> Result<Judged, Fault> {
         check_library();
         let question = sys::FolderQuestion {
-            strings: self.octets,
+            strings: &self.octets,
             locator: self.locator,
             now: now.0,
             depth: self.depth,

@@ -1,7 +1,7 @@
-//! Certificates that are issued where the issuer's key lies elsewhere.
+//! Certificates and revocation lists that are issued where the issuer's key lies elsewhere.
 use crate::{
-    check_library, sys, AsRanges, Certificate, Fault, Ipv4Ranges, Ipv6Ranges, Kind, Moment,
-    Resources, Uri,
+    check_library, slices, sys, AsRanges, Certificate, Entry, Fault, Ipv4Ranges, Ipv6Ranges, Kind,
+    Moment, Resources, RevocationList, Uri,
 };
 
 /// What a certificate is to be. What RFC 6487 fixes isn't asked: the names, key identifiers, key usage
@@ -28,6 +28,23 @@ pub struct Wanted<'a> {
     pub uris: &'a [(Uri, &'a str)],
     /// Whether what it lists beyond its issuer is cut off (RFC 8360), and not rejected.
     pub trims_resources: bool,
+}
+
+/// What a revocation list is to be: the issuer's next one, or its first. What RFC 6487 fixes isn't
+/// asked: the issuer's name and the identifier of its key.
+#[derive(Clone, Debug)]
+pub struct WantedList<'a> {
+    /// The issuer's list before, all of whose entries stay; `None` where there was none.
+    pub previous: Option<&'a [u8]>,
+    /// What is revoked now, beside all that the list before has.
+    pub revoked: &'a [Entry],
+    /// When it is issued.
+    pub this_update: Moment,
+    /// Until when the next one is issued.
+    pub next_update: Moment,
+    /// The number, its greatest octet first: greater than the one before, and below 2^159. Where none
+    /// is chosen it is one more, and 1 of a first list.
+    pub number: Option<[u8; 20]>,
 }
 
 /// What is listed of a kind of numbers, as the library takes it.
@@ -72,17 +89,29 @@ fn as_numbers(ranges: &AsRanges) -> Vec<sys::AsRange> {
 /// which signs itself.
 #[derive(Clone, Debug)]
 pub struct Issuer<'a> {
-    path: &'a [&'a [u8]],
-    lists: Option<&'a [&'a [u8]]>,
+    path: Vec<&'a [u8]>,
+    lists: Option<Vec<&'a [u8]>>,
     locator: Option<&'a [u8]>,
     strict: bool,
     now: Moment,
 }
 
 impl<'a> Issuer<'a> {
-    /// Makes the issuer that a path of certificates ends in, in order, the trust anchor first. Above a
-    /// trust anchor there are none.
-    pub fn new(path: &'a [&'a [u8]], now: Moment) -> Issuer<'a> {
+    /// Makes the issuer that a path of certificates ends in, as `&[Certificate]` or `&Vec<Vec<u8>>` has
+    /// them, in order, the trust anchor first.
+    pub fn new<T>(path: impl IntoIterator<Item = &'a T>, now: Moment) -> Issuer<'a>
+    where
+        T: AsRef<[u8]> + ?Sized + 'a,
+    {
+        Issuer::below(slices(path), now)
+    }
+
+    /// Makes the issuer of a trust anchor: nobody is above it, and it signs itself.
+    pub fn of_anchor(now: Moment) -> Issuer<'a> {
+        Issuer::below(Vec::new(), now)
+    }
+
+    fn below(path: Vec<&'a [u8]>, now: Moment) -> Issuer<'a> {
         Issuer {
             path,
             lists: None,
@@ -93,8 +122,11 @@ impl<'a> Issuer<'a> {
     }
 
     /// Asks that each member below the trust anchor is unrevoked by these lists.
-    pub fn by_lists(mut self, lists: &'a [&'a [u8]]) -> Issuer<'a> {
-        self.lists = Some(lists);
+    pub fn by_lists<T>(mut self, lists: impl IntoIterator<Item = &'a T>) -> Issuer<'a>
+    where
+        T: AsRef<[u8]> + ?Sized + 'a,
+    {
+        self.lists = Some(slices(lists));
         self
     }
 
@@ -110,15 +142,15 @@ impl<'a> Issuer<'a> {
         self
     }
 
-    fn question(&self, kind: Kind) -> sys::Question<'a> {
+    fn question(&self, kind: Kind) -> sys::Question<'_> {
         let last = match kind {
             Kind::TrustAnchor => Kind::TrustAnchor,
             _ => Kind::Authority,
         };
         sys::Question {
-            members: self.path,
+            members: &self.path,
             last: last as u32,
-            lists: self.lists,
+            lists: self.lists.as_deref(),
             locator: self.locator,
             strict: self.strict,
             now: self.now.0,
@@ -169,5 +201,42 @@ impl<'a> Issuer<'a> {
         let octets =
             sys::complete(&asked).map_err(|it| Fault::of_issued(it.0, it.1, self.path.len()))?;
         Certificate::read(&octets)
+    }
+    /// Prepares the issuer's next revocation list for its signature, or its first one: returns what
+    /// the issuer's key has to sign, as [`Issuer::prepare`] does. All entries of the list before
+    /// stay, and those that are revoked now come in behind them, each serial number once.
+    pub fn prepare_list(&self, wanted: &WantedList<'_>) -> Result<Vec<u8>, Fault> {
+        check_library();
+        let entry = |it: &Entry| sys::Entry {
+            date: it.revoked_at.0,
+            serial: it.serial_number,
+        };
+        let asked = sys::WantedList {
+            issuer: self.question(Kind::Authority),
+            previous: wanted.previous.unwrap_or_default(),
+            revoked: wanted.revoked.iter().map(entry).collect(),
+            this_update: wanted.this_update.0,
+            next_update: wanted.next_update.0,
+            number: wanted.number.unwrap_or_default(),
+        };
+        sys::prepare_list(&asked).map_err(|it| Fault::of_issued(it.0, it.1, self.path.len()))
+    }
+
+    /// Completes what was prepared of a list by its signature: returns the list, exactly where the
+    /// issuer's key signed it. Errs as [`Issuer::prepare_list`] does.
+    pub fn complete_list(
+        &self,
+        prepared: &[u8],
+        signature: &[u8],
+    ) -> Result<RevocationList, Fault> {
+        check_library();
+        let asked = sys::ListCompletion {
+            issuer: self.question(Kind::Authority),
+            prepared,
+            signature,
+        };
+        let octets = sys::complete_list(&asked)
+            .map_err(|it| Fault::of_issued(it.0, it.1, self.path.len()))?;
+        RevocationList::read(&octets)
     }
 }

@@ -1,5 +1,5 @@
 //! Reads and judges resource certificates and revocation lists of the RPKI (RFC 6487), and issues
-//! certificates whose issuer's key lies elsewhere, by the proved library librpki.
+//! those whose issuer's key lies elsewhere, by the proved library librpki.
 //!
 //! ```no_run
 //! use gonxebhula::{FaultKind, Kind, Moment, Path, Revocation};
@@ -12,9 +12,7 @@
 //!     let members = files(&["anchor.cer", "first.cer", "second.cer"])?;
 //!     let lists = files(&["first.crl", "second.crl"])?;
 //!     let locator = std::fs::read("anchor.tal")?;
-//!     let members: Vec<&[u8]> = members.iter().map(Vec::as_slice).collect();
-//!     let lists: Vec<&[u8]> = lists.iter().map(Vec::as_slice).collect();
-//!     let asked = Revocation::ByLists(&lists);
+//!     let asked = Revocation::by_lists(&lists);
 //!     let path = Path::new(&members, Kind::Authority, asked).locator(&locator);
 //!     match path.validate(Moment::new(2026, 6, 1, 12, 0, 0)) {
 //!         Ok(held) => {
@@ -56,7 +54,7 @@ mod sys;
 
 pub use fault::{Fault, FaultKind, Place};
 pub use folder::{Folder, Judged, Line};
-pub use issuing::{Issuer, Wanted};
+pub use issuing::{Issuer, Wanted, WantedList};
 pub use moment::Moment;
 
 use std::net::{Ipv4Addr, Ipv6Addr};
@@ -271,6 +269,12 @@ impl Certificate {
     }
 }
 
+impl AsRef<[u8]> for Certificate {
+    fn as_ref(&self) -> &[u8] {
+        self.as_bytes()
+    }
+}
+
 /// A revoked certificate's serial number, its greatest octet first, and since when it is revoked.
 #[derive(Clone, Copy, Debug, PartialEq, Eq, Hash)]
 pub struct Entry {
@@ -354,14 +358,38 @@ impl RevocationList {
     }
 }
 
+impl AsRef<[u8]> for RevocationList {
+    fn as_ref(&self) -> &[u8] {
+        self.as_bytes()
+    }
+}
+
 /// What is asked about revocation. It has no default, since either choice decides what is accepted.
-#[derive(Clone, Copy, Debug)]
+#[derive(Clone, Debug)]
 pub enum Revocation<'a> {
     /// These revocation lists, in any order: each member below the trust anchor has to be unrevoked by
-    /// the latest list of its issuer that has begun.
-    ByLists(&'a [&'a [u8]]),
+    /// the latest list of its issuer that has begun. `by_lists` makes it of any that are at hand.
+    ByLists(Vec<&'a [u8]>),
     /// Nothing: a revoked member is accepted.
     NotAsked,
+}
+
+impl<'a> Revocation<'a> {
+    /// Asks these revocation lists, as `&[RevocationList]` or `&Vec<Vec<u8>>` has them.
+    pub fn by_lists<T>(lists: impl IntoIterator<Item = &'a T>) -> Revocation<'a>
+    where
+        T: AsRef<[u8]> + ?Sized + 'a,
+    {
+        Revocation::ByLists(slices(lists))
+    }
+}
+
+/// The octets of each, in their order.
+fn slices<'a, T>(strings: impl IntoIterator<Item = &'a T>) -> Vec<&'a [u8]>
+where
+    T: AsRef<[u8]> + ?Sized + 'a,
+{
+    strings.into_iter().map(AsRef::as_ref).collect()
 }
 
 /// A path of certificates, and what is asked of it.
@@ -373,7 +401,6 @@ pub enum Revocation<'a> {
 /// for name in ["anchor.cer", "ca.cer", "object.cer"] {
 ///     members.push(std::fs::read(name)?);
 /// }
-/// let members: Vec<&[u8]> = members.iter().map(Vec::as_slice).collect();
 /// let locator = std::fs::read("anchor.tal")?;
 /// let path = Path::new(&members, Kind::EndEntity, Revocation::NotAsked).locator(&locator);
 /// match path.validate(Moment::new(2026, 6, 1, 12, 0, 0)) {
@@ -385,7 +412,7 @@ pub enum Revocation<'a> {
 /// ```
 #[derive(Clone, Debug)]
 pub struct Path<'a> {
-    members: &'a [&'a [u8]],
+    members: Vec<&'a [u8]>,
     last: Kind,
     revocation: Revocation<'a>,
     locator: Option<&'a [u8]>,
@@ -394,11 +421,19 @@ pub struct Path<'a> {
 }
 
 impl<'a> Path<'a> {
-    /// Makes a path of these certificates, in order, the trust anchor first. The last one is judged as
-    /// of this kind, and this is asked about revocation.
-    pub fn new(members: &'a [&'a [u8]], last: Kind, revocation: Revocation<'a>) -> Path<'a> {
+    /// Makes a path of these certificates, as `&[Certificate]` or `&Vec<Vec<u8>>` has them, in order,
+    /// the trust anchor first. The last one is judged as of this kind, and this is asked about
+    /// revocation.
+    pub fn new<T>(
+        members: impl IntoIterator<Item = &'a T>,
+        last: Kind,
+        revocation: Revocation<'a>,
+    ) -> Path<'a>
+    where
+        T: AsRef<[u8]> + ?Sized + 'a,
+    {
         Path {
-            members,
+            members: slices(members),
             last,
             revocation,
             locator: None,
@@ -431,9 +466,9 @@ impl<'a> Path<'a> {
     pub fn validate(&self, now: Moment) -> Result<Holdings, Fault> {
         check_library();
         let question = sys::Question {
-            members: self.members,
+            members: &self.members,
             last: self.last as u32,
-            lists: match self.revocation {
+            lists: match &self.revocation {
                 Revocation::ByLists(lists) => Some(lists),
                 Revocation::NotAsked => None,
             },
@@ -444,7 +479,7 @@ impl<'a> Path<'a> {
         let of_path = |(number, index)| Fault::of_path(number, index, self.members.len());
         let held = sys::judge(&question).map_err(of_path)?;
         if self.chain_names {
-            sys::names(self.members).map_err(of_path)?;
+            sys::names(&self.members).map_err(of_path)?;
         }
         Ok(Holdings {
             ipv4: ipv4(held.v4),

@@ -199,6 +199,26 @@ struct CCompletion {
 }
 
 #[repr(C)]
+struct CWantedList {
+    size: usize,
+    issuer: CQuestion,
+    previous: COctets,
+    revoked: *const Entry,
+    revoked_count: usize,
+    this_update: Time,
+    next_update: Time,
+    number: [u8; 20],
+}
+
+#[repr(C)]
+struct CListCompletion {
+    size: usize,
+    issuer: CQuestion,
+    prepared: COctets,
+    signature: COctets,
+}
+
+#[repr(C)]
 #[derive(Default)]
 struct Issued {
     fault: u32,
@@ -277,6 +297,18 @@ extern "C" {
     fn rpki_prepare(wanted: *const CWanted, out: *mut u8, room: usize, told: *mut Issued) -> u32;
     fn rpki_complete(
         completion: *const CCompletion,
+        out: *mut u8,
+        room: usize,
+        told: *mut Issued,
+    ) -> u32;
+    fn rpki_prepare_list(
+        wanted: *const CWantedList,
+        out: *mut u8,
+        room: usize,
+        told: *mut Issued,
+    ) -> u32;
+    fn rpki_complete_list(
+        completion: *const CListCompletion,
         out: *mut u8,
         room: usize,
         told: *mut Issued,
@@ -596,4 +628,49 @@ pub fn complete(completion: &Completion<'_>) -> Result<Vec<u8>, (u32, usize)> {
         kind: completion.kind,
     };
     issued(|out, room, told| unsafe { rpki_complete(&asked, out, room, told) })
+}
+
+/// What a revocation list is to be. A number of zeros chooses none.
+pub struct WantedList<'a> {
+    pub issuer: Question<'a>,
+    pub previous: &'a [u8],
+    pub revoked: Vec<Entry>,
+    pub this_update: Time,
+    pub next_update: Time,
+    pub number: [u8; 20],
+}
+
+/// What was prepared of a list, and its signature.
+pub struct ListCompletion<'a> {
+    pub issuer: Question<'a>,
+    pub prepared: &'a [u8],
+    pub signature: &'a [u8],
+}
+
+/// What is to be signed of a list, or a fault and its place.
+pub fn prepare_list(wanted: &WantedList<'_>) -> Result<Vec<u8>, (u32, usize)> {
+    let strings = wanted.issuer.strings();
+    let asked = CWantedList {
+        size: size_of::<CWantedList>(),
+        issuer: wanted.issuer.lent(&strings),
+        previous: octets_of(wanted.previous),
+        revoked: wanted.revoked.as_ptr(),
+        revoked_count: wanted.revoked.len(),
+        this_update: wanted.this_update,
+        next_update: wanted.next_update,
+        number: wanted.number,
+    };
+    issued(|out, room, told| unsafe { rpki_prepare_list(&asked, out, room, told) })
+}
+
+/// The list, or a fault and its place.
+pub fn complete_list(completion: &ListCompletion<'_>) -> Result<Vec<u8>, (u32, usize)> {
+    let strings = completion.issuer.strings();
+    let asked = CListCompletion {
+        size: size_of::<CListCompletion>(),
+        issuer: completion.issuer.lent(&strings),
+        prepared: octets_of(completion.prepared),
+        signature: octets_of(completion.signature),
+    };
+    issued(|out, room, told| unsafe { rpki_complete_list(&asked, out, room, told) })
 }

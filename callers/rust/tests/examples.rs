@@ -31,10 +31,6 @@ fn example() -> (Vec<Vec<u8>>, Vec<Vec<u8>>) {
     (members.map(octets).to_vec(), lists.map(octets).to_vec())
 }
 
-fn slices(owned: &[Vec<u8>]) -> Vec<&[u8]> {
-    owned.iter().map(Vec::as_slice).collect()
-}
-
 #[test]
 fn certificates_are_read() {
     let it = Certificate::read(&octets("first.cer")).unwrap();
@@ -110,14 +106,27 @@ fn other_octets_are_rejected() {
 
 #[test]
 fn a_path_is_accepted() {
-    let (members, lists) = example();
-    let (members, lists, locator) = (slices(&members), slices(&lists), octets("anchor.tal"));
-    let asked = Revocation::ByLists(&lists);
+    let ((members, lists), locator) = (example(), octets("anchor.tal"));
+    let asked = Revocation::by_lists(&lists);
     let path = Path::new(&members, Kind::EndEntity, asked).locator(&locator);
     let held = path.validate(at(NOON)).unwrap();
     let (min, max) = (Ipv4Addr::new(10, 1, 2, 0), Ipv4Addr::new(10, 1, 2, 255));
     assert_eq!(held.ipv4, [(min, max)]);
     assert!(held.ipv6.is_empty() && held.as_numbers.is_empty());
+    // certificates and lists that were read, and slices
+    let certificates: Vec<_> = members
+        .iter()
+        .map(|it| Certificate::read(it).unwrap())
+        .collect();
+    let read: Vec<_> = lists
+        .iter()
+        .map(|it| RevocationList::read(it).unwrap())
+        .collect();
+    let path = Path::new(&certificates, Kind::EndEntity, Revocation::by_lists(&read));
+    assert_eq!(path.validate(at(NOON)).as_ref(), Ok(&held));
+    let asked = Revocation::ByLists(lists.iter().map(Vec::as_slice).collect());
+    let path = Path::new(members.iter().map(Vec::as_slice), Kind::EndEntity, asked);
+    assert_eq!(path.validate(at(NOON)), Ok(held));
 }
 
 fn rejected(path: &Path<'_>, now: [u16; 6], name: &str, place: Option<Place>) -> Fault {
@@ -129,7 +138,6 @@ fn rejected(path: &Path<'_>, now: [u16; 6], name: &str, place: Option<Place>) ->
 #[test]
 fn paths_are_rejected() {
     let (members, lists) = example();
-    let (members, lists) = (slices(&members), slices(&lists));
     let (revoked, tampered) = (octets("revoked.crl"), octets("tampered.cer"));
     let under = |asked| Path::new(&members[..3], Kind::Authority, asked);
     let path = under(Revocation::NotAsked);
@@ -137,51 +145,47 @@ fn paths_are_rejected() {
     let anchors = Some(Place::Member(0));
     rejected(&path, late, "Expired", anchors);
     assert!(path.validate(at([2036, 1, 1, 0, 0, 0])).is_ok());
-    let revoking = [lists[0], revoked.as_slice()];
     let fault = rejected(
-        &under(Revocation::ByLists(&revoking)),
+        &under(Revocation::by_lists([&lists[0], &revoked])),
         NOON,
         "Revoked",
         Some(Place::Member(2)),
     );
     assert_eq!(fault.to_string(), "member 2: certificate revoked (Revoked)");
     rejected(
-        &under(Revocation::ByLists(&[])),
+        &under(Revocation::ByLists(Vec::new())),
         NOON,
         "NoCrl",
         Some(Place::Member(1)),
     );
-    let others = [lists[0], members[0]];
-    let path = under(Revocation::ByLists(&others));
+    let path = under(Revocation::by_lists([&lists[0], &members[0]]));
     let fault = path.validate(at(NOON)).unwrap_err();
     assert_eq!(
         (fault.kind(), fault.place()),
         (FaultKind::Decode, Some(Place::List(1)))
     );
-    let other = [members[0], members[1], tampered.as_slice()];
-    let path = Path::new(&other, Kind::Authority, Revocation::NotAsked);
+    let other = [&members[0], &members[1], &tampered];
+    let path = Path::new(other, Kind::Authority, Revocation::NotAsked);
     let fault = rejected(&path, NOON, "BadSignature", Some(Place::Member(2)));
     assert_eq!(fault.kind(), FaultKind::Verification);
 }
 
 #[test]
 fn locators_are_asked() {
-    let (members, _) = example();
-    let (members, locator) = (slices(&members), octets("anchor.tal"));
-    let asked = Revocation::NotAsked;
-    let path = Path::new(&members[1..3], Kind::Authority, asked).locator(&locator);
+    let ((members, _), locator) = (example(), octets("anchor.tal"));
+    let to = |members| Path::new(members, Kind::Authority, Revocation::NotAsked);
+    let path = to(&members[1..3]).locator(&locator);
     let fault = rejected(&path, NOON, "OtherKey", Some(Place::Member(0)));
     assert_eq!(fault.kind(), FaultKind::Locator);
-    let path = Path::new(&members[..1], Kind::Authority, asked).locator(b"\n");
+    let path = to(&members[..1]).locator(b"\n");
     rejected(&path, NOON, "NoUri", None);
 }
 
 fn judged(names: &[&str], ask: impl Fn(Folder<'_>) -> Folder<'_>) -> Judged {
     let owned: Vec<_> = names.iter().map(|name| octets(name)).collect();
-    let (strings, locator) = (slices(&owned), octets("anchor.tal"));
-    ask(Folder::new(&strings, &locator))
-        .judge(at(NOON))
-        .unwrap()
+    let locator = octets("anchor.tal");
+    let folder = Folder::new(&owned, &locator);
+    ask(folder).judge(at(NOON)).unwrap()
 }
 
 #[test]
@@ -230,11 +234,8 @@ fn folders_are_judged() {
 
 #[test]
 fn anchors_of_folders_are_asked() {
-    let (owned, locator) = (
-        ["first.cer", "anchor.cer"].map(octets),
-        octets("anchor.tal"),
-    );
-    let strings = slices(&owned);
+    let strings = ["first.cer", "anchor.cer"].map(octets);
+    let locator = octets("anchor.tal");
     let folder = Folder::new(&strings, &locator);
     let fault = folder.judge(at([2036, 1, 1, 0, 0, 1])).unwrap_err();
     assert_eq!(
@@ -243,7 +244,7 @@ fn anchors_of_folders_are_asked() {
     );
     for (strings, locator, name) in [
         (&strings[..1], &locator[..], "OtherKey"),
-        (&[], &locator[..], "OtherKey"),
+        (&strings[..0], &locator[..], "OtherKey"),
         (&strings[..], b"\n", "NoUri"),
     ] {
         let fault = Folder::new(strings, locator).judge(at(NOON)).unwrap_err();
@@ -254,18 +255,14 @@ fn anchors_of_folders_are_asked() {
 
 #[test]
 fn wrong_calls_are_told() {
-    let anchor = octets("anchor.cer");
-    let members = [anchor.as_slice()];
-    let asked = Revocation::NotAsked;
-    let too_few = Path::new(&members, Kind::EndEntity, asked).validate(at(NOON));
+    let members = ["anchor.cer", "first.cer"].map(octets);
+    let to = |count, last| Path::new(&members[..count], last, Revocation::NotAsked);
+    let too_few = to(1, Kind::EndEntity).validate(at(NOON));
     assert_eq!(too_few.unwrap_err().kind(), FaultKind::BadCall);
-    let no_day = Path::new(&members, Kind::Authority, asked).validate(at([2026, 2, 29, 0, 0, 0]));
+    let no_day = to(1, Kind::Authority).validate(at([2026, 2, 29, 0, 0, 0]));
     assert_eq!(no_day.unwrap_err().kind(), FaultKind::BadCall);
-    let no_member = Path::new(&[], Kind::Authority, asked);
-    assert!(no_member.validate(at(NOON)).is_err());
-    let first = octets("first.cer");
-    let both = [anchor.as_slice(), first.as_slice()];
-    let below = Path::new(&both, Kind::TrustAnchor, asked).validate(at(NOON));
+    assert!(to(0, Kind::Authority).validate(at(NOON)).is_err());
+    let below = to(2, Kind::TrustAnchor).validate(at(NOON));
     assert_eq!(
         below.unwrap_err().to_string(),
         "there are too few members, the last of several is to be a trust anchor, \
@@ -290,8 +287,7 @@ fn moments_are_those_of_the_calendar() {
 
 #[test]
 fn moments_behind_the_calendar_are_none() {
-    let anchor = octets("anchor.cer");
-    let members = [anchor.as_slice()];
+    let members = [octets("anchor.cer")];
     let path = Path::new(&members, Kind::TrustAnchor, Revocation::NotAsked);
     let noon = 1_780_315_200;
     assert_eq!(Moment::from_timestamp(noon), at(NOON));
@@ -320,8 +316,7 @@ fn values_go_between_threads() {
     std::thread::scope(|scope| {
         for _ in 0..4 {
             scope.spawn(|| {
-                let (members, lists) = (slices(&members), slices(&lists));
-                let asked = Revocation::ByLists(&lists);
+                let asked = Revocation::by_lists(&lists);
                 let path = Path::new(&members, Kind::EndEntity, asked);
                 assert!((0..10).all(|_| path.validate(at(NOON)).is_ok()));
             });

@@ -1,7 +1,7 @@
 //! Issues certificates with keys of openssl, where that is there.
 use gonxebhula::{
-    Certificate, Fault, FaultKind, Issuer, Kind, Moment, Path, Place, Resources, Revocation, Uri,
-    Wanted,
+    Certificate, Entry, Fault, FaultKind, Issuer, Kind, Moment, Path, Place, Resources, Revocation,
+    RevocationList, Uri, Wanted, WantedList,
 };
 use std::io::Write;
 use std::net::Ipv4Addr;
@@ -88,7 +88,7 @@ fn wanted<'a>(kind: Kind, key: &'a Key, uris: &'a [(Uri, &'a str)], block: u8) -
 }
 
 fn anchor(key: &Key) -> Certificate {
-    let issuer = Issuer::new(&[], now());
+    let issuer = Issuer::of_anchor(now());
     let octets = issuer
         .prepare(&wanted(Kind::TrustAnchor, key, &URIS[..2], 0))
         .unwrap();
@@ -111,21 +111,15 @@ fn certificates_are_issued() {
     }
     let (above, below) = (Key::new("above"), Key::new("below"));
     let anchor = anchor(&above);
-    let path = [anchor.as_bytes()];
-    let issuer = Issuer::new(&path, now());
+    let issuer = Issuer::new([&anchor], now());
     let octets = issuer
         .prepare(&wanted(Kind::Authority, &below, &URIS, 1))
         .unwrap();
     let it = issuer
         .complete(Kind::Authority, &octets, &above.sign(&octets))
         .unwrap();
-    let held = Path::new(
-        &[anchor.as_bytes(), it.as_bytes()],
-        Kind::Authority,
-        Revocation::NotAsked,
-    )
-    .validate(now())
-    .unwrap();
+    let path = Path::new([&anchor, &it], Kind::Authority, Revocation::NotAsked);
+    let held = path.validate(now()).unwrap();
     let range = (Ipv4Addr::new(10, 1, 0, 0), Ipv4Addr::new(10, 7, 255, 255));
     assert_eq!(held.ipv4, [range]);
     assert_eq!(held.as_numbers, [64500..=64503]);
@@ -154,8 +148,7 @@ fn what_is_wrong_is_refused_before_it_is_signed() {
     }
     let key = Key::new("refused");
     let anchor = anchor(&key);
-    let path = [anchor.as_bytes()];
-    let issuer = Issuer::new(&path, now());
+    let issuer = Issuer::new([&anchor], now());
     let good = wanted(Kind::Authority, &key, &URIS, 1);
     let refused = |issuer: &Issuer<'_>, wanted: &Wanted<'_>, name, kind, place| {
         is_fault(issuer.prepare(wanted).unwrap_err(), name, kind, place);
@@ -188,11 +181,97 @@ fn what_is_wrong_is_refused_before_it_is_signed() {
     let mut wrong = good.clone();
     wrong.serial_number = [0; 20];
     refused(&issuer, &wrong, "BadCall", FaultKind::BadCall, None);
-    let late = Issuer::new(&path, Moment::new(2040, 1, 1, 0, 0, 0));
+    let late = Issuer::new([&anchor], Moment::new(2040, 1, 1, 0, 0, 0));
     refused(&late, &good, "Expired", FaultKind::Verification, member(0));
-    let alone = Issuer::new(&[], now());
+    let alone = Issuer::of_anchor(now());
     refused(&alone, &good, "BadCall", FaultKind::BadCall, None);
     let listed = issuer.clone().by_lists(&[b"no list"]);
     let fault = listed.prepare(&good).unwrap_err();
     assert_eq!(fault.place(), Some(Place::List(0)));
+}
+
+fn serial(last: u8) -> [u8; 20] {
+    let mut number = [0; 20];
+    number[19] = last;
+    number
+}
+
+fn list_wanted<'a>(previous: Option<&'a RevocationList>, revoked: &'a [Entry]) -> WantedList<'a> {
+    WantedList {
+        previous: previous.map(RevocationList::as_bytes),
+        revoked,
+        this_update: now(),
+        next_update: Moment::new(2036, 1, 1, 0, 0, 0),
+        number: None,
+    }
+}
+
+#[test]
+fn lists_are_issued() {
+    if !is_there() {
+        return;
+    }
+    let (above, below) = (Key::new("list-above"), Key::new("list-below"));
+    let anchor = anchor(&above);
+    let path = [anchor.as_bytes()];
+    let issuer = Issuer::new(&path, now());
+    let made = |wanted: &WantedList<'_>| {
+        let octets = issuer.prepare_list(wanted).unwrap();
+        issuer.complete_list(&octets, &above.sign(&octets)).unwrap()
+    };
+    let entry = |last, revoked_at| Entry {
+        serial_number: serial(last),
+        revoked_at,
+    };
+    let early = Moment::new(2026, 2, 1, 0, 0, 0);
+    let first = made(&list_wanted(None, &[entry(7, early)]));
+    assert_eq!(first.number(), serial(1));
+    assert_eq!(first.issuer().unwrap(), anchor.subject().unwrap());
+    let revoked = [entry(7, now()), entry(5, now())];
+    let second = made(&list_wanted(Some(&first), &revoked));
+    assert_eq!(second.number(), serial(2));
+    assert_eq!(
+        second.entries().unwrap(),
+        [entry(7, early), entry(5, now())]
+    );
+    let octets = issuer
+        .prepare(&wanted(Kind::Authority, &below, &URIS, 1))
+        .unwrap();
+    let ca = issuer
+        .complete(Kind::Authority, &octets, &above.sign(&octets))
+        .unwrap();
+    let judged = |lists: &[&RevocationList]| {
+        let asked = Revocation::by_lists(lists.iter().copied());
+        Path::new([&anchor, &ca], Kind::Authority, asked).validate(now())
+    };
+    assert!(judged(&[&first]).is_ok());
+    let fault = judged(&[&first, &second]).unwrap_err();
+    let member = Some(Place::Member(1));
+    is_fault(fault, "Revoked", FaultKind::Revocation, member);
+
+    let refused = |wanted: &WantedList<'_>, name, kind| {
+        is_fault(issuer.prepare_list(wanted).unwrap_err(), name, kind, member);
+    };
+    let mut wrong = list_wanted(None, &[]);
+    wrong.previous = Some(b"no list");
+    refused(&wrong, "OtherList", FaultKind::Issuing);
+    let mut wrong = list_wanted(Some(&second), &[]);
+    wrong.number = Some(serial(2));
+    refused(&wrong, "Number", FaultKind::Issuing);
+    wrong.number = Some([255; 20]);
+    refused(&wrong, "LongNumber", FaultKind::Issuing);
+    let mut wrong = list_wanted(None, &[]);
+    wrong.next_update = early;
+    refused(&wrong, "UpdateOrder", FaultKind::Issuing);
+    wrong.this_update = early;
+    refused(&wrong, "Stale", FaultKind::Revocation);
+    let octets = issuer.prepare_list(&list_wanted(None, &[])).unwrap();
+    for signature in [&below.sign(&octets), &above.sign(b"other octets"), &b""[..]] {
+        let fault = issuer.complete_list(&octets, signature).unwrap_err();
+        is_fault(fault, "BadSignature", FaultKind::Revocation, member);
+    }
+    let fault = issuer.complete_list(b"", b"").unwrap_err();
+    is_fault(fault, "NotToSign", FaultKind::Issuing, member);
+    let fault = Issuer::of_anchor(now()).prepare_list(&wrong).unwrap_err();
+    is_fault(fault, "BadCall", FaultKind::BadCall, None);
 }

@@ -15,10 +15,13 @@ use Rattle.rpki_cert.specs.declared.verification_error.VerificationError.TheVari
 use Rattle.rpki_crl.specs.Revocation.{revocation_error_name}
 use Rattle.rpki_crl.specs.declared.revocation_error.RevocationError.{RevocationError}
 use Rattle.rpki_crl.specs.declared.revocation_error.RevocationError.TheVariants as revocation
+use Rattle.rpki_issuing.specs.NextLists.{next_list_error_name}
+use Rattle.rpki_issuing.specs.declared.next.NextListError.{NextListError}
+use Rattle.rpki_issuing.specs.declared.next.NextListError.TheVariants as next
 use Rattle.rpki_tal.specs.TalErrors.{tal_error_name}
 use Rattle.rpki_tal.specs.declared.tal_error.TalError.{TalError}
 use Rattle.rpki_tal.specs.declared.tal_error.TalError.TheVariants as tal
-use Rattle.rpki_c.specs.FaultNumbers.{FaultFields, fault_fields, fault_rows, field_names, is_among, number_in, number_named, decode_number, inspection_number, verification_number, revocation_number, locator_number}
+use Rattle.rpki_c.specs.FaultNumbers.{FaultFields, fault_fields, fault_rows, field_names, is_among, number_in, number_named, decode_number, inspection_number, verification_number, revocation_number, locator_number, next_list_number}
 use Rattle.rpki_c.specs.FaultTexts.{fault_numbered, name_told}
 use Rattle.rpki_c.specs.declared.faults.Fault.{Fault}
 
@@ -92,3 +95,8 @@ pub locators : (e : TalError) → (locator_number e ≢ 1 → (locator_number e 
 unfolding number_named fault_rows field_names
 locators tal.Memory = ((λ other. absurd (other refl)), refl)
 locators _ = ((λ other. refl), refl)
+
+pub next_lists : (e : NextListError) → (next_list_number e ≢ 1 → (next_list_number e / 100) ≡ 8) × (name_told (next_list_number e) ≡ Some (next_list_error_name e))
+unfolding number_named fault_rows field_names
+next_lists next.Memory = ((λ other. absurd (other refl)), refl)
+next_lists _ = ((λ other. refl), refl)

@@ -1,3 +1,4 @@
+mod AnsweredLists
 mod AnsweredWants
 mod Cutting
 mod EntriesPut
@@ -5,11 +6,14 @@ mod FatesFound
 mod FaultTables
 mod FolderTermsGiven
 mod Issuers
+mod ListTermsGiven
 mod ListsRead
+mod OneMore
 mod QuestionTerms
 mod SaidBefore
 mod Sentences
 mod SortedMore
+mod TwentyOctets
 mod Unread
 mod WantedBlocks
 mod WantedTermsGiven

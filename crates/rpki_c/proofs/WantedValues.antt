@@ -3,7 +3,7 @@ use Rattle.std.proofs.Common.{◌≡◌, ◌⊎◌, inl, inr, subst}
 use Rattle.std.specs.Prelude.{Result, Ok, Err, IfOk, IfErr}
 use Rattle.rpki_c.specs.WantedAnswers.{AnswersValue}
 use Rattle.rpki_c.specs.declared.unissued.Unissued.{Unissued}
-use Rattle.rpki_c.specs.declared.unissued.Unissued.TheVariants.{BadCall, Memory, Issuer, NoKey, UnusedKey, BadUri, NoName, NotToSign, OtherName, Unfit}
+use Rattle.rpki_c.specs.declared.unissued.Unissued.TheVariants.{BadCall, Memory, Issuer, NoKey, UnusedKey, BadUri, NoName, OtherList, NotToSign, OtherName, Unfit}
 use Rattle.rpki_c.specs.declared.wanted.RpkiWanted.{RpkiWanted}
 
 -- one is so of the first value, and the other of the second
@@ -20,6 +20,7 @@ module _ (w : RpkiWanted) where
   part_wrong P Q part UnusedKey h = h
   part_wrong P Q part (BadUri which) h = h
   part_wrong P Q part NoName h = absurd h
+  part_wrong P Q part OtherList h = absurd h
   part_wrong P Q part NotToSign h = absurd h
   part_wrong P Q part OtherName h = absurd h
   part_wrong P Q part (Unfit e) h = absurd h

@@ -14,12 +14,12 @@ use Rattle.rpki_cert.specs.declared.validation_error.ValidationError.TheVariants
 use Rattle.rpki_cert.specs.declared.verification_error.VerificationError.{VerificationError}
 use Rattle.rpki_crl.specs.Revocation.{revocation_error_name}
 use Rattle.rpki_crl.specs.declared.revocation_error.RevocationError.{RevocationError}
+use Rattle.rpki_issuing.specs.NextLists.{next_list_error_name}
 use Rattle.rpki_issuing.specs.declared.issuing_error.IssuingError.{IssuingError}
 use Rattle.rpki_issuing.specs.declared.issuing_error.IssuingError.TheVariants as issuing
 use Rattle.rpki_issuing.specs.declared.list_error.ListError.{ListError}
 use Rattle.rpki_issuing.specs.declared.list_error.ListError.TheVariants as listing
 use Rattle.rpki_issuing.specs.declared.next.NextListError.{NextListError}
-use Rattle.rpki_issuing.specs.declared.next.NextListError.TheVariants as next
 use Rattle.rpki_tal.specs.TalErrors.{tal_error_name}
 use Rattle.rpki_tal.specs.declared.tal_error.TalError.{TalError}
 use Rattle.rpki_path.specs.declared.path_fault.PathFault.{PathFault}
@@ -138,7 +138,11 @@ fault_rows =
     fault 804 "Unwritable" "fields of no certificate" ∷
     fault 805 "TooLong" "content too long" ∷
     fault 806 "NotToSign" "not what is to be signed" ∷
-    fault 807 "OtherOctets" "not the octets that are prepared of the fields" ∷ []
+    fault 807 "OtherOctets" "not the octets that are prepared of the fields" ∷
+    fault 808 "OtherList" "the previous list isn't one that the issuer signed" ∷
+    fault 809 "Number" "the number isn't greater" ∷
+    fault 810 "LongNumber" "the number is too long" ∷
+    fault 811 "UpdateOrder" "the next update is before this one" ∷ []
 
 -- the names of parts, by their numbers
 unfoldable pub field_names : List (List ℕ)
@@ -239,11 +243,9 @@ list_number listing.Memory = 1
 
 -- why no such list follows another
 abbrev pub next_list_number : NextListError → ℕ
-next_list_number next.Memory = 1
-next_list_number _ = 2
+next_list_number e = number_named 8 (next_list_error_name e)
 
--- why what is wanted isn't prepared or completed; no call in C asks for a list, so none tells the
--- faults of lists
+-- why what is wanted isn't prepared or completed
 abbrev pub wanted_number : WantedError → ℕ
 wanted_number wanted.NoRole = 2
 wanted_number (wanted.Unready e) = issuing_number e
@@ -254,7 +256,7 @@ wanted_number (wanted.UnreadyList e) = list_number e
 wanted_number (wanted.UnsignedList e) = list_number e
 wanted_number wanted.Memory = 1
 
--- why no certificate is prepared or completed
+-- why no certificate and no list is prepared or completed
 abbrev pub unissued_number : Unissued → ℕ
 unissued_number unissued.BadCall = 2
 unissued_number unissued.Memory = 1
@@ -263,6 +265,7 @@ unissued_number unissued.NoKey = 800
 unissued_number unissued.UnusedKey = 801
 unissued_number (unissued.BadUri which) = 802
 unissued_number unissued.NoName = 803
+unissued_number unissued.OtherList = 808
 unissued_number unissued.NotToSign = 806
 unissued_number unissued.OtherName = 600
 unissued_number (unissued.Unfit e) = wanted_number e

@@ -7,11 +7,13 @@ pub mod FolderFates
 pub mod FolderQuestions
 pub mod FolderTelling
 pub mod IssuedTelling
+pub mod ListAnswers
 pub mod Questions
 pub mod Strings
 pub mod Telling
 pub mod TimeParts
 pub mod Verdicts
 pub mod WantedAnswers
+pub mod WantedLists
 pub mod WantedQuestions
 pub mod Writing

@@ -86,10 +86,20 @@ EndsWell kind q = ((kind ≡ Anchor) × (q.members.lengths.now ≡ [])) ⊎ ((ki
 abbrev pub IsHeld : RpkiQuestion → ResourceFields → Type 0
 IsHeld q r = (judged : Judged) × AnswersQuestion IsSignedByRsa q (Ok judged) × (judged.holder ≡ r)
 
+-- the CA that the path ends in, and what it holds
+abbrev pub IsAuthorityOf : RpkiQuestion → ResourceFields → Type 0
+IsAuthorityOf q r = (q.last < 2) × IsHeld q r
+
+-- why there is none: the path ends in no CA, or isn't accepted
+abbrev pub IsNoAuthority : RpkiQuestion → Unissued → Type 0
+IsNoAuthority q why.BadCall = q.last < 2 → ⊥
+IsNoAuthority q (why.Issuer r) = AnswersQuestion IsSignedByRsa q (Err r)
+IsNoAuthority q _ = ⊥
+
 -- nobody above a trust anchor; else the CA that the path ends in, and what it holds
 abbrev pub IsIssuerOf : Kind → RpkiQuestion → Option ResourceFields → Type 0
 IsIssuerOf kind q None = (kind ≡ Anchor) × (q.members.lengths.now ≡ [])
-IsIssuerOf kind q (Some r) = (kind ≢ Anchor) × (q.last < 2) × IsHeld q r
+IsIssuerOf kind q (Some r) = (kind ≢ Anchor) × IsAuthorityOf q r
 
 -- why nobody issues: the path doesn't go with the kind, or isn't accepted
 abbrev pub IsNoIssuer : Kind → RpkiQuestion → Unissued → Type 0

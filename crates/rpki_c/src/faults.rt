@@ -10,6 +10,8 @@ ghost use Rattle.rpki_cert.specs.Verification.{verification_error_name};
 ghost use Rattle.rpki_cert.specs.declared.verification_error.VerificationError.{VerificationError as verifications};
 ghost use Rattle.rpki_crl.specs.Revocation.{revocation_error_name};
 ghost use Rattle.rpki_crl.specs.declared.revocation_error.RevocationError.{RevocationError as revocations};
+ghost use Rattle.rpki_issuing.specs.NextLists.{next_list_error_name};
+ghost use Rattle.rpki_issuing.specs.declared.next.NextListError.{NextListError as next_lists};
 ghost use Rattle.rpki_tal.specs.TalErrors.{tal_error_name};
 ghost use Rattle.rpki_tal.specs.declared.tal_error.TalError.{TalError as locators};
 ghost use Rattle.rpki_c.specs.FaultNumbers.{fault_fields, fault_rows, field_names, field_number, is_among as among, number_in, number_named, decode_number, inspection_number, verification_number, revocation_number, locator_number, path_number, refusal_number, issuing_number, list_number, next_list_number, wanted_number, unissued_number};
@@ -45,12 +47,14 @@ const BAD_URI: u32 = 802;
 const NO_NAME: u32 = 803;
 // No certificate has the fields.
 const UNWRITABLE: u32 = 804;
-// The certificate would be too long.
+// The certificate or the list would be too long.
 const TOO_LONG: u32 = 805;
 // What was signed is none of what is to be signed.
 const NOT_TO_SIGN: u32 = 806;
 // What was signed isn't what is prepared of its fields.
 const OTHER_OCTETS: u32 = 807;
+// The list before is none of the issuer.
+const OTHER_LIST: u32 = 808;
 
 /// A fault: its number, its name in the library and its sentence. If it speaks of a part of a
 /// certificate or list, the part's number is added to its number, and the part's name stands between
@@ -76,7 +80,7 @@ macro_rules! table {
 }
 
 // All faults. No sentence has the identifier that a fault names.
-const FAULTS: [Fault; 76] = table! {
+const FAULTS: [Fault; 80] = table! {
     0 "None" "no fault",
     1 "Memory" "out of memory",
     2 "BadCall" "lengths or numbers of the call don't fit",
@@ -153,6 +157,10 @@ const FAULTS: [Fault; 76] = table! {
     805 "TooLong" "content too long",
     806 "NotToSign" "not what is to be signed",
     807 "OtherOctets" "not the octets that are prepared of the fields",
+    808 "OtherList" "the previous list isn't one that the issuer signed",
+    809 "Number" "the number isn't greater",
+    810 "LongNumber" "the number is too long",
+    811 "UpdateOrder" "the next update is before this one",
 };
 
 // The names of parts, by their numbers.
@@ -356,10 +364,7 @@ fn of_next_list(error: &NextListError) -> u32
     ensures number { result ≡ next_list_number error.now }
     ensures fault { result ≢ NONE }
 {
-    match error {
-        NextListError::Memory => MEMORY,
-        _ => BAD_CALL,
-    }
+    named(8, error.name())
 }
 
 // The number of why what is wanted isn't prepared or completed.
@@ -377,7 +382,7 @@ fn of_wanted(error: &WantedError) -> u32
     }
 }
 
-/// The number of why no certificate is prepared or completed.
+/// The number of why no certificate and no list is prepared or completed.
 pub(crate) fn of_unissued(why: &Unissued) -> u32
     ensures number { result ≡ unissued_number why.now }
     ensures fault { result ≢ NONE }
@@ -390,6 +395,7 @@ pub(crate) fn of_unissued(why: &Unissued) -> u32
         Unissued::UnusedKey => UNUSED_KEY,
         Unissued::BadUri(_) => BAD_URI,
         Unissued::NoName => NO_NAME,
+        Unissued::OtherList => OTHER_LIST,
         Unissued::NotToSign => NOT_TO_SIGN,
         Unissued::OtherName => OTHER_NAME,
         Unissued::Unfit(error) => of_wanted(error),
@@ -407,4 +413,6 @@ pub(crate) fn numbers_tell_names()
     ensures revocation { (e : revocations)
         → name_told (revocation_number e) ≡ Some (revocation_error_name e) }
     ensures locator { (e : locators) → name_told (locator_number e) ≡ Some (tal_error_name e) }
+    ensures next_list { (e : next_lists)
+        → name_told (next_list_number e) ≡ Some (next_list_error_name e) }
 {}

@@ -2,7 +2,7 @@
 ghost use Rattle.std.specs.Prelude.{◌≡◌, ◌↔◌, option_map, Err, IfErr, IfOk, IsTrue};
 ghost use Rattle.rpki_cert.specs.declared.inspect.Kind.TheVariants.{Anchor};
 ghost use Rattle.rpki_c.specs.Verdicts.{AnswersQuestion};
-ghost use Rattle.rpki_c.specs.WantedAnswers.{IsHeld, IsIssuerOf, IsNoIssuer, fields_above};
+ghost use Rattle.rpki_c.specs.WantedAnswers.{IsAuthorityOf, IsHeld, IsIssuerOf, IsNoAuthority, IsNoIssuer, fields_above};
 ghost use Rattle.rpki_keys.specs.RsaSignatures.{IsSignedByRsa};
 
 use crate::judging::judge_question;
@@ -34,6 +34,23 @@ fn held(alloc: Global, question: &RpkiQuestion<'_>) -> Result<ResourceCert, Refu
     Ok(holder)
 }
 
+/// Returns the CA that the path of a question ends in, and what it holds.
+pub(crate) fn authority_of(
+    alloc: Global,
+    question: &RpkiQuestion<'_>,
+) -> Result<ResourceCert, Unissued>
+    ensures authority { IfOk result (IsAuthorityOf question.now) }
+    ensures none { IfErr result (IsNoAuthority question.now) }
+{
+    if question.last > 1 {
+        return Err(Unissued::BadCall);
+    }
+    match held(alloc, question) {
+        Ok(issuer) => Ok(issuer),
+        Err(refusal) => Err(Unissued::Issuer(refusal)),
+    }
+}
+
 /// Returns the CA that the path of a question ends in, and what it holds; `None` for a trust
 /// anchor, above which there is no path.
 pub(crate) fn issuer_of(
@@ -50,12 +67,9 @@ pub(crate) fn issuer_of(
         }
         return Err(Unissued::BadCall);
     }
-    if question.last > 1 {
-        return Err(Unissued::BadCall);
-    }
-    match held(alloc, question) {
+    match authority_of(alloc, question) {
         Ok(issuer) => Ok(Some(issuer)),
-        Err(refusal) => Err(Unissued::Issuer(refusal)),
+        Err(why) => Err(why),
     }
 }
 

@@ -1,17 +1,20 @@
 //! Issuing for C, where the key is elsewhere.
 ghost use Rattle.std.specs.Prelude.{◌≡◌};
-ghost use Rattle.rpki_c.specs.IssuedTelling.{AreOctetsPut, IsToldCompleted, IsToldPrepared, issued_of};
+ghost use Rattle.rpki_c.specs.IssuedTelling.{AreOctetsPut, IsToldCompleted, IsToldListCompleted, IsToldListPrepared, IsToldPrepared, issued_of};
 
 use crate::completing::{RpkiCompletion, complete};
 use crate::copying::put_octets;
 use crate::faults::{NONE, of_unissued};
+use crate::list_completing::{RpkiListCompletion, complete_list};
+use crate::list_preparing::prepare_list;
 use crate::preparing::prepare;
 use crate::unissued::Unissued;
 use crate::wanted::RpkiWanted;
+use crate::wanted_list::RpkiWantedList;
 use bytes::Bytes;
 use std::alloc::Global;
 
-/// What became of a certificate that was to be prepared or completed.
+/// What became of a certificate or a revocation list that was to be prepared or completed.
 #[repr(C)]
 #[derive(Clone, Copy)]
 pub struct RpkiIssued {
@@ -80,6 +83,40 @@ pub extern "C" fn rpki_complete(
     ensures answered { result ≡ told.new.fault }
 {
     let answer = complete(alloc, completion);
+    *told = put(answer, completion.issuer.members.lengths.len(), out);
+    told.fault
+}
+
+/// Prepares the issuer's next revocation list for its signature, or its first one: writes what is to
+/// be signed, as many octets as there is room for. Answers what is told as its fault.
+#[unsafe(no_mangle)]
+pub extern "C" fn rpki_prepare_list(
+    alloc: Global,
+    list: &RpkiWantedList<'_>,
+    out: &mut [u8],
+    told: &mut RpkiIssued,
+) -> u32
+    ensures told { IsToldListPrepared list.now out.old out.new told.new }
+    ensures answered { result ≡ told.new.fault }
+{
+    let answer = prepare_list(alloc, list);
+    *told = put(answer, list.issuer.members.lengths.len(), out);
+    told.fault
+}
+
+/// Completes what was prepared of a list by its signature: writes the list, as many octets as there
+/// is room for. Answers what is told as its fault.
+#[unsafe(no_mangle)]
+pub extern "C" fn rpki_complete_list(
+    alloc: Global,
+    completion: &RpkiListCompletion<'_>,
+    out: &mut [u8],
+    told: &mut RpkiIssued,
+) -> u32
+    ensures told { IsToldListCompleted completion.now out.old out.new told.new }
+    ensures answered { result ≡ told.new.fault }
+{
+    let answer = complete_list(alloc, completion);
     *told = put(answer, completion.issuer.members.lengths.len(), out);
     told.fault
 }

@@ -14,6 +14,8 @@ mod folders;
 mod issuer;
 mod issuing;
 mod judging;
+mod list_completing;
+mod list_preparing;
 mod lists;
 mod locators;
 mod moments;
@@ -30,6 +32,7 @@ mod unissued;
 mod values;
 mod walking;
 mod wanted;
+mod wanted_list;
 
 /// Tells the number of this interface. It grows with each change that a caller has to follow.
 #[unsafe(no_mangle)]

@@ -1,4 +1,4 @@
-//! Why no certificate is prepared or completed.
+//! Why no certificate and no revocation list is prepared or completed.
 ghost use Rattle.rpki_c.specs.declared.unissued.Unissued.TheVariants as unissued;
 
 use crate::certificates::CertUri;
@@ -6,7 +6,7 @@ use crate::refusal::Refusal;
 use rpki_wanted::WantedError;
 use std::alloc::AllocError;
 
-/// Why no certificate is prepared or completed.
+/// Why no certificate and no revocation list is prepared or completed.
 #[derive(Drop)]
 pub(crate) enum Unissued {
     /// The caller's lengths or numbers don't fit.
@@ -23,7 +23,9 @@ pub(crate) enum Unissued {
     BadUri(CertUri),
     /// The subject would have no name.
     NoName,
-    /// The octets that were signed are no TBSCertificate.
+    /// The octets of the list before are none of the issuer.
+    OtherList,
+    /// The octets that were signed are no TBSCertificate, or no TBSCertList.
     NotToSign,
     /// The name of its issuer isn't that of who issues.
     OtherName,

@@ -1,4 +1,4 @@
-use Rattle.rpki_c.proofs.FaultTables.{decoding_told, inspections, verifications, revocations, locators}
+use Rattle.rpki_c.proofs.FaultTables.{decoding_told, inspections, verifications, revocations, locators, next_lists}
 use Rattle.rpki_c.proofs.faults.numbers_tell_names.Goals as goal
 
 pub returns : goal.returns
@@ -9,4 +9,5 @@ returns c =
       verification = λ e. (verifications e).1;
       revocation = λ e. (revocations e).1;
       locator = λ e. (locators e).1;
+      next_list = λ e. (next_lists e).1;
     }

@@ -1,6 +1,7 @@
 use Rattle.std.proofs.Common.{◌≡◌, ◌<◌, ◌≤◌, ◌++◌, ◌∷◌, [], List, get_or, sym, ap, ◌∙◌, subst}
 use Rattle.rpki_blocks.specs.Sets.{Block}
-use Rattle.rpki_c.proofs.WantedBlocks.{spans_more, ordered_more, disordered_at}
+use Rattle.rpki_c.proofs.OneMore.{map_more}
+use Rattle.rpki_c.proofs.WantedBlocks.{ordered_more, disordered_at}
 use Rattle.rpki_c.proofs.values.blocks_of.Goals as goal
 
 pub returns-in_default : goal.returns-in_default
@@ -23,6 +24,6 @@ loop-range-preserved g c =
       blocks_are =
           more ∙ ap (λ (z : Block). c.loop-range.blocks ++ z ∷ []) (same ∙ block)
           ∙ ap (λ (l : List Block). l ++ span (get_or rs i d) ∷ []) c.loop-range.invariant.blocks_are
-          ∙ sym (spans_more span rs i d c.loop-range-test.true);
+          ∙ sym (map_more span rs i d c.loop-range-test.true);
       ordered = ordered_more span rs i d c.loop-range-test.true c.loop-range.invariant.ordered ordered;
     }

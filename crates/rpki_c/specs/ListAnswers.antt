@@ -1,0 +1,160 @@
+-- What is answered to what a caller wants of a revocation list: the octets that are to be signed, those
+-- of the list, or why there are none (own).
+use Rattle.std.specs.Prelude.{◌≡◌, ◌⊎◌, ℕ, List, [], Option, Some, None, option_map, Result, Ok, Err}
+use Rattle.rpki_ext.specs.Kinds.{Means}
+use Rattle.rpki_cert.specs.Certificates.{TbsFields}
+use Rattle.rpki_cert.specs.Verification.{IsSignedBy, ResourceFields}
+use Rattle.rpki_crl.specs.Lists.{CrlFields, CrlState, IsCertificateList, IsTbsCertList, ListFields}
+use Rattle.rpki_crl.specs.Revocation.{NamesIssuer}
+use Rattle.rpki_crl.specs.RevokedEntries.{Revoked}
+use Rattle.rpki_keys.specs.RsaSignatures.{IsSignedByRsa}
+use Rattle.rpki_wanted.specs.WantedLists.{IsListCompleted, IsListPrepared, IsListWanted, WantedListFields}
+use Rattle.rpki_c.specs.Verdicts.{BeginsNoList}
+use Rattle.rpki_c.specs.WantedAnswers.{IsAuthorityOf, IsNoAuthority}
+use Rattle.rpki_c.specs.WantedLists.{GivesList, HasListCompletionTerms, HasListTerms, HasNoListCompletionTerms, HasNoListTerms, HaveDates}
+use Rattle.rpki_c.specs.declared.list_completing.RpkiListCompletion.{RpkiListCompletion}
+use Rattle.rpki_c.specs.declared.question.Terms.{Terms}
+use Rattle.rpki_c.specs.declared.unissued.Unissued.{Unissued}
+use Rattle.rpki_c.specs.declared.unissued.Unissued.TheVariants as why
+use Rattle.rpki_c.specs.declared.wanted_list.ListTerms.{ListTerms}
+use Rattle.rpki_c.specs.declared.wanted_list.RpkiWantedList.{RpkiWantedList}
+
+-- ---- the list before
+
+-- the list is one of the issuer: it names its key, which signed it
+pub record IsOwnList (issuer : TbsFields) (list : CrlFields) : Type 0 where
+  pub names : NamesIssuer issuer list
+  pub signed : IsSignedBy IsSignedByRsa issuer.key list.signed_data
+
+-- the octets begin with this list of the issuer
+abbrev pub BeginsWithOwn : TbsFields → List ℕ → CrlState → Type 0
+BeginsWithOwn issuer octets list = Means IsCertificateList list.list octets × IsOwnList issuer list.list
+
+-- they begin with no list, or with one that isn't the issuer's
+abbrev pub BeginsWithOther : TbsFields → List ℕ → Type 0
+BeginsWithOther issuer octets =
+    BeginsNoList octets
+    ⊎ ((list : CrlFields) × Means IsCertificateList list octets × (IsOwnList issuer list → ⊥))
+
+-- the list before; where there are no octets, there was none
+abbrev pub IsPreviousOf : TbsFields → List ℕ → Option CrlState → Type 0
+IsPreviousOf issuer octets None = octets ≡ []
+IsPreviousOf issuer octets (Some list) = BeginsWithOwn issuer octets list
+
+-- why none is found
+abbrev pub IsNoPrevious : TbsFields → List ℕ → Unissued → Type 0
+IsNoPrevious issuer octets why.OtherList = BeginsWithOther issuer octets
+IsNoPrevious issuer octets why.Memory = Unit {0}
+IsNoPrevious issuer octets _ = ⊥
+
+-- its fields
+abbrev pub fields_before : Option CrlState → Option (ListFields Revoked)
+fields_before before = option_map (λ l. l.list.fields) before
+
+-- ---- what is prepared
+
+-- why there are no values: no moment has the numbers of a date; or memory was wanted
+abbrev pub GivesNoList : RpkiWantedList → Unissued → Type 0
+GivesNoList w why.BadCall = HaveDates w.revoked.now → ⊥
+GivesNoList w why.Memory = Unit {0}
+GivesNoList w _ = ⊥
+
+-- the fields that are asked for below this issuer, behind this list
+pub record AsksList (w : RpkiWantedList) (t : ListTerms) (issuer : TbsFields)
+    (before : Option CrlState) (f : ListFields Revoked) : Type 0 where
+  pub wanted : WantedListFields
+  pub given : GivesList w t wanted
+  pub fields_are : IsListWanted wanted (fields_before before) issuer f
+
+-- values are given of which there are no such fields that are so
+abbrev pub AsksNone : RpkiWantedList → ListTerms → TbsFields → Option CrlState → (ListFields Revoked → Type 0) → Type 0
+AsksNone w t issuer before Are =
+    (wanted : WantedListFields) × GivesList w t wanted
+    × ((f : ListFields Revoked) → IsListWanted wanted (fields_before before) issuer f → Are f → ⊥)
+
+-- the fields, or why there are none: no such list may follow the one before
+abbrev pub AnswersListFields : RpkiWantedList → ListTerms → TbsFields → Option CrlState → Result (ListFields Revoked) Unissued → Type 0
+AnswersListFields w t issuer before (Ok f) = AsksList w t issuer before f
+AnswersListFields w t issuer before (Err (why.Unfit e)) =
+    AsksNone w t issuer before (λ f. Unit {0})
+AnswersListFields w t issuer before (Err e) = GivesNoList w e
+
+-- the octets of these fields, of which only the signature is missing below the issuer; or why there are
+-- none: no such list may follow, or it isn't ready to be signed
+abbrev pub AnswersBehind : RpkiWantedList → ListTerms → TbsFields → Option CrlState → Result (List ℕ) Unissued → Type 0
+AnswersBehind w t issuer before (Ok octets) =
+    (f : ListFields Revoked) × AsksList w t issuer before f
+    × IsListPrepared t.asked.now t.asked.strict issuer f octets
+AnswersBehind w t issuer before (Err (why.Unfit e)) =
+    AsksNone w t issuer before (λ f.
+    (octets : List ℕ) × IsListPrepared t.asked.now t.asked.strict issuer f octets)
+AnswersBehind w t issuer before (Err e) = GivesNoList w e
+
+-- the answer behind the list before, or why that is none of the issuer
+abbrev pub AnswersListBelow : RpkiWantedList → ListTerms → TbsFields → Result (List ℕ) Unissued → Type 0
+AnswersListBelow w t issuer r =
+    ((e : Unissued) × (r ≡ Err e) × IsNoPrevious issuer w.previous.now e)
+    ⊎ ((before : Option CrlState) × IsPreviousOf issuer w.previous.now before
+    × AnswersBehind w t issuer before r)
+
+-- the answer below who issues, or why nobody does
+abbrev pub AnswersListTerms : RpkiWantedList → ListTerms → Result (List ℕ) Unissued → Type 0
+AnswersListTerms w t r =
+    ((e : Unissued) × (r ≡ Err e) × IsNoAuthority w.issuer e)
+    ⊎ ((issuer : ResourceFields) × IsAuthorityOf w.issuer issuer
+    × AnswersListBelow w t issuer.cert.fields r)
+
+-- the octets that are to be signed of the list that is wanted, or why there are none
+abbrev pub AnswersWantedList : RpkiWantedList → Result (List ℕ) Unissued → Type 0
+AnswersWantedList w r =
+    (HasNoListTerms w × (r ≡ Err why.BadCall))
+    ⊎ ((t : ListTerms) × HasListTerms w t × AnswersListTerms w t r)
+
+-- ---- what is completed
+
+-- the fields of what was signed, or why there are none
+abbrev pub AnswersListSigned : List ℕ → Result (ListFields Revoked) Unissued → Type 0
+AnswersListSigned octets (Ok f) = Means IsTbsCertList f octets
+AnswersListSigned octets (Err why.NotToSign) =
+    (f : ListFields Revoked) → Means IsTbsCertList f octets → ⊥
+AnswersListSigned octets (Err why.Memory) = Unit {0}
+AnswersListSigned octets (Err _) = ⊥
+
+-- the list is named as its issuer is (RFC 5280 5.1.2.3)
+abbrev pub IsListNamed : TbsFields → ListFields Revoked → Type 0
+IsListNamed issuer f = f.issuer ≡ issuer.subject
+
+-- the fields of what was signed below this issuer
+abbrev pub AnswersListNamed : TbsFields → List ℕ → Result (ListFields Revoked) Unissued → Type 0
+AnswersListNamed issuer octets (Ok f) = Means IsTbsCertList f octets × IsListNamed issuer f
+AnswersListNamed issuer octets (Err why.OtherName) =
+    (f : ListFields Revoked) × Means IsTbsCertList f octets × (IsListNamed issuer f → ⊥)
+AnswersListNamed issuer octets (Err e) = AnswersListSigned octets (Err e)
+
+-- these fields are signed, and the signature makes this list of them below the issuer
+abbrev pub CompletesList : RpkiListCompletion → Terms → TbsFields → ListFields Revoked → List ℕ → Type 0
+CompletesList c t issuer f octets =
+    IsListCompleted t.now t.strict issuer f c.prepared.now c.signature.now octets
+
+-- the list that the signature makes of these fields below the issuer, or why there is none
+abbrev pub AnswersListCompletedBelow : RpkiListCompletion → Terms → TbsFields → Result (List ℕ) Unissued → Type 0
+AnswersListCompletedBelow c t issuer (Ok octets) =
+    (f : ListFields Revoked) × Means IsTbsCertList f c.prepared.now × IsListNamed issuer f
+    × CompletesList c t issuer f octets
+AnswersListCompletedBelow c t issuer (Err (why.Unfit e)) =
+    (f : ListFields Revoked) × Means IsTbsCertList f c.prepared.now × IsListNamed issuer f
+    × ((octets : List ℕ) → CompletesList c t issuer f octets → ⊥)
+AnswersListCompletedBelow c t issuer (Err e) = AnswersListNamed issuer c.prepared.now (Err e)
+
+-- the answer below who issues, or why nobody does
+abbrev pub AnswersListCompletionTerms : RpkiListCompletion → Terms → Result (List ℕ) Unissued → Type 0
+AnswersListCompletionTerms c t r =
+    ((e : Unissued) × (r ≡ Err e) × IsNoAuthority c.issuer e)
+    ⊎ ((issuer : ResourceFields) × IsAuthorityOf c.issuer issuer
+    × AnswersListCompletedBelow c t issuer.cert.fields r)
+
+-- the list that is completed, or why there is none
+abbrev pub AnswersListCompletion : RpkiListCompletion → Result (List ℕ) Unissued → Type 0
+AnswersListCompletion c r =
+    (HasNoListCompletionTerms c × (r ≡ Err why.BadCall))
+    ⊎ ((t : Terms) × HasListCompletionTerms c t × AnswersListCompletionTerms c t r)

@@ -1,0 +1,149 @@
+//! What is to be signed of a revocation list that a caller wants.
+ghost use Rattle.std.specs.Prelude.{◌≡◌, ◌⊎◌, ◌↔◌, option_map, IfErr, IfOk, IsTrue};
+ghost use Rattle.rpki_ext.specs.Kinds.{Means};
+ghost use Rattle.rpki_crl.specs.Lists.{IsCertificateList};
+ghost use Rattle.rpki_c.specs.ListAnswers.{AnswersBehind, AnswersListBelow, AnswersListFields, AnswersListTerms, AnswersWantedList, BeginsWithOwn, IsNoPrevious, IsOwnList, IsPreviousOf};
+ghost use Rattle.rpki_c.specs.Verdicts.{BeginsNoList};
+ghost use Rattle.rpki_c.specs.declared.unissued.Unissued.TheVariants.{Memory, OtherList};
+
+use crate::issuer::authority_of;
+use crate::preparing::unfit;
+use crate::unissued::Unissued;
+use crate::wanted_list::{ListTerms, RpkiWantedList, list_given, list_terms_of};
+use bytes::Bytes;
+use rpki_cert::ResourceCert;
+use rpki_crl::{Crl, RevokedCertificates, TbsCertList};
+use rpki_keys::RsaVerifier;
+use rpki_wanted::{list_fields, prepare_list_octets};
+use std::alloc::Global;
+
+// Whether the list names the issuer's key, and this key signed it.
+fn is_own(list: &Crl, issuer: &ResourceCert) -> bool
+    ensures { IsTrue result ↔ IsOwnList issuer.now.cert.fields list.now.list }
+{
+    let key = issuer.as_cert().as_tbs().subject_public_key_info();
+    list.verify_issuer_claim(issuer, true).is_ok()
+        && list.verify_signature(key, &RsaVerifier).is_ok()
+}
+
+// The list that the octets begin with.
+fn read_list(alloc: Global, octets: &[u8]) -> Result<Crl, Unissued>
+    ensures read { IfOk result (λ l. Means IsCertificateList l.list octets.now) }
+    ensures none { IfErr result (λ e. (e ≡ Memory) ⊎ ((e ≡ OtherList) × BeginsNoList octets.now)) }
+{
+    match Crl::decode(alloc, octets) {
+        Ok(list) => Ok(list),
+        Err(error) => {
+            let is_memory = error.is_memory();
+            drop(error);
+            if is_memory {
+                Err(Unissued::Memory)
+            } else {
+                Err(Unissued::OtherList)
+            }
+        }
+    }
+}
+
+// The list that the octets begin with, if it is one of the issuer.
+fn own_list(alloc: Global, octets: &[u8], issuer: &ResourceCert) -> Result<Crl, Unissued>
+    ensures own { IfOk result (BeginsWithOwn issuer.now.cert.fields octets.now) }
+    ensures other { IfErr result (IsNoPrevious issuer.now.cert.fields octets.now) }
+{
+    let list = read_list(alloc, octets)?;
+    if is_own(&list, issuer) {
+        return Ok(list);
+    }
+    drop(list);
+    Err(Unissued::OtherList)
+}
+
+// The list before. Without octets there was none.
+fn previous_of(alloc: Global, octets: &[u8], issuer: &ResourceCert) -> Result<Option<Crl>, Unissued>
+    ensures previous { IfOk result (IsPreviousOf issuer.now.cert.fields octets.now) }
+    ensures other { IfErr result (IsNoPrevious issuer.now.cert.fields octets.now) }
+{
+    if octets.is_empty() {
+        return Ok(None);
+    }
+    match own_list(alloc, octets, issuer) {
+        Ok(list) => Ok(Some(list)),
+        Err(why) => Err(why),
+    }
+}
+
+// The fields of the list below the issuer, behind the list before.
+fn fields_behind(
+    alloc: Global,
+    list: &RpkiWantedList<'_>,
+    terms: ListTerms,
+    issuer: &ResourceCert,
+    previous: Option<&Crl>,
+) -> Result<TbsCertList<RevokedCertificates>, Unissued>
+    ensures { let before = option_map (λ l. l.now) previous.entry in
+        AnswersListFields list.now terms issuer.now.cert.fields before result }
+{
+    let wanted = list_given(alloc, list, terms)?;
+    let fields = list_fields(alloc, issuer, previous, &wanted);
+    drop(wanted);
+    match fields {
+        Ok(fields) => Ok(fields),
+        Err(error) => Err(unfit(error)),
+    }
+}
+
+// What is to be signed below the issuer, behind the list before.
+fn prepared_behind(
+    alloc: Global,
+    list: &RpkiWantedList<'_>,
+    terms: ListTerms,
+    issuer: &ResourceCert,
+    previous: Option<&Crl>,
+) -> Result<Bytes, Unissued>
+    ensures { let before = option_map (λ l. l.now) previous.entry in
+        AnswersBehind list.now terms issuer.now.cert.fields before result }
+{
+    let asked = terms.asked;
+    let fields = fields_behind(alloc, list, terms, issuer, previous)?;
+    let octets = prepare_list_octets(alloc, &fields, issuer, asked.strict, asked.now);
+    drop(fields);
+    match octets {
+        Ok(octets) => Ok(octets),
+        Err(error) => Err(unfit(error)),
+    }
+}
+
+// What is to be signed below the issuer.
+fn prepared_below(
+    alloc: Global,
+    list: &RpkiWantedList<'_>,
+    terms: ListTerms,
+    issuer: &ResourceCert,
+) -> Result<Bytes, Unissued>
+    ensures { AnswersListBelow list.now terms issuer.now.cert.fields result }
+{
+    let previous = previous_of(alloc, list.previous, issuer)?;
+    let octets = prepared_behind(alloc, list, terms, issuer, previous.as_ref());
+    drop(previous);
+    octets
+}
+
+// What is to be signed, on these terms.
+fn prepared(alloc: Global, list: &RpkiWantedList<'_>, terms: ListTerms) -> Result<Bytes, Unissued>
+    ensures { AnswersListTerms list.now terms result }
+{
+    let issuer = authority_of(alloc, &list.issuer)?;
+    let octets = prepared_below(alloc, list, terms, &issuer);
+    drop(issuer);
+    octets
+}
+
+/// Prepares the list that is wanted: returns the octets that are to be signed.
+pub(crate) fn prepare_list(alloc: Global, list: &RpkiWantedList<'_>) -> Result<Bytes, Unissued>
+    ensures { AnswersWantedList list.now result }
+{
+    match list_terms_of(list) {
+        Some(terms) => prepared(alloc, list, terms),
+        None => Err(Unissued::BadCall),
+    }
+}

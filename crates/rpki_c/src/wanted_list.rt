@@ -1,0 +1,129 @@
+//! What a caller wants of a revocation list, by octets, lengths and numbers.
+ghost use Rattle.std.specs.Int.Digits.{number_from_digits};
+ghost use Rattle.std.specs.Prelude.{◌≡◌, map, IfErr, IfOk, IfSome, IsNone, MatchOption};
+ghost use Rattle.rpki_crl.specs.RevokedEntries.Views.{entry_of};
+ghost use Rattle.rpki_c.specs.ListAnswers.{GivesNoList};
+ghost use Rattle.rpki_c.specs.WantedLists.{GivesList, HasDate, HasListTerms, HasNoListTerms, HaveDates, IsNumberChosen, given_entry};
+
+use crate::lists::RpkiEntry;
+use crate::moments::{RpkiTime, moment_of};
+use crate::question::{RpkiQuestion, Terms, terms_of};
+use crate::unissued::Unissued;
+use rpki_crl::CrlEntry;
+use rpki_der::{Serial, Time};
+use rpki_wanted::WantedList;
+use std::alloc::{AllocError, Global};
+
+/// A revocation list that is wanted.
+#[repr(C)]
+#[derive(Clone, Copy)]
+pub struct RpkiWantedList<'c> {
+    /// How many octets this struct has, as the caller knows it.
+    pub size: usize,
+    /// The path of the issuer, the moment, and whether names are read strictly.
+    pub issuer: RpkiQuestion<'c>,
+    /// The issuer's list before. Without octets there was none.
+    pub previous: &'c [u8],
+    /// What is revoked now, beside what the list before revokes.
+    pub revoked: &'c [RpkiEntry],
+    pub this_update: RpkiTime,
+    pub next_update: RpkiTime,
+    /// Zeros: one more than that of the list before, and 1 for a first list.
+    pub number: [u8; 20],
+}
+
+/// How many octets a list that is wanted has.
+pub(crate) const WANTED_LIST_SIZE: usize = size_of::<RpkiWantedList<'_>>();
+
+/// How a list is prepared.
+#[derive(Clone, Copy)]
+pub(crate) struct ListTerms {
+    /// How the issuer's path is judged, and when.
+    pub(crate) asked: Terms,
+    pub(crate) this_update: Time,
+    pub(crate) next_update: Time,
+}
+
+/// Tells how a list is prepared. Gives `None` where no moment has its numbers, where the path of the
+/// issuer has no terms, and where the caller knows another struct.
+#[tactic(auto, using(crate::proofs::ListTermsGiven::no_list_size, crate::proofs::ListTermsGiven::no_list_path, crate::proofs::ListTermsGiven::no_this_update, crate::proofs::ListTermsGiven::no_next_update))]
+pub(crate) fn list_terms_of(list: &RpkiWantedList<'_>) -> Option<ListTerms>
+    ensures terms { IfSome result (HasListTerms list.now) }
+    ensures none { IsNone result → HasNoListTerms list.now }
+{
+    if list.size != WANTED_LIST_SIZE {
+        return None;
+    }
+    Some(ListTerms {
+        asked: terms_of(&list.issuer)?,
+        this_update: moment_of(&list.this_update)?,
+        next_update: moment_of(&list.next_update)?,
+    })
+}
+
+// The number of 20 octets, of which the first is the greatest.
+fn number_of(octets: &[u8; 20]) -> Serial
+    ensures { result ≡ number_from_digits 256 octets.now }
+{
+    match Serial::from_slice(octets) {
+        Some(number) => number,
+        None => unreachable!(),
+    }
+}
+
+// The number that is chosen, if one is.
+fn number_chosen(octets: &[u8; 20]) -> Option<Serial>
+    ensures { IsNumberChosen octets.now result }
+{
+    let number = number_of(octets);
+    if number == Serial::from(0u64) {
+        return None;
+    }
+    Some(number)
+}
+
+// The entry that is given, if there is a moment since when it is revoked.
+fn entry_given(it: &RpkiEntry) -> Option<CrlEntry>
+    ensures { MatchOption result (HasDate it.now → ⊥)
+        (λ e. (entry_of e ≡ given_entry it.now) × HasDate it.now) }
+{
+    Some(CrlEntry {
+        user_certificate: number_of(&it.serial),
+        revocation_date: moment_of(&it.date)?,
+    })
+}
+
+// The entries that are given, if there are such moments.
+fn entries_given(alloc: Global, revoked: &[RpkiEntry]) -> Result<Option<Vec<CrlEntry>>, AllocError>
+    ensures { IfOk result (λ found. MatchOption found (HaveDates revoked.now → ⊥)
+        (λ all. (map entry_of all.items ≡ map given_entry revoked.now) × HaveDates revoked.now)) }
+{
+    let mut all = Vec::new(alloc);
+    for it in revoked {
+        let Some(entry) = entry_given(it) else {
+            return Ok(None);
+        };
+        all.push(entry)?;
+    }
+    Ok(Some(all))
+}
+
+/// Returns what is wanted of the list.
+pub(crate) fn list_given(
+    alloc: Global,
+    list: &RpkiWantedList<'_>,
+    terms: ListTerms,
+) -> Result<WantedList, Unissued>
+    ensures given { IfOk result (GivesList list.now terms) }
+    ensures none { IfErr result (GivesNoList list.now) }
+{
+    let Some(revoked) = entries_given(alloc, list.revoked)? else {
+        return Err(Unissued::BadCall);
+    };
+    Ok(WantedList {
+        number: number_chosen(&list.number),
+        revoked,
+        this_update: terms.this_update,
+        next_update: terms.next_update,
+    })
+}
