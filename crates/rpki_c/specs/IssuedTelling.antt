@@ -1,5 +1,5 @@
 -- What a caller is told of a certificate or a revocation list that is prepared or completed (own).
-use Rattle.std.specs.Prelude.{◌≡◌, ◌+◌, ℕ, List, length, Result, Ok, Err}
+use Rattle.std.specs.Prelude.{◌≡◌, ℕ, List, length, Result, Ok, Err}
 use Rattle.rpki_c.specs.Choices.{uri_number}
 use Rattle.rpki_c.specs.FaultNumbers.{unissued_number}
 use Rattle.rpki_c.specs.ListAnswers.{AnswersListCompletion, AnswersWantedList}
