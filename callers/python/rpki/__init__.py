@@ -957,8 +957,8 @@ def complete_list(
     at: datetime | None = None,
     strict: bool = True,
 ) -> RevocationList:
-    """Completes a revocation list that was prepared by its signature, and gives it, exactly where the
-    issuer's key signed what was prepared. The others are as for `prepare_list`; they are asked
+    """Completes a revocation list that was prepared by its signature, and gives it, exactly where
+    the issuer's key signed what was prepared. The others are as for `prepare_list`; they are asked
     again, at this moment.
 
     Raises RevocationFault with the name BadSignature where the signature isn't good, and else the

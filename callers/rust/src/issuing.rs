@@ -42,8 +42,8 @@ pub struct WantedList<'a> {
     pub this_update: Moment,
     /// Until when the next one is issued.
     pub next_update: Moment,
-    /// The number, its greatest octet first: greater than the one before, and below 2^159. Where none
-    /// is chosen it is one more, and 1 of a first list.
+    /// The number, its greatest octet first: greater than the one before, and below 2^159. Where
+    /// none is chosen it is one more, and 1 of a first list.
     pub number: Option<[u8; 20]>,
 }
 

@@ -8,7 +8,7 @@ use Rattle.rpki_crl.specs.RevokedEntries.{Revoked}
 use Rattle.rpki_wanted.specs.WantedLists.{IsListPrepared, IsListWanted, WantedListFields}
 use Rattle.rpki_wanted.specs.declared.preparing.WantedError.{WantedError}
 use Rattle.rpki_wanted.specs.declared.preparing.WantedError.TheVariants.{Memory, NoList, NoRole, OtherOctets, Unready, UnreadyList, Unsigned, UnsignedList}
-use Rattle.rpki_c.specs.ListAnswers.{AnswersBehind, AnswersListCompletedBelow, AnswersListFields, AnswersListNamed, AnswersListSigned, AsksList, AsksNone, CompletesList, GivesNoList, IsListNamed, fields_before}
+use Rattle.rpki_c.specs.ListAnswers.{AnswersBehind, AnswersListCompletedBelow, AnswersListFields, AnswersListNamed, AnswersListSigned, AsksList, CompletesList, GivesNoList, IsListNamed, fields_before}
 use Rattle.rpki_c.specs.WantedAnswers.{unfit_of}
 use Rattle.rpki_c.specs.WantedLists.{GivesList}
 use Rattle.rpki_c.specs.declared.list_completing.RpkiListCompletion.{RpkiListCompletion}

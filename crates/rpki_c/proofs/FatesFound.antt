@@ -1,7 +1,7 @@
 -- From the lines that a walk kept to what becomes of the strings.
 use Rattle.std.specs.List.{AllByRecursion, AllZip}
-use Rattle.std.specs.Prelude.{◌⊎◌, ◌==◌, Bool, true, false, Any, Result, Ok, Err, IsOk, IfOk, IfErr, None, if◌then◌else◌}
-use Rattle.std.proofs.Common.{◌≡◌, ◌≢◌, ◌+◌, ◌<◌, ◌≤◌, ℕ, List, [], ◌∷◌, ◌++◌, length, get_or, map, refl, sym, ap, subst, ◌∙◌, inl, inr, arith}
+use Rattle.std.specs.Prelude.{Bool, Any, Result, Ok, Err, IsOk, IfOk, IfErr, if◌then◌else◌}
+use Rattle.std.proofs.Common.{◌≡◌, ◌+◌, ◌<◌, ℕ, List, [], ◌∷◌, ◌++◌, length, get_or, map, refl, sym, ap, subst, ◌∙◌, inl, inr, arith}
 use Rattle.std.proofs.lemmas.Bool.{cases_lt, cases_eq, eq-eqb, ne_eqb}
 use Rattle.std.proofs.lemmas.List.{append-nil, length-map, get_or_past}
 use Rattle.std.proofs.lemmas.List.Elements.{All-from_recursion}
@@ -21,11 +21,10 @@ use Rattle.rpki_path.specs.declared.judging.Judged.{Judged}
 use Rattle.rpki_path.specs.declared.located.LocatedError.TheVariants.{OtherKey, Path as path}
 use Rattle.rpki_path.specs.declared.path_fault.PathError.{PathError}
 use Rattle.rpki_path.specs.declared.path_fault.PathFault.{PathFault}
-use Rattle.rpki_path.specs.declared.path_fault.PathFault.TheVariants.{Memory as out_of_memory}
 use Rattle.rpki_folder.specs.Folders.{octets_at, cas_at, NamesSigner}
 use Rattle.rpki_folder.specs.KeptLines.{step, IsRejectedWithin, IsLine}
 use Rattle.rpki_folder.specs.SaidKinds.{BeginsWithKind}
-use Rattle.rpki_folder.specs.Walks.{Root, at_anchor, members_at, LeadsTo, IsAcceptedAs, IsReached, IsRightOf, IsRight, Told, IsTold, told, Covers, AreAdmitted, HasBelow, IsWhyNone}
+use Rattle.rpki_folder.specs.Walks.{Root, at_anchor, members_at, LeadsTo, IsAcceptedAs, IsReached, IsRightOf, IsRight, Told, IsTold, told, Covers, AreAdmitted, IsWhyNone}
 use Rattle.rpki_folder.specs.declared.bounds.Ended.{Ended}
 use Rattle.rpki_folder.specs.declared.bounds.Ended.TheVariants.{TooDeep, OutOfSteps}
 use Rattle.rpki_folder.specs.declared.folder.Added.{Added}
@@ -34,7 +33,7 @@ use Rattle.rpki_folder.specs.declared.lines.Line.{Line}
 use Rattle.rpki_folder.specs.declared.lines.Line.TheVariants.{Unseen, Accepted, Rejected}
 use Rattle.rpki_folder.specs.declared.walk_error.WalkError.{WalkError}
 use Rattle.rpki_folder.specs.declared.walk_error.WalkError.TheVariants.{Anchor as at_fault, Memory}
-use Rattle.rpki_c.specs.FolderFates.{Fate, anchor, list, neither, unseen, accepted, rejected, IsFirstWithKey, IsFate, IsValidFate, AreVerified, StandsBelow, AreFates, AreJudged}
+use Rattle.rpki_c.specs.FolderFates.{Fate, anchor, IsFirstWithKey, IsFate, IsValidFate, AreVerified, StandsBelow, AreFates, AreJudged}
 use Rattle.rpki_c.specs.FolderFates.Steps.{IsAddedAs, IsSorted, origin_of, kept_fate, added_fate, fate_at, IsWalked, refusal_of}
 use Rattle.rpki_c.specs.FolderQuestions.{asked_or, usual_steps}
 use Rattle.rpki_c.specs.FolderTelling.{AreLinesOf, AnswersBelow}

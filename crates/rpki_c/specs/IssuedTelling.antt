@@ -1,5 +1,5 @@
 -- What a caller is told of a certificate or a revocation list that is prepared or completed (own).
-use Rattle.std.specs.Prelude.{◌≡◌, ◌+◌, ℕ, List, length, Result, Ok, Err}
+use Rattle.std.specs.Prelude.{◌≡◌, ℕ, List, length, Result, Ok, Err}
 use Rattle.rpki_c.specs.Choices.{uri_number}
 use Rattle.rpki_c.specs.FaultNumbers.{unissued_number}
 use Rattle.rpki_c.specs.ListAnswers.{AnswersListCompletion, AnswersWantedList}
@@ -14,8 +14,8 @@ use Rattle.rpki_c.specs.declared.unissued.Unissued.TheVariants as why
 use Rattle.rpki_c.specs.declared.wanted.RpkiWanted.{RpkiWanted}
 use Rattle.rpki_c.specs.declared.wanted_list.RpkiWantedList.{RpkiWantedList}
 
--- the place of what is wrong, below so many members: that of the path's; the number of a URI; and else
--- that of the certificate or the list, behind them all
+-- the place of what is wrong, below so many members: that of the path's; the number of a URI; and
+-- else that of the certificate or the list, behind them all
 abbrev pub unissued_place : ℕ → Unissued → ℕ
 unissued_place members (why.Issuer r) = refusal_place members r
 unissued_place members (why.BadUri which) = uri_number which
@@ -49,14 +49,16 @@ pub record IsToldCompleted (c : RpkiCompletion) (old new : List ℕ) (told : Rpk
   pub put : AreOctetsPut answer old new
 
 -- what is told of the list that is wanted
-pub record IsToldListPrepared (w : RpkiWantedList) (old new : List ℕ) (told : RpkiIssued) : Type 0 where
+pub record IsToldListPrepared (w : RpkiWantedList) (old new : List ℕ) (told : RpkiIssued)
+    : Type 0 where
   pub answer : Result (List ℕ) Unissued
   pub answers : AnswersWantedList w answer
   pub told_is : told ≡ issued_of (length w.issuer.members.lengths.now) answer
   pub put : AreOctetsPut answer old new
 
 -- what is told of the list that is completed
-pub record IsToldListCompleted (c : RpkiListCompletion) (old new : List ℕ) (told : RpkiIssued) : Type 0 where
+pub record IsToldListCompleted (c : RpkiListCompletion) (old new : List ℕ) (told : RpkiIssued)
+    : Type 0 where
   pub answer : Result (List ℕ) Unissued
   pub answers : AnswersListCompletion c answer
   pub told_is : told ≡ issued_of (length c.issuer.members.lengths.now) answer

@@ -1,5 +1,5 @@
--- What is answered to what a caller wants of a revocation list: the octets that are to be signed, those
--- of the list, or why there are none (own).
+-- What is answered to what a caller wants of a revocation list: the octets that are to be signed,
+-- those of the list, or why there are none (own).
 use Rattle.std.specs.Prelude.{◌≡◌, ◌⊎◌, ℕ, List, [], Option, Some, None, option_map, Result, Ok, Err}
 use Rattle.rpki_ext.specs.Kinds.{Means}
 use Rattle.rpki_cert.specs.Certificates.{TbsFields}
@@ -28,7 +28,8 @@ pub record IsOwnList (issuer : TbsFields) (list : CrlFields) : Type 0 where
 
 -- the octets begin with this list of the issuer
 abbrev pub BeginsWithOwn : TbsFields → List ℕ → CrlState → Type 0
-BeginsWithOwn issuer octets list = Means IsCertificateList list.list octets × IsOwnList issuer list.list
+BeginsWithOwn issuer octets list =
+    Means IsCertificateList list.list octets × IsOwnList issuer list.list
 
 -- they begin with no list, or with one that isn't the issuer's
 abbrev pub BeginsWithOther : TbsFields → List ℕ → Type 0
@@ -67,21 +68,24 @@ pub record AsksList (w : RpkiWantedList) (t : ListTerms) (issuer : TbsFields)
   pub fields_are : IsListWanted wanted (fields_before before) issuer f
 
 -- values are given of which there are no such fields that are so
-abbrev pub AsksNone : RpkiWantedList → ListTerms → TbsFields → Option CrlState → (ListFields Revoked → Type 0) → Type 0
+abbrev pub AsksNone : RpkiWantedList → ListTerms → TbsFields → Option CrlState
+    → (ListFields Revoked → Type 0) → Type 0
 AsksNone w t issuer before Are =
     (wanted : WantedListFields) × GivesList w t wanted
     × ((f : ListFields Revoked) → IsListWanted wanted (fields_before before) issuer f → Are f → ⊥)
 
 -- the fields, or why there are none: no such list may follow the one before
-abbrev pub AnswersListFields : RpkiWantedList → ListTerms → TbsFields → Option CrlState → Result (ListFields Revoked) Unissued → Type 0
+abbrev pub AnswersListFields : RpkiWantedList → ListTerms → TbsFields → Option CrlState
+    → Result (ListFields Revoked) Unissued → Type 0
 AnswersListFields w t issuer before (Ok f) = AsksList w t issuer before f
 AnswersListFields w t issuer before (Err (why.Unfit e)) =
     AsksNone w t issuer before (λ f. Unit {0})
 AnswersListFields w t issuer before (Err e) = GivesNoList w e
 
--- the octets of these fields, of which only the signature is missing below the issuer; or why there are
--- none: no such list may follow, or it isn't ready to be signed
-abbrev pub AnswersBehind : RpkiWantedList → ListTerms → TbsFields → Option CrlState → Result (List ℕ) Unissued → Type 0
+-- the octets of these fields, of which only the signature is missing below the issuer; or why there
+-- are none: no such list may follow, or it isn't ready to be signed
+abbrev pub AnswersBehind : RpkiWantedList → ListTerms → TbsFields → Option CrlState
+    → Result (List ℕ) Unissued → Type 0
 AnswersBehind w t issuer before (Ok octets) =
     (f : ListFields Revoked) × AsksList w t issuer before f
     × IsListPrepared t.asked.now t.asked.strict issuer f octets
@@ -91,7 +95,8 @@ AnswersBehind w t issuer before (Err (why.Unfit e)) =
 AnswersBehind w t issuer before (Err e) = GivesNoList w e
 
 -- the answer behind the list before, or why that is none of the issuer
-abbrev pub AnswersListBelow : RpkiWantedList → ListTerms → TbsFields → Result (List ℕ) Unissued → Type 0
+abbrev pub AnswersListBelow : RpkiWantedList → ListTerms → TbsFields → Result (List ℕ) Unissued
+    → Type 0
 AnswersListBelow w t issuer r =
     ((e : Unissued) × (r ≡ Err e) × IsNoPrevious issuer w.previous.now e)
     ⊎ ((before : Option CrlState) × IsPreviousOf issuer w.previous.now before
@@ -132,12 +137,14 @@ AnswersListNamed issuer octets (Err why.OtherName) =
 AnswersListNamed issuer octets (Err e) = AnswersListSigned octets (Err e)
 
 -- these fields are signed, and the signature makes this list of them below the issuer
-abbrev pub CompletesList : RpkiListCompletion → Terms → TbsFields → ListFields Revoked → List ℕ → Type 0
+abbrev pub CompletesList : RpkiListCompletion → Terms → TbsFields → ListFields Revoked → List ℕ
+    → Type 0
 CompletesList c t issuer f octets =
     IsListCompleted t.now t.strict issuer f c.prepared.now c.signature.now octets
 
 -- the list that the signature makes of these fields below the issuer, or why there is none
-abbrev pub AnswersListCompletedBelow : RpkiListCompletion → Terms → TbsFields → Result (List ℕ) Unissued → Type 0
+abbrev pub AnswersListCompletedBelow : RpkiListCompletion → Terms → TbsFields
+    → Result (List ℕ) Unissued → Type 0
 AnswersListCompletedBelow c t issuer (Ok octets) =
     (f : ListFields Revoked) × Means IsTbsCertList f c.prepared.now × IsListNamed issuer f
     × CompletesList c t issuer f octets
@@ -147,7 +154,8 @@ AnswersListCompletedBelow c t issuer (Err (why.Unfit e)) =
 AnswersListCompletedBelow c t issuer (Err e) = AnswersListNamed issuer c.prepared.now (Err e)
 
 -- the answer below who issues, or why nobody does
-abbrev pub AnswersListCompletionTerms : RpkiListCompletion → Terms → Result (List ℕ) Unissued → Type 0
+abbrev pub AnswersListCompletionTerms : RpkiListCompletion → Terms → Result (List ℕ) Unissued
+    → Type 0
 AnswersListCompletionTerms c t r =
     ((e : Unissued) × (r ≡ Err e) × IsNoAuthority c.issuer e)
     ⊎ ((issuer : ResourceFields) × IsAuthorityOf c.issuer issuer

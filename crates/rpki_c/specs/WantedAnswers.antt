@@ -1,6 +1,6 @@
 -- What is answered to what a caller wants of a certificate: the octets that are to be signed, those of
 -- the certificate, or why there are none (own).
-use Rattle.std.specs.Prelude.{◌≡◌, ◌≢◌, ◌⊎◌, ◌≤◌, ◌<◌, ℕ, List, [], Option, Some, None, option_map, Result, Ok, Err}
+use Rattle.std.specs.Prelude.{◌≡◌, ◌≢◌, ◌⊎◌, ◌<◌, ℕ, List, [], Option, Some, None, option_map, Result, Ok, Err}
 use Rattle.rpki_cert.specs.Certificates.{TbsFields, IsTbsCertificate}
 use Rattle.rpki_cert.specs.Verification.{ResourceFields}
 use Rattle.rpki_cert.specs.declared.inspect.Kind.{Kind}
@@ -23,7 +23,6 @@ use Rattle.rpki_c.specs.declared.certificates.CertUri.TheVariants as uri
 use Rattle.rpki_c.specs.declared.completing.CompletionTerms.{CompletionTerms}
 use Rattle.rpki_c.specs.declared.completing.RpkiCompletion.{RpkiCompletion}
 use Rattle.rpki_c.specs.declared.question.RpkiQuestion.{RpkiQuestion}
-use Rattle.rpki_c.specs.declared.refusal.Refusal.{Refusal}
 use Rattle.rpki_c.specs.declared.unissued.Unissued.{Unissued}
 use Rattle.rpki_c.specs.declared.unissued.Unissued.TheVariants as why
 use Rattle.rpki_c.specs.declared.wanted.RpkiUris.{RpkiUris}

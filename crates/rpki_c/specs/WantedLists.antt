@@ -39,7 +39,8 @@ IsNumberChosen octets (Some n) = (n ≡ number_from_digits 256 octets) × (n ≢
 
 -- the entry that is given
 abbrev pub given_entry : RpkiEntry → Entry
-given_entry it = record { serial = number_from_digits 256 it.serial; date = moment_of_parts it.date }
+given_entry it =
+    record { serial = number_from_digits 256 it.serial; date = moment_of_parts it.date }
 
 -- there is the moment since when it is revoked
 abbrev pub HasDate : RpkiEntry → Type 0

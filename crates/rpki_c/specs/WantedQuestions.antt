@@ -2,10 +2,9 @@
 use Rattle.std.specs.Int.{w128, from_be_bytes}
 use Rattle.std.specs.List.{AllByRecursion}
 use Rattle.std.specs.Prelude.{◌≡◌, ◌≢◌, ◌⊎◌, ◌≤◌, ◌+◌, ◌-◌, ◌*◌, ◌/◌, ◌^◌, ℕ, Bool, true, false, List, [], Option, Some, None, map}
-use Rattle.rpki_blocks.specs.Resources.{Resources, missing, inherit, blocks}
+use Rattle.rpki_blocks.specs.Resources.{Resources, missing, inherit}
 use Rattle.rpki_blocks.specs.Sets.{Block, between}
 use Rattle.rpki_blocks.specs.Unions.{IsUnion}
-use Rattle.rpki_cert.specs.declared.inspect.Kind.{Kind}
 use Rattle.rpki_der.specs.Times.{IsMoment}
 use Rattle.rpki_keys.specs.KeyForms.{IsUsableKey}
 use Rattle.rpki_parts.specs.Keys.{KeyFields, IsPublicKey}

@@ -87,8 +87,8 @@ pub extern "C" fn rpki_complete(
     told.fault
 }
 
-/// Prepares the issuer's next revocation list for its signature, or its first one: writes what is to
-/// be signed, as many octets as there is room for. Answers what is told as its fault.
+/// Prepares the issuer's next revocation list for its signature, or its first one: writes what is
+/// to be signed, as many octets as there is room for. Answers what is told as its fault.
 #[unsafe(no_mangle)]
 pub extern "C" fn rpki_prepare_list(
     alloc: Global,

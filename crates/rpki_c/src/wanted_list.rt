@@ -44,8 +44,8 @@ pub(crate) struct ListTerms {
     pub(crate) next_update: Time,
 }
 
-/// Tells how a list is prepared. Gives `None` where no moment has its numbers, where the path of the
-/// issuer has no terms, and where the caller knows another struct.
+/// Tells how a list is prepared. Gives `None` where no moment has its numbers, where the path of
+/// the issuer has no terms, and where the caller knows another struct.
 #[tactic(auto, using(crate::proofs::ListTermsGiven::no_list_size, crate::proofs::ListTermsGiven::no_list_path, crate::proofs::ListTermsGiven::no_this_update, crate::proofs::ListTermsGiven::no_next_update))]
 pub(crate) fn list_terms_of(list: &RpkiWantedList<'_>) -> Option<ListTerms>
     ensures terms { IfSome result (HasListTerms list.now) }

@@ -1,4 +1,4 @@
-use Rattle.std.proofs.Common.{◌≡◌, ◌∙◌, ◌++◌, ◌∷◌, [], List, map, get_or, ap, sym}
+use Rattle.std.proofs.Common.{◌∙◌, ◌++◌, ◌∷◌, [], List, map, get_or, ap, sym}
 use Rattle.std.proofs.lemmas.List.{map-append}
 use Rattle.rpki_crl.specs.RevokedEntries.{Entry}
 use Rattle.rpki_crl.specs.RevokedEntries.Views.{entry_of}
