@@ -561,9 +561,15 @@ def make_lists():
     octets = bytearray(first)
     octets[-1] ^= 1
     Path('damaged.crl').write_bytes(octets)
+    Path('cut.crl').write_bytes(Path('next.crl').read_bytes()[:300])
 
 
 LISTS_REFUSED = [
+    ({'crl': ['empty']}, 'file 0 of --crl is no revocation list'),
+    ({'issuer': ['anchor.cer', 'ca.cer'], 'crl': ['first.crl', 'cut.crl'], 'at': '2026-06-02'},
+     'file 1 of --crl is no revocation list'),
+    ({'issuer': ['anchor.cer', 'ca.cer'], 'crl': ['ca.cer', 'first.crl']},
+     'file 0 of --crl is no revocation list'),
     ({'previous': 'last.crl'}, 'the number of the list has more than 20 octets'),
     ({'previous': 'last.crl', 'number': GREATEST}, "the number isn't greater"),
     ({'next-update': '2026-06-30T23:59:60Z'}, '--next-update'),
@@ -649,6 +655,8 @@ def try_list_signatures():
     refuses('below another issuer', 'OtherName: ', ['alien.cer'])
     refuses('below none', 'a revocation list has an issuer', None)
     refuses('when it is stale', 'Stale: ', at='2026-07-02')
+    is_refused('complete with a list that is none', complete(ANCHOR, '--crl', 'cut.crl'),
+               'file 0 of --crl is no revocation list')
     for what, octets in [('cut', prepared[:-1]), ('with an octet behind it', prepared + b'\0'),
                          ('a whole list', Path('made.crl').read_bytes())]:
         signed(octets)
