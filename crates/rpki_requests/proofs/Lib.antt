@@ -1,6 +1,7 @@
 -- Lemmas of the proofs about requests.
 mod AddedFiles
 mod AskedLists
+mod FoundOctets
 mod GivenValues
 mod GivenWants
 mod JudgedIssuers
@@ -13,4 +14,3 @@ mod PlaceByPlace
 mod RequestParts
 mod RevokedFiles
 mod Settings
-mod WholeOctets

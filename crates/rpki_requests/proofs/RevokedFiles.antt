@@ -17,7 +17,7 @@ use Rattle.rpki_requests.specs.OptionValues.{GivesEntries, GivesList, IsMomentSa
 use Rattle.rpki_requests.specs.RequestFiles.{IsOwnList, IsOwnListIn, IsPreviousOf, IsRevokedFile}
 use Rattle.rpki_requests.specs.RequestWords.{GivenFields, values_of}
 use Rattle.rpki_requests.specs.declared.words.Setting.TheVariants.{Number, NextUpdate, Serial}
-use Rattle.rpki_requests.proofs.WholeOctets.{whole_only}
+use Rattle.rpki_wanted.proofs.WholeOctets.{whole_only}
 
 -- ---- the list before
 

@@ -3,4 +3,4 @@ pub mod SameRoles
 pub mod SignedLists
 mod ToldFaults
 pub mod WantedEntries
-mod WholeOctets
+pub mod WholeOctets
