@@ -4,16 +4,16 @@ use Rattle.std.specs.declared.vec.Vec.{Vec}
 use Rattle.std.proofs.Common.{◌≡◌, ℕ, ◌+◌, ◌<◌, List, [], ◌∷◌, ◌++◌, length, get_or, take, refl, sym, ap, ◌∙◌}
 use Rattle.std.proofs.lemmas.List.{append_assoc}
 use Rattle.rpki_arguments.specs.declared.arguments.Setting.{Setting}
-use Rattle.rpki_arguments.specs.CommandLines.{LinePart, file, RequestFields, with_files, with_part}
-use Rattle.rpki_arguments.specs.CommandLines.Steps.{AddsPart, AddsSet, IsSetPart}
+use Rattle.rpki_arguments.specs.CommandLines.{IsPart, LinePart, file, RequestFields, with_files, with_part}
+use Rattle.rpki_arguments.specs.CommandLines.Steps.{AddsSet, IsSetPart}
 use Rattle.rpki_arguments.specs.CommandLines.Views.{word_octets}
-use Rattle.rpki_arguments.specs.WordParts.{IsOption}
+use Rattle.rpki_arguments.specs.WordParts.{AddsPart, IsOption}
 use Rattle.rpki_arguments.proofs.WordByWord.{words_more}
 
 -- ---- a name
 
 -- a file is added
-pub file_added : {T E : Type 0} (r : Result T E) (old : RequestFields) (names : List (List ℕ)) (name : List ℕ) → OnOk r (names ≡ old.files ++ name ∷ []) → (IsOption name → ⊥) → OnOk r (AddsPart (name ∷ []) old (record old { files = names }))
+pub file_added : {T E : Type 0} (r : Result T E) (old : RequestFields) (names : List (List ℕ)) (name : List ℕ) → OnOk r (names ≡ old.files ++ name ∷ []) → (IsOption name → ⊥) → OnOk r (AddsPart IsPart with_part (name ∷ []) old (record old { files = names }))
 file_added (Ok x) old names name e not_option = (file name, (refl, not_option), ap (λ (l : List (List ℕ)). record old { files = l }) e)
 file_added (Err x) old names name e not_option = e
 

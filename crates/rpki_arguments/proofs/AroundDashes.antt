@@ -3,11 +3,12 @@ use Rattle.std.specs.List.{position_or_len}
 use Rattle.std.specs.Prelude.{codes, IsTrue}
 use Rattle.std.specs.declared.vec.Vec.{Vec}
 use Rattle.std.proofs.Common.{◌≡◌, ◌↔◌, ◌+◌, ◌-◌, ◌<◌, ◌≤◌, ℕ, Bool, true, false, List, [], length, take, drop, get_or, refl, sym, ap, ◌∙◌, arith}
-use Rattle.std.proofs.lemmas.List.{length-map, length-drop, get_or-map, take-map, drop-map, take_all, drop_all}
+use Rattle.std.proofs.lemmas.List.{length-drop, take-map, drop-map, take_all, drop_all}
 use Rattle.std.proofs.lemmas.List.Sums.{position_or_len_is}
 use Rattle.std.proofs.lemmas.Slice.Eq.{bytes_eq-Decides}
 use Rattle.rpki_arguments.specs.WordParts.{is_dashes, words_before, words_behind}
 use Rattle.rpki_arguments.specs.CommandLines.Views.{word_octets}
+use Rattle.rpki_arguments.proofs.WordByWord.{octets_length}
 
 not_dashes : (b : Bool) → (b ≡ true → ⊥) → b ≡ false
 not_dashes true never = absurd (never refl)
@@ -20,22 +21,15 @@ dashes_by word false says =
     not_dashes (is_dashes word) (λ same. let never : false ≡ true = says.1 ((bytes_eq-Decides word (codes "--")).0 same) in cc)
 
 module _ {Z : Type 0} (words : List (Vec ℕ Z)) where
-  -- the octets of the word at a place
-  pub octets_at : (i : ℕ) (word : Vec ℕ Z) → i < length words → word ≡ get_or words i word → get_or (word_octets words) i [] ≡ word.items
-  octets_at i word low there = get_or-map (λ word. word.items) words i word [] low ∙ ap (λ (w : Vec ℕ Z). w.items) (sym there)
-
   -- all words behind a place
   pub all_behind : (n : ℕ) → take (length words - n) (drop n words) ≡ drop n words
   all_behind n = take_all (length words - n) (drop n words) (omega (arith, length-drop n words))
-
-  octets_length : length (word_octets words) ≡ length words
-  octets_length = length-map words (λ word. word.items)
 
   module _ (i : ℕ) (before : (k : ℕ) → k < i → is_dashes (get_or (word_octets words) k []) ≡ false) where
     module _ (low : i < length words) (here : is_dashes (get_or (word_octets words) i []) ≡ true) where
       place_is : position_or_len is_dashes (word_octets words) ≡ i
       place_is =
-          let low_too : i ≤ length (word_octets words) = omega (arith, octets_length) in
+          let low_too : i ≤ length (word_octets words) = omega (arith, octets_length words) in
           position_or_len_is is_dashes (word_octets words) i [] low_too before (λ less. here)
 
       -- `--` stands at this place
@@ -50,7 +44,7 @@ module _ {Z : Type 0} (words : List (Vec ℕ Z)) where
       none_is =
           let fits : length (word_octets words) ≤ length (word_octets words) = omega arith in
           position_or_len_is is_dashes (word_octets words) (length (word_octets words)) [] fits
-          (λ k less. let less_too : k < i = omega (arith, octets_length) in before k less_too) (λ less. absurd (omega arith))
+          (λ k less. let less_too : k < i = omega (arith, octets_length words) in before k less_too) (λ less. absurd (omega arith))
 
       -- it stands nowhere
       pub before_none : word_octets words ≡ words_before (word_octets words)

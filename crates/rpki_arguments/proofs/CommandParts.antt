@@ -9,9 +9,9 @@ use Rattle.rpki_arguments.specs.declared.arguments.Format.TheVariants.{Text, Jso
 use Rattle.rpki_arguments.specs.declared.arguments.Setting.{Setting}
 use Rattle.rpki_arguments.specs.declared.arguments.Setting.TheVariants.{Crl, Tal, In, Depth, StepCount, At, MaxSize, Output, ShortOutput}
 use Rattle.rpki_arguments.specs.CommandLines.{IsFormatName, LinePart, file, list, locator, folder, depth, steps, at_moment, max_size, output, lenient, json, quiet, all, no_names, help, setting_name, IsPart}
-use Rattle.rpki_arguments.specs.WordParts.{IsOption, GivesValue}
+use Rattle.rpki_arguments.specs.WordParts.{BeginsNoPart, IsOption, GivesValue, Joins}
 use Rattle.rpki_arguments.proofs.PartsOfWords.{Sort, single, before, joining, Grammar, Shape, IsClear, alone_is, given_is}
-use Rattle.rpki_arguments.specs.CommandLines.Steps.{BeginsNoPart, IsSetPart, IsSwitch, Joins, IsOptionName}
+use Rattle.rpki_arguments.specs.CommandLines.Steps.{IsSetPart, IsSwitch, IsOptionName}
 use Rattle.rpki_text.proofs.OneMoment.{one_moment}
 
 -- ---- the first word
@@ -208,12 +208,12 @@ line_clear = record { named = named; joined = joined; one_set = one_set; is_part
 -- ---- words that begin no part
 
 -- a word that is an option and none of those that there are
-module _ (word : List ℕ) (is_option : IsOption word) (unnamed : (setting : Setting) → IsOptionName setting word → ⊥) (unjoined : (setting : Setting) (value : List ℕ) → Joins setting value word → ⊥) (no_switch : (part : LinePart) → IsSwitch part word → ⊥) where
+module _ (word : List ℕ) (is_option : IsOption word) (unnamed : (setting : Setting) → IsOptionName setting word → ⊥) (unjoined : (setting : Setting) (value : List ℕ) → Joins (setting_name setting) value word → ⊥) (no_switch : (part : LinePart) → IsSwitch part word → ⊥) where
   not_given : (setting : Setting) (value : List ℕ) (its behind rest : List (List ℕ)) → GivesValue (setting_name setting) value its → (word ∷ []) ++ behind ≡ its ++ rest → ⊥
   not_given setting value its behind rest (inl is) e = unnamed setting cc
   not_given setting value its behind rest (inr is) e = unjoined setting value cc
 
-  pub no_option : BeginsNoPart (word ∷ [])
+  pub no_option : BeginsNoPart IsPart (word ∷ [])
   no_option (file name) its behind rest is e = let same : word ≡ name = cc in is.1 (subst IsOption same is_option)
   no_option (list name) its behind rest is e = not_given Crl name its behind rest is e
   no_option (locator name) its behind rest is e = not_given Tal name its behind rest is e

@@ -4,9 +4,8 @@ use Rattle.std.specs.Str.{bytes_eq}
 use Rattle.std.proofs.Common.{◌≡◌, ℕ, inl, inr, List, [], ◌∷◌, sym, ap, ◌∙◌, subst}
 use Rattle.rpki_arguments.specs.declared.arguments.Task.{Task}
 use Rattle.rpki_arguments.specs.declared.arguments.Task.TheVariants.{Show, Validate, Tree, Help, Version}
-use Rattle.rpki_arguments.specs.CommandLines.{IsTaskName, LinePart, AreParts, RequestFields, only_task, with_files, with_parts, Suits, IsCommandLine}
-use Rattle.rpki_arguments.specs.WordParts.{words_before, words_behind}
-use Rattle.rpki_arguments.specs.CommandLines.Steps.{AddsParts}
+use Rattle.rpki_arguments.specs.CommandLines.{IsPart, IsTaskName, LinePart, AreParts, RequestFields, only_task, with_files, with_part, with_parts, Suits, IsCommandLine}
+use Rattle.rpki_arguments.specs.WordParts.{AddsParts, words_before, words_behind}
 use Rattle.rpki_arguments.proofs.CommandParts.{line_grammar, line_clear}
 use Rattle.rpki_arguments.proofs.PartsOfWords.{one_list}
 
@@ -56,7 +55,7 @@ module _ (words : List (List ℕ)) (first : List ℕ) (rest : List (List ℕ)) (
   pub no_parts : ((parts : List LinePart) → AreParts parts (words_before rest) → ⊥) → (r : RequestFields) → IsCommandLine r words → ⊥
   no_parts none r h = none h.parts (subst (λ (l : List (List ℕ)). AreParts h.parts (words_before l)) (sym (same_words r h).1) h.parts_are)
 
-  module _ (task : Task) (task_is : IsTaskName task first) (mid r : RequestFields) (adds : AddsParts (words_before rest) (only_task task) mid) (files : r ≡ with_files mid (words_behind rest)) where
+  module _ (task : Task) (task_is : IsTaskName task first) (mid r : RequestFields) (adds : AddsParts IsPart with_part (words_before rest) (only_task task) mid) (files : r ≡ with_files mid (words_behind rest)) where
     all_asked : r ≡ with_files (with_parts (only_task task) adds.0) (words_behind rest)
     all_asked = files ∙ ap (λ (m : RequestFields). with_files m (words_behind rest)) adds.2
 

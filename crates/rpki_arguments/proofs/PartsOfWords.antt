@@ -3,7 +3,7 @@
 use Rattle.std.specs.Prelude.{codes}
 use Rattle.std.proofs.Common.{◌≡◌, ℕ, inl, inr, List, [], ◌∷◌, ◌++◌, refl, sym, ap, ◌∙◌, subst}
 use Rattle.std.proofs.lemmas.List.{append_assoc, append-nil}
-use Rattle.rpki_arguments.specs.WordParts.{AreInOrder, GivesValue}
+use Rattle.rpki_arguments.specs.WordParts.{AreInOrder, BeginsNoPart, GivesValue}
 
 -- what a first word is: a part by itself, an option whose value comes next, or an option and its value
 pub data Sort (P S : Type 0) : Type 0 where
@@ -33,11 +33,6 @@ pub record IsClear {P S : Type 0} (g : Grammar P S) : Type 0 where
   pub one_set : (setting : S) (value : List ℕ) (p q : P) → g.IsSet setting value p → g.IsSet setting value q → p ≡ q
   pub is_part : (setting : S) (value : List ℕ) (part : P) (words : List (List ℕ)) → g.IsSet setting value part → GivesValue (g.name setting) value words → g.IsPart part words
   pub shape : (part : P) (words : List (List ℕ)) → g.IsPart part words → Shape g part words
-
--- no part begins with these words, whatever stands behind them
-abbrev pub BeginsNone : {P S : Type 0} → Grammar P S → List (List ℕ) → Type 0
-BeginsNone {P} g words =
-    (part : P) (its behind rest : List (List ℕ)) → g.IsPart part its → words ++ behind ≡ its ++ rest → ⊥
 
 -- one more part stands behind them
 pub one_more : {P : Type 0} → (IsPart : P → List (List ℕ) → Type 0) (parts : List P) (front : List (List ℕ)) → AreInOrder IsPart parts front → (part : P) (words : List (List ℕ)) → IsPart part words → AreInOrder IsPart (parts ++ part ∷ []) (front ++ words)
@@ -149,7 +144,7 @@ module _ {P S : Type 0} (g : Grammar P S) where
           cc
 
       -- an option before what isn't its value
-      pub no_value : BeginsNone g (g.name setting ∷ value ∷ [])
+      pub no_value : BeginsNoPart g.IsPart (g.name setting ∷ value ∷ [])
       no_value part its behind rest is e = no_apart part its behind rest (clear.shape part its is) e
 
       no_in_one : (word : List ℕ) → word ≡ g.name setting ++ codes "=" ++ value → (part : P) (its behind rest : List (List ℕ)) → Shape g part its → (word ∷ []) ++ behind ≡ its ++ rest → ⊥
@@ -169,7 +164,7 @@ module _ {P S : Type 0} (g : Grammar P S) where
           none_same other another part settings values is
 
       -- an option and, in the same word, what isn't its value
-      pub no_joined : (word : List ℕ) → word ≡ g.name setting ++ codes "=" ++ value → BeginsNone g (word ∷ [])
+      pub no_joined : (word : List ℕ) → word ≡ g.name setting ++ codes "=" ++ value → BeginsNoPart g.IsPart (word ∷ [])
       no_joined word joins part its behind rest is e = no_in_one word joins part its behind rest (clear.shape part its is) e
 
     -- ---- parts one after the other
@@ -191,7 +186,7 @@ module _ {P S : Type 0} (g : Grammar P S) where
         record { more = later.more; all_are = cc; more_are = later.more_are }
 
     -- parts that are followed by the beginning of no part
-    pub none_behind : (parts others : List P) (front bad after words : List (List ℕ)) (word : List ℕ) → AreInOrder g.IsPart parts front → BeginsNone g (word ∷ bad) → words ≡ front ++ (word ∷ bad ++ after) → AreInOrder g.IsPart others words → ⊥
+    pub none_behind : (parts others : List P) (front bad after words : List (List ℕ)) (word : List ℕ) → AreInOrder g.IsPart parts front → BeginsNoPart g.IsPart (word ∷ bad) → words ≡ front ++ (word ∷ bad ++ after) → AreInOrder g.IsPart others words → ⊥
     none_behind parts others front bad after words word h none is k =
         let f = further parts others front (word ∷ bad ++ after) h (subst (λ (l : List (List ℕ)). AreInOrder g.IsPart others l) is k) in
         let empty : (more : List P) → AreInOrder g.IsPart more (word ∷ bad ++ after) → ⊥ =

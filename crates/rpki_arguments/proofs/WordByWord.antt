@@ -1,21 +1,12 @@
 -- Parts that are added word by word, whatever the parts are and what they are added to.
-use Rattle.std.specs.Prelude.{Option, Some, None, Result, Ok, Err, OnOk, IfErr, codes, fold}
+use Rattle.std.specs.Prelude.{Option, Some, None, Result, Ok, Err, OnOk, IfErr, codes}
 use Rattle.std.specs.declared.vec.Vec.{Vec}
 use Rattle.std.proofs.Common.{◌≡◌, ◌≢◌, ℕ, ◌+◌, ◌<◌, ◌≤◌, List, [], ◌∷◌, ◌++◌, length, get_or, take, drop, refl, sym, ap, ◌∙◌, inl, inr}
-use Rattle.std.proofs.lemmas.List.{append_assoc, append-nil, map-append, map_more, take-append-drop, take_all, drop_more}
+use Rattle.std.proofs.lemmas.List.{append_assoc, append-nil, get_or-map, length-map, map-append, map_more, take-append-drop, take_all, drop_more}
 use Rattle.std.proofs.lemmas.List.Sums.{fold_push}
 use Rattle.rpki_arguments.specs.CommandLines.Views.{word_octets}
-use Rattle.rpki_arguments.specs.WordParts.{AreInOrder}
-use Rattle.rpki_arguments.proofs.PartsOfWords.{Grammar, IsClear, BeginsNone, one_more, none_behind, value_missing, no_value, no_joined}
-
--- the words are a part, and the new one has what it says too
-abbrev pub AddsOne : {P R : Type 0} → (P → List (List ℕ) → Type 0) → (R → P → R) → List (List ℕ) → R → R → Type 0
-AddsOne {P} IsPart with_part words old new = (part : P) × IsPart part words × (new ≡ with_part old part)
-
--- the words are parts, and the new one has what they say too
-abbrev pub AddsAll : {P R : Type 0} → (P → List (List ℕ) → Type 0) → (R → P → R) → List (List ℕ) → R → R → Type 0
-AddsAll {P} IsPart with_part words old new =
-    (parts : List P) × AreInOrder IsPart parts words × (new ≡ fold with_part old parts)
+use Rattle.rpki_arguments.specs.WordParts.{AddsPart, AddsParts, AreInOrder, BeginsNoPart}
+use Rattle.rpki_arguments.proofs.PartsOfWords.{Grammar, IsClear, one_more, none_behind, value_missing, no_value, no_joined}
 
 -- the new one has what the option with this value says too
 abbrev pub AddsValue : {P S R : Type 0} → Grammar P S → (R → P → R) → S → List ℕ → R → R → Type 0
@@ -30,10 +21,18 @@ awaited name (Some setting) = name setting ∷ []
 -- the words are parts that were added, and perhaps an option whose value comes next
 pub record AreAdded {P S R : Type 0} (g : Grammar P S) (with_part : R → P → R) (words : List (List ℕ)) (old new : R) (awaiting : Option S) : Type 0 where
   pub front : List (List ℕ)
-  pub added : AddsAll g.IsPart with_part front old new
+  pub added : AddsParts g.IsPart with_part front old new
   pub words_are : words ≡ front ++ awaited g.name awaiting
 
 -- ---- words of the command line, by their places
+
+module _ {Z : Type 0} (words : List (Vec ℕ Z)) where
+  pub octets_length : length (word_octets words) ≡ length words
+  octets_length = length-map words (λ word. word.items)
+
+  -- the octets of the word at a place
+  pub octets_at : (i : ℕ) (word : Vec ℕ Z) (other : List ℕ) → i < length words → word ≡ get_or words i word → get_or (word_octets words) i other ≡ word.items
+  octets_at i word other low there = get_or-map (λ word. word.items) words i word other low ∙ ap (λ (w : Vec ℕ Z). w.items) (sym there)
 
 module _ {Z : Type 0} (words : List (Vec ℕ Z)) (i : ℕ) (word : Vec ℕ Z) (low : i < length words) (there : word ≡ get_or words i word) where
   -- those before the word, the word, and those behind it
@@ -48,7 +47,7 @@ module _ {Z : Type 0} (words : List (Vec ℕ Z)) (i : ℕ) (word : Vec ℕ Z) (l
 
 module _ {P S R : Type 0} (g : Grammar P S) (with_part : R → P → R) where
   -- one part more
-  part_added : (words front its : List (List ℕ)) (old new newer : R) → words ≡ front ++ its → AddsAll g.IsPart with_part front old new → AddsOne g.IsPart with_part its new newer → AreAdded g with_part words old newer None
+  part_added : (words front its : List (List ℕ)) (old new newer : R) → words ≡ front ++ its → AddsParts g.IsPart with_part front old new → AddsPart g.IsPart with_part its new newer → AreAdded g with_part words old newer None
   part_added words front its old new newer is h p = record {
     front = front ++ its;
     added = (h.0 ++ p.0 ∷ [], one_more g.IsPart h.0 front h.1 p.0 its p.1, p.2 ∙ ap (λ (r : R). with_part r p.0) h.2 ∙ sym (fold_push with_part old h.0 p.0));
@@ -57,12 +56,12 @@ module _ {P S R : Type 0} (g : Grammar P S) (with_part : R → P → R) where
 
   module _ (clear : IsClear g) where
     -- what an option says is added, whose value stands behind `=`
-    pub joined_added : {T E : Type 0} (r : Result T E) (old new : R) (setting : S) (value word : List ℕ) → word ≡ g.name setting ++ codes "=" ++ value → OnOk r (AddsValue g with_part setting value old new) → OnOk r (AddsOne g.IsPart with_part (word ∷ []) old new)
+    pub joined_added : {T E : Type 0} (r : Result T E) (old new : R) (setting : S) (value word : List ℕ) → word ≡ g.name setting ++ codes "=" ++ value → OnOk r (AddsValue g with_part setting value old new) → OnOk r (AddsPart g.IsPart with_part (word ∷ []) old new)
     joined_added (Ok x) old new setting value word joins adds = (adds.0, clear.is_part setting value adds.0 (word ∷ []) adds.1 (inr (ap (λ (w : List ℕ). w ∷ []) joins)), adds.2)
     joined_added (Err x) old new setting value word joins adds = adds
 
     -- and isn't where that says nothing
-    pub joined_rejected : {T E : Type 0} (r : Result T E) (memory : E) (setting : S) (value word : List ℕ) → word ≡ g.name setting ++ codes "=" ++ value → IfErr r (λ e. e ≢ memory → (part : P) → g.IsSet setting value part → ⊥) → IfErr r (λ e. e ≢ memory → BeginsNone g (word ∷ []))
+    pub joined_rejected : {T E : Type 0} (r : Result T E) (memory : E) (setting : S) (value word : List ℕ) → word ≡ g.name setting ++ codes "=" ++ value → IfErr r (λ e. e ≢ memory → (part : P) → g.IsSet setting value part → ⊥) → IfErr r (λ e. e ≢ memory → BeginsNoPart g.IsPart (word ∷ []))
     joined_rejected (Ok x) memory setting value word joins none = tt
     joined_rejected (Err e) memory setting value word joins none = λ not_memory. no_joined g clear setting value (none not_memory) word joins
 
@@ -91,13 +90,13 @@ module _ {P S R : Type 0} (g : Grammar P S) (with_part : R → P → R) where
         front_is = so_far.words_are ∙ append-nil so_far.front
 
         -- the word is a part by itself
-        pub word_added : (newer : R) → AddsOne g.IsPart with_part (text ∷ []) new newer → AreAdded g with_part (word_octets (take (i + 1) words)) old newer None
+        pub word_added : (newer : R) → AddsPart g.IsPart with_part (text ∷ []) new newer → AreAdded g with_part (word_octets (take (i + 1) words)) old newer None
         word_added newer adds =
             part_added (word_octets (take (i + 1) words)) so_far.front (text ∷ []) old new newer
             (more_is ∙ ap (λ (l : List (List ℕ)). l ++ word.items ∷ []) front_is ∙ ap (λ (w : List ℕ). so_far.front ++ w ∷ []) (sym text_is)) so_far.added adds
 
         -- the word is none
-        pub word_rejected : BeginsNone g (text ∷ []) → (parts : List P) → AreInOrder g.IsPart parts (word_octets words) → ⊥
+        pub word_rejected : BeginsNoPart g.IsPart (text ∷ []) → (parts : List P) → AreInOrder g.IsPart parts (word_octets words) → ⊥
         word_rejected none parts =
             none_behind g clear so_far.added.0 parts so_far.front [] (word_octets (drop (i + 1) words)) (word_octets words) text so_far.added.1 none
             (split_is ∙ ap (λ (l : List (List ℕ)). l ++ word.items ∷ word_octets (drop (i + 1) words)) front_is ∙ ap (λ (w : List ℕ). so_far.front ++ w ∷ word_octets (drop (i + 1) words)) (sym text_is))

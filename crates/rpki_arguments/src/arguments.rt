@@ -3,11 +3,11 @@ ghost use Rattle.std.specs.Prelude.{◌≡◌, ◌≢◌, ◌↔◌, ℕ, List, 
 ghost use Rattle.std.specs.Bool.{OnTrue, OnFalse};
 ghost use Rattle.std.specs.Fmt.{WritesOnOk};
 ghost use Rattle.rpki_text.specs.Pages.{characters_text};
-ghost use Rattle.rpki_arguments.specs.CommandLines.{IsFormatName, IsTaskName, IsNumberText, LinePart, AreParts, RequestFields, only_task, setting_name, with_files, AsksNoPath, AsksSearch, AsksTree, NamesInput, ReadsInput, Suits, SuitsFolders, IsCommandLine};
+ghost use Rattle.rpki_arguments.specs.CommandLines.{IsFormatName, IsTaskName, IsNumberText, IsPart, LinePart, AreParts, RequestFields, only_task, setting_name, with_files, with_part, AsksNoPath, AsksSearch, AsksTree, NamesInput, ReadsInput, Suits, SuitsFolders, IsCommandLine};
 ghost use Rattle.rpki_arguments.specs.CommandLines.Views.{word_octets, fields_of};
-ghost use Rattle.rpki_arguments.specs.WordParts.{IsOption, words_before, words_behind};
+ghost use Rattle.rpki_arguments.specs.WordParts.{AddsPart, AddsParts, BeginsNoPart, IsOption, Joins, words_before, words_behind};
 ghost use Rattle.rpki_arguments.specs.MisuseTexts.{misuse_text};
-ghost use Rattle.rpki_arguments.specs.CommandLines.Steps.{AddsPart, AddsParts, AddsSet, BeginsNoPart, IsSetPart, IsSwitch, Joins, IsOptionName};
+ghost use Rattle.rpki_arguments.specs.CommandLines.Steps.{AddsSet, IsSetPart, IsSwitch, IsOptionName};
 
 use crate::parts::{around_dashes, is, is_option};
 use rpki::repository::x509::Time;
@@ -222,9 +222,9 @@ fn behind<'a>(word: &'a [u8], text: &str) -> Option<&'a [u8]>
 
 // The option and its value that a word gives with `=` between them.
 fn joined<'a>(word: &'a [u8]) -> Option<(Setting, &'a [u8])>
-    ensures joined { IfSome result (λ found. Joins found.0 found.1.now word.now) }
+    ensures joined { IfSome result (λ found. Joins (setting_name found.0) found.1.now word.now) }
     ensures unknown { IfNone result
-        ((setting : Setting) (value : List ℕ) → Joins setting value word.now → ⊥) }
+        ((setting : Setting) (value : List ℕ) → Joins (setting_name setting) value word.now → ⊥) }
 {
     if let Some(value) = behind(word, "--crl=") {
         return Some((Setting::Crl, value));
@@ -311,8 +311,8 @@ fn push_name<'a>(names: &mut Vec<&'a [u8]>, name: &'a [u8]) -> Result<(), Misuse
 
 // Adds what an option without a value says; false where the word is no such option.
 fn switch(request: &mut Request<'_>, word: &[u8]) -> bool
-    ensures added { OnTrue result
-        (AddsPart (word.now ∷ []) (fields_of request.old) (fields_of request.new)) }
+    ensures added { let adds = AddsPart IsPart with_part (word.now ∷ []) in
+        OnTrue result (adds (fields_of request.old) (fields_of request.new)) }
     ensures unknown { OnFalse result ((part : LinePart) → IsSwitch part word.now → ⊥) }
 {
     if is(word, "--lenient") {
@@ -402,9 +402,10 @@ fn add_set<'a>(
 // Adds the file or the option that a word is by itself.
 fn add_word<'a>(request: &mut Request<'a>, word: &'a [u8]) -> Result<(), Misuse<'a>>
     requires { (setting : Setting) → IsOptionName setting word.now → ⊥ }
-    ensures added { OnOk result
-        (AddsPart (word.now ∷ []) (fields_of request.old) (fields_of request.new)) }
-    ensures unknown { IfErr result (λ e. e ≢ Misuse.Memory → BeginsNoPart (word.now ∷ [])) }
+    ensures added { let adds = AddsPart IsPart with_part (word.now ∷ []) in
+        OnOk result (adds (fields_of request.old) (fields_of request.new)) }
+    ensures unknown { IfErr result
+        (λ e. e ≢ Misuse.Memory → BeginsNoPart IsPart (word.now ∷ [])) }
 {
     if !is_option(word) {
         return push_name(&mut request.files, word);
@@ -421,8 +422,8 @@ fn add_word<'a>(request: &mut Request<'a>, word: &'a [u8]) -> Result<(), Misuse<
 
 // Adds what the words before `--` say.
 fn add_words<'a>(request: &mut Request<'a>, words: &'a [Vec<u8>]) -> Result<(), Misuse<'a>>
-    ensures added { OnOk result
-        (AddsParts (word_octets words.now) (fields_of request.old) (fields_of request.new)) }
+    ensures added { let adds = AddsParts IsPart with_part (word_octets words.now) in
+        OnOk result (adds (fields_of request.old) (fields_of request.new)) }
     ensures unknown { IfErr result (λ e. e ≢ Misuse.Memory
         → (parts : List LinePart) → AreParts parts (word_octets words.now) → ⊥) }
 {

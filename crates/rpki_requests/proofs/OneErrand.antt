@@ -3,12 +3,11 @@ use Rattle.std.specs.Prelude.{codes, Option, Some, None, cond, map, fold}
 use Rattle.std.specs.Str.{bytes_eq}
 use Rattle.std.proofs.Common.{◌≡◌, ◌⊎◌, ℕ, List, [], ◌∷◌, ◌++◌, drop, get_or, inl, inr, refl, sym, ap, ◌∙◌, subst}
 use Rattle.std.proofs.lemmas.List.Sums.{fold-append}
-use Rattle.rpki_arguments.specs.WordParts.{words_before, words_behind}
+use Rattle.rpki_arguments.specs.WordParts.{AddsParts, AreInOrder, words_before, words_behind}
 use Rattle.rpki_arguments.proofs.PartsOfWords.{one_list}
 use Rattle.rpki_requests.specs.declared.words.Errand.{Errand}
 use Rattle.rpki_requests.specs.declared.words.Errand.TheVariants.{Authority, EndEntity, Detached, Router, Anchor, RevocationList, Completion}
-use Rattle.rpki_requests.specs.RequestWords.{AskedFields, BeginsRequest, IsRequestLine, RequestPart, Suits, errand_words, file, only_errand, with_part}
-use Rattle.rpki_requests.specs.RequestWords.Steps.{AddsParts, AreRequestParts}
+use Rattle.rpki_requests.specs.RequestWords.{AskedFields, BeginsRequest, IsRequestLine, IsRequestPart, RequestPart, Suits, errand_words, file, only_errand, with_part}
 use Rattle.rpki_requests.proofs.RequestParts.{request_grammar, request_clear}
 
 -- ---- the first words
@@ -75,10 +74,10 @@ module _ (words : List (List ℕ)) (errand : Errand) (rest : List (List ℕ)) (w
       (is, one_rest errand rest h.rest (both ∙ ap (λ (e : Errand). errand_words e ++ h.rest) (sym is)))
 
   -- the words behind it are no parts
-  pub no_parts : ((parts : List RequestPart) → AreRequestParts parts (words_before rest) → ⊥) → (asked : AskedFields) → IsRequestLine asked words → ⊥
-  no_parts none asked h = none h.parts (subst (λ (l : List (List ℕ)). AreRequestParts h.parts (words_before l)) (sym (same_words asked h).1) h.parts_are)
+  pub no_parts : ((parts : List RequestPart) → AreInOrder IsRequestPart parts (words_before rest) → ⊥) → (asked : AskedFields) → IsRequestLine asked words → ⊥
+  no_parts none asked h = none h.parts (subst (λ (l : List (List ℕ)). AreInOrder IsRequestPart h.parts (words_before l)) (sym (same_words asked h).1) h.parts_are)
 
-  module _ (mid asked : AskedFields) (adds : AddsParts (words_before rest) (only_errand errand) mid) (files : asked ≡ fold with_part mid (map file (words_behind rest))) where
+  module _ (mid asked : AskedFields) (adds : AddsParts IsRequestPart with_part (words_before rest) (only_errand errand) mid) (files : asked ≡ fold with_part mid (map file (words_behind rest))) where
     all_asked : asked ≡ fold with_part (only_errand errand) (adds.0 ++ map file (words_behind rest))
     all_asked =
         files ∙ ap (λ (m : AskedFields). fold with_part m (map file (words_behind rest))) adds.2
@@ -92,7 +91,7 @@ module _ (words : List (List ℕ)) (errand : Errand) (rest : List (List ℕ)) (w
     pub only : (other : AskedFields) → IsRequestLine other words → other ≡ asked
     only other h =
         let same = same_words other h in
-        let parts = one_list request_grammar request_clear adds.0 h.parts (words_before rest) adds.1 (subst (λ (l : List (List ℕ)). AreRequestParts h.parts (words_before l)) (sym same.1) h.parts_are) in
+        let parts = one_list request_grammar request_clear adds.0 h.parts (words_before rest) adds.1 (subst (λ (l : List (List ℕ)). AreInOrder IsRequestPart h.parts (words_before l)) (sym same.1) h.parts_are) in
         h.asks
         ∙ ap (λ (e : Errand). fold with_part (only_errand e) (h.parts ++ map file (words_behind h.rest))) (sym same.0)
         ∙ ap (λ (l : List RequestPart). fold with_part (only_errand errand) (l ++ map file (words_behind h.rest))) parts

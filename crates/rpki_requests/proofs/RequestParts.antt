@@ -5,14 +5,13 @@ use Rattle.std.specs.Str.{bytes_eq}
 use Rattle.std.proofs.Common.{◌≡◌, ◌==◌, ℕ, Bool, true, false, List, [], ◌∷◌, ◌++◌, length, refl, sym, ap, ◌∙◌, subst, take, drop, inl, inr, lit<}
 use Rattle.std.proofs.lemmas.List.{take-append-drop, append-nil}
 use Rattle.std.proofs.lemmas.Slice.Eq.{bytes_eq-Decides}
-use Rattle.rpki_arguments.specs.WordParts.{IsOption, GivesValue}
+use Rattle.rpki_arguments.specs.WordParts.{AddsPart, BeginsNoPart, IsOption, GivesValue, Joins}
 use Rattle.rpki_arguments.proofs.PartsOfWords.{Sort, single, before, joining, Grammar, Shape, IsClear, alone_is, given_is}
 use Rattle.rpki_requests.specs.declared.words.Setting.{Setting}
 use Rattle.rpki_requests.specs.declared.words.Setting.TheVariants.{Issuer, Key, Serial, From, Until, Ipv4, Ipv6, AsNumbers, Repository, Manifest, Notify, Object, IssuerUri, CrlUri, Crl, Previous, Number, Revoke, NextUpdate, At, Out}
 use Rattle.rpki_requests.specs.declared.words.Switch.{Switch}
 use Rattle.rpki_requests.specs.declared.words.Switch.TheVariants.{Trim, Lenient, Pem, Force}
 use Rattle.rpki_requests.specs.RequestWords.{AskedFields, IsRequestPart, RequestPart, file, option, switch, setting_name, switch_name, with_part}
-use Rattle.rpki_requests.specs.RequestWords.Steps.{AddsPart, BeginsNoPart, Joins}
 use Rattle.rpki_requests.proofs.Settings.{setting_of, first_named, settings, found, none_found, dashed}
 
 -- ---- the first word
@@ -109,7 +108,7 @@ place_is : (b : Bool) (n place : ℕ) → cond b (Some n) None ≡ Some place �
 place_is true n place is = cc
 place_is false n place is = cc
 
-pub front_named : (word : List ℕ) (place : ℕ) (found : Option ℕ) → found ≡ position is_equals word → found ≡ Some place → (setting : Setting) (value : List ℕ) → Joins setting value word → take place word ≡ setting_name setting
+pub front_named : (word : List ℕ) (place : ℕ) (found : Option ℕ) → found ≡ position is_equals word → found ≡ Some place → (setting : Setting) (value : List ℕ) → Joins (setting_name setting) value word → take place word ≡ setting_name setting
 front_named word place found is some setting value joins =
     let same : position_or_len is_equals word ≡ place = place_is (nat_lt (position_or_len is_equals word) (length word)) (position_or_len is_equals word) place (sym is ∙ some) in
     ap (λ (n : ℕ). take n word) (sym same) ∙ ap (λ (w : List ℕ). before_first is_equals w) joins ∙ front_is setting value
@@ -181,12 +180,12 @@ request_clear = record { named = named; joined = joined; one_set = one_set; is_p
 -- ---- words that begin no part
 
 -- a word that is an option and none of those that there are
-module _ (word : List ℕ) (is_option : IsOption word) (unnamed : (setting : Setting) → word ≡ setting_name setting → ⊥) (unjoined : (setting : Setting) (value : List ℕ) → Joins setting value word → ⊥) (unswitched : (s : Switch) → word ≡ switch_name s → ⊥) where
+module _ (word : List ℕ) (is_option : IsOption word) (unnamed : (setting : Setting) → word ≡ setting_name setting → ⊥) (unjoined : (setting : Setting) (value : List ℕ) → Joins (setting_name setting) value word → ⊥) (unswitched : (s : Switch) → word ≡ switch_name s → ⊥) where
   not_given : (setting : Setting) (value : List ℕ) (its behind rest : List (List ℕ)) → GivesValue (setting_name setting) value its → (word ∷ []) ++ behind ≡ its ++ rest → ⊥
   not_given setting value its behind rest (inl is) e = unnamed setting cc
   not_given setting value its behind rest (inr is) e = unjoined setting value cc
 
-  pub no_option : BeginsNoPart (word ∷ [])
+  pub no_option : BeginsNoPart IsRequestPart (word ∷ [])
   no_option (file name) its behind rest is e = let same : word ≡ name = cc in is.1 (subst IsOption same is_option)
   no_option (option g) its behind rest is e = not_given g.setting g.value its behind rest is e
   no_option (switch s) its behind rest is e = unswitched s cc
@@ -194,11 +193,11 @@ module _ (word : List ℕ) (is_option : IsOption word) (unnamed : (setting : Set
 -- ---- parts that are added
 
 -- a file is
-pub file_added : {T E : Type 0} (r : Result T E) (old new : AskedFields) (name : List ℕ) → OnOk r (new ≡ with_part old (file name)) → (IsOption name → ⊥) → OnOk r (AddsPart (name ∷ []) old new)
+pub file_added : {T E : Type 0} (r : Result T E) (old new : AskedFields) (name : List ℕ) → OnOk r (new ≡ with_part old (file name)) → (IsOption name → ⊥) → OnOk r (AddsPart IsRequestPart with_part (name ∷ []) old new)
 file_added (Ok x) old new name e not_option = (file name, (refl, not_option), e)
 file_added (Err x) old new name e not_option = e
 
 -- an option is, whose value stands behind `=`
-pub joined_added : {T E : Type 0} (r : Result T E) (old new : AskedFields) (setting : Setting) (value word : List ℕ) → Joins setting value word → OnOk r (new ≡ with_part old (option (record { setting = setting; value = value }))) → OnOk r (AddsPart (word ∷ []) old new)
+pub joined_added : {T E : Type 0} (r : Result T E) (old new : AskedFields) (setting : Setting) (value word : List ℕ) → Joins (setting_name setting) value word → OnOk r (new ≡ with_part old (option (record { setting = setting; value = value }))) → OnOk r (AddsPart IsRequestPart with_part (word ∷ []) old new)
 joined_added (Ok x) old new setting value word joins e = (option (record { setting = setting; value = value }), inr (ap (λ (w : List ℕ). w ∷ []) joins), e)
 joined_added (Err x) old new setting value word joins e = e

@@ -2,9 +2,9 @@
 ghost use Rattle.std.specs.Prelude.{◌≡◌, ◌≢◌, ◌↔◌, ◌==◌, ℕ, List, [], ◌∷◌, ◌++◌, codes, count_by, filter, Contains, length, map, fold, position, IfErr, IfNone, IfOk, IfSome, IsTrue, MatchOption, OnOk, Some};
 ghost use Rattle.std.specs.Fmt.{WritesOnOk};
 ghost use Rattle.rpki_arguments.specs.CommandLines.Views.{word_octets};
+ghost use Rattle.rpki_arguments.specs.WordParts.{AddsPart, AddsParts, AreInOrder, BeginsNoPart, Joins};
 ghost use Rattle.rpki_requests.specs.RequestMisuses.{misuse_text};
-ghost use Rattle.rpki_requests.specs.RequestWords.{AskedFields, AsksHelp, BeginsRequest, IsRequestLine, Meets, RequestPart, Suits, demand, errand_words, file, files_wanted, is_same, of_authorities, of_certificates, of_issued, of_lists, only_errand, option, setting_name, switch, switch_name, takes, values_of, with_part};
-ghost use Rattle.rpki_requests.specs.RequestWords.Steps.{AddsPart, AddsParts, AreRequestParts, BeginsNoPart, Joins};
+ghost use Rattle.rpki_requests.specs.RequestWords.{AskedFields, AsksHelp, BeginsRequest, IsRequestLine, IsRequestPart, Meets, RequestPart, Suits, demand, errand_words, file, files_wanted, is_same, of_authorities, of_certificates, of_issued, of_lists, only_errand, option, setting_name, switch, switch_name, takes, values_of, with_part};
 ghost use Rattle.rpki_requests.specs.RequestWords.Views.{asked_fields, given_fields};
 
 use rpki_arguments::parts::{around_dashes, is, is_option};
@@ -328,9 +328,9 @@ fn place_of_equals(word: &[u8]) -> Option<usize>
 
 // The option and its value that a word gives with `=` between them.
 fn joined<'a>(word: &'a [u8]) -> Option<Given<'a>>
-    ensures joined { IfSome result (λ g. Joins g.setting g.value.now word.now) }
+    ensures joined { IfSome result (λ g. Joins (setting_name g.setting) g.value.now word.now) }
     ensures unknown { IfNone result
-        ((setting : Setting) (value : List ℕ) → Joins setting value word.now → ⊥) }
+        ((setting : Setting) (value : List ℕ) → Joins (setting_name setting) value word.now → ⊥) }
 {
     let Some(place) = place_of_equals(word) else {
         return None;
@@ -418,9 +418,10 @@ fn add_switch(asked: &mut Order<'_>, given: Switch)
 // Adds the file or the option that a word is by itself.
 fn add_word<'a>(asked: &mut Order<'a>, word: &'a [u8]) -> Result<(), Misuse<'a>>
     requires { (setting : Setting) → word.now ≡ setting_name setting → ⊥ }
-    ensures added { OnOk result
-        (AddsPart (word.now ∷ []) (asked_fields asked.old) (asked_fields asked.new)) }
-    ensures unknown { IfErr result (λ e. e ≢ Misuse.Memory → BeginsNoPart (word.now ∷ [])) }
+    ensures added { let adds = AddsPart IsRequestPart with_part (word.now ∷ []) in
+        OnOk result (adds (asked_fields asked.old) (asked_fields asked.new)) }
+    ensures unknown { IfErr result
+        (λ e. e ≢ Misuse.Memory → BeginsNoPart IsRequestPart (word.now ∷ [])) }
 {
     if !is_option(word) {
         return add_file(asked, word);
@@ -439,10 +440,10 @@ fn add_word<'a>(asked: &mut Order<'a>, word: &'a [u8]) -> Result<(), Misuse<'a>>
 
 // Adds what the words before `--` say.
 fn add_words<'a>(asked: &mut Order<'a>, words: &'a [Vec<u8>]) -> Result<(), Misuse<'a>>
-    ensures added { OnOk result
-        (AddsParts (word_octets words.now) (asked_fields asked.old) (asked_fields asked.new)) }
+    ensures added { let adds = AddsParts IsRequestPart with_part (word_octets words.now) in
+        OnOk result (adds (asked_fields asked.old) (asked_fields asked.new)) }
     ensures unknown { IfErr result (λ e. e ≢ Misuse.Memory → (parts : List RequestPart)
-        → AreRequestParts parts (word_octets words.now) → ⊥) }
+        → AreInOrder IsRequestPart parts (word_octets words.now) → ⊥) }
 {
     // The option whose value is the next word.
     let mut awaiting = None;

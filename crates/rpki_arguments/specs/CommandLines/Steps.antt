@@ -1,34 +1,17 @@
--- What the functions that read a command line say of a word or two, and of those behind the task.
-use Rattle.std.specs.Prelude.{◌≡◌, ◌⊎◌, ℕ, List, ◌++◌, codes}
+-- What the functions that read a command line say of an option.
+use Rattle.std.specs.Prelude.{◌≡◌, ◌⊎◌, ℕ, List, codes}
 use Rattle.rpki.specs.Times.{Moment, IsMoment}
 use Rattle.rpki_text.specs.MomentTexts.{IsMomentText}
 use Rattle.rpki_arguments.specs.declared.arguments.Format.{Format}
 use Rattle.rpki_arguments.specs.declared.arguments.Setting.{Setting}
 use Rattle.rpki_arguments.specs.declared.arguments.Setting.TheVariants.{Crl, Tal, In, Depth, StepCount, At, MaxSize, Output, ShortOutput}
-use Rattle.rpki_arguments.specs.CommandLines.{IsFormatName, IsNumberText, LinePart, list, locator, folder, depth, steps, at_moment, max_size, output, lenient, json, quiet, all, no_names, help, IsPart, AreParts, RequestFields, setting_name, with_part, with_parts}
-
--- the words are a part, and the new request has what it says too
-abbrev pub AddsPart : List (List ℕ) → RequestFields → RequestFields → Type 0
-AddsPart words old new = (part : LinePart) × IsPart part words × (new ≡ with_part old part)
-
--- the words are parts, and the new request has what they say too
-abbrev pub AddsParts : List (List ℕ) → RequestFields → RequestFields → Type 0
-AddsParts words old new = (parts : List LinePart) × AreParts parts words × (new ≡ with_parts old parts)
-
--- no part begins with these words, whatever stands behind them
-abbrev pub BeginsNoPart : List (List ℕ) → Type 0
-BeginsNoPart words =
-    (part : LinePart) (its behind rest : List (List ℕ)) → IsPart part its
-    → words ++ behind ≡ its ++ rest → ⊥
+use Rattle.rpki_arguments.specs.CommandLines.{IsFormatName, IsNumberText, LinePart, list, locator, folder, depth, steps, at_moment, max_size, output, lenient, json, quiet, all, no_names, help, RequestFields, setting_name, with_part}
 
 -- ---- options that take a value
 
--- the word is the option's name, or its name, `=` and a value
+-- the word is the option's name
 abbrev pub IsOptionName : Setting → List ℕ → Type 0
 IsOptionName setting word = word ≡ setting_name setting
-
-abbrev pub Joins : Setting → List ℕ → List ℕ → Type 0
-Joins setting value word = word ≡ setting_name setting ++ codes "=" ++ value
 
 -- the option with this value is the part
 abbrev pub IsSetPart : Setting → List ℕ → LinePart → Type 0

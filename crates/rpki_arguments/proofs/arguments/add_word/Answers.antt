@@ -1,9 +1,8 @@
 use Rattle.std.proofs.Common.{rules, ℕ, List}
 use Rattle.rpki_arguments.specs.declared.arguments.Misuse.TheVariants.{Memory}
 use Rattle.rpki_arguments.specs.declared.arguments.Setting.{Setting}
-use Rattle.rpki_arguments.specs.CommandLines.{with_part}
-use Rattle.rpki_arguments.specs.WordParts.{IsOption}
-use Rattle.rpki_arguments.specs.CommandLines.Steps.{Joins}
+use Rattle.rpki_arguments.specs.CommandLines.{setting_name, with_part}
+use Rattle.rpki_arguments.specs.WordParts.{IsOption, Joins}
 use Rattle.rpki_arguments.specs.CommandLines.Views.{fields_of}
 use Rattle.rpki_arguments.proofs.AddedParts.{file_added}
 use Rattle.rpki_arguments.proofs.CommandParts.{line_grammar, line_clear, no_option}
@@ -16,16 +15,16 @@ returns-then-not-is_option-clause-added c =
 
 pub returns-in-Some-clause-added : goal.returns-in-Some-clause-added
 returns-in-Some-clause-added c =
-    let joins : Joins c.in-Some.setting c.in-Some.value.now c.args.word.now = search rules in
+    let joins : Joins (setting_name c.in-Some.setting) c.in-Some.value.now c.args.word.now = search rules in
     joined_added line_grammar with_part line_clear c.add_set.result (fields_of c.args.request.now) (fields_of c.add_set.new.request) c.in-Some.setting c.in-Some.value.now c.args.word.now joins c.add_set.ensures.added
 
 pub returns-in-Some-clause-unknown : goal.returns-in-Some-clause-unknown
 returns-in-Some-clause-unknown c =
-    let joins : Joins c.in-Some.setting c.in-Some.value.now c.args.word.now = search rules in
+    let joins : Joins (setting_name c.in-Some.setting) c.in-Some.value.now c.args.word.now = search rules in
     joined_rejected line_grammar with_part line_clear c.add_set.result Memory c.in-Some.setting c.in-Some.value.now c.args.word.now joins c.add_set.ensures.unknown
 
 pub returns-else-switch-clause-unknown : goal.returns-else-switch-clause-unknown
 returns-else-switch-clause-unknown c = λ not_memory.
     let is_option : IsOption c.args.word.now = search rules in
-    let unjoined : (setting : Setting) (value : List ℕ) → Joins setting value c.args.word.now → ⊥ = c.in_default.ensures.unknown in
+    let unjoined : (setting : Setting) (value : List ℕ) → Joins (setting_name setting) value c.args.word.now → ⊥ = c.in_default.ensures.unknown in
     no_option c.args.word.now is_option c.requires unjoined c.if-switch.ensures.unknown

@@ -1,7 +1,7 @@
 use Rattle.std.proofs.Common.{rules, ◌≡◌, ◌∷◌, ◌∙◌, ℕ, List, Err, ap, sym, subst}
-use Rattle.rpki_arguments.specs.CommandLines.{AreParts, RequestFields, IsTaskName, only_task, with_files}
+use Rattle.rpki_arguments.specs.CommandLines.{AreParts, IsPart, RequestFields, IsTaskName, only_task, with_files, with_part}
 use Rattle.rpki_arguments.specs.CommandLines.Views.{word_octets, fields_of}
-use Rattle.rpki_arguments.specs.CommandLines.Steps.{AddsParts}
+use Rattle.rpki_arguments.specs.WordParts.{AddsParts}
 use Rattle.rpki_arguments.proofs.OneRequest.{no_parts, only, unsuited}
 use Rattle.rpki_arguments.proofs.arguments.read_words.Goals as goal
 
@@ -17,8 +17,8 @@ returns-in-Some-misuse_of-clause-rejected c = λ not_memory.
     let split : word_octets c.args.words.now ≡ c.as_slice.result.now ∷ word_octets c.in-Some.rest.now = search rules in
     let task_is : IsTaskName c.in-Some-task_of.task c.as_slice.result.now = search rules in
     let mid = fields_of c.add_words.new.request in
-    let begun = subst (λ (r : RequestFields). AddsParts (word_octets c.around_dashes.result.0.now) r mid) c.new_request-request.ensures c.in_ok-add_words.ensures.added in
-    let adds = subst (λ (l : List (List ℕ)). AddsParts l (only_task c.in-Some-task_of.task) mid) c.around_dashes.ensures.before begun in
+    let begun = subst (λ (r : RequestFields). AddsParts IsPart with_part (word_octets c.around_dashes.result.0.now) r mid) c.new_request-request.ensures c.in_ok-add_words.ensures.added in
+    let adds = subst (λ (l : List (List ℕ)). AddsParts IsPart with_part l (only_task c.in-Some-task_of.task) mid) c.around_dashes.ensures.before begun in
     let files = c.in_ok-add_files.ensures.added ∙ ap (λ (l : List (List ℕ)). with_files mid l) c.around_dashes.ensures.behind in
     unsuited (word_octets c.args.words.now) c.as_slice.result.now (word_octets c.in-Some.rest.now) split c.in-Some-task_of.task task_is mid (fields_of c.add_files.new.request) adds files c.in-Some-misuse_of.ensures.unsuited
 
@@ -27,7 +27,7 @@ returns-clause-nothing_else c =
     let split : word_octets c.args.words.now ≡ c.as_slice.result.now ∷ word_octets c.in-Some.rest.now = search rules in
     let task_is : IsTaskName c.in-Some-task_of.task c.as_slice.result.now = search rules in
     let mid = fields_of c.add_words.new.request in
-    let begun = subst (λ (r : RequestFields). AddsParts (word_octets c.around_dashes.result.0.now) r mid) c.new_request-request.ensures c.in_ok-add_words.ensures.added in
-    let adds = subst (λ (l : List (List ℕ)). AddsParts l (only_task c.in-Some-task_of.task) mid) c.around_dashes.ensures.before begun in
+    let begun = subst (λ (r : RequestFields). AddsParts IsPart with_part (word_octets c.around_dashes.result.0.now) r mid) c.new_request-request.ensures c.in_ok-add_words.ensures.added in
+    let adds = subst (λ (l : List (List ℕ)). AddsParts IsPart with_part l (only_task c.in-Some-task_of.task) mid) c.around_dashes.ensures.before begun in
     let files = c.in_ok-add_files.ensures.added ∙ ap (λ (l : List (List ℕ)). with_files mid l) c.around_dashes.ensures.behind in
     only (word_octets c.args.words.now) c.as_slice.result.now (word_octets c.in-Some.rest.now) split c.in-Some-task_of.task task_is mid (fields_of c.add_files.new.request) adds files

@@ -1,26 +1,19 @@
 use Rattle.std.specs.Prelude.{Contains}
 use Rattle.std.specs.declared.vec.Vec.{Vec}
-use Rattle.std.proofs.Common.{◌≡◌, ◌<◌, ◌≤◌, ℕ, List, length, get_or, refl, sym, ap, ◌∙◌, arith, below_more}
+use Rattle.std.proofs.Common.{◌≡◌, ◌<◌, ◌≤◌, ℕ, List, length, get_or, refl, sym, ◌∙◌, arith, below_more}
 use Rattle.std.proofs.lemmas.Bool.{false≢true}
-use Rattle.std.proofs.lemmas.List.{get_or-map, length-map}
 use Rattle.rpki_arguments.specs.CommandLines.Views.{word_octets}
+use Rattle.rpki_arguments.proofs.WordByWord.{octets_at, octets_length}
 use Rattle.rpki_requests.proofs.words.has_word.Goals as goal
 
 module _ {Z : Type 0} (words : List (Vec ℕ Z)) (i : ℕ) (text : List ℕ) where
-  octets_length : length (word_octets words) ≡ length words
-  octets_length = length-map words (λ word. word.items)
-
-  -- the octets of the word at a place
-  octets_at : (word : Vec ℕ Z) → i < length words → word ≡ get_or words i word → get_or (word_octets words) i text ≡ word.items
-  octets_at word low there = get_or-map (λ word. word.items) words i word text low ∙ ap (λ (w : Vec ℕ Z). w.items) (sym there)
-
   -- the text stands there
   stands : (word : Vec ℕ Z) → i < length words → word ≡ get_or words i word → word.items ≡ text → Contains (word_octets words) text
-  stands word low there same = (i, omega (arith, low, octets_length), octets_at word low there ∙ same)
+  stands word low there same = (i, omega (arith, low, octets_length words), octets_at words i word text low there ∙ same)
 
   -- it stands nowhere
   stands_nowhere : length words ≤ i → ((k : ℕ) → k < i → get_or (word_octets words) k text ≡ text → ⊥) → Contains (word_octets words) text → ⊥
-  stands_nowhere high none (k, low, same) = none k (omega (arith, low, high, octets_length)) same
+  stands_nowhere high none (k, low, same) = none k (omega (arith, low, high, octets_length words)) same
 
 pub returns-then-is : goal.returns-then-is
 returns-then-is c = (
@@ -34,7 +27,7 @@ loop-word-preserved c =
     let i = c.loop-word.word-index in
     let text = c.args.text.now in
     below_more _ _ c.loop-word.invariant
-    (λ same. false≢true (sym c.if-is.false ∙ c.is.ensures.1 (c.as_slice.ensures.value ∙ sym (octets_at words i text c.word-item.result c.loop-word-test.true c.word-item.is) ∙ same)))
+    (λ same. false≢true (sym c.if-is.false ∙ c.is.ensures.1 (c.as_slice.ensures.value ∙ sym (octets_at words i c.word-item.result text c.loop-word-test.true c.word-item.is) ∙ same)))
 
 pub returns : goal.returns
 returns c = (
