@@ -624,8 +624,8 @@ fn misuse_of(request: &Request<'_>) -> Option<Misuse<'static>>
 /// Reads the words behind the program's name.
 pub fn read_words<'a>(alloc: Global, words: &'a [Vec<u8>]) -> Result<Request<'a>, Misuse<'a>>
     ensures command_line { IfOk result (λ r. IsCommandLine (fields_of r) (word_octets words.now)) }
-    ensures nothing_else { IfOk result (λ r.
-        (other : RequestFields) → IsCommandLine other (word_octets words.now) → other ≡ fields_of r) }
+    ensures nothing_else { IfOk result (λ r. (other : RequestFields)
+        → IsCommandLine other (word_octets words.now) → other ≡ fields_of r) }
     ensures rejected { IfErr result (λ e. e ≢ Misuse.Memory
         → (r : RequestFields) → IsCommandLine r (word_octets words.now) → ⊥) }
 {

@@ -12,8 +12,8 @@ use rpki_text::Characters;
 use std::alloc::{AllocError, Global};
 use std::fmt;
 
-/// What is to be prepared for signing, of a certificate its kind, or a revocation list; or that what
-/// is signed is to be completed.
+/// What is to be prepared for signing, of a certificate its kind, or a revocation list; or that
+/// what is signed is to be completed.
 #[derive(Clone, Copy, PartialEq, Eq)]
 pub enum Errand {
     /// A CA's certificate: `prepare ca`.
