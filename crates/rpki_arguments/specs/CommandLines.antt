@@ -60,12 +60,18 @@ IsPart (file name) words = (words ≡ name ∷ []) × (IsOption name → ⊥)
 IsPart (list name) words = GivesValue (setting_name Crl) name words
 IsPart (locator name) words = GivesValue (setting_name Tal) name words
 IsPart (folder name) words = GivesValue (setting_name In) name words
-IsPart (at_moment m) words = (text : List ℕ) × GivesValue (setting_name At) text words × IsMoment m × IsMomentText m text
-IsPart (depth n) words = (text : List ℕ) × GivesValue (setting_name Depth) text words × IsNumberText n text
-IsPart (steps n) words = (text : List ℕ) × GivesValue (setting_name StepCount) text words × IsNumberText n text
-IsPart (max_size n) words = (text : List ℕ) × GivesValue (setting_name MaxSize) text words × IsNumberText n text
+IsPart (at_moment m) words =
+    (text : List ℕ) × GivesValue (setting_name At) text words × IsMoment m × IsMomentText m text
+IsPart (depth n) words =
+    (text : List ℕ) × GivesValue (setting_name Depth) text words × IsNumberText n text
+IsPart (steps n) words =
+    (text : List ℕ) × GivesValue (setting_name StepCount) text words × IsNumberText n text
+IsPart (max_size n) words =
+    (text : List ℕ) × GivesValue (setting_name MaxSize) text words × IsNumberText n text
 IsPart (output f) words =
-    (text : List ℕ) × (GivesValue (setting_name Output) text words ⊎ GivesValue (setting_name ShortOutput) text words) × IsFormatName f text
+    (text : List ℕ)
+    × (GivesValue (setting_name Output) text words
+    ⊎ GivesValue (setting_name ShortOutput) text words) × IsFormatName f text
 IsPart lenient words = words ≡ codes "--lenient" ∷ []
 IsPart json words = (words ≡ codes "--json" ∷ []) ⊎ (words ≡ codes "-j" ∷ [])
 IsPart quiet words = (words ≡ codes "--quiet" ∷ []) ⊎ (words ≡ codes "-q" ∷ [])
@@ -169,8 +175,8 @@ NamesInput names = Contains names (codes "-")
 abbrev pub ReadsInput : RequestFields → Type 0
 ReadsInput r = NamesInput r.files ⊎ (NamesInput r.folders ⊎ NamesInput r.locators)
 
--- what a path wants that is sought: one file, to which it is to lead, and locators; no lists, which the
--- folders have; and nothing from standard input, since files are read twice
+-- what a path wants that is sought: one file, to which it is to lead, and locators; no lists, which
+-- the folders have; and nothing from standard input, since files are read twice
 abbrev pub AsksSearch : RequestFields → Type 0
 AsksSearch r = (length r.files ≡ 1) × (r.lists ≡ []) × (r.locators ≢ []) × (ReadsInput r → ⊥)
 

@@ -13,8 +13,10 @@ misuse_text NoTask = codes "no command"
 misuse_text (Unknown word) = codes "unknown: " ++ characters_text word.now
 misuse_text (NoValue setting) = setting_name setting ++ codes " wants a value"
 misuse_text (NoMoment text) = codes "--at " ++ (characters_text text.now ++ codes ": no moment")
-misuse_text (NoSize text) = codes "--max-size " ++ (characters_text text.now ++ codes ": no number of octets")
-misuse_text (NoNumber setting text) = setting_name setting ++ (codes " " ++ (characters_text text.now ++ codes ": no number"))
+misuse_text (NoSize text) =
+    codes "--max-size " ++ (characters_text text.now ++ codes ": no number of octets")
+misuse_text (NoNumber setting text) =
+    setting_name setting ++ (codes " " ++ (characters_text text.now ++ codes ": no number"))
 misuse_text (NoFormat text) = codes "-o " ++ (characters_text text.now ++ codes ": no format")
 misuse_text NoFile = codes "no file"
 misuse_text OneFile = codes "--in wants one file"

@@ -1,5 +1,5 @@
--- Words behind a command that are parts in any order: files, and options, some with a value; and what
--- the functions that read them say of a word or two (own).
+-- Words behind a command that are parts in any order: files, and options, some with a value; and
+-- what the functions that read them say of a word or two (own).
 use Rattle.std.specs.List.{before_first, after_first}
 use Rattle.std.specs.Prelude.{◌≡◌, ◌<◌, ◌⊎◌, ℕ, List, [], ◌∷◌, ◌++◌, length, slice_index, Bool, codes, fold}
 use Rattle.std.specs.Str.{bytes_eq}
@@ -14,25 +14,30 @@ GivesValue name value words =
     (words ≡ name ∷ value ∷ []) ⊎ (words ≡ (name ++ codes "=" ++ value) ∷ [])
 
 -- the words are these parts, one after the other
-abbrev pub AreInOrder : {P : Type 0} → (P → List (List ℕ) → Type 0) → List P → List (List ℕ) → Type 0
+abbrev pub AreInOrder : {P : Type 0} → (P → List (List ℕ) → Type 0) → List P → List (List ℕ)
+    → Type 0
 AreInOrder IsPart [] words = words ≡ []
 AreInOrder IsPart (part ∷ parts) words =
-    (front : List (List ℕ)) × (rest : List (List ℕ)) × IsPart part front × AreInOrder IsPart parts rest
-    × (words ≡ front ++ rest)
+    (front : List (List ℕ)) × (rest : List (List ℕ)) × IsPart part front
+    × AreInOrder IsPart parts rest × (words ≡ front ++ rest)
 
 -- the words are a part, and the new one has what it says too
-abbrev pub AddsPart : {P R : Type 0} → (P → List (List ℕ) → Type 0) → (R → P → R) → List (List ℕ) → R → R → Type 0
-AddsPart {P} IsPart with_part words old new = (part : P) × IsPart part words × (new ≡ with_part old part)
+abbrev pub AddsPart : {P R : Type 0} → (P → List (List ℕ) → Type 0) → (R → P → R)
+    → List (List ℕ) → R → R → Type 0
+AddsPart {P} IsPart with_part words old new =
+    (part : P) × IsPart part words × (new ≡ with_part old part)
 
 -- the words are parts, and the new one has what they say too
-abbrev pub AddsParts : {P R : Type 0} → (P → List (List ℕ) → Type 0) → (R → P → R) → List (List ℕ) → R → R → Type 0
+abbrev pub AddsParts : {P R : Type 0} → (P → List (List ℕ) → Type 0) → (R → P → R)
+    → List (List ℕ) → R → R → Type 0
 AddsParts {P} IsPart with_part words old new =
     (parts : List P) × AreInOrder IsPart parts words × (new ≡ fold with_part old parts)
 
 -- no part begins with these words, whatever stands behind them
 abbrev pub BeginsNoPart : {P : Type 0} → (P → List (List ℕ) → Type 0) → List (List ℕ) → Type 0
 BeginsNoPart {P} IsPart words =
-    (part : P) (its behind rest : List (List ℕ)) → IsPart part its → words ++ behind ≡ its ++ rest → ⊥
+    (part : P) (its behind rest : List (List ℕ)) → IsPart part its
+    → words ++ behind ≡ its ++ rest → ⊥
 
 -- the word is the option's name, `=` and a value
 abbrev pub Joins : List ℕ → List ℕ → List ℕ → Type 0

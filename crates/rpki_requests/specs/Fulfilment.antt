@@ -93,8 +93,8 @@ pub record CompletesBelow (asked : AskedFields) (at : Moment) (issuer : Option R
   pub kind_is : IsCompletedAs issuer fields kind
   pub completed : IsCompleted kind issuer at asked.strict fields prepared signature octets
 
--- a TBSCertList, a signature of it, and the list that these make below the issuer, whose name it has
--- (RFC 5280 5.1.2.3)
+-- a TBSCertList, a signature of it, and the list that these make below the issuer, whose name it
+-- has (RFC 5280 5.1.2.3)
 pub record CompletesListBelow (asked : AskedFields) (at : Moment) (issuer : TbsFields)
     (prepared signature octets : List ℕ) : Type 0 where
   pub fields : ListFields Revoked
@@ -130,9 +130,12 @@ GivesToSign Are given = ⊥
 
 -- what an errand gives: octets that are to be signed, or a certificate or a list
 abbrev pub FulfilsAs : Errand → AskedFields → InputFields → Moment → Made → Type 0
-FulfilsAs Authority asked inputs at given = GivesToSign (Prepares kind.Authority asked inputs at) given
-FulfilsAs EndEntity asked inputs at given = GivesToSign (Prepares kind.EndEntity asked inputs at) given
-FulfilsAs Detached asked inputs at given = GivesToSign (Prepares kind.Detached asked inputs at) given
+FulfilsAs Authority asked inputs at given =
+    GivesToSign (Prepares kind.Authority asked inputs at) given
+FulfilsAs EndEntity asked inputs at given =
+    GivesToSign (Prepares kind.EndEntity asked inputs at) given
+FulfilsAs Detached asked inputs at given =
+    GivesToSign (Prepares kind.Detached asked inputs at) given
 FulfilsAs Router asked inputs at given = GivesToSign (Prepares kind.Router asked inputs at) given
 FulfilsAs Anchor asked inputs at given = GivesToSign (Prepares kind.Anchor asked inputs at) given
 FulfilsAs RevocationList asked inputs at given = GivesToSign (PreparesList asked inputs at) given

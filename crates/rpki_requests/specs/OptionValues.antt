@@ -70,7 +70,8 @@ pub record GivesWanted (given : List GivenFields) (wanted : Wanted) : Type 0 whe
 
 -- the serial numbers of what is revoked: of the certificates that the files are, and those that are
 -- given as numbers
-pub record GivesSerials (given : List GivenFields) (files : List (List ℕ)) (issuer : TbsFields) (serials : List ℕ) : Type 0 where
+pub record GivesSerials (given : List GivenFields) (files : List (List ℕ)) (issuer : TbsFields)
+    (serials : List ℕ) : Type 0 where
   pub by_files : List ℕ
   pub files_are : AllZip (IsRevokedFile issuer) by_files files
   pub by_numbers : List ℕ
@@ -82,14 +83,16 @@ abbrev pub revoked_at : Moment → ℕ → Entry
 revoked_at at serial = record { serial = serial; date = at }
 
 -- the entries that revoke what options and files name, at the moment
-pub record GivesEntries (given : List GivenFields) (files : List (List ℕ)) (issuer : TbsFields) (at : Moment) (es : List Entry) : Type 0 where
+pub record GivesEntries (given : List GivenFields) (files : List (List ℕ)) (issuer : TbsFields)
+    (at : Moment) (es : List Entry) : Type 0 where
   pub serials : List ℕ
   pub serials_are : GivesSerials given files issuer serials
   pub entries_are : es ≡ map (revoked_at at) serials
 
 -- options and files say that this is wanted of the issuer's list, which is made and revokes at the
 -- moment
-pub record GivesList (given : List GivenFields) (files : List (List ℕ)) (issuer : TbsFields) (at : Moment) (wanted : WantedListFields) : Type 0 where
+pub record GivesList (given : List GivenFields) (files : List (List ℕ)) (issuer : TbsFields)
+    (at : Moment) (wanted : WantedListFields) : Type 0 where
   pub number_is : SaysAtMostOnce IsSerialText (values_of Number given) wanted.number
   pub revoked_are : GivesEntries given files issuer at wanted.revoked
   pub this_update_is : wanted.this_update ≡ at

@@ -53,7 +53,8 @@ pub record EndsInNoAuthority (x : Context) (files lists : List (List ℕ)) : Typ
 -- what it says of the issuer's path is so: the path is rejected for this fault, or it is accepted,
 -- but ends in no CA; or the file that is given as a list at this place begins with none
 abbrev pub TellsPath : Context → List (List ℕ) → List (List ℕ) → Refusal → Type 0
-TellsPath x files lists (Rejected fault) = IsVerdictBy x chained files lists (verdict.Rejected fault)
+TellsPath x files lists (Rejected fault) =
+    IsVerdictBy x chained files lists (verdict.Rejected fault)
 TellsPath x files lists NoAuthority = EndsInNoAuthority x files lists
 TellsPath x files lists (OtherCrl place) = IsNoListAt lists place
 TellsPath x files lists _ = Unit {0}
@@ -118,7 +119,8 @@ refusal_text (OtherCertificate place) =
     codes "file " ++ (decimal place ++ codes " of --revoke isn't a certificate of the issuer")
 refusal_text NoName = codes "the subject would have no name"
 refusal_text Files = codes "complete takes two files"
-refusal_text NotToSign = codes "the first file isn't what is to be signed of a certificate or a list"
+refusal_text NotToSign =
+    codes "the first file isn't what is to be signed of a certificate or a list"
 refusal_text (OtherName place) = fault_text (codes "OtherName") (name_rule place)
 refusal_text (Unfit e) = wanted_text e
 refusal_text Memory = codes "out of memory"

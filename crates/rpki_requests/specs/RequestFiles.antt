@@ -17,9 +17,9 @@ use Rattle.rpki_verdicts.specs.PathFiles.{Demands}
 use Rattle.rpki_verdicts.specs.PathAnswers.{HoldSame, IsVerdictBy}
 use Rattle.rpki_verdicts.specs.declared.path.Verdict.TheVariants.{Accepted}
 
--- the octets of the objects of the files that a request names: those of the issuer's path, the lists
--- that it is judged with, those of the subject's key, of the list before, of what is revoked, and the
--- others
+-- the octets of the objects of the files that a request names: those of the issuer's path, the
+-- lists that it is judged with, those of the subject's key, of the list before, of what is revoked,
+-- and the others
 pub record InputFields : Type 0 where
   pub issuers : List (List ℕ)
   pub lists : List (List ℕ)
@@ -34,9 +34,10 @@ pub record InputFields : Type 0 where
 abbrev pub chained : Demands
 chained = record { locators = []; names = true }
 
--- the files are accepted as a path, with these lists where there are some, and its last member is a CA,
--- which holds this
-pub record IsHeldByLast (x : Context) (files lists : List (List ℕ)) (r : ResourceFields) : Type 0 where
+-- the files are accepted as a path, with these lists where there are some, and its last member is a
+-- CA, which holds this
+pub record IsHeldByLast (x : Context) (files lists : List (List ℕ)) (r : ResourceFields)
+    : Type 0 where
   pub accepted : IsVerdictBy x chained files lists (Accepted (record { holder = r; router = None }))
   pub authority : SaysAuthority r.cert.fields
 
@@ -99,7 +100,8 @@ pub record IsOwnListIn (issuer : TbsFields) (octets : List ℕ) (list : CrlField
   pub own : IsOwnList issuer list
 
 -- there is one file, and it is a list of the issuer
-pub record IsPreviousFile (issuer : TbsFields) (files : List (List ℕ)) (list : CrlFields) : Type 0 where
+pub record IsPreviousFile (issuer : TbsFields) (files : List (List ℕ)) (list : CrlFields)
+    : Type 0 where
   pub octets : List ℕ
   pub alone : files ≡ octets ∷ []
   pub is_own : IsOwnListIn issuer octets list
@@ -113,7 +115,9 @@ IsPreviousOf issuer files (Some list) = IsPreviousFile issuer files list
 pub record IsRevokedFile (issuer : TbsFields) (serial : ℕ) (octets : List ℕ) : Type 0 where
   pub cert : CertFields
   pub is_cert : IsCertificate cert octets
-  pub names : cert.fields.extensions.authority_key_identifier ≡ Some issuer.extensions.subject_key_identifier
+  pub names :
+      cert.fields.extensions.authority_key_identifier
+      ≡ Some issuer.extensions.subject_key_identifier
   pub serial_is : serial ≡ cert.fields.serial
 
 -- ---- what is completed

@@ -5,8 +5,8 @@ use Rattle.rpki_requests.specs.RequestWords.{setting_name, switch_name}
 use Rattle.rpki_requests.specs.declared.words.Misuse.{Misuse}
 use Rattle.rpki_requests.specs.declared.words.Misuse.TheVariants.{NoErrand, Unknown, NoValue, Unsuited, UnsuitedSwitch, Missing, Repeated, Files, Memory}
 
--- what is wrong first: nothing is named; a word is unknown; an option has no value, doesn't belong to
--- what is asked, is missing or stands twice; there are too few files, or too many
+-- what is wrong first: nothing is named; a word is unknown; an option has no value, doesn't belong
+-- to what is asked, is missing or stands twice; there are too few files, or too many
 abbrev pub misuse_text : Misuse → List ℕ
 misuse_text NoErrand = codes "nothing is named that is to be prepared"
 misuse_text (Unknown word) = codes "unknown: " ++ characters_text word.now

@@ -1,5 +1,5 @@
--- Which words behind the program's name ask for a certificate or a revocation list to be prepared or
--- completed, and what they ask (own). A word is the octets that the system has.
+-- Which words behind the program's name ask for a certificate or a revocation list to be prepared
+-- or completed, and what they ask (own). A word is the octets that the system has.
 use Rattle.std.specs.Prelude.{◌≡◌, ◌≤◌, ◌⊎◌, ℕ, List, [], ◌∷◌, ◌++◌, length, map, filter, Contains, Bool, true, false, fold, codes}
 use Rattle.std.specs.Str.{bytes_eq}
 use Rattle.rpki_arguments.specs.WordParts.{IsOption, GivesValue, AreInOrder, words_before, words_behind}
@@ -33,7 +33,8 @@ BeginsRequest words =
 
 -- `--help` or `-h` stands before `--`: the words ask how the command is used, and nothing else
 abbrev pub AsksHelp : List (List ℕ) → Type 0
-AsksHelp words = Contains (words_before words) (codes "--help") ⊎ Contains (words_before words) (codes "-h")
+AsksHelp words =
+    Contains (words_before words) (codes "--help") ⊎ Contains (words_before words) (codes "-h")
 
 -- the name of an option that takes a value
 abbrev pub setting_name : Setting → List ℕ
@@ -86,8 +87,8 @@ IsRequestPart (switch s) words = words ≡ switch_name s ∷ []
 -- ---- what they ask
 
 -- the errand, the options that take a value and the files, each in the order of the words, whether
--- resources that the issuer doesn't hold are trimmed, whether names are read strictly, whether what is
--- completed is written in PEM, and whether a file that is there is overwritten
+-- resources that the issuer doesn't hold are trimmed, whether names are read strictly, whether what
+-- is completed is written in PEM, and whether a file that is there is overwritten
 pub record AskedFields : Type 0 where
   pub errand : Errand
   pub given : List GivenFields
@@ -231,7 +232,9 @@ files_wanted _ = 0
 
 -- what is asked suits its errand
 pub record Suits (asked : AskedFields) : Type 0 where
-  pub settings : (setting : Setting) → Meets (demand setting asked.errand) (length (values_of setting asked.given))
+  pub settings :
+      (setting : Setting)
+      → Meets (demand setting asked.errand) (length (values_of setting asked.given))
   pub trim : asked.trims ≡ true → takes Trim asked.errand ≡ true
   pub pem : asked.is_pem ≡ true → takes Pem asked.errand ≡ true
   pub files : length asked.files ≡ files_wanted asked.errand

@@ -27,7 +27,8 @@ IsSetPart ShortOutput value part = (f : Format) × (part ≡ output f) × IsForm
 
 -- the new request has what the option with this value says too
 abbrev pub AddsSet : Setting → List ℕ → RequestFields → RequestFields → Type 0
-AddsSet setting value old new = (part : LinePart) × IsSetPart setting value part × (new ≡ with_part old part)
+AddsSet setting value old new =
+    (part : LinePart) × IsSetPart setting value part × (new ≡ with_part old part)
 
 -- ---- options that take none
 
