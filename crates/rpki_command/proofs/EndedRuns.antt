@@ -36,7 +36,9 @@ no_misuse Version x d files lists h = cc
 -- neither does a path that is sought
 module _ (reads : Reads) (lists : Lists) (r : RequestFields) (now : Moment) (text : List ℕ) where
   by_files : (q : RequestFields) → IsAnswer reads q now WrongUse text → ⊥
-  by_files q answer = no_misuse q.task (context IsSignedByRsa now q.strict) (demands_by q (locator_files answer.locators)) (contents answer.files) (contents answer.lists) answer.ends.1
+  by_files q answer =
+      let its = answer.whole in
+      no_misuse q.task (context IsSignedByRsa now q.strict) (demands_by q (locator_files its.locators)) (contents its.files) (contents its.lists) its.ends.1
 
   by_sought : (q : RequestFields) (sought : Option SoughtNames) → IsAnswerBy reads q now sought WrongUse text → ⊥
   by_sought q None h = let wrong : WrongUse ≡ Unread = h.0 in cc

@@ -91,10 +91,3 @@ IsJsonBy Validate outcome r now files lists locators text =
 IsJsonBy Tree outcome r now files lists locators text =
     IsTreeJsonBy r.format (tree_question_of r now files locators) outcome text
 IsJsonBy _ outcome r now files lists locators text = ⊥
-
--- a run with this outcome has some text in its format; a quiet one has it too, and doesn't write it
-abbrev pub HasText : RequestFields → Moment → List FileFields → List FileFields → List LocatorFields
-    → Outcome → Type 0
-HasText r now files lists locators outcome =
-    (text : List ℕ) × (r.format ≡ Text → IsTextBy r.task outcome r now files lists locators text)
-    × (r.format ≢ Text → IsJsonBy r.task outcome r now files lists locators text)

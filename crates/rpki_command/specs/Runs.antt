@@ -5,7 +5,7 @@ use Rattle.rpki.specs.Times.{Moment}
 use Rattle.rpki_files.specs.Files.{FileFields}
 use Rattle.rpki_verdicts.specs.GivenLocators.{LocatorFields, locator_files}
 use Rattle.rpki_command.specs.AboutTexts.{usage_text, version_text}
-use Rattle.rpki_command.specs.AnswerTexts.{HasText, IsTextBy, IsJsonBy}
+use Rattle.rpki_command.specs.AnswerTexts.{IsTextBy, IsJsonBy}
 use Rattle.rpki_arguments.specs.CommandLines.{RequestFields, with_files, IsCommandLine}
 use Rattle.rpki_command.specs.ListedFolders.{Lists, AreFilesOf}
 use Rattle.rpki_command.specs.Outcomes.{EndsBy}
@@ -25,18 +25,23 @@ use Rattle.rpki_command.specs.declared.searching.SoughtNames.{SoughtNames}
 
 -- ---- what is asked of files
 
--- the answer to a request at a moment, where reading files gives this: it is that of those of its
--- files, lists and locators that can be read; and a quiet run has no text
-pub record IsAnswer (reads : Reads) (r : RequestFields) (now : Moment) (outcome : Outcome) (text : List ℕ) : Type 0 where
+-- the answer to a request at a moment, as if it weren't quiet, where reading files gives this: it is
+-- that of those of its files, lists and locators that can be read
+pub record IsWholeAnswer (reads : Reads) (r : RequestFields) (now : Moment) (outcome : Outcome) (text : List ℕ) : Type 0 where
   pub files : List FileFields
   pub lists : List FileFields
   pub locators : List LocatorFields
   pub are_read : AreRead reads r files lists locators
   pub ends : EndsBy r now files lists (locator_files locators) outcome
-  pub told : HasText r now files lists locators outcome
+  pub text_is : r.format ≡ Text → IsTextBy r.task outcome r now files lists locators text
+  pub json_is : r.format ≢ Text → IsJsonBy r.task outcome r now files lists locators text
+
+-- the answer: this one, of which a quiet run leaves the text out
+pub record IsAnswer (reads : Reads) (r : RequestFields) (now : Moment) (outcome : Outcome) (text : List ℕ) : Type 0 where
+  pub told : List ℕ
+  pub whole : IsWholeAnswer reads r now outcome told
   pub quiet_is : IsTrue r.is_quiet → text ≡ []
-  pub text_is : IsFalse r.is_quiet → r.format ≡ Text → IsTextBy r.task outcome r now files lists locators text
-  pub json_is : IsFalse r.is_quiet → r.format ≢ Text → IsJsonBy r.task outcome r now files lists locators text
+  pub told_is : IsFalse r.is_quiet → text ≡ told
 
 -- the same, where listing folders gives this: it is that of the files that stand for the names of the
 -- request

@@ -1,24 +1,23 @@
 //! What is answered of files.
-ghost use Rattle.std.specs.Prelude.{◌≡◌, ◌≢◌, ◌↔◌, [], All, map, IfOk, IsFalse, IsTrue, string_bytes};
+ghost use Rattle.std.specs.Prelude.{◌≡◌, ◌≢◌, ◌↔◌, ◌⊎◌, [], All, List, length, map, IfOk, IsFalse, IsTrue, string_bytes};
 ghost use Rattle.std.specs.Bool.{MatchBool};
 ghost use Rattle.rpki.specs.RsaSignatures.{IsSignedByRsa};
 ghost use Rattle.rpki.specs.Verification.{context};
-ghost use Rattle.rpki_command.specs.AnswerTexts.{HasText, IsJsonBy, IsTextBy, IsTreeJsonBy, IsTreeTextBy, options_of, question_of, tree_question_of};
+ghost use Rattle.rpki_command.specs.AnswerTexts.{IsJsonBy, IsTextBy, IsTreeJsonBy, IsTreeTextBy, options_of, question_of, tree_question_of};
 ghost use Rattle.rpki_arguments.specs.CommandLines.Views.{fields_of};
 ghost use Rattle.rpki_command.specs.JsonAnswers.{IsJsonOfFiles, is_single};
 ghost use Rattle.rpki_command.specs.JsonVerdicts.{IsJsonOfPath};
-ghost use Rattle.rpki_command.specs.Outcomes.{IsOutcomeOfTree, AreAllRead, AsksOfFiles, EndsBy, IsOutcomeOfShow, IsOutcomeOfValidate};
+ghost use Rattle.rpki_command.specs.Outcomes.{IsOutcomeOfTree, AreAllRead, EndsBy, IsOutcomeOfShow, IsOutcomeOfValidate};
 ghost use Rattle.rpki_command.specs.ReadFiles.{AreGiven, AreNamed};
 ghost use Rattle.rpki_command.specs.ShownTexts.{IsTextOfFiles};
 ghost use Rattle.rpki_command.specs.VerdictTexts.{IsTextOfPath};
-ghost use Rattle.rpki_files.specs.Files.{contents, file_names};
-ghost use Rattle.rpki_verdicts.specs.GivenLocators.{IsRead, locator_files};
+ghost use Rattle.rpki_files.specs.Files.{FileFields, contents, file_names};
+ghost use Rattle.rpki_verdicts.specs.GivenLocators.{IsRead, LocatorFields, locator_files};
 ghost use Rattle.rpki_verdicts.specs.PathFiles.{demands_of};
 ghost use Rattle.rpki_verdicts.specs.Trees.{asked_of};
 
 use crate::as_json;
 use crate::outcomes::{Answer, Outcome};
-use crate::reading::objects_of;
 use crate::showing::{Options, shown};
 use crate::trees::treed;
 use crate::verdicts::validated;
@@ -28,38 +27,26 @@ use rpki_files::{BareObject, Object};
 use rpki_verdicts::{GivenLocator, Question, TreeQuestion};
 use std::alloc::{AllocError, Global};
 
-// Whether all files of these names could be read, of which these could be.
-fn are_read(names: &[&[u8]], files: &[BareObject<'_>]) -> bool
-    requires { AreNamed (map (λ name. name.now) names.now) files.now }
-    ensures { IsTrue result ↔ (file_names files.now ≡ map (λ name. name.now) names.now) }
+// Whether all files of these names could be read, of which so many could be.
+fn are_read(names: &[&[u8]], count: usize) -> bool
+    ensures { let names = map (λ name. name.now) names.now in (files : List FileFields)
+        → AreNamed names files → count ≡ length files
+        → IsTrue result ↔ (file_names files ≡ names) }
 {
-    files.len() == names.len()
+    count == names.len()
 }
 
-// Whether all files of these names could be read, which are given as locators, of which these could
-// be.
-fn are_locators_read(names: &[&[u8]], locators: &[GivenLocator<'_>]) -> bool
-    requires { AreNamed (map (λ name. name.now) names.now) (locator_files locators.now) }
-    ensures { let named = file_names (locator_files locators.now) in
-        IsTrue result ↔ (named ≡ map (λ name. name.now) names.now) }
-{
-    locators.len() == names.len()
-}
-
-/// Returns whether all files, lists and locators of a request could be read, of which these could be.
-pub fn are_all_read(
-    request: &Request<'_>,
-    files: &[BareObject<'_>],
-    lists: &[BareObject<'_>],
-    locators: &[GivenLocator<'_>],
-) -> bool
-    requires { AreGiven (fields_of request.now) files.now lists.now locators.now }
-    ensures { let its = locator_files locators.now in
-        IsTrue result ↔ AreAllRead (fields_of request.now) files.now lists.now its }
+/// Returns whether all files, lists and locators of a request could be read, of which so many could
+/// be.
+pub fn are_all_read(request: &Request<'_>, files: usize, lists: usize, locators: usize) -> bool
+    ensures { let r = fields_of request.now in (read lists_read : List FileFields)
+        → (locators_read : List LocatorFields) → AreGiven r read lists_read locators_read
+        → files ≡ length read → lists ≡ length lists_read → locators ≡ length locators_read
+        → IsTrue result ↔ AreAllRead r read lists_read (locator_files locators_read) }
 {
     are_read(&request.files, files)
         && are_read(&request.lists, lists)
-        && are_locators_read(&request.locators, locators)
+        && are_read(&request.locators, locators)
 }
 
 // Whether just one file is named.
@@ -69,8 +56,8 @@ fn is_single(names: &[&[u8]]) -> bool
     names.len() == 1
 }
 
-// Shows files, of which everything is read, in the format that is asked.
-fn objects_shown(
+// Shows files in the format that is asked.
+fn shown_as(
     alloc: Global,
     request: &Request<'_>,
     now: Time,
@@ -97,34 +84,12 @@ fn objects_shown(
     as_json::answer_files(alloc, files, request.strict, request.format, is_single)
 }
 
-// Shows files in the format that is asked.
-fn shown_as(
-    alloc: Global,
-    request: &Request<'_>,
-    now: Time,
-    files: &[BareObject<'_>],
-) -> Result<Answer, AllocError>
-    ensures outcome { IfOk result (λ answer.
-        IsOutcomeOfShow request.now.strict (contents files.now) answer.outcome) }
-    ensures text { let options = options_of (fields_of request.now) now in
-        request.now.format ≡ Format.Text
-        → IfOk result (λ answer. IsTextOfFiles options files.now (string_bytes answer.text)) }
-    ensures json { let r = fields_of request.now in request.now.format ≢ Format.Text
-        → IfOk result (λ answer. IsJsonOfFiles r.format (is_single r.files) r.strict
-        files.now (string_bytes answer.text)) }
-{
-    let objects = objects_of(alloc, files)?;
-    let answer = objects_shown(alloc, request, now, &objects);
-    drop(objects);
-    answer
-}
-
 // Shows the files that could be read. The outcome is theirs, where all could be.
 fn show(
     alloc: Global,
     request: &Request<'_>,
     now: Time,
-    files: &[BareObject<'_>],
+    files: &[Object<'_>],
     are_all_read: bool,
 ) -> Result<Answer, AllocError>
     ensures outcome { IfOk result (λ answer. MatchBool are_all_read
@@ -217,8 +182,8 @@ fn tree(
     Ok(if_read(answer, are_all_read))
 }
 
-// Validates the path of files, of which everything is read.
-fn objects_validated(
+// Validates the path of files.
+fn path(
     alloc: Global,
     request: &Request<'_>,
     now: Time,
@@ -254,40 +219,6 @@ fn objects_validated(
     validated(alloc, &question, request.format)
 }
 
-// Validates the path of files.
-fn path(
-    alloc: Global,
-    request: &Request<'_>,
-    now: Time,
-    files: &[BareObject<'_>],
-    lists: &[BareObject<'_>],
-    locators: &[GivenLocator<'_>],
-) -> Result<Answer, AllocError>
-    requires { All (IsRead request.now.strict) locators.now }
-    ensures outcome { let x = context IsSignedByRsa now request.now.strict in
-        let r = fields_of request.now in
-        let q = question_of r now files.now lists.now locators.now in
-        IfOk result (λ answer. IsOutcomeOfValidate x (demands_of q)
-        (contents files.now) (contents lists.now) answer.outcome) }
-    ensures text { let x = context IsSignedByRsa now request.now.strict in
-        let r = fields_of request.now in
-        let q = question_of r now files.now lists.now locators.now in
-        request.now.format ≡ Format.Text
-        → IfOk result (λ answer. IsTextOfPath x q (string_bytes answer.text)) }
-    ensures json { let x = context IsSignedByRsa now request.now.strict in
-        let r = fields_of request.now in
-        let q = question_of r now files.now lists.now locators.now in
-        request.now.format ≢ Format.Text
-        → IfOk result (λ answer. IsJsonOfPath r.format x q (string_bytes answer.text)) }
-{
-    let members = objects_of(alloc, files)?;
-    let lists = objects_of(alloc, lists)?;
-    let answer = objects_validated(alloc, request, now, &members, &lists, locators);
-    drop(members);
-    drop(lists);
-    answer
-}
-
 // Of a path of which a file can't be read nothing is judged.
 fn unjudged(alloc: Global) -> Answer
     ensures outcome { result.outcome ≡ Outcome.Unread }
@@ -299,16 +230,17 @@ fn unjudged(alloc: Global) -> Answer
     }
 }
 
-// Answers what the request asks at this moment, as if it weren't quiet.
-fn whole_answer(
+/// Answers what `show` or `validate` asks at this moment, where these of its files, lists and
+/// locators could be read, as if it weren't quiet.
+pub fn answer_objects(
     alloc: Global,
     request: &Request<'_>,
     now: Time,
-    files: &[BareObject<'_>],
-    lists: &[BareObject<'_>],
+    files: &[Object<'_>],
+    lists: &[Object<'_>],
     locators: &[GivenLocator<'_>],
 ) -> Result<Answer, AllocError>
-    requires asks { AsksOfFiles request.now.task }
+    requires asks { let task = request.now.task in (task ≡ Task.Show) ⊎ (task ≡ Task.Validate) }
     requires given { AreGiven (fields_of request.now) files.now lists.now locators.now }
     ensures ends { let request = fields_of request.now in
         let its = locator_files locators.now in
@@ -320,7 +252,7 @@ fn whole_answer(
         request.format ≢ Format.Text → IfOk result (λ answer. IsJsonBy request.task answer.outcome
         request now files.now lists.now locators.now (string_bytes answer.text)) }
 {
-    let are_all_read = are_all_read(request, files, lists, locators);
+    let are_all_read = are_all_read(request, files.len(), lists.len(), locators.len());
     match request.task {
         Task::Show => show(alloc, request, now, files, are_all_read),
         Task::Validate => {
@@ -329,27 +261,13 @@ fn whole_answer(
             }
             path(alloc, request, now, files, lists, locators)
         }
-        Task::Tree => tree(alloc, request, now, files, locators, are_all_read),
-        Task::Help | Task::Version => unreachable!(),
+        Task::Tree | Task::Help | Task::Version => unreachable!(),
     }
 }
 
-// Leaves the outcome of an answer, and no text.
-fn silenced(alloc: Global, answer: Answer) -> Answer
-    ensures outcome { result.outcome ≡ answer.outcome }
-    ensures text { string_bytes result.text ≡ [] }
-{
-    let Answer { text, outcome } = answer;
-    drop(text);
-    Answer {
-        text: String::new(alloc),
-        outcome,
-    }
-}
-
-/// Answers what the request asks at this moment, where these of its files, lists and locators could
-/// be read.
-pub fn answer_request(
+/// Answers what `tree` asks at this moment, where these of its files, lists and locators could be
+/// read, as if it weren't quiet.
+pub fn answer_tree(
     alloc: Global,
     request: &Request<'_>,
     now: Time,
@@ -357,26 +275,35 @@ pub fn answer_request(
     lists: &[BareObject<'_>],
     locators: &[GivenLocator<'_>],
 ) -> Result<Answer, AllocError>
-    requires asks { AsksOfFiles request.now.task }
+    requires asks { request.now.task ≡ Task.Tree }
     requires given { AreGiven (fields_of request.now) files.now lists.now locators.now }
     ensures ends { let request = fields_of request.now in
         let its = locator_files locators.now in
         IfOk result (λ answer. EndsBy request now files.now lists.now its answer.outcome) }
-    ensures told { let request = fields_of request.now in
-        let has_text = HasText request now files.now lists.now locators.now in
-        IfOk result (λ answer. has_text answer.outcome) }
-    ensures quiet { IsTrue request.now.quiet
-        → IfOk result (λ answer. string_bytes answer.text ≡ []) }
-    ensures text { let request = fields_of request.now in IsFalse request.is_quiet
-        → request.format ≡ Format.Text → IfOk result (λ answer. IsTextBy request.task answer.outcome
+    ensures text { let request = fields_of request.now in
+        request.format ≡ Format.Text → IfOk result (λ answer. IsTextBy request.task answer.outcome
         request now files.now lists.now locators.now (string_bytes answer.text)) }
-    ensures json { let request = fields_of request.now in IsFalse request.is_quiet
-        → request.format ≢ Format.Text → IfOk result (λ answer. IsJsonBy request.task answer.outcome
+    ensures json { let request = fields_of request.now in
+        request.format ≢ Format.Text → IfOk result (λ answer. IsJsonBy request.task answer.outcome
         request now files.now lists.now locators.now (string_bytes answer.text)) }
 {
-    let answer = whole_answer(alloc, request, now, files, lists, locators)?;
-    if request.quiet {
-        return Ok(silenced(alloc, answer));
+    let are_all_read = are_all_read(request, files.len(), lists.len(), locators.len());
+    tree(alloc, request, now, files, locators, are_all_read)
+}
+
+/// Leaves the outcome of an answer, and its text unless it is asked to be quiet.
+pub fn quieted(alloc: Global, answer: Answer, is_quiet: bool) -> Answer
+    ensures outcome { result.outcome ≡ answer.outcome }
+    ensures quiet { IsTrue is_quiet → string_bytes result.text ≡ [] }
+    ensures told { IsFalse is_quiet → result.text ≡ answer.text }
+{
+    if !is_quiet {
+        return answer;
     }
-    Ok(answer)
+    let Answer { text, outcome } = answer;
+    drop(text);
+    Answer {
+        text: String::new(alloc),
+        outcome,
+    }
 }

@@ -1,13 +1,12 @@
 //! The files that a request names, and what is said of those that can't be read.
 ghost use Rattle.std.specs.Prelude.{◌≡◌, ◌≢◌, [], ◌∷◌, ◌++◌, All, List, Some, map, IfErr, IfOk, MatchOption, OnOk};
-ghost use Rattle.rpki_files.specs.Files.{FileFields};
 ghost use Rattle.rpki_arguments.specs.CommandLines.Views.{fields_of};
-ghost use Rattle.rpki_command.specs.ReadFiles.{AreFilesRead, AreGiven, AreObjectsRead, AreRead, IsFileRead, IsObjectRead, IsUnread};
+ghost use Rattle.rpki_command.specs.ReadFiles.{AreFilesRead, AreObjectsRead, AreRead, IsUnread};
 ghost use Rattle.rpki_verdicts.specs.GivenLocators.{LocatorFields, IsRead, locator_files};
 
 use crate::files::{FileSource, Unread};
 use rpki_arguments::Request;
-use rpki_files::{BareObject, Object, read_bare_object};
+use rpki_files::{BareObject, Object, read_bare_object, read_object};
 use rpki_text::Characters;
 use rpki_verdicts::GivenLocator;
 use std::alloc::{AllocError, Global};
@@ -45,22 +44,20 @@ pub fn octets_by<'a, F: FileSource>(
     }
 }
 
-// The object of a file; where it can't be read, that is said, and there is none.
-fn read_named<'a, F: FileSource, E: Write>(
+// What a file of this name holds; where it can't be read, that is said, and there is nothing.
+fn octets_told<'a, F: FileSource, E: Write>(
     alloc: Global,
     files: &F,
     err: &mut E,
     name: &'a [u8],
     most: u64,
-) -> Result<Option<BareObject<'a>>, AllocError>
+) -> Result<Option<(&'a str, Vec<u8>)>, AllocError>
     ensures { let reads = F.reads files.now in IfOk result (λ read.
-        MatchOption read (IsUnread reads most name.now) (IsObjectRead reads most name.now)) }
+        MatchOption read (IsUnread reads most name.now)
+        (λ r. (r.0.now ≡ name.now) × reads name.now most (Some r.1.items))) }
 {
     match octets_by(alloc, files, name, most) {
-        Ok((text, octets)) => match read_bare_object(alloc, text, octets) {
-            Ok(object) => Ok(Some(object)),
-            Err(error) => Err(error),
-        },
+        Ok(read) => Ok(Some(read)),
         Err(Unread::Memory) => Err(AllocError),
         Err(why) => {
             tell(err, name, &why);
@@ -70,58 +67,61 @@ fn read_named<'a, F: FileSource, E: Write>(
     }
 }
 
-// Reads a file and pushes its object, if it can be read.
-fn push_file<'a, F: FileSource, E: Write>(
+/// What is kept of a file: its object with all that is read of it, or its bare object.
+pub trait Kept<'a>: Sized + Drop {
+    ghost use Rattle.rpki_files.specs.Files.{FileFields};
+    ghost use Rattle.rpki_files.specs.PemFiles.{IsObjectOf};
+
+    /// The file's name, and the octets of its object.
+    ghost fields: { Self → FileFields };
+
+    /// Reads the object of a file. Errs only where memory runs out.
+    fn keep(alloc: Global, name: &'a str, file: Vec<u8>) -> Result<Self, AllocError>
+        ensures name { IfOk result (λ kept. (fields kept).name ≡ name.now) }
+        ensures object { IfOk result (λ kept. IsObjectOf file.items (fields kept).octets) };
+}
+
+impl<'a> Kept<'a> for Object<'a> {
+    ghost fields = { λ object. object };
+
+    fn keep(alloc: Global, name: &'a str, file: Vec<u8>) -> Result<Object<'a>, AllocError> {
+        read_object(alloc, name, file)
+    }
+}
+
+impl<'a> Kept<'a> for BareObject<'a> {
+    ghost fields = { λ object. object };
+
+    fn keep(alloc: Global, name: &'a str, file: Vec<u8>) -> Result<BareObject<'a>, AllocError> {
+        read_bare_object(alloc, name, file)
+    }
+}
+
+// Reads a file and pushes what is kept of it, if it can be read.
+fn push_file<'a, F: FileSource, E: Write, K: Kept<'a>>(
     alloc: Global,
     files: &F,
     err: &mut E,
-    all: &mut Vec<BareObject<'a>>,
+    all: &mut Vec<K>,
     name: &'a [u8],
     most: u64,
 ) -> Result<(), AllocError>
-    ensures { OnOk result ((its : List FileFields)
-        × AreObjectsRead (F.reads files.now) most (name.now ∷ []) its
+    ensures { OnOk result ((its : List K)
+        × AreObjectsRead (F.reads files.now) most (name.now ∷ []) (map K.fields its)
         × (all.new.items ≡ all.old.items ++ its)) }
 {
-    match read_named(alloc, files, err, name, most) {
-        Ok(Some(object)) => {
-            all.push(object)?;
+    match octets_told(alloc, files, err, name, most)? {
+        Some((text, octets)) => {
+            let file = K::keep(alloc, text, octets)?;
+            all.push(file)?;
             Ok(())
         }
-        Ok(None) => Ok(()),
-        Err(error) => Err(error),
+        None => Ok(()),
     }
 }
 
-// The locator that a file is given as, or what is wrong of it; where it can't be read, that is
-// said, and there is none.
-fn read_locator<'a, F: FileSource, E: Write>(
-    alloc: Global,
-    files: &F,
-    err: &mut E,
-    name: &'a [u8],
-    most: u64,
-    strict: bool,
-) -> Result<Option<GivenLocator<'a>>, AllocError>
-    ensures { let reads = F.reads files.now in IfOk result (λ read.
-        MatchOption read (IsUnread reads most name.now)
-        (λ l. IsFileRead reads most name.now l.file × IsRead strict l)) }
-{
-    match octets_by(alloc, files, name, most) {
-        Ok((text, octets)) => match GivenLocator::read(alloc, text, octets, strict) {
-            Ok(locator) => Ok(Some(locator)),
-            Err(error) => Err(error),
-        },
-        Err(Unread::Memory) => Err(AllocError),
-        Err(why) => {
-            tell(err, name, &why);
-            drop(why);
-            Ok(None)
-        }
-    }
-}
-
-// Reads a file and pushes the locator that it is given as, if it can be read.
+// Reads a file and pushes the locator that it is given as, or what is wrong of it, if the file can
+// be read.
 fn push_locator<'a, F: FileSource, E: Write>(
     alloc: Global,
     files: &F,
@@ -135,13 +135,13 @@ fn push_locator<'a, F: FileSource, E: Write>(
         × AreFilesRead (F.reads files.now) most (name.now ∷ []) (locator_files its)
         × All (IsRead strict) its × (all.new.items ≡ all.old.items ++ its)) }
 {
-    match read_locator(alloc, files, err, name, most, strict) {
-        Ok(Some(locator)) => {
+    match octets_told(alloc, files, err, name, most)? {
+        Some((text, octets)) => {
+            let locator = GivenLocator::read(alloc, text, octets, strict)?;
             all.push(locator)?;
             Ok(())
         }
-        Ok(None) => Ok(()),
-        Err(error) => Err(error),
+        None => Ok(()),
     }
 }
 
@@ -168,15 +168,15 @@ pub fn read_locators<'a, F: FileSource, E: Write>(
 
 /// Reads the files of these names, each of so many octets at most, and says of each that can't be
 /// read why. Errs only where memory runs out.
-pub fn read_files<'a, F: FileSource, E: Write>(
+pub fn read_files<'a, F: FileSource, E: Write, K: Kept<'a>>(
     alloc: Global,
     files: &F,
     err: &mut E,
     names: &[&'a [u8]],
     most: u64,
-) -> Result<Vec<BareObject<'a>>, AllocError>
+) -> Result<Vec<K>, AllocError>
     ensures { let reads = F.reads files.now in IfOk result (λ all.
-        AreObjectsRead reads most (map (λ name. name.now) names.now) all.items) }
+        AreObjectsRead reads most (map (λ name. name.now) names.now) (map K.fields all.items)) }
 {
     let mut all = Vec::new(alloc);
     let mut read = 0;
@@ -188,41 +188,25 @@ pub fn read_files<'a, F: FileSource, E: Write>(
     Ok(all)
 }
 
-/// Returns the objects with what is read of them. Errs only where memory runs out.
-pub fn objects_of<'a>(
-    alloc: Global,
-    files: &[BareObject<'a>],
-) -> Result<Vec<Object<'a>>, AllocError>
-    ensures { IfOk result (λ all. all.items ≡ files.now) }
-{
-    let mut all = Vec::new(alloc);
-    for file in files {
-        let object = file.object(alloc)?;
-        all.push(object)?;
-    }
-    Ok(all)
-}
-
 /// The files, lists and locators that a request names, as far as they can be read.
 #[derive(Drop)]
-pub struct GivenFiles<'a> {
-    pub files: Vec<BareObject<'a>>,
-    pub lists: Vec<BareObject<'a>>,
+pub struct GivenFiles<'a, K> {
+    pub files: Vec<K>,
+    pub lists: Vec<K>,
     pub locators: Vec<GivenLocator<'a>>,
 }
 
 /// Reads the files, lists and locators that a request names, and says of each that can't be read why.
 /// Errs only where memory runs out.
-pub fn read_given<'a, F: FileSource, E: Write>(
+pub fn read_given<'a, F: FileSource, E: Write, K: Kept<'a>>(
     alloc: Global,
     files: &F,
     err: &mut E,
     request: &Request<'a>,
-) -> Result<GivenFiles<'a>, AllocError>
-    ensures read { let request = fields_of request.now in IfOk result (λ given.
-        AreRead (F.reads files.now) request given.files.items given.lists.items given.locators.items) }
-    ensures named { let request = fields_of request.now in IfOk result (λ given.
-        AreGiven request given.files.items given.lists.items given.locators.items) }
+) -> Result<GivenFiles<'a, K>, AllocError>
+    ensures { let request = fields_of request.now in IfOk result (λ given.
+        let all = map K.fields given.files.items in let lists = map K.fields given.lists.items in
+        AreRead (F.reads files.now) request all lists given.locators.items) }
 {
     let most = request.max_size;
     let members = read_files(alloc, files, err, &request.files, most)?;

@@ -1,27 +1,28 @@
 //! A run of the command: from its words, over files and a clock, to what it puts out.
-ghost use Rattle.std.specs.Prelude.{◌≡◌, ◌≢◌, List, ℕ, IfOk, OnErr, OnOk, string_bytes};
+ghost use Rattle.std.specs.Prelude.{◌≡◌, ◌≢◌, ◌⊎◌, List, ℕ, IfOk, OnErr, OnOk, string_bytes};
 ghost use Rattle.std.specs.Io.KnownBytes.{Appends};
 ghost use Rattle.rpki_arguments.specs.CommandLines.Views.{fields_of, word_octets};
 ghost use Rattle.rpki_command.specs.Outcomes.{AsksOfFiles};
 ghost use Rattle.rpki_arguments.specs.MisuseTexts.{misuse_text};
 ghost use Rattle.rpki_command.specs.Messages.{SaysLineMisuse, SaysRefusal, misuse_message};
 ghost use Rattle.rpki_command.specs.Outputs.{Makes, Output};
-ghost use Rattle.rpki_command.specs.Runs.{IsAnswer, IsAnswerBy, IsAnswerIn, IsAnswerOf, IsAnswerOfNamed, LineEnds, RunEnds, SaysMisuse};
+ghost use Rattle.rpki_command.specs.Runs.{IsAnswer, IsAnswerBy, IsAnswerIn, IsAnswerOf, IsAnswerOfNamed, IsWholeAnswer, LineEnds, RunEnds, SaysMisuse};
 ghost use Rattle.rpki_requests.specs.RequestWords.{BeginsRequest};
 
 use crate::about::{text_about, usage};
-use crate::answering::answer_request;
+use crate::answering::{answer_objects, answer_tree, quieted};
 use crate::clock::{MomentSource, moment};
 use crate::files::FileSource;
 use crate::folders::{file_names, opened, with_files, with_further, with_path};
 use crate::making::FileMaker;
 use crate::outcomes::{Answer, Ended, Outcome};
-use crate::reading::read_given;
+use crate::reading::{GivenFiles, read_given};
 use crate::requests::run_request;
 use crate::searching::{SoughtNames, names_sought};
 use anyhow::{Result, anyhow};
 use rpki::repository::x509::Time;
-use rpki_arguments::{Misuse, Request, read_words};
+use rpki_arguments::{Misuse, Request, Task, read_words};
+use rpki_files::{BareObject, Object};
 use rpki_requests::is_request;
 use std::alloc::{AllocError, Global};
 use std::io;
@@ -42,7 +43,76 @@ fn say<E: Write>(err: &mut E, misuse: &Misuse<'_>) -> Result<()>
     Ok(())
 }
 
-// What is answered of the files that the request names.
+// What `show` or `validate` is answered of the files that are named, as if it weren't quiet.
+fn objects_answered<F: FileSource, E: Write>(
+    alloc: Global,
+    files: &F,
+    err: &mut E,
+    request: &Request<'_>,
+    now: Time,
+) -> Result<Answer, AllocError>
+    requires { let task = request.now.task in (task ≡ Task.Show) ⊎ (task ≡ Task.Validate) }
+    ensures { let request = fields_of request.now in IfOk result (λ answer.
+        IsWholeAnswer (F.reads files.now) request now answer.outcome (string_bytes answer.text)) }
+{
+    let given: GivenFiles<'_, Object<'_>> = read_given(alloc, files, err, request)?;
+    let answer = answer_objects(
+        alloc,
+        request,
+        now,
+        &given.files,
+        &given.lists,
+        &given.locators,
+    )?;
+    drop(given);
+    Ok(answer)
+}
+
+// What `tree` is answered of them.
+fn tree_answered<F: FileSource, E: Write>(
+    alloc: Global,
+    files: &F,
+    err: &mut E,
+    request: &Request<'_>,
+    now: Time,
+) -> Result<Answer, AllocError>
+    requires { request.now.task ≡ Task.Tree }
+    ensures { let request = fields_of request.now in IfOk result (λ answer.
+        IsWholeAnswer (F.reads files.now) request now answer.outcome (string_bytes answer.text)) }
+{
+    let given: GivenFiles<'_, BareObject<'_>> = read_given(alloc, files, err, request)?;
+    let answer = answer_tree(
+        alloc,
+        request,
+        now,
+        &given.files,
+        &given.lists,
+        &given.locators,
+    )?;
+    drop(given);
+    Ok(answer)
+}
+
+// What is answered of them, as if the request weren't quiet.
+fn whole_answered<F: FileSource, E: Write>(
+    alloc: Global,
+    files: &F,
+    err: &mut E,
+    request: &Request<'_>,
+    now: Time,
+) -> Result<Answer, AllocError>
+    requires { AsksOfFiles request.now.task }
+    ensures { let request = fields_of request.now in IfOk result (λ answer.
+        IsWholeAnswer (F.reads files.now) request now answer.outcome (string_bytes answer.text)) }
+{
+    match request.task {
+        Task::Show | Task::Validate => objects_answered(alloc, files, err, request, now),
+        Task::Tree => tree_answered(alloc, files, err, request, now),
+        Task::Help | Task::Version => unreachable!(),
+    }
+}
+
+// What is answered of them.
 fn answered<F: FileSource, E: Write>(
     alloc: Global,
     files: &F,
@@ -54,17 +124,8 @@ fn answered<F: FileSource, E: Write>(
     ensures { let request = fields_of request.now in IfOk result (λ answer.
         IsAnswer (F.reads files.now) request now answer.outcome (string_bytes answer.text)) }
 {
-    let given = read_given(alloc, files, err, request)?;
-    let answer = answer_request(
-        alloc,
-        request,
-        now,
-        &given.files,
-        &given.lists,
-        &given.locators,
-    )?;
-    drop(given);
-    Ok(answer)
+    let answer = whole_answered(alloc, files, err, request, now)?;
+    Ok(quieted(alloc, answer, request.quiet))
 }
 
 /// Answers at this moment what a request asks of files, as reading them gives them, and writes the

@@ -12,7 +12,7 @@ ghost use Rattle.rpki_command.specs.SoughtPaths.{AreListNames, IsSearch, IsSearc
 
 use crate::answering::{are_all_read, tree_question};
 use crate::files::FileSource;
-use crate::reading::read_given;
+use crate::reading::{GivenFiles, read_given};
 use rpki::repository::x509::Time;
 use rpki_arguments::Request;
 use rpki_files::BareObject;
@@ -127,7 +127,7 @@ fn sought_if_read(
     ensures { IfOk result
         (IsSearchOf (fields_of request.now) now files.now lists.now locators.now) }
 {
-    if !are_all_read(request, files, lists, locators) {
+    if !are_all_read(request, files.len(), lists.len(), locators.len()) {
         return Ok(None);
     }
     let sought = sought_among(alloc, request, now, files, locators)?;
@@ -145,7 +145,7 @@ pub fn names_sought<F: FileSource, E: Write>(
 ) -> Result<Option<SoughtNames>, AllocError>
     ensures { IfOk result (IsSearch (F.reads files.now) (fields_of request.now) now) }
 {
-    let given = read_given(alloc, files, err, request)?;
+    let given: GivenFiles<'_, BareObject<'_>> = read_given(alloc, files, err, request)?;
     let sought = sought_if_read(
         alloc,
         request,

@@ -5,8 +5,8 @@ use Rattle.rpki_command.proofs.ReadFiles.{all_read, as_many}
 use Rattle.rpki_command.proofs.answering.are_read.Goals as goal
 
 pub returns : goal.returns
-returns c =
+returns c = λ files named count_is.
     let same = length-map c.args.names.now (λ name. name.now) in (
-      (λ yes. all_read _ c.args.files.now c.requires (eqb-true _ _ yes ∙ sym same)),
-      (λ are. eq-eqb _ _ (as_many _ c.args.files.now are ∙ same)),
+      (λ yes. all_read _ files named (sym count_is ∙ eqb-true _ _ yes ∙ sym same)),
+      (λ are. eq-eqb _ _ (count_is ∙ as_many _ files are ∙ same)),
     )

@@ -1,19 +1,17 @@
+use Rattle.std.proofs.Common.{string_bytes, subst, sym, ap}
+use Rattle.rpki_arguments.specs.CommandLines.Views.{fields_of}
+use Rattle.rpki_command.specs.Runs.{IsWholeAnswer}
+use Rattle.rpki_command.specs.declared.outcomes.Outcome.{Outcome}
 use Rattle.rpki_command.proofs.running.answered.Goals as goal
-
-pub answer_request-requires-clause-given : goal.answer_request-requires-clause-given
-answer_request-requires-clause-given g c = rw (← c.deref.ensures.value, ← c.deref-2.ensures.value, ← c.deref-3.ensures.value) at c.in_ok-given.ensures.named
 
 pub returns : goal.returns
 returns g c =
-    let its = c.in_ok-answer.ensures in
+    let reads = g.F.FileSource.reads c.args.files.now in
+    let whole = c.in_ok-answer.answer in
+    let its = c.quieted.ensures in
     record {
-      files = c.deref.result.now;
-      lists = c.deref-2.result.now;
-      locators = c.deref-3.result.now;
-      are_read = rw (← c.deref.ensures.value, ← c.deref-2.ensures.value, ← c.deref-3.ensures.value) at c.in_ok-given.ensures.read;
-      ends = its.ends;
-      told = its.told;
+      told = string_bytes whole.text;
+      whole = subst (λ (o : Outcome). IsWholeAnswer reads (fields_of c.args.request.now) c.args.now o (string_bytes whole.text)) (sym its.outcome) c.in_ok-answer.ensures;
       quiet_is = its.quiet;
-      text_is = its.text;
-      json_is = its.json;
+      told_is = λ loud. ap string_bytes (its.told loud);
     }
