@@ -130,20 +130,20 @@ as_misuse Ends (Ok WrongUse) ends told = ends
 as_misuse Ends (Ok Unread) ends told = cc
 as_misuse Ends (Err why) ends told = cc
 
-module _ {E F T : Type 0} (Ran : Outcome → T → Type 0) (Wrote : Ended → T → Type 0) where
-  settled_ends : (ran : Result Ended E) (settled : Result Outcome F) → IfOk ran (λ e. (output : T) × Ran e.outcome output × Wrote e output) → IfOk settled (λ outcome. IsOkAnd ran (λ e. outcome ≡ e.outcome)) → IfOk settled (λ outcome. (output : T) × Ran outcome output)
-  settled_ends (Ok e) (Ok outcome) ends same = (ends.0, subst (λ (o : Outcome). Ran o ends.0) (sym same) ends.1)
+module _ {E F : Type 0} (Ends : Outcome → Type 0) where
+  settled_ends : (ran : Result Ended E) (settled : Result Outcome F) → IfOk ran (λ e. Ends e.outcome) → IfOk settled (λ outcome. IsOkAnd ran (λ e. outcome ≡ e.outcome)) → IfOk settled Ends
+  settled_ends (Ok e) (Ok outcome) ends same = subst (λ (o : Outcome). Ends o) (sym same) ends
   settled_ends (Err why) (Ok outcome) ends same = absurd same
   settled_ends ran (Err why) ends same = tt
 
   -- where it is 2
-  pub told_misuse : (ran : Result Ended E) (settled : Result Outcome F) → IfOk ran (λ e. (output : T) × Ran e.outcome output × Wrote e output) → IfOk settled (λ outcome. IsOkAnd ran (λ e. outcome ≡ e.outcome)) → run_status settled ≡ 2 → (output : T) × Ran WrongUse output
-  told_misuse ran settled ends same told = as_misuse (λ outcome. (output : T) × Ran outcome output) settled (settled_ends ran settled ends same) told
+  pub told_misuse : (ran : Result Ended E) (settled : Result Outcome F) → IfOk ran (λ e. Ends e.outcome) → IfOk settled (λ outcome. IsOkAnd ran (λ e. outcome ≡ e.outcome)) → run_status settled ≡ 2 → Ends WrongUse
+  told_misuse ran settled ends same told = as_misuse Ends settled (settled_ends ran settled ends same) told
 
   -- where it is 0
-  pub told_success : (ran : Result Ended E) (settled : Result Outcome F) → IfOk ran (λ e. (output : T) × Ran e.outcome output × Wrote e output) → IfOk settled (λ outcome. IsOkAnd ran (λ e. outcome ≡ e.outcome)) → run_status settled ≡ 0 → (output : T) × Ran Success output
-  told_success ran settled ends same told = as_success (λ outcome. (output : T) × Ran outcome output) settled (settled_ends ran settled ends same) told
+  pub told_success : (ran : Result Ended E) (settled : Result Outcome F) → IfOk ran (λ e. Ends e.outcome) → IfOk settled (λ outcome. IsOkAnd ran (λ e. outcome ≡ e.outcome)) → run_status settled ≡ 0 → Ends Success
+  told_success ran settled ends same told = as_success Ends settled (settled_ends ran settled ends same) told
 
   -- where it is 1
-  pub told_rejection : (ran : Result Ended E) (settled : Result Outcome F) → IfOk ran (λ e. (output : T) × Ran e.outcome output × Wrote e output) → IfOk settled (λ outcome. IsOkAnd ran (λ e. outcome ≡ e.outcome)) → run_status settled ≡ 1 → (output : T) × Ran Rejection output
-  told_rejection ran settled ends same told = as_rejection (λ outcome. (output : T) × Ran outcome output) settled (settled_ends ran settled ends same) told
+  pub told_rejection : (ran : Result Ended E) (settled : Result Outcome F) → IfOk ran (λ e. Ends e.outcome) → IfOk settled (λ outcome. IsOkAnd ran (λ e. outcome ≡ e.outcome)) → run_status settled ≡ 1 → Ends Rejection
+  told_rejection ran settled ends same told = as_rejection Ends settled (settled_ends ran settled ends same) told

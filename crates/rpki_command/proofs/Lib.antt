@@ -11,7 +11,6 @@ mod PrintedFiles
 mod PushedItems
 mod PushedValues
 mod PutMembers
-mod RanRequests
 mod ReadFiles
 mod ShownFiles
 mod ShownValues
