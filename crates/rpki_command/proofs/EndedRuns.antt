@@ -12,7 +12,7 @@ use Rattle.rpki_verdicts.specs.GivenLocators.{locator_files}
 use Rattle.rpki_verdicts.specs.PathFiles.{Demands}
 use Rattle.rpki_command.specs.AboutTexts.{about_text}
 use Rattle.rpki_arguments.specs.CommandLines.{RequestFields, with_files, IsCommandLine}
-use Rattle.rpki_command.specs.Outcomes.{AsksOfFiles, IsOutcomeOf, demands_by, run_status}
+use Rattle.rpki_answers.specs.Outcomes.{AsksOfFiles, IsOutcomeOf, demands_by, run_status}
 use Rattle.rpki_command.specs.ListedFolders.{Lists}
 use Rattle.rpki_command.specs.ReadFiles.{Reads}
 use Rattle.rpki_command.specs.Moments.{IsMomentBy}
@@ -20,10 +20,10 @@ use Rattle.rpki_command.specs.SoughtPaths.{with_sought}
 use Rattle.rpki_command.specs.Runs.{IsAnswer, IsAnswerAmong, IsAnswerBy, IsAnswerIn, IsAnswerOf, IsAnswerOfNamed, LineEnds, TaskEnds}
 use Rattle.rpki_arguments.specs.declared.arguments.Task.{Task}
 use Rattle.rpki_arguments.specs.declared.arguments.Task.TheVariants.{Show, Validate, Tree, Help, Version}
-use Rattle.rpki_command.specs.declared.outcomes.Ended.{Ended}
-use Rattle.rpki_command.specs.declared.outcomes.Outcome.{Outcome}
+use Rattle.rpki_command.specs.declared.ended.Ended.{Ended}
+use Rattle.rpki_answers.specs.declared.outcomes.Outcome.{Outcome}
 use Rattle.rpki_command.specs.declared.searching.SoughtNames.{SoughtNames}
-use Rattle.rpki_command.specs.declared.outcomes.Outcome.TheVariants.{Success, Rejection, WrongUse, Unread}
+use Rattle.rpki_answers.specs.declared.outcomes.Outcome.TheVariants.{Success, Rejection, WrongUse, Unread}
 
 -- what files hold never makes a run end as wrong use
 no_misuse : (task : Task) (x : Context) (d : Demands) (files lists : List (List ℕ)) → IsOutcomeOf task x d files lists WrongUse → ⊥

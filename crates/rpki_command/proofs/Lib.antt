@@ -1,23 +1,9 @@
 -- Lemmas of the command's proofs.
-mod AppendedTexts
 mod EndedRuns
-mod FlaggedItems
 mod ListedNames
 mod ListsAmong
 mod NamedObjects
-mod PartsOfEach
 mod PemLines
-mod PrintedFiles
-mod PushedItems
-mod PushedValues
-mod PutMembers
 mod ReadFiles
-mod ShownFiles
-mod ShownValues
-mod SingleOutcomes
-mod WholeFiles
 mod WholeSources
-mod WholeTrees
-mod WholeValues
-mod WholeVerdicts
 mod WrittenTexts

@@ -18,8 +18,8 @@ use Rattle.rpki_command.specs.Moments.{IsMomentBy}
 use Rattle.rpki_command.specs.Outputs.{Output, nothing, only_text, placed}
 use Rattle.rpki_command.specs.PemTexts.{IsPemText}
 use Rattle.rpki_command.specs.ReadFiles.{Reads, IsUnread}
-use Rattle.rpki_command.specs.declared.outcomes.Outcome.{Outcome}
-use Rattle.rpki_command.specs.declared.outcomes.Outcome.TheVariants.{Success, Rejection, WrongUse, Unread}
+use Rattle.rpki_answers.specs.declared.outcomes.Outcome.{Outcome}
+use Rattle.rpki_answers.specs.declared.outcomes.Outcome.TheVariants.{Success, Rejection, WrongUse, Unread}
 pub mod Views
 
 -- ---- the files

@@ -5,10 +5,10 @@ use Rattle.rpki.specs.Times.{Moment}
 use Rattle.rpki_files.specs.Files.{FileFields}
 use Rattle.rpki_verdicts.specs.GivenLocators.{LocatorFields, locator_files}
 use Rattle.rpki_command.specs.AboutTexts.{usage_text, version_text}
-use Rattle.rpki_command.specs.AnswerTexts.{IsTextBy, IsJsonBy}
+use Rattle.rpki_answers.specs.AnswerTexts.{IsTextBy, IsJsonBy}
 use Rattle.rpki_arguments.specs.CommandLines.{RequestFields, with_files, IsCommandLine}
 use Rattle.rpki_command.specs.ListedFolders.{Lists, AreFilesOf}
-use Rattle.rpki_command.specs.Outcomes.{EndsBy}
+use Rattle.rpki_answers.specs.Outcomes.{EndsBy}
 use Rattle.rpki_command.specs.Messages.{SaysLineMisuse, SaysRequestMisuse}
 use Rattle.rpki_command.specs.Moments.{IsMomentBy}
 use Rattle.rpki_command.specs.Outputs.{Output}
@@ -19,8 +19,8 @@ use Rattle.rpki_command.specs.SoughtPaths.{IsSearch, with_sought}
 use Rattle.rpki_arguments.specs.declared.arguments.Format.TheVariants.{Text}
 use Rattle.rpki_arguments.specs.declared.arguments.Task.{Task}
 use Rattle.rpki_arguments.specs.declared.arguments.Task.TheVariants.{Show, Validate, Tree, Help, Version}
-use Rattle.rpki_command.specs.declared.outcomes.Outcome.{Outcome}
-use Rattle.rpki_command.specs.declared.outcomes.Outcome.TheVariants.{Success, WrongUse, Unread}
+use Rattle.rpki_answers.specs.declared.outcomes.Outcome.{Outcome}
+use Rattle.rpki_answers.specs.declared.outcomes.Outcome.TheVariants.{Success, WrongUse, Unread}
 use Rattle.rpki_command.specs.declared.searching.SoughtNames.{SoughtNames}
 
 -- ---- what is asked of files

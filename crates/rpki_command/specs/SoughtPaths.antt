@@ -10,8 +10,8 @@ use Rattle.rpki_files.specs.Files.{FileFields, file_names}
 use Rattle.rpki_verdicts.specs.GivenLocators.{LocatorFields, locator_files}
 use Rattle.rpki_verdicts.specs.Searches.{IsSoughtPath}
 use Rattle.rpki_verdicts.specs.Trees.{TreeFields}
-use Rattle.rpki_command.specs.AnswerTexts.{tree_question_of}
-use Rattle.rpki_command.specs.Outcomes.{AreAllRead}
+use Rattle.rpki_answers.specs.AnswerTexts.{tree_question_of}
+use Rattle.rpki_answers.specs.Outcomes.{AreAllRead}
 use Rattle.rpki_command.specs.ReadFiles.{Reads, AreRead}
 use Rattle.rpki_command.specs.declared.searching.SoughtNames.{SoughtNames}
 

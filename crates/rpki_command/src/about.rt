@@ -1,7 +1,7 @@
 //! The texts about the command.
 ghost use Rattle.std.specs.Prelude.{◌≡◌, IfSome, MatchOption};
 ghost use Rattle.rpki_command.specs.AboutTexts.{about_text, usage_text};
-ghost use Rattle.rpki_command.specs.Outcomes.{AsksOfFiles};
+ghost use Rattle.rpki_answers.specs.Outcomes.{AsksOfFiles};
 
 use rpki_arguments::Task;
 

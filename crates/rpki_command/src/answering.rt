@@ -3,25 +3,21 @@ ghost use Rattle.std.specs.Prelude.{◌≡◌, ◌≢◌, ◌↔◌, ◌⊎◌, 
 ghost use Rattle.std.specs.Bool.{MatchBool};
 ghost use Rattle.rpki.specs.RsaSignatures.{IsSignedByRsa};
 ghost use Rattle.rpki.specs.Verification.{context};
-ghost use Rattle.rpki_command.specs.AnswerTexts.{IsJsonBy, IsTextBy, IsTreeJsonBy, IsTreeTextBy, options_of, question_of, tree_question_of};
+ghost use Rattle.rpki_answers.specs.AnswerTexts.{IsJsonBy, IsTextBy, IsTreeJsonBy, IsTreeTextBy, options_of, question_of, tree_question_of};
 ghost use Rattle.rpki_arguments.specs.CommandLines.Views.{fields_of};
-ghost use Rattle.rpki_command.specs.JsonAnswers.{IsJsonOfFiles, is_single};
-ghost use Rattle.rpki_command.specs.JsonVerdicts.{IsJsonOfPath};
-ghost use Rattle.rpki_command.specs.Outcomes.{IsOutcomeOfTree, AreAllRead, EndsBy, IsOutcomeOfShow, IsOutcomeOfValidate};
+ghost use Rattle.rpki_answers.specs.JsonAnswers.{IsJsonOfFiles, is_single};
+ghost use Rattle.rpki_answers.specs.JsonVerdicts.{IsJsonOfPath};
+ghost use Rattle.rpki_answers.specs.Outcomes.{IsOutcomeOfTree, AreAllRead, EndsBy, IsOutcomeOfShow, IsOutcomeOfValidate};
 ghost use Rattle.rpki_command.specs.ReadFiles.{AreGiven, AreNamed};
-ghost use Rattle.rpki_command.specs.ShownTexts.{IsTextOfFiles};
-ghost use Rattle.rpki_command.specs.VerdictTexts.{IsTextOfPath};
+ghost use Rattle.rpki_answers.specs.ShownTexts.{IsTextOfFiles};
+ghost use Rattle.rpki_answers.specs.VerdictTexts.{IsTextOfPath};
 ghost use Rattle.rpki_files.specs.Files.{FileFields, contents, file_names};
 ghost use Rattle.rpki_verdicts.specs.GivenLocators.{IsRead, LocatorFields, locator_files};
 ghost use Rattle.rpki_verdicts.specs.PathFiles.{demands_of};
 ghost use Rattle.rpki_verdicts.specs.Trees.{asked_of};
 
-use crate::as_json;
-use crate::outcomes::{Answer, Outcome};
-use crate::showing::{Options, shown};
-use crate::trees::treed;
-use crate::verdicts::validated;
 use rpki::repository::x509::Time;
+use rpki_answers::{Answer, Options, Outcome, answer_files, shown, treed, validated};
 use rpki_arguments::{Format, Request, Task};
 use rpki_files::{BareObject, Object};
 use rpki_verdicts::{GivenLocator, Question, TreeQuestion};
@@ -81,7 +77,7 @@ fn shown_as(
         return shown(alloc, files, &options);
     }
     let is_single = is_single(&request.files);
-    as_json::answer_files(alloc, files, request.strict, request.format, is_single)
+    answer_files(alloc, files, request.strict, request.format, is_single)
 }
 
 // Shows the files that could be read. The outcome is theirs, where all could be.

@@ -14,15 +14,16 @@ ghost use Rattle.rpki_command.specs.RequestRuns.Views.{input_fields};
 
 use crate::about::usage;
 use crate::clock::{MomentSource, moment};
+use crate::ended::Ended;
 use crate::files::{FileSource, Unread};
 use crate::inputs::{Objects, Unreadable, read_inputs};
 use crate::making::{FileMaker, Unmade, make_named};
-use crate::outcomes::{Ended, Outcome};
 use crate::pem::pem_text;
 use crate::reading::tell;
 use anyhow::{Error, Result, anyhow};
 use bytes::Bytes;
 use rpki::repository::x509::Time;
+use rpki_answers::Outcome;
 use rpki_requests::{
     Made, Misuse, Order, Refusal, Setting, asks_help, fulfil, named_moment, read_request,
 };

@@ -6,7 +6,7 @@ ghost use Rattle.rpki_arguments.specs.CommandLines.Views.{fields_of, word_octets
 ghost use Rattle.rpki_files.specs.Files.{FileFields, file_names};
 ghost use Rattle.rpki_verdicts.specs.Searches.{IsSoughtPath};
 ghost use Rattle.rpki_verdicts.specs.Trees.{asked_of};
-ghost use Rattle.rpki_command.specs.AnswerTexts.{tree_question_of};
+ghost use Rattle.rpki_answers.specs.AnswerTexts.{tree_question_of};
 ghost use Rattle.rpki_command.specs.ReadFiles.{AreGiven};
 ghost use Rattle.rpki_command.specs.SoughtPaths.{AreListNames, IsSearch, IsSearchOf, IsSought};
 

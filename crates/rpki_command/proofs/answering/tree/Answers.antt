@@ -4,12 +4,12 @@ use Rattle.std.proofs.Common.{◌≡◌, ◌∙◌, Bool, true, false, ℕ, List
 use Rattle.rpki_arguments.specs.CommandLines.Views.{fields_of}
 use Rattle.rpki_verdicts.specs.GivenLocators.{IsRead}
 use Rattle.rpki_verdicts.specs.Trees.{TreeFields}
-use Rattle.rpki_command.specs.AnswerTexts.{IsTreeBy, tree_question_of}
-use Rattle.rpki_command.specs.JsonTrees.{IsTreeJson}
-use Rattle.rpki_command.specs.TreeTexts.{IsTreeText}
-use Rattle.rpki_command.specs.declared.outcomes.Outcome.{Outcome}
-use Rattle.rpki_command.specs.declared.outcomes.Outcome.TheVariants.{Success, Rejection, Unread}
-use Rattle.rpki_command.specs.declared.trees.TreeFinding.{TreeFinding}
+use Rattle.rpki_answers.specs.AnswerTexts.{IsTreeBy, tree_question_of}
+use Rattle.rpki_answers.specs.JsonTrees.{IsTreeJson}
+use Rattle.rpki_answers.specs.TreeTexts.{IsTreeText}
+use Rattle.rpki_answers.specs.declared.outcomes.Outcome.{Outcome}
+use Rattle.rpki_answers.specs.declared.outcomes.Outcome.TheVariants.{Success, Rejection, Unread}
+use Rattle.rpki_answers.specs.declared.trees.TreeFinding.{TreeFinding}
 use Rattle.rpki_command.proofs.answering.tree.Goals as goal
 
 -- the same is said where another file couldn't be read

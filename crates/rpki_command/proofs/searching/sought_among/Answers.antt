@@ -5,7 +5,7 @@ use Rattle.rpki_arguments.specs.CommandLines.Views.{fields_of, word_octets}
 use Rattle.rpki_files.specs.Files.{FileFields, file_names}
 use Rattle.rpki_verdicts.specs.Searches.{IsSoughtPath}
 use Rattle.rpki_verdicts.specs.Trees.{TreeFields}
-use Rattle.rpki_command.specs.AnswerTexts.{tree_question_of}
+use Rattle.rpki_answers.specs.AnswerTexts.{tree_question_of}
 use Rattle.rpki_command.specs.SoughtPaths.{IsSought}
 use Rattle.rpki_command.proofs.searching.sought_among.Goals as goal
 

@@ -1,0 +1,93 @@
+-- Texts that are appended to a page one after the other.
+use Rattle.std.specs.Option.{option_map}
+use Rattle.std.specs.Prelude.{Option, Some, None, Result, Ok, Err, IfOk, MatchResult}
+use Rattle.std.proofs.Common.{◌≡◌, ◌+◌, ◌<◌, ◌≤◌, ℕ, List, [], ◌∷◌, ◌++◌, length, take, get_or, refl, sym, ap, subst, ◌∙◌, inl, inr, ⊎_elim, append_assoc}
+use Rattle.std.proofs.lemmas.List.{append-nil, take_more, take_all}
+use Rattle.rpki_files.specs.Files.{FileFields}
+use Rattle.rpki_text.specs.Pages.{Appends, AppendsSome}
+use Rattle.rpki_answers.specs.TreeTexts.{SaysInOrder}
+use Rattle.rpki_answers.specs.VerdictTexts.{SaysOfEach}
+
+-- ---- one text
+
+pub nothing_more : (old : Option (List ℕ)) → old ≡ option_map (λ so_far. so_far ++ []) old
+nothing_more None = refl
+nothing_more (Some so_far) = ap (λ (l : List ℕ). Some l) (sym (append-nil so_far))
+
+two_more : (a b : List ℕ) (old : Option (List ℕ)) → option_map (λ so_far. so_far ++ b) (option_map (λ so_far. so_far ++ a) old) ≡ option_map (λ so_far. so_far ++ (a ++ b)) old
+two_more a b None = refl
+two_more a b (Some so_far) = ap (λ (l : List ℕ). Some l) (append_assoc so_far a b)
+
+-- two texts
+pub then_appended : (old mid new : Option (List ℕ)) (a b : List ℕ) → Appends old a mid → Appends mid b new → Appends old (a ++ b) new
+then_appended old mid new a b p q =
+    let more : Option (List ℕ) → Option (List ℕ) = option_map (λ so_far. so_far ++ b) in
+    ⊎_elim (λ (is : new ≡ more mid).
+    ⊎_elim (λ (was : mid ≡ option_map (λ so_far. so_far ++ a) old). inl (is ∙ ap more was ∙ two_more a b old))
+    (λ (was : mid ≡ None). inr (is ∙ ap more was)) p)
+    (λ (is : new ≡ None). inr is) q
+
+-- the last text of several, behind which `concat` has an empty one
+pub last_appended : (old new : Option (List ℕ)) (text : List ℕ) → Appends old text new → Appends old (text ++ []) new
+last_appended old new text p = subst (λ (l : List ℕ). Appends old l new) (sym (append-nil text)) p
+
+-- ---- some text
+
+-- no text
+pub none_appended : (Holds : List ℕ → Type 0) (page : Option (List ℕ)) → Holds [] → AppendsSome Holds page page
+none_appended Holds page holds = inl ([], holds, nothing_more page)
+
+-- a text of which it holds
+pub such_appended : (Holds : List ℕ → Type 0) (old new : Option (List ℕ)) (text : List ℕ) → Holds text → Appends old text new → AppendsSome Holds old new
+such_appended Holds old new text holds p =
+    ⊎_elim (λ (is : new ≡ option_map (λ so_far. so_far ++ text) old). inl (text, holds, is)) (λ (is : new ≡ None). inr is) p
+
+-- two texts
+pub both_appended : (P Q R : List ℕ → Type 0) (old mid new : Option (List ℕ)) → ((a b : List ℕ) → P a → Q b → R (a ++ b)) → AppendsSome P old mid → AppendsSome Q mid new → AppendsSome R old new
+both_appended P Q R old mid new both p q =
+    ⊎_elim (λ (second : (b : List ℕ) × Q b × (new ≡ option_map (λ so_far. so_far ++ b) mid)).
+    let more : Option (List ℕ) → Option (List ℕ) = option_map (λ so_far. so_far ++ second.0) in
+    ⊎_elim (λ (first : (a : List ℕ) × P a × (mid ≡ option_map (λ so_far. so_far ++ a) old)). inl (first.0 ++ second.0, both first.0 second.0 first.1 second.1, second.2 ∙ ap more first.2 ∙ two_more first.0 second.0 old))
+    (λ (failed : mid ≡ None). inr (second.2 ∙ ap more failed)) p)
+    (λ (failed : new ≡ None). inr failed) q
+
+-- the text that was formed; where none was, memory has run out
+pub formed_appended : {S E : Type 0} (bytes : S → List ℕ) (old new : Option (List ℕ)) (text : List ℕ) (made : Result S E) → IfOk made (λ s. bytes s ≡ text) → MatchResult made (λ s. Appends old (bytes s) new) (λ _. new ≡ None) → Appends old text new
+formed_appended bytes old new text (Ok s) is appended = subst (λ (l : List ℕ). Appends old l new) is appended
+formed_appended bytes old new text (Err e) is failed = inr failed
+
+such_text : (Holds : List ℕ → Type 0) (text : List ℕ) → AppendsSome Holds (Some []) (Some text) → Holds text
+such_text Holds text p =
+    ⊎_elim (λ (some : (t : List ℕ) × Holds t × (Some text ≡ Some t)). let same : some.0 ≡ text = cc in subst Holds same some.1) (λ (none : Some text ≡ None). cc) p
+
+-- the text of a page that was empty
+pub text_of_page : {S E : Type 0} (bytes : S → List ℕ) (Holds : List ℕ → Type 0) (page : Option (List ℕ)) (r : Result S E) → AppendsSome Holds (Some []) page → MatchResult r (λ text. page ≡ Some (bytes text)) (λ _. page ≡ None) → IfOk r (λ text. Holds (bytes text))
+text_of_page bytes Holds page (Ok text) p is = such_text Holds (bytes text) (subst (λ (q : Option (List ℕ)). AppendsSome Holds (Some []) q) is p)
+text_of_page bytes Holds page (Err e) p is = tt
+
+-- ---- a text for each file
+
+pub says_more : {X : Type 0} (Says : FileFields → List X → Type 0) (files : List FileFields) (so_far : List X) (file : FileFields) (text : List X) → SaysOfEach Says files so_far → Says file text → SaysOfEach Says (files ++ file ∷ []) (so_far ++ text)
+says_more {X} Says [] so_far file text is says =
+    (text, [], says, refl, ap (λ (l : List X). l ++ text) is ∙ sym (append-nil text))
+says_more {X} Says (f ∷ fs) so_far file text is says =
+    (is.0, is.1 ++ text, is.2, says_more Says fs is.1 file text is.3 says, ap (λ (l : List X). l ++ text) is.4 ∙ append_assoc is.0 is.1 text)
+
+-- of a further file, with the places before and behind each
+pub order_more : {X : Type 0} (Says : ℕ → ℕ → FileFields → List X → Type 0) (from mid last : ℕ) (files : List FileFields) (so_far : List X) → SaysInOrder Says from mid files so_far → (file : FileFields) (said : List X) → Says mid last file said → SaysInOrder Says from last (files ++ file ∷ []) (so_far ++ said)
+order_more {X} Says from mid last [] so_far is file said says =
+    (last, said, [], subst (λ (p : ℕ). Says p last file said) is.1 says, (refl, refl), ap (λ (l : List X). l ++ said) is.0 ∙ sym (append-nil said))
+order_more {X} Says from mid last (f ∷ fs) so_far is file said says =
+    (is.0, is.1, is.2 ++ said, is.3, order_more Says is.0 mid last fs is.2 is.4 file said says, ap (λ (l : List X). l ++ said) is.5 ∙ append_assoc is.1 is.2 said)
+
+module _ (Says : FileFields → List ℕ → Type 0) (files : List FileFields) where
+  -- one file more
+  pub each_more : (i : ℕ) (file : FileFields) (old mid new : Option (List ℕ)) → i < length files → file ≡ get_or files i file → AppendsSome (SaysOfEach Says (take i files)) old mid → AppendsSome (Says file) mid new → AppendsSome (SaysOfEach Says (take (i + 1) files)) old new
+  each_more i file old mid new low there so_far one =
+      let more : take (i + 1) files ≡ take i files ++ file ∷ [] = take_more files i file low ∙ ap (λ (y : FileFields). take i files ++ y ∷ []) (sym there) in
+      subst (λ (l : List FileFields). AppendsSome (SaysOfEach Says l) old new) (sym more)
+      (both_appended (SaysOfEach Says (take i files)) (Says file) (SaysOfEach Says (take i files ++ file ∷ [])) old mid new (λ a b is says. says_more Says (take i files) a file b is says) so_far one)
+
+  -- behind the last
+  pub each_said : (i : ℕ) (old new : Option (List ℕ)) → length files ≤ i → AppendsSome (SaysOfEach Says (take i files)) old new → AppendsSome (SaysOfEach Says files) old new
+  each_said i old new high all = subst (λ (l : List FileFields). AppendsSome (SaysOfEach Says l) old new) (take_all i files high) all

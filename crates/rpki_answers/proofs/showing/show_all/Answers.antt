@@ -1,0 +1,32 @@
+use Rattle.std.specs.Prelude.{All, IsTrue}
+use Rattle.std.proofs.Common.{rules, ◌≡◌, ◌↔◌, ◌&&◌, ◌∷◌, List, refl, sym, subst}
+use Rattle.rpki_files.specs.Contents.{CanBeShown}
+use Rattle.rpki_files.specs.Files.{FileFields, contents}
+use Rattle.rpki_text.specs.Pages.{AppendsSome}
+use Rattle.rpki_answers.specs.ShownTexts.{IsFileText, IsFurtherText, IsTextOfFiles}
+use Rattle.rpki_answers.specs.VerdictTexts.{SaysOfEach}
+use Rattle.rpki_answers.proofs.AppendedTexts.{both_appended}
+use Rattle.rpki_answers.proofs.ShownFiles.{flag_of_first}
+use Rattle.rpki_answers.proofs.showing.show_all.Goals as goal
+
+pub returns-clause-shows : goal.returns-clause-shows
+returns-clause-shows c =
+    let first = c.in-Some.first.now in
+    let more = c.in-Some.more.now in
+    let parts : c.args.objects.now ≡ first ∷ more = search rules in
+    let is_first = c.in_ok-is_first.is_first in
+    let are_more = c.in_ok-are_more.are_more in
+    let Shows = CanBeShown c.args.options.now.strict in
+    subst (λ (files : List FileFields). IsTrue (are_more && is_first) ↔ All Shows (contents files)) (sym parts) (flag_of_first Shows first.octets (contents more) is_first are_more c.in_ok-is_first.ensures.shows c.in_ok-are_more.ensures.shows)
+
+pub returns-clause-text : goal.returns-clause-text
+returns-clause-text c =
+    let o = c.args.options.now in
+    let first = c.in-Some.first.now in
+    let more = c.in-Some.more.now in
+    let parts : c.args.objects.now ≡ first ∷ more = search rules in
+    let old = c.args.page.now in
+    let mid = c.show.new.page in
+    let new = c.show_more.new.page in
+    subst (λ (files : List FileFields). AppendsSome (IsTextOfFiles o files) old new) (sym parts)
+    (both_appended (IsFileText o first) (SaysOfEach (IsFurtherText o) more) (IsTextOfFiles o (first ∷ more)) old mid new (λ a b its others. (a, b, its, others, refl)) (c.in_ok-is_first.ensures.text) (c.in_ok-are_more.ensures.text))

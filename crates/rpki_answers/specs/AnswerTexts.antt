@@ -1,0 +1,93 @@
+-- What is answered of the files that a request names.
+use Rattle.std.specs.Prelude.{◌≡◌, ◌≢◌, ◌*◌, ◌^◌, ◌-◌, min, unwrap_or, ℕ, length, List, []}
+use Rattle.rpki.specs.RsaSignatures.{IsSignedByRsa}
+use Rattle.rpki.specs.Times.{Moment}
+use Rattle.rpki.specs.Verification.{context}
+use Rattle.rpki_arguments.specs.CommandLines.{RequestFields}
+use Rattle.rpki_files.specs.Files.{FileFields}
+use Rattle.rpki_verdicts.specs.GivenLocators.{LocatorFields}
+use Rattle.rpki_verdicts.specs.PathFiles.{QuestionFields}
+use Rattle.rpki_verdicts.specs.Trees.{TreeFields}
+use Rattle.rpki_answers.specs.JsonAnswers.{IsJsonOfFiles, is_single}
+use Rattle.rpki_answers.specs.JsonTrees.{IsTreeJson}
+use Rattle.rpki_answers.specs.JsonVerdicts.{IsJsonOfPath}
+use Rattle.rpki_answers.specs.ShownTexts.{IsTextOfFiles}
+use Rattle.rpki_answers.specs.TreeTexts.{IsAcceptingFinding, IsTreeFinding, IsTreeText}
+use Rattle.rpki_answers.specs.VerdictTexts.{IsTextOfPath}
+use Rattle.rpki_arguments.specs.declared.arguments.Format.{Format}
+use Rattle.rpki_arguments.specs.declared.arguments.Format.TheVariants.{Text}
+use Rattle.rpki_arguments.specs.declared.arguments.Task.{Task}
+use Rattle.rpki_arguments.specs.declared.arguments.Task.TheVariants.{Show, Validate, Tree}
+use Rattle.rpki_answers.specs.declared.outcomes.Outcome.{Outcome}
+use Rattle.rpki_answers.specs.declared.outcomes.Outcome.TheVariants.{Success, Rejection, Unread}
+use Rattle.rpki_answers.specs.declared.showing.Options.{Options}
+use Rattle.rpki_answers.specs.declared.trees.TreeFinding.{TreeFinding}
+
+-- how a request has files shown at a moment
+abbrev pub options_of : RequestFields → Moment → Options
+options_of r now = record { at = now; strict = r.strict; all = r.all_entries }
+
+-- what a request asks of a path of files, and of files that are given as lists and as locators, at a
+-- moment
+abbrev pub question_of : RequestFields → Moment → List FileFields → List FileFields
+    → List LocatorFields → QuestionFields
+question_of r now members lists locators =
+    record { members = members; lists = lists; locators = locators; names = r.names; strict = r.strict; at = now }
+
+-- how many certificates a path has at most below the trust anchor, where no word says it
+abbrev pub usual_depth : ℕ
+usual_depth = 32
+
+-- how many are verified at most among so many files, where no word says it
+abbrev pub usual_steps : ℕ → ℕ
+usual_steps count = min (count * 64) (2 ^ 64 - 1)
+
+-- and what it asks of files in no order
+abbrev pub tree_question_of : RequestFields → Moment → List FileFields → List LocatorFields → TreeFields
+tree_question_of r now files locators = record {
+  files = files;
+  locators = locators;
+  strict = r.strict;
+  at = now;
+  depth = unwrap_or r.depth usual_depth;
+  steps = unwrap_or r.steps (usual_steps (length files));
+}
+
+-- what is said of files in no order is this of what is found, and the run ends so: as success only where
+-- all are accepted, and as rejection only where they aren't
+abbrev pub IsTreeBy : (TreeFinding → List ℕ → Type 0) → TreeFields → Outcome → List ℕ → Type 0
+IsTreeBy Says q outcome text =
+    (finding : TreeFinding) × IsTreeFinding (context IsSignedByRsa q.at q.strict) q finding
+    × Says finding text × (outcome ≡ Success → IsAcceptingFinding finding)
+    × (outcome ≡ Rejection → IsAcceptingFinding finding → ⊥)
+
+-- as lines, and in a format of JSON
+abbrev pub IsTreeTextBy : TreeFields → Outcome → List ℕ → Type 0
+IsTreeTextBy q outcome text = IsTreeBy (IsTreeText q) q outcome text
+
+abbrev pub IsTreeJsonBy : Format → TreeFields → Outcome → List ℕ → Type 0
+IsTreeJsonBy format q outcome text = IsTreeBy (IsTreeJson format q) q outcome text
+
+-- the text for a person of a run with this task that ends so, of which these files, lists and locators
+-- could be read: `show` shows them, and `validate` judges nothing where another couldn't be read
+abbrev pub IsTextBy : Task → Outcome → RequestFields → Moment → List FileFields → List FileFields
+    → List LocatorFields → List ℕ → Type 0
+IsTextBy Show outcome r now files lists locators text = IsTextOfFiles (options_of r now) files text
+IsTextBy Validate Unread r now files lists locators text = text ≡ []
+IsTextBy Validate outcome r now files lists locators text =
+    IsTextOfPath (context IsSignedByRsa now r.strict) (question_of r now files lists locators) text
+IsTextBy Tree outcome r now files lists locators text =
+    IsTreeTextBy (tree_question_of r now files locators) outcome text
+IsTextBy _ outcome r now files lists locators text = ⊥
+
+-- its JSON, in the format that is asked
+abbrev pub IsJsonBy : Task → Outcome → RequestFields → Moment → List FileFields → List FileFields
+    → List LocatorFields → List ℕ → Type 0
+IsJsonBy Show outcome r now files lists locators text =
+    IsJsonOfFiles r.format (is_single r.files) r.strict files text
+IsJsonBy Validate Unread r now files lists locators text = text ≡ []
+IsJsonBy Validate outcome r now files lists locators text =
+    IsJsonOfPath r.format (context IsSignedByRsa now r.strict) (question_of r now files lists locators) text
+IsJsonBy Tree outcome r now files lists locators text =
+    IsTreeJsonBy r.format (tree_question_of r now files locators) outcome text
+IsJsonBy _ outcome r now files lists locators text = ⊥

@@ -1,0 +1,19 @@
+-- The definitions that the contracts of answers cite.
+pub mod Outcomes
+pub mod RejectionDetails
+pub mod VerdictTexts
+pub mod TreeTexts
+pub mod NoteLines
+pub mod FactTexts
+pub mod ShownTexts
+pub mod JsonValues
+pub mod JsonBlocks
+pub mod JsonKeys
+pub mod JsonNotes
+pub mod JsonFiles
+pub mod JsonTexts
+pub mod JsonDetails
+pub mod JsonVerdicts
+pub mod JsonTrees
+pub mod JsonAnswers
+pub mod AnswerTexts

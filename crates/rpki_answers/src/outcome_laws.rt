@@ -1,0 +1,23 @@
+//! Laws about the definitions. Each is the contract of a function with no parameters.
+ghost use Rattle.std.specs.Prelude.{◌≡◌, ℕ, Bool, List};
+ghost use Rattle.rpki.specs.RsaSignatures.{IsSignedByRsa};
+ghost use Rattle.rpki.specs.Times.{Moment};
+ghost use Rattle.rpki.specs.Verification.{context};
+ghost use Rattle.rpki_verdicts.specs.PathFiles.{Demands};
+ghost use Rattle.rpki_answers.specs.Outcomes.{IsOutcomeOf};
+ghost use Rattle.rpki_arguments.specs.declared.arguments.Task.{Task};
+ghost use Rattle.rpki_arguments.specs.declared.arguments.Task.TheVariants.{Tree};
+ghost use Rattle.rpki_answers.specs.declared.outcomes.Outcome.{Outcome};
+
+use rpki_verdicts::one_answer;
+
+/// Says that what files hold has at most one outcome at a moment, of all tasks but a tree, which may
+/// meet its bounds sooner or later.
+pub fn one_outcome()
+    ensures { (task : Task) → (task ≡ Tree → ⊥) → (now : Moment) (strict : Bool) (d : Demands)
+        (files lists : List (List ℕ)) (one other : Outcome)
+        → IsOutcomeOf task (context IsSignedByRsa now strict) d files lists one
+        → IsOutcomeOf task (context IsSignedByRsa now strict) d files lists other → one ≡ other }
+{
+    one_answer();
+}

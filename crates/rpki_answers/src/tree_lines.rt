@@ -1,0 +1,278 @@
+//! The verdicts on the certificates among files, for a person.
+ghost use Rattle.std.specs.Prelude.{◌≡◌, ◌≤◌, ◌<◌, ◌+◌, ◌^◌, ◌++◌, Some, IfOk, codes, map, slice_get, option_map, string_bytes};
+ghost use Rattle.rpki_files.specs.FaultRules.{ReasonFields, IsReason, reason, rule_of};
+ghost use Rattle.rpki_text.specs.Pages.{Appends, AppendsSome, line};
+ghost use Rattle.std.specs.Fmt.{decimal};
+ghost use Rattle.rpki_verdicts.specs.PathAnswers.{reason_of};
+ghost use Rattle.rpki_verdicts.specs.Trees.{asked_of};
+ghost use Rattle.rpki_verdicts.specs.declared.unordered.TreeAnswer.TheVariants.{Walked};
+ghost use Rattle.rpki_answers.specs.TreeTexts.{AreFileLines, IsAnswerText, IsFileLine, IsTreeText, SaysOfCertificate, SaysOfFile, SaysOfLine, accepted_text, end_text, ended_text, file_line, further_text, name_text_at, rejection_text};
+ghost use Rattle.rpki_answers.specs.VerdictTexts.{locators_text, moment_line, no_locator_text};
+
+use crate::trees::TreeFinding;
+use crate::verdict_lines::{print_moment, print_no_locator, print_other_locators};
+use rpki::repository::folder::{Ended, Line};
+use rpki::repository::path::PathFault;
+use rpki_files::rules::{Rule, of_path};
+use rpki_files::{BareObject, Front};
+use rpki_text::{FileName, Page};
+use rpki_verdicts::{Fault, Tree, TreeAnswer, TreeQuestion};
+use std::alloc::{AllocError, Global};
+use std::fmt;
+
+// Why a certificate is rejected: the step, the fault's name, and what that means.
+#[derive(Drop)]
+struct Rejection<'a> {
+    step: &'a str,
+    name: &'a str,
+    rule: Rule,
+}
+
+impl fmt::Display for Rejection<'_> {
+    ghost output = { λ r. Some (rejection_text (reason r.step.now r.name.now (rule_of r.rule))) };
+
+    fn fmt<W: fmt::Write>(&self, f: &mut fmt::Formatter<W>) -> fmt::Result {
+        let step = self.step;
+        let name = self.name;
+        let says = self.rule.says;
+        let section = self.rule.section;
+        write!(f, "rejected at {step}, {name}: {says} ({section})")
+    }
+}
+
+// The name of the certificate's file at a place.
+fn print_name_at(page: &mut Page, certs: &[&BareObject<'_>], place: usize)
+    ensures { Appends page.old (name_text_at (map (λ f. f.now) certs.now) place) page.new }
+{
+    match certs.get(place) {
+        Some(file) => page.value(&FileName(file.name())),
+        None => {}
+    }
+}
+
+// The names of the CAs at these places, each behind an arrow.
+fn print_further(page: &mut Page, certs: &[&BareObject<'_>], above: &[usize])
+    ensures { Appends page.old (further_text (map (λ f. f.now) certs.now) above.now) page.new }
+{
+    for place in above {
+        page.text(" > ");
+        print_name_at(page, certs, *place);
+    }
+}
+
+// That a certificate is accepted, and below which.
+fn print_accepted(page: &mut Page, tree: &Tree<'_, '_>, above: &[usize])
+    ensures { Appends page.old (accepted_text tree.now above.now) page.new }
+{
+    page.text("accepted, below ");
+    print_name_at(page, &tree.certs, tree.anchor);
+    print_further(page, &tree.certs, above);
+}
+
+// That a certificate is rejected, and why.
+fn print_rejected(page: &mut Page, file: &BareObject<'_>, fault: &PathFault)
+    ensures { (r : ReasonFields) × IsReason fault.now file.now.octets r
+        × Appends page.old (rejection_text r) page.new }
+{
+    let (step, name, rule) = of_path(fault, file.octets());
+    page.value(&Rejection { step, name, rule });
+}
+
+// What the line of a certificate says.
+fn print_line(page: &mut Page, tree: &Tree<'_, '_>, file: &BareObject<'_>, line: Option<&Line>)
+    ensures { let its = option_map (λ l. l.now) line.entry in
+        AppendsSome (SaysOfLine tree.now file.now its) page.old page.new }
+{
+    match line {
+        Some(Line::Accepted(above)) => print_accepted(page, tree, above),
+        Some(Line::Rejected(_, fault)) => print_rejected(page, file, fault),
+        Some(Line::Unseen) | None => page.text("no accepted issuer here"),
+    }
+}
+
+// What is said of the certificate at a place.
+fn print_certificate(page: &mut Page, tree: &Tree<'_, '_>, place: usize, file: &BareObject<'_>)
+    ensures { AppendsSome (SaysOfCertificate tree.now place file.now) page.old page.new }
+{
+    if place == tree.anchor {
+        page.text("trust anchor");
+        return;
+    }
+    print_line(page, tree, file, tree.lines.as_slice().get(place));
+}
+
+// What is said of a file, where the next certificate stands at this place. Returns the place of one
+// behind it.
+fn print_said(page: &mut Page, tree: &Tree<'_, '_>, place: usize, file: &BareObject<'_>) -> usize
+    requires { place + 1 < 2 ^ 64 }
+    ensures next { result ≤ place + 1 }
+    ensures said { AppendsSome (SaysOfFile tree.now place result file.now) page.old page.new }
+{
+    match file.front() {
+        Front::Certificate(_) => {
+            print_certificate(page, tree, place, file);
+            place + 1
+        }
+        Front::List => {
+            page.text("revocation list");
+            place
+        }
+        Front::Neither => {
+            page.text("neither a certificate nor a list");
+            place
+        }
+    }
+}
+
+// The line of a file.
+fn print_file(page: &mut Page, tree: &Tree<'_, '_>, place: usize, file: &BareObject<'_>) -> usize
+    requires { place + 1 < 2 ^ 64 }
+    ensures next { result ≤ place + 1 }
+    ensures line { AppendsSome (IsFileLine tree.now place result file.now) page.old page.new }
+{
+    page.value(&FileName(file.name()));
+    page.text(": ");
+    let next = print_said(page, tree, place, file);
+    page.end();
+    next
+}
+
+// The lines of all files.
+fn print_files(page: &mut Page, tree: &Tree<'_, '_>, files: &[BareObject<'_>]) -> usize
+    ensures { AppendsSome (AreFileLines tree.now 0 result files.now) page.old page.new }
+{
+    let mut place = 0;
+    for file in files {
+        place = print_file(page, tree, place, file);
+    }
+    place
+}
+
+// How far the walk of a question went.
+#[derive(Drop)]
+struct Reached<'r, 'q, 'n> {
+    question: &'r TreeQuestion<'q, 'n>,
+    ended: Ended,
+}
+
+impl fmt::Display for Reached<'_, '_, '_> {
+    ghost output = { λ r. Some (ended_text (asked_of r.question.now) r.ended) };
+
+    fn fmt<W: fmt::Write>(&self, f: &mut fmt::Formatter<W>) -> fmt::Result {
+        match self.ended {
+            Ended::Whole => f.write_str("every certificate below the trust anchor"),
+            Ended::TooDeep => {
+                let depth = self.question.depth;
+                write!(
+                    f,
+                    "at most {depth} certificates down: more stand below (--depth sets the limit)"
+                )
+            }
+            Ended::OutOfSteps => {
+                let steps = self.question.steps;
+                write!(f, "not all: {steps} were verified (--steps sets the limit)")
+            }
+        }
+    }
+}
+
+#[tactic(auto, unfolding(rpki_text::specs::Pages::line))]
+fn print_reached(page: &mut Page, question: &TreeQuestion<'_, '_>, ended: Ended)
+    ensures { let reached = ended_text (asked_of question.now) ended in
+        Appends page.old (line (codes "Looked at") reached) page.new }
+{
+    page.line_of("Looked at", &Reached { question, ended });
+}
+
+#[tactic(auto, unfolding(rpki_text::specs::Pages::line))]
+fn print_count(page: &mut Page, label: &str, count: usize)
+    ensures { Appends page.old (line label.now (decimal count)) page.new }
+{
+    page.line_of(label, &count);
+}
+
+// The moment, how many certificates there are and how many are accepted, how far the walk went, and
+// what isn't asked.
+fn print_end(page: &mut Page, question: &TreeQuestion<'_, '_>, tree: &Tree<'_, '_>)
+    ensures { Appends page.old (end_text (asked_of question.now) tree.now) page.new }
+{
+    print_moment(page, question.at);
+    print_count(page, "Certificates", tree.lines.as_slice().len());
+    print_count(page, "Accepted", tree.count_accepted());
+    print_reached(page, question, tree.ended);
+    page.line(
+        "Not asked",
+        "manifests: a file that is withheld isn't missed",
+    );
+    page.line(
+        "Not asked",
+        "whether names match, and whether the RPKI uses the last keys",
+    );
+}
+
+// That the trust anchor is wrong, and why.
+fn print_wrong_anchor(page: &mut Page, anchor: &BareObject<'_>, fault: &Fault)
+    ensures { let said = codes "trust anchor, " ++ rejection_text (reason_of fault.now) in
+        Appends page.old (file_line anchor.now.name said) page.new }
+{
+    page.value(&FileName(anchor.name()));
+    page.text(": ");
+    page.text("trust anchor, ");
+    page.value(&Rejection {
+        step: fault.step,
+        name: fault.name,
+        rule: fault.rule,
+    });
+    page.end();
+}
+
+fn print_tree(page: &mut Page, question: &TreeQuestion<'_, '_>, tree: &Tree<'_, '_>)
+    ensures { AppendsSome (IsAnswerText (asked_of question.now) (Walked tree.now)) page.old page.new }
+{
+    print_files(page, tree, question.files);
+    print_end(page, question, tree);
+}
+
+fn print_answer(page: &mut Page, question: &TreeQuestion<'_, '_>, answer: &TreeAnswer<'_, '_>)
+    ensures { AppendsSome (IsAnswerText (asked_of question.now) answer.now) page.old page.new }
+{
+    match answer {
+        TreeAnswer::NoAnchor => page.line("Trust anchor", "no file has the key of a locator"),
+        TreeAnswer::WrongAnchor(anchor, fault) => print_wrong_anchor(page, anchor, fault),
+        TreeAnswer::Walked(tree) => print_tree(page, question, tree),
+    }
+}
+
+// The files given as locators that are none, the moment, and what is wrong of the first.
+fn print_unjudged(page: &mut Page, question: &TreeQuestion<'_, '_>, fault: &Fault)
+    ensures { let names = locators_text question.now.locators.now in
+        let why = moment_line question.now.at ++ no_locator_text fault.now in
+        Appends page.old (names ++ why) page.new }
+{
+    print_other_locators(page, question.locators);
+    print_moment(page, question.at);
+    print_no_locator(page, fault);
+}
+
+fn print_finding(page: &mut Page, question: &TreeQuestion<'_, '_>, finding: &TreeFinding<'_, '_>)
+    ensures { AppendsSome (IsTreeText (asked_of question.now) finding.now) page.old page.new }
+{
+    match finding {
+        TreeFinding::NotALocator(fault) => print_unjudged(page, question, fault),
+        TreeFinding::Answered(answer) => print_answer(page, question, answer),
+    }
+}
+
+/// Writes a line for each file, and how the walk ended; or why there is no trust anchor, or what is
+/// wrong of the files given as locators.
+pub fn tree_text(
+    alloc: Global,
+    question: &TreeQuestion<'_, '_>,
+    finding: &TreeFinding<'_, '_>,
+) -> Result<String, AllocError>
+    ensures { IfOk result (λ text. IsTreeText (asked_of question.now) finding.now (string_bytes text)) }
+{
+    let mut page = Page::new(alloc);
+    print_finding(&mut page, question, finding);
+    page.into_text()
+}
