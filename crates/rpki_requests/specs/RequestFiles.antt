@@ -65,7 +65,8 @@ AreOneIssuer (Some r) (Some s) = HoldSame r s
 AreOneIssuer _ _ = ⊥
 
 -- the path has no other one
-abbrev pub IsOnlyPathIssuer : Context → List (List ℕ) → List (List ℕ) → Option ResourceFields → Type 0
+abbrev pub IsOnlyPathIssuer : Context → List (List ℕ) → List (List ℕ) → Option ResourceFields
+    → Type 0
 IsOnlyPathIssuer x files lists issuer =
     (other : Option ResourceFields) → IsPathIssuer x files lists other → AreOneIssuer other issuer
 
