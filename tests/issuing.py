@@ -21,7 +21,9 @@ import json
 import os
 import random
 import re
+import resource
 import shutil
+import signal
 import subprocess
 import sys
 import tempfile
@@ -77,6 +79,12 @@ def openssl(*words):
 def rpki(*words):
     return subprocess.run([program, *map(str, words)], stdin=subprocess.DEVNULL,
                           capture_output=True)
+
+
+def limit_files():
+    """Has a command fail to write more than 100 octets to a file, as on a full disk."""
+    signal.signal(signal.SIGXFSZ, signal.SIG_IGN)
+    resource.setrlimit(resource.RLIMIT_FSIZE, (100, 100))
 
 
 # ---- what is asked
@@ -700,6 +708,11 @@ def try_out():
           'rpki: none/made.tbs: no such file or directory')
     fails('a folder', rpki('prepare', 'ca', *words_of(WANTED['ca'] | {'at': AT, 'out': '.'}),
                            '--force'), 'rpki: .: is a directory')
+    done = subprocess.run([program, 'prepare', 'ca', *words_of(
+        WANTED['ca'] | {'at': AT, 'out': 'cut.tbs'})], stdin=subprocess.DEVNULL,
+        capture_output=True, preexec_fn=limit_files)
+    fails('a file that may have 100 octets', done, 'rpki: cut.tbs: ')
+    check('no part of it is left', not Path('cut.tbs').exists())
     if Path('/dev/full').exists():
         fails('a full disk', rpki('prepare', 'ca', *words_of(
             WANTED['ca'] | {'at': AT, 'out': '/dev/full'}), '--force'), 'rpki: /dev/full: ')

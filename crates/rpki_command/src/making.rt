@@ -5,7 +5,7 @@ ghost use Rattle.rpki_command.specs.Outputs.{Makes};
 use crate::files::write_failure;
 use std::fs::OpenOptions;
 use std::io::{ErrorKind, Write};
-use std::{fmt, io};
+use std::{fmt, fs, io};
 
 /// Why a file can't be made.
 #[derive(Drop)]
@@ -60,6 +60,10 @@ impl FileMaker for SystemFiles<'_> {
         let mut file = options.open(self.rt, name)?;
         let written = file.write_all(octets);
         drop(file);
+        if written.is_err() && !overwrites {
+            // A part of what was to stand there isn't left.
+            let _removed = fs::remove_file(self.rt, name);
+        }
         written
     }
 }
