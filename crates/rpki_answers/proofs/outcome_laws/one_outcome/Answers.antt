@@ -1,7 +1,7 @@
 use Rattle.rpki.specs.RsaSignatures.{IsSignedByRsa}
 use Rattle.rpki.specs.Verification.{context}
-use Rattle.rpki_command.proofs.SingleOutcomes.{one_outcome}
-use Rattle.rpki_command.proofs.outcome_laws.one_outcome.Goals as goal
+use Rattle.rpki_answers.proofs.SingleOutcomes.{one_outcome}
+use Rattle.rpki_answers.proofs.outcome_laws.one_outcome.Goals as goal
 
 pub returns : goal.returns
 returns c = λ task not now strict d files lists one other a b.
