@@ -282,14 +282,10 @@ impl Time {
     fn write_date<W: fmt::Write>(&self, f: &mut fmt::Formatter<W>) -> fmt::Result
         ensures { WritesOnOk W.write_str_gives f.old result (date_text self.now) f.new }
     {
-        let year = self.year();
         let date = self.inner.date;
-        write_two(f, (year / 100) as u8)?;
-        write_two(f, (year % 100) as u8)?;
-        f.write_str("-")?;
-        write_two(f, date.month)?;
-        f.write_str("-")?;
-        write_two(f, date.day)
+        write_year(f, self.year())?;
+        write_behind(f, "-", date.month)?;
+        write_behind(f, "-", date.day)
     }
 
     fn write_clock<W: fmt::Write>(&self, f: &mut fmt::Formatter<W>) -> fmt::Result
@@ -297,10 +293,8 @@ impl Time {
     {
         let time = self.inner.time;
         write_two(f, time.hour)?;
-        f.write_str(":")?;
-        write_two(f, time.minute)?;
-        f.write_str(":")?;
-        write_two(f, time.second)
+        write_behind(f, ":", time.minute)?;
+        write_behind(f, ":", time.second)
     }
 
     /// Appends the time: as UTCTime in the years 1950 to 2049, else as GeneralizedTime (RFC 5280
@@ -319,6 +313,25 @@ impl Time {
             put_value(out, tag::GENERALIZED_TIME, &text)
         }
     }
+}
+
+// A year in four decimal digits.
+fn write_year<W: fmt::Write>(f: &mut fmt::Formatter<W>, year: u16) -> fmt::Result
+    requires { year < 10000 }
+    ensures { WritesOnOk W.write_str_gives f.old result
+        (two (year / 100) ++ two (year % 100)) f.new }
+{
+    write_two(f, (year / 100) as u8)?;
+    write_two(f, (year % 100) as u8)
+}
+
+// A separator, and a number in two decimal digits behind it.
+fn write_behind<W: fmt::Write>(f: &mut fmt::Formatter<W>, separator: &str, n: u8) -> fmt::Result
+    requires { n < 100 }
+    ensures { WritesOnOk W.write_str_gives f.old result (separator.now ++ two n) f.new }
+{
+    f.write_str(separator)?;
+    write_two(f, n)
 }
 
 // A number in two decimal digits.
