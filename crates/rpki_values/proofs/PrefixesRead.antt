@@ -1,10 +1,11 @@
--- A prefix by the texts of its address and of its count of bits.
-use Rattle.std.proofs.Common.{◌≡◌, ℕ, ◌-◌, ◌*◌, ◌/◌, ◌^◌, ◌≤◌, List, arith, sym, ap, ◌∙◌}
+-- A prefix by the texts of its address and of its count of bits, and a range by those of its ends.
+use Rattle.std.proofs.Common.{◌≡◌, ℕ, ◌+◌, ◌-◌, ◌*◌, ◌/◌, ◌^◌, ◌≤◌, List, min, max, arith, sym, ap, ◌∙◌}
 use Rattle.rpki_blocks.specs.Prefixes.{IsPrefixBlock}
 use Rattle.rpki_blocks.specs.Sets.{Block, between}
-use Rattle.rpki_values.specs.BlockTexts.{IsAddressText, IsNumberText, IsPrefix, bits_of, size_of}
+use Rattle.rpki_values.specs.BlockTexts.{IsAddressText, IsNumberText, IsPrefix, IsRange, bits_of, size_of}
 use Rattle.rpki_values.specs.OnlyValues.{IsOnly}
 use Rattle.rpki_values.specs.declared.families.Family.{Family}
+use Rattle.rpki_values.specs.declared.families.Family.TheVariants.{V4, V6}
 
 same_block : (x y : Block) → x.min ≡ y.min → x.max ≡ y.max → x ≡ y
 same_block x y low high = ap (λ (n : ℕ). between n x.max) low ∙ ap (λ (n : ℕ). between y.min n) high
@@ -43,3 +44,29 @@ no_prefix family before behind address count first len b read first_is len_is bl
     let lengths : is.count ≡ len = counts ∙ sym len_is in
     let lower : other.min ≡ first / 2 ^ (128 - len) * 2 ^ (128 - len) = rw (low, lengths) at is.block_is.lower in
     cut (block.lower ∙ sym lower ∙ is.whole ∙ low)
+
+-- the first address of a family's isn't past the last
+in_order : (family : Family) (first last low high : ℕ) → first ≤ last → low ≡ first * size_of family → high + 1 ≡ (last + 1) * size_of family → low ≤ high
+in_order V4 first last low high le low_is high_is = omega arith
+in_order V6 first last low high le low_is high_is = omega arith
+
+-- the block between two ends
+pub only_range : (family : Family) (before behind : List ℕ) (first last low high : ℕ) (b : Block) → IsOnly (λ n. IsAddressText family n before) first → IsOnly (λ n. IsAddressText family n behind) last → first ≤ last → low ≡ first * size_of family → high + 1 ≡ (last + 1) * size_of family
+    → b.min ≡ min low high → b.max ≡ max low high → IsOnly (IsRange family before behind) b
+only_range family before behind first last low high b firsts lasts le low_is high_is min_is max_is =
+    let ordered : low ≤ high = in_order family first last low high le low_is high_is in
+    let lower : b.min ≡ low = omega arith in
+    let upper : b.max ≡ high = omega arith in
+    (record {
+      first = first;
+      first_is = firsts.0;
+      last = last;
+      last_is = lasts.0;
+      ordered = le;
+      min_is = lower ∙ low_is;
+      max_is = ap (λ (n : ℕ). n + 1) upper ∙ high_is;
+    },
+    λ other is.
+      let start : other.min ≡ b.min = is.min_is ∙ ap (λ (n : ℕ). n * size_of family) (firsts.1 is.first is.first_is) ∙ sym low_is ∙ sym lower in
+      let end : other.max + 1 ≡ b.max + 1 = is.max_is ∙ ap (λ (n : ℕ). (n + 1) * size_of family) (lasts.1 is.last is.last_is) ∙ sym high_is ∙ ap (λ (n : ℕ). n + 1) (sym upper) in
+      same_block other b start (omega (arith, end)))
