@@ -3,6 +3,7 @@ use Rattle.std.proofs.Common.{◌≡◌, ◌≢◌, ◌⊎◌, inl, inr, ℕ, Bo
 use Rattle.std.proofs.ByRecursion.{All-push}
 use Rattle.std.specs.Char.{to_ascii_lowercase}
 use Rattle.std.specs.List.{AllByRecursion}
+use Rattle.std.specs.Prelude.{Result, Ok, Err, IfErr, IsErrAnd}
 use Rattle.std.specs.Str.{str_to_ascii_lowercase}
 use Rattle.std.specs.Str.Lines.{lines}
 use Rattle.rpki_parts.specs.Keys.{KeyFields}
@@ -173,3 +174,8 @@ fault_of_key strict e file behind uris digits text h u some (inr key) = rw key.0
     no_key = key.1;
   },
 )
+
+-- no fault is named where memory ran out
+pub out_of_memory : {T : Type 0} (strict : Bool) (file : List ℕ) (r : Result T TalError) → IsErrAnd r (λ e. e ≡ Memory) → IfErr r (λ e. RejectsTal strict e file) × IfErr r (λ e. IsTalFault strict e file)
+out_of_memory strict file (Ok x) is = absurd is
+out_of_memory strict file (Err e) is = rw is (tt, tt)
