@@ -2,7 +2,7 @@
 //! name files that vectors use, so that `rt try -- data/*` finds them): a vector is a name, a
 //! question and the answer that is wanted, on three adjacent lines. Prints how many vectors of each
 //! file pass, the name and both answers of each that doesn't, and ends with status 1 where one
-//! doesn't. Where the arguments are `call PATH`, it makes that public call instead (`calls`).
+//! doesn't. Where the arguments are `call PATH`, it makes that public call instead (`rpki_calls`).
 //!
 //! It interprets the questions, since a question that is data needs no proof where a test would be
 //! a function that is proved; the reference program answers the same lines; and each can be asked
@@ -114,7 +114,6 @@
 #![tactic(auto)]
 
 mod answer;
-mod calls;
 mod certificates;
 mod cursors;
 mod extensions;
@@ -243,7 +242,7 @@ fn run_all(rt: &HostRuntime) -> io::Result<ExitCode> {
 
 fn main(rt: HostRuntime) -> io::Result<ExitCode> {
     match called(&rt)? {
-        Some(path) => calls::make(&rt, path.as_str()),
+        Some(path) => rpki_calls::make(&rt, path.as_str()),
         None => run_all(&rt),
     }
 }

@@ -1,4 +1,4 @@
-use Rattle.rpki_vectors.proofs.calls.making.issued_below.Goals as goal
+use Rattle.rpki_calls.proofs.making.issued_below.Goals as goal
 
 pub issue_below-answer-requires-clause-written : goal.issue_below-answer-requires-clause-written
 issue_below-answer-requires-clause-written c = (c.is_issuable.ensures c.if-is_issuable.true).written

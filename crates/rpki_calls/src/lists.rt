@@ -1,8 +1,8 @@
 //! The data of revocation lists, and lists that are copied or read again.
 
-use crate::calls::asking::{Told, begin, called, read, written};
-use crate::calls::inputs::list;
-use crate::calls::stores::read_again;
+use crate::asking::{Told, begin, called, read, written};
+use crate::inputs::list;
+use crate::stores::read_again;
 use bytes::Bytes;
 use rpki_crl::TbsCertList;
 use rpki_der::{Cursor, Serial};

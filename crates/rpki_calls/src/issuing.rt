@@ -1,10 +1,10 @@
 //! Certificates and lists that are prepared, and completed by a signature from elsewhere; the next
 //! list, and a signer whose signatures are verified.
 
-use crate::calls::asking::{Told, called};
-use crate::calls::inputs::{ANCHOR, anchor, certificate, new_year};
-use crate::calls::making::authority;
-use crate::calls::stores::list_by;
+use crate::asking::{Told, called};
+use crate::inputs::{ANCHOR, anchor, certificate, new_year};
+use crate::making::authority;
+use crate::stores::list_by;
 use rpki_cert::{Cert, ResourceCert, TbsCert};
 use rpki_cert_tests::samples::{self, day, rsa, written};
 use rpki_crl::{Crl, CrlEntry, RevokedCertificates, TbsCertList};

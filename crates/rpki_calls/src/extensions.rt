@@ -1,6 +1,6 @@
 //! All extensions of a certificate.
 
-use crate::calls::asking::{Told, called, ended, vector};
+use crate::asking::{Told, called, ended, vector};
 use rpki_blocks::{Asn, Overclaim};
 use rpki_cert_tests::samples::{self, rsa};
 use rpki_der::Cursor;

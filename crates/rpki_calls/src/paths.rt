@@ -1,7 +1,7 @@
 //! Whole paths, and the line program.
 
-use crate::calls::asking::{Told, begin, called, end};
-use crate::calls::inputs::{ANCHOR, FIRST, NUMBERS, SECOND, anchor, locator, new_year};
+use crate::asking::{Told, begin, called, end};
+use crate::inputs::{ANCHOR, FIRST, NUMBERS, SECOND, anchor, locator, new_year};
 use bytes::Bytes;
 use rpki_blocks::Asn;
 use rpki_cert::{Kind, ResourceCert};

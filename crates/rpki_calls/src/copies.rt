@@ -1,7 +1,7 @@
 //! What `Clone` gives of the types that are copied: by its type it may answer out of memory, and it
 //! asks for none.
 
-use crate::calls::asking::{Told, begin, end, name_of};
+use crate::asking::{Told, begin, end, name_of};
 use rpki_blocks::comparing::{
     copied_address, copied_as_number, copied_block, copied_overclaim, copied_prefix,
 };

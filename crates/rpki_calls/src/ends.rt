@@ -1,6 +1,6 @@
 //! Contents that are ended where they stand.
 
-use crate::calls::asking::{Told, vector, written};
+use crate::asking::{Told, vector, written};
 use rpki_der::{enclose, end_extension, end_value, oid};
 use std::alloc::Global;
 

@@ -9,8 +9,8 @@ use Rattle.rpki_cert.specs.Issuing.{made_with}
 use Rattle.rpki_cert.specs.Validation.{IsValidBelow}
 use Rattle.rpki_cert.specs.Verification.{ResourceFields, context}
 use Rattle.rpki_cert.specs.declared.inspect.Kind.TheVariants.{Authority}
-use Rattle.rpki_vectors.specs.Issuable.{IsFit, IsIssuable}
-use Rattle.rpki_vectors.proofs.calls.making.is_issuable.Goals as goal
+use Rattle.rpki_calls.specs.Issuable.{IsFit, IsIssuable}
+use Rattle.rpki_calls.proofs.making.is_issuable.Goals as goal
 
 -- what was made of the fields is what is made of them with any signature that is the same
 made_again : (f : TbsFields) (c : CertFields) (s : SignatureFields) → c.fields ≡ f → c.signed_data.message ≡ encoding f

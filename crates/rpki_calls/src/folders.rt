@@ -1,9 +1,9 @@
 //! Folders, the walk down through one, and what is kept of it.
 
-use crate::calls::asking::{Fault, Told, begin, called, end, name_of};
-use crate::calls::inputs::{ANCHOR, anchor, new_year};
-use crate::calls::making::authority;
-use crate::calls::stores::list_by;
+use crate::asking::{Fault, Told, begin, called, end, name_of};
+use crate::inputs::{ANCHOR, anchor, new_year};
+use crate::making::authority;
+use crate::stores::list_by;
 use bytes::Bytes;
 use rpki_cert::{Cert, KeyUsage, ResourceCert, TbsCert};
 use rpki_cert_tests::samples::{self, rsa, shared};

@@ -1,6 +1,6 @@
 //! Names and signed data.
 
-use crate::calls::asking::{Told, called};
+use crate::asking::{Told, called};
 use rpki_cert_tests::samples::{self, rsa};
 use rpki_parts::{Name, RpkiSignatureAlgorithm, Signature, SignedData, Signer, StandIn};
 use std::alloc::Global;

@@ -1,9 +1,9 @@
 //! Certificates that are made.
 ghost use Rattle.std.specs.Prelude.{IsTrue};
-ghost use Rattle.rpki_vectors.specs.Issuable.{IsIssuable};
+ghost use Rattle.rpki_calls.specs.Issuable.{IsIssuable};
 
-use crate::calls::asking::{Told, begin, called, ended};
-use crate::calls::inputs::{NUMBERS, anchor, new_year};
+use crate::asking::{Told, begin, called, ended};
+use crate::inputs::{NUMBERS, anchor, new_year};
 use rpki_blocks::{AsBlock, AsBlocks, Asn};
 use rpki_cert::{IssueCaError, KeyUsage, ResourceCert, TbsCert, issue_ca, round_trip};
 use rpki_cert_tests::samples::{self, rsa};

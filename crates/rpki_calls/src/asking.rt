@@ -178,19 +178,19 @@ pub fn plain<T: Drop, E: Fault>(alloc: Global, answer: Result<T, E>) -> Option<T
 /// follow, what it gave has to meet that.
 macro_rules! called {
     ($alloc:expr, $call:expr) => {{
-        crate::calls::asking::begin($alloc);
+        crate::asking::begin($alloc);
         let answer = $call;
-        crate::calls::asking::plain($alloc, answer)
+        crate::asking::plain($alloc, answer)
     }};
     ($alloc:expr, $call:expr, $given:ident => $is_right:expr) => {{
-        crate::calls::asking::begin($alloc);
+        crate::asking::begin($alloc);
         let answer = $call;
         let stands = match &answer {
             Ok($given) => $is_right,
             Err(_) => true,
         };
-        let answer = crate::calls::asking::ended($alloc, answer);
-        Some(crate::calls::asking::Told::standing(answer, stands))
+        let answer = crate::asking::ended($alloc, answer);
+        Some(crate::asking::Told::standing(answer, stands))
     }};
 }
 

@@ -1,6 +1,6 @@
 //! Entries, lists that are made, tables of serials, and lists under their URIs.
 
-use crate::calls::asking::{Told, begin, called, end, ended, read, vector, written_digits};
+use crate::asking::{Told, begin, called, end, ended, read, vector, written_digits};
 use rpki_cert_tests::samples::{day, rsa, shared, uri};
 use rpki_crl::{
     Crl, CrlEntry, CrlStore, InvalidExtension, RevokedCertificates, TbsCertList, round_trip,

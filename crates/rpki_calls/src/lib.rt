@@ -1,6 +1,7 @@
 //! One public call that may allocate, over a worked input: what it answers, and whether what stands
 //! afterwards is what has to stand. `tests/refusals` has each call made with each of its requests
-//! for memory refused in turn.
+//! for memory refused in turn: `call PATH` of `rpki_vectors` has it made.
+#![tactic(auto)]
 
 mod asking;
 mod blocks;

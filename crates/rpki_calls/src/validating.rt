@@ -1,7 +1,7 @@
 //! Certificates that are verified, and copies of what was verified.
 
-use crate::calls::asking::{Told, called};
-use crate::calls::inputs::{
+use crate::asking::{Told, called};
+use crate::inputs::{
     ANCHOR, FIRST, NUMBERS, OTHER, SIGNING, anchor, certificate, december, locator, new_year,
 };
 use rpki_blocks::Asn;

@@ -1,6 +1,6 @@
 //! Resources that are set.
 
-use crate::calls::asking::{Told, begin, ended};
+use crate::asking::{Told, begin, ended};
 use rpki_blocks::{Addr, AsBlock, Asn, IpBlock};
 use rpki_cert::TbsCert;
 use rpki_cert_tests::samples;

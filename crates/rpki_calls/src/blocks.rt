@@ -1,6 +1,6 @@
 //! Sets of addresses and AS numbers.
 
-use crate::calls::asking::{Told, begin, called, end, ended};
+use crate::asking::{Told, begin, called, end, ended};
 use rpki_blocks::{AsBlock, AsBlocks, AsBlocksBuilder, AsResources, Asn};
 use std::alloc::{AllocError, Global};
 
