@@ -7,7 +7,7 @@ ghost use Rattle.rpki_files.specs.Contents.{BeginsWithCertificate, BeginsWithEit
 ghost use Rattle.rpki_files.specs.PemFiles.{IsObjectOf};
 
 use crate::contents::{Content, read_content};
-use crate::files::{Object, object_octets, object_of};
+use crate::files::object_octets;
 use bytes::Bytes;
 use rpki::repository::folder::Said;
 use rpki::repository::{Cert, Crl};
@@ -130,13 +130,6 @@ impl<'a> BareObject<'a> {
             Content::List(list, _) => Ok(Some(list)),
             Content::Certificate(..) | Content::Neither(_) => Ok(None),
         }
-    }
-
-    /// Returns the object with what is read of it. Errs only where memory runs out.
-    pub fn object(&self, alloc: Global) -> Result<Object<'a>, AllocError>
-        ensures { IfOk result (λ object. object ≡ self.now) }
-    {
-        object_of(alloc, self.name, self.octets.clone()?)
     }
 }
 

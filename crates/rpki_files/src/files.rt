@@ -245,11 +245,7 @@ fn told_sort(alloc: Global, octets: &Bytes, content: &Content) -> Result<Option<
 }
 
 // The object of this name and of these octets, with what is read of them.
-pub(crate) fn object_of<'a>(
-    alloc: Global,
-    name: &'a str,
-    octets: Bytes,
-) -> Result<Object<'a>, AllocError>
+fn object_of<'a>(alloc: Global, name: &'a str, octets: Bytes) -> Result<Object<'a>, AllocError>
     ensures name { IfOk result (λ object. object.name ≡ name.now) }
     ensures octets { IfOk result (λ object. object.octets ≡ octets) }
 {
