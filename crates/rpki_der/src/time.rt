@@ -1,5 +1,5 @@
 //! Times.
-ghost use Rattle.std.specs.Prelude.{◌≡◌, ◌↔◌, ◌++◌, ◌/◌, ◌%◌, ◌<◌, ◌≤◌, pos, ◌≤ℤ◌, unsigned_abs, nat_eq, OnOk, OnErr, IsSome, IfSome, IfNone, Some, IsOk, IfOk, IfErr};
+ghost use Rattle.std.specs.Prelude.{IsTrue, max, ◌≡◌, ◌↔◌, ◌++◌, ◌/◌, ◌%◌, ◌<◌, ◌≤◌, pos, ◌≤ℤ◌, unsigned_abs, nat_eq, OnOk, OnErr, IsSome, IfSome, IfNone, Some, IsOk, IfOk, IfErr};
 ghost use Rattle.std.specs.Ordering.{nat_cmp, on, as_partial_cmp};
 ghost use Rattle.std.specs.Cmp.{partial_order_from_own_ties};
 ghost use Rattle.std.proofs.Common.{rules};
@@ -72,6 +72,14 @@ fn year_part(year: u32) -> i16
     year as i16
 }
 
+// Whether one of the parts behind the year has more than two decimal digits.
+#[inline(always)]
+fn are_long(month: u32, day: u32, hour: u32, minute: u32, second: u32) -> bool
+    ensures { IsTrue result ↔ (99 < max month (max day (max hour (max minute second)))) }
+{
+    month.max(day.max(hour.max(minute.max(second)))) > 99
+}
+
 // The date and the time of day with these parts, where the calendar has the one and a clock the
 // other.
 #[inline(always)]
@@ -117,7 +125,7 @@ impl Time {
         ensures value { IfSome result
             (λ t. t ≡ moment year month day hour minute second) }
     {
-        if year > 9999 || month > 12 || day > 31 || hour > 23 || minute > 59 || second > 59 {
+        if year > 9999 || are_long(month, day, hour, minute, second) {
             return None;
         }
         let civil = civil(
@@ -282,14 +290,10 @@ impl Time {
     fn write_date<W: fmt::Write>(&self, f: &mut fmt::Formatter<W>) -> fmt::Result
         ensures { WritesOnOk W.write_str_gives f.old result (date_text self.now) f.new }
     {
-        let year = self.year();
         let date = self.inner.date;
-        write_two(f, (year / 100) as u8)?;
-        write_two(f, (year % 100) as u8)?;
-        f.write_str("-")?;
-        write_two(f, date.month)?;
-        f.write_str("-")?;
-        write_two(f, date.day)
+        write_year(f, self.year())?;
+        write_behind(f, "-", date.month)?;
+        write_behind(f, "-", date.day)
     }
 
     fn write_clock<W: fmt::Write>(&self, f: &mut fmt::Formatter<W>) -> fmt::Result
@@ -297,10 +301,8 @@ impl Time {
     {
         let time = self.inner.time;
         write_two(f, time.hour)?;
-        f.write_str(":")?;
-        write_two(f, time.minute)?;
-        f.write_str(":")?;
-        write_two(f, time.second)
+        write_behind(f, ":", time.minute)?;
+        write_behind(f, ":", time.second)
     }
 
     /// Appends the time: as UTCTime in the years 1950 to 2049, else as GeneralizedTime (RFC 5280
@@ -319,6 +321,25 @@ impl Time {
             put_value(out, tag::GENERALIZED_TIME, &text)
         }
     }
+}
+
+// A year in four decimal digits.
+fn write_year<W: fmt::Write>(f: &mut fmt::Formatter<W>, year: u16) -> fmt::Result
+    requires { year < 10000 }
+    ensures { WritesOnOk W.write_str_gives f.old result
+        (two (year / 100) ++ two (year % 100)) f.new }
+{
+    write_two(f, (year / 100) as u8)?;
+    write_two(f, (year % 100) as u8)
+}
+
+// A separator, and a number in two decimal digits behind it.
+fn write_behind<W: fmt::Write>(f: &mut fmt::Formatter<W>, separator: &str, n: u8) -> fmt::Result
+    requires { n < 100 }
+    ensures { WritesOnOk W.write_str_gives f.old result (separator.now ++ two n) f.new }
+{
+    f.write_str(separator)?;
+    write_two(f, n)
 }
 
 // A number in two decimal digits.

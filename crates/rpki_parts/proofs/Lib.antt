@@ -8,6 +8,7 @@ pub mod NameTexts
 pub mod NameValues
 pub mod Slashes
 pub mod DotSegments
+mod Enclosed
 pub mod UriTests
 pub mod UriParents
 pub mod UriEquivalences

@@ -1,9 +1,10 @@
 //! Names print themselves.
-ghost use Rattle.std.specs.Prelude.{◌≡◌, ◌<◌, ◌^◌, ◌||◌, ◌&&◌, not, nat_lt, true, option_map, Some};
+ghost use Rattle.std.specs.Prelude.{◌≡◌, ◌<◌, ◌^◌, ◌||◌, ◌&&◌, not, nat_lt, true, option_map, Some, [], ◌∷◌, ◌++◌, codes};
 ghost use Rattle.std.specs.Fmt.{WritesOnOk};
 ghost use Rattle.rpki_der.specs.Place.{remaining, Keeps};
 ghost use Rattle.rpki_der.specs.Place.Reading.{TookBy};
 ghost use Rattle.rpki_der.specs.Tags.{SET};
+ghost use Rattle.rpki_der.specs.Texts.{hexadecimal};
 ghost use Rattle.rpki_der.specs.Values.Reading.{value_at};
 ghost use Rattle.rpki_parts.specs.NameTexts.{with_octet, number_after, are_small, number_text, numbers_text, ended_with, dotted_text, type_text, attribute_value_at, is_special, is_visible, is_at_edge, octet_text, string_text, short_name, string_of, value_text, octets_of_value, attribute_text, name_text};
 ghost use Rattle.rpki_parts.specs.NameTexts.Reading.{written_part, written_parts, written_name};
@@ -60,16 +61,31 @@ fn is_escaped(is_at_edge: bool, octet: u8) -> bool
     is_at_edge || is_special(octet)
 }
 
+// The two digits of an octet, behind a backslash.
+fn write_escaped_digits<W: fmt::Write>(f: &mut fmt::Formatter<W>, octet: u8) -> fmt::Result
+    ensures { WritesOnOk W.write_str_gives f.old result (92 ∷ hexadecimal (octet ∷ [])) f.new }
+{
+    f.write_str("\\")?;
+    write_hexadecimal(f, &[octet])
+}
+
+// A character behind a backslash.
+fn write_escaped<W: fmt::Write>(f: &mut fmt::Formatter<W>, octet: u8) -> fmt::Result
+    requires { octet < 128 }
+    ensures { WritesOnOk W.write_str_gives f.old result (92 ∷ octet ∷ []) f.new }
+{
+    f.write_str("\\")?;
+    f.write_char(char::from(octet))
+}
+
 // An octet of a string.
 fn write_octet<W: fmt::Write>(f: &mut fmt::Formatter<W>, is_at_edge: bool, octet: u8) -> fmt::Result
     ensures { WritesOnOk W.write_str_gives f.old result (octet_text is_at_edge octet) f.new }
 {
     if !is_visible(octet) {
-        f.write_str("\\")?;
-        write_hexadecimal(f, &[octet])
+        write_escaped_digits(f, octet)
     } else if is_escaped(is_at_edge, octet) {
-        f.write_str("\\")?;
-        f.write_char(char::from(octet))
+        write_escaped(f, octet)
     } else {
         f.write_char(char::from(octet))
     }
@@ -257,6 +273,34 @@ fn write_value<W: fmt::Write>(f: &mut fmt::Formatter<W>, value: &Cursor<'_>) -> 
     }
 }
 
+// A value behind the name of its type.
+fn write_named<W: fmt::Write>(
+    f: &mut fmt::Formatter<W>,
+    name: &str,
+    value: &Cursor<'_>,
+) -> fmt::Result
+    ensures { let octets = remaining value.now in WritesOnOk W.write_str_gives f.old result
+        (name.now ++ (codes "=" ++ value_text octets (string_of octets))) f.new }
+{
+    f.write_str(name)?;
+    f.write_str("=")?;
+    write_value(f, value)
+}
+
+// The octets of a value behind its type, which has no name.
+fn write_unnamed<W: fmt::Write>(
+    f: &mut fmt::Formatter<W>,
+    id: &[u8],
+    value: &Cursor<'_>,
+) -> fmt::Result
+    ensures { WritesOnOk W.write_str_gives f.old result
+        (type_text id.now ++ (codes "=" ++ octets_of_value (remaining value.now))) f.new }
+{
+    write_type(f, id)?;
+    f.write_str("=")?;
+    write_octets(f, value.rest())
+}
+
 // An attribute of this type and value.
 fn write_attribute<W: fmt::Write>(
     f: &mut fmt::Formatter<W>,
@@ -267,16 +311,8 @@ fn write_attribute<W: fmt::Write>(
         (attribute_text (id.now, remaining value.now)) f.new }
 {
     match short_name(id) {
-        Some(name) => {
-            f.write_str(name)?;
-            f.write_str("=")?;
-            write_value(f, value)
-        }
-        None => {
-            write_type(f, id)?;
-            f.write_str("=")?;
-            write_octets(f, value.rest())
-        }
+        Some(name) => write_named(f, name, value),
+        None => write_unnamed(f, id, value),
     }
 }
 
