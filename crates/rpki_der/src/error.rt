@@ -1,7 +1,6 @@
 //! Errors of reading and of writing.
 use crate::oid::Oid;
 use std::alloc::AllocError;
-use std::fmt;
 use thiserror::Error;
 
 /// A part of a certificate or of a revocation list that an error speaks of.
@@ -24,32 +23,47 @@ pub enum Field {
 }
 
 /// Why octets could not be read.
-#[derive(Debug, Drop)]
+#[derive(Debug, Drop, Error)]
 pub enum DecodeError {
     /// The octets end within a value.
+    #[error("truncated value")]
     Truncated,
     /// A length that is not the shortest, is indefinite, or has more than four octets.
+    #[error("bad length")]
     BadLength,
     /// Another identifier octet than the one that must stand here.
+    #[error("unexpected identifier")]
     BadTag,
     /// A content that its type does not allow.
+    #[error("bad value")]
     BadValue,
     /// Octets remain inside a value.
+    #[error("trailing octets")]
     Trailing,
     /// Values that stand one inside the other too deep.
+    #[error("values nested too deep")]
     TooDeep,
+    #[error("missing {0:?}")]
     Missing(Field),
+    #[error("duplicate {0:?}")]
     Duplicate(Field),
     /// An extension that must not be critical is.
+    #[error("{0:?} is critical")]
     Critical(Field),
     /// An extension that must be critical isn't.
+    #[error("{0:?} is not critical")]
     NotCritical(Field),
+    #[error("unexpected critical extension {0}")]
     UnexpectedCritical(Oid),
+    #[error("invalid extension {0}")]
     InvalidExtension(Oid),
     /// The resources stand under another identifier than the policy asks for.
+    #[error("wrong identifier of {0:?}")]
     WrongResources(Field),
     /// The algorithm inside the signed data is not the one outside.
+    #[error("signature algorithm mismatch")]
     AlgorithmMismatch,
+    #[error("out of memory")]
     Memory,
 }
 
@@ -90,62 +104,7 @@ impl DecodeError {
             _ => false,
         }
     }
-
-    // What is printed of it before the part or the extension that it names.
-    fn text_before(&self) -> &'static str {
-        match self {
-            DecodeError::Truncated => "truncated value",
-            DecodeError::BadLength => "bad length",
-            DecodeError::BadTag => "unexpected identifier",
-            DecodeError::BadValue => "bad value",
-            DecodeError::Trailing => "trailing octets",
-            DecodeError::TooDeep => "values nested too deep",
-            DecodeError::Missing(_) => "missing ",
-            DecodeError::Duplicate(_) => "duplicate ",
-            DecodeError::Critical(_) => "",
-            DecodeError::NotCritical(_) => "",
-            DecodeError::UnexpectedCritical(_) => "unexpected critical extension ",
-            DecodeError::InvalidExtension(_) => "invalid extension ",
-            DecodeError::WrongResources(_) => "wrong identifier of ",
-            DecodeError::AlgorithmMismatch => "signature algorithm mismatch",
-            DecodeError::Memory => "out of memory",
-        }
-    }
-
-    // What is printed of it behind the part that it names.
-    fn text_behind(&self) -> &'static str {
-        match self {
-            DecodeError::Critical(_) => " is critical",
-            DecodeError::NotCritical(_) => " is not critical",
-            _ => "",
-        }
-    }
-
-    // Writes the part or the extension that it names, if it names one.
-    fn write_subject<W: fmt::Write>(&self, f: &mut fmt::Formatter<W>) -> fmt::Result {
-        match self {
-            DecodeError::Missing(field)
-            | DecodeError::Duplicate(field)
-            | DecodeError::Critical(field)
-            | DecodeError::NotCritical(field)
-            | DecodeError::WrongResources(field) => write!(f, "{field:?}"),
-            DecodeError::UnexpectedCritical(id) | DecodeError::InvalidExtension(id) => {
-                write!(f, "{id}")
-            }
-            _ => Ok(()),
-        }
-    }
 }
-
-impl fmt::Display for DecodeError {
-    fn fmt<W: fmt::Write>(&self, f: &mut fmt::Formatter<W>) -> fmt::Result {
-        f.write_str(self.text_before())?;
-        self.write_subject(f)?;
-        f.write_str(self.text_behind())
-    }
-}
-
-impl std::error::Error for DecodeError {}
 
 impl From<AllocError> for DecodeError {
     ghost use Rattle.std.specs.Prelude.{◌≡◌};
