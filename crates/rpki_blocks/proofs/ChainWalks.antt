@@ -268,3 +268,14 @@ none_at g xs ys i j l past d =
 -- a number that escapes and all numbers inside exclude each other
 pub says_no : (g : ℕ) (xs ys : List Block) → Escapes g xs ys → (IsTrue false ↔ AreIn xs ys) × (IsFalse false ↔ Escapes g xs ys)
 says_no g xs ys e = ((λ t. absurd cc, λ f. absurd (both_ways _ e.outside (f e.number e.inside))), (λ t. e, λ t. refl))
+
+-- before the search all remains
+pub undecided : (g : ℕ) (xs ys : List Block) → IsSet g xs → IsSet g ys → IsDecided g xs ys xs ys
+undecided g xs ys left right = record { left = left.chain; right = right.chain; small = left.small; yes = λ h. h; no = λ e. e }
+
+-- where the first list has ended, each number of it is inside the second
+pub says_yes : (g : ℕ) (xs ys : List Block) (i j : ℕ) → length xs ≤ i → IsDecided g xs ys (drop i xs) (drop j ys) → (IsTrue true ↔ AreIn xs ys) × (IsFalse true ↔ Escapes g xs ys)
+says_yes g xs ys i j past d =
+    let ended = subst (λ (v : List Block). IsDecided g xs ys v (drop j ys)) (drop_all i xs past) d in
+    let all : AreIn xs ys = ended.yes (λ n inside. absurd cc) in
+    ((λ t. all, λ f. refl), (λ t. absurd cc, λ e. absurd (both_ways _ e.outside (all e.number e.inside))))

@@ -1,7 +1,8 @@
 -- Blocks in order, merged from the left.
 use Rattle.std.proofs.Common.{◌≡◌, ℕ, ◌+◌, ◌<◌, ◌≤◌, Bool, true, false, List, [], ◌∷◌, ◌++◌, length, get_or, take, drop, set, suc, subst, refl, sym, ap, ◌∙◌, arith, inl, inr, append_assoc}
+use Rattle.std.specs.Prelude.{◌==◌}
 use Rattle.std.specs.List.Sorted.{IsNonDecreasingBy, IsPermutation}
-use Rattle.std.proofs.lemmas.Bool.{cases_lt}
+use Rattle.std.proofs.lemmas.Bool.{cases_lt, eqb-true}
 use Rattle.std.proofs.lemmas.List.{drop_all, take_all, take_more, take_more_set, drop-set-lt}
 use Rattle.std.proofs.lemmas.List.Sorted.{list_any-IsPermutation}
 use Rattle.rpki_blocks.specs.Sets.{Block, is_within, is_in, IsChain, AreUpTo, IsSet, HaveSameNumbers}
@@ -164,3 +165,8 @@ set_more g items i a b l at_i at_next h far some small =
 -- a set of all blocks
 pub set_all : (g : ℕ) (items : List Block) (i : ℕ) → length items ≤ i → IsSet g (take i items) → IsSet g items
 set_all g items i l h = subst (λ (v : List Block). IsSet g v) (take_all i items l) h
+
+-- the empty list is a set
+pub set_none : (g : ℕ) (bs : List Block) → true ≡ (length bs == 0) → IsSet g bs
+set_none g [] none = record { chain = tt; small = tt }
+set_none g (b ∷ bs) none = absurd (omega (arith, eqb-true (length (b ∷ bs)) 0 (sym none)))

@@ -25,7 +25,7 @@ use crate::key_identifiers::{
 use crate::key_usage::{KeyUsage, encode_key_usage, take_key_usage};
 use crate::listed_resources::agreed;
 use crate::policies::{encode_certificate_policies, take_certificate_policies};
-use crate::reading::{Taken, keep, uris};
+use crate::reading::{Taken, is, keep, uris};
 use crate::subject_access::{
     Sia, encode_subject_information_access, take_subject_information_access,
 };
@@ -331,31 +331,31 @@ impl Named {
     pub(crate) fn of(identifier: &[u8]) -> Option<Named>
         ensures { Names identifier.now result }
     {
-        if identifier == oid::CE_BASIC_CONSTRAINTS {
+        if is(identifier, oid::CE_BASIC_CONSTRAINTS) {
             Some(Named::BasicConstraints)
-        } else if identifier == oid::CE_SUBJECT_KEY_IDENTIFIER {
+        } else if is(identifier, oid::CE_SUBJECT_KEY_IDENTIFIER) {
             Some(Named::SubjectKeyIdentifier)
-        } else if identifier == oid::CE_AUTHORITY_KEY_IDENTIFIER {
+        } else if is(identifier, oid::CE_AUTHORITY_KEY_IDENTIFIER) {
             Some(Named::AuthorityKeyIdentifier)
-        } else if identifier == oid::CE_KEY_USAGE {
+        } else if is(identifier, oid::CE_KEY_USAGE) {
             Some(Named::KeyUsage)
-        } else if identifier == oid::CE_EXTENDED_KEY_USAGE {
+        } else if is(identifier, oid::CE_EXTENDED_KEY_USAGE) {
             Some(Named::ExtendedKeyUsage)
-        } else if identifier == oid::CE_CRL_DISTRIBUTION_POINTS {
+        } else if is(identifier, oid::CE_CRL_DISTRIBUTION_POINTS) {
             Some(Named::CrlDistributionPoints)
-        } else if identifier == oid::PE_AUTHORITY_INFO_ACCESS {
+        } else if is(identifier, oid::PE_AUTHORITY_INFO_ACCESS) {
             Some(Named::AuthorityInformationAccess)
-        } else if identifier == oid::PE_SUBJECT_INFO_ACCESS {
+        } else if is(identifier, oid::PE_SUBJECT_INFO_ACCESS) {
             Some(Named::SubjectInformationAccess)
-        } else if identifier == oid::CE_CERTIFICATE_POLICIES {
+        } else if is(identifier, oid::CE_CERTIFICATE_POLICIES) {
             Some(Named::CertificatePolicies)
-        } else if identifier == oid::PE_IP_ADDR_BLOCK {
+        } else if is(identifier, oid::PE_IP_ADDR_BLOCK) {
             Some(Named::IpResources(Overclaim::Refuse))
-        } else if identifier == oid::PE_IP_ADDR_BLOCK_V2 {
+        } else if is(identifier, oid::PE_IP_ADDR_BLOCK_V2) {
             Some(Named::IpResources(Overclaim::Trim))
-        } else if identifier == oid::PE_AUTONOMOUS_SYS_IDS {
+        } else if is(identifier, oid::PE_AUTONOMOUS_SYS_IDS) {
             Some(Named::AsResources(Overclaim::Refuse))
-        } else if identifier == oid::PE_AUTONOMOUS_SYS_IDS_V2 {
+        } else if is(identifier, oid::PE_AUTONOMOUS_SYS_IDS_V2) {
             Some(Named::AsResources(Overclaim::Trim))
         } else {
             None

@@ -30,6 +30,14 @@ fn pass_over(alloc: Global, identifier: &[u8], critical: bool) -> Result<(), Dec
     Err(DecodeError::UnexpectedCritical(Oid::new(identifier)?))
 }
 
+/// Whether an identifier is this one. A comparison that stands here alone is proved faster.
+#[inline(always)]
+pub(crate) fn is(identifier: &[u8], known: &[u8]) -> bool
+    ensures { result ≡ bytes_eq identifier.now known.now }
+{
+    identifier == known
+}
+
 /// Returns whether readers of certificates know the kind of extension with this identifier (RFC 6487
 /// 4.8, RFC 8360 4.2).
 pub fn is_known(identifier: &[u8]) -> bool

@@ -1,2 +1,3 @@
 pub mod OnlyParts
 pub mod ZippedTexts
+pub mod PrefixesRead

@@ -1,5 +1,5 @@
 use Rattle.std.proofs.Common.{rules, arith}
-use Rattle.rpki_blocks.proofs.ChainWalks.{IsAt, IsDecided, past_at, held_at, none_at, at_both, decided_escapes, says_no}
+use Rattle.rpki_blocks.proofs.ChainWalks.{IsAt, IsDecided, past_at, held_at, none_at, at_both, decided_escapes, says_no, undecided, says_yes}
 use Rattle.rpki_blocks.proofs.chain.Chain.is_encompassed.Goals as goal
 
 pub walk-preserved-then-is_before : goal.walk-preserved-then-is_before
@@ -23,3 +23,11 @@ returns-else-is_within g c =
     let decided = at_both _ _ _ _ _ _ (IsDecided g.B.Bound.greatest c.self.inside.blocks.items c.other.inside.blocks.items) place c.walk.invariant.decided in
     let no = says_no _ _ _ (decided_escapes _ _ _ c.index-a.result.now _ c.index-b.result.now _ decided (search rules) c.if-is_within.ensures) in
     rw (← c.self.view_is, ← c.other.view_is) (record { inside = no.0; outside = no.1 })
+
+pub walk-init : goal.walk-init
+walk-init g c = record { in_range = omega arith; decided = undecided _ _ _ c.self.invariant c.other.invariant }
+
+pub returns : goal.returns
+returns g c =
+    let yes = says_yes _ _ _ c.walk.i c.walk.j (omega arith) c.walk.invariant.decided in
+    rw (← c.self.view_is, ← c.other.view_is) (record { inside = yes.0; outside = yes.1 })
