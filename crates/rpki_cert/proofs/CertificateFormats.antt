@@ -144,6 +144,10 @@ whole_key_longer f = omega (arith, member_longer (pieces f) 6, ap length (pieces
 pub key_longer : (f : TbsFields) → length (public_key_format.inside f.key) ≤ length (tbs_content f)
 key_longer f = omega (arith, public_key_longer f.key, whole_key_longer f)
 
+-- the extensions inside their two tags aren't either
+pub extensions_longer : (f : TbsFields) → length (tagged_extensions f.extensions) ≤ length (tbs_content f)
+extensions_longer f = omega (arith, member_longer (pieces f) 7, ap length (pieces_are f))
+
 module _ (f : TbsFields) (fits : Fits f) (only_v4 : AreV4 f.extensions.v4_resources) (some : HasResources f.extensions) where
   content_fits : (tbs_content_format levels).fits f
   unfolding tbs_content_format version_format name_format

@@ -6,10 +6,10 @@ use Rattle.rpki_parts.specs.Algorithms.{algorithm}
 use Rattle.rpki_parts.specs.Validities.{validity}
 use Rattle.rpki_parts.specs.Keys.{key, public_key_format}
 use Rattle.rpki_der.proofs.Ending.{front_kept}
-use Rattle.rpki_der.proofs.TooLong.{passed_long}
+use Rattle.rpki_der.proofs.TooLong.{passed_long, still_long}
 use Rattle.rpki_parts.specs.Names.{name_format}
 use Rattle.rpki_cert.specs.Certificates.{tagged_extensions, tbs_content, version_format}
-use Rattle.rpki_cert.proofs.CertificateFormats.{front_of_pieces, key_longer, pieces_in_order, version_written}
+use Rattle.rpki_cert.proofs.CertificateFormats.{extensions_longer, front_of_pieces, key_longer, pieces_in_order, version_written}
 use Rattle.rpki_cert.proofs.tbs.TbsCert.append_content.Goals as goal
 
 pub returns-in_err-encode_ref-3-clause-too_long : goal.returns-in_err-encode_ref-3-clause-too_long
@@ -47,3 +47,6 @@ returns-clause-err c =
     let all : c.encode_ref-3.new.out.items ≡ ((((((old ++ version_format.written tt) ++ number f.serial) ++ algorithm f.algorithm) ++ f.issuer) ++ validity f.validity) ++ f.subject) ++ key f.key = rw (with_key, with_subject, with_validity, with_issuer, with_algorithm, with_serial, with_version) refl in
     let front : take (length old) c.encode_ref-3.new.out.items ≡ old = ap (take (length old)) all ∙ front_of_pieces old (version_format.written tt) (number f.serial) (algorithm f.algorithm) f.issuer (validity f.validity) f.subject (key f.key) in
     on_err_weaker c.append_extensions.result (front_kept old c.encode_ref-3.new.out.items c.append_extensions.new.out.items front) c.append_extensions.ensures.err
+
+pub returns-clause-too_long : goal.returns-clause-too_long
+returns-clause-too_long c = still_long c.append_extensions.result (tagged_extensions c.args.self.now.extensions) (tbs_content c.args.self.now) c.append_extensions.ensures.too_long (extensions_longer c.args.self.now)
