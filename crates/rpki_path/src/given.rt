@@ -1,6 +1,7 @@
 //! The members of a path that is asked about.
-ghost use Rattle.std.specs.Prelude.{◌≡◌, ◌↔◌, ℕ, length, IsSome, IfSome};
-ghost use Rattle.rpki_path.specs.GivenPaths.{string_count, CanEndIn, IsSplitAs};
+ghost use Rattle.std.specs.Prelude.{◌≡◌, ◌≢◌, ◌↔◌, ℕ, List, length, IsSome, IfSome};
+ghost use Rattle.rpki_cert.specs.declared.inspect.Kind.TheVariants as cert;
+ghost use Rattle.rpki_path.specs.GivenPaths.{string_count, path_strings, path_to, CanEndIn, IsSplitAs};
 
 use crate::members::Member;
 use rpki_cert::Kind;
@@ -15,6 +16,19 @@ pub enum Last<'p, 'm> {
     DetachedEe(&'p Member<'m>),
     /// A router (RFC 8209).
     Router(&'p Member<'m>),
+}
+
+// The last member as one of this kind, where that isn't a CA.
+fn last_as<'p, 'm>(kind: Kind, end: &'p Member<'m>) -> Option<Last<'p, 'm>>
+    ensures { kind ≢ cert.Anchor → kind ≢ cert.Authority → (anchor : List ℕ) (cas : List (List ℕ))
+        → path_strings anchor cas result ≡ path_to anchor cas kind end.now }
+{
+    match kind {
+        Kind::Anchor | Kind::Authority => None,
+        Kind::EndEntity => Some(Last::Ee(end)),
+        Kind::Detached => Some(Last::DetachedEe(end)),
+        Kind::Router => Some(Last::Router(end)),
+    }
 }
 
 /// The members of a path that is asked about: the trust anchor, the CAs below it from the top down,
@@ -56,19 +70,9 @@ impl<'p, 'm> GivenPath<'p, 'm> {
                 let (cas, last) = (below, None);
                 Some(GivenPath { anchor, cas, last })
             }
-            Kind::EndEntity => {
+            Kind::EndEntity | Kind::Detached | Kind::Router => {
                 let (end, cas) = below.split_last()?;
-                let last = Some(Last::Ee(end));
-                Some(GivenPath { anchor, cas, last })
-            }
-            Kind::Detached => {
-                let (end, cas) = below.split_last()?;
-                let last = Some(Last::DetachedEe(end));
-                Some(GivenPath { anchor, cas, last })
-            }
-            Kind::Router => {
-                let (end, cas) = below.split_last()?;
-                let last = Some(Last::Router(end));
+                let last = last_as(last, end);
                 Some(GivenPath { anchor, cas, last })
             }
         }
