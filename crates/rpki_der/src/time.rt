@@ -1,5 +1,5 @@
 //! Times.
-ghost use Rattle.std.specs.Prelude.{IsTrue, max, ◌≡◌, ◌↔◌, ◌++◌, ◌/◌, ◌%◌, ◌<◌, ◌≤◌, pos, ◌≤ℤ◌, unsigned_abs, nat_eq, OnOk, OnErr, IsSome, IfSome, IfNone, Some, IsOk, IfOk, IfErr};
+ghost use Rattle.std.specs.Prelude.{◌≡◌, ◌↔◌, ◌++◌, ◌/◌, ◌%◌, ◌<◌, ◌≤◌, pos, ◌≤ℤ◌, unsigned_abs, nat_eq, OnOk, OnErr, IsSome, IfSome, IfNone, Some, IsOk, IfOk, IfErr};
 ghost use Rattle.std.specs.Ordering.{nat_cmp, on, as_partial_cmp};
 ghost use Rattle.std.specs.Cmp.{partial_order_from_own_ties};
 ghost use Rattle.std.proofs.Common.{rules};
@@ -72,14 +72,6 @@ fn year_part(year: u32) -> i16
     year as i16
 }
 
-// Whether one of the parts behind the year has more than two decimal digits.
-#[inline(always)]
-fn are_long(month: u32, day: u32, hour: u32, minute: u32, second: u32) -> bool
-    ensures { IsTrue result ↔ (99 < max month (max day (max hour (max minute second)))) }
-{
-    month.max(day.max(hour.max(minute.max(second)))) > 99
-}
-
 // The date and the time of day with these parts, where the calendar has the one and a clock the
 // other.
 #[inline(always)]
@@ -125,7 +117,7 @@ impl Time {
         ensures value { IfSome result
             (λ t. t ≡ moment year month day hour minute second) }
     {
-        if year > 9999 || are_long(month, day, hour, minute, second) {
+        if year > 9999 || month > 12 || day > 31 || hour > 23 || minute > 59 || second > 59 {
             return None;
         }
         let civil = civil(
