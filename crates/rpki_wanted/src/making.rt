@@ -216,6 +216,23 @@ fn issuer_key(issuer: Option<&TbsCert>) -> Option<KeyIdentifier>
     }
 }
 
+// The further purposes of the key, in the fields.
+fn with_purposes(alloc: Global, kind: Kind, mut tbs: TbsCert) -> Result<TbsCert, AllocError>
+    ensures { IfOk result (λ f. f
+        ≡ updated tbs (λ x. record x { extended_key_usage = purposes_asked kind })) }
+{
+    match purposes(alloc, kind) {
+        Ok(purposes) => {
+            tbs.set_extended_key_usage(purposes);
+            Ok(tbs)
+        }
+        Err(error) => {
+            drop(tbs);
+            Err(error)
+        }
+    }
+}
+
 // What a certificate of the kind has of its own, but for numbers and URIs.
 fn begun(
     alloc: Global,
@@ -226,8 +243,10 @@ fn begun(
     names: (Name, Name),
     key: PublicKey,
 ) -> Result<TbsCert, AllocError>
-    ensures { IfOk result (λ f. f ≡ new_fields serial names.0 validity (Some names.1) key
-        (if is_authority_kind kind then Ca else Ee) (if trims then Trim else Refuse)) }
+    ensures { let new = new_fields serial names.0 validity (Some names.1) key
+        (if is_authority_kind kind then Ca else Ee) (if trims then Trim else Refuse) in
+        IfOk result (λ f. f
+        ≡ updated new (λ x. record x { extended_key_usage = purposes_asked kind })) }
 {
     let (name, subject) = names;
     let made = TbsCert::new(
@@ -241,7 +260,7 @@ fn begun(
         overclaim(trims),
     );
     match made {
-        Ok(tbs) => Ok(tbs),
+        Ok(tbs) => with_purposes(alloc, kind, tbs),
         Err(_) => Err(AllocError),
     }
 }
@@ -266,15 +285,41 @@ fn named(
         numbers,
         places,
     } = wanted;
-    let purposes = purposes(alloc, kind)?;
     let validity = Validity::new(not_before, not_after);
-    let mut tbs = begun(alloc, kind, trims, serial, validity, names, key)?;
-    tbs.set_basic_ca(flag(kind));
-    tbs.set_authority_key_identifier(issuer_key(issuer));
-    tbs.set_extended_key_usage(purposes);
-    set_numbers(&mut tbs, numbers);
-    set_places(&mut tbs, places);
-    Ok(tbs)
+    match begun(alloc, kind, trims, serial, validity, names, key) {
+        Ok(mut tbs) => {
+            tbs.set_basic_ca(flag(kind));
+            tbs.set_authority_key_identifier(issuer_key(issuer));
+            set_numbers(&mut tbs, numbers);
+            set_places(&mut tbs, places);
+            Ok(tbs)
+        }
+        Err(error) => {
+            drop(numbers);
+            drop(places);
+            Err(error)
+        }
+    }
+}
+
+// The names of the issuer and of the subject. Gives `None` where the subject is none.
+fn names_asked(
+    alloc: Global,
+    kind: Kind,
+    systems: &AsResources,
+    issuer: Option<&TbsCert>,
+    key: &PublicKey,
+) -> Result<Option<(Name, Name)>, AllocError>
+    ensures { let above = option_map (λ above. above.now) issuer.entry in
+        let subject = subject_asked kind systems.now key.now in
+        IfOk result (λ found. MatchOption found (IsName subject subject → ⊥)
+        (λ names. (names.0 ≡ name_of_issuer above subject) × (names.1 ≡ subject))) }
+{
+    let Some(subject) = subject(alloc, kind, systems, key)? else {
+        return Ok(None);
+    };
+    let name = issuer_name(alloc, issuer, &subject)?;
+    Ok(Some((name, subject)))
 }
 
 /// Makes the fields of the certificate of the kind with these values and this key, below an issuer
@@ -292,10 +337,20 @@ pub fn fields(
         IfOk result (λ found. MatchOption found (IsName subject subject → ⊥)
         (λ f. f ≡ fields_asked kind trims wanted above key)) }
 {
-    let Some(subject) = subject(alloc, kind, &wanted.numbers.systems, &key)? else {
-        return Ok(None);
-    };
-    let name = issuer_name(alloc, issuer, &subject)?;
-    let tbs = named(alloc, kind, trims, wanted, issuer, (name, subject), key)?;
-    Ok(Some(tbs))
+    match names_asked(alloc, kind, &wanted.numbers.systems, issuer, &key) {
+        Ok(Some(names)) => {
+            let tbs = named(alloc, kind, trims, wanted, issuer, names, key)?;
+            Ok(Some(tbs))
+        }
+        Ok(None) => {
+            drop(wanted);
+            drop(key);
+            Ok(None)
+        }
+        Err(error) => {
+            drop(wanted);
+            drop(key);
+            Err(error)
+        }
+    }
 }
