@@ -106,9 +106,15 @@ impl Folder {
         ensures err { OnErr result (self.new ≡ self.old) }
     {
         let place = self.lists.len();
-        self.lists.try_reserve(1)?;
+        if let Err(error) = self.lists.try_reserve(1) {
+            drop(list);
+            return Err(error);
+        }
         let key = *list.as_cert_list().authority_key_identifier();
-        self.lists_by_signer.add(&key, place)?;
+        if let Err(error) = self.lists_by_signer.add(&key, place) {
+            drop(list);
+            return Err(error);
+        }
         match self.lists.push(list) {
             Ok(()) => Ok(()),
             Err(_) => unreachable!(),
@@ -142,7 +148,10 @@ impl Folder {
     {
         match Crl::decode_shared(self.alloc, octets) {
             Ok(mut list) => {
-                list.cache_serials(self.alloc)?;
+                if let Err(error) = list.cache_serials(self.alloc) {
+                    drop(list);
+                    return Err(error);
+                }
                 self.add_list(list)?;
                 Ok(Added::List)
             }
