@@ -115,7 +115,10 @@ impl<'a> BareObject<'a> {
     {
         match read_content(alloc, &self.octets)? {
             Content::Certificate(cert, _) => Ok(Some(cert)),
-            Content::List(..) | Content::Neither(_) => Ok(None),
+            other => {
+                drop(other);
+                Ok(None)
+            }
         }
     }
 
@@ -128,7 +131,10 @@ impl<'a> BareObject<'a> {
     {
         match read_content(alloc, &self.octets)? {
             Content::List(list, _) => Ok(Some(list)),
-            Content::Certificate(..) | Content::Neither(_) => Ok(None),
+            other => {
+                drop(other);
+                Ok(None)
+            }
         }
     }
 }

@@ -249,14 +249,26 @@ fn object_of<'a>(alloc: Global, name: &'a str, octets: Bytes) -> Result<Object<'
     ensures name { IfOk result (λ object. object.name ≡ name.now) }
     ensures octets { IfOk result (λ object. object.octets ≡ octets) }
 {
-    let content = read_content(alloc, &octets)?;
-    let sort = told_sort(alloc, &octets, &content)?;
-    Ok(Object {
-        name,
-        octets,
-        content,
-        sort,
-    })
+    let content = match read_content(alloc, &octets) {
+        Ok(content) => content,
+        Err(error) => {
+            drop(octets);
+            return Err(error);
+        }
+    };
+    match told_sort(alloc, &octets, &content) {
+        Ok(sort) => Ok(Object {
+            name,
+            octets,
+            content,
+            sort,
+        }),
+        Err(error) => {
+            drop(content);
+            drop(octets);
+            Err(error)
+        }
+    }
 }
 
 /// Reads the object of a file, in DER or in PEM, what it begins with, and its sort where that is
