@@ -266,8 +266,9 @@ impl PublicKey {
         let mut ahead = cursor.fork();
         let mut content = ahead.take_sequence()?;
         let format = take_format(&mut content)?;
-        let bits = take_whole_bits(&mut content)?.capture_rest(alloc)?;
+        let mut bits = take_whole_bits(&mut content)?;
         content.finish()?;
+        let bits = bits.capture_rest(alloc)?;
         *cursor = ahead;
         Ok(PublicKey { format, bits })
     }

@@ -2,10 +2,11 @@
 ghost use Rattle.std.specs.Prelude.{◌≡◌, ◌↔◌, ◌^◌, ◌<◌, ◌++◌, Ok, IfOk, IfErr, IsOk, OnErr, OnOk, length, take};
 ghost use Rattle.rpki_der.specs.Writers.{SaysLong, Writes};
 ghost use Rattle.rpki_der.specs.Answers.{AnswersOrMemory};
-ghost use Rattle.rpki_der.specs.Place.{remaining, Keeps};
-ghost use Rattle.rpki_der.specs.Place.Reading.{TookOrMemory};
+ghost use Rattle.rpki_der.specs.Place.{remaining, Keeps, MovesOn};
+ghost use Rattle.rpki_der.specs.Place.Reading.{TookOrMemory, TookOrMemoryBy};
+ghost use Rattle.rpki_der.specs.Reading.{both};
 ghost use Rattle.rpki_der.specs.Values.{AreOctets};
-ghost use Rattle.rpki_parts.specs.Algorithms.{algorithm};
+ghost use Rattle.rpki_parts.specs.Algorithms.{algorithm, algorithm_format};
 ghost use Rattle.rpki_parts.specs.Keys.{whole_bits_format};
 ghost use Rattle.rpki_parts.specs.SignedDatas.{signed_content, signed_content_format, signed_part};
 ghost use Rattle.rpki_parts.specs.Signing.{IsRefusalOnceAsked};
@@ -17,6 +18,17 @@ use bytes::Bytes;
 use rpki_der::{Cursor, DecodeError, EncodeError, MAX_LEN, Piece, end_value, put_bits, tag};
 use std::alloc::{AllocError, Global};
 use std::marker::Model;
+
+// The algorithm and the signature that stand next. Where it errs, the cursor may stand anywhere.
+fn take_signature(alloc: Global, cursor: &mut Cursor<'_>) -> Result<Signature, DecodeError>
+    ensures reads { let reading = both algorithm_format.read whole_bits_format.read in
+        TookOrMemoryBy (λ s. (s.algorithm, s.value)) reading cursor.old result cursor.new }
+    ensures on { OnOk result (MovesOn cursor.old cursor.new) }
+{
+    let algorithm = RpkiSignatureAlgorithm::x509_take_from(cursor)?;
+    let value = take_whole_bits(cursor)?.capture_rest(alloc)?;
+    Ok(Signature::from_piece(algorithm, value))
+}
 
 /// Octets that are signed, kept as they stand, and their signature.
 #[derive(Drop)]
@@ -53,13 +65,9 @@ impl SignedData {
     {
         let mut ahead = content.fork();
         let data = ahead.capture_one(alloc)?;
-        let algorithm = RpkiSignatureAlgorithm::x509_take_from(&mut ahead)?;
-        let value = take_whole_bits(&mut ahead)?.capture_rest(alloc)?;
+        let signature = take_signature(alloc, &mut ahead)?;
         *content = ahead;
-        Ok(SignedData {
-            data,
-            signature: Signature::from_piece(algorithm, value),
-        })
+        Ok(SignedData { data, signature })
     }
 
     /// Reads what stands in the SEQUENCE: a value, which is kept as it stands, the algorithm, and

@@ -1,13 +1,15 @@
 //! Periods of validity.
 ghost use Rattle.std.specs.Prelude.{◌≡◌, ◌++◌, length, take, IfErr, OnErr, OnOk};
-ghost use Rattle.rpki_der.specs.Times.{time};
+ghost use Rattle.rpki_der.specs.Reading.{both, map_value};
+ghost use Rattle.rpki_der.specs.Times.{Moment, time};
+ghost use Rattle.rpki_der.specs.Times.Reading.{time_at};
 ghost use Rattle.rpki_der.specs.Values.{AreOctets};
 ghost use Rattle.rpki_der.specs.Answers.{Answers};
 ghost use Rattle.rpki_der.specs.Formats.{part};
 ghost use Rattle.rpki_der.specs.Place.{remaining, Keeps};
 ghost use Rattle.rpki_der.specs.Place.Reading.{Took};
 ghost use Rattle.rpki_der.specs.declared.error.EncodeError.TheVariants.{Memory};
-ghost use Rattle.rpki_parts.specs.Validities.{validity_format};
+ghost use Rattle.rpki_parts.specs.Validities.{ValidityFields, validity_format};
 ghost use Rattle.rpki_der.specs.Writers.{Writes};
 
 use rpki_der::{Cursor, DecodeError, EncodeError, Time, end_value, tag};
@@ -58,6 +60,17 @@ impl Validity {
         self.not_after
     }
 
+    // The two times that stand next. Where it errs, the cursor may stand anywhere.
+    fn take_times(cursor: &mut Cursor<'_>) -> Result<Validity, DecodeError>
+        ensures { let fields : Moment × Moment → ValidityFields =
+            λ x. record { not_before = x.0; not_after = x.1 } in
+            Took (map_value fields (both time_at time_at)) cursor.old result cursor.new }
+    {
+        let not_before = Time::take_from(cursor)?;
+        let not_after = Time::take_from(cursor)?;
+        Ok(Validity::new(not_before, not_after))
+    }
+
     // The period that stands next, by the reading function.
     #[tactic(auto, unfolding(crate::specs::Validities::validity_format))]
     fn read(cursor: &mut Cursor<'_>) -> Result<Validity, DecodeError>
@@ -67,11 +80,10 @@ impl Validity {
     {
         let mut ahead = cursor.fork();
         let mut content = ahead.take_sequence()?;
-        let not_before = Time::take_from(&mut content)?;
-        let not_after = Time::take_from(&mut content)?;
+        let validity = Validity::take_times(&mut content)?;
         content.finish()?;
         *cursor = ahead;
-        Ok(Validity::new(not_before, not_after))
+        Ok(validity)
     }
 
     /// Reads the SEQUENCE of two times that stands next.

@@ -23,35 +23,18 @@ returns-in_err-content-clause-reads c =
     let none : validity_format.read now ≡ None = read_is now ∙ not_begun SEQUENCE times c.fork-ahead.ensures.same c.in_err-content.ensures.answers.reads.1 in
     search rules
 
-pub returns-in_err-not_before-clause-reads : goal.returns-in_err-not_before-clause-reads
-returns-in_err-not_before-clause-reads c =
+pub returns-in_err-validity-clause-reads : goal.returns-in_err-validity-clause-reads
+returns-in_err-validity-clause-reads c =
     let now = remaining c.args.cursor.now in
-    let content = remaining c.in_ok-content.content in
-    let one : times content ≡ None = rw c.in_err-not_before.ensures.reads.1 refl in
-    let none : validity_format.read now ≡ None = read_is now ∙ not_read SEQUENCE times c.fork-ahead.ensures.same c.in_ok-content.ensures.answers.reads one in
-    search rules
-
-pub returns-in_err-not_after-clause-reads : goal.returns-in_err-not_after-clause-reads
-returns-in_err-not_after-clause-reads c =
-    let now = remaining c.args.cursor.now in
-    let content = remaining c.in_ok-content.content in
-    let two : times content ≡ None = rw (c.in_ok-not_before.ensures.reads, c.in_err-not_after.ensures.reads.1) refl in
-    let none : validity_format.read now ≡ None = read_is now ∙ not_read SEQUENCE times c.fork-ahead.ensures.same c.in_ok-content.ensures.answers.reads two in
+    let none : validity_format.read now ≡ None = read_is now ∙ not_read SEQUENCE times c.fork-ahead.ensures.same c.in_ok-content.ensures.answers.reads c.in_err-validity.ensures.1 in
     search rules
 
 pub returns-in_err-finish-clause-reads : goal.returns-in_err-finish-clause-reads
 returns-in_err-finish-clause-reads c =
     let now = remaining c.args.cursor.now in
-    let content = remaining c.in_ok-content.content in
-    let v : ValidityFields = record { not_before = c.in_ok-not_before.not_before; not_after = c.in_ok-not_after.not_after } in
-    let both : times content ≡ Some (v, remaining c.take_from-2.new.cursor) = rw (c.in_ok-not_before.ensures.reads, c.in_ok-not_after.ensures.reads) refl in
-    let none : validity_format.read now ≡ None = read_is now ∙ not_used_up SEQUENCE times c.fork-ahead.ensures.same c.in_ok-content.ensures.answers.reads both (λ nil. false≢true (c.in_err-finish.ensures.end.1 nil)) in
+    let none : validity_format.read now ≡ None = read_is now ∙ not_used_up SEQUENCE times c.fork-ahead.ensures.same c.in_ok-content.ensures.answers.reads c.in_ok-validity.ensures (λ nil. false≢true (c.in_err-finish.ensures.end.1 nil)) in
     search rules
 
 pub returns-clause-reads : goal.returns-clause-reads
 returns-clause-reads c =
-    let now = remaining c.args.cursor.now in
-    let content = remaining c.in_ok-content.content in
-    let v : ValidityFields = record { not_before = c.in_ok-not_before.not_before; not_after = c.in_ok-not_after.not_after } in
-    let both : times content ≡ Some (v, remaining c.take_from-2.new.cursor) = rw (c.in_ok-not_before.ensures.reads, c.in_ok-not_after.ensures.reads) refl in
-    rw c.new.ensures (read_is now ∙ used_up SEQUENCE times c.fork-ahead.ensures.same c.in_ok-content.ensures.answers.reads both (c.in_ok-finish.ensures.end.0 refl))
+    read_is (remaining c.args.cursor.now) ∙ used_up SEQUENCE times c.fork-ahead.ensures.same c.in_ok-content.ensures.answers.reads c.in_ok-validity.ensures (c.in_ok-finish.ensures.end.0 refl)
