@@ -43,7 +43,6 @@ fn read(alloc: Global, cursor: &mut Cursor<'_>) -> Result<Rsync, DecodeError>
 
 /// Reads the content of Authority Information Access. Returns the only rsync URI among the names of
 /// one description, which says where the issuer's certificate is (RFC 6487 4.8.7).
-#[tactic(auto, using(rpki_der::proofs::FormatAnswers::answers_or_memory_alone, crate::proofs::CertificateExtensions::authority_information_access_alone))]
 pub fn take_authority_information_access(
     alloc: Global,
     cursor: &mut Cursor<'_>,

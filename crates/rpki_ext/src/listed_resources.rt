@@ -1,5 +1,5 @@
 //! The resources that a certificate lists, under the mode of its policy.
-ghost use Rattle.std.specs.Prelude.{◌≡◌, IfErr, unwrap_or};
+ghost use Rattle.std.specs.Prelude.{◌≡◌, ◌||◌, true, is_some, Err, IfErr, Some, unwrap_or};
 ghost use Rattle.rpki_der.specs.Place.Reading.{Returns};
 ghost use Rattle.rpki_blocks.specs.Addresses.{or_missing};
 ghost use Rattle.rpki_blocks.specs.Resources.{missing};
@@ -71,6 +71,46 @@ fn both_families(
     }
 }
 
+// The error, whatever was read, which is let go.
+fn refused(
+    error: DecodeError,
+    ip: Option<(Overclaim, (Option<IpResources>, Option<IpResources>))>,
+    numbers: Option<(Overclaim, AsResources)>,
+) -> Result<Listed, DecodeError>
+    ensures { result ≡ Err error }
+{
+    drop(ip);
+    drop(numbers);
+    Err(error)
+}
+
+// Their identifiers must be those of the policy; of several that are not, the addresses are named.
+fn agreed_under(
+    overclaim: Overclaim,
+    ip: Option<(Overclaim, (Option<IpResources>, Option<IpResources>))>,
+    numbers: Option<(Overclaim, AsResources)>,
+) -> Result<Listed, DecodeError>
+    requires { (is_some ip || is_some numbers) ≡ true }
+    ensures reads { Returns result (agreed (Some overclaim) (ip_of ip) numbers) }
+    ensures names { IfErr result (λ e. e ≡ disagreement (Some overclaim) (ip_of ip) numbers) }
+{
+    let Some(families) = under(overclaim, ip) else {
+        drop(numbers);
+        return Err(DecodeError::WrongResources(Field::IpResources));
+    };
+    let Some(numbers) = under(overclaim, numbers) else {
+        drop(families);
+        return Err(DecodeError::WrongResources(Field::AsResources));
+    };
+    let (v4_resources, v6_resources) = both_families(families);
+    Ok(Listed {
+        overclaim,
+        v4_resources,
+        v6_resources,
+        as_resources: or_missing(numbers),
+    })
+}
+
 // Some resources must be there, and their identifiers be those of the policy; of several that are
 // not, the addresses are named.
 pub(crate) fn agreed(
@@ -82,7 +122,7 @@ pub(crate) fn agreed(
     ensures names { IfErr result (λ e. e ≡ disagreement overclaim (ip_of ip) numbers) }
 {
     if ip.is_none() && numbers.is_none() {
-        return Err(DecodeError::Missing(Field::Resources));
+        return refused(DecodeError::Missing(Field::Resources), ip, numbers);
     }
     let Some(overclaim) = overclaim else {
         let field = if ip.is_some() {
@@ -90,19 +130,7 @@ pub(crate) fn agreed(
         } else {
             Field::AsResources
         };
-        return Err(DecodeError::WrongResources(field));
+        return refused(DecodeError::WrongResources(field), ip, numbers);
     };
-    let Some(families) = under(overclaim, ip) else {
-        return Err(DecodeError::WrongResources(Field::IpResources));
-    };
-    let Some(numbers) = under(overclaim, numbers) else {
-        return Err(DecodeError::WrongResources(Field::AsResources));
-    };
-    let (v4_resources, v6_resources) = both_families(families);
-    Ok(Listed {
-        overclaim,
-        v4_resources,
-        v6_resources,
-        as_resources: or_missing(numbers),
-    })
+    agreed_under(overclaim, ip, numbers)
 }

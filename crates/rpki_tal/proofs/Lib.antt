@@ -3,3 +3,4 @@ mod KeysRead
 mod LinesRead
 mod OneLocator
 mod SectionsRead
+mod DigitsRead

@@ -1,8 +1,10 @@
 -- The sections of a file, and that they are the only ones.
 use Rattle.std.proofs.Common.{◌≡◌, ◌≢◌, ◌⊎◌, inl, inr, ℕ, Bool, List, [], ◌∷◌, ◌++◌, map, append_assoc, append-nil, refl, sym, ap, subst, ◌∙◌, arith}
 use Rattle.std.proofs.ByRecursion.{All-push}
+use Rattle.std.proofs.lemmas.List.{map-append}
 use Rattle.std.specs.Char.{to_ascii_lowercase}
 use Rattle.std.specs.List.{AllByRecursion}
+use Rattle.std.specs.Prelude.{Result, Ok, Err, IfErr, IsErrAnd}
 use Rattle.std.specs.Str.{str_to_ascii_lowercase}
 use Rattle.std.specs.Str.Lines.{lines}
 use Rattle.rpki_parts.specs.Keys.{KeyFields}
@@ -173,3 +175,17 @@ fault_of_key strict e file behind uris digits text h u some (inr key) = rw key.0
     no_key = key.1;
   },
 )
+
+-- no fault is named where memory ran out
+pub out_of_memory : {T : Type 0} (strict : Bool) (file : List ℕ) (r : Result T TalError) → IsErrAnd r (λ e. e ≡ Memory) → IfErr r (λ e. RejectsTal strict e file) × IfErr r (λ e. IsTalFault strict e file)
+out_of_memory strict file (Ok x) is = absurd is
+out_of_memory strict file (Err e) is = rw is (tt, tt)
+
+-- one URI more
+pub one_more_uri : (old new : List TalUri) (uri : TalUri) (line : List ℕ) → new ≡ old ++ uri ∷ [] → uri_text uri ≡ line → map uri_text new ≡ map uri_text old ++ line ∷ []
+one_more_uri old new uri line pushed is = ap (map uri_text) pushed ∙ map-append uri_text old (uri ∷ []) ∙ ap (λ (l : List ℕ). map uri_text old ++ l ∷ []) is
+
+-- an error of memory alone is one of the two
+pub memory_alone : {T : Type 0} (P : Type 0) (r : Result T TalError) → IsErrAnd r (λ e. e ≡ Memory) → IfErr r (λ e. (e ≡ Memory) ⊎ ((e ≡ BadUri) × P))
+memory_alone P (Ok x) is = absurd is
+memory_alone P (Err e) is = inl is

@@ -1,8 +1,10 @@
-use Rattle.std.proofs.Common.{◌≡◌, ◌≤◌, ◌++◌, ℕ, List, length, subst, sym, add-one}
+use Rattle.std.proofs.Common.{◌≡◌, ◌≤◌, ◌++◌, ℕ, List, length, subst, sym, ◌∙◌, add-one}
+use Rattle.rpki_der.proofs.Appending.{on_err}
 use Rattle.rpki_der.specs.Extensions.{OptionalExtension, part_of, text}
 use Rattle.rpki_der.proofs.TooLong.{passed_long}
 use Rattle.rpki_ext.specs.CertificateExtensions.{extensions}
 use Rattle.rpki_ext.specs.declared.extensions.Named.TheVariants.{BasicConstraints}
+use Rattle.rpki_ext.proofs.WrittenDescriptions.{front_of}
 use Rattle.rpki_ext.proofs.WritingSteps.{all_written, elements_longer, grown, part_at, written_before}
 use Rattle.rpki_ext.proofs.extensions.Extensions.append_sequence.Goals as goal
 
@@ -25,3 +27,9 @@ loop-kind-preserved c =
 
 pub returns-clause-ok : goal.returns-clause-ok
 returns-clause-ok c = subst (λ (written : List ℕ). c.loop-kind.out.items ≡ c.args.out.now.items ++ written) (all_written c.args.self.now c.loop-kind.kind-index c.loop-kind-test.false) c.loop-kind.invariant
+
+pub returns-in_err-append-clause-err : goal.returns-in_err-append-clause-err
+returns-in_err-append-clause-err c = on_err c.from_residual.result (front_of c.args.out.now.items c.append.new.out.items _ (c.in_err-append.ensures.err ∙ c.loop-kind.invariant))
+
+pub returns-clause-too_long : goal.returns-clause-too_long
+returns-clause-too_long c = λ long. absurd cc
