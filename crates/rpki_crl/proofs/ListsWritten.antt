@@ -42,3 +42,8 @@ entries_longer r = longer (some_entries r.octets r.entries)
 pub revoked_longer : (f : ListFields Revoked) → length (revoked_part f.revoked).inside ≤ length (list_content f)
 unfolding list_content_format
 revoked_longer f = omega (arith, entries_longer f.revoked, length-append {A = ℕ})
+
+-- and neither are the extensions inside their tags
+pub tagged_longer : (f : ListFields Revoked) → length (tagged_list_extensions f.extensions) ≤ length (list_content f)
+unfolding list_content_format
+tagged_longer f = omega (arith, length-append {A = ℕ})

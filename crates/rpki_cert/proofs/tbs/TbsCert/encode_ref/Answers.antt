@@ -21,3 +21,9 @@ returns-clause-fits c =
       extensions_are = c.known.ensures.extensions;
       short = both.1;
     }) (ended_well _ _ c.append_content-content.result c.end_value.result content.serial c.end_value.ensures.went_well writes.fits)
+
+pub returns-clause-writes : goal.returns-clause-writes
+returns-clause-writes c =
+    let start : c.len-start.result ≡ length c.args.out.now.items = search rules in
+    let content = c.append_content-content.ensures in
+    ended (value SEQUENCE) _ c.args.out.now.items (tbs_content c.args.self.now) _ _ c.append_content-content.result c.end_value.result start content.ok content.err content.too_long c.end_value.ensures

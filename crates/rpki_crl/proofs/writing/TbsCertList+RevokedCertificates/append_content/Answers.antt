@@ -3,12 +3,12 @@ use Rattle.std.specs.Prelude.{OnOk}
 use Rattle.std.proofs.lemmas.Result.{on_ok_weaker, on_err_weaker}
 use Rattle.std.proofs.lemmas.List.{take_at}
 use Rattle.rpki_der.proofs.Ending.{front_kept}
-use Rattle.rpki_der.proofs.TooLong.{passed_long}
+use Rattle.rpki_der.proofs.TooLong.{passed_long, still_long}
 use Rattle.rpki_crl.specs.ListExtensions.Views.{extensions_view}
 use Rattle.rpki_crl.specs.Lists.{ListFields, list_content, list_content_format, tagged_list_extensions}
 use Rattle.rpki_crl.specs.RevokedEntries.{Revoked, revoked_part}
 use Rattle.rpki_crl.proofs.ListFormats.{version_is}
-use Rattle.rpki_crl.proofs.ListsWritten.{revoked_longer}
+use Rattle.rpki_crl.proofs.ListsWritten.{revoked_longer, tagged_longer}
 use Rattle.rpki_crl.proofs.writing.TbsCertList+RevokedCertificates.append_content.Goals as goal
 
 pub returns-in_err-encode_ref-2-clause-too_long : goal.returns-in_err-encode_ref-2-clause-too_long
@@ -46,3 +46,8 @@ returns-clause-err c =
       append_assoc,
     ) (take_at old _ (length old) refl) in
     on_err_weaker c.append_tagged.result (front_kept old mid c.append_tagged.new.out.items front) c.append_tagged.ensures.err
+
+pub returns-clause-too_long : goal.returns-clause-too_long
+returns-clause-too_long c =
+    still_long c.append_tagged.result (tagged_list_extensions (extensions_view c.self.inside.extensions)) (list_content c.args.self.now) c.append_tagged.ensures.too_long
+    (omega (arith, ap (λ (f : ListFields Revoked). length (tagged_list_extensions f.extensions)) c.self.view_is, tagged_longer c.args.self.now))
