@@ -244,6 +244,32 @@ fn told_sort(alloc: Global, octets: &Bytes, content: &Content) -> Result<Option<
     }
 }
 
+// The object of this name and of these octets, of which this was read, with their sort.
+fn with_sort<'a>(
+    alloc: Global,
+    name: &'a str,
+    octets: Bytes,
+    content: Content,
+) -> Result<Object<'a>, AllocError>
+    requires { IsContent octets content }
+    ensures name { IfOk result (λ object. object.name ≡ name.now) }
+    ensures octets { IfOk result (λ object. object.octets ≡ octets) }
+{
+    match told_sort(alloc, &octets, &content) {
+        Ok(sort) => Ok(Object {
+            name,
+            octets,
+            content,
+            sort,
+        }),
+        Err(error) => {
+            drop(content);
+            drop(octets);
+            Err(error)
+        }
+    }
+}
+
 // The object of this name and of these octets, with what is read of them.
 pub(crate) fn object_of<'a>(
     alloc: Global,
@@ -254,13 +280,7 @@ pub(crate) fn object_of<'a>(
     ensures octets { IfOk result (λ object. object.octets ≡ octets) }
 {
     let content = read_content(alloc, &octets)?;
-    let sort = told_sort(alloc, &octets, &content)?;
-    Ok(Object {
-        name,
-        octets,
-        content,
-        sort,
-    })
+    with_sort(alloc, name, octets, content)
 }
 
 /// Reads the object of a file, in DER or in PEM, what it begins with, and its sort where that is
