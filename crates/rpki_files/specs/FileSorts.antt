@@ -112,7 +112,7 @@ IsFirstOf P [] found = found ≡ None
 IsFirstOf P (x ∷ xs) found = (P x × (found ≡ Some x)) ⊎ ((P x → ⊥) × IsFirstOf P xs found)
 
 -- the sort of the octets: the first one that they are of, if they are of one
-abbrev pub IsSortOf : List ℕ → Option Sort → Type 0
+unfoldable pub IsSortOf : List ℕ → Option Sort → Type 0
 IsSortOf octets found = IsFirstOf (λ s. IsOfSort s octets) every_sort found
 
 -- what is told: the sort of octets that begin with neither a certificate nor a list

@@ -244,18 +244,17 @@ fn told_sort(alloc: Global, octets: &Bytes, content: &Content) -> Result<Option<
     }
 }
 
-// The object of this name and of these octets, with what is read of them.
-fn object_of<'a>(alloc: Global, name: &'a str, octets: Bytes) -> Result<Object<'a>, AllocError>
+// The object of this name and of these octets, of which this was read, with their sort.
+fn with_sort<'a>(
+    alloc: Global,
+    name: &'a str,
+    octets: Bytes,
+    content: Content,
+) -> Result<Object<'a>, AllocError>
+    requires { IsContent octets content }
     ensures name { IfOk result (λ object. object.name ≡ name.now) }
     ensures octets { IfOk result (λ object. object.octets ≡ octets) }
 {
-    let content = match read_content(alloc, &octets) {
-        Ok(content) => content,
-        Err(error) => {
-            drop(octets);
-            return Err(error);
-        }
-    };
     match told_sort(alloc, &octets, &content) {
         Ok(sort) => Ok(Object {
             name,
@@ -265,6 +264,20 @@ fn object_of<'a>(alloc: Global, name: &'a str, octets: Bytes) -> Result<Object<'
         }),
         Err(error) => {
             drop(content);
+            drop(octets);
+            Err(error)
+        }
+    }
+}
+
+// The object of this name and of these octets, with what is read of them.
+fn object_of<'a>(alloc: Global, name: &'a str, octets: Bytes) -> Result<Object<'a>, AllocError>
+    ensures name { IfOk result (λ object. object.name ≡ name.now) }
+    ensures octets { IfOk result (λ object. object.octets ≡ octets) }
+{
+    match read_content(alloc, &octets) {
+        Ok(content) => with_sort(alloc, name, octets, content),
+        Err(error) => {
             drop(octets);
             Err(error)
         }

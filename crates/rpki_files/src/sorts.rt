@@ -275,8 +275,8 @@ pub struct Description {
 // A line for each sort.
 macro_rules! descriptions {
     ($sort:ident: $($of:ident => $name:literal, $says:literal, $section:literal, $advice:literal;)*) => {
-        match $sort {
-            $(Sort::$of => Description {
+        *match $sort {
+            $(Sort::$of => &Description {
                 name: $name,
                 says: $says,
                 section: $section,
