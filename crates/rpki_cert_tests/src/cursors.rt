@@ -25,10 +25,12 @@ fn a_cursor_goes_on(rt: HostRuntime) {
     assert_next(&rt, cursor.take_opt_sequence(), b"\x02\x01\x0c");
     let kept = cursor.fork().capture_rest(rt.alloc()).expect(&rt, "memory");
     assert_eq!(rt; kept.as_bytes(), b"\x04\x00\x05".as_slice());
+    drop(kept);
     assert_next(&rt, cursor.take_opt_value(0x04), b"");
     assert_eq!(rt; cursor.span(), (7, 8));
     assert_eq!(rt; cursor.rest(), b"\x05".as_slice());
     assert!(rt; matches!(cursor.finish(), Err(DecodeError::Trailing)));
+    drop(source);
 }
 
 #[test]
@@ -41,6 +43,7 @@ fn a_content_ends(rt: HostRuntime) {
     assert!(rt; content.is_empty());
     assert_none(&rt, content.take_opt_sequence());
     assert!(rt; content.finish().is_ok());
+    drop(source);
 }
 
 #[test]
@@ -58,6 +61,7 @@ fn two_forms_of_a_key_identifier(rt: HostRuntime) {
     drop(other);
     assert_eq!(rt; cursor.span(), (22, 44));
     assert_eq!(rt; cursor.rest().first(), Some(&0x80));
+    drop(octets);
 }
 
 fn is_there(rt: &impl Abort, found: Result<Option<Cert>, DecodeError>) -> bool {

@@ -23,15 +23,19 @@ fn sets_are_gathered_from_any_iterator(rt: HostRuntime) {
     let touching = [block(11, 12), block(10, 5), block(14, 14)];
     let set = AsBlocks::from_iter(alloc, touching).expect(&rt, "memory");
     assert_numbers(&rt, &set, &[(5, 12), (14, 14)]);
+    drop(set);
     let mut listed = Vec::new(alloc);
     listed.push(block(7, 9)).expect(&rt, "memory");
     let set = AsBlocks::from_iter(alloc, listed).expect(&rt, "memory");
     assert_numbers(&rt, &set, &[(7, 9)]);
+    drop(set);
     let ends = [20u32, 1].into_iter().map(|n| block(n, n));
     let set = AsBlocks::from_iter(alloc, ends).expect(&rt, "memory");
     assert_numbers(&rt, &set, &[(1, 1), (20, 20)]);
+    drop(set);
     let set = AsBlocks::from_iter(alloc, []).expect(&rt, "memory");
     assert!(rt; set.is_empty());
+    drop(set);
 }
 
 #[test]
@@ -44,4 +48,6 @@ fn the_ends_of_all_numbers(rt: HostRuntime) {
     let none = AsBlocks::empty(rt.alloc());
     assert!(rt; none.is_empty() && !none.contains(Asn::MIN));
     assert!(rt; none.is_encompassed(&all) && !all.is_encompassed(&none));
+    drop(none);
+    drop(all);
 }

@@ -49,6 +49,7 @@ fn assert_refused(rt: &impl Abort, alloc: Global, refusal: Refusal, answer: (u32
     assert_eq!(rt; key, answer.0);
     assert_eq!(rt; name, answer.1);
     assert_eq!(rt; signer.calls(), 1);
+    drop(signer);
 }
 
 #[test]
@@ -99,6 +100,8 @@ fn assert_kept(rt: &impl Abort, alloc: Global, signer: &Keeping, cert: &Cert) {
         cert.signed_data().signature().value(),
         b"\x01\x02".as_slice()
     );
+    drop(written);
+    drop(signed);
 }
 
 fn assert_signed(rt: &impl Abort, alloc: Global, signer: &Keeping, tbs: TbsCert) {

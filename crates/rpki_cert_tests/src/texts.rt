@@ -29,8 +29,10 @@ fn values_print(rt: HostRuntime) {
 fn uris_print(rt: HostRuntime) {
     let uri = Rsync::from_text(rt.alloc(), "rsync://h/m/x").expect(&rt, "a URI");
     assert_shown(&rt, uri.to_string(rt.alloc()), "rsync://h/m/x");
+    drop(uri);
     let uri = Https::from_text(rt.alloc(), "https://h/x").expect(&rt, "a URI");
     assert_shown(&rt, uri.to_string(rt.alloc()), "https://h/x");
+    drop(uri);
 }
 
 #[test]

@@ -48,6 +48,8 @@ fn assert_head(rt: &impl Abort, alloc: Global, len: usize, head: &[u8]) {
     let inner = cursor.take_value(0x04).expect(rt, "a value");
     assert!(rt; inner.rest() == content.as_slice(), "{len}");
     assert!(rt; cursor.is_empty());
+    drop(value);
+    drop(content);
 }
 
 #[test]
@@ -70,12 +72,15 @@ fn long_uri(rt: &impl Abort, alloc: Global, letters: usize) -> Rsync {
 fn assert_read_again(rt: &impl Abort, alloc: Global, octets: Vec<u8>, part: &str) {
     let part = samples::octets(alloc, part).expect(rt, "digits");
     assert!(rt; samples::contains(&octets, &part));
+    drop(part);
     let octets = Bytes::from_vec(octets).expect(rt, "memory");
     let again = TbsCert::from_constructed(alloc, &mut Cursor::new(&octets));
     let again = again.expect(rt, "certificate data");
     let written = samples::written(alloc, &again).expect(rt, "memory");
     drop(again);
     assert!(rt; written.as_slice() == octets.as_slice());
+    drop(written);
+    drop(octets);
 }
 
 fn assert_part(rt: &impl Abort, alloc: Global, letters: usize, part: &str) {

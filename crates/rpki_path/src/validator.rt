@@ -84,8 +84,15 @@ impl<'r, 'v, R: RevocationSource, V: Verifier> Validator<'r, 'v, R, V> {
             let x = context (V.verifies v.verifier.now) v.at v.strict in
             IfErr result (Finds x (trust_anchor_demand x) anchor.now) }
     {
-        let cert = anchor.decoded(self.alloc)?;
-        Ok(cert.validate_ta_at(self.alloc, tal, self.strict, self.at, self.verifier)?)
+        match anchor.decoded(self.alloc) {
+            Ok(cert) => {
+                Ok(cert.validate_ta_at(self.alloc, tal, self.strict, self.at, self.verifier)?)
+            }
+            Err(error) => {
+                drop(tal);
+                Err(error)
+            }
+        }
     }
 
     // The certificate, valid below the issuer.

@@ -5,7 +5,7 @@ use bytes::Bytes;
 use rpki_blocks::{Addr, AsBlock, Asn, IpBlock};
 use rpki_cert::{Cert, ExtendedKeyUsage, KeyUsage, Overclaim, ResourceCert, TbsCert};
 use rpki_der::{Serial, Time};
-use rpki_parts::{PublicKey, PublicKeyFormat, Rsync, StandIn, TalInfo, Validity};
+use rpki_parts::{Name, PublicKey, PublicKeyFormat, Rsync, StandIn, TalInfo, Validity};
 use std::alloc::Global;
 
 /// Makes the RSA key of these bits.
@@ -23,11 +23,22 @@ pub fn day(year: i32) -> Option<Time> {
     Time::utc(year, 5, 1, 0, 0, 0)
 }
 
+// The name of the key `abc`, and ten years.
+fn issuer_and_validity(alloc: Global) -> Option<(Name, Validity)> {
+    let validity = Validity::new(day(2019)?, day(2029)?);
+    let key = rsa(b"abc");
+    let issuer = key.to_subject_name(alloc).ok();
+    drop(key);
+    Some((issuer?, validity))
+}
+
 /// Makes certificate data for ten years, named after its key, with nothing that may be left out.
 /// The issuer is named after the key `abc`.
 pub fn bare(alloc: Global, serial: u64, key: PublicKey, usage: KeyUsage) -> Option<TbsCert> {
-    let validity = Validity::new(day(2019)?, day(2029)?);
-    let issuer = rsa(b"abc").to_subject_name(alloc).ok()?;
+    let Some((issuer, validity)) = issuer_and_validity(alloc) else {
+        drop(key);
+        return None;
+    };
     let serial = Serial::from(serial);
     let mode = Overclaim::Trim;
     TbsCert::new(alloc, serial, issuer, validity, None, key, usage, mode).ok()
@@ -147,9 +158,14 @@ pub fn end_entity_octets(alloc: Global) -> Option<Bytes> {
 
 /// Reads these octets as a trust anchor that is valid at the moment.
 pub fn valid_anchor(alloc: Global, octets: Bytes, now: Time) -> Option<ResourceCert> {
-    let tal = TalInfo::from_name(String::new(alloc)).into_rc(alloc).ok()?;
     let cert = Cert::decode_shared(alloc, octets).ok()?;
-    cert.validate_ta_at(alloc, tal, true, now, &StandIn).ok()
+    match TalInfo::from_name(String::new(alloc)).into_rc(alloc) {
+        Ok(tal) => cert.validate_ta_at(alloc, tal, true, now, &StandIn).ok(),
+        Err(_) => {
+            drop(cert);
+            None
+        }
+    }
 }
 
 /// Writes the octets of the data.
