@@ -24,7 +24,7 @@ def clauses():
     """The names of the clauses of each function, and of each type's functions together."""
     found = {}
     for path in sorted((ROOT / "crates").glob("*/src/**/*.rt")):
-        if re.search(r"_tests|_vectors|_bench", path.relative_to(ROOT / "crates").parts[0]):
+        if re.search(r"_tests|_vectors|_calls|_bench", path.relative_to(ROOT / "crates").parts[0]):
             continue
         owner = function = None
         for line in path.read_text().split("\n"):
