@@ -19,6 +19,7 @@ use crate::faults::{BAD_CALL, MEMORY, NONE, of_decoding, of_inspection};
 use crate::moments::{RpkiTime, parts_of};
 use rpki_blocks::{AsResources, IpResources, Overclaim};
 use rpki_cert::{Cert, InspectionError, KeyUsage, Kind, TbsCert};
+use rpki_parts::{Https, Rsync};
 use std::alloc::Global;
 
 /// What a certificate holds that has a fixed size.
@@ -350,16 +351,36 @@ fn uri_numbered(number: u32) -> Option<CertUri>
     }
 }
 
+// The octets of a URI of the scheme rsync.
+fn rsync_octets(uri: Option<&Rsync>) -> Option<&[u8]>
+    ensures { option_map (λ it. it.now) result ≡ option_map (λ it. it.now) uri.entry }
+{
+    match uri {
+        Some(uri) => Some(uri.as_bytes()),
+        None => None,
+    }
+}
+
+// The octets of a URI of the scheme https.
+fn https_octets(uri: Option<&Https>) -> Option<&[u8]>
+    ensures { option_map (λ it. it.now) result ≡ option_map (λ it. it.now) uri.entry }
+{
+    match uri {
+        Some(uri) => Some(uri.as_bytes()),
+        None => None,
+    }
+}
+
 fn uri_of(tbs: &TbsCert, which: CertUri) -> Option<&[u8]>
     ensures { option_map (λ uri. uri.now) result ≡ uri_field which tbs.now.extensions }
 {
     match which {
-        CertUri::CaIssuer => Some(tbs.ca_issuer()?.as_bytes()),
-        CertUri::Crl => Some(tbs.crl_uri()?.as_bytes()),
-        CertUri::Repository => Some(tbs.ca_repository()?.as_bytes()),
-        CertUri::Manifest => Some(tbs.rpki_manifest()?.as_bytes()),
-        CertUri::SignedObject => Some(tbs.signed_object()?.as_bytes()),
-        CertUri::Notify => Some(tbs.rpki_notify()?.as_bytes()),
+        CertUri::CaIssuer => rsync_octets(tbs.ca_issuer()),
+        CertUri::Crl => rsync_octets(tbs.crl_uri()),
+        CertUri::Repository => rsync_octets(tbs.ca_repository()),
+        CertUri::Manifest => rsync_octets(tbs.rpki_manifest()),
+        CertUri::SignedObject => rsync_octets(tbs.signed_object()),
+        CertUri::Notify => https_octets(tbs.rpki_notify()),
     }
 }
 

@@ -142,16 +142,31 @@ impl<'s> Sorted<'s> {
         }
     }
 
+    // Sorts these strings, where none is sorted yet.
+    fn add_all(&mut self, alloc: Global, strings: &[Bytes]) -> Result<(), AllocError>
+        requires { AreSortedIn [] self.now }
+        ensures sorted { OnOk result (AreSortedIn strings.now self.new) }
+        ensures strings { self.new.strings.now ≡ self.old.strings.now }
+    {
+        for octets in strings {
+            self.add(alloc, octets.clone()?)?;
+        }
+        Ok(())
+    }
+
     /// Sorts strings: each is taken for the certificate with which it begins, else for the list.
     pub(crate) fn of(alloc: Global, strings: &'s [Bytes]) -> Result<Sorted<'s>, AllocError>
         ensures sorted { IfOk result IsSorted }
         ensures strings { IfOk result (λ it. it.strings.now ≡ strings.now) }
     {
         let mut sorted = Sorted::new(alloc, strings);
-        for octets in strings {
-            sorted.add(alloc, octets.clone()?)?;
+        match sorted.add_all(alloc, strings) {
+            Ok(()) => Ok(sorted),
+            Err(error) => {
+                drop(sorted);
+                Err(error)
+            }
         }
-        Ok(sorted)
     }
 
     // Whether the string at a place begins with a certificate of the locator's key.

@@ -114,6 +114,14 @@ fn blocks_of<R, B: Bound, T: Ranges<R, B>>(
     Ok(Some(blocks))
 }
 
+// The set of the numbers of blocks.
+fn union_of<B: Bound>(blocks: BlocksBuilder<B>) -> Result<Resources<B>, AllocError>
+    ensures { IfOk result (IsUnion blocks) }
+{
+    let set = blocks.finalize()?;
+    Ok(Resources::blocks(set))
+}
+
 // The set of the numbers of ranges. There has to be one.
 fn set_of<R, B: Bound, T: Ranges<R, B>>(
     alloc: Global,
@@ -126,10 +134,10 @@ fn set_of<R, B: Bound, T: Ranges<R, B>>(
     if ranges.is_empty() {
         return Ok(None);
     }
-    let Some(blocks) = blocks_of::<R, B, T>(alloc, ranges)? else {
-        return Ok(None);
-    };
-    Ok(Some(Resources::blocks(blocks.finalize()?)))
+    match blocks_of::<R, B, T>(alloc, ranges)? {
+        Some(blocks) => Ok(Some(union_of(blocks)?)),
+        None => Ok(None),
+    }
 }
 
 // What the ranges and the number of a state list of a kind of numbers.

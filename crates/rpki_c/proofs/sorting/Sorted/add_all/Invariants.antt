@@ -1,9 +1,9 @@
 use Rattle.std.proofs.Common.{◌≡◌, take}
 use Rattle.rpki_c.specs.FolderFates.Steps.{AreSortedIn}
-use Rattle.rpki_c.proofs.sorting.Sorted.of.Given as goal
+use Rattle.rpki_c.proofs.sorting.Sorted.add_all.Given as goal
 
 abbrev pub invariant-loop-octets : goal.invariant-loop-octets
 invariant-loop-octets l = record {
-  sorted : AreSortedIn (take l.octets-index l.strings) l.sorted;
-  strings_are : l.sorted.strings.now ≡ l.strings;
+  sorted : AreSortedIn (take l.octets-index l.strings) l.self;
+  strings_are : l.self.strings.now ≡ l.fn.self.strings.now;
 }
