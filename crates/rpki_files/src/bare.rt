@@ -54,6 +54,24 @@ fn front_of(content: &Content) -> Front
     }
 }
 
+// The certificate that was read of octets, if they begin with one.
+fn certificate_of(content: Content) -> Option<Cert>
+    ensures { (octets : List ℕ) → IsContent octets content
+        → MatchOption result (BeginsWithCertificate octets → ⊥) (λ c. Means IsCertificate c octets) }
+{
+    match content {
+        Content::Certificate(cert, _) => Some(cert),
+        Content::List(list, _) => {
+            drop(list);
+            None
+        }
+        Content::Neither(fault) => {
+            drop(fault);
+            None
+        }
+    }
+}
+
 // What octets begin with, of which no more is kept.
 fn read_front(alloc: Global, octets: &Bytes) -> Result<Front, AllocError>
     ensures { IfOk result (IsFront octets.now) }
@@ -113,10 +131,8 @@ impl<'a> BareObject<'a> {
             MatchOption found (BeginsWithCertificate octets → ⊥)
             (λ c. Means IsCertificate c octets)) }
     {
-        match read_content(alloc, &self.octets)? {
-            Content::Certificate(cert, _) => Ok(Some(cert)),
-            Content::List(..) | Content::Neither(_) => Ok(None),
-        }
+        let content = read_content(alloc, &self.octets)?;
+        Ok(certificate_of(content))
     }
 
     /// Reads the revocation list that the octets begin with, if they begin with one. Errs only where
