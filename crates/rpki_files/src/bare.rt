@@ -57,7 +57,8 @@ fn front_of(content: &Content) -> Front
 // The certificate that was read of octets, if they begin with one.
 fn certificate_of(content: Content) -> Option<Cert>
     ensures { (octets : List ℕ) → IsContent octets content
-        → MatchOption result (BeginsWithCertificate octets → ⊥) (λ c. Means IsCertificate c octets) }
+        → MatchOption result (BeginsWithCertificate octets → ⊥)
+        (λ c. Means IsCertificate c octets) }
 {
     match content {
         Content::Certificate(cert, _) => Some(cert),
