@@ -239,6 +239,18 @@ fn addresses_of(tbs: &TbsCert, family: Family) -> &IpResources
     }
 }
 
+// Writes the ranges of a family that are listed, as many as there is room for, and tells how many
+// there are.
+fn put_family(tbs: &TbsCert, family: Family, out: &mut [RpkiIpRange]) -> u64
+    ensures { let blocks = listed_blocks (family_field family tbs.now.extensions) in
+        IsWritten (map ip_struct blocks) out.old out.new result }
+{
+    match addresses_of(tbs, family).as_blocks() {
+        Some(blocks) => put_addresses(blocks, out),
+        None => 0,
+    }
+}
+
 /// Writes the ranges of addresses that the certificate lists, of IPv4 where `family` is 4, of IPv6
 /// where it is 6: as many as there is room for, and in `count` how many there are. Answers 0, or
 /// the number of a fault: 2 where `family` is another number.
@@ -266,9 +278,7 @@ pub extern "C" fn rpki_certificate_addresses(
     };
     match decoded(alloc, octets) {
         Ok(cert) => {
-            if let Some(blocks) = addresses_of(cert.as_tbs(), family).as_blocks() {
-                *count = put_addresses(blocks, out);
-            }
+            *count = put_family(cert.as_tbs(), family, out);
             drop(cert);
             NONE
         }
@@ -384,6 +394,17 @@ fn uri_of(tbs: &TbsCert, which: CertUri) -> Option<&[u8]>
     }
 }
 
+// Writes the octets of a URI, as many as there is room for, and tells how many there are.
+fn put_uri(tbs: &TbsCert, which: CertUri, out: &mut [u8]) -> u64
+    ensures { let octets = octets_if_any (uri_field which tbs.now.extensions) in
+        IsWritten octets out.old out.new result }
+{
+    match uri_of(tbs, which) {
+        Some(uri) => put_octets(uri, out),
+        None => 0,
+    }
+}
+
 /// Writes one URI: 0 of the issuer's certificate, 1 of the revocation list, 2 of the repository, 3
 /// of the manifest, 4 of the signed object, 5 of the notification file. Writes as many octets as
 /// there is room for, and in `count` how many there are; 0 where the certificate has none such.
@@ -411,9 +432,7 @@ pub extern "C" fn rpki_certificate_uri(
     };
     match decoded(alloc, octets) {
         Ok(cert) => {
-            if let Some(uri) = uri_of(cert.as_tbs(), which) {
-                *count = put_octets(uri, out);
-            }
+            *count = put_uri(cert.as_tbs(), which, out);
             drop(cert);
             NONE
         }

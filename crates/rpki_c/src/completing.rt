@@ -1,7 +1,8 @@
 //! Certificates that are completed by their signatures.
-ghost use Rattle.std.specs.Prelude.{◌≡◌, ◌↔◌, option_map, IsNone, IsTrue, IfSome};
+ghost use Rattle.std.specs.Prelude.{◌≡◌, ◌↔◌, option_map, IfErr, IfOk, IsNone, IsTrue, IfSome};
 ghost use Rattle.rpki_c.specs.WantedAnswers.{AnswersCompletedBelow, AnswersCompletion, AnswersCompletionTerms, AnswersNamed, AnswersSigned, IsNamed, fields_above};
 ghost use Rattle.rpki_c.specs.WantedQuestions.{HasCompletionTerms, HasNoCompletionTerms};
+ghost use Rattle.rpki_c.specs.declared.unissued.Unissued.TheVariants.{OtherName};
 ghost use Rattle.rpki_wanted.specs.AskedFields.{issuer_name};
 
 use crate::certificates::kind_of;
@@ -95,6 +96,20 @@ fn to_sign(alloc: Global, octets: &[u8]) -> Result<TbsCert, Unissued>
     Err(Unissued::UnusedKey)
 }
 
+// The fields, whose issuer has to be named as the one above.
+fn named_by(tbs: TbsCert, issuer: Option<&ResourceCert>) -> Result<TbsCert, Unissued>
+    ensures named { let above = option_map (λ r. r.now) issuer.entry in
+        IfOk result (λ f. (f ≡ tbs) × IsNamed above tbs) }
+    ensures other { let above = option_map (λ r. r.now) issuer.entry in
+        IfErr result (λ e. (e ≡ OtherName) × (IsNamed above tbs → ⊥)) }
+{
+    if is_named(&tbs, issuer) {
+        return Ok(tbs);
+    }
+    drop(tbs);
+    Err(Unissued::OtherName)
+}
+
 // The fields of what was signed, whose issuer is named as the one above.
 fn signed_below(
     alloc: Global,
@@ -104,12 +119,10 @@ fn signed_below(
     ensures { let issuer = option_map (λ r. r.now) issuer.entry in
         AnswersNamed issuer octets.now result }
 {
-    let tbs = to_sign(alloc, octets)?;
-    if is_named(&tbs, issuer) {
-        return Ok(tbs);
+    match to_sign(alloc, octets) {
+        Ok(tbs) => named_by(tbs, issuer),
+        Err(why) => Err(why),
     }
-    drop(tbs);
-    Err(Unissued::OtherName)
 }
 
 // The certificate below the issuer.

@@ -45,17 +45,28 @@ fn read_list(alloc: Global, octets: &[u8]) -> Result<Crl, Unissued>
     }
 }
 
-// The list that the octets begin with, if it is one of the issuer.
-fn own_list(alloc: Global, octets: &[u8], issuer: &ResourceCert) -> Result<Crl, Unissued>
-    ensures own { IfOk result (BeginsWithOwn issuer.now.cert.fields octets.now) }
-    ensures other { IfErr result (IsNoPrevious issuer.now.cert.fields octets.now) }
+// The list, if it is one of the issuer.
+fn owned_by(list: Crl, issuer: &ResourceCert) -> Result<Crl, Unissued>
+    ensures own { IfOk result (λ l. (l ≡ list) × IsOwnList issuer.now.cert.fields list.list) }
+    ensures other { IfErr result (λ e. (e ≡ OtherList)
+        × (IsOwnList issuer.now.cert.fields list.list → ⊥)) }
 {
-    let list = read_list(alloc, octets)?;
     if is_own(&list, issuer) {
         return Ok(list);
     }
     drop(list);
     Err(Unissued::OtherList)
+}
+
+// The list that the octets begin with, if it is one of the issuer.
+fn own_list(alloc: Global, octets: &[u8], issuer: &ResourceCert) -> Result<Crl, Unissued>
+    ensures own { IfOk result (BeginsWithOwn issuer.now.cert.fields octets.now) }
+    ensures other { IfErr result (IsNoPrevious issuer.now.cert.fields octets.now) }
+{
+    match read_list(alloc, octets) {
+        Ok(list) => owned_by(list, issuer),
+        Err(why) => Err(why),
+    }
 }
 
 // The list before. Without octets there was none.

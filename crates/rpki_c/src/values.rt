@@ -1,6 +1,6 @@
 //! The values of a certificate that a caller wants.
 ghost use Rattle.std.specs.Int.{w128, from_be_bytes};
-ghost use Rattle.std.specs.Prelude.{◌≡◌, ◌≢◌, ◌⊎◌, ◌<◌, ◌≤◌, [], length, map, Ok, Err, IfErr, IfOk, MatchOption};
+ghost use Rattle.std.specs.Prelude.{◌≡◌, ◌≢◌, ◌⊎◌, ◌<◌, ◌≤◌, [], length, map, Ok, Err, IfErr, IfOk, IsFalse, IsTrue, MatchOption};
 ghost use Rattle.rpki_blocks.specs.Sets.{Block as Span, between};
 ghost use Rattle.rpki_blocks.specs.Unions.{IsUnion};
 ghost use Rattle.rpki_parts.specs.Keys.{IsPublicKey};
@@ -96,6 +96,26 @@ impl Ranges<RpkiAsRange, Asn> for AsRanges {
     }
 }
 
+// Pushes the blocks of ranges, where none is there yet. Returns whether none of the ranges ends
+// before it begins.
+fn push_blocks<R, B: Bound, T: Ranges<R, B>>(
+    blocks: &mut BlocksBuilder<B>,
+    ranges: &[R],
+) -> Result<bool, AllocError>
+    requires { blocks.now ≡ [] }
+    ensures pushed { IfOk result (λ is. IsTrue is
+        → (blocks.new ≡ map T.span ranges.now) × AreOrdered blocks.new) }
+    ensures none { IfOk result (λ is. IsFalse is → AreOrdered (map T.span ranges.now) → ⊥) }
+{
+    for range in ranges {
+        let Some(block) = T::block(range) else {
+            return Ok(false);
+        };
+        blocks.push(block)?;
+    }
+    Ok(true)
+}
+
 // The blocks of ranges, if none ends before it begins.
 fn blocks_of<R, B: Bound, T: Ranges<R, B>>(
     alloc: Global,
@@ -105,13 +125,17 @@ fn blocks_of<R, B: Bound, T: Ranges<R, B>>(
         (λ bs. (bs ≡ map T.span ranges.now) × AreOrdered bs)) }
 {
     let mut blocks = BlocksBuilder::new(alloc);
-    for range in ranges {
-        let Some(block) = T::block(range) else {
-            return Ok(None);
-        };
-        blocks.push(block)?;
+    match push_blocks::<R, B, T>(&mut blocks, ranges) {
+        Ok(true) => Ok(Some(blocks)),
+        Ok(false) => {
+            drop(blocks);
+            Ok(None)
+        }
+        Err(error) => {
+            drop(blocks);
+            Err(error)
+        }
     }
-    Ok(Some(blocks))
 }
 
 // The set of the numbers of blocks.
@@ -140,6 +164,19 @@ fn set_of<R, B: Bound, T: Ranges<R, B>>(
     }
 }
 
+// What the ranges list of a kind of numbers. There has to be one.
+fn listed_of<R, B: Bound, T: Ranges<R, B>>(
+    alloc: Global,
+    ranges: &[R],
+) -> Result<Resources<B>, Unissued>
+    ensures { (w : Asked) → AnswersValue w (AreGiven 2 (map T.span ranges.now)) result }
+{
+    match set_of::<R, B, T>(alloc, ranges)? {
+        Some(set) => Ok(set),
+        None => Err(Unissued::BadCall),
+    }
+}
+
 // What the ranges and the number of a state list of a kind of numbers.
 fn resources_of<R, B: Bound, T: Ranges<R, B>>(
     alloc: Global,
@@ -151,10 +188,7 @@ fn resources_of<R, B: Bound, T: Ranges<R, B>>(
     match state {
         0 if ranges.is_empty() => Ok(Resources::missing()),
         1 if ranges.is_empty() => Ok(Resources::inherit()),
-        2 => match set_of::<R, B, T>(alloc, ranges)? {
-            Some(set) => Ok(set),
-            None => Err(Unissued::BadCall),
-        },
+        2 => listed_of::<R, B, T>(alloc, ranges),
         _ => Err(Unissued::BadCall),
     }
 }

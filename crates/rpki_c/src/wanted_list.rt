@@ -1,6 +1,6 @@
 //! What a caller wants of a revocation list, by octets, lengths and numbers.
 ghost use Rattle.std.specs.Int.Digits.{number_from_digits};
-ghost use Rattle.std.specs.Prelude.{◌≡◌, map, IfErr, IfOk, IfSome, IsNone, MatchOption};
+ghost use Rattle.std.specs.Prelude.{◌≡◌, [], map, IfErr, IfOk, IfSome, IsFalse, IsNone, IsTrue, MatchOption};
 ghost use Rattle.rpki_crl.specs.RevokedEntries.Views.{entry_of};
 ghost use Rattle.rpki_c.specs.ListAnswers.{GivesNoList};
 ghost use Rattle.rpki_c.specs.WantedLists.{GivesList, HasDate, HasListTerms, HasNoListTerms, HaveDates, IsNumberChosen, given_entry};
@@ -93,19 +93,39 @@ fn entry_given(it: &RpkiEntry) -> Option<CrlEntry>
     })
 }
 
+// Adds the entries that are given, where none is there yet. Returns whether there are such moments.
+fn add_given(all: &mut Vec<CrlEntry>, revoked: &[RpkiEntry]) -> Result<bool, AllocError>
+    requires { all.now.items ≡ [] }
+    ensures added { IfOk result (λ is. IsTrue is
+        → (map entry_of all.new.items ≡ map given_entry revoked.now) × HaveDates revoked.now) }
+    ensures none { IfOk result (λ is. IsFalse is → HaveDates revoked.now → ⊥) }
+{
+    for it in revoked {
+        let Some(entry) = entry_given(it) else {
+            return Ok(false);
+        };
+        all.push(entry)?;
+    }
+    Ok(true)
+}
+
 // The entries that are given, if there are such moments.
 fn entries_given(alloc: Global, revoked: &[RpkiEntry]) -> Result<Option<Vec<CrlEntry>>, AllocError>
     ensures { IfOk result (λ found. MatchOption found (HaveDates revoked.now → ⊥)
         (λ all. (map entry_of all.items ≡ map given_entry revoked.now) × HaveDates revoked.now)) }
 {
     let mut all = Vec::new(alloc);
-    for it in revoked {
-        let Some(entry) = entry_given(it) else {
-            return Ok(None);
-        };
-        all.push(entry)?;
+    match add_given(&mut all, revoked) {
+        Ok(true) => Ok(Some(all)),
+        Ok(false) => {
+            drop(all);
+            Ok(None)
+        }
+        Err(error) => {
+            drop(all);
+            Err(error)
+        }
     }
-    Ok(Some(all))
 }
 
 /// Returns what is wanted of the list.

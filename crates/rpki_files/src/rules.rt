@@ -21,11 +21,11 @@ pub struct Rule {
 // A line for each fault: its name, what it means, and the section that it breaks; and one for others.
 macro_rules! rules {
     ($fault:ident: $faults:ident;
-        $($name:ident $(($part:tt))? => $says:literal, $section:expr;)*
+        $($name:ident $(($part:tt))? => $says:literal, $section:literal;)*
         $(_ => $others_say:literal, $others_section:literal;)?) => {
-        match $fault {
-            $($faults::$name $(($part))? => Rule { says: $says, section: $section },)*
-            $(_ => Rule { says: $others_say, section: $others_section },)?
+        *match $fault {
+            $($faults::$name $(($part))? => &Rule { says: $says, section: $section },)*
+            $(_ => &Rule { says: $others_say, section: $others_section },)?
         }
     };
 }
@@ -196,16 +196,32 @@ fn of_certificate(fault: &DecodeError, policies: bool) -> Rule
     if !policies && matches!(fault, DecodeError::WrongResources(_)) {
         return meaning("Certificate Policies are missing", "RFC 6487 4.8.9");
     }
-    rules! { fault: DecodeError;
-        Missing(field) => "an extension that must be there is missing", section_of(*field);
-        Duplicate(_) => "an extension stands twice", "RFC 5280 4.2";
-        Critical(field) => "an extension that must not be critical is", section_of(*field);
-        NotCritical(field) => "an extension that must be critical isn't", section_of(*field);
-        UnexpectedCritical(_) => "an unknown extension is critical", "RFC 6487 4.8";
-        WrongResources(_) =>
-            "the resources stand under identifiers that its policy doesn't have", "RFC 8360 4.2";
-        Memory => "out of memory", "no section";
-        _ => "it doesn't begin with a certificate of the profile", "RFC 6487 4";
+    match fault {
+        DecodeError::Missing(field) => meaning(
+            "an extension that must be there is missing",
+            section_of(*field),
+        ),
+        DecodeError::Duplicate(_) => meaning("an extension stands twice", "RFC 5280 4.2"),
+        DecodeError::Critical(field) => meaning(
+            "an extension that must not be critical is",
+            section_of(*field),
+        ),
+        DecodeError::NotCritical(field) => meaning(
+            "an extension that must be critical isn't",
+            section_of(*field),
+        ),
+        DecodeError::UnexpectedCritical(_) => {
+            meaning("an unknown extension is critical", "RFC 6487 4.8")
+        }
+        DecodeError::WrongResources(_) => meaning(
+            "the resources stand under identifiers that its policy doesn't have",
+            "RFC 8360 4.2",
+        ),
+        DecodeError::Memory => out_of_memory(),
+        _ => meaning(
+            "it doesn't begin with a certificate of the profile",
+            "RFC 6487 4",
+        ),
     }
 }
 

@@ -1,6 +1,6 @@
 use Rattle.std.proofs.Common.{◌≡◌, map, take}
 use Rattle.rpki_c.specs.WantedQuestions.{AreOrdered}
-use Rattle.rpki_c.proofs.values.blocks_of.Given as goal
+use Rattle.rpki_c.proofs.values.push_blocks.Given as goal
 
 abbrev pub invariant-loop-range : goal.invariant-loop-range
 invariant-loop-range g l = record {

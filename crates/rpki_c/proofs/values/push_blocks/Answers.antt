@@ -2,10 +2,10 @@ use Rattle.std.proofs.Common.{◌≡◌, ◌<◌, ◌≤◌, ◌++◌, ◌∷◌
 use Rattle.rpki_blocks.specs.Sets.{Block}
 use Rattle.rpki_c.proofs.OneMore.{map_more}
 use Rattle.rpki_c.proofs.WantedBlocks.{ordered_more, disordered_at}
-use Rattle.rpki_c.proofs.values.blocks_of.Goals as goal
+use Rattle.rpki_c.proofs.values.push_blocks.Goals as goal
 
-pub returns-in_default : goal.returns-in_default
-returns-in_default g c =
+pub returns-in_default-clause-none : goal.returns-in_default-clause-none
+returns-in_default-clause-none g c = λ _.
     let span = g.T.Ranges.span in
     let d = c.range-item.result in
     disordered_at span c.args.ranges.now c.loop-range.range-index d c.loop-range-test.true

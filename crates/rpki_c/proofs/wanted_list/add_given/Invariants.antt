@@ -1,7 +1,7 @@
 use Rattle.std.proofs.Common.{◌≡◌, map, take}
 use Rattle.rpki_crl.specs.RevokedEntries.Views.{entry_of}
 use Rattle.rpki_c.specs.WantedLists.{HaveDates, given_entry}
-use Rattle.rpki_c.proofs.wanted_list.entries_given.Given as goal
+use Rattle.rpki_c.proofs.wanted_list.add_given.Given as goal
 
 abbrev pub invariant-loop-it : goal.invariant-loop-it
 invariant-loop-it l = record {

@@ -6,14 +6,14 @@ use Rattle.rpki_crl.specs.declared.entry.CrlEntry.{CrlEntry}
 use Rattle.rpki_c.specs.WantedLists.{HasDate, given_entry}
 use Rattle.rpki_c.specs.declared.lists.RpkiEntry.{RpkiEntry}
 use Rattle.rpki_c.proofs.OneMore.{all_more, map_more, not_at}
-use Rattle.rpki_c.proofs.wanted_list.entries_given.Goals as goal
+use Rattle.rpki_c.proofs.wanted_list.add_given.Goals as goal
 
 -- what stands at no place
 abbrev nothing : RpkiEntry
 nothing = record { date = record { year = 0; month = 0; day = 0; hour = 0; minute = 0; second = 0; unused = 0 }; serial = [] }
 
-pub returns-in_default : goal.returns-in_default
-returns-in_default c = not_at HasDate c.args.revoked.now c.loop-it.it-index nothing c.loop-it-test.true c.in_default.ensures
+pub returns-in_default-clause-none : goal.returns-in_default-clause-none
+returns-in_default-clause-none c = λ _. not_at HasDate c.args.revoked.now c.loop-it.it-index nothing c.loop-it-test.true c.in_default.ensures
 
 pub loop-it-preserved : goal.loop-it-preserved
 loop-it-preserved c =
