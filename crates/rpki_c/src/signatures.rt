@@ -29,18 +29,30 @@ pub struct RpkiSignature {
     pub signature_length: u64,
 }
 
+// Passes over what stands before the key: version, serial number, algorithm, issuer, validity and
+// subject.
+fn skip_to_key(data: &mut Cursor<'_>) -> Result<(), DecodeError> {
+    for _ in 0..6 {
+        data.skip_one()?;
+    }
+    Ok(())
+}
+
+// Passes over the key.
+fn skip_key(data: &mut Cursor<'_>) -> Result<(), DecodeError> {
+    let mut key = data.take_sequence()?;
+    key.skip_one()?;
+    let _bits = key.take_bits()?;
+    Ok(())
+}
+
 // The place of the key of a certificate.
 fn key_span(octets: &Bytes) -> Result<(usize, usize), DecodeError> {
     let mut outer = Cursor::new(octets).take_sequence()?;
     let mut data = outer.take_sequence()?;
-    // version, serial number, algorithm, issuer, validity and subject stand before the key
-    for _ in 0..6 {
-        data.skip_one()?;
-    }
+    skip_to_key(&mut data)?;
     let from = data.span().0;
-    let mut key = data.take_sequence()?;
-    key.skip_one()?;
-    let _bits = key.take_bits()?;
+    skip_key(&mut data)?;
     Ok((from, data.span().0))
 }
 
