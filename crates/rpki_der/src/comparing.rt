@@ -50,7 +50,6 @@ pub fn copied_time(time: &Time) -> Result<Time, AllocError>
 }
 
 /// Compares times: they are equal where they are the same.
-#[tactic(auto, using(crate::proofs::OneMoment::one_moment))]
 pub fn equal_times(one: &Time, other: &Time) -> bool
     ensures { IsTrue result ↔ one.now ≡ other.now }
 {
