@@ -275,7 +275,6 @@ impl PublicKey {
 
     /// Reads the SubjectPublicKeyInfo that stands next (RFC 5280 4.1.2.7). Errs with `BadValue` at
     /// another algorithm or curve and where bits are unused.
-    #[tactic(auto, using(rpki_der::proofs::FormatAnswers::answers_or_memory_alone, crate::proofs::PartFormats::public_key_alone))]
     pub fn take_from(alloc: Global, cursor: &mut Cursor<'_>) -> Result<PublicKey, DecodeError>
         ensures { AnswersOrMemory public_key_format cursor.old result cursor.new }
     {

@@ -176,7 +176,6 @@ impl Name {
     /// Reads the name that stands next: a SEQUENCE of SETs, each of at least one SEQUENCE of an
     /// identifier and a value. It checks of the values only that they can be skipped, and doesn't
     /// check the order in a SET.
-    #[tactic(auto, using(rpki_der::proofs::FormatAnswers::answers_or_memory_alone, crate::proofs::NameReads::name_alone))]
     pub fn take_from(alloc: Global, cursor: &mut Cursor<'_>) -> Result<Name, DecodeError>
         ensures { AnswersOrMemory (name_format levels) cursor.old result cursor.new }
     {

@@ -72,7 +72,6 @@ impl SignedData {
 
     /// Reads what stands in the SEQUENCE: a value, which is kept as it stands, the algorithm, and
     /// the BIT STRING of the signature, of which no bits are unused.
-    #[tactic(auto, using(rpki_der::proofs::FormatAnswers::answers_or_memory_alone, crate::proofs::SignedFormats::signed_content_alone))]
     pub fn from_constructed(
         alloc: Global,
         content: &mut Cursor<'_>,

@@ -87,7 +87,6 @@ impl Validity {
     }
 
     /// Reads the SEQUENCE of two times that stands next.
-    #[tactic(auto, using(rpki_der::proofs::FormatAnswers::answers_alone, crate::proofs::PartFormats::validity_alone))]
     pub fn take_from(cursor: &mut Cursor<'_>) -> Result<Validity, DecodeError>
         ensures { Answers validity_format cursor.old result cursor.new }
     {
