@@ -187,7 +187,6 @@ impl Time {
 
     /// Reads the UTCTime or GeneralizedTime that must stand next, in the form that ends in seconds
     /// and Z (RFC 5280 4.1.2.5).
-    #[tactic(auto, using(crate::proofs::FormatAnswers::answers_lawful, crate::proofs::BasicFormats::time_lawful))]
     #[inline(always)]
     pub fn take_from(cursor: &mut Cursor<'_>) -> Result<Time, DecodeError>
         ensures { Answers time_format cursor.old result cursor.new }
