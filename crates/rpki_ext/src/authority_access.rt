@@ -11,6 +11,7 @@ ghost use Rattle.rpki_ext.specs.Contents.{identified};
 
 use crate::encode::append_description;
 use crate::names::only_rsync;
+use crate::reading::is;
 use rpki_der::{Cursor, DecodeError, EncodeError, enclose, end_extension, oid, tag};
 use rpki_parts::Rsync;
 use std::alloc::Global;
@@ -19,7 +20,8 @@ use std::alloc::Global;
 fn issuer_in(alloc: Global, mut description: Cursor<'_>) -> Result<Rsync, DecodeError>
     ensures { ReturnsOrMemory result (identified issuers_of (remaining description.entry)) }
 {
-    if description.take_oid()? != oid::AD_CA_ISSUERS {
+    let method = description.take_oid()?;
+    if !is(method, oid::AD_CA_ISSUERS) {
         return Err(DecodeError::BadValue);
     }
     only_rsync(alloc, &description)
