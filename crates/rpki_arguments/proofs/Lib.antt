@@ -5,4 +5,6 @@ mod CommandParts
 mod OneRequest
 pub mod PartsOfWords
 mod StrippedTexts
+mod UnsuitedRequests
 pub mod WordByWord
+mod WrongWords

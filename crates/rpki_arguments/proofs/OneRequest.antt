@@ -5,6 +5,8 @@ use Rattle.std.proofs.Common.{◌≡◌, ℕ, inl, inr, List, [], ◌∷◌, sym
 use Rattle.rpki_arguments.specs.declared.arguments.Task.{Task}
 use Rattle.rpki_arguments.specs.declared.arguments.Task.TheVariants.{Show, Validate, Tree, Help, Version}
 use Rattle.rpki_arguments.specs.CommandLines.{IsPart, IsTaskName, LinePart, AreParts, RequestFields, only_task, with_files, with_part, with_parts, Suits, IsCommandLine}
+use Rattle.rpki_arguments.specs.declared.arguments.Misuse.{Misuse}
+use Rattle.rpki_arguments.specs.Misuses.{IsFirstWrong, IsMisuse, IsReason, IsUnknownTask, IsUnsuited}
 use Rattle.rpki_arguments.specs.WordParts.{AddsParts, words_before, words_behind}
 use Rattle.rpki_arguments.proofs.CommandParts.{line_grammar, line_clear}
 use Rattle.rpki_arguments.proofs.PartsOfWords.{one_list}
@@ -38,18 +40,19 @@ one_task task other word another e h k =
     let is : Some other ≡ Some task = sym (names other another k) ∙ ap task_of (sym e) ∙ names task word h in
     cc
 
--- there are no words
-pub no_words : (words : List (List ℕ)) → words ≡ [] → (r : RequestFields) → IsCommandLine r words → ⊥
-no_words words e r h = let is : [] ≡ h.first ∷ h.rest = sym e ∙ h.words_are in cc
-
 module _ (words : List (List ℕ)) (first : List ℕ) (rest : List (List ℕ)) (words_are : words ≡ first ∷ rest) where
   -- the first of a command line is this first, and so are those behind it
   same_words : (r : RequestFields) (h : IsCommandLine r words) → (first ≡ h.first) × (rest ≡ h.rest)
   same_words r h = let is : first ∷ rest ≡ h.first ∷ h.rest = sym words_are ∙ h.words_are in (cc, cc)
 
-  -- the first names no task
-  pub no_task : ((task : Task) → IsTaskName task first → ⊥) → (r : RequestFields) → IsCommandLine r words → ⊥
-  no_task none r h = none h.task (subst (λ (w : List ℕ). IsTaskName h.task w) (sym (same_words r h).0) h.task_is)
+  -- that the first names no task is told
+  pub task_told : (misuse : Misuse) → IsUnknownTask misuse first → IsMisuse misuse words
+  task_told misuse unknown = subst (λ (l : List (List ℕ)). IsMisuse misuse l) (sym words_are) (inl unknown)
+
+  -- the first wrong word of those behind it is told
+  pub word_told : (misuse : Misuse) (task : Task) → IsTaskName task first → IsFirstWrong misuse (words_before rest) → IsMisuse misuse words
+  word_told misuse task task_is wrong =
+      subst (λ (l : List (List ℕ)). IsMisuse misuse l) (sym words_are) (inr (task, task_is, inl wrong))
 
   -- those behind it are no parts
   pub no_parts : ((parts : List LinePart) → AreParts parts (words_before rest) → ⊥) → (r : RequestFields) → IsCommandLine r words → ⊥
@@ -78,3 +81,9 @@ module _ (words : List (List ℕ)) (first : List ℕ) (rest : List (List ℕ)) (
     -- the task doesn't suit what it asks
     pub unsuited : (Suits r.task r → ⊥) → (other : RequestFields) → IsCommandLine other words → ⊥
     unsuited not other h = not (subst (λ (q : RequestFields). Suits q.task q) (only other h) h.suits)
+
+    -- which is told
+    pub reason_told : (misuse : Misuse) → IsReason misuse r.task r → IsMisuse misuse words
+    reason_told misuse reason =
+        let why : IsUnsuited misuse task rest = record { parts = adds.0; parts_are = adds.1; r = r; asks = all_asked; reason = reason } in
+        subst (λ (l : List (List ℕ)). IsMisuse misuse l) (sym words_are) (inr (task, task_is, inr why))

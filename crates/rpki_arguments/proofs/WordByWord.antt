@@ -1,12 +1,12 @@
 -- Parts that are added word by word, whatever the parts are and what they are added to.
-use Rattle.std.specs.Prelude.{Option, Some, None, Result, Ok, Err, OnOk, IfErr, codes}
+use Rattle.std.specs.Prelude.{Option, Some, None, Result, Ok, Err, OnOk, codes}
 use Rattle.std.specs.declared.vec.Vec.{Vec}
-use Rattle.std.proofs.Common.{◌≡◌, ◌≢◌, ℕ, ◌+◌, ◌<◌, ◌≤◌, List, [], ◌∷◌, ◌++◌, length, get_or, take, drop, refl, sym, ap, ◌∙◌, inl, inr}
+use Rattle.std.proofs.Common.{◌≡◌, ℕ, ◌+◌, ◌<◌, ◌≤◌, List, [], ◌∷◌, ◌++◌, length, get_or, take, drop, refl, sym, ap, ◌∙◌, inl, inr}
 use Rattle.std.proofs.lemmas.List.{append_assoc, append-nil, get_or-map, length-map, map-append, map_more, take-append-drop, take_all, drop_more}
 use Rattle.std.proofs.lemmas.List.Sums.{fold_push}
 use Rattle.rpki_arguments.specs.CommandLines.Views.{word_octets}
 use Rattle.rpki_arguments.specs.WordParts.{AddsPart, AddsParts, AreInOrder, BeginsNoPart}
-use Rattle.rpki_arguments.proofs.PartsOfWords.{Grammar, IsClear, one_more, none_behind, value_missing, no_value, no_joined}
+use Rattle.rpki_arguments.proofs.PartsOfWords.{Grammar, IsClear, one_more, none_behind, value_missing}
 
 -- the new one has what the option with this value says too
 abbrev pub AddsValue : {P S R : Type 0} → Grammar P S → (R → P → R) → S → List ℕ → R → R → Type 0
@@ -60,11 +60,6 @@ module _ {P S R : Type 0} (g : Grammar P S) (with_part : R → P → R) where
     joined_added (Ok x) old new setting value word joins adds = (adds.0, clear.is_part setting value adds.0 (word ∷ []) adds.1 (inr (ap (λ (w : List ℕ). w ∷ []) joins)), adds.2)
     joined_added (Err x) old new setting value word joins adds = adds
 
-    -- and isn't where that says nothing
-    pub joined_rejected : {T E : Type 0} (r : Result T E) (memory : E) (setting : S) (value word : List ℕ) → word ≡ g.name setting ++ codes "=" ++ value → IfErr r (λ e. e ≢ memory → (part : P) → g.IsSet setting value part → ⊥) → IfErr r (λ e. e ≢ memory → BeginsNoPart g.IsPart (word ∷ []))
-    joined_rejected (Ok x) memory setting value word joins none = tt
-    joined_rejected (Err e) memory setting value word joins none = λ not_memory. no_joined g clear setting value (none not_memory) word joins
-
     module _ {Z : Type 0} (words : List (Vec ℕ Z)) (i : ℕ) (word : Vec ℕ Z) (low : i < length words) (there : word ≡ get_or words i word) (old new : R) (text : List ℕ) (text_is : text ≡ word.items) where
       more_is : word_octets (take (i + 1) words) ≡ word_octets (take i words) ++ word.items ∷ []
       more_is = words_more words i word low there
@@ -79,11 +74,10 @@ module _ {P S R : Type 0} (g : Grammar P S) (with_part : R → P → R) where
             part_added (word_octets (take (i + 1) words)) so_far.front (g.name setting ∷ text ∷ []) old new newer
             (more_is ∙ ap (λ (l : List (List ℕ)). l ++ word.items ∷ []) so_far.words_are ∙ append_assoc so_far.front (g.name setting ∷ []) (word.items ∷ []) ∙ ap (λ (w : List ℕ). so_far.front ++ g.name setting ∷ w ∷ []) (sym text_is)) so_far.added (adds.0, clear.is_part setting text adds.0 (g.name setting ∷ text ∷ []) adds.1 (inl refl), adds.2)
 
-        -- the word is no value of the option
-        pub value_rejected : ((part : P) → g.IsSet setting text part → ⊥) → (parts : List P) → AreInOrder g.IsPart parts (word_octets words) → ⊥
-        value_rejected none parts =
-            none_behind g clear so_far.added.0 parts so_far.front (text ∷ []) (word_octets (drop (i + 1) words)) (word_octets words) (g.name setting) so_far.added.1 (no_value g clear setting text none)
-            (split_is ∙ ap (λ (l : List (List ℕ)). l ++ word.items ∷ word_octets (drop (i + 1) words)) so_far.words_are ∙ append_assoc so_far.front (g.name setting ∷ []) (word.items ∷ word_octets (drop (i + 1) words)) ∙ ap (λ (w : List ℕ). so_far.front ++ g.name setting ∷ w ∷ word_octets (drop (i + 1) words)) (sym text_is))
+        -- behind the parts stand the option and the word
+        pub value_split : word_octets words ≡ so_far.front ++ (g.name setting ∷ text ∷ word_octets (drop (i + 1) words))
+        value_split =
+            split_is ∙ ap (λ (l : List (List ℕ)). l ++ word.items ∷ word_octets (drop (i + 1) words)) so_far.words_are ∙ append_assoc so_far.front (g.name setting ∷ []) (word.items ∷ word_octets (drop (i + 1) words)) ∙ ap (λ (w : List ℕ). so_far.front ++ g.name setting ∷ w ∷ word_octets (drop (i + 1) words)) (sym text_is)
 
       module _ (so_far : AreAdded g with_part (word_octets (take i words)) old new None) where
         front_is : word_octets (take i words) ≡ so_far.front
@@ -95,11 +89,15 @@ module _ {P S R : Type 0} (g : Grammar P S) (with_part : R → P → R) where
             part_added (word_octets (take (i + 1) words)) so_far.front (text ∷ []) old new newer
             (more_is ∙ ap (λ (l : List (List ℕ)). l ++ word.items ∷ []) front_is ∙ ap (λ (w : List ℕ). so_far.front ++ w ∷ []) (sym text_is)) so_far.added adds
 
+        -- behind the parts stands the word
+        pub word_split : word_octets words ≡ so_far.front ++ (text ∷ word_octets (drop (i + 1) words))
+        word_split =
+            split_is ∙ ap (λ (l : List (List ℕ)). l ++ word.items ∷ word_octets (drop (i + 1) words)) front_is ∙ ap (λ (w : List ℕ). so_far.front ++ w ∷ word_octets (drop (i + 1) words)) (sym text_is)
+
         -- the word is none
         pub word_rejected : BeginsNoPart g.IsPart (text ∷ []) → (parts : List P) → AreInOrder g.IsPart parts (word_octets words) → ⊥
         word_rejected none parts =
-            none_behind g clear so_far.added.0 parts so_far.front [] (word_octets (drop (i + 1) words)) (word_octets words) text so_far.added.1 none
-            (split_is ∙ ap (λ (l : List (List ℕ)). l ++ word.items ∷ word_octets (drop (i + 1) words)) front_is ∙ ap (λ (w : List ℕ). so_far.front ++ w ∷ word_octets (drop (i + 1) words)) (sym text_is))
+            none_behind g clear so_far.added.0 parts so_far.front [] (word_octets (drop (i + 1) words)) (word_octets words) text so_far.added.1 none word_split
 
         -- the word is an option whose value comes next
         pub option_awaits : (setting : S) → text ≡ g.name setting → AreAdded g with_part (word_octets (take (i + 1) words)) old new (Some setting)
@@ -110,6 +108,11 @@ module _ {P S R : Type 0} (g : Grammar P S) (with_part : R → P → R) where
         }
 
     -- all words were gone over, and an option's value is missing
-    pub value_awaited : {Z : Type 0} (words : List (Vec ℕ Z)) (i : ℕ) (old new : R) (setting : S) → AreAdded g with_part (word_octets (take i words)) old new (Some setting) → length words ≤ i → (parts : List P) → AreInOrder g.IsPart parts (word_octets words) → ⊥
-    value_awaited words i old new setting so_far high parts =
-        value_missing g clear so_far.added.0 parts so_far.front (word_octets words) setting so_far.added.1 (ap word_octets (sym (take_all i words high)) ∙ so_far.words_are)
+    module _ {Z : Type 0} (words : List (Vec ℕ Z)) (i : ℕ) (old new : R) (setting : S) (so_far : AreAdded g with_part (word_octets (take i words)) old new (Some setting)) (high : length words ≤ i) where
+      -- behind the parts stands the option
+      pub option_last : word_octets words ≡ so_far.front ++ (g.name setting ∷ [])
+      option_last = ap word_octets (sym (take_all i words high)) ∙ so_far.words_are
+
+      pub value_awaited : (parts : List P) → AreInOrder g.IsPart parts (word_octets words) → ⊥
+      value_awaited parts =
+          value_missing g clear so_far.added.0 parts so_far.front (word_octets words) setting so_far.added.1 option_last

@@ -3,11 +3,13 @@ ghost use Rattle.std.specs.Prelude.{◌≡◌, ◌≢◌, ◌↔◌, ℕ, List, 
 ghost use Rattle.std.specs.Bool.{OnTrue, OnFalse};
 ghost use Rattle.std.specs.Fmt.{WritesOnOk};
 ghost use Rattle.rpki_text.specs.Pages.{characters_text};
-ghost use Rattle.rpki_arguments.specs.CommandLines.{IsFormatName, IsTaskName, IsNumberText, IsPart, LinePart, AreParts, RequestFields, only_task, setting_name, with_files, with_part, AsksNoPath, AsksSearch, AsksTree, NamesInput, ReadsInput, Suits, SuitsFolders, IsCommandLine};
+ghost use Rattle.rpki_arguments.specs.CommandLines.{IsFormatName, IsTaskName, IsNumberText, IsPart, LinePart, RequestFields, only_task, setting_name, with_files, with_part, AsksNoPath, AsksSearch, AsksTree, NamesInput, ReadsInput, Suits, SuitsFolders, IsCommandLine};
 ghost use Rattle.rpki_arguments.specs.CommandLines.Views.{word_octets, fields_of};
-ghost use Rattle.rpki_arguments.specs.WordParts.{AddsPart, AddsParts, BeginsNoPart, IsOption, Joins, words_before, words_behind};
+ghost use Rattle.rpki_arguments.specs.WordParts.{AddsPart, AddsParts, IsOption, Joins, words_before, words_behind};
+ghost use Rattle.rpki_arguments.specs.Misuses.{IsBound, IsExtra, IsFirstWrong, IsMisuse, IsReason, NamesFormat};
+ghost use Rattle.rpki_arguments.specs.Misuses.Steps.{TellsValue, TellsWord};
 ghost use Rattle.rpki_arguments.specs.MisuseTexts.{misuse_text};
-ghost use Rattle.rpki_arguments.specs.CommandLines.Steps.{AddsSet, IsSetPart, IsSwitch, IsOptionName};
+ghost use Rattle.rpki_arguments.specs.CommandLines.Steps.{AddsSet, IsSwitch, IsOptionName};
 
 use crate::parts::{around_dashes, is, is_option};
 use rpki::repository::x509::Time;
@@ -273,7 +275,7 @@ fn number_of(text: &[u8]) -> Option<u64>
 // The number that the value of an option says.
 fn count_of<'a>(setting: Setting, text: &'a [u8]) -> Result<usize, Misuse<'a>>
     ensures number { IfOk result (λ n. IsNumberText n text.now) }
-    ensures none { IfErr result (λ _. (n : ℕ) → IsNumberText n text.now → ⊥) }
+    ensures told { IfErr result (λ e. IsBound setting → TellsValue e setting text.now) }
 {
     match number_of(text) {
         Some(count) => Ok(count as usize),
@@ -346,8 +348,8 @@ fn switch(request: &mut Request<'_>, word: &[u8]) -> bool
 fn add_format<'a>(request: &mut Request<'a>, text: &'a [u8]) -> Result<(), Misuse<'a>>
     ensures added { OnOk result
         (AddsSet Setting.Output text.now (fields_of request.old) (fields_of request.new)) }
-    ensures unknown { IfErr result
-        (λ e. e ≢ Misuse.Memory → (part : LinePart) → IsSetPart Setting.Output text.now part → ⊥) }
+    ensures told { IfErr result
+        (λ e. (setting : Setting) → NamesFormat setting → TellsValue e setting text.now) }
 {
     match format_of(text) {
         Some(format) => {
@@ -366,8 +368,8 @@ fn add_set<'a>(
 ) -> Result<(), Misuse<'a>>
     ensures added { OnOk result
         (AddsSet setting value.now (fields_of request.old) (fields_of request.new)) }
-    ensures unknown { IfErr result
-        (λ e. e ≢ Misuse.Memory → (part : LinePart) → IsSetPart setting value.now part → ⊥) }
+    ensures told { IfErr result
+        (λ e. e ≢ Misuse.Memory → TellsValue e setting value.now) }
 {
     match setting {
         Setting::Crl => push_name(&mut request.lists, value),
@@ -404,8 +406,7 @@ fn add_word<'a>(request: &mut Request<'a>, word: &'a [u8]) -> Result<(), Misuse<
     requires { (setting : Setting) → IsOptionName setting word.now → ⊥ }
     ensures added { let adds = AddsPart IsPart with_part (word.now ∷ []) in
         OnOk result (adds (fields_of request.old) (fields_of request.new)) }
-    ensures unknown { IfErr result
-        (λ e. e ≢ Misuse.Memory → BeginsNoPart IsPart (word.now ∷ [])) }
+    ensures told { IfErr result (λ e. e ≢ Misuse.Memory → TellsWord e word.now) }
 {
     if !is_option(word) {
         return push_name(&mut request.files, word);
@@ -424,8 +425,8 @@ fn add_word<'a>(request: &mut Request<'a>, word: &'a [u8]) -> Result<(), Misuse<
 fn add_words<'a>(request: &mut Request<'a>, words: &'a [Vec<u8>]) -> Result<(), Misuse<'a>>
     ensures added { let adds = AddsParts IsPart with_part (word_octets words.now) in
         OnOk result (adds (fields_of request.old) (fields_of request.new)) }
-    ensures unknown { IfErr result (λ e. e ≢ Misuse.Memory
-        → (parts : List LinePart) → AreParts parts (word_octets words.now) → ⊥) }
+    ensures told { IfErr result
+        (λ e. e ≢ Misuse.Memory → IsFirstWrong e (word_octets words.now)) }
 {
     // The option whose value is the next word.
     let mut awaiting = None;
@@ -482,8 +483,8 @@ fn new_request<'a>(alloc: Global, task: Task) -> Request<'a>
 
 // An option that only validating takes, where one is given.
 fn only_validating(request: &Request<'_>) -> Option<&'static [u8]>
-    ensures { MatchOption result (AsksNoPath (fields_of request.now))
-        (λ _. AsksNoPath (fields_of request.now) → ⊥) }
+    ensures { let r = fields_of request.now in
+        MatchOption result (AsksNoPath r) (λ name. IsExtra Task.Show name.now r) }
 {
     if !request.lists.is_empty() {
         return Some(b"--crl".as_slice());
@@ -508,8 +509,8 @@ fn only_validating(request: &Request<'_>) -> Option<&'static [u8]>
 
 // What doesn't suit a tree: an option that it doesn't take, or that there is no locator.
 fn misuse_of_tree(request: &Request<'_>) -> Option<Misuse<'static>>
-    ensures { MatchOption result (AsksTree (fields_of request.now))
-        (λ _. AsksTree (fields_of request.now) → ⊥) }
+    ensures { let r = fields_of request.now in
+        MatchOption result (AsksTree r) (λ misuse. IsReason misuse Task.Tree r) }
 {
     if !request.lists.is_empty() {
         return Some(Misuse::Unknown(b"--crl".as_slice()));
@@ -557,8 +558,8 @@ fn reads_input(request: &Request<'_>) -> bool
 // What doesn't suit a path that is sought: that there isn't one file alone, that lists are given,
 // that there is no locator, or that standard input would be read twice.
 fn misuse_of_search(request: &Request<'_>) -> Option<Misuse<'static>>
-    ensures { MatchOption result (AsksSearch (fields_of request.now))
-        (λ _. AsksSearch (fields_of request.now) → ⊥) }
+    ensures { let r = fields_of request.now in MatchOption result (AsksSearch r)
+        (λ misuse. r.folders ≢ [] → IsReason misuse Task.Validate r) }
 {
     if request.files.len() != 1 {
         return Some(Misuse::OneFile);
@@ -579,7 +580,7 @@ fn misuse_of_search(request: &Request<'_>) -> Option<Misuse<'static>>
 fn misuse_of_path(request: &Request<'_>) -> Option<Misuse<'static>>
     ensures { let r = fields_of request.now in
         MatchOption result ((r.all_entries ≡ false) × SuitsFolders r.folders r)
-        (λ _. (r.all_entries ≡ false) × SuitsFolders r.folders r → ⊥) }
+        (λ misuse. IsReason misuse Task.Validate r) }
 {
     if request.all {
         return Some(Misuse::Unknown(b"--all".as_slice()));
@@ -596,8 +597,8 @@ fn misuse_of_path(request: &Request<'_>) -> Option<Misuse<'static>>
 // What doesn't suit the task: an option that it doesn't take, or that there is no file.
 fn misuse_of(request: &Request<'_>) -> Option<Misuse<'static>>
     ensures suits { IfNone result (Suits request.now.task (fields_of request.now)) }
-    ensures unsuited { IfSome result
-        (λ _. Suits request.now.task (fields_of request.now) → ⊥) }
+    ensures told { IfSome result
+        (λ misuse. IsReason misuse request.now.task (fields_of request.now)) }
 {
     if request.task == Task::Show {
         if let Some(option) = only_validating(request) {
@@ -628,6 +629,7 @@ pub fn read_words<'a>(alloc: Global, words: &'a [Vec<u8>]) -> Result<Request<'a>
         → IsCommandLine other (word_octets words.now) → other ≡ fields_of r) }
     ensures rejected { IfErr result (λ e. e ≢ Misuse.Memory
         → (r : RequestFields) → IsCommandLine r (word_octets words.now) → ⊥) }
+    ensures told { IfErr result (λ e. e ≢ Misuse.Memory → IsMisuse e (word_octets words.now)) }
 {
     let Some((first, rest)) = words.split_first() else {
         return Err(Misuse::NoTask);

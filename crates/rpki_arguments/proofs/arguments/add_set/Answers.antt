@@ -1,4 +1,5 @@
-use Rattle.std.proofs.Common.{◌++◌, ◌∷◌, [], ℕ, List, inl, inr, refl}
+use Rattle.std.proofs.Common.{rules, ◌≡◌, ◌++◌, ◌∷◌, [], ℕ, List, Err, inl, inr, refl}
+use Rattle.std.proofs.lemmas.Result.{IfErr-weaker}
 use Rattle.rpki_arguments.specs.declared.arguments.Setting.TheVariants.{Crl, Tal, In}
 use Rattle.rpki_arguments.specs.CommandLines.{list, locator, folder, depth, steps, at_moment, max_size}
 use Rattle.rpki_arguments.specs.CommandLines.Views.{fields_of}
@@ -44,9 +45,24 @@ returns-in-Some-number_of-clause-added c =
     let n = c.in-Some-number_of.size in
     rw c.in-MaxSize.is (max_size n, (n, refl, c.in-Some-number_of.ensures), refl)
 
-pub returns-in-Output-clause-unknown : goal.returns-in-Output-clause-unknown
-returns-in-Output-clause-unknown c =
-    elim c.in-Output.is [
-      | inl is ↦ rw is c.add_format.ensures.unknown
-      | inr is ↦ rw is c.add_format.ensures.unknown
-    ]
+pub returns-in-Output-clause-told : goal.returns-in-Output-clause-told
+returns-in-Output-clause-told c =
+    IfErr-weaker c.add_format.result _ _ (λ e tells not_memory. tells c.args.setting c.in-Output.is) c.add_format.ensures.told
+
+pub returns-in_err-count_of-in-Depth-clause-told : goal.returns-in_err-count_of-in-Depth-clause-told
+returns-in_err-count_of-in-Depth-clause-told c =
+    let is : c.from_residual.result ≡ Err c.in_err-count_of-in-Depth.field-0.0 = search rules in
+    rw is (λ not_memory. c.in_err-count_of-in-Depth.ensures.told (inl c.in-Depth.is))
+
+pub returns-in_err-count_of-in-StepCount-clause-told : goal.returns-in_err-count_of-in-StepCount-clause-told
+returns-in_err-count_of-in-StepCount-clause-told c =
+    let is : c.from_residual-in_err-count_of-in-StepCount.result ≡ Err c.in_err-count_of-in-StepCount.field-0.0 = search rules in
+    rw is (λ not_memory. c.in_err-count_of-in-StepCount.ensures.told (inr c.in-StepCount.is))
+
+pub returns-in-None-clause-told : goal.returns-in-None-clause-told
+returns-in-None-clause-told c =
+    rw c.in-At.is (λ not_memory words begins. (begins, c.in-None.ensures.none))
+
+pub returns-in-None-number_of-clause-told : goal.returns-in-None-number_of-clause-told
+returns-in-None-number_of-clause-told c =
+    rw c.in-MaxSize.is (λ not_memory words begins. (begins, c.in-None-number_of.ensures))

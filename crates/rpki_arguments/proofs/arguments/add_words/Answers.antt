@@ -3,22 +3,23 @@ use Rattle.std.proofs.Common.{rules, ◌≡◌, Err}
 use Rattle.rpki_arguments.specs.CommandLines.{with_part}
 use Rattle.rpki_arguments.specs.CommandLines.Views.{fields_of}
 use Rattle.rpki_arguments.proofs.CommandParts.{line_grammar, line_clear}
-use Rattle.rpki_arguments.proofs.WordByWord.{value_added, value_rejected, word_added, word_rejected, option_awaits, value_awaited}
+use Rattle.rpki_arguments.proofs.WordByWord.{value_added, word_added, option_awaits}
+use Rattle.rpki_arguments.proofs.WrongWords.{value_wrong, word_wrong, option_wrong}
 use Rattle.rpki_arguments.proofs.arguments.add_words.Goals as goal
 use Rattle.rpki_arguments.proofs.arguments.add_words.Goals.{in-Some+in_ok-add_set, in_default+in-Some-setting_of, in_default+in_default-setting_of+in_ok-add_word}
 
-pub returns-in_err-add_set-clause-unknown : goal.returns-in_err-add_set-clause-unknown
-returns-in_err-add_set-clause-unknown c =
+pub returns-in_err-add_set-clause-told : goal.returns-in_err-add_set-clause-told
+returns-in_err-add_set-clause-told c =
     let is : c.from_residual.result ≡ Err c.in_err-add_set.field-0.0 = search rules in
     let so_far = rw c.in-Some.is at c.loop-word.invariant in
-    rw is (λ not_memory. value_rejected line_grammar with_part line_clear c.args.words.now c.loop-word.word-index c.word-item.result c.loop-word-test.true c.word-item.is _ _ c.as_slice-word.result.now c.as_slice-word.ensures.value c.in-Some.setting so_far (c.in_err-add_set.ensures.unknown not_memory))
+    rw is (λ not_memory. value_wrong c.args.words.now c.loop-word.word-index c.word-item.result c.loop-word-test.true c.word-item.is _ _ c.as_slice-word.result.now c.as_slice-word.ensures.value _ c.in-Some.setting so_far (c.in_err-add_set.ensures.told not_memory))
 
-pub returns-in_err-add_word-clause-unknown : goal.returns-in_err-add_word-clause-unknown
-returns-in_err-add_word-clause-unknown c =
+pub returns-in_err-add_word-clause-told : goal.returns-in_err-add_word-clause-told
+returns-in_err-add_word-clause-told c =
     let is : c.from_residual-in_err-add_word.result ≡ Err c.in_err-add_word.field-0.0 = search rules in
     let none : c.loop-word.awaiting ≡ None = search rules in
     let so_far = rw none at c.loop-word.invariant in
-    rw is (λ not_memory. word_rejected line_grammar with_part line_clear c.args.words.now c.loop-word.word-index c.word-item.result c.loop-word-test.true c.word-item.is _ _ c.as_slice-word.result.now c.as_slice-word.ensures.value so_far (c.in_err-add_word.ensures.unknown not_memory))
+    rw is (λ not_memory. word_wrong c.args.words.now c.loop-word.word-index c.word-item.result c.loop-word-test.true c.word-item.is _ _ c.as_slice-word.result.now c.as_slice-word.ensures.value _ so_far (c.in_err-add_word.ensures.told not_memory))
 
 pub loop-word-preserved : goal.loop-word-preserved
 loop-word-preserved c =
@@ -31,6 +32,6 @@ loop-word-preserved c =
           rw (w.request-is, w.awaiting-is, w.in_default.is) (word_added line_grammar with_part line_clear c.args.words.now c.loop-word.word-index c.word-item.result c.loop-word-test.true c.word-item.is (fields_of c.args.request.now) (fields_of c.loop-word.request) c.as_slice-word.result.now c.as_slice-word.ensures.value (rw w.in_default.is at c.loop-word.invariant) _ w.in_ok-add_word.ensures.added)
     ]
 
-pub returns-in-Some-awaiting-clause-unknown : goal.returns-in-Some-awaiting-clause-unknown
-returns-in-Some-awaiting-clause-unknown c = λ not_memory.
-    value_awaited line_grammar with_part line_clear c.args.words.now c.loop-word.word-index _ _ c.in-Some-awaiting.setting (rw c.in-Some-awaiting.is at c.loop-word.invariant) c.loop-word-test.false
+pub returns-in-Some-awaiting-clause-told : goal.returns-in-Some-awaiting-clause-told
+returns-in-Some-awaiting-clause-told c = λ not_memory.
+    option_wrong c.args.words.now c.loop-word.word-index _ _ c.in-Some-awaiting.setting (rw c.in-Some-awaiting.is at c.loop-word.invariant) c.loop-word-test.false
