@@ -1,27 +1,30 @@
 -- What a run says on standard error of words and of requests (own).
 use Rattle.std.specs.Io.KnownBytes.{Appends}
 use Rattle.std.specs.Prelude.{ℕ, List, ◌++◌, codes, Option}
+use Rattle.rpki_arguments.specs.Misuses.{IsMisuse}
 use Rattle.rpki_arguments.specs.MisuseTexts as line
 use Rattle.rpki_arguments.specs.declared.arguments.Misuse as arguments
 use Rattle.rpki_command.specs.AboutTexts.{usage_text}
 use Rattle.rpki_requests.specs.Refusals.{refusal_text}
 use Rattle.rpki_requests.specs.RequestMisuses as request
 use Rattle.rpki_requests.specs.declared.refusals.Refusal.{Refusal}
-use Rattle.rpki_requests.specs.declared.words.Misuse as words
+use Rattle.rpki_requests.specs.declared.words.Misuse as requests
 
 -- what is wrong, in a line, and then how the command is used
 abbrev pub misuse_message : List ℕ → List ℕ
 misuse_message wrong = (codes "rpki: " ++ wrong ++ codes "\n") ++ usage_text
 
--- what was written since says that of one thing that is wrong with words that are no command line
-abbrev pub SaysLineMisuse : Option (List ℕ) → Option (List ℕ) → Type 0
-SaysLineMisuse before after =
-    (misuse : arguments.Misuse) × Appends before after (misuse_message (line.misuse_text misuse))
+-- what was written since says what is wrong with words that are no command line: which is so, and
+-- is the first word that is wrong, or why what they ask doesn't suit its task
+abbrev pub SaysLineMisuse : List (List ℕ) → Option (List ℕ) → Option (List ℕ) → Type 0
+SaysLineMisuse words before after =
+    (misuse : arguments.Misuse) × IsMisuse misuse words
+    × Appends before after (misuse_message (line.misuse_text misuse))
 
--- and with words that ask for nothing to be prepared or completed
+-- and says one thing that is wrong with words that ask for nothing to be prepared or completed
 abbrev pub SaysRequestMisuse : Option (List ℕ) → Option (List ℕ) → Type 0
 SaysRequestMisuse before after =
-    (misuse : words.Misuse) × Appends before after (misuse_message (request.misuse_text misuse))
+    (misuse : requests.Misuse) × Appends before after (misuse_message (request.misuse_text misuse))
 
 -- why a request gives nothing, in a line
 abbrev pub refusal_message : Refusal → List ℕ

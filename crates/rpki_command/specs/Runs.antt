@@ -106,8 +106,8 @@ RunEndsAs reads lists tells words outcome = (output : Output) × RunEnds reads l
 
 -- ---- words that ask nothing
 
--- what was written since is what is said of one thing that is wrong with them, by what they begin as
+-- what was written since is what is said of them, by what they begin as
 abbrev pub SaysMisuse : List (List ℕ) → Option (List ℕ) → Option (List ℕ) → Type 0
 SaysMisuse words before after =
     (BeginsRequest words × SaysRequestMisuse before after)
-    ⊎ ((BeginsRequest words → ⊥) × SaysLineMisuse before after)
+    ⊎ ((BeginsRequest words → ⊥) × SaysLineMisuse words before after)

@@ -259,8 +259,9 @@ fn run_line<S: FileSource + MomentSource, O: Write, E: Write>(
         × LineEnds (S.reads system.now) (S.lists system.now) (S.tells system.now) words
         ended.outcome text
         × OnOk ended.written (Appends (O.contents out.old) (O.contents out.new) text)) }
-    ensures said { IfOk result (λ ended. ended.outcome ≡ Outcome.WrongUse
-        → SaysLineMisuse (E.contents err.old) (E.contents err.new)) }
+    ensures said { let words = word_octets words.now in
+        IfOk result (λ ended. ended.outcome ≡ Outcome.WrongUse
+        → SaysLineMisuse words (E.contents err.old) (E.contents err.new)) }
     ensures unwritten { OnErr result (out.new ≡ out.old) }
 {
     let request = match read_words(alloc, words) {
