@@ -410,7 +410,9 @@ struct rpki_signature {
 };
 
 /* Writes the signatures, one a member, as many as there is room for. The anchor is signed by its
- * own key, each later member by that of the one above it. */
+ * own key, each later member by that of the one above it. No place goes past the path's octets.
+ * These are only read as far as it takes to find the places, so a member that is no certificate may
+ * get some: rpki_path_validate_said rejects it, whatever is said of its signature. */
 uint32_t rpki_path_signatures(const struct rpki_strings *members, struct rpki_signature *out,
                               size_t room);
 

@@ -1,5 +1,6 @@
 mod AnsweredLists
 mod AnsweredWants
+mod CertificateWalks
 mod Cutting
 mod EntriesPut
 mod FatesFound
@@ -12,6 +13,7 @@ mod OneMore
 mod QuestionTerms
 mod SaidBefore
 mod Sentences
+mod SignaturesTold
 mod SortedMore
 mod TwentyOctets
 mod Unread

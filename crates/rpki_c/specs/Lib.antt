@@ -1,4 +1,5 @@
 pub mod Answered
+pub mod CertificateSpans
 pub mod Choices
 pub mod Contents
 pub mod FaultNumbers
@@ -9,6 +10,7 @@ pub mod FolderTelling
 pub mod IssuedTelling
 pub mod ListAnswers
 pub mod Questions
+pub mod SignaturePlaces
 pub mod Strings
 pub mod Telling
 pub mod TimeParts

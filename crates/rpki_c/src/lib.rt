@@ -26,6 +26,7 @@ mod question;
 mod refusal;
 mod signatures;
 mod sorting;
+mod spans;
 mod strings;
 mod telling;
 mod unissued;

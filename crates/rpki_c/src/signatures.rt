@@ -1,17 +1,21 @@
 //! The signatures that a path asks for, as places in the caller's octets, and what the caller said
 //! of them.
-ghost use Rattle.std.specs.Prelude.{◌≡◌, ◌≢◌, IfOk, MatchOption, OnOk};
+ghost use Rattle.std.specs.List.{concat};
+ghost use Rattle.std.specs.Prelude.{◌≡◌, ◌≢◌, ◌≤◌, ◌<◌, ◌+◌, ◌^◌, IfErr, IfOk, MatchOption, OnOk};
+ghost use Rattle.rpki_der.specs.declared.error.DecodeError.TheVariants.{Memory};
 ghost use Rattle.rpki_ext.specs.Kinds.{Means};
 ghost use Rattle.rpki_cert.specs.Certificates.{CertFields, IsCertificate};
 ghost use Rattle.rpki_c.specs.Answered.{AreSaid, IsAdded, IsAsked, IsOf, IsUnasked};
 ghost use Rattle.rpki_c.specs.Contents.{BeginsNoCertificate};
+ghost use Rattle.rpki_c.specs.SignaturePlaces.{AnswersSignatures, IsToldSignatures, StandsAt, TellsSignature};
 
 use crate::answers::{Answers, Said};
 use crate::faults::{BAD_CALL, MEMORY, NONE, of_decoding};
+use crate::spans::{key_span, signed_spans};
 use crate::strings::{RpkiStrings, cut};
 use bytes::Bytes;
 use rpki_cert::Cert;
-use rpki_der::{Cursor, DecodeError};
+use rpki_der::DecodeError;
 use std::alloc::{AllocError, Global};
 
 /// A signature that the caller has to check: places in the octets of the whole path.
@@ -29,48 +33,35 @@ pub struct RpkiSignature {
     pub signature_length: u64,
 }
 
-// The place of the key of a certificate.
-fn key_span(octets: &Bytes) -> Result<(usize, usize), DecodeError> {
-    let mut outer = Cursor::new(octets).take_sequence()?;
-    let mut data = outer.take_sequence()?;
-    // version, serial number, algorithm, issuer, validity and subject stand before the key
-    for _ in 0..6 {
-        data.skip_one()?;
-    }
-    let from = data.span().0;
-    let mut key = data.take_sequence()?;
-    key.skip_one()?;
-    let _bits = key.take_bits()?;
-    Ok((from, data.span().0))
-}
-
-// The places of what is signed of a certificate, and of the signature.
-fn signed_span(octets: &Bytes) -> Result<((usize, usize), (usize, usize)), DecodeError> {
-    let mut outer = Cursor::new(octets).take_sequence()?;
-    let from = outer.span().0;
-    outer.skip_one()?;
-    let to = outer.span().0;
-    outer.skip_one()?;
-    let (_, bits) = outer.take_bits()?;
-    Ok(((from, to), bits.span()))
-}
-
-fn place(start: u64, span: (usize, usize)) -> (u64, u64) {
+// The place and the length in the path of what has this span in a string that begins there.
+fn place(start: usize, span: (usize, usize)) -> (u64, u64)
+    requires order { span.0 ≤ span.1 }
+    requires small { start + span.1 < 2 ^ 64 }
+    ensures begin { result.0 ≡ start + span.0 }
+    ensures end { result.0 + result.1 ≡ start + span.1 }
+{
     let (from, to) = span;
-    (
-        start.wrapping_add(from as u64),
-        (to as u64).wrapping_sub(from as u64),
-    )
+    ((start + from) as u64, (to - from) as u64)
 }
 
+// The signature of a member below its issuer, where both strings begin at these places of the path.
 fn signature_of(
+    octets: &[u8],
     issuer: &Bytes,
-    issuer_at: u64,
+    issuer_at: usize,
     member: &Bytes,
-    member_at: u64,
-) -> Result<RpkiSignature, DecodeError> {
+    member_at: usize,
+) -> Result<RpkiSignature, DecodeError>
+    requires issuer { StandsAt octets.now issuer.now issuer_at }
+    requires member { StandsAt octets.now member.now member_at }
+    ensures told { IfOk result (TellsSignature octets.now issuer.now member.now) }
+    ensures unread { IfErr result (λ _. IsUnasked issuer.now member.now) }
+    ensures fault { IfErr result (λ e. e ≢ Memory) }
+{
+    // For the proof only: they are fewer than 2^63.
+    let _count = octets.len();
     let key = key_span(issuer)?;
-    let (message, signature) = signed_span(member)?;
+    let (message, signature) = signed_spans(member)?;
     let (key_at, key_length) = place(issuer_at, key);
     let (message_at, message_length) = place(member_at, message);
     let (signature_at, signature_length) = place(member_at, signature);
@@ -84,27 +75,42 @@ fn signature_of(
     })
 }
 
-fn put_signatures(members: &[Bytes], out: &mut [RpkiSignature]) -> u32 {
-    let Some(first) = members.first() else {
+// Writes the signatures of the strings of a path, as many as there is room for.
+fn put_signatures(octets: &[u8], strings: &[Bytes], out: &mut [RpkiSignature]) -> u32
+    requires { concat strings.now ≡ octets.now }
+    ensures { AnswersSignatures octets.now strings.now out.old out.new result }
+{
+    if strings.is_empty() {
         return BAD_CALL;
-    };
-    let mut issuer = first;
-    let mut issuer_at = 0u64;
-    let mut member_at = 0u64;
-    let mut at = 0usize;
-    for member in members.iter() {
-        if at < out.len() {
-            match signature_of(issuer, issuer_at, member, member_at) {
-                Ok(signature) => out[at] = signature,
-                Err(error) => return of_decoding(&error),
-            }
+    }
+    let mut issuer_at = 0;
+    let mut member_at = 0;
+    for at in 0..strings.len().min(out.len()) {
+        let issuer = &strings[at.saturating_sub(1)];
+        let member = &strings[at];
+        match signature_of(octets, issuer, issuer_at, member, member_at) {
+            Ok(signature) => out[at] = signature,
+            Err(error) => return of_decoding(&error),
         }
-        issuer = member;
         issuer_at = member_at;
-        member_at = member_at.wrapping_add(member.len() as u64);
-        at = at.wrapping_add(1);
+        member_at += member.len();
     }
     NONE
+}
+
+// Writes the signatures of a path, as many as there is room for.
+fn put_all(alloc: Global, members: &RpkiStrings<'_>, out: &mut [RpkiSignature]) -> u32
+    ensures { IsToldSignatures members.now out.old out.new result }
+{
+    match cut(alloc, members.octets, members.lengths) {
+        Ok(Some(strings)) => {
+            let answer = put_signatures(members.octets, &strings, out);
+            drop(strings);
+            answer
+        }
+        Ok(None) => BAD_CALL,
+        Err(_) => MEMORY,
+    }
 }
 
 /// Writes the signatures that a path asks for, one a member: the trust anchor's by its own key,
@@ -115,16 +121,10 @@ pub extern "C" fn rpki_path_signatures(
     alloc: Global,
     members: &RpkiStrings<'_>,
     out: &mut [RpkiSignature],
-) -> u32 {
-    match cut(alloc, members.octets, members.lengths) {
-        Ok(Some(members)) => {
-            let answer = put_signatures(&members, out);
-            drop(members);
-            answer
-        }
-        Ok(None) => BAD_CALL,
-        Err(_) => MEMORY,
-    }
+) -> u32
+    ensures told { IsToldSignatures members.now out.old out.new result }
+{
+    put_all(alloc, members, out)
 }
 
 // The certificate that the octets begin with.
