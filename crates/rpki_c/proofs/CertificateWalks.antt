@@ -201,12 +201,42 @@ has_key f content (v, from_serial, v_is, (s, from_algorithm, s_is, (g, from_issu
   info = info;
   behind = behind;
   before_are = (
-    v, s ++ (g ++ (n ++ (d ++ (u ++ [])))), (v_is.0, v_is.2), (
-      s, g ++ (n ++ (d ++ (u ++ []))), (s_is.number.first ∷ s_is.number.more, s_is.number.enc), (
-        g, n ++ (d ++ (u ++ [])), (g_is.0, g_is.2), (
-          n, d ++ (u ++ []), (n_is.0.1.0, n_is.0.1.2), (
-            d, u ++ [], (d_is.0, d_is.2), (
-              u, [], (u_is.0.1.0, u_is.0.1.2), refl, refl), refl), refl), refl), refl), refl);
+    v,
+    s ++ (g ++ (n ++ (d ++ (u ++ [])))),
+    (v_is.0, v_is.2),
+    (
+      s,
+      g ++ (n ++ (d ++ (u ++ []))),
+      (s_is.number.first ∷ s_is.number.more, s_is.number.enc),
+      (
+        g,
+        n ++ (d ++ (u ++ [])),
+        (g_is.0, g_is.2),
+        (
+          n,
+          d ++ (u ++ []),
+          (n_is.0.1.0, n_is.0.1.2),
+          (
+            d,
+            u ++ [],
+            (d_is.0, d_is.2),
+            (
+              u,
+              [],
+              (u_is.0.1.0, u_is.0.1.2),
+              refl,
+              refl,
+            ),
+            refl,
+          ),
+          refl,
+        ),
+        refl,
+      ),
+      refl,
+    ),
+    refl,
+  );
   tagged = (k_is.0, k_is.2);
   info_is = k_is;
   parts = v_then

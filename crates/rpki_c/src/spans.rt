@@ -89,9 +89,7 @@ pub(crate) fn key_span(octets: &Bytes) -> Result<(usize, usize), DecodeError>
 }
 
 /// The spans of what is signed of a certificate, and of its signature.
-pub(crate) fn signed_spans(
-    octets: &Bytes,
-) -> Result<((usize, usize), (usize, usize)), DecodeError>
+pub(crate) fn signed_spans(octets: &Bytes) -> Result<((usize, usize), (usize, usize)), DecodeError>
     ensures signed { IfOk result (λ spans. AreSignedSpans octets.now spans.0 spans.1) }
     ensures none { IfErr result (λ _. BeginsNoCertificate octets.now) }
     ensures fault { IfErr result (λ e. e ≢ Memory) }

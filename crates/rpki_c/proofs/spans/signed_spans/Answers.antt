@@ -11,7 +11,7 @@ returns-clause-signed c =
     let read = c.in_ok-bits.ensures in
     rw c.span.ensures.span
     (both_stood c.args.octets.now first c.in_ok-rest.ensures.inside c.sequence_span.new.cursor message.ensures.behind c.sequence_span-2.new.cursor algorithm.ensures.behind
-      message.message _ c.in_ok-bits.bits c.take_bits.new.self message.ensures.span message.ensures.stood message.ensures.moves algorithm.ensures.moves read.answers.encoded read.inside c.span.ensures.order c.span.ensures.inside)
+    message.message _ c.in_ok-bits.bits c.take_bits.new.self message.ensures.span message.ensures.stood message.ensures.moves algorithm.ensures.moves read.answers.encoded read.inside c.span.ensures.order c.span.ensures.inside)
 
 pub returns-in_err-message-clause-none : goal.returns-in_err-message-clause-none
 returns-in_err-message-clause-none c =
