@@ -1,12 +1,14 @@
 -- The path that is sought, file by file.
 use Rattle.std.specs.List.{AllByRecursion, cons_option}
-use Rattle.std.specs.Prelude.{Option, Some, None, Ok, Err, IfOk, IsFalse, IsTrue, Result, IsOk, slice_get}
+use Rattle.std.specs.Prelude.{Option, Some, None, Ok, Err, IsFalse, IsTrue, Result, IsOk, slice_get}
 use Rattle.std.proofs.Common.{◌≡◌, ◌<◌, ℕ, Bool, true, false, not, List, [], ◌∷◌, ◌++◌, length, refl, sym, ap, subst, ◌∙◌, inl, inr, arith}
 use Rattle.std.proofs.lemmas.List.{append_assoc}
 use Rattle.std.proofs.lemmas.List.Elements.{All-from_recursion}
 use Rattle.std.proofs.lemmas.Option.{slice_get_within, get_or_from_slice_get}
 use Rattle.rpki.specs.AskedLists.{by_lists}
 use Rattle.rpki.specs.Asking.{RevocationChecks}
+use Rattle.rpki.specs.Ended.{Ended}
+use Rattle.rpki.specs.Ended.TheVariants.{Whole}
 use Rattle.rpki.specs.Kind.{Kind}
 use Rattle.rpki.specs.Paths.{Candidate}
 use Rattle.rpki.specs.SaidKinds.{BeginsWithKind}
@@ -25,11 +27,6 @@ use Rattle.rpki_verdicts.specs.Trees.{AreCertificatesOf, IsTreeOf, IsWrongAnchor
 use Rattle.rpki_verdicts.proofs.ReachedFiles.{reached_files}
 use Rattle.rpki_verdicts.specs.declared.path.Fault.{Fault}
 use Rattle.rpki_verdicts.specs.declared.unordered.Tree.{Tree}
-
--- of what went well something else holds too
-in_ok : {T E : Type 0} {P Q : T → Type 0} (r : Result T E) → ((v : T) → P v → Q v) → IfOk r P → IfOk r Q
-in_ok (Ok v) f p = f v p
-in_ok (Err e) f p = tt
 
 -- ---- files at places
 
@@ -138,40 +135,38 @@ module _ (x : Context) (q : TreeFields) (file : FileFields) (tree : Tree) (is : 
       some_there tree.lines low
 
   -- it doesn't: none leads there
-  pub invalid_by : above_by (slice_get tree.lines 0) ≡ None → HasNoValidPath x q file
+  pub invalid_by : above_by (slice_get tree.lines 0) ≡ None → HasNoValidPath x q file tree.ended
   invalid_by e = record {
     tree = tree;
     is = is;
+    ended_is = refl;
     none = λ above covers leads.
         line_denies is.grown.told 0 (slice_get tree.lines 0) first_line.0 first_line.1 e kept_first above
         (is.grown.tells.complete above 0 covers (all_admitted [] (above ++ 0 ∷ [])) leads);
   }
 
-  -- what is given of either
-  pub valid_in : {T E : Type 0} (files : T → List FileFields) (r : Result T E) (above : List ℕ) → above_by (slice_get tree.lines 0) ≡ Some above → IfOk r (λ v. files v ≡ files_at (certs_of tree) (tree.anchor ∷ above) ++ file ∷ []) → IfOk r (λ v. IsSoughtPath x q file (files v))
-  valid_in files (Ok v) above e path_is = valid (files v) (valid_by above (files v) e path_is)
-  valid_in files (Err why) above e path_is = tt
+  -- what is sought, of either
+  pub valid_in : (above : List ℕ) (path : List FileFields) → above_by (slice_get tree.lines 0) ≡ Some above → path ≡ files_at (certs_of tree) (tree.anchor ∷ above) ++ file ∷ [] → IsSoughtPath x q file path Whole
+  valid_in above path e path_is = valid path (valid_by above path e path_is)
 
-  pub invalid_in : {T E : Type 0} (files : T → List FileFields) (r : Result T E) → above_by (slice_get tree.lines 0) ≡ None → IfOk r (λ v. EndsIn file (files v)) → IfOk r (λ v. IsSoughtPath x q file (files v))
-  invalid_in files (Ok v) e ends = invalid (files v) (invalid_by e) ends
-  invalid_in files (Err why) e ends = tt
+  pub invalid_in : (path : List FileFields) → above_by (slice_get tree.lines 0) ≡ None → EndsIn file path → IsSoughtPath x q file path tree.ended
+  invalid_in path e ends = invalid path tree.ended (invalid_by e) ends
 
 -- ---- a file alone, and one below a trust anchor that is wrong
 
-module _ (x : Context) (q : TreeFields) (file : FileFields) {T E : Type 0} (files : T → List FileFields) (r : Result T E) where
-  pub alone_in : StandsAlone q file → IfOk r (λ v. files v ≡ file ∷ []) → IfOk r (λ v. IsSoughtPath x q file (files v))
-  alone_in stands path_is = in_ok r (λ v same. subst (λ (l : List FileFields). IsSoughtPath x q file l) (sym same) (alone stands)) path_is
+module _ (x : Context) (q : TreeFields) (file : FileFields) (path : List FileFields) where
+  pub alone_in : StandsAlone q file → path ≡ file ∷ [] → IsSoughtPath x q file path Whole
+  alone_in stands path_is = subst (λ (l : List FileFields). IsSoughtPath x q file l Whole) (sym path_is) (alone stands)
 
-  pub wrong_in : (anchor : FileFields) (fault : Fault) → IsWrongAnchor x q anchor fault → IfOk r (λ v. files v ≡ anchor ∷ file ∷ []) → IfOk r (λ v. IsSoughtPath x q file (files v))
-  wrong_in anchor fault is path_is = in_ok r (λ v same. subst (λ (l : List FileFields). IsSoughtPath x q file l) (sym same) (below_wrong anchor fault is)) path_is
+  pub wrong_in : (anchor : FileFields) (fault : Fault) → IsWrongAnchor x q anchor fault → path ≡ anchor ∷ file ∷ [] → IsSoughtPath x q file path Whole
+  wrong_in anchor fault is path_is = subst (λ (l : List FileFields). IsSoughtPath x q file l Whole) (sym path_is) (below_wrong anchor fault is)
 
--- what is given for the first of the files is given for whichever that is
-pub of_first : (x : Context) (q : TreeFields) {T E : Type 0} (found : T → List FileFields) (r : Result T E) (all rest : List FileFields) (file : FileFields) → all ≡ file ∷ rest → IfOk r (λ v. IsSoughtPath x q file (found v)) → IfOk r (λ v. (first : FileFields) (more : List FileFields) → all ≡ first ∷ more → IsSoughtPath x q first (found v))
-of_first x q found (Ok v) all rest file is h = λ first more e.
+-- what is sought to the first of the files is sought to whichever that is
+pub of_first : (x : Context) (q : TreeFields) (path : List FileFields) (ended : Ended) (all rest : List FileFields) (file : FileFields) → all ≡ file ∷ rest → IsSoughtPath x q file path ended → (first : FileFields) (more : List FileFields) → all ≡ first ∷ more → IsSoughtPath x q first path ended
+of_first x q path ended all rest file is sought first more e =
     let both : file ∷ rest ≡ first ∷ more = sym is ∙ e in
     let same : file ≡ first = cc in
-    subst (λ (f : FileFields). IsSoughtPath x q f (found v)) same h
-of_first x q found (Err why) all rest file is h = tt
+    subst (λ (f : FileFields). IsSoughtPath x q f path ended) same sought
 
 -- what isn't so
 pub no_list_here : (b : Bool) → IsTrue (not b) → IsFalse b

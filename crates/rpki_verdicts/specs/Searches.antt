@@ -5,6 +5,8 @@ use Rattle.rpki.specs.Asking.{RevocationChecks}
 use Rattle.rpki.specs.AskedLists.{by_lists}
 use Rattle.rpki.specs.Certificates.{CertFields, IsCertificate}
 use Rattle.rpki.specs.Encoding.{Means}
+use Rattle.rpki.specs.Ended.{Ended}
+use Rattle.rpki.specs.Ended.TheVariants.{Whole}
 use Rattle.rpki.specs.GivenPaths.{PathStrings}
 use Rattle.rpki.specs.Judged.{Judged}
 use Rattle.rpki.specs.Judging.{IsAcceptedWith}
@@ -54,11 +56,12 @@ pub record IsValidPathTo (x : Context) (q : TreeFields) (file : FileFields) (pat
   pub path_is : path ≡ is.grown.anchor ∷ (files_at (certs_of tree) above ++ file ∷ [])
   pub is_valid : IsValidAmong x (by_lists x is.grown.lists) (contents path)
 
--- there is none, of those that the walk of the tree looked at
-pub record HasNoValidPath (x : Context) (q : TreeFields) (file : FileFields) : Type 0 where
+-- there is none, of those that the walk of the tree looked at, which ended so
+pub record HasNoValidPath (x : Context) (q : TreeFields) (file : FileFields) (ended : Ended) : Type 0 where
   pub tree : Tree
   pub is : IsTreeWith x q file tree
-  pub none : (above : List ℕ) → Covers tree.ended q.depth (length above + 1)
+  pub ended_is : tree.ended ≡ ended
+  pub none : (above : List ℕ) → Covers ended q.depth (length above + 1)
       → Leads x q tree is.grown above → ⊥
 
 -- ---- lines
@@ -90,11 +93,12 @@ StandsAlone q file =
 
 -- The path that is sought to the first of the files: that one alone; below a trust anchor that is
 -- wrong; a valid path, as of its certificates and lists; or, where there is none, some files that end
--- in it, of which the verdict tells what is wrong.
-pub data IsSoughtPath (x : Context) (q : TreeFields) (file : FileFields) : List FileFields → Type 0 where
-  alone : StandsAlone q file → IsSoughtPath x q file (file ∷ [])
+-- in it, of which the verdict tells what is wrong. Beside it stands how the walk ended that came to no
+-- valid path, so that there is one only where a bound was met; the other answers are whole.
+pub data IsSoughtPath (x : Context) (q : TreeFields) (file : FileFields) : List FileFields → Ended → Type 0 where
+  alone : StandsAlone q file → IsSoughtPath x q file (file ∷ []) Whole
   below_wrong : (anchor : FileFields) (fault : Fault) → IsWrongAnchor x q anchor fault
-      → IsSoughtPath x q file (anchor ∷ file ∷ [])
-  valid : (path : List FileFields) → IsValidPathTo x q file path → IsSoughtPath x q file path
-  invalid : (path : List FileFields) → HasNoValidPath x q file → EndsIn file path
-      → IsSoughtPath x q file path
+      → IsSoughtPath x q file (anchor ∷ file ∷ []) Whole
+  valid : (path : List FileFields) → IsValidPathTo x q file path → IsSoughtPath x q file path Whole
+  invalid : (path : List FileFields) (ended : Ended) → HasNoValidPath x q file ended
+      → EndsIn file path → IsSoughtPath x q file path ended

@@ -13,5 +13,5 @@ pub use path::{
     Fault, Question, Verdict, accepted_are_unrevoked, first_no_locator, judge, located,
     one_acceptance, one_answer,
 };
-pub use search::seek;
+pub use search::{Sought, seek};
 pub use unordered::{Tree, TreeAnswer, TreeQuestion, judge_all};

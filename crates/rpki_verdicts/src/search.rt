@@ -9,12 +9,33 @@ ghost use Rattle.rpki_verdicts.specs.Trees.{IsTreeAnswer, asked_of, certs_of};
 
 use crate::unordered::{Tree, TreeAnswer, TreeQuestion, judge_all, locator_of};
 use rpki::crypto::KeyIdentifier;
-use rpki::repository::folder::Line;
+use rpki::repository::folder::{Ended, Line};
 use rpki_files::{BareObject, Front};
 use std::alloc::{AllocError, Global};
 
 /// How many files are put above one to which no valid path leads, unless they end sooner.
 const MOST_ABOVE: usize = 32;
+
+/// The path that is sought to a file, and whether each that may be valid was looked at.
+#[derive(Drop)]
+pub struct Sought<'q, 'n> {
+    /// The files, of which the last one is the one that was sought.
+    pub path: Vec<&'q BareObject<'n>>,
+    /// How the walk ended among whose certificates no valid path was found; whole, where there was
+    /// no walk or a valid path was found.
+    pub ended: Ended,
+}
+
+// A path beside which no other one had to be looked for.
+fn whole<'q, 'n>(path: Vec<&'q BareObject<'n>>) -> Sought<'q, 'n>
+    ensures path { result.path ≡ path.entry }
+    ensures ended { result.ended ≡ Ended.Whole }
+{
+    Sought {
+        path,
+        ended: Ended::Whole,
+    }
+}
 
 // Whether one of the files begins with a list.
 fn has_list(files: &[BareObject<'_>]) -> bool
@@ -227,16 +248,22 @@ fn path_in<'q, 'n>(
     question: &TreeQuestion<'q, 'n>,
     tree: &Tree<'q, 'n>,
     file: &'q BareObject<'n>,
-) -> Result<Vec<&'q BareObject<'n>>, AllocError>
+) -> Result<Sought<'q, 'n>, AllocError>
     requires { let x = context IsSignedByRsa question.now.at question.now.strict in
         IsTreeWith x (asked_of question.now) file.now tree.now }
     ensures { let x = context IsSignedByRsa question.now.at question.now.strict in
-        IfOk result (λ path.
-        IsSoughtPath x (asked_of question.now) file.now (map (λ f. f.now) path.items)) }
+        IfOk result (λ sought. let path = map (λ f. f.now) sought.path.items in
+        IsSoughtPath x (asked_of question.now) file.now path sought.ended) }
 {
     match above_at(tree, 0) {
-        Some(above) => path_down(alloc, tree, above, file),
-        None => path_named(alloc, tree, file),
+        Some(above) => Ok(whole(path_down(alloc, tree, above, file)?)),
+        None => {
+            let path = path_named(alloc, tree, file)?;
+            Ok(Sought {
+                path,
+                ended: tree.ended,
+            })
+        }
     }
 }
 
@@ -246,18 +273,18 @@ fn path_by<'q, 'n>(
     question: &TreeQuestion<'q, 'n>,
     answer: &TreeAnswer<'q, 'n>,
     file: &'q BareObject<'n>,
-) -> Result<Vec<&'q BareObject<'n>>, AllocError>
+) -> Result<Sought<'q, 'n>, AllocError>
     requires answer { let x = context IsSignedByRsa question.now.at question.now.strict in
         IsTreeAnswer x (asked_of question.now) answer.now }
     requires certificate { BeginsWithCertificate file.now.octets }
     requires first { (more : List FileFields) × (question.now.files.now ≡ file.now ∷ more) }
     ensures { let x = context IsSignedByRsa question.now.at question.now.strict in
-        IfOk result (λ path.
-        IsSoughtPath x (asked_of question.now) file.now (map (λ f. f.now) path.items)) }
+        IfOk result (λ sought. let path = map (λ f. f.now) sought.path.items in
+        IsSoughtPath x (asked_of question.now) file.now path sought.ended) }
 {
     match answer {
-        TreeAnswer::NoAnchor => alone(alloc, file),
-        TreeAnswer::WrongAnchor(anchor, _) => pair(alloc, *anchor, file),
+        TreeAnswer::NoAnchor => Ok(whole(alone(alloc, file)?)),
+        TreeAnswer::WrongAnchor(anchor, _) => Ok(whole(pair(alloc, *anchor, file)?)),
         TreeAnswer::Walked(tree) => path_in(alloc, question, tree, file),
     }
 }
@@ -266,26 +293,28 @@ fn path_by<'q, 'n>(
 /// trust anchor, the first of them whose key is that of one of the locators (RFC 8630 3), down to
 /// it, with real signatures and with the revocation lists among the files. Where no valid path
 /// leads to it, gives files that end in it, of which [`crate::judge`] tells what is wrong: those
-/// that name one another as signers, or it alone. Gives none where there is no file. Errs only
-/// where memory runs out.
+/// that name one another as signers, or it alone; and whether the walk met a bound of the question
+/// before it had looked at every path. Gives none where there is no file. Errs only where memory
+/// runs out.
 pub fn seek<'q, 'n>(
     alloc: Global,
     question: &TreeQuestion<'q, 'n>,
-) -> Result<Vec<&'q BareObject<'n>>, AllocError>
+) -> Result<Sought<'q, 'n>, AllocError>
     ensures { let x = context IsSignedByRsa question.now.at question.now.strict in
-        IfOk result (λ path. (file : FileFields) (more : List FileFields)
+        IfOk result (λ sought. (file : FileFields) (more : List FileFields)
         → question.now.files.now ≡ file ∷ more
-        → IsSoughtPath x (asked_of question.now) file (map (λ f. f.now) path.items)) }
+        → let path = map (λ f. f.now) sought.path.items in
+        IsSoughtPath x (asked_of question.now) file path sought.ended) }
 {
     let Some((file, _)) = question.files.split_first() else {
-        return Ok(Vec::new(alloc));
+        return Ok(whole(Vec::new(alloc)));
     };
     let is_alone = stands_alone(alloc, question, file)?;
     if is_alone {
-        return alone(alloc, file);
+        return Ok(whole(alone(alloc, file)?));
     }
     let answer = judge_all(alloc, question)?;
-    let path = path_by(alloc, question, &answer, file);
+    let sought = path_by(alloc, question, &answer, file);
     drop(answer);
-    path
+    sought
 }

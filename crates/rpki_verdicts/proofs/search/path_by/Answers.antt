@@ -5,17 +5,21 @@ use Rattle.rpki_verdicts.specs.Trees.{asked_of}
 use Rattle.rpki_verdicts.proofs.SearchSteps.{alone_in, wrong_in, with_first}
 use Rattle.rpki_verdicts.proofs.search.path_by.Goals as goal
 
-pub returns-in-NoAnchor : goal.returns-in-NoAnchor
-returns-in-NoAnchor c =
+pub returns-in_ok-alone-in-NoAnchor : goal.returns-in_ok-alone-in-NoAnchor
+returns-in_ok-alone-in-NoAnchor c =
     let q = c.args.question.now in
     let is = rw c.in-NoAnchor.is at c.requires.answer in
-    alone_in (context IsSignedByRsa q.at q.strict) (asked_of q) c.args.file.now (λ path. map (λ f. f.now) path.items) c.alone.result (inr (inr (inr is))) c.alone.ensures
+    let found = c.in_ok-alone-in-NoAnchor in
+    rw (c.whole.ensures.path, c.whole.ensures.ended)
+    (alone_in (context IsSignedByRsa q.at q.strict) (asked_of q) c.args.file.now (map (λ f. f.now) found.field-0.items) (inr (inr (inr is))) found.ensures)
 
-pub returns-in-WrongAnchor : goal.returns-in-WrongAnchor
-returns-in-WrongAnchor c =
+pub returns-in_ok-pair-in-WrongAnchor : goal.returns-in_ok-pair-in-WrongAnchor
+returns-in_ok-pair-in-WrongAnchor c =
     let q = c.args.question.now in
     let is = rw c.in-WrongAnchor.is at c.requires.answer in
-    wrong_in (context IsSignedByRsa q.at q.strict) (asked_of q) c.args.file.now (λ path. map (λ f. f.now) path.items) c.pair.result c.in-WrongAnchor.anchor.now _ is c.pair.ensures
+    let found = c.in_ok-pair-in-WrongAnchor in
+    rw (c.whole-in-WrongAnchor.ensures.path, c.whole-in-WrongAnchor.ensures.ended)
+    (wrong_in (context IsSignedByRsa q.at q.strict) (asked_of q) c.args.file.now (map (λ f. f.now) found.field-0.items) c.in-WrongAnchor.anchor.now _ is found.ensures)
 
 pub path_in-requires : goal.path_in-requires
 path_in-requires c =

@@ -1,4 +1,5 @@
 use Rattle.std.proofs.Common.{map}
+use Rattle.rpki.specs.Ended.TheVariants.{Whole}
 use Rattle.rpki.specs.RsaSignatures.{IsSignedByRsa}
 use Rattle.rpki.specs.Verification.{context}
 use Rattle.rpki_verdicts.specs.Trees.{asked_of}
@@ -10,5 +11,7 @@ returns-then-is_alone c =
     let q = c.args.question.now in
     let x = context IsSignedByRsa q.at q.strict in
     let file = c.in-Some.file.now in
-    of_first x (asked_of q) (λ path. map (λ f. f.now) path.items) c.alone.result q.files.now c.in-Some.field-0-1.now file c.in-Some.ensures.cases.0
-    (alone_in x (asked_of q) file (λ path. map (λ f. f.now) path.items) c.alone.result (c.in_ok-is_alone.ensures.alone c.if-is_alone.true) c.alone.ensures)
+    let path = map (λ f. f.now) c.in_ok-alone.field-0.items in
+    rw (c.whole-then-is_alone.ensures.path, c.whole-then-is_alone.ensures.ended)
+    (of_first x (asked_of q) path Whole q.files.now c.in-Some.field-0-1.now file c.in-Some.ensures.cases.0
+    (alone_in x (asked_of q) file path (c.in_ok-is_alone.ensures.alone c.if-is_alone.true) c.in_ok-alone.ensures))
