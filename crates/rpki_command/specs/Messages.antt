@@ -1,6 +1,9 @@
--- What a run says on standard error of words and of requests (own).
+-- What a run says on standard error of words, of requests and of a search (own).
+use Rattle.std.specs.Fmt.{decimal}
 use Rattle.std.specs.Io.KnownBytes.{Appends}
-use Rattle.std.specs.Prelude.{ℕ, List, ◌++◌, codes, Option}
+use Rattle.std.specs.Prelude.{ℕ, List, [], ◌++◌, codes, Option}
+use Rattle.rpki.specs.Ended.{Ended}
+use Rattle.rpki.specs.Ended.TheVariants.{Whole, TooDeep, OutOfSteps}
 use Rattle.rpki_arguments.specs.Misuses.{IsMisuse}
 use Rattle.rpki_arguments.specs.MisuseTexts as line
 use Rattle.rpki_arguments.specs.declared.arguments.Misuse as arguments
@@ -9,6 +12,7 @@ use Rattle.rpki_requests.specs.Refusals.{refusal_text}
 use Rattle.rpki_requests.specs.RequestMisuses as request
 use Rattle.rpki_requests.specs.declared.refusals.Refusal.{Refusal}
 use Rattle.rpki_requests.specs.declared.words.Misuse as requests
+use Rattle.rpki_verdicts.specs.Trees.{TreeFields}
 
 -- what is wrong, in a line, and then how the command is used
 abbrev pub misuse_message : List ℕ → List ℕ
@@ -33,3 +37,12 @@ refusal_message why = codes "rpki: " ++ refusal_text why ++ codes "\n"
 -- what was written since says so
 abbrev pub SaysRefusal : Option (List ℕ) → Option (List ℕ) → Type 0
 SaysRefusal before after = (why : Refusal) × Appends before after (refusal_message why)
+
+-- where a search met a bound, that not every path was looked at, with the number and the option that
+-- sets it, in a line; and else nothing
+abbrev pub bound_message : TreeFields → Ended → List ℕ
+bound_message q Whole = []
+bound_message q TooDeep =
+    codes "rpki: not every path was looked at: at most " ++ (decimal q.depth ++ codes " certificates down, and more stand below (--depth sets the limit)\n")
+bound_message q OutOfSteps =
+    codes "rpki: not every path was looked at: " ++ (decimal q.steps ++ codes " certificates were verified (--steps sets the limit)\n")

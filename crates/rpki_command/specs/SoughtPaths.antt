@@ -24,11 +24,11 @@ AreListNames (file ∷ files) names =
     × AreListNames files rest × (names ≡ file.name ∷ rest))
 
 -- these are the names of the files of the path that is sought to the first of the files, and those of
--- all lists among these
+-- all lists among these; and so the walk ended, where it came to no valid path
 pub record IsSought (q : TreeFields) (sought : SoughtNames) : Type 0 where
   pub path : List FileFields
   pub path_is : (file : FileFields) (more : List FileFields) → q.files ≡ file ∷ more
-      → IsSoughtPath (context IsSignedByRsa q.at q.strict) q file path
+      → IsSoughtPath (context IsSignedByRsa q.at q.strict) q file path sought.ended
   pub files_are : word_octets sought.files.items ≡ file_names path
   pub lists_are : AreListNames q.files (word_octets sought.lists.items)
 

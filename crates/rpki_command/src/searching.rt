@@ -1,5 +1,6 @@
 //! A path that is sought: the names of its files, and of the lists beside them.
 ghost use Rattle.std.specs.Prelude.{◌≡◌, ◌++◌, ◌∷◌, [], List, ℕ, map, IfOk, OnOk};
+ghost use Rattle.std.specs.Io.KnownBytes.{Appends};
 ghost use Rattle.rpki.specs.RsaSignatures.{IsSignedByRsa};
 ghost use Rattle.rpki.specs.Verification.{context};
 ghost use Rattle.rpki_arguments.specs.CommandLines.Views.{fields_of, word_octets};
@@ -7,17 +8,20 @@ ghost use Rattle.rpki_files.specs.Files.{FileFields, file_names};
 ghost use Rattle.rpki_verdicts.specs.Searches.{IsSoughtPath};
 ghost use Rattle.rpki_verdicts.specs.Trees.{asked_of};
 ghost use Rattle.rpki_answers.specs.AnswerTexts.{tree_question_of};
+ghost use Rattle.rpki_command.specs.Messages.{bound_message};
 ghost use Rattle.rpki_command.specs.ReadFiles.{AreGiven};
 ghost use Rattle.rpki_command.specs.SoughtPaths.{AreListNames, IsSearch, IsSearchOf, IsSought};
 
 use crate::answering::{are_all_read, tree_question};
 use crate::files::FileSource;
 use crate::reading::{GivenFiles, read_given};
+use rpki::repository::folder::Ended;
 use rpki::repository::x509::Time;
 use rpki_arguments::Request;
 use rpki_files::BareObject;
-use rpki_verdicts::{GivenLocator, TreeQuestion, seek};
+use rpki_verdicts::{GivenLocator, Sought, TreeQuestion, seek};
 use std::alloc::{AllocError, Global};
+use std::io;
 use std::io::Write;
 
 /// The names of the files of a path that was sought, and those of all lists among which it was.
@@ -25,6 +29,8 @@ use std::io::Write;
 pub struct SoughtNames {
     pub files: Vec<Vec<u8>>,
     pub lists: Vec<Vec<u8>>,
+    /// How the walk ended, where it came to no valid path; else whole.
+    pub ended: Ended,
 }
 
 // Adds a file's name.
@@ -79,22 +85,56 @@ fn list_names(alloc: Global, files: &[BareObject<'_>]) -> Result<Vec<Vec<u8>>, A
     Ok(names)
 }
 
-// The names of the files of the path that a question seeks to the first of its files.
-fn path_names(alloc: Global, question: &TreeQuestion<'_, '_>) -> Result<Vec<Vec<u8>>, AllocError>
+// The names of the files of the path that a question seeks to the first of its files, and how the
+// walk ended that came to no valid path.
+fn path_names(
+    alloc: Global,
+    question: &TreeQuestion<'_, '_>,
+) -> Result<(Vec<Vec<u8>>, Ended), AllocError>
     ensures { let q = asked_of question.now in let x = context IsSignedByRsa q.at q.strict in
-        IfOk result (λ names. (path : List FileFields)
+        IfOk result (λ found. (path : List FileFields)
         × ((file : FileFields) (more : List FileFields) → q.files ≡ file ∷ more
-        → IsSoughtPath x q file path) × (word_octets names.items ≡ file_names path)) }
+        → IsSoughtPath x q file path found.1) × (word_octets found.0.items ≡ file_names path)) }
 {
-    let path = seek(alloc, question)?;
+    let Sought { path, ended } = seek(alloc, question)?;
     let names = names_of(alloc, &path);
     drop(path);
-    names
+    Ok((names?, ended))
 }
 
-// The path that is sought to the first of these files, and the lists among them.
-fn sought_among(
+// Says that not every path was looked at, where a search met a bound of its question.
+fn tell_bound<E: Write>(
+    err: &mut E,
+    question: &TreeQuestion<'_, '_>,
+    ended: Ended,
+) -> io::Result<()>
+    ensures { let message = bound_message (asked_of question.now) ended in
+        OnOk result (Appends (E.contents err.old) (E.contents err.new) message) }
+{
+    match ended {
+        Ended::Whole => Ok(()),
+        Ended::TooDeep => {
+            let depth = question.depth;
+            writeln!(
+                err,
+                "rpki: not every path was looked at: at most {depth} certificates down, and more stand below (--depth sets the limit)"
+            )
+        }
+        Ended::OutOfSteps => {
+            let steps = question.steps;
+            writeln!(
+                err,
+                "rpki: not every path was looked at: {steps} certificates were verified (--steps sets the limit)"
+            )
+        }
+    }
+}
+
+// The path that is sought to the first of these files, and the lists among them. Where the search met
+// a bound, it says so.
+fn sought_among<E: Write>(
     alloc: Global,
+    err: &mut E,
     request: &Request<'_>,
     now: Time,
     files: &[BareObject<'_>],
@@ -106,7 +146,14 @@ fn sought_among(
     let question = tree_question(request, now, files, locators);
     let lists = list_names(alloc, files)?;
     match path_names(alloc, &question) {
-        Ok(files) => Ok(SoughtNames { files, lists }),
+        Ok((files, ended)) => {
+            let _told = tell_bound(err, &question, ended);
+            Ok(SoughtNames {
+                files,
+                lists,
+                ended,
+            })
+        }
         Err(error) => {
             drop(lists);
             Err(error)
@@ -115,8 +162,9 @@ fn sought_among(
 }
 
 // What is sought among the files that could be read, where all could be.
-fn sought_if_read(
+fn sought_if_read<E: Write>(
     alloc: Global,
+    err: &mut E,
     request: &Request<'_>,
     now: Time,
     files: &[BareObject<'_>],
@@ -130,12 +178,13 @@ fn sought_if_read(
     if !are_all_read(request, files.len(), lists.len(), locators.len()) {
         return Ok(None);
     }
-    let sought = sought_among(alloc, request, now, files, locators)?;
+    let sought = sought_among(alloc, err, request, now, files, locators)?;
     Ok(Some(sought))
 }
 
 /// Seeks the path to the first file of a request among the others, as reading them gives them. Gives
-/// none where one can't be read, and says why. Errs only where memory runs out.
+/// none where one can't be read, and says why. Where it met a bound before it came to a valid path, it
+/// says so. Errs only where memory runs out.
 pub fn names_sought<F: FileSource, E: Write>(
     alloc: Global,
     files: &F,
@@ -148,6 +197,7 @@ pub fn names_sought<F: FileSource, E: Write>(
     let given: GivenFiles<'_, BareObject<'_>> = read_given(alloc, files, err, request)?;
     let sought = sought_if_read(
         alloc,
+        err,
         request,
         now,
         &given.files,

@@ -10,10 +10,10 @@ use Rattle.rpki_command.specs.SoughtPaths.{IsSought}
 use Rattle.rpki_command.proofs.searching.sought_among.Goals as goal
 
 pub returns-in-Ok : goal.returns-in-Ok
-returns-in-Ok c =
+returns-in-Ok g c =
     let q = tree_question_of (fields_of c.args.request.now) c.args.now c.args.files.now c.args.locators.now in
     let names = word_octets c.in-Ok.files.items in
     let found = subst (λ (p : TreeFields). (path : List FileFields)
-    × ((file : FileFields) (more : List FileFields) → p.files ≡ file ∷ more → IsSoughtPath (context IsSignedByRsa p.at p.strict) p file path)
+    × ((file : FileFields) (more : List FileFields) → p.files ≡ file ∷ more → IsSoughtPath (context IsSignedByRsa p.at p.strict) p file path c.in-Ok.ended)
     × (names ≡ file_names path)) c.tree_question-question.ensures c.in-Ok.ensures in
     record { path = found.0; path_is = found.1; files_are = found.2; lists_are = c.in_ok-lists.ensures }
