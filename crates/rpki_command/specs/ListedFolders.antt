@@ -15,7 +15,8 @@ use Rattle.rpki_arguments.specs.declared.arguments.Task.TheVariants.{Tree}
 -- what listing the folder of a name gives: the names of the files, folders and links in it, as they
 -- are opened, in any order, of which those of folders end in `/`; or nothing, since the name is no
 -- folder's, or the folder can't be listed. A pipe, a socket, a device or a link to one isn't opened,
--- and has no name there
+-- and has no name there. What has a name that isn't UTF-8 isn't looked at, whatever it is: the name
+-- stands there as that of a file where it ends in `.cer` or `.crl`, and else as that of a folder
 abbrev pub Lists : Type 1
 Lists = List ℕ → Option (List (List ℕ)) → Type 0
 
